@@ -1,0 +1,105 @@
+// A source in memory.
+use crate::{Failed, Source};
+use std::alloc::Global;
+use std::marker::Model;
+
+/// A source over bytes in memory, which gives at most `piece` bytes a read, and fails at the reads that `fail_at` lists.
+#[derive(Drop)]
+pub struct MemSource {
+    bytes: Vec<u8>,
+    // How many of the bytes were given.
+    given: usize,
+    // The most bytes that a read gives.
+    piece: usize,
+    // The numbers of the reads that fail.
+    failing: Vec<u64>,
+    // How many reads were made, and how many of them failed.
+    calls: u64,
+    faults: u64,
+}
+
+impl Model for MemSource {
+    ghost use Rattle.std.specs.Prelude.{◌<◌, ◌≤◌, drop, length};
+    ghost use Rattle.ss_outside.specs.Memory.{SourceState};
+
+    ghost Value = { SourceState };
+
+    ghost view = { λ s. record {
+      left = drop s.given s.bytes.items;
+      piece = s.piece;
+      failing = s.failing.items;
+      calls = s.calls;
+      faults = s.faults;
+    } };
+
+    ghost invariant = { λ s. (s.given ≤ length s.bytes.items) × (0 < s.piece) };
+}
+
+impl MemSource {
+    ghost use Rattle.std.specs.Prelude.{◌≡◌, ◌<◌, []};
+
+    /// A source with these bytes left, of which a read gives at most `piece`. No read is listed as failing, and nothing
+    /// is allocated.
+    pub fn new(alloc: Global, bytes: Vec<u8>, piece: usize) -> MemSource
+        requires { 0 < piece }
+        ensures { result ≡ record { left = bytes.items; piece = piece; failing = []; calls = 0; faults = 0 } }
+    {
+        MemSource {
+            bytes,
+            given: 0,
+            piece,
+            failing: Vec::new(alloc),
+            calls: 0,
+            faults: 0,
+        }
+    }
+
+    /// Lists the reads that fail, numbered from 0 since the source was made. They take the place of those listed before.
+    pub fn fail_at(&mut self, calls: Vec<u64>)
+        ensures { self.new ≡ record self.old { failing = calls.items } }
+    {
+        self.failing = calls;
+    }
+}
+
+impl Source for MemSource {
+    ghost use Rattle.std.specs.Prelude.{◌≡◌, ◌<◌, ◌≤◌, ◌↔◌, drop, length, min, Some, Contains, IsErr, IfOk, OnOk, OnErr};
+    ghost use Rattle.ss_outside.specs.Causes.{HasCause};
+    ghost use Rattle.ss_outside.specs.Source.{Moves};
+    ghost use Rattle.ss_outside.specs.Memory.{one_more};
+
+    ghost left = { λ s. Some s.left };
+
+    ghost faults = { λ s. s.faults };
+
+    /// Fails exactly where the read is listed, and else gives as many bytes as the piece, the buffer and what is left
+    /// allow. Of the buffer only the bytes that were moved change.
+    fn read(&mut self, into: &mut [u8]) -> Result<usize, Failed>
+        requires { 0 < length into.old }
+        ensures bound { IfOk result (λ k. k ≤ length into.old) }
+        ensures moves { Moves (Some self.old.left) (Some self.new.left) result into.new }
+        ensures cause { HasCause self.old.faults self.new.faults result }
+        ensures listed { IsErr result ↔ Contains self.old.failing self.old.calls }
+        ensures count { IfOk result (λ k. k ≡ min (min self.old.piece (length self.old.left)) (length into.old)) }
+        ensures rest { IfOk result (λ k. drop k into.new ≡ drop k into.old) }
+        ensures kept { OnErr result (into.new ≡ into.old) }
+        ensures calls { self.new.calls ≡ one_more self.old.calls }
+        ensures no_fault { OnOk result (self.new.faults ≡ self.old.faults) }
+        ensures fault { OnErr result (self.new.faults ≡ one_more self.old.faults) }
+        ensures failing { self.new.failing ≡ self.old.failing }
+        ensures piece { self.new.piece ≡ self.old.piece }
+    {
+        let call = self.calls;
+        self.calls = call.saturating_add(1);
+        if self.failing.contains(&call) {
+            self.faults = self.faults.saturating_add(1);
+            return Err(Failed);
+        }
+        let left = self.bytes.len() - self.given;
+        let count = self.piece.min(left).min(into.len());
+        let end = self.given + count;
+        into[..count].copy_from_slice(&self.bytes[self.given..end]);
+        self.given = end;
+        Ok(count)
+    }
+}
