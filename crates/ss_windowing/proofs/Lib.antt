@@ -1,0 +1,3 @@
+pub mod WindowingLemmas
+pub mod ExpLemmas
+pub mod Rows

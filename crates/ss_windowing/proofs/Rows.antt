@@ -1,0 +1,36 @@
+-- Worked rows, each computed.
+use Rattle.std.proofs.Common.{◌≡◌, ℕ, Bool, true, false, List, [], ◌∷◌, map, refl}
+use Rattle.ss_windowing.specs.Exp.{exp_length}
+use Rattle.ss_windowing.specs.Windowing.{cut, fits, index_of}
+
+lengths-doubling : map (exp_length 2 1 1) (0 ∷ 1 ∷ 2 ∷ 3 ∷ 4 ∷ []) ≡ 1 ∷ 2 ∷ 4 ∷ 8 ∷ 16 ∷ []
+lengths-doubling = refl
+
+starts-doubling : map (cut (exp_length 2 1 1)) (0 ∷ 1 ∷ 2 ∷ 3 ∷ 4 ∷ 5 ∷ []) ≡ 0 ∷ 1 ∷ 3 ∷ 7 ∷ 15 ∷ 31 ∷ []
+starts-doubling = refl
+
+lengths-tripling_pairs : map (exp_length 3 2 1) (0 ∷ 1 ∷ 2 ∷ 3 ∷ 4 ∷ []) ≡ 1 ∷ 1 ∷ 3 ∷ 3 ∷ 9 ∷ []
+lengths-tripling_pairs = refl
+
+starts-tripling_pairs : map (cut (exp_length 3 2 1)) (0 ∷ 1 ∷ 2 ∷ 3 ∷ 4 ∷ 5 ∷ []) ≡ 0 ∷ 1 ∷ 2 ∷ 5 ∷ 8 ∷ 17 ∷ []
+starts-tripling_pairs = refl
+
+-- whether the positions l to r lie in one window of the doubling target, at each of some counts
+fit_at : ℕ → ℕ → List ℕ → List Bool
+fit_at l r = map (fits (exp_length 2 1 1) l r)
+
+fit-1-2 : fit_at 1 2 (2 ∷ 3 ∷ 4 ∷ 5 ∷ []) ≡ false ∷ true ∷ false ∷ true ∷ []
+unfolding fit_at index_of
+fit-1-2 = refl
+
+fit-1-4 : fit_at 1 4 (5 ∷ 6 ∷ 7 ∷ []) ≡ false ∷ false ∷ true ∷ []
+unfolding fit_at index_of
+fit-1-4 = refl
+
+fit-3-5 : fit_at 3 5 (5 ∷ 6 ∷ 7 ∷ 8 ∷ []) ≡ false ∷ false ∷ false ∷ true ∷ []
+unfolding fit_at index_of
+fit-3-5 = refl
+
+fit-5-6 : fit_at 5 6 (6 ∷ 7 ∷ []) ≡ false ∷ true ∷ []
+unfolding fit_at index_of
+fit-5-6 = refl

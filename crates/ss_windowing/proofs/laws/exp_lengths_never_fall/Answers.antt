@@ -1,0 +1,9 @@
+use Rattle.ss_windowing.specs.ExpLaws.{exp_length-positive}
+use Rattle.ss_windowing.proofs.ExpLemmas.{exp_length-monotone}
+use Rattle.ss_windowing.proofs.laws.exp_lengths_never_fall.Goals as goal
+
+pub returns-clause-positive : goal.returns-clause-positive
+returns-clause-positive c b r s = exp_length-positive
+
+pub returns-clause-rising : goal.returns-clause-rising
+returns-clause-rising c = exp_length-monotone

@@ -1,0 +1,8 @@
+-- The lengths of a value of each family.
+use Rattle.std.specs.Prelude.{ℕ}
+use Rattle.ss_windowing.specs.Exp.{exp_length}
+use Rattle.ss_windowing.specs.declared.exp.Exp.{Exp}
+
+-- the lengths of an exponential target
+abbrev pub exp_lengths : Exp → ℕ → ℕ
+exp_lengths target = exp_length target.base target.repeat target.scale

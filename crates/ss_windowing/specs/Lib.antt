@@ -1,0 +1,4 @@
+pub mod Windowing
+pub mod Exp
+pub mod ExpLaws
+pub mod Family
