@@ -1,0 +1,106 @@
+-- What holds of the figures of two lists, one behind the other.
+use Rattle.std.specs.Prelude.{◌≡◌, ℕ, ◌+◌, ◌-◌, ◌^◌, ◌<◌, ◌≤◌, ℤ, ◌+ℤ◌, List, [], ◌∷◌, ◌++◌, length, unsigned_abs}
+use Rattle.std.specs.Int.{w64, w128, int_min, int_max}
+use Rattle.std.proofs.Common.{arith, refl}
+use Rattle.std.proofs.lemmas.List.{length-append}
+use Rattle.std.proofs.lemmas.Int.{ints, clamps, to_z-of_z}
+use mir.Val.{to_z, of_z}
+use Rattle.ss_summary.specs.Figures.{Figures, IsPossible}
+use Rattle.ss_summary.specs.Summaries.{total, least, greatest, last_time, summary_of, joined}
+use Rattle.ss_summary.proofs.Bounds.{max_times_min-le-sum, sum-le-min_times_max, unsigned_abs-lt}
+
+int_min_assoc : (a b c : ℤ) → int_min (int_min a b) c ≡ int_min a (int_min b c)
+int_min_assoc a b c = omega (arith, ints, clamps)
+
+int_max_assoc : (a b c : ℤ) → int_max (int_max a b) c ≡ int_max a (int_max b c)
+int_max_assoc a b c = omega (arith, ints, clamps)
+
+total-append : (xs ys : List (ℕ × ℤ)) → total (xs ++ ys) ≡ total xs +ℤ total ys
+total-append [] ys = omega (arith, ints)
+total-append (x ∷ xs) ys = let rest = total-append xs ys in omega (arith, ints)
+
+least-append : (v : ℤ) (xs : List (ℕ × ℤ)) (y : ℕ × ℤ) (ys : List (ℕ × ℤ))
+    → least v (xs ++ y ∷ ys) ≡ int_min (least v xs) (least y.1 ys)
+least-append v [] y ys = refl
+least-append v (x ∷ xs) y ys = rw (least-append x.1 xs y ys, int_min_assoc)
+
+greatest-append : (v : ℤ) (xs : List (ℕ × ℤ)) (y : ℕ × ℤ) (ys : List (ℕ × ℤ))
+    → greatest v (xs ++ y ∷ ys) ≡ int_max (greatest v xs) (greatest y.1 ys)
+greatest-append v [] y ys = refl
+greatest-append v (x ∷ xs) y ys = rw (greatest-append x.1 xs y ys, int_max_assoc)
+
+last_time-append : (t : ℕ) (xs : List (ℕ × ℤ)) (y : ℕ × ℤ) (ys : List (ℕ × ℤ))
+    → last_time t (xs ++ y ∷ ys) ≡ last_time y.0 ys
+last_time-append t [] y ys = refl
+last_time-append t (x ∷ xs) y ys = last_time-append x.0 xs y ys
+
+-- the figures of two lists, joined, are those of the joined list
+pub joined-summary_of : (xs ys : List (ℕ × ℤ)) → 0 < length xs → 0 < length ys
+    → joined (summary_of xs) (summary_of ys) ≡ summary_of (xs ++ ys)
+joined-summary_of [] ys some_left some_right = absurd (omega arith)
+joined-summary_of (x ∷ xs) [] some_left some_right = absurd (omega arith)
+joined-summary_of (x ∷ xs) (y ∷ ys) some_left some_right =
+    let count = length-append (x ∷ xs) (y ∷ ys) in
+    let sum = total-append (x ∷ xs) (y ∷ ys) in
+    let min = least-append x.1 xs y ys in
+    let max = greatest-append x.1 xs y ys in
+    let last = last_time-append x.0 xs y ys in
+    cc
+
+-- in which order figures are joined has no effect
+pub joined_assoc : (a b c : Figures) → joined (joined a b) c ≡ joined a (joined b c)
+joined_assoc a b c =
+    let count : (a.count + b.count) + c.count ≡ a.count + (b.count + c.count) = omega arith in
+    let sum : (a.sum +ℤ b.sum) +ℤ c.sum ≡ a.sum +ℤ (b.sum +ℤ c.sum) = omega (arith, ints) in
+    let min = int_min_assoc a.min b.min c.min in
+    let max = int_max_assoc a.max b.max c.max in
+    cc
+
+-- possible figures, joined, are possible
+pub IsPossible-joined : (a b : Figures) → IsPossible a → IsPossible b → a.t_last < b.t_first
+    → a.count + b.count ≤ 2 ^ 40 → IsPossible (joined a b)
+IsPossible-joined a b left right behind few =
+    let counts : a.count + b.count - 1 ≡ (a.count - 1) + (b.count - 1) + 1 = omega arith in
+    record {
+      count_low = omega arith;
+      count_high = few;
+      times = omega arith;
+      last = right.last;
+      one = λ single. absurd (omega arith);
+      min_fits = omega (arith, ints, clamps);
+      max_fits = omega (arith, ints, clamps);
+      order = omega (arith, ints, clamps);
+      sum_low = rw counts (max_times_min-le-sum _ _ left.order right.order left.sum_low right.sum_low);
+      sum_high = rw counts (sum-le-min_times_max _ _ left.order right.order left.sum_high right.sum_high);
+    }
+
+-- the sum of possible figures is far within 128 bits
+pub IsPossible-sum : (f : Figures) → IsPossible f → unsigned_abs f.sum < 2 ^ 105
+IsPossible-sum f possible =
+    unsigned_abs-lt (f.count - 1) possible.min_fits possible.max_fits (omega arith) possible.sum_low possible.sum_high
+
+-- what the code computes of two possible figures, through the bits of their numbers, is their join
+pub computed-joined : (a b : Figures) (min max : ℤ) → IsPossible a → IsPossible b → IsPossible (joined a b)
+    → min ≡ int_min (to_z w64 (of_z w64 a.min)) (to_z w64 (of_z w64 b.min))
+    → max ≡ int_max (to_z w64 (of_z w64 a.max)) (to_z w64 (of_z w64 b.max))
+    → ◌≡◌ {A = Figures} (record {
+      count = a.count + b.count;
+      sum = to_z w128 (of_z w128 (to_z w128 (of_z w128 a.sum) +ℤ to_z w128 (of_z w128 b.sum)));
+      min = to_z w64 (of_z w64 min);
+      max = to_z w64 (of_z w64 max);
+      t_first = a.t_first;
+      t_last = b.t_last;
+    }) (joined a b)
+computed-joined a b min max left right both min_is max_is =
+    let small_left = IsPossible-sum a left in
+    let small_right = IsPossible-sum b right in
+    let sum_left = to_z-of_z w128 a.sum (omega (arith, ints)) in
+    let sum_right = to_z-of_z w128 b.sum (omega (arith, ints)) in
+    let sum_both = to_z-of_z w128 (a.sum +ℤ b.sum) (omega (arith, ints)) in
+    let min_left = to_z-of_z w64 a.min left.min_fits in
+    let min_right = to_z-of_z w64 b.min right.min_fits in
+    let min_both = to_z-of_z w64 (int_min a.min b.min) both.min_fits in
+    let max_left = to_z-of_z w64 a.max left.max_fits in
+    let max_right = to_z-of_z w64 b.max right.max_fits in
+    let max_both = to_z-of_z w64 (int_max a.max b.max) both.max_fits in
+    cc

@@ -1,0 +1,53 @@
+-- The summary of a list of timestamped values, and of two lists one behind the other.
+use Rattle.std.specs.Prelude.{◌≡◌, ℕ, ◌+◌, ◌<◌, ℤ, pos, ◌+ℤ◌, List, [], ◌∷◌, length}
+use Rattle.std.specs.Int.{int_min, int_max}
+use Rattle.ss_summary.specs.Figures.{Figures}
+
+-- the sum of the values
+abbrev pub total : List (ℕ × ℤ) → ℤ
+total [] = pos 0
+total (p ∷ ps) = p.1 +ℤ total ps
+
+-- the least of some value and those of a list
+abbrev pub least : ℤ → List (ℕ × ℤ) → ℤ
+least v [] = v
+least v (p ∷ ps) = int_min v (least p.1 ps)
+
+-- the greatest of some value and those of a list
+abbrev pub greatest : ℤ → List (ℕ × ℤ) → ℤ
+greatest v [] = v
+greatest v (p ∷ ps) = int_max v (greatest p.1 ps)
+
+-- the time of the last value, behind one at time t
+abbrev pub last_time : ℕ → List (ℕ × ℤ) → ℕ
+last_time t [] = t
+last_time t (p ∷ ps) = last_time p.0 ps
+
+-- the summary of a list of (time, value) that isn't empty: its count, sum, least and greatest value, first and last
+-- time. An empty list has none, and only zeros stand here for it.
+abbrev pub summary_of : List (ℕ × ℤ) → Figures
+summary_of [] = record { count = 0; sum = pos 0; min = pos 0; max = pos 0; t_first = 0; t_last = 0 }
+summary_of (p ∷ ps) = record {
+  count = length (p ∷ ps);
+  sum = total (p ∷ ps);
+  min = least p.1 ps;
+  max = greatest p.1 ps;
+  t_first = p.0;
+  t_last = last_time p.0 ps;
+}
+
+-- the figures are the summary of a list that isn't empty
+pub record Summarizes (f : Figures) (values : List (ℕ × ℤ)) : Type 0 where
+  pub some : 0 < length values
+  pub is : f ≡ summary_of values
+
+-- the figures of two lists, the second behind the first
+abbrev pub joined : Figures → Figures → Figures
+joined a b = record {
+  count = a.count + b.count;
+  sum = a.sum +ℤ b.sum;
+  min = int_min a.min b.min;
+  max = int_max a.max b.max;
+  t_first = a.t_first;
+  t_last = b.t_last;
+}

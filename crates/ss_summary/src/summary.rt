@@ -1,0 +1,96 @@
+// Summaries of timestamped values.
+use std::marker::Model;
+
+/// Figures such as one or more values with rising times have. Times and values are whole numbers, and the sum never wraps.
+/// Every `Summary` meets the conditions of possible figures, `IsPossible` (docs/DEFINITIONS.md, "Possible summaries"): at
+/// least one value and at most 2^40, no more of them than times from the first to the last, no time above 2^62, and a sum
+/// that this count allows between the least and the greatest. Which values it is of, only contracts say, as those of `one`
+/// and `join`.
+#[derive(Clone, Copy, Debug)]
+pub struct Summary {
+    pub count: u64,
+    pub sum: i128,
+    pub min: i64,
+    pub max: i64,
+    pub t_first: u64,
+    pub t_last: u64,
+}
+
+impl Model for Summary {
+    ghost use Rattle.ss_summary.specs.Figures.{Figures, IsPossible};
+
+    ghost Value = { Figures };
+
+    ghost view = { λ s. record {
+      count = s.count;
+      sum = s.sum;
+      min = s.min;
+      max = s.max;
+      t_first = s.t_first;
+      t_last = s.t_last;
+    } };
+
+    ghost invariant = { λ s. IsPossible (record {
+      count = s.count;
+      sum = s.sum;
+      min = s.min;
+      max = s.max;
+      t_first = s.t_first;
+      t_last = s.t_last;
+    }) };
+
+    ghost inverse = { λ f. record {
+      count = f.count;
+      sum = f.sum;
+      min = f.min;
+      max = f.max;
+      t_first = f.t_first;
+      t_last = f.t_last;
+    } };
+}
+
+impl Summary {
+    ghost use Rattle.std.specs.Prelude.{◌≡◌, ◌+◌, ◌^◌, ◌<◌, ◌≤◌, ℕ, ℤ, List, [], ◌∷◌, ◌++◌};
+    ghost use Rattle.ss_summary.specs.Figures.{Figures, IsPossible};
+    ghost use Rattle.ss_summary.specs.Summaries.{summary_of, Summarizes, joined};
+
+    /// The summary of the value `v` at the time `t`.
+    pub fn one(t: u64, v: i64) -> Summary
+        requires { t ≤ 2 ^ 62 }
+        ensures { result ≡ summary_of ((t, v) ∷ []) }
+    {
+        Summary {
+            count: 1,
+            sum: i128::from(v),
+            min: v,
+            max: v,
+            t_first: t,
+            t_last: t,
+        }
+    }
+
+    /// The summary of the values of both, where all of the second's times are greater.
+    pub fn join(a: Summary, b: Summary) -> Summary
+        requires behind { a.t_last < b.t_first }
+        requires few { a.count + b.count ≤ 2 ^ 40 }
+        ensures exact { result ≡ joined a b }
+        ensures lists { (xs ys : List (ℕ × ℤ)) → Summarizes a xs → Summarizes b ys
+            → Summarizes result (xs ++ ys) }
+    {
+        Summary {
+            count: a.count + b.count,
+            sum: a.sum + b.sum,
+            min: a.min.min(b.min),
+            max: a.max.max(b.max),
+            t_first: a.t_first,
+            t_last: b.t_last,
+        }
+    }
+
+    /// Tells a proof that these figures are possible, as those of every summary are. It does nothing when it runs.
+    pub fn is_possible(&self)
+        ensures { IsPossible self.now }
+    {
+        let _count = self.count;
+    }
+}
