@@ -1,0 +1,5 @@
+pub mod Boundaries
+pub mod Windows
+pub mod Closed
+pub mod Tiling
+pub mod Decay

@@ -1,0 +1,67 @@
+// Laws over the definitions, each the contract of a function that does nothing.
+ghost use Rattle.std.specs.Prelude.{◌≡◌, ◌+◌, ◌^◌, ◌<◌, ◌≤◌, ℕ, ℤ, List, [], ◌∷◌, ◌++◌, length, Some};
+ghost use Rattle.ss_summary.specs.Figures.{IsPossible};
+ghost use Rattle.ss_summary.specs.Summaries.{summary_of, joined};
+ghost use Rattle.ss_model.specs.Windows.{windows, taken, newest_time, time_of_last};
+ghost use Rattle.ss_model.specs.Closed.{closed, joined_window, last_position};
+ghost use Rattle.ss_model.specs.Tiling.{AreWindows, AreNeighbours};
+ghost use Rattle.ss_model.specs.declared.types.Window.{Window};
+
+/// Incremental equals from scratch: the windows of one more value are the windows before and the new value as a
+/// window of its own, where each run of neighbours in one target window is joined.
+pub fn incremental_is_from_scratch()
+    ensures { (len : ℕ → ℕ) (values : List (ℕ × ℤ)) (p : ℕ × ℤ) →
+        windows len (values ++ p ∷ [])
+        ≡ closed len (length values + 1)
+        (windows len values ++ record { first = length values + 1; summary = summary_of (p ∷ []) } ∷ []) }
+{}
+
+/// The windows of some values hold as many.
+pub fn windows_count_values()
+    ensures { (len : ℕ → ℕ) (values : List (ℕ × ℤ)) → taken (windows len values) ≡ length values }
+{}
+
+/// The newest time of the windows of some values is that of the last value.
+pub fn windows_end_last()
+    ensures { (len : ℕ → ℕ) (values : List (ℕ × ℤ)) → newest_time (windows len values) ≡ time_of_last values }
+{}
+
+/// Windows stay windows when a later value is put behind them as a window of its own.
+pub fn append_keeps_windows()
+    ensures { (ws : List Window) (t : ℕ) (v : ℤ) → AreWindows ws → taken ws < 2 ^ 40 →
+        ((old : ℕ) → newest_time ws ≡ Some old → old < t) → IsPossible (summary_of ((t, v) ∷ [])) →
+        AreWindows (ws ++ record { first = taken ws + 1; summary = summary_of ((t, v) ∷ []) } ∷ []) }
+{}
+
+/// Windows stay windows when two side by side are joined.
+pub fn joining_keeps_windows()
+    ensures { (us vs : List Window) (w v : Window) → AreWindows (us ++ w ∷ v ∷ vs) →
+        IsPossible (joined w.summary v.summary) → AreWindows (us ++ joined_window w v ∷ vs) }
+{}
+
+/// Windows stay windows when those that are due are joined.
+pub fn closing_keeps_windows()
+    ensures { (len : ℕ → ℕ) (n : ℕ) (ws : List Window) → AreWindows ws → AreWindows (closed len n ws) }
+{}
+
+/// Joining what is due loses no value.
+pub fn closing_keeps_taken()
+    ensures { (len : ℕ → ℕ) (n : ℕ) (ws : List Window) → taken (closed len n ws) ≡ taken ws }
+{}
+
+/// Joining what is due keeps the newest time.
+pub fn closing_keeps_newest_time()
+    ensures { (len : ℕ → ℕ) (n : ℕ) (ws : List Window) → newest_time (closed len n ws) ≡ newest_time ws }
+{}
+
+/// Each window begins behind the values before it, and its summary is possible.
+pub fn windows_stand_in_place()
+    ensures place { (us vs : List Window) (w : Window) → AreWindows (us ++ w ∷ vs) → w.first ≡ taken us + 1 }
+    ensures possible { (us vs : List Window) (w : Window) → AreWindows (us ++ w ∷ vs) → IsPossible w.summary }
+    ensures last { (us : List Window) (w : Window) → AreWindows (us ++ w ∷ []) → last_position w ≡ taken (us ++ w ∷ []) }
+{}
+
+/// What holds of two windows side by side.
+pub fn windows_are_neighbours()
+    ensures { (us vs : List Window) (w v : Window) → AreWindows (us ++ w ∷ v ∷ vs) → AreNeighbours w v }
+{}
