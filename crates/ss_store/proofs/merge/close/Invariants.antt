@@ -1,0 +1,9 @@
+use Rattle.std.proofs.Common.{◌-◌, length}
+use Rattle.ss_store.proofs.Merges.{AreClosedTo}
+use Rattle.ss_store.proofs.merge.close.Given as goal
+
+abbrev pub invariant-loop-at : goal.invariant-loop-at
+invariant-loop-at g l = AreClosedTo l.at (g.D.Decay.length_of l.target) l.n l.fn.windows.items l.windows.items
+
+abbrev pub decreases-loop-at : goal.decreases-loop-at
+decreases-loop-at g l = length l.windows.items - l.at
