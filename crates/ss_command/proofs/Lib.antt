@@ -1,0 +1,5 @@
+pub mod FormLemmas
+pub mod GrammarLemmas
+pub mod LineLaws
+pub mod LineLemmas
+mod Rows

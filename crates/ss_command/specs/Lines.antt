@@ -1,0 +1,38 @@
+-- The lines of an input.
+use Rattle.std.specs.Prelude.{ℕ, List, [], ◌∷◌, ◌++◌, Bool, ◌==◌}
+use Rattle.std.specs.List.{slice_split}
+use Rattle.ss_command.specs.declared.TheConstants.{LINE_END}
+
+-- a byte that ends a line
+abbrev pub is_line_end : ℕ → Bool
+is_line_end b = b == LINE_END
+
+-- all lists but the last
+abbrev pub all_but_last : List (List ℕ) → List (List ℕ)
+all_but_last [] = []
+all_but_last (l ∷ []) = []
+all_but_last (l ∷ m ∷ ls) = l ∷ all_but_last (m ∷ ls)
+
+-- the last list
+abbrev pub last_of : List (List ℕ) → List ℕ
+last_of [] = []
+last_of (l ∷ []) = l
+last_of (l ∷ m ∷ ls) = last_of (m ∷ ls)
+
+-- a list by itself, unless it is empty
+abbrev pub unless_empty : List ℕ → List (List ℕ)
+unless_empty [] = []
+unless_empty (b ∷ bs) = (b ∷ bs) ∷ []
+
+-- the lines of an input that a line end ends, each without it
+unfoldable pub ended_lines : List ℕ → List (List ℕ)
+ended_lines input = all_but_last (slice_split is_line_end input)
+
+-- what stands behind the last line end
+unfoldable pub unended : List ℕ → List ℕ
+unended input = last_of (slice_split is_line_end input)
+
+-- The lines of an input. A line ends at a line end or at the end of the input; a line end at the very end begins no
+-- further line.
+abbrev pub lines : List ℕ → List (List ℕ)
+lines input = ended_lines input ++ unless_empty (unended input)
