@@ -1,0 +1,11 @@
+//! The report: what is replied to a line, and the text of a reply.
+#![tactic(auto)]
+
+mod reply;
+mod text;
+
+pub use reply::{Refusal, Reply};
+pub use text::reply_text;
+
+#[cfg(test)]
+mod tests;
