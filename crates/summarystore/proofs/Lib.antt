@@ -1,0 +1,4 @@
+pub mod SendLemmas
+pub mod SessionLemmas
+pub mod TakeLemmas
+pub mod RunLemmas

@@ -1,0 +1,65 @@
+// The real source and sink. They tell nothing of their bytes.
+use ss_outside::{Failed, Sink, Source};
+use std::io::Read;
+
+/// Standard input.
+#[derive(Drop)]
+pub struct StdSource<'a, R> {
+    rt: &'a R,
+    faults: u64,
+}
+
+impl<'a, R: Input> StdSource<'a, R> {
+    pub fn new(rt: &'a R) -> StdSource<'a, R> {
+        StdSource { rt, faults: 0 }
+    }
+}
+
+impl<R: Input> Source for StdSource<'_, R> {
+    ghost use Rattle.std.specs.Prelude.{None};
+
+    ghost left = { λ _. None };
+
+    ghost faults = { λ s. s.faults };
+
+    fn read(&mut self, into: &mut [u8]) -> Result<usize, Failed> {
+        match self.rt.reader().read(into) {
+            Ok(count) => Ok(count),
+            Err(_) => {
+                self.faults = self.faults.saturating_add(1);
+                Err(Failed)
+            }
+        }
+    }
+}
+
+/// Standard output. A write of 0 bytes is a failure.
+#[derive(Drop)]
+pub struct StdSink<'a, R> {
+    rt: &'a R,
+    faults: u64,
+}
+
+impl<'a, R: Print> StdSink<'a, R> {
+    pub fn new(rt: &'a R) -> StdSink<'a, R> {
+        StdSink { rt, faults: 0 }
+    }
+}
+
+impl<R: Print> Sink for StdSink<'_, R> {
+    ghost use Rattle.std.specs.Prelude.{None};
+
+    ghost held = { λ _. None };
+
+    ghost faults = { λ s. s.faults };
+
+    fn put(&mut self, piece: &[u8]) -> Result<usize, Failed> {
+        match self.rt.write_some(piece) {
+            Ok(count) if count > 0 => Ok(count),
+            _ => {
+                self.faults = self.faults.saturating_add(1);
+                Err(Failed)
+            }
+        }
+    }
+}

@@ -1,0 +1,42 @@
+// How a run ends.
+ghost use Rattle.std.specs.Prelude.{◌≡◌};
+
+/// How a run ends. docs/GUIDE.md lists the statuses with their causes.
+#[derive(Clone, Copy, Debug, PartialEq, Eq)]
+pub enum Status {
+    Done,
+    Usage,
+    SourceFault,
+    SinkFault,
+    OutOfMemory,
+    InputLimit,
+}
+
+impl Status {
+    ghost use Rattle.summarystore.specs.Status.{number_of};
+
+    /// The exit status.
+    pub fn number(self) -> u8
+        ensures { result ≡ number_of self }
+    {
+        match self {
+            Status::Done => 0,
+            Status::Usage => 2,
+            Status::SourceFault => 5,
+            Status::SinkFault => 6,
+            Status::OutOfMemory => 7,
+            Status::InputLimit => 8,
+        }
+    }
+}
+
+/// What standard error says of an exit status, where it says something.
+pub fn complaint(number: u8) -> Option<&'static str> {
+    match number {
+        5 => Some("summarystore: input fault"),
+        6 => Some("summarystore: output fault"),
+        7 => Some("summarystore: out of memory"),
+        8 => Some("summarystore: input too long"),
+        _ => None,
+    }
+}
