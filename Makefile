@@ -1,0 +1,21 @@
+# Needs the toolchain's `rt` on the PATH (rt version: rattle-kit-13f). `bench` also needs awk and python3.
+PROGRAM = crates/summarystore/out/summarystore
+
+.PHONY: build demo test bench
+
+# Proves every crate below the program and the program, builds it, and runs it once on an empty input.
+build:
+	cd crates/summarystore && rt run -- any.store < /dev/null
+
+# Builds the program, runs it on each command file of examples/, and compares the reports with those that lie beside.
+demo: build
+	@examples/demo $(PROGRAM)
+
+# The whole gate.
+test:
+	.ci/run
+
+# Times the program that was built last: bench/README.md.
+bench:
+	@test -x $(PROGRAM) || $(MAKE) build
+	@bench/appends $(PROGRAM)
