@@ -1,9 +1,10 @@
-use Rattle.std.proofs.Common.{take, drop, Err, refl, ap, subst, arith, inl, inr}
+use Rattle.std.proofs.Common.{◌≡◌, ◌≤◌, ℕ, List, [], Some, length, take, drop, Err, refl, ap, subst, arith, inl, inr}
 use Rattle.std.proofs.lemmas.List.{take-append-drop}
-use Rattle.summarystore.specs.Progress.{AppendsFront}
+use Rattle.summarystore.specs.Progress.{AppendsFront, IsAt}
 use Rattle.summarystore.specs.Session.{report}
 use Rattle.summarystore.specs.Status.{number_of}
 use Rattle.summarystore.proofs.RunLemmas.{IsThrough-start, IsThrough-more, IsThrough-end, IsThrough-none, length_of-none, Reports-fault, Reports-limit, Reports-stop, Reports-end, Reads-end, Reads-limit}
+use Rattle.summarystore.proofs.run.serve.Given.{Over}
 use Rattle.summarystore.proofs.run.serve.Goals as goal
 
 pub loop-done-init : goal.loop-done-init
@@ -28,24 +29,29 @@ loop-done-preserved g c = record {
   sink_later = omega (arith, c.in-Ok.ensures.sink_later, c.loop-done.invariant.sink_later);
 }
 
+-- what the piece of no bytes leaves
+at_end : (g : Over) (c : goal.After-drop-session g) (input : List ℕ) → g.S.Source.left c.args.source.now ≡ Some input →
+    (length input ≤ c.loop-done.done)
+    × IsAt c.read_piece.new.session.store c.read_piece.new.session.reader (g.K.Sink.held c.args.sink.now) (g.K.Sink.held c.read_piece.new.sink) input
+    × (g.S.Source.left c.read_piece.new.source ≡ Some [])
+at_end g c input tells =
+    let old = c.loop-done.invariant.through input tells in
+    IsThrough-none c.read_piece.new.session.store c.read_piece.new.session.reader (g.K.Sink.held c.args.sink.now)
+    (g.K.Sink.held c.read_piece.new.sink) (g.S.Source.left c.read_piece.new.source) input c.loop-done.done c.in-Ok-eq0.field-0 old.within c.in-Ok-eq0.field-0-test
+    (c.in-Ok-eq0.ensures.ok (g.K.Sink.held c.args.sink.now) (take c.loop-done.done input) (drop c.loop-done.done input) old.source old.at)
+
 pub returns-in-Ok-eq0-clause-reads : goal.returns-in-Ok-eq0-clause-reads
 returns-in-Ok-eq0-clause-reads g c input tells =
-    let old = c.loop-done.invariant.through input tells in
-    let ended = IsThrough-none c.read_piece.new.session.store c.read_piece.new.session.reader (g.K.Sink.held c.args.sink.now)
-    (g.K.Sink.held c.read_piece.new.sink) (g.S.Source.left c.read_piece.new.source) input c.loop-done.done c.in-Ok-eq0.field-0 old.within c.in-Ok-eq0.field-0-test
-    (c.in-Ok-eq0.ensures.ok (g.K.Sink.held c.args.sink.now) (take c.loop-done.done input) (drop c.loop-done.done input) old.source old.at) in
+    let end = at_end g c input tells in
     Reads-end c.finish.result input (g.S.Source.left c.read_piece.new.source) c.finish.ensures.status
-    (omega (arith, ended.0, c.loop-done.invariant.fits)) ended.2
+    (omega (arith, end.0, c.loop-done.invariant.fits)) end.2
 
 pub returns-in-Ok-eq0-clause-reports : goal.returns-in-Ok-eq0-clause-reports
 returns-in-Ok-eq0-clause-reports g c input tells =
-    let old = c.loop-done.invariant.through input tells in
-    let ended = IsThrough-none c.read_piece.new.session.store c.read_piece.new.session.reader (g.K.Sink.held c.args.sink.now)
-    (g.K.Sink.held c.read_piece.new.sink) (g.S.Source.left c.read_piece.new.source) input c.loop-done.done c.in-Ok-eq0.field-0 old.within c.in-Ok-eq0.field-0-test
-    (c.in-Ok-eq0.ensures.ok (g.K.Sink.held c.args.sink.now) (take c.loop-done.done input) (drop c.loop-done.done input) old.source old.at) in
+    let end = at_end g c input tells in
     Reports-end c.finish.result input (g.S.Source.left c.read_piece.new.source) (g.K.Sink.held c.args.sink.now) (g.K.Sink.held c.finish.new.sink)
-    c.finish.ensures.status (λ is. c.finish.ensures.done is (g.K.Sink.held c.args.sink.now) input ended.1)
-    (c.finish.ensures.front (g.K.Sink.held c.args.sink.now) input ended.1)
+    c.finish.ensures.status (λ is. c.finish.ensures.done is (g.K.Sink.held c.args.sink.now) input end.1)
+    (c.finish.ensures.front (g.K.Sink.held c.args.sink.now) input end.1)
 
 pub returns-in-Err-clause-reports : goal.returns-in-Err-clause-reports
 returns-in-Err-clause-reports g c input tells =
