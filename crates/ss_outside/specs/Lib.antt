@@ -1,4 +1,9 @@
 pub mod Causes
-pub mod Source
-pub mod Sink
+pub mod Choice
+pub mod Crash
+pub mod Disk
+pub mod MemDisk
 pub mod Memory
+pub mod Past
+pub mod Sink
+pub mod Source

@@ -1,15 +1,23 @@
-//! The outside: where bytes come from and where they go, as traits that say what a call moves, and devices in memory.
+//! The outside: where bytes come from, where they go and where they lie, as traits that say what a call does, and devices in memory.
 #![tactic(auto)]
 
+mod bytes_at;
+mod disk;
+mod mem_disk;
 mod mem_sink;
 mod mem_source;
+mod past;
 mod sink;
 mod source;
 
+pub use disk::{Disk, LONGEST_DISK};
+pub use mem_disk::{Choice, MemDisk};
 pub use mem_sink::MemSink;
 pub use mem_source::MemSource;
 pub use sink::Sink;
 pub use source::{Failed, Source};
 
+#[cfg(test)]
+mod mem_disk_tests;
 #[cfg(test)]
 mod tests;

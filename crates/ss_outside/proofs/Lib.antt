@@ -1,0 +1,6 @@
+pub mod CrashLemmas
+pub mod DiskLemmas
+pub mod MemDiskCalls
+pub mod MemDiskLemmas
+pub mod MemDiskTime
+pub mod PastLemmas

@@ -1,0 +1,52 @@
+-- What the calls of a disk do to its content, and which images a crash may leave of it.
+use Rattle.std.specs.Prelude.{◌≡◌, ◌⊎◌, ◌↔◌, ℕ, ◌+◌, ◌<◌, ◌≤◌, max, List, [], ◌∷◌, ◌++◌, length, take, drop, slice_index, EachIndex, ⊤}
+
+-- the numbers are bytes
+abbrev pub AreBytes : List ℕ → Type 0
+AreBytes content = EachIndex content (λ place. slice_index content place < 256)
+
+-- a place outside the range of `count` places from `at` on
+abbrev pub IsOutside : ℕ → ℕ → ℕ → Type 0
+IsOutside at count place = (place < at) ⊎ (at + count ≤ place)
+
+-- the buffer holds the content from `at` on, and 0 for each byte past its end
+abbrev pub IsReadFrom : List ℕ → ℕ → List ℕ → Type 0
+IsReadFrom content at buffer = EachIndex buffer (λ k. slice_index buffer k ≡ slice_index content (at + k))
+
+-- the content with these bytes from `at` on, and as it is elsewhere
+abbrev pub overwrite : List ℕ → ℕ → List ℕ → List ℕ
+overwrite content at bytes = take at content ++ bytes ++ drop (at + length bytes) content
+
+-- What a crash may make of an image while a range of it is pending: each place of it outside the range stays, it grows
+-- to any length up to the end of the range, and every other byte is free.
+pub record Torn (at count : ℕ) (old new : List ℕ) : Type 0 where
+  pub no_shorter : length old ≤ length new
+  pub no_longer : length new ≤ max (length old) (at + count)
+  pub kept : EachIndex old (λ place. IsOutside at count place → slice_index new place ≡ slice_index old place)
+  pub bytes : AreBytes new
+
+-- a range becomes pending: the images after are those before, torn there in every way
+pub record BecomesPending (at count : ℕ) (before after : List ℕ → Type 0) : Type 0 where
+  pub nothing_else : (new : List ℕ) → after new → (old : List ℕ) × before old × Torn at count old new
+  pub each : (old new : List ℕ) → before old → Torn at count old new → after new
+
+-- the same images before and after
+abbrev pub SameImages : (List ℕ → Type 0) → (List ℕ → Type 0) → Type 0
+SameImages before after = (image : List ℕ) → before image ↔ after image
+
+-- nothing is pending: a crash leaves the content and nothing else
+abbrev pub NothingPending : List ℕ → (List ℕ → Type 0) → Type 0
+NothingPending content images = (image : List ℕ) → images image → image ≡ content
+
+-- a place outside each of the ranges, each where it begins and how long it is
+abbrev pub IsOutsideAll : List (ℕ × ℕ) → ℕ → Type 0
+IsOutsideAll [] place = ⊤
+IsOutsideAll (range ∷ ranges) place = IsOutside range.0 range.1 place × IsOutsideAll ranges place
+
+-- The disk model: what a crash may leave, by the content at the last good sync, the ranges that became pending since,
+-- and the greatest length reached since.
+pub record IsImage (synced : List ℕ) (pending : List (ℕ × ℕ)) (longest : ℕ) (image : List ℕ) : Type 0 where
+  pub no_shorter : length synced ≤ length image
+  pub no_longer : length image ≤ longest
+  pub kept : EachIndex synced (λ place. IsOutsideAll pending place → slice_index image place ≡ slice_index synced place)
+  pub bytes : AreBytes image

@@ -1,0 +1,107 @@
+-- A disk in memory, as its calls tell it.
+use Rattle.std.specs.Prelude.{◌⊎◌, ℕ, zero, suc, ◌+◌, ◌≤◌, max, List, [], ◌∷◌, ◌++◌, length, Option, None, Contains, IsSomeAnd}
+use mathlib.Core.Logic.{inr}
+use Rattle.ss_outside.specs.Crash.{Elapses}
+use Rattle.ss_outside.specs.Disk.{overwrite, IsImage, AreBytes}
+use Rattle.ss_outside.specs.Memory.{one_more}
+
+-- a call that changed something: a write of these bytes, a failed write over so many places, a good sync
+pub data DiskCall : Type 0 where
+  Wrote : ℕ → List ℕ → DiskCall
+  Tore : ℕ → ℕ → DiskCall
+  Synced : DiskCall
+
+-- the content now, the content at the last good sync, and since then the ranges that became pending and the greatest
+-- length reached
+pub record DiskState : Type 0 where
+  pub content : List ℕ
+  pub synced : List ℕ
+  pub pending : List (ℕ × ℕ)
+  pub longest : ℕ
+
+-- nothing pending
+abbrev pub fresh : List ℕ → DiskState
+fresh content = record { content = content; synced = content; pending = []; longest = length content }
+
+-- one range more that is pending, and what the content is then
+abbrev pub pend : DiskState → ℕ → ℕ → List ℕ → DiskState
+pend s at count content = record { content = content; synced = s.synced; pending = (at, count) ∷ s.pending; longest = max s.longest (at + count) }
+
+-- the state after one call
+abbrev pub step : DiskState → DiskCall → DiskState
+step s (Wrote at bytes) = pend s at (length bytes) (overwrite s.content at bytes)
+step s (Tore at count) = pend s at count s.content
+step s Synced = fresh s.content
+
+-- and after these calls, one after another
+abbrev pub replay : DiskState → List DiskCall → DiskState
+replay s [] = s
+replay s (call ∷ calls) = replay (step s call) calls
+
+-- what a crash may leave
+abbrev pub Leaves : DiskState → List ℕ → Type 0
+Leaves s image = IsImage s.synced s.pending s.longest image
+
+-- what a crash may have left after the first t calls or later
+abbrev pub LeftSince : DiskState → List DiskCall → ℕ → List ℕ → Type 0
+LeftSince s [] t image = Leaves s image
+LeftSince s (call ∷ calls) zero image = Leaves s image ⊎ LeftSince (step s call) calls zero image
+LeftSince s (call ∷ calls) (suc t) image = LeftSince (step s call) calls t image
+
+-- what contracts see of a disk in memory: what it held when it was made, the calls since that changed something, the
+-- listed calls, the first of those that fail all, and how many calls were made, failed, and failed for want of memory
+pub record MemDiskState : Type 0 where
+  pub start : List ℕ
+  pub changes : List DiskCall
+  pub failing : List ℕ
+  pub stop : Option ℕ
+  pub calls : ℕ
+  pub faults : ℕ
+  pub short : ℕ
+
+-- a disk that was just made
+abbrev pub made : List ℕ → MemDiskState
+made content = record { start = content; changes = []; failing = []; stop = None; calls = 0; faults = 0; short = 0 }
+
+-- the state of a disk in memory now
+abbrev pub now : MemDiskState → DiskState
+now s = replay (fresh s.start) s.changes
+
+-- the next call fails
+abbrev pub IsListed : MemDiskState → Type 0
+IsListed s = Contains s.failing s.calls ⊎ IsSomeAnd s.stop (λ first. first ≤ s.calls)
+
+-- after a call that answered, one that failed, and one that failed for want of memory
+abbrev pub answered : MemDiskState → MemDiskState
+answered s = record s { calls = one_more s.calls }
+
+abbrev pub failed : MemDiskState → MemDiskState
+failed s = record s { calls = one_more s.calls; faults = one_more s.faults }
+
+abbrev pub starved : MemDiskState → MemDiskState
+starved s = record s { calls = one_more s.calls; faults = one_more s.faults; short = one_more s.short }
+
+-- the same with one change more
+abbrev pub changed : MemDiskState → DiskCall → MemDiskState
+changed s call = record s { changes = s.changes ++ call ∷ [] }
+
+-- a crash since an earlier moment leaves what it might have left before, or what it may leave now
+abbrev pub TimePasses : MemDiskState → MemDiskState → Type 0
+TimePasses before after =
+    Elapses (length before.changes) (length after.changes) (LeftSince (fresh before.start) before.changes) (LeftSince (fresh after.start) after.changes) (Leaves (now after))
+
+-- what every disk in memory keeps: it synced bytes, and its content is an image
+pub record IsSound (s : DiskState) : Type 0 where
+  pub bytes : AreBytes s.synced
+  pub short : length s.synced ≤ s.longest
+  pub own : Leaves s s.content
+
+-- the laws of its clock: this moment is one of those since an earlier one, and there is none since
+pub left_now : (s : DiskState) (calls : List DiskCall) (t : ℕ) (image : List ℕ) → Leaves (replay s calls) image → LeftSince s calls t image
+left_now s [] t image is = is
+left_now s (call ∷ calls) zero image is = inr (left_now (step s call) calls zero image is)
+left_now s (call ∷ calls) (suc t) image is = left_now (step s call) calls t image is
+
+pub only_left : (s : DiskState) (calls : List DiskCall) (image : List ℕ) → LeftSince s calls (length calls) image → Leaves (replay s calls) image
+only_left s [] image left = left
+only_left s (call ∷ calls) image left = only_left (step s call) calls image left

@@ -1,0 +1,31 @@
+-- How the calls of a disk in memory are kept.
+use Rattle.std.specs.Prelude.{◌≡◌, ℕ, ◌+◌, ◌≤◌, ◌^◌, List, [], ◌∷◌, length, take, drop, ⊤}
+use Rattle.ss_outside.specs.MemDisk.{DiskCall, Wrote, Tore, Synced, fresh, replay}
+use Rattle.ss_outside.specs.declared.past.Change.{Change}
+use Rattle.ss_outside.specs.declared.past.Change.TheVariants.{Bytes, Torn, Sync}
+
+-- the call that a change stands for, with its bytes in the pool
+abbrev pub call_of : List ℕ → Change → DiskCall
+call_of pool (Bytes at from count) = Wrote at (take count (drop from pool))
+call_of pool (Torn at count) = Tore at count
+call_of pool Sync = Synced
+
+-- its bytes lie in a pool of this size, and it ends within the longest disk
+abbrev pub IsKept : ℕ → Change → Type 0
+IsKept size (Bytes at from count) = (from + count ≤ size) × (at + count ≤ 2 ^ 32)
+IsKept size (Torn at count) = at + count ≤ 2 ^ 32
+IsKept size Sync = ⊤
+
+-- none of the calls is a sync
+abbrev pub AreWrites : List DiskCall → Type 0
+AreWrites [] = ⊤
+AreWrites (Wrote at bytes ∷ calls) = AreWrites calls
+AreWrites (Tore at count ∷ calls) = AreWrites calls
+AreWrites (Synced ∷ calls) = ⊥
+
+-- so many of the calls came up to the last good sync
+pub record IsSettled (settled : ℕ) (calls : List DiskCall) : Type 0 where
+  pub within : settled ≤ length calls
+  pub since : AreWrites (drop settled calls)
+  -- nothing was pending then
+  pub nothing_pending : (start : List ℕ) → replay (fresh start) (take settled calls) ≡ fresh (replay (fresh start) calls).synced

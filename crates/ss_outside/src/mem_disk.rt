@@ -1,0 +1,330 @@
+// A disk in memory.
+use crate::bytes_at::{overwrite_at, read_from};
+use crate::past::Past;
+use crate::{Disk, Failed};
+use std::alloc::{AllocError, Global};
+use std::marker::Model;
+
+/// What a crash of a disk in memory leaves of the bytes that are pending.
+#[derive(Clone, Copy, Debug, PartialEq, Eq)]
+pub enum Choice {
+    /// None of them: the content at the last good sync.
+    Lost,
+    /// All of them: the content.
+    Kept,
+    /// This byte at every place that is free, at the greatest length reached since the last good sync.
+    Fill(u8),
+}
+
+/// A disk that holds its bytes in memory, and fails at the calls that `fail_at` and `stop_from` list. It keeps what its
+/// calls changed, and grows as it is used: a write or a sync that finds no memory to grow fails too.
+#[derive(Drop)]
+pub struct MemDisk {
+    alloc: Global,
+    // What it held when it was made, what it holds now, and what it went through between.
+    start: Vec<u8>,
+    bytes: Vec<u8>,
+    past: Past,
+    // The numbers of the calls that fail, and the number from which on all fail.
+    failing: Vec<u64>,
+    stop: Option<u64>,
+    // How many calls were made, how many of them failed, and how many of those for want of memory.
+    calls: u64,
+    faults: u64,
+    short: u64,
+}
+
+impl Model for MemDisk {
+    ghost use Rattle.std.specs.Prelude.{◌≡◌};
+    ghost use Rattle.ss_outside.specs.MemDisk.{MemDiskState, IsSound, fresh, replay};
+
+    ghost Value = { MemDiskState };
+
+    ghost view = { λ s. record {
+      start = s.start.items;
+      changes = s.past;
+      failing = s.failing.items;
+      stop = s.stop;
+      calls = s.calls;
+      faults = s.faults;
+      short = s.short;
+    } };
+
+    ghost invariant = { λ s. let state = replay (fresh s.start.items) s.past in (s.bytes.items ≡ state.content) × IsSound state };
+}
+
+impl MemDisk {
+    ghost use Rattle.std.specs.Prelude.{◌≡◌, ◌⊎◌, ◌+◌, ◌≤◌, ◌^◌, ◌↔◌, length, Some, IsErr, IfOk, OnOk, OnErr};
+    ghost use Rattle.ss_outside.specs.Causes.{HasCause};
+    ghost use Rattle.ss_outside.specs.Choice.{IsChosen};
+    ghost use Rattle.ss_outside.specs.MemDisk.{Wrote, Tore, Synced, made, now, Leaves, IsListed, IsSound, answered, failed, starved, changed};
+
+    /// A disk that holds these bytes, with nothing pending and no call listed as failing. It takes memory for a copy of
+    /// them.
+    pub fn new(alloc: Global, content: Vec<u8>) -> Result<MemDisk, AllocError>
+        ensures { IfOk result (λ disk. disk ≡ made content.items) }
+    {
+        let start = content.as_slice().to_vec(alloc)?;
+        Ok(MemDisk {
+            alloc,
+            start,
+            bytes: content,
+            past: Past::new(alloc),
+            failing: Vec::new(alloc),
+            stop: None,
+            calls: 0,
+            faults: 0,
+            short: 0,
+        })
+    }
+
+    /// Lists the calls of the trait that fail, numbered from 0 since the disk was made. They take the place of those
+    /// that `fail_at` listed before.
+    pub fn fail_at(&mut self, calls: Vec<u64>)
+        ensures { self.new ≡ record self.old { failing = calls.items } }
+    {
+        self.failing = calls;
+    }
+
+    /// Lists this call of the trait and all later ones as failing, beside those that `fail_at` lists.
+    pub fn stop_from(&mut self, call: u64)
+        ensures { self.new ≡ record self.old { stop = Some call } }
+    {
+        self.stop = Some(call);
+    }
+
+    /// The bytes that a read gives.
+    pub fn content(&self) -> &[u8]
+        ensures { result.now ≡ (now self.now).content }
+    {
+        self.bytes.as_slice()
+    }
+
+    /// How many calls of the trait were made, a number of 64 bits that stands still at its greatest.
+    pub fn calls(&self) -> u64
+        ensures { result ≡ self.now.calls }
+    {
+        self.calls
+    }
+
+    /// How many calls failed for want of memory, a number of 64 bits that stands still at its greatest.
+    pub fn short(&self) -> u64
+        ensures { result ≡ self.now.short }
+    {
+        self.short
+    }
+
+    /// The disk that a crash now leaves, with nothing pending and no call listed as failing. It takes memory for a copy
+    /// of what is left.
+    pub fn crash(&self, choice: Choice) -> Result<MemDisk, AllocError>
+        ensures made { IfOk result (λ disk. disk ≡ made (now disk).content) }
+        ensures chosen { IfOk result (λ disk. IsChosen choice (now self.now) (now disk).content) }
+        ensures may_leave { IfOk result (λ disk. Leaves (now self.now) (now disk).content) }
+    {
+        let image = match choice {
+            Choice::Kept => self.bytes.as_slice().to_vec(self.alloc)?,
+            Choice::Lost => lost(self.alloc, &self.start, &self.past)?,
+            Choice::Fill(byte) => filled(self.alloc, &self.start, &self.past, byte)?,
+        };
+        MemDisk::new(self.alloc, image)
+    }
+
+    // Begins a call: counts it, and fails where it is listed.
+    fn begin(&mut self) -> Result<(), Failed>
+        ensures listed { IsErr result ↔ IsListed self.old }
+        ensures answered { OnOk result (self.new ≡ answered self.old) }
+        ensures failed { OnErr result (self.new ≡ failed self.old) }
+        ensures cause { HasCause self.old.faults self.new.faults result }
+        ensures sound { IsSound (now self.old) }
+    {
+        let call = self.calls;
+        self.calls = call.saturating_add(1);
+        if is_listed(&self.failing, self.stop, call) {
+            self.faults = self.faults.saturating_add(1);
+            return Err(Failed);
+        }
+        Ok(())
+    }
+
+    // Makes one write, where a listed one writes nothing, but its range is pending.
+    fn write(&mut self, at: usize, bytes: &[u8]) -> Result<(), Failed>
+        requires within { at ≤ length (now self.old).content }
+        requires end { at + length bytes.now ≤ 2 ^ 32 }
+        ensures listed { IsListed self.old → IsErr result }
+        ensures wrote { OnOk result (self.new ≡ changed (answered self.old) (Wrote at bytes.now)) }
+        ensures failed { OnErr result
+            ((IsListed self.old × (self.new ≡ changed (failed self.old) (Tore at (length bytes.now)))) ⊎ (self.new ≡ starved self.old)) }
+        ensures cause { HasCause self.old.faults self.new.faults result }
+        ensures sound_before { IsSound (now self.old) }
+        ensures sound { IsSound (now self.new) }
+    {
+        if let Err(Failed) = self.begin() {
+            if let Err(AllocError) = self.past.tear(at, bytes.len()) {
+                self.short = self.short.saturating_add(1);
+            }
+            return Err(Failed);
+        }
+        if let Err(AllocError) = put(&mut self.bytes, &mut self.past, at, bytes) {
+            self.faults = self.faults.saturating_add(1);
+            self.short = self.short.saturating_add(1);
+            return Err(Failed);
+        }
+        Ok(())
+    }
+
+    // Makes one sync.
+    fn settle(&mut self) -> Result<(), Failed>
+        ensures synced { OnOk result (¬ IsListed self.old × (self.new ≡ changed (answered self.old) Synced)) }
+        ensures failed { OnErr result
+            ((IsListed self.old × (self.new ≡ failed self.old)) ⊎ (¬ IsListed self.old × (self.new ≡ starved self.old))) }
+        ensures cause { HasCause self.old.faults self.new.faults result }
+        ensures sound_before { IsSound (now self.old) }
+        ensures sound { IsSound (now self.new) }
+    {
+        self.begin()?;
+        if let Err(AllocError) = self.past.sync() {
+            self.faults = self.faults.saturating_add(1);
+            self.short = self.short.saturating_add(1);
+            return Err(Failed);
+        }
+        Ok(())
+    }
+}
+
+impl Disk for MemDisk {
+    ghost use Rattle.std.specs.Prelude.{◌≡◌, ◌⊎◌, ◌+◌, ◌≤◌, ◌^◌, ◌↔◌, ℕ, List, true, length, IsErr, IfOk, OnOk, OnErr};
+    ghost use Rattle.ss_outside.specs.Causes.{HasCause};
+    ghost use Rattle.ss_outside.specs.Disk.{overwrite, IsReadFrom, BecomesPending, SameImages, NothingPending};
+    ghost use Rattle.ss_outside.specs.MemDisk.{Wrote, Tore, Synced, fresh, now, Leaves, LeftSince, TimePasses, left_now, only_left, IsListed, answered, failed, starved, changed};
+
+    ghost tells = { λ s. true };
+
+    ghost content = { λ s. (now s).content };
+
+    ghost may_leave = { λ s. Leaves (now s) };
+
+    ghost moment = { λ s. length s.changes };
+
+    ghost left_since = { λ s. LeftSince (fresh s.start) s.changes };
+
+    ghost faults = { λ s. s.faults };
+
+    ghost counts_now = { λ s t image told le is. left_now (fresh s.start) s.changes t image is };
+
+    ghost only_now = { λ s image told left. only_left (fresh s.start) s.changes image left };
+
+    /// Fails exactly where the call is listed.
+    fn len(&mut self) -> Result<u64, Failed>
+        ensures length { IfOk result (λ n. n ≡ length (now self.old).content) }
+        ensures content { (now self.new).content ≡ (now self.old).content }
+        ensures images { SameImages (Leaves (now self.old)) (Leaves (now self.new)) }
+        ensures image { Leaves (now self.new) (now self.new).content }
+        ensures time { TimePasses self.old self.new }
+        ensures cause { HasCause self.old.faults self.new.faults result }
+        ensures listed { IsErr result ↔ IsListed self.old }
+        ensures answered { OnOk result (self.new ≡ answered self.old) }
+        ensures failed { OnErr result (self.new ≡ failed self.old) }
+    {
+        self.begin()?;
+        Ok(self.bytes.len() as u64)
+    }
+
+    /// Fails exactly where the call is listed, and leaves the buffer then.
+    fn read_at(&mut self, at: u64, into: &mut [u8]) -> Result<(), Failed>
+        ensures bytes { OnOk result (IsReadFrom (now self.old).content at into.new) }
+        ensures content { (now self.new).content ≡ (now self.old).content }
+        ensures images { SameImages (Leaves (now self.old)) (Leaves (now self.new)) }
+        ensures image { Leaves (now self.new) (now self.new).content }
+        ensures time { TimePasses self.old self.new }
+        ensures cause { HasCause self.old.faults self.new.faults result }
+        ensures listed { IsErr result ↔ IsListed self.old }
+        ensures answered { OnOk result (self.new ≡ answered self.old) }
+        ensures failed { OnErr result (self.new ≡ failed self.old) }
+        ensures kept { OnErr result (into.new ≡ into.old) }
+    {
+        self.begin()?;
+        read_from(&self.bytes, at, into);
+        Ok(())
+    }
+
+    /// Fails where the call is listed, and else only where memory is short, which `short` counts. A listed write writes
+    /// nothing, but its range is pending. One that finds no memory, listed or not, leaves the disk as it was.
+    fn write_at(&mut self, at: u64, bytes: &[u8]) -> Result<(), Failed>
+        requires within { at ≤ length (now self.old).content }
+        requires end { at + length bytes.now ≤ 2 ^ 32 }
+        ensures written { OnOk result ((now self.new).content ≡ overwrite (now self.old).content at bytes.now) }
+        ensures pending { BecomesPending at (length bytes.now) (Leaves (now self.old)) (Leaves (now self.new))
+            ⊎ (IsErr result × ((now self.new).content ≡ (now self.old).content) × SameImages (Leaves (now self.old)) (Leaves (now self.new))) }
+        ensures image { Leaves (now self.new) (now self.new).content }
+        ensures time { TimePasses self.old self.new }
+        ensures cause { HasCause self.old.faults self.new.faults result }
+        ensures listed { IsListed self.old → IsErr result }
+        ensures wrote { OnOk result (self.new ≡ changed (answered self.old) (Wrote at bytes.now)) }
+        ensures failed { OnErr result
+            ((IsListed self.old × (self.new ≡ changed (failed self.old) (Tore at (length bytes.now)))) ⊎ (self.new ≡ starved self.old)) }
+    {
+        self.write(at as usize, bytes)
+    }
+
+    /// Fails where the call is listed, and else only where memory is short, which `short` counts.
+    fn sync(&mut self) -> Result<(), Failed>
+        ensures durable { OnOk result (NothingPending (now self.new).content (Leaves (now self.new))) }
+        ensures no_other { (image : List ℕ) → Leaves (now self.new) image → Leaves (now self.old) image }
+        ensures pending { OnErr result (SameImages (Leaves (now self.old)) (Leaves (now self.new))) }
+        ensures content { (now self.new).content ≡ (now self.old).content }
+        ensures image { Leaves (now self.new) (now self.new).content }
+        ensures time { TimePasses self.old self.new }
+        ensures cause { HasCause self.old.faults self.new.faults result }
+        ensures synced { OnOk result (¬ IsListed self.old × (self.new ≡ changed (answered self.old) Synced)) }
+        ensures failed { OnErr result
+            ((IsListed self.old × (self.new ≡ failed self.old)) ⊎ (¬ IsListed self.old × (self.new ≡ starved self.old))) }
+    {
+        self.settle()
+    }
+}
+
+ghost use Rattle.std.specs.Prelude.{◌≡◌, ◌⊎◌, ◌+◌, ◌≤◌, ◌^◌, ◌++◌, ◌∷◌, [], ◌↔◌, length, Contains, IsTrue, IsSomeAnd, IfOk, OnOk, OnErr};
+ghost use Rattle.ss_outside.specs.Disk.{overwrite};
+ghost use Rattle.ss_outside.specs.Choice.{IsFilled};
+ghost use Rattle.ss_outside.specs.MemDisk.{Wrote, fresh, replay};
+
+// Whether the call with this number is listed as failing.
+fn is_listed(failing: &[u64], stop: Option<u64>, call: u64) -> bool
+    ensures { IsTrue result ↔ (Contains failing.now call ⊎ IsSomeAnd stop (λ first. first ≤ call)) }
+{
+    if let Some(first) = stop {
+        if first <= call {
+            return true;
+        }
+    }
+    failing.contains(&call)
+}
+
+// Writes the bytes at the place, and keeps that they were written.
+fn put(content: &mut Vec<u8>, past: &mut Past, at: usize, bytes: &[u8]) -> Result<(), AllocError>
+    requires { at + length bytes.now ≤ 2 ^ 32 }
+    ensures content { OnOk result (content.new.items ≡ overwrite content.old.items at bytes.now) }
+    ensures past { OnOk result (past.new ≡ past.old ++ Wrote at bytes.now ∷ []) }
+    ensures kept { OnErr result ((content.new.items ≡ content.old.items) × (past.new ≡ past.old)) }
+{
+    content.reserve(bytes.len())?;
+    past.write(at, bytes)?;
+    overwrite_at(content, at, bytes)
+}
+
+// The content at the last good sync.
+fn lost(alloc: Global, start: &[u8], past: &Past) -> Result<Vec<u8>, AllocError>
+    ensures { IfOk result (λ image. image.items ≡ (replay (fresh start.now) past.now).synced) }
+{
+    past.content_after(alloc, start, past.settled())
+}
+
+// The image with this byte at every free place.
+fn filled(alloc: Global, start: &[u8], past: &Past, byte: u8) -> Result<Vec<u8>, AllocError>
+    ensures { IfOk result (λ image. IsFilled (replay (fresh start.now) past.now) byte image.items) }
+{
+    let settled = past.settled();
+    let mut image = past.content_after(alloc, start, settled)?;
+    past.fill(settled, &mut image, byte)?;
+    Ok(image)
+}
