@@ -1,0 +1,148 @@
+-- How the entries of a formed file are read one after another.
+use Rattle.std.proofs.Common.{◌≡◌, ℕ, ◌+◌, ◌<◌, ◌≤◌, ◌^◌, nat_le, IsTrue, IsFalse, List, [], ◌∷◌, ◌++◌, length, drop, append_assoc, refl, sym, ◌∙◌, ap, subst, Some, None, Ok, Err, arith}
+use Rattle.std.specs.Prelude.{All, flat_map}
+use Rattle.std.proofs.lemmas.Bool.{and_parts, cond-true, cond-false}
+use Rattle.std.proofs.lemmas.Bool.Decides.{nat_tests}
+use Rattle.std.proofs.lemmas.List.{append-nil, drop_all}
+use Rattle.std.proofs.lemmas.List.Elements.{All-nil, All-cons, All-head, All-tail, All-append, All-weaker}
+use Rattle.std.proofs.lemmas.List.FromFn.{length-map-range_with_len}
+use Rattle.ss_outside.proofs.CrashLemmas.{at_start, joined, weaker}
+use Rattle.arrayvec.specs.ArrayVec.{ArrayVec}
+use Rattle.ss_journal.specs.declared.put.Put.{Put}
+use Rattle.ss_journal.specs.declared.journal_error.JournalError.{JournalError}
+use Rattle.ss_journal.specs.declared.journal_error.JournalError.TheVariants.{Disk, NotAStore, BadEntry, OutOfMemory}
+use Rattle.ss_journal.specs.Format.{is_born, slots_in, entry_at}
+use Rattle.ss_journal.specs.Puts.{IsTxn, slots_fit, extent_after}
+use Rattle.ss_journal.specs.Entries.{is_open, is_good, puts_of, open_prefix, entries}
+use Rattle.ss_journal.specs.Redo.{SlotMap, bad_entry, changed, file_map, redo_entries, redo, puts_in_use}
+use Rattle.ss_journal.specs.Calls.{OnlyReads}
+use Rattle.ss_journal.specs.Opening.{NextAs, InUse, InUseAs}
+use Rattle.ss_journal.proofs.PutLemmas.{next, le-extent_after}
+use Rattle.ss_journal.proofs.RedoLemmas.{redo-at_born, puts_in_use-born, open_prefix-drop, AreSlots-rise}
+
+-- the entries before number n are in use: these are their puts, and the extent after them
+pub record IsReadTo (content : List ℕ) (n extent : ℕ) (puts : List Put) : Type 0 where
+  pub current : SlotMap
+  pub same_extent : current.extent ≡ extent
+  pub in_use : puts ++ flat_map puts_of (open_prefix (drop n (entries content))) ≡ puts_in_use content
+  pub redone : redo content ≡ redo_entries n (open_prefix (drop n (entries content))) current
+
+pub IsReadTo-none : (content : List ℕ) (slots : ℕ) → IsTrue (is_born content) → slots ≡ slots_in (length content) → IsReadTo content 0 slots []
+IsReadTo-none content slots born counted = record {
+  current = file_map content;
+  same_extent = sym counted;
+  in_use = sym (puts_in_use-born content born);
+  redone = redo-at_born content born;
+}
+
+module _ (content : List ℕ) (n extent : ℕ) (puts : List Put) (read : IsReadTo content n extent puts) where
+  -- no entry from here on is in use
+  IsReadTo-closed : open_prefix (drop n (entries content)) ≡ [] → InUse content extent puts
+  IsReadTo-closed none = record {
+    in_use = sym (append-nil puts) ∙ sym (ap (λ (list : List (List ℕ)). puts ++ flat_map puts_of list) none) ∙ read.in_use;
+    found = read.current;
+    map = read.redone ∙ ap (λ (list : List (List ℕ)). redo_entries n list read.current) none;
+    same_extent = read.same_extent;
+  }
+
+  pub IsReadTo-all : n ≡ 64 → InUse content extent puts
+  unfolding entries
+  IsReadTo-all all =
+      let past = drop_all n (entries content) (omega (arith, length-map-range_with_len (entry_at content) 0 64)) in
+      IsReadTo-closed (ap open_prefix past)
+
+  module _ (lt : n < 64) where
+    pub IsReadTo-shut : IsFalse (is_open (entry_at content n)) → InUse content extent puts
+    IsReadTo-shut shut = IsReadTo-closed (ap open_prefix (open_prefix-drop content n lt) ∙ cond-false (is_open (entry_at content n)) _ _ shut)
+
+    module _ (opened : IsTrue (is_open (entry_at content n))) where
+      open_prefix-here : open_prefix (drop n (entries content)) ≡ entry_at content n ∷ open_prefix (drop (n + 1) (entries content))
+      open_prefix-here = ap open_prefix (open_prefix-drop content n lt) ∙ cond-true (is_open (entry_at content n)) _ _ opened
+
+      redo-here : redo content ≡ redo_entries n (entry_at content n ∷ open_prefix (drop (n + 1) (entries content))) read.current
+      redo-here = read.redone ∙ ap (λ (list : List (List ℕ)). redo_entries n list read.current) open_prefix-here
+
+      pub IsReadTo-bad : IsFalse (is_good (entry_at content n) extent) → redo content ≡ bad_entry n
+      IsReadTo-bad bad =
+          let here = ap (is_good (entry_at content n)) read.same_extent ∙ bad in
+          redo-here ∙ cond-false (is_good (entry_at content n) read.current.extent) _ _ here
+
+      pub IsReadTo-more : IsTrue (is_good (entry_at content n) extent) → IsReadTo content (n + 1) (extent_after (puts_of (entry_at content n)) extent) (puts ++ puts_of (entry_at content n))
+      IsReadTo-more good =
+          let own = puts_of (entry_at content n) in
+          let here = ap (is_good (entry_at content n)) read.same_extent ∙ good in
+          record {
+            current = changed read.current own;
+            same_extent = ap (extent_after own) read.same_extent;
+            in_use = append_assoc puts own _ ∙ sym (ap (λ (list : List (List ℕ)). puts ++ flat_map puts_of list) open_prefix-here) ∙ read.in_use;
+            redone = redo-here ∙ cond-true (is_good (entry_at content n) read.current.extent) _ _ here;
+          }
+
+-- the same of what reading entry n answers, where the content is still the same
+module _ (content now : List ℕ) (n extent : ℕ) (puts : List Put) (same : now ≡ content) (lt : n < 64) (read : IsReadTo content n extent puts) where
+  pub InUse-next : NextAs (entry_at now n) n extent (Ok None) → InUse content extent puts
+  InUse-next shut = IsReadTo-shut content n extent puts read lt (subst (λ (image : List ℕ). IsFalse (is_open (entry_at image n))) same shut)
+
+  pub InUseAs-next : (error : JournalError) → NextAs (entry_at now n) n extent (Err error) → InUseAs content (Err error)
+  InUseAs-next Disk is = tt
+  InUseAs-next OutOfMemory is = tt
+  InUseAs-next NotAStore is = is
+  InUseAs-next (BadEntry bad) is =
+      let here = subst (λ (image : List ℕ). IsTrue (is_open (entry_at image n)) × IsFalse (is_good (entry_at image n) extent)) same (is.0, is.1) in
+      IsReadTo-bad content n extent puts read lt here.0 here.1 ∙ ap bad_entry (sym is.2)
+
+  pub IsReadTo-next : (own : ArrayVec Put) (last : ℕ) (more : List Put) → NextAs (entry_at now n) n extent (Ok (Some own)) → last ≡ extent_after own.items extent → more ≡ puts ++ own.items → IsReadTo content (n + 1) last more
+  IsReadTo-next own last more is after joins =
+      let here = subst (λ (image : List ℕ). IsTrue (is_open (entry_at image n)) × IsTrue (is_good (entry_at image n) extent) × (own.items ≡ puts_of (entry_at image n))) same is in
+      let last_is = after ∙ ap (λ (l : List Put). extent_after l extent) here.2 in
+      let more_is = joins ∙ ap (λ (l : List Put). puts ++ l) here.2 in
+      rw (last_is, more_is) (IsReadTo-more content n extent puts read lt here.0 here.1)
+
+-- the extent stays below a bound of the slots
+next-bound : (slot extent most : ℕ) → slot < most → extent ≤ most → next slot extent ≤ most
+next-bound slot extent most lt le = grind (arith, nat_tests)
+
+pub extent_after-bound : (puts : List Put) (extent most : ℕ) → All (λ put. put.slot < most) puts → extent ≤ most → extent_after puts extent ≤ most
+extent_after-bound [] extent most below le = le
+extent_after-bound (put ∷ puts) extent most below le =
+    let P = λ (p : Put). p.slot < most in
+    extent_after-bound puts (next put.slot extent) most (All-tail P put puts below) (next-bound put.slot extent most (All-head P put puts below) le)
+
+lt-next : (slot extent : ℕ) → IsTrue (nat_le slot extent) → slot < next slot extent
+lt-next slot extent fits = grind (arith, nat_tests)
+
+-- puts that fit lie below the extent after them
+pub slots_fit-below : (puts : List Put) (extent : ℕ) → IsTrue (slots_fit puts extent) → All (λ put. put.slot < extent_after puts extent) puts
+slots_fit-below [] extent fit = All-nil (λ (put : Put). put.slot < extent)
+slots_fit-below (put ∷ puts) extent fit =
+    let cases = and_parts (nat_le put.slot extent) (slots_fit puts (next put.slot extent)) fit in
+    let least = le-extent_after puts (next put.slot extent) in
+    All-cons (λ (p : Put). p.slot < extent_after puts (next put.slot extent)) put puts
+    (omega (arith, lt-next put.slot extent cases.0, least)) (slots_fit-below puts (next put.slot extent) cases.1)
+
+-- so do those before them
+pub waiting-below : (waiting puts : List Put) (extent : ℕ) → IsTrue (slots_fit puts extent) → All (λ put. put.slot < extent) waiting → All (λ put. put.slot < extent_after puts extent) (waiting ++ puts)
+waiting-below waiting puts extent fit below =
+    let P = λ (p : Put). p.slot < extent_after puts extent in
+    All-append P waiting puts (All-weaker (λ (p : Put). p.slot < extent) P (λ p lt. omega (arith, lt, le-extent_after puts extent)) waiting below) (slots_fit-below puts extent fit)
+
+pub extent_after-most : (puts : List Put) (extent : ℕ) → IsTxn puts → extent ≤ 2 ^ 20 → extent_after puts extent ≤ 2 ^ 20
+extent_after-most puts extent txn le = extent_after-bound puts extent (2 ^ 20) (AreSlots-rise 0 puts txn.rise) le
+
+module _ {D : Type 0} (content : D → List ℕ) (may_leave : D → List ℕ → Type 0) (moment : D → ℕ) (left_since : D → ℕ → List ℕ → Type 0) where
+  -- before the first call
+  pub OnlyReads-start : (old : D) → ((image : List ℕ) → left_since old (moment old) image → may_leave old image) → OnlyReads content may_leave moment left_since old old
+  OnlyReads-start old here = record {
+    same_content = refl;
+    same_images = λ image. (λ is. is, λ is. is);
+    any_moment = at_start moment left_since old (may_leave old) here;
+  }
+
+  -- one call after another
+  pub OnlyReads-joined : (old mid new : D) → OnlyReads content may_leave moment left_since old mid → OnlyReads content may_leave moment left_since mid new → OnlyReads content may_leave moment left_since old new
+  OnlyReads-joined old mid new first second = record {
+    same_content = second.same_content ∙ first.same_content;
+    same_images = λ image. (λ is. (second.same_images image).0 ((first.same_images image).0 is), λ is. (first.same_images image).1 ((second.same_images image).1 is));
+    any_moment = joined moment left_since old mid new (may_leave old) first.any_moment
+        (weaker moment left_since mid new (may_leave mid) (may_leave old) (λ image is. (first.same_images image).1 is) second.any_moment);
+  }

@@ -1,0 +1,184 @@
+-- Puts that are written into their slots, and slots that a crash tears.
+use Rattle.std.proofs.Common.{◌≡◌, inl, inr, ℕ, zero, suc, ◌+◌, ◌<◌, ◌≤◌, ◌^◌, max, nat_eq, IsTrue, IsFalse, List, [], ◌∷◌, ◌++◌, length, take, drop, get_or, sym, ◌∙◌, ap, subst, arith}
+use Rattle.std.proofs.lemmas.Bool.{cases_lt, cases_eq, cases_order, cond-true, cond-false, or_parts, lt-ltb, le-ltb, eqb-false, eq-eqb, ne_eqb}
+use Rattle.std.proofs.lemmas.Bool.Decides.{nat_tests}
+use Rattle.std.proofs.lemmas.List.{take_at, drop_at, drop_more, length-take-le, append_assoc}
+use Rattle.std.proofs.lemmas.List.Elements.{All-head, All-tail}
+use Rattle.ss_outside.specs.Disk.{overwrite, Torn, IsOutside, IsOutsideAll}
+use Rattle.ss_outside.proofs.DiskLemmas.{length-overwrite, get_or-overwrite_outside}
+use Rattle.ss_journal.specs.declared.put.Put.{Put}
+use Rattle.ss_journal.specs.Format.{slots_in, slot_at, slot_place}
+use Rattle.ss_journal.specs.Puts.{extent_after, slots_fit, is_put, AgreeBeside, AreWhole}
+use Rattle.ss_journal.specs.Redo.{SameMap, changed, file_map}
+use Rattle.ss_journal.specs.Writes.{AreSlots, HasRoom, DiffersIn, end_of, slot_ranges, slots_written}
+use Rattle.ss_journal.proofs.HeaderLemmas.{piece-same}
+use Rattle.ss_journal.proofs.MapLemmas.{slot_within, changed-same}
+use Rattle.ss_journal.proofs.PutLemmas.{next, next-le, le-extent_after, slots_fit-cases}
+use Rattle.ss_journal.proofs.ReadLemmas.{below_extent}
+use Rattle.ss_journal.proofs.RedoLemmas.{SameMap-refl, SameMap-trans}
+
+-- the header lies outside each slot
+pub outside_slots : (puts : List Put) (place : ℕ) → place < 36864 → IsOutsideAll (slot_ranges puts) place
+outside_slots [] place lt = tt
+outside_slots (put ∷ puts) place lt = (inl (omega (arith, lt)), outside_slots puts place lt)
+
+-- and so does a slot without a put
+outside_slot : (puts : List Put) (slot place : ℕ) → IsFalse (is_put puts slot) → slot_place slot ≤ place → place < slot_place slot + 128 → IsOutsideAll (slot_ranges puts) place
+outside_slot [] slot place beside low high = tt
+outside_slot (put ∷ puts) slot place beside low high =
+    let parts = or_parts (nat_eq slot put.slot) (is_put puts slot) beside in (
+      elim (cases_order slot put.slot) [
+        | inl same ↦ absurd (eqb-false slot put.slot parts.0 same)
+        | inr apart ↦ elim apart [ inl below ↦ inl (omega (arith, below, high)) | inr above ↦ inr (omega (arith, above, low)) ]
+      ],
+      outside_slot puts slot place parts.1 low high,
+    )
+
+-- one more slot is reached only by a put into the next
+slots_in-max : (slot size end extent : ℕ) → slots_in end ≤ extent → slot < extent → slots_in (max end (slot_place slot + 128)) ≤ extent
+slots_in-max slot size end extent most lt = omega arith
+
+lt-next : (slot extent : ℕ) → slot ≤ extent → slot < next slot extent
+lt-next slot extent le = grind (arith, nat_tests)
+
+-- a file with some of the puts has no more slots than the extent after them
+slots_in-end_of : (puts : List Put) (size extent : ℕ) → IsTrue (slots_fit puts extent) → slots_in size ≤ extent → slots_in (end_of (slot_ranges puts) size) ≤ extent_after puts extent
+slots_in-end_of [] size extent fit le = le
+slots_in-end_of (put ∷ puts) size extent fit le =
+    let cases = slots_fit-cases put puts extent fit in
+    let rest = slots_in-end_of puts size (next put.slot extent) cases.1 (omega (arith, le, next-le put.slot extent)) in
+    slots_in-max put.slot size (end_of (slot_ranges puts) size) (extent_after puts (next put.slot extent)) rest (omega (arith, lt-next put.slot extent cases.0, le-extent_after puts (next put.slot extent)))
+
+pub slots_in-mono : (old new : ℕ) → old ≤ new → slots_in old ≤ slots_in new
+slots_in-mono old new le = omega arith
+
+module _ (puts : List Put) (content image : List ℕ) (fit : IsTrue (slots_fit puts (slots_in (length content)))) (differs : DiffersIn (slot_ranges puts) content image) where
+  pub slots_in-torn : slots_in (length image) ≤ extent_after puts (slots_in (length content))
+  slots_in-torn =
+      let most = slots_in-end_of puts (length content) (slots_in (length content)) fit (omega arith) in
+      let mono = slots_in-mono (length image) (end_of (slot_ranges puts) (length content)) differs.no_longer in
+      omega (arith, most, mono)
+
+  -- the files agree on each slot without a put
+  pub AgreeBeside-torn : AgreeBeside puts (file_map content).bytes (file_map image).bytes
+  AgreeBeside-torn slot beside = elim (cases_lt slot (slots_in (length content))) [
+    | inl within ↦
+        let inside = slot_within (length content) slot within in
+        let mono = slots_in-mono (length content) (length image) differs.no_shorter in
+        cond-true _ _ _ (lt-ltb slot (slots_in (length image)) (omega (arith, within, mono)))
+        ∙ piece-same content image (slot_place slot) 128 inside (omega (arith, inside, differs.no_shorter)) (λ place low high. differs.kept place (omega (arith, high, inside)) (outside_slot puts slot place beside low high))
+        ∙ sym (cond-true _ _ _ (lt-ltb slot (slots_in (length content)) within))
+    | inr past ↦ elim (cases_lt slot (slots_in (length image))) [
+      | inl below ↦ let lt = below_extent puts (slots_in (length content)) slot (omega (arith, below, slots_in-torn)) beside in absurd (omega (arith, lt, past))
+      | inr from ↦ cond-false _ _ _ (le-ltb slot (slots_in (length image)) from) ∙ sym (cond-false _ _ _ (le-ltb slot (slots_in (length content)) past))
+    ]
+  ]
+
+-- one put is written
+slots_in-put : (size slot : ℕ) → 36864 ≤ size → slot ≤ slots_in size → slot < 2 ^ 20 → slots_in (max size (slot_place slot + 128)) ≡ next slot (slots_in size)
+slots_in-put size slot long fits lt = elim (cases_eq slot (slots_in size)) [
+  | inl same ↦ let more : next slot (slots_in size) ≡ slots_in size + 1 = cond-true _ _ _ (eq-eqb slot (slots_in size) same) in omega (arith, more, same, lt, long)
+  | inr other ↦ let none : next slot (slots_in size) ≡ slots_in size = cond-false _ _ _ (ne_eqb slot (slots_in size) other) in omega (arith, none, other, fits, long)
+]
+
+-- a slot past the file is past it with another slot written
+slots_in-other : (size slot other : ℕ) → 36864 ≤ size → slot ≤ slots_in size → slots_in size ≤ other → (other ≡ slot → ⊥) → slots_in (max size (slot_place slot + 128)) ≤ other
+slots_in-other size slot other long fits past apart = omega (arith, apart)
+
+module _ (put : Put) (content : List ℕ) (long : 36864 ≤ length content) (fits : put.slot ≤ slots_in (length content)) (below : put.slot < 2 ^ 20) (whole : length put.bytes ≡ 128) where
+  abbrev written : List ℕ
+  written = overwrite content (slot_place put.slot) put.bytes
+
+  place_within : slot_place put.slot ≤ length content
+  place_within = omega (arith, long, fits)
+
+  pub length-written : length written ≡ max (length content) (slot_place put.slot + 128)
+  length-written = length-overwrite content put.bytes (slot_place put.slot) place_within ∙ ap (λ (n : ℕ). max (length content) (slot_place put.slot + n)) whole
+
+  pub slots-written : slots_in (length written) ≡ next put.slot (slots_in (length content))
+  slots-written = ap slots_in length-written ∙ slots_in-put (length content) put.slot long fits below
+
+  slot_at-written : slot_at written put.slot ≡ put.bytes
+  slot_at-written =
+      let front : length (take (slot_place put.slot) content) ≡ slot_place put.slot = length-take-le (slot_place put.slot) content place_within in
+      ap (λ (list : List ℕ). take 128 (drop (slot_place put.slot) list)) (append_assoc (take (slot_place put.slot) content) put.bytes (drop (slot_place put.slot + length put.bytes) content))
+      ∙ ap (take 128) (drop_at (take (slot_place put.slot) content) (put.bytes ++ drop (slot_place put.slot + length put.bytes) content) (slot_place put.slot) front)
+      ∙ take_at put.bytes (drop (slot_place put.slot + length put.bytes) content) 128 whole
+
+  bytes-written : (slot : ℕ) → (slot ≡ put.slot → ⊥) → (file_map written).bytes slot ≡ (file_map content).bytes slot
+  bytes-written slot apart = elim (cases_lt slot (slots_in (length content))) [
+    | inl within ↦
+        let inside = slot_within (length content) slot within in
+        let longer : length content ≤ length written = omega (arith, length-written) in
+        cond-true _ _ _ (lt-ltb slot (slots_in (length written)) (omega (arith, within, slots_in-mono (length content) (length written) longer)))
+        ∙ piece-same content written (slot_place slot) 128 inside (omega (arith, inside, longer))
+        (λ place low high. get_or-overwrite_outside content put.bytes (slot_place put.slot) place_within place (elim (cases_order slot put.slot) [
+          | inl same ↦ absurd (apart same)
+          | inr sides ↦ elim sides [ inl lower ↦ inl (omega (arith, lower, high)) | inr higher ↦ inr (omega (arith, higher, low, whole)) ]
+        ]))
+        ∙ sym (cond-true _ _ _ (lt-ltb slot (slots_in (length content)) within))
+    | inr past ↦
+        let also = slots_in-other (length content) put.slot slot long fits past apart in
+        cond-false _ _ _ (le-ltb slot (slots_in (length written)) (subst (λ (n : ℕ). slots_in n ≤ slot) (sym length-written) also))
+        ∙ sym (cond-false _ _ _ (le-ltb slot (slots_in (length content)) past))
+  ]
+
+  pub file_map-put : SameMap (file_map written) (changed (file_map content) (put ∷ []))
+  file_map-put = record {
+    bytes = λ slot lt. elim (cases_eq slot put.slot) [
+      | inl same ↦
+          let within : put.slot < slots_in (length written) = omega (arith, slots-written, lt-next put.slot (slots_in (length content)) fits) in
+          let there : (file_map written).bytes put.slot ≡ put.bytes = cond-true _ _ _ (lt-ltb put.slot (slots_in (length written)) within) ∙ slot_at-written in
+          ap (file_map written).bytes same ∙ there ∙ sym (cond-true _ _ _ (eq-eqb slot put.slot same))
+      | inr apart ↦ bytes-written slot apart ∙ sym (cond-false _ _ _ (ne_eqb slot put.slot apart))
+    ];
+    extent = slots-written;
+  }
+
+-- the puts that are written in order give the map after them
+pub file_map-slots_written : (puts : List Put) (content : List ℕ) → 36864 ≤ length content → IsTrue (slots_fit puts (slots_in (length content))) → AreSlots puts → AreWhole puts → SameMap (file_map (slots_written puts content)) (changed (file_map content) puts)
+file_map-slots_written [] content long fit slots whole = SameMap-refl (file_map content)
+file_map-slots_written (put ∷ puts) content long fit slots whole =
+    let cases = slots_fit-cases put puts (slots_in (length content)) fit in
+    let below = All-head (λ (p : Put). p.slot < 2 ^ 20) put puts slots in
+    let full = All-head (λ (p : Put). length p.bytes ≡ 128) put puts whole in
+    let grown = length-written put content long cases.0 below full in
+    let first = file_map-put put content long cases.0 below full in
+    let rest = file_map-slots_written puts (overwrite content (slot_place put.slot) put.bytes) (omega (arith, grown, long))
+    (subst (λ (n : ℕ). IsTrue (slots_fit puts n)) (sym first.extent) cases.1)
+    (All-tail (λ (p : Put). p.slot < 2 ^ 20) put puts slots) (All-tail (λ (p : Put). length p.bytes ≡ 128) put puts whole) in
+    SameMap-trans _ _ _ rest (changed-same puts _ _ first)
+
+-- room for the rest, with the first written
+pub HasRoom-more : (puts : List Put) (k : ℕ) (d : Put) (content : List ℕ) → k < length puts → (get_or puts k d).slot < 2 ^ 20 → length (get_or puts k d).bytes ≡ 128 → HasRoom (drop k puts) content
+    → HasRoom (drop (k + 1) puts) (overwrite content (slot_place (get_or puts k d).slot) (get_or puts k d).bytes)
+HasRoom-more puts k d content lt below whole room =
+    let put = get_or puts k d in
+    let fit = subst (λ (list : List Put). IsTrue (slots_fit list (slots_in (length content)))) (drop_more puts k d lt) room.fit in
+    let cases = slots_fit-cases put (drop (k + 1) puts) (slots_in (length content)) fit in
+    let grown = length-written put content room.long cases.0 below whole in
+    record {
+      long = omega (arith, grown, room.long);
+      fit = subst (λ (n : ℕ). IsTrue (slots_fit (drop (k + 1) puts) n)) (sym (slots-written put content room.long cases.0 below whole)) cases.1;
+    }
+
+pub slots_written-more : (puts : List Put) (k : ℕ) (d : Put) (content : List ℕ) → k < length puts → slots_written (drop (k + 1) puts) (overwrite content (slot_place (get_or puts k d).slot) (get_or puts k d).bytes) ≡ slots_written (drop k puts) content
+slots_written-more puts k d content lt = ap (λ (list : List Put). slots_written list content) (sym (drop_more puts k d lt))
+
+-- one of the slots
+outside_at : (puts : List Put) (k : ℕ) (d : Put) (place : ℕ) → k < length puts → IsOutsideAll (slot_ranges puts) place → IsOutside (slot_place (get_or puts k d).slot) 128 place
+outside_at [] k d place lt out = absurd (omega (arith, lt))
+outside_at (put ∷ puts) zero d place lt out = out.0
+outside_at (put ∷ puts) (suc k) d place lt out = outside_at puts k d place (omega (arith, lt)) out.1
+
+end_of_at : (puts : List Put) (k : ℕ) (d : Put) (size : ℕ) → k < length puts → slot_place (get_or puts k d).slot + 128 ≤ end_of (slot_ranges puts) size
+end_of_at [] k d size lt = absurd (omega (arith, lt))
+end_of_at (put ∷ puts) zero d size lt = omega arith
+end_of_at (put ∷ puts) (suc k) d size lt = omega (arith, end_of_at puts k d size (omega (arith, lt)))
+
+pub DiffersIn-slot : (puts : List Put) (k : ℕ) (d : Put) (content old new : List ℕ) → k < length puts → DiffersIn (slot_ranges puts) content old → Torn (slot_place (get_or puts k d).slot) 128 old new → DiffersIn (slot_ranges puts) content new
+DiffersIn-slot puts k d content old new lt differs torn = record {
+  no_shorter = omega (arith, differs.no_shorter, torn.no_shorter);
+  no_longer = omega (arith, differs.no_longer, torn.no_longer, end_of_at puts k d (length content) lt);
+  kept = λ place low out. torn.kept place (omega (arith, low, differs.no_shorter)) (outside_at puts k d place lt out) ∙ differs.kept place low out;
+}

@@ -1,0 +1,6 @@
+use Rattle.std.proofs.Common.{◌≡◌, drop}
+use Rattle.ss_journal.specs.Puts.{slots_rise_from}
+use Rattle.ss_journal.proofs.entry.slots_rise.Given as goal
+
+abbrev pub invariant-loop-put : goal.invariant-loop-put
+invariant-loop-put l = slots_rise_from l.least (drop l.put-index l.puts) ≡ slots_rise_from 0 l.puts

@@ -1,0 +1,44 @@
+use Rattle.std.proofs.Common.{◌≡◌, ◌≢◌, inl, inr, ℕ, List, sym, ◌∙◌, ap, subst, rules}
+use denote.Enum.Bare.{same_true, sameb}
+use Rattle.std.proofs.lemmas.Bool.{both_ways}
+use Rattle.ss_journal.specs.contracts.phase.Phase.{the_type}
+use Rattle.ss_journal.specs.declared.put.Put.{Put}
+use Rattle.ss_journal.specs.declared.phase.Phase.{Phase}
+use Rattle.ss_journal.specs.declared.phase.Phase.TheVariants.{Unborn}
+use Rattle.ss_journal.specs.Puts.{with_puts}
+use Rattle.ss_journal.specs.Redo.{file_map}
+use Rattle.ss_journal.specs.Kept.{JournalState, IsKept, IsInPhase}
+use Rattle.ss_journal.proofs.StandLemmas.{unused_bytes, born_phase, born_bytes, slot_lies, slot_bytes}
+use Rattle.ss_journal.proofs.journal.Journal.read.Goals as goal
+use Rattle.ss_journal.proofs.journal.Journal.read.Goals.{then-eq-via-then-eq, then-eq-via-else-eq+then-slot-self}
+
+pub returns-then-eq-clause-bytes : goal.returns-then-eq-clause-bytes
+returns-then-eq-clause-bytes g c told found is =
+    let content = g.D.Disk.content c.args.disk.now in
+    let kept = subst (λ (journal : JournalState). IsKept journal content) (sym c.self.view_is) (c.requires.one_disk told) in
+    elim c.then-eq.branch [
+      | then-eq-via-then-eq w ↦
+          let same : c.self.inside.phase ≡ Unborn = same_true the_type (search rules) c.self.inside.phase Unborn (sym w.if-eq.ensures) in
+          let unborn = subst (λ (phase : Phase). IsInPhase phase content) same kept.phase in
+          unused_bytes _ content found c.args.slot kept is c.requires.slot (inl unborn)
+      | then-eq-via-else-eq+then-slot-self w ↦ unused_bytes _ content found c.args.slot kept is c.requires.slot (inr w.if-slot-self.true)
+    ]
+
+pub returns-in-Some-clause-bytes : goal.returns-in-Some-clause-bytes
+returns-in-Some-clause-bytes g c told found is =
+    let content = g.D.Disk.content c.args.disk.now in
+    let kept = subst (λ (journal : JournalState). IsKept journal content) (sym c.self.view_is) (c.requires.one_disk told) in
+    let other : c.self.inside.phase ≢ Unborn = λ same. both_ways _ (sym c.if-eq.ensures) (ap (λ (phase : Phase). sameb the_type phase Unborn) same) in
+    let born = born_phase c.self.inside.phase content other kept.phase in
+    let last = ap (λ (puts : List Put). with_puts puts (file_map content).bytes c.args.slot) (sym c.deref.ensures.value) ∙ c.in-Some.ensures (file_map content).bytes in
+    sym last ∙ born_bytes _ content found c.args.slot kept is c.requires.slot born
+
+pub returns-in-Ok-clause-bytes : goal.returns-in-Ok-clause-bytes
+returns-in-Ok-clause-bytes g c told found is =
+    let content = g.D.Disk.content c.args.disk.now in
+    let kept = subst (λ (journal : JournalState). IsKept journal content) (sym c.self.view_is) (c.requires.one_disk told) in
+    let other : c.self.inside.phase ≢ Unborn = λ same. both_ways _ (sym c.if-eq.ensures) (ap (λ (phase : Phase). sameb the_type phase Unborn) same) in
+    let born = born_phase c.self.inside.phase content other kept.phase in
+    let leaves = λ (map : ℕ → List ℕ). ap (λ (puts : List Put). with_puts puts map c.args.slot) (sym c.deref.ensures.value) ∙ c.in_default.ensures map in
+    let lies = slot_lies _ content found c.args.slot kept is c.requires.slot born c.if-slot-self.false leaves in
+    c.in-Ok.ensures.bytes told lies ∙ slot_bytes _ content found c.args.slot kept is c.requires.slot born c.if-slot-self.false leaves

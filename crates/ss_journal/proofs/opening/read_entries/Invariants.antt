@@ -1,0 +1,15 @@
+use Rattle.std.proofs.Common.{◌≡◌, ◌≤◌, ◌<◌, ◌^◌, IsTrue, All}
+use Rattle.ss_journal.specs.Calls.{OnlyReads}
+use Rattle.ss_journal.proofs.OpenLemmas.{IsReadTo}
+use Rattle.ss_journal.proofs.opening.read_entries.Given as goal
+
+abbrev pub invariant-loop-n : goal.invariant-loop-n
+invariant-loop-n g l =
+    record {
+      extent : l.extent ≤ 2 ^ 20;
+      waiting : All (λ put. put.slot < l.extent) l.waiting.items;
+      tells : g.D.Disk.tells l.disk ≡ g.D.Disk.tells l.fn.disk;
+      later : g.D.Disk.faults l.fn.disk ≤ g.D.Disk.faults l.disk;
+      reads : IsTrue (g.D.Disk.tells l.fn.disk) → OnlyReads g.D.Disk.content g.D.Disk.may_leave g.D.Disk.moment g.D.Disk.left_since l.fn.disk l.disk;
+      read : IsTrue (g.D.Disk.tells l.fn.disk) → IsReadTo (g.D.Disk.content l.fn.disk) l.n l.extent l.waiting.items;
+    }

@@ -1,0 +1,11 @@
+pub mod Format
+pub mod Puts
+pub mod Entries
+pub mod Redo
+pub mod Kept
+pub mod Writes
+pub mod Birth
+pub mod Calls
+pub mod Opening
+pub mod Settling
+pub mod Commit

@@ -1,0 +1,40 @@
+-- What reading the entries answers.
+use Rattle.std.specs.Prelude.{◌≡◌, ℕ, List, Option, Some, None, Result, Ok, Err, IsTrue, IsFalse, ⊤}
+use Rattle.std.specs.Global.{Vec}
+use Rattle.arrayvec.specs.ArrayVec.{ArrayVec}
+use Rattle.ss_journal.specs.declared.put.Put.{Put}
+use Rattle.ss_journal.specs.declared.journal_error.JournalError.{JournalError}
+use Rattle.ss_journal.specs.declared.journal_error.JournalError.TheVariants.{Disk, NotAStore, BadEntry, OutOfMemory}
+use Rattle.ss_journal.specs.Entries.{is_open, is_good, puts_of}
+use Rattle.ss_journal.specs.Redo.{SlotMap, stands, bad_entry, redo, puts_in_use}
+
+-- what reading entry n over this extent answers
+abbrev pub NextAs : List ℕ → ℕ → ℕ → Result (Option (ArrayVec Put)) JournalError → Type 0
+NextAs entry n extent (Ok None) = IsFalse (is_open entry)
+NextAs entry n extent (Ok (Some puts)) =
+    IsTrue (is_open entry) × IsTrue (is_good entry extent) × (puts.items ≡ puts_of entry)
+NextAs entry n extent (Err (BadEntry bad)) = IsTrue (is_open entry) × IsFalse (is_good entry extent) × (bad ≡ n)
+NextAs entry n extent (Err NotAStore) = ⊥
+NextAs entry n extent (Err Disk) = ⊤
+NextAs entry n extent (Err OutOfMemory) = ⊤
+
+-- a fact on the puts of an entry in use
+abbrev pub IfNext : Result (Option (ArrayVec Put)) JournalError → (List Put → Type 0) → Type 0
+IfNext (Ok (Some puts)) P = P puts.items
+IfNext (Ok None) P = ⊤
+IfNext (Err error) P = ⊤
+
+-- the entries in use of a content are all sound, and these are the extent after them and their puts
+pub record InUse (content : List ℕ) (extent : ℕ) (puts : List Put) : Type 0 where
+  pub in_use : puts ≡ puts_in_use content
+  pub found : SlotMap
+  pub map : redo content ≡ stands found
+  pub same_extent : found.extent ≡ extent
+
+-- what reading the entries of a content answers
+abbrev pub InUseAs : List ℕ → Result (ℕ × Vec Put) JournalError → Type 0
+InUseAs content (Ok read) = InUse content read.0 read.1.items
+InUseAs content (Err (BadEntry n)) = redo content ≡ bad_entry n
+InUseAs content (Err NotAStore) = ⊥
+InUseAs content (Err Disk) = ⊤
+InUseAs content (Err OutOfMemory) = ⊤

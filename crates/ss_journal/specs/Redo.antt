@@ -1,0 +1,67 @@
+-- What an image stands for: a fold over the entries of its open prefix.
+use Rattle.std.specs.Prelude.{◌≡◌, ℕ, ◌+◌, ◌^◌, ◌<◌, nat_lt, if◌then◌else◌, List, [], ◌∷◌, length, replicate, flat_map}
+use Rattle.ss_journal.specs.declared.put.Put.{Put}
+use Rattle.ss_journal.specs.Format.{is_unborn, is_born, slots_in, slot_at}
+use Rattle.ss_journal.specs.Puts.{with_puts, extent_after}
+use Rattle.ss_journal.specs.Entries.{puts_of, is_good, open_prefix, entries}
+
+-- a map from slots to their 128 bytes, and its extent: slots from there on were never used
+pub record SlotMap : Type 0 where
+  pub bytes : ℕ → List ℕ
+  pub extent : ℕ
+
+-- what an image stands for
+pub data Redone : Type 0 where
+  not_a_store : Redone
+  bad_entry : ℕ → Redone
+  stands : SlotMap → Redone
+
+-- a slot that isn't in the file
+abbrev pub zeros : List ℕ
+zeros = replicate 128 0
+
+-- the map after these puts
+abbrev pub changed : SlotMap → List Put → SlotMap
+changed found puts = record { bytes = with_puts puts found.bytes; extent = extent_after puts found.extent }
+
+-- the entries in order, of which the first is number n, over a map
+abbrev pub redo_entries : ℕ → List (List ℕ) → SlotMap → Redone
+redo_entries n [] found = stands found
+redo_entries n (entry ∷ rest) found =
+    if is_good entry found.extent then redo_entries (n + 1) rest (changed found (puts_of entry)) else bad_entry n
+
+-- the slots that lie in the file
+abbrev pub file_map : List ℕ → SlotMap
+file_map image = record {
+  bytes = λ slot. if nat_lt slot (slots_in (length image)) then slot_at image slot else zeros;
+  extent = slots_in (length image);
+}
+
+-- every slot is zeros
+abbrev pub blank_map : List ℕ → SlotMap
+blank_map image = record { bytes = λ slot. zeros; extent = slots_in (length image) }
+
+-- the map of an image, or that it is no store, or its lowest entry in use that isn't sound
+unfoldable pub redo : List ℕ → Redone
+redo image =
+    if is_born image then redo_entries 0 (open_prefix (entries image)) (file_map image)
+    else (if is_unborn image then stands (blank_map image) else not_a_store)
+
+-- the same bytes in each of the 2^20 slots, and the same extent
+pub record SameMap (first second : SlotMap) : Type 0 where
+  pub bytes : (slot : ℕ) → slot < 2 ^ 20 → first.bytes slot ≡ second.bytes slot
+  pub extent : first.extent ≡ second.extent
+
+-- what was redone is this map
+abbrev pub Gives : Redone → SlotMap → Type 0
+Gives not_a_store found = ⊥
+Gives (bad_entry n) found = ⊥
+Gives (stands its) found = SameMap its found
+
+-- the image stands for this map
+abbrev pub StandsFor : List ℕ → SlotMap → Type 0
+StandsFor image found = Gives (redo image) found
+
+-- the puts of the entries in use, in order
+unfoldable pub puts_in_use : List ℕ → List Put
+puts_in_use image = if is_born image then flat_map puts_of (open_prefix (entries image)) else []

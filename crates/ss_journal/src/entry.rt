@@ -1,0 +1,142 @@
+// The entries: read, judged and spelled.
+ghost use Rattle.std.specs.Prelude.{◌≡◌, ◌+◌, ◌*◌, ◌≤◌, ◌<◌, ◌^◌, ◌==◌, ◌∷◌, ◌++◌, length, take, drop, IsTrue};
+ghost use Rattle.std.specs.List.{list_all};
+ghost use Rattle.ss_journal.specs.Puts.{slots_rise_from, slots_fit, extent_after, AreWhole, IsTxn};
+ghost use Rattle.ss_journal.specs.Entries.{put_at, puts_of, is_good, count_of, put_bytes, entry_body};
+
+use crate::format::{ENTRY_SIZE, MOST_PUTS, MOST_SLOTS, PUT_SIZE};
+use crate::put::{Put, Txn};
+use ss_fields::{get_u32, put_u32};
+
+// Where the put begins in an entry, behind the gate and the count.
+fn put_place(k: usize) -> usize
+    requires { k < 4 }
+    ensures { result ≡ 2 + 132 * k }
+{
+    2 + PUT_SIZE * k
+}
+
+// The entry's put number `k`.
+fn put_at(entry: &[u8; ENTRY_SIZE], k: usize) -> Put
+    requires { k < 4 }
+    ensures { result ≡ put_at entry.now k }
+{
+    let place = put_place(k);
+    let mut bytes = [0; 128];
+    bytes.copy_from_slice(&entry[place + 4..place + PUT_SIZE]);
+    Put {
+        slot: get_u32(entry, place),
+        bytes,
+    }
+}
+
+// The entry's puts.
+pub fn puts_of(entry: &[u8; ENTRY_SIZE]) -> Txn
+    requires { count_of entry.now ≤ 4 }
+    ensures { result.items ≡ puts_of entry.now }
+{
+    let mut puts = Txn::new();
+    for k in 0..usize::from(entry[1]) {
+        puts.push(put_at(entry, k));
+    }
+    puts
+}
+
+// Whether the slots rise strictly and are numbers of slots.
+fn slots_rise(puts: &[Put]) -> bool
+    ensures { result ≡ slots_rise_from 0 puts.now }
+{
+    let mut least = 0;
+    for put in puts {
+        if put.slot < least || put.slot >= MOST_SLOTS {
+            return false;
+        }
+        least = put.slot + 1;
+    }
+    true
+}
+
+// Whether each slot in order is at most the extent so far.
+fn slots_fit(puts: &[Put], extent: u32) -> bool
+    requires { extent + length puts.now < 2 ^ 32 }
+    ensures { result ≡ slots_fit puts.now extent }
+{
+    let mut extent = extent;
+    for put in puts {
+        if put.slot > extent {
+            return false;
+        }
+        if put.slot == extent {
+            extent += 1;
+        }
+    }
+    true
+}
+
+// The extent after the puts.
+pub fn extent_after(puts: &[Put], extent: u32) -> u32
+    requires { extent + length puts.now < 2 ^ 32 }
+    ensures { result ≡ extent_after puts.now extent }
+{
+    let mut extent = extent;
+    for put in puts {
+        if put.slot == extent {
+            extent += 1;
+        }
+    }
+    extent
+}
+
+// Whether all of the bytes are zeros.
+fn are_zeros(bytes: &[u8]) -> bool
+    ensures { result ≡ list_all (λ byte. byte == 0) bytes.now }
+{
+    bytes.iter().all(|byte| *byte == 0)
+}
+
+// Whether zeros stand behind the entry's puts.
+fn rest_is_zeros(entry: &[u8; ENTRY_SIZE]) -> bool
+    requires { count_of entry.now ≤ 4 }
+    ensures { result ≡ list_all (λ byte. byte == 0) (drop (2 + 132 * count_of entry.now) entry.now) }
+{
+    are_zeros(&entry[2 + PUT_SIZE * usize::from(entry[1])..])
+}
+
+// Whether an entry is sound over this extent.
+pub fn is_good(entry: &[u8; ENTRY_SIZE], extent: u32) -> bool
+    requires { extent ≤ 2 ^ 20 }
+    ensures value { result ≡ is_good entry.now extent }
+    ensures few { IsTrue result → count_of entry.now ≤ 4 }
+{
+    if entry[1] < 1 || entry[1] > MOST_PUTS {
+        return false;
+    }
+    let puts = puts_of(entry);
+    slots_rise(&puts) && slots_fit(&puts, extent) && rest_is_zeros(entry)
+}
+
+// Writes put number `k` into an entry.
+fn write_put(entry: &mut [u8; ENTRY_SIZE], k: usize, put: &Put)
+    requires { k < 4 }
+    ensures whole { length put.now.bytes ≡ 128 }
+    ensures written { entry.new ≡ take (2 + 132 * k) entry.old ++ put_bytes put.now ++ drop (134 + 132 * k) entry.old }
+{
+    let place = put_place(k);
+    put_u32(entry, place, put.slot);
+    entry[place + 4..place + PUT_SIZE].copy_from_slice(&put.bytes);
+}
+
+// The entry of the puts, with its gate closed.
+pub fn entry_of(puts: &Txn) -> [u8; ENTRY_SIZE]
+    requires { IsTxn puts.now.items }
+    ensures value { result ≡ 0 ∷ entry_body puts.now.items }
+    ensures whole { AreWhole puts.now.items }
+{
+    let puts = puts.as_slice();
+    let mut entry = [0; ENTRY_SIZE];
+    entry[1] = puts.len() as u8;
+    for k in 0..puts.len() {
+        write_put(&mut entry, k, &puts[k]);
+    }
+    entry
+}

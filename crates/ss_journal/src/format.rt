@@ -1,0 +1,57 @@
+// The places and sizes of the file, in bytes.
+ghost use Rattle.std.specs.Prelude.{◌≡◌, ◌<◌, ◌≤◌};
+ghost use Rattle.ss_journal.specs.Format.{entry_place, slot_place, slots_in};
+
+// A gate with this byte is open, and closed with any other.
+pub const GATE_OPEN: u8 = 0xA5;
+
+// It stands behind the birth gate, from byte 1 on.
+pub const MAGIC: [u8; 8] = *b"SSTORE01";
+
+// Where the magic ends.
+pub const MAGIC_END: u64 = 9;
+
+pub const ENTRIES: u32 = 64;
+
+pub const ENTRY_SIZE: usize = 544;
+
+pub const FIRST_ENTRY: u64 = 512;
+
+// How many puts an entry holds at most, and the size of each: the number of the slot, then its bytes.
+pub const MOST_PUTS: u8 = 4;
+
+pub const PUT_SIZE: usize = 132;
+
+pub const SLOT_SIZE: usize = 128;
+
+pub const MOST_SLOTS: u32 = 1 << 20;
+
+pub const FIRST_SLOT: u64 = 36864;
+
+// Where the last slot that a file can have ends.
+pub const FILE_END: u64 = 134_254_592;
+
+// Where the entry begins.
+pub fn entry_place(n: u32) -> u64
+    requires { n < ENTRIES }
+    ensures { result ≡ entry_place n }
+{
+    FIRST_ENTRY + ENTRY_SIZE as u64 * u64::from(n)
+}
+
+// Where the slot begins.
+pub fn slot_place(slot: u32) -> u64
+    requires { slot < MOST_SLOTS }
+    ensures { result ≡ slot_place slot }
+{
+    FIRST_SLOT + SLOT_SIZE as u64 * u64::from(slot)
+}
+
+// How many whole slots lie in a file of this length.
+pub fn slots_in(length: u64) -> u32
+    ensures value { result ≡ slots_in length }
+    ensures most { result ≤ MOST_SLOTS }
+{
+    let whole = length.saturating_sub(FIRST_SLOT) / SLOT_SIZE as u64;
+    whole.min(u64::from(MOST_SLOTS)) as u32
+}

@@ -1,0 +1,177 @@
+// The journal.
+use crate::JournalError;
+use crate::birth::give_birth;
+use crate::entry::extent_after;
+use crate::format::{SLOT_SIZE, slots_in};
+use crate::opening::{read_entries, read_head};
+use crate::phase::Phase;
+use crate::put::{Put, Txn};
+use crate::reading::{last_put, read_slot};
+use crate::settling::{apply, settle_entries};
+use crate::txn::open_entry;
+use ss_outside::{Disk, Failed};
+use std::alloc::Global;
+use std::marker::Model;
+
+/// A map from 2^20 slots to 128 bytes each, on a disk that it doesn't hold: each call takes the disk, as the last such
+/// call left it. After a call that answers `Failed` there is no further call. Open the disk again.
+#[derive(Drop)]
+pub struct Journal {
+    phase: Phase,
+    // The slots from here on were never used.
+    extent: u32,
+    // The puts of the entries in use, in order, which may not have come into their slots.
+    waiting: Vec<Put>,
+}
+
+impl Model for Journal {
+    ghost use Rattle.ss_journal.specs.Kept.{JournalState, IsSound};
+
+    ghost Value = { JournalState };
+
+    ghost view = { λ s. record { phase = s.phase; extent = s.extent; waiting = s.waiting.items } };
+
+    ghost invariant = { λ s. IsSound (record { phase = s.phase; extent = s.extent; waiting = s.waiting.items }) };
+}
+
+impl Journal {
+    ghost use Rattle.std.specs.Prelude.{◌≡◌, ◌⊎◌, ◌≤◌, ◌<◌, ◌^◌, IsTrue, IfOk, OnOk};
+    ghost use Rattle.ss_outside.specs.Causes.{HasCause};
+    ghost use Rattle.ss_outside.specs.Crash.{LeavesOnly};
+    ghost use Rattle.ss_outside.specs.Disk.{NothingPending};
+    ghost use Rattle.ss_journal.specs.Puts.{extent_after, slots_fit, IsTxn};
+    ghost use Rattle.ss_journal.specs.Redo.{SlotMap, StandsFor, changed, zeros};
+    ghost use Rattle.ss_journal.specs.Kept.{IsKept, IsRunning, IsSettled, OpensAs};
+    ghost use Rattle.ss_journal.specs.Calls.{OnlyReads, BlamesDisk};
+
+    /// Opens a disk, formed or not. It reads the entries in use and writes nothing.
+    pub fn open<D: Disk>(alloc: Global, disk: &mut D) -> Result<Journal, JournalError>
+        // The map of the content, or why it has none.
+        ensures map { IsTrue (D.tells disk.old) → OpensAs (D.content disk.old) result }
+        ensures running { IfOk result (λ journal. IsRunning journal) }
+        ensures extent { IfOk result (λ journal. journal.extent ≤ 2 ^ 20) }
+        // The content and the images are those from before.
+        ensures reads { IsTrue (D.tells disk.old)
+            → OnlyReads D.content D.may_leave D.moment D.left_since disk.old disk.new }
+        ensures tells { D.tells disk.new ≡ D.tells disk.old }
+        ensures cause { BlamesDisk (D.faults disk.old) (D.faults disk.new) result }
+    {
+        let head = read_head(disk)?;
+        let slots = slots_in(head.length);
+        if head.is_unborn() {
+            return Ok(Journal {
+                phase: Phase::Unborn,
+                extent: slots,
+                waiting: Vec::new(alloc),
+            });
+        }
+        if !head.is_born() {
+            return Err(JournalError::NotAStore);
+        }
+        let (extent, waiting) = read_entries(alloc, disk, slots)?;
+        Ok(Journal {
+            phase: Phase::Born,
+            extent,
+            waiting,
+        })
+    }
+
+    /// How many slots were used: those of the file, and one more for each put into the slot that was next.
+    pub fn extent(&self) -> u32
+        ensures value { result ≡ self.now.extent }
+        ensures most { result ≤ 2 ^ 20 }
+    {
+        self.extent
+    }
+
+    /// Forms a file that isn't formed, or brings the entries in use into their slots and closes their gates. It leaves
+    /// the map as it is, also in a crash.
+    pub fn settle<D: Disk>(&mut self, disk: &mut D) -> Result<(), Failed>
+        requires running { IsRunning self.old }
+        requires one_disk { IsTrue (D.tells disk.old) → IsKept self.old (D.content disk.old) }
+        ensures one_disk { IsTrue (D.tells disk.old) → OnOk result (IsKept self.new (D.content disk.new)) }
+        ensures settled { OnOk result (IsSettled self.new) }
+        ensures extent { OnOk result (self.new.extent ≡ self.old.extent) }
+        ensures map { IsTrue (D.tells disk.old) → (found : SlotMap) → StandsFor (D.content disk.old) found
+            → OnOk result (StandsFor (D.content disk.new) found) }
+        // With nothing pending at the call, a crash at any moment of it leaves the same map.
+        ensures any_moment { IsTrue (D.tells disk.old) → NothingPending (D.content disk.old) (D.may_leave disk.old)
+            → (found : SlotMap) → StandsFor (D.content disk.old) found
+            → LeavesOnly D.moment D.left_since disk.old disk.new (λ image. StandsFor image found) }
+        ensures durable { IsTrue (D.tells disk.old) → NothingPending (D.content disk.old) (D.may_leave disk.old)
+            → OnOk result (NothingPending (D.content disk.new) (D.may_leave disk.new)) }
+        ensures tells { D.tells disk.new ≡ D.tells disk.old }
+        ensures cause { HasCause (D.faults disk.old) (D.faults disk.new) result }
+    {
+        let phase = self.phase;
+        self.phase = Phase::Stopped;
+        match phase {
+            Phase::Unborn => give_birth(disk)?,
+            Phase::Born => settle_entries(disk, &self.waiting)?,
+            Phase::Settled | Phase::Stopped => {}
+        }
+        self.waiting.clear();
+        self.phase = Phase::Settled;
+        Ok(())
+    }
+
+    /// The bytes of a slot: zeros where none were put.
+    pub fn read<D: Disk>(&mut self, disk: &mut D, slot: u32) -> Result<[u8; SLOT_SIZE], Failed>
+        requires running { IsRunning self.old }
+        requires slot { slot < 2 ^ 20 }
+        requires one_disk { IsTrue (D.tells disk.old) → IsKept self.old (D.content disk.old) }
+        ensures bytes { IsTrue (D.tells disk.old) → (found : SlotMap) → StandsFor (D.content disk.old) found
+            → IfOk result (λ bytes. bytes ≡ found.bytes slot) }
+        ensures unused { self.old.extent ≤ slot → IfOk result (λ bytes. bytes ≡ zeros) }
+        ensures journal { OnOk result (self.new ≡ self.old) }
+        // The content and the images are those from before.
+        ensures reads { IsTrue (D.tells disk.old)
+            → OnlyReads D.content D.may_leave D.moment D.left_since disk.old disk.new }
+        ensures tells { D.tells disk.new ≡ D.tells disk.old }
+        ensures cause { HasCause (D.faults disk.old) (D.faults disk.new) result }
+    {
+        if self.phase == Phase::Unborn || slot >= self.extent {
+            return Ok([0; SLOT_SIZE]);
+        }
+        if let Some(bytes) = last_put(&self.waiting, slot) {
+            return Ok(bytes);
+        }
+        match read_slot(disk, slot) {
+            Ok(bytes) => Ok(bytes),
+            Err(failed) => {
+                self.phase = Phase::Stopped;
+                Err(failed)
+            }
+        }
+    }
+
+    /// Puts all of the transaction's bytes into their slots. A crash at any moment of the call leaves the map from
+    /// before it or after it, and after `Ok` the map after it. At `Failed` the disk may hold either.
+    pub fn commit<D: Disk>(&mut self, disk: &mut D, txn: &Txn) -> Result<(), Failed>
+        requires settled { IsSettled self.old }
+        requires txn { IsTxn txn.now.items }
+        // Each slot in order is at most the extent so far.
+        requires fit { IsTrue (slots_fit txn.now.items self.old.extent) }
+        requires one_disk { IsTrue (D.tells disk.old) → IsKept self.old (D.content disk.old) }
+        ensures one_disk { IsTrue (D.tells disk.old) → OnOk result (IsKept self.new (D.content disk.new)) }
+        ensures settled { OnOk result (IsSettled self.new) }
+        ensures extent { OnOk result (self.new.extent ≡ extent_after txn.now.items self.old.extent) }
+        ensures map { IsTrue (D.tells disk.old) → (found : SlotMap) → StandsFor (D.content disk.old) found
+            → OnOk result (StandsFor (D.content disk.new) (changed found txn.now.items)) }
+        // With nothing pending at the call, a crash at any moment of it leaves the map before or after.
+        ensures any_moment { IsTrue (D.tells disk.old) → NothingPending (D.content disk.old) (D.may_leave disk.old)
+            → (found : SlotMap) → StandsFor (D.content disk.old) found
+            → LeavesOnly D.moment D.left_since disk.old disk.new
+            (λ image. StandsFor image found ⊎ StandsFor image (changed found txn.now.items)) }
+        ensures durable { IsTrue (D.tells disk.old) → OnOk result (NothingPending (D.content disk.new) (D.may_leave disk.new)) }
+        ensures tells { D.tells disk.new ≡ D.tells disk.old }
+        ensures cause { HasCause (D.faults disk.old) (D.faults disk.new) result }
+    {
+        self.phase = Phase::Stopped;
+        open_entry(disk, txn)?;
+        apply(disk, txn)?;
+        self.extent = extent_after(txn, self.extent);
+        self.phase = Phase::Settled;
+        Ok(())
+    }
+}

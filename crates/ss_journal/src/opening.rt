@@ -1,0 +1,128 @@
+// How a file is opened. Nothing is written.
+ghost use Rattle.std.specs.Prelude.{◌≡◌, ◌+◌, ◌≤◌, ◌<◌, ◌^◌, ℕ, List, length, slice_index, IsTrue, IfOk, All};
+ghost use Rattle.ss_outside.specs.Causes.{HasCause};
+ghost use Rattle.ss_journal.specs.Format.{has_magic, is_unborn, is_born, entry_at, slots_in};
+ghost use Rattle.ss_journal.specs.Calls.{OnlyReads, IsHead, BlamesDisk};
+ghost use Rattle.ss_journal.specs.Entries.{is_open, is_good, puts_of};
+ghost use Rattle.ss_journal.specs.Puts.{slots_fit, IsTxn};
+ghost use Rattle.ss_journal.specs.Opening.{NextAs, IfNext, InUseAs};
+
+use crate::JournalError;
+use crate::entry::{extent_after, is_good, puts_of};
+use crate::format::{ENTRIES, ENTRY_SIZE, FIRST_SLOT, GATE_OPEN, MAGIC, entry_place};
+use crate::put::{Put, Txn};
+use ss_outside::{Disk, Failed};
+use std::alloc::Global;
+
+// The length of a file, and its first bytes, which are zeros past its end.
+#[derive(Clone, Copy)]
+pub struct Head {
+    pub length: u64,
+    pub bytes: [u8; 9],
+}
+
+impl Head {
+    // Whether the magic stands behind the birth gate.
+    fn has_magic(&self) -> bool
+        ensures { (image : List ℕ) → IsHead self.now.length self.now.bytes image → result ≡ has_magic image }
+    {
+        self.bytes[1..].starts_with(&MAGIC)
+    }
+
+    // Whether the file isn't formed.
+    pub fn is_unborn(&self) -> bool
+        ensures { (image : List ℕ) → IsHead self.now.length self.now.bytes image → result ≡ is_unborn image }
+    {
+        self.length <= 1 || self.bytes[0] == 0 || (self.has_magic() && self.bytes[0] != GATE_OPEN)
+    }
+
+    // Whether the file is formed.
+    pub fn is_born(&self) -> bool
+        ensures { (image : List ℕ) → IsHead self.now.length self.now.bytes image → result ≡ is_born image }
+    {
+        self.length >= FIRST_SLOT && self.bytes[0] == GATE_OPEN && self.has_magic()
+    }
+}
+
+// Reads the length and the first bytes.
+pub fn read_head<D: Disk>(disk: &mut D) -> Result<Head, Failed>
+    ensures head { IsTrue (D.tells disk.old)
+        → IfOk result (λ head. IsHead head.length head.bytes (D.content disk.old)) }
+    ensures reads { IsTrue (D.tells disk.old)
+        → OnlyReads D.content D.may_leave D.moment D.left_since disk.old disk.new }
+    ensures tells { D.tells disk.new ≡ D.tells disk.old }
+    ensures cause { HasCause (D.faults disk.old) (D.faults disk.new) result }
+{
+    let length = disk.len()?;
+    let mut bytes = [0; 9];
+    disk.read_at(0, &mut bytes)?;
+    Ok(Head { length, bytes })
+}
+
+// Reads an entry of a formed file.
+pub fn read_entry<D: Disk>(disk: &mut D, n: u32) -> Result<[u8; ENTRY_SIZE], Failed>
+    requires { n < 64 }
+    ensures entry { IsTrue (D.tells disk.old) → 36864 ≤ length (D.content disk.old)
+        → IfOk result (λ entry. entry ≡ entry_at (D.content disk.old) n) }
+    ensures reads { IsTrue (D.tells disk.old)
+        → OnlyReads D.content D.may_leave D.moment D.left_since disk.old disk.new }
+    ensures tells { D.tells disk.new ≡ D.tells disk.old }
+    ensures cause { HasCause (D.faults disk.old) (D.faults disk.new) result }
+{
+    let mut entry = [0; ENTRY_SIZE];
+    disk.read_at(entry_place(n), &mut entry)?;
+    Ok(entry)
+}
+
+// The puts of the entry if its gate is open, or that it isn't sound over this extent.
+fn next_entry<D: Disk>(disk: &mut D, n: u32, extent: u32) -> Result<Option<Txn>, JournalError>
+    requires number { n < 64 }
+    requires extent { extent ≤ 2 ^ 20 }
+    requires born { IsTrue (D.tells disk.old) → IsTrue (is_born (D.content disk.old)) }
+    ensures entry { IsTrue (D.tells disk.old) → NextAs (entry_at (D.content disk.old) n) n extent result }
+    ensures sound { IfNext result (λ puts. IsTxn puts × IsTrue (slots_fit puts extent)) }
+    ensures reads { IsTrue (D.tells disk.old)
+        → OnlyReads D.content D.may_leave D.moment D.left_since disk.old disk.new }
+    ensures tells { D.tells disk.new ≡ D.tells disk.old }
+    ensures cause { BlamesDisk (D.faults disk.old) (D.faults disk.new) result }
+{
+    let entry = read_entry(disk, n)?;
+    if entry[0] != GATE_OPEN {
+        return Ok(None);
+    }
+    if !is_good(&entry, extent) {
+        return Err(JournalError::BadEntry { n });
+    }
+    Ok(Some(puts_of(&entry)))
+}
+
+// The extent of a formed file of so many slots, and the puts of its open prefix.
+pub fn read_entries<D: Disk>(
+    alloc: Global,
+    disk: &mut D,
+    slots: u32,
+) -> Result<(u32, Vec<Put>), JournalError>
+    requires slots { slots ≤ 2 ^ 20 }
+    requires born { IsTrue (D.tells disk.old) → IsTrue (is_born (D.content disk.old)) }
+    requires counted { IsTrue (D.tells disk.old) → slots ≡ slots_in (length (D.content disk.old)) }
+    ensures entries { IsTrue (D.tells disk.old) → InUseAs (D.content disk.old) result }
+    ensures extent { IfOk result (λ read. read.0 ≤ 2 ^ 20) }
+    ensures waiting { IfOk result (λ read. All (λ put. put.slot < read.0) read.1.items) }
+    ensures reads { IsTrue (D.tells disk.old)
+        → OnlyReads D.content D.may_leave D.moment D.left_since disk.old disk.new }
+    ensures tells { D.tells disk.new ≡ D.tells disk.old }
+    ensures cause { BlamesDisk (D.faults disk.old) (D.faults disk.new) result }
+{
+    let mut extent = slots;
+    let mut waiting = Vec::new(alloc);
+    for n in 0..ENTRIES {
+        match next_entry(disk, n, extent)? {
+            Some(puts) => {
+                extent = extent_after(&puts, extent);
+                waiting.extend_from_slice(&puts)?;
+            }
+            None => return Ok((extent, waiting)),
+        }
+    }
+    Ok((extent, waiting))
+}
