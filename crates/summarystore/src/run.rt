@@ -138,7 +138,7 @@ pub fn run<S: Source, K: Sink>(alloc: Global, words: &[String], source: &mut S, 
 
     // 2 exactly where the words aren't known. The source is then not called, and the sink gets the usage line.
     ensures words { result ≡ 2 ↔ (ArePlain (map (λ w. string_bytes w) words.now) → ⊥) }
-    ensures unread { result ≡ 2 → (S.left source.new ≡ S.left source.old) × (S.faults source.new ≡ S.faults source.old) }
+    ensures unread { result ≡ 2 → source.new ≡ source.old }
     ensures usage { result ≡ 2 → SaysUsage (K.held sink.old) (K.held sink.new) (K.faults sink.old) (K.faults sink.new) }
 
     // 5 and 6 only where the count of faults of the source or the sink rose.

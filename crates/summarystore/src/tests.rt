@@ -2,6 +2,7 @@
 ghost use Rattle.std.specs.Prelude.{◌<◌, Some};
 
 use crate::run::run;
+use crate::status::complaint;
 use ss_outside::{Failed, MemSink, MemSource, Sink, Source};
 use std::alloc::{AllocError, Global};
 use std::test::Fail;
@@ -152,4 +153,18 @@ fn a_failing_sink_leaves_the_usage_status(rt: HostRuntime) -> Result<(), Fail> {
     assert_eq!(rt; run(rt.alloc(), &[], &mut source, &mut sink), 2);
     assert_eq!(rt; sink.held(), b"".as_slice());
     Ok(())
+}
+
+#[test]
+fn a_failed_run_says_why(rt: HostRuntime) {
+    for (number, text) in [
+        (0, None),
+        (2, None),
+        (5, Some("summarystore: input fault")),
+        (6, Some("summarystore: output fault")),
+        (7, Some("summarystore: out of memory")),
+        (8, Some("summarystore: input too long")),
+    ] {
+        assert_eq!(rt; complaint(number), text);
+    }
 }
