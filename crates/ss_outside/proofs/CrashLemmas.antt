@@ -1,50 +1,78 @@
--- How "a crash at any moment" goes on from call to call. Each takes the disk's clock as a bound names it.
-use Rattle.std.proofs.Common.{inl, inr, ◌⊎◌, ⊎_elim, ℕ, ◌≤◌, List, arith}
-use Rattle.ss_outside.specs.Crash.{Elapses, LeavesOnly}
-use Rattle.ss_outside.specs.Disk.{Torn, BecomesPending, SameImages}
+-- How "a crash at any moment" goes on from call to call.
+use Rattle.std.proofs.Common.{inl, inr, ◌⊎◌, ⊎_elim, ℕ, ◌≤◌, List, refl, ◌∙◌, subst, sym, arith}
+use Rattle.ss_outside.specs.Crash.{Elapses, KnowsNow, OnlyReads, LeavesOnly}
+use Rattle.ss_outside.specs.Disk.{Told, Torn, BecomesPending, StaysSame, NothingPending}
 
 -- after a write, whatever it answers: what holds of each image before, and of each way to tear it, holds of each image
-pub after_write : {A B : Type 0} (at count : ℕ) (before after P : List ℕ → Type 0) → BecomesPending at count before after ⊎ (A × B × SameImages before after)
-    → ((image : List ℕ) → before image → P image) → ((old new : List ℕ) → before old → Torn at count old new → P new) → (image : List ℕ) → after image → P image
-after_write at count before after P (inl pending) stays torn image is = let from = pending.nothing_else image is in torn from.0 image from.1 from.2
-after_write at count before after P (inr none) stays torn image is = stays image ((none.2 image).1 is)
+pub after_write : {A : Type 0} (at count : ℕ) (old new : Told) (P : List ℕ → Type 0) → BecomesPending at count old new ⊎ (A × StaysSame old new)
+    → ((image : List ℕ) → old.may_leave image → P image) → ((was image : List ℕ) → old.may_leave was → Torn at count was image → P image) → (image : List ℕ) → new.may_leave image → P image
+after_write at count old new P (inl pending) stays torn image is = let from = pending.nothing_else image is in torn from.0 image from.1 from.2
+after_write at count old new P (inr none) stays torn image is = stays image ((none.1.images image).1 is)
 
-module _ {D : Type 0} (moment : D → ℕ) (left_since : D → ℕ → List ℕ → Type 0) where
-  -- before the first call
-  pub at_start : (old : D) (P : List ℕ → Type 0) → ((image : List ℕ) → left_since old (moment old) image → P image) → LeavesOnly moment left_since old old P
-  at_start old P here = record { later = omega arith; each = here; earlier = λ t image le left. inl left }
+-- before the first call
+pub at_start : (disk : Told) (P : List ℕ → Type 0) → KnowsNow disk → ((image : List ℕ) → disk.may_leave image → P image) → LeavesOnly disk disk P
+at_start disk P knows here = record { later = omega arith; each = λ image left. here image (knows.only_now image left); earlier = λ t image le left. inl left }
 
+module _ (old new : Told) where
   -- a weaker property
-  pub weaker : (old new : D) (P Q : List ℕ → Type 0) → ((image : List ℕ) → P image → Q image) → LeavesOnly moment left_since old new P → LeavesOnly moment left_since old new Q
-  weaker old new P Q gives run = record {
+  pub weaker : (P Q : List ℕ → Type 0) → ((image : List ℕ) → P image → Q image) → LeavesOnly old new P → LeavesOnly old new Q
+  weaker P Q gives run = record {
     later = run.later;
     each = λ image left. gives image (run.each image left);
     earlier = λ t image le left. ⊎_elim (λ was. inl was) (λ has. inr (gives image has)) (run.earlier t image le left);
   }
 
+  -- what holds at any moment holds now
+  pub now : (P : List ℕ → Type 0) → KnowsNow new → LeavesOnly old new P → (image : List ℕ) → new.may_leave image → P image
+  now P knows run image is = run.each image (knows.counts_now old.moment image run.later is)
+
+  -- with nothing pending, a property of the images is one of the content
+  pub of_content : (P : List ℕ → Type 0) → NothingPending old → P old.content → (image : List ℕ) → old.may_leave image → P image
+  of_content P only has image is = subst P (sym (only image is)) has
+
+  -- a call that only reads leaves one of the images from before
+  pub read_leaves : KnowsNow old → OnlyReads old new → LeavesOnly old new old.may_leave
+  read_leaves knows reads = record {
+    later = reads.time.later;
+    each = λ image left. ⊎_elim (knows.only_now image) ((reads.same.images image).1) (reads.time.nothing_else old.moment image (omega arith) left);
+    earlier = λ t image le left. ⊎_elim (λ was. inl was) (λ is. inr ((reads.same.images image).1 is)) (reads.time.nothing_else t image le left);
+  }
+
+module _ (old mid new : Told) (P : List ℕ → Type 0) where
   -- one run after another
-  pub joined : (old mid new : D) (P : List ℕ → Type 0) → LeavesOnly moment left_since old mid P → LeavesOnly moment left_since mid new P → LeavesOnly moment left_since old new P
-  joined old mid new P first second = record {
+  pub joined : LeavesOnly old mid P → LeavesOnly mid new P → LeavesOnly old new P
+  joined first second = record {
     later = omega (arith, first.later, second.later);
-    each = λ image left. ⊎_elim (first.each image) (λ has. has) (second.earlier (moment old) image first.later left);
+    each = λ image left. ⊎_elim (first.each image) (λ has. has) (second.earlier old.moment image first.later left);
     earlier = λ t image le left. ⊎_elim (first.earlier t image le) (λ has. inr has) (second.earlier t image (omega (arith, le, first.later)) left);
   }
 
   -- one call more, after which a crash leaves what has P
-  pub goes_on : (old mid new : D) (P may_leave : List ℕ → Type 0) → LeavesOnly moment left_since old mid P → Elapses (moment mid) (moment new) (left_since mid) (left_since new) may_leave
-      → ((image : List ℕ) → may_leave image → P image) → LeavesOnly moment left_since old new P
-  goes_on old mid new P may_leave so_far time here = record {
+  pub goes_on : LeavesOnly old mid P → Elapses mid new → ((image : List ℕ) → new.may_leave image → P image) → LeavesOnly old new P
+  goes_on so_far time here = record {
     later = omega (arith, so_far.later, time.later);
-    each = λ image left. ⊎_elim (so_far.each image) (here image) (time.nothing_else (moment old) image so_far.later left);
+    each = λ image left. ⊎_elim (so_far.each image) (here image) (time.nothing_else old.moment image so_far.later left);
     earlier = λ t image le left. ⊎_elim (so_far.earlier t image le) (λ now. inr (here image now)) (time.nothing_else t image (omega (arith, le, so_far.later)) left);
   }
 
-  -- one call more, which adds no image
-  pub goes_on_still : (old mid new : D) (P before after : List ℕ → Type 0) → LeavesOnly moment left_since old mid P → Elapses (moment mid) (moment new) (left_since mid) (left_since new) after
-      → ((image : List ℕ) → after image → before image) → ((image : List ℕ) → before image → P image) → LeavesOnly moment left_since old new P
-  goes_on_still old mid new P before after so_far time no_other here = goes_on old mid new P after so_far time (λ image is. here image (no_other image is))
+-- no call
+pub reads-none : (disk : Told) → OnlyReads disk disk
+reads-none disk = record {
+  same = record { content = refl; images = λ image. (λ is. is, λ is. is) };
+  time = record { later = omega arith; nothing_else = λ t image le left. inl left; keeps = λ t image le left. left };
+}
 
-  -- what holds at any moment holds now, by the law `counts_now` at `new`
-  pub now : (old new : D) (P may_leave : List ℕ → Type 0) → ((t : ℕ) (image : List ℕ) → t ≤ moment new → may_leave image → left_since new t image)
-      → LeavesOnly moment left_since old new P → (image : List ℕ) → may_leave image → P image
-  now old new P may_leave counts run image is = run.each image (counts (moment old) image run.later is)
+-- calls that only read, one after another
+pub reads-joined : (old mid new : Told) → OnlyReads old mid → OnlyReads mid new → OnlyReads old new
+reads-joined old mid new first second = record {
+  same = record {
+    content = second.same.content ∙ first.same.content;
+    images = λ image. (λ is. (second.same.images image).0 ((first.same.images image).0 is), λ is. (first.same.images image).1 ((second.same.images image).1 is));
+  };
+  time = record {
+    later = omega (arith, first.time.later, second.time.later);
+    nothing_else = λ t image le left. ⊎_elim (λ was. ⊎_elim (λ left. inl left) (λ is. inr ((second.same.images image).0 is)) (first.time.nothing_else t image le was)) (λ is. inr is)
+        (second.time.nothing_else t image (omega (arith, le, first.time.later)) left);
+    keeps = λ t image le left. second.time.keeps t image (omega (arith, le, first.time.later)) (first.time.keeps t image le left);
+  };
+}

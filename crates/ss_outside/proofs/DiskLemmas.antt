@@ -6,7 +6,7 @@ use Rattle.std.specs.List.{range_with_len}
 use Rattle.std.proofs.lemmas.Bool.{cases_lt, lt-ltb, le-ltb, cond-true, cond-false}
 use Rattle.std.proofs.lemmas.List.{ext_get_or, get_or_past, get_or_default, places}
 use Rattle.std.proofs.lemmas.List.FromFn.{length-map-range_with_len, get_or-map-range_with_len}
-use Rattle.ss_outside.specs.Disk.{AreBytes, IsOutside, IsOutsideAll, Torn, IsImage, BecomesPending, overwrite}
+use Rattle.ss_outside.specs.Disk.{AreBytes, IsOutside, IsOutsideAll, Torn, IsImage, overwrite}
 
 -- with nothing pending there is one image
 pub only_image : (synced image : List ℕ) → IsImage synced [] (length synced) image → image ≡ synced
@@ -91,8 +91,6 @@ module _ (synced : List ℕ) (pending : List (ℕ × ℕ)) (longest at count : �
     )
 
   -- a range that is written becomes pending
-  pub write_pends : AreBytes synced → length synced ≤ longest → BecomesPending at count (IsImage synced pending longest) (IsImage synced ((at, count) ∷ pending) (max longest (at + count)))
-  write_pends synced_bytes short = record { nothing_else = λ new is. image_is_torn new synced_bytes short is; each = torn_is_image }
 
 module _ (content bytes : List ℕ) (at : ℕ) (within : at ≤ length content) where
   pub length-overwrite : length (overwrite content at bytes) ≡ max (length content) (at + length bytes)

@@ -1,5 +1,13 @@
--- What the calls of a disk do to its content, and which images a crash may leave of it.
+-- What a disk tells, what its calls do to the content, and which images a crash may leave of it.
 use Rattle.std.specs.Prelude.{◌≡◌, ◌⊎◌, ◌↔◌, ℕ, ◌+◌, ◌<◌, ◌≤◌, max, List, [], ◌∷◌, ◌++◌, length, take, drop, slice_index, EachIndex, ⊤}
+
+-- What a disk tells: the bytes that a read gives, the images that a crash now may leave, the moment on its clock, and the
+-- images that a crash at some moment or a later one may have left, inside a call or between two.
+pub record Told : Type 1 where
+  pub content : List ℕ
+  pub may_leave : List ℕ → Type 0
+  pub moment : ℕ
+  pub left_since : ℕ → List ℕ → Type 0
 
 -- the numbers are bytes
 abbrev pub AreBytes : List ℕ → Type 0
@@ -26,17 +34,18 @@ pub record Torn (at count : ℕ) (old new : List ℕ) : Type 0 where
   pub bytes : AreBytes new
 
 -- a range becomes pending: the images after are those before, torn there in every way
-pub record BecomesPending (at count : ℕ) (before after : List ℕ → Type 0) : Type 0 where
-  pub nothing_else : (new : List ℕ) → after new → (old : List ℕ) × before old × Torn at count old new
-  pub each : (old new : List ℕ) → before old → Torn at count old new → after new
+pub record BecomesPending (at count : ℕ) (old new : Told) : Type 0 where
+  pub nothing_else : (image : List ℕ) → new.may_leave image → (was : List ℕ) × old.may_leave was × Torn at count was image
+  pub each : (was image : List ℕ) → old.may_leave was → Torn at count was image → new.may_leave image
 
--- the same images before and after
-abbrev pub SameImages : (List ℕ → Type 0) → (List ℕ → Type 0) → Type 0
-SameImages before after = (image : List ℕ) → before image ↔ after image
+-- the same content and the same images
+pub record StaysSame (old new : Told) : Type 0 where
+  pub content : new.content ≡ old.content
+  pub images : (image : List ℕ) → old.may_leave image ↔ new.may_leave image
 
 -- nothing is pending: a crash leaves the content and nothing else
-abbrev pub NothingPending : List ℕ → (List ℕ → Type 0) → Type 0
-NothingPending content images = (image : List ℕ) → images image → image ≡ content
+abbrev pub NothingPending : Told → Type 0
+NothingPending disk = (image : List ℕ) → disk.may_leave image → image ≡ disk.content
 
 -- a place outside each of the ranges, each where it begins and how long it is
 abbrev pub IsOutsideAll : List (ℕ × ℕ) → ℕ → Type 0

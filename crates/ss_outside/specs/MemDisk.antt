@@ -1,8 +1,8 @@
 -- A disk in memory, as its calls tell it.
 use Rattle.std.specs.Prelude.{◌⊎◌, ℕ, zero, suc, ◌+◌, ◌≤◌, max, List, [], ◌∷◌, ◌++◌, length, Option, None, Contains, IsSomeAnd}
 use mathlib.Core.Logic.{inr}
-use Rattle.ss_outside.specs.Crash.{Elapses}
-use Rattle.ss_outside.specs.Disk.{overwrite, IsImage, AreBytes}
+use Rattle.ss_outside.specs.Crash.{KnowsNow}
+use Rattle.ss_outside.specs.Disk.{Told, overwrite, IsImage, AreBytes}
 use Rattle.ss_outside.specs.Memory.{one_more}
 
 -- a call that changed something: a write of these bytes, a failed write over so many places, a good sync
@@ -85,10 +85,14 @@ starved s = record s { calls = one_more s.calls; faults = one_more s.faults; sho
 abbrev pub changed : MemDiskState → DiskCall → MemDiskState
 changed s call = record s { changes = s.changes ++ call ∷ [] }
 
--- a crash since an earlier moment leaves what it might have left before, or what it may leave now
-abbrev pub TimePasses : MemDiskState → MemDiskState → Type 0
-TimePasses before after =
-    Elapses (length before.changes) (length after.changes) (LeftSince (fresh before.start) before.changes) (LeftSince (fresh after.start) after.changes) (Leaves (now after))
+-- what it tells
+abbrev pub told_by : MemDiskState → Told
+told_by s = record {
+  content = (now s).content;
+  may_leave = Leaves (now s);
+  moment = length s.changes;
+  left_since = LeftSince (fresh s.start) s.changes;
+}
 
 -- what every disk in memory keeps: it synced bytes, and its content is an image
 pub record IsSound (s : DiskState) : Type 0 where
@@ -96,12 +100,15 @@ pub record IsSound (s : DiskState) : Type 0 where
   pub short : length s.synced ≤ s.longest
   pub own : Leaves s s.content
 
--- the laws of its clock: this moment is one of those since an earlier one, and there is none since
-pub left_now : (s : DiskState) (calls : List DiskCall) (t : ℕ) (image : List ℕ) → Leaves (replay s calls) image → LeftSince s calls t image
+-- it tells of now: this moment is one of those since an earlier one, and there is none since
+left_now : (s : DiskState) (calls : List DiskCall) (t : ℕ) (image : List ℕ) → Leaves (replay s calls) image → LeftSince s calls t image
 left_now s [] t image is = is
 left_now s (call ∷ calls) zero image is = inr (left_now (step s call) calls zero image is)
 left_now s (call ∷ calls) (suc t) image is = left_now (step s call) calls t image is
 
-pub only_left : (s : DiskState) (calls : List DiskCall) (image : List ℕ) → LeftSince s calls (length calls) image → Leaves (replay s calls) image
+only_left : (s : DiskState) (calls : List DiskCall) (image : List ℕ) → LeftSince s calls (length calls) image → Leaves (replay s calls) image
 only_left s [] image left = left
 only_left s (call ∷ calls) image left = only_left (step s call) calls image left
+
+pub knows_now : (s : MemDiskState) → KnowsNow (told_by s)
+knows_now s = record { counts_now = λ t image le is. left_now (fresh s.start) s.changes t image is; only_now = only_left (fresh s.start) s.changes }

@@ -1,7 +1,7 @@
 // A disk in memory.
 use crate::bytes_at::{overwrite_at, read_from};
 use crate::past::Past;
-use crate::{Disk, Failed};
+use crate::{Disk, Failed, LONGEST_DISK};
 use std::alloc::{AllocError, Global};
 use std::marker::Model;
 
@@ -149,7 +149,7 @@ impl MemDisk {
     // Makes one write, where a listed one writes nothing, but its range is pending.
     fn write(&mut self, at: usize, bytes: &[u8]) -> Result<(), Failed>
         requires within { at ≤ length (now self.old).content }
-        requires end { at + length bytes.now ≤ 2 ^ 32 }
+        requires end { at + length bytes.now ≤ LONGEST_DISK }
         ensures listed { IsListed self.old → IsErr result }
         ensures wrote { OnOk result (self.new ≡ changed (answered self.old) (Wrote at bytes.now)) }
         ensures failed { OnErr result
@@ -192,34 +192,25 @@ impl MemDisk {
 }
 
 impl Disk for MemDisk {
-    ghost use Rattle.std.specs.Prelude.{◌≡◌, ◌⊎◌, ◌+◌, ◌≤◌, ◌^◌, ◌↔◌, ℕ, List, true, length, IsErr, IfOk, OnOk, OnErr};
+    ghost use Rattle.std.specs.Prelude.{◌≡◌, ◌⊎◌, ◌+◌, ◌≤◌, ◌↔◌, List, ℕ, true, length, IsErr, IfOk, OnOk, OnErr};
     ghost use Rattle.ss_outside.specs.Causes.{HasCause};
-    ghost use Rattle.ss_outside.specs.Disk.{overwrite, IsReadFrom, BecomesPending, SameImages, NothingPending};
-    ghost use Rattle.ss_outside.specs.MemDisk.{Wrote, Tore, Synced, fresh, now, Leaves, LeftSince, TimePasses, left_now, only_left, IsListed, answered, failed, starved, changed};
+    ghost use Rattle.ss_outside.specs.Crash.{Elapses, OnlyReads};
+    ghost use Rattle.ss_outside.specs.Disk.{overwrite, IsReadFrom, BecomesPending, StaysSame, NothingPending};
+    ghost use Rattle.ss_outside.specs.MemDisk.{Wrote, Tore, Synced, told_by, knows_now, IsListed, answered, failed, starved, changed};
 
     ghost tells = { λ s. true };
 
-    ghost content = { λ s. (now s).content };
-
-    ghost may_leave = { λ s. Leaves (now s) };
-
-    ghost moment = { λ s. length s.changes };
-
-    ghost left_since = { λ s. LeftSince (fresh s.start) s.changes };
+    ghost told = { told_by };
 
     ghost faults = { λ s. s.faults };
 
-    ghost counts_now = { λ s t image told le is. left_now (fresh s.start) s.changes t image is };
-
-    ghost only_now = { λ s image told left. only_left (fresh s.start) s.changes image left };
+    ghost knows_now = { λ s told. knows_now s };
 
     /// Fails exactly where the call is listed.
     fn len(&mut self) -> Result<u64, Failed>
-        ensures length { IfOk result (λ n. n ≡ length (now self.old).content) }
-        ensures content { (now self.new).content ≡ (now self.old).content }
-        ensures images { SameImages (Leaves (now self.old)) (Leaves (now self.new)) }
-        ensures image { Leaves (now self.new) (now self.new).content }
-        ensures time { TimePasses self.old self.new }
+        ensures length { IfOk result (λ n. n ≡ length (told_by self.old).content) }
+        ensures reads { OnlyReads (told_by self.old) (told_by self.new) }
+        ensures image { (told_by self.new).may_leave (told_by self.new).content }
         ensures cause { HasCause self.old.faults self.new.faults result }
         ensures listed { IsErr result ↔ IsListed self.old }
         ensures answered { OnOk result (self.new ≡ answered self.old) }
@@ -231,11 +222,9 @@ impl Disk for MemDisk {
 
     /// Fails exactly where the call is listed, and leaves the buffer then.
     fn read_at(&mut self, at: u64, into: &mut [u8]) -> Result<(), Failed>
-        ensures bytes { OnOk result (IsReadFrom (now self.old).content at into.new) }
-        ensures content { (now self.new).content ≡ (now self.old).content }
-        ensures images { SameImages (Leaves (now self.old)) (Leaves (now self.new)) }
-        ensures image { Leaves (now self.new) (now self.new).content }
-        ensures time { TimePasses self.old self.new }
+        ensures bytes { OnOk result (IsReadFrom (told_by self.old).content at into.new) }
+        ensures reads { OnlyReads (told_by self.old) (told_by self.new) }
+        ensures image { (told_by self.new).may_leave (told_by self.new).content }
         ensures cause { HasCause self.old.faults self.new.faults result }
         ensures listed { IsErr result ↔ IsListed self.old }
         ensures answered { OnOk result (self.new ≡ answered self.old) }
@@ -250,13 +239,13 @@ impl Disk for MemDisk {
     /// Fails where the call is listed, and else only where memory is short, which `short` counts. A listed write writes
     /// nothing, but its range is pending. One that finds no memory, listed or not, leaves the disk as it was.
     fn write_at(&mut self, at: u64, bytes: &[u8]) -> Result<(), Failed>
-        requires within { at ≤ length (now self.old).content }
-        requires end { at + length bytes.now ≤ 2 ^ 32 }
-        ensures written { OnOk result ((now self.new).content ≡ overwrite (now self.old).content at bytes.now) }
-        ensures pending { BecomesPending at (length bytes.now) (Leaves (now self.old)) (Leaves (now self.new))
-            ⊎ (IsErr result × ((now self.new).content ≡ (now self.old).content) × SameImages (Leaves (now self.old)) (Leaves (now self.new))) }
-        ensures image { Leaves (now self.new) (now self.new).content }
-        ensures time { TimePasses self.old self.new }
+        requires within { at ≤ length (told_by self.old).content }
+        requires end { at + length bytes.now ≤ LONGEST_DISK }
+        ensures written { OnOk result ((told_by self.new).content ≡ overwrite (told_by self.old).content at bytes.now) }
+        ensures pending { BecomesPending at (length bytes.now) (told_by self.old) (told_by self.new)
+            ⊎ (IsErr result × StaysSame (told_by self.old) (told_by self.new)) }
+        ensures time { Elapses (told_by self.old) (told_by self.new) }
+        ensures image { (told_by self.new).may_leave (told_by self.new).content }
         ensures cause { HasCause self.old.faults self.new.faults result }
         ensures listed { IsListed self.old → IsErr result }
         ensures wrote { OnOk result (self.new ≡ changed (answered self.old) (Wrote at bytes.now)) }
@@ -268,12 +257,12 @@ impl Disk for MemDisk {
 
     /// Fails where the call is listed, and else only where memory is short, which `short` counts.
     fn sync(&mut self) -> Result<(), Failed>
-        ensures durable { OnOk result (NothingPending (now self.new).content (Leaves (now self.new))) }
-        ensures no_other { (image : List ℕ) → Leaves (now self.new) image → Leaves (now self.old) image }
-        ensures pending { OnErr result (SameImages (Leaves (now self.old)) (Leaves (now self.new))) }
-        ensures content { (now self.new).content ≡ (now self.old).content }
-        ensures image { Leaves (now self.new) (now self.new).content }
-        ensures time { TimePasses self.old self.new }
+        ensures durable { OnOk result (NothingPending (told_by self.new)) }
+        ensures no_other { (image : List ℕ) → (told_by self.new).may_leave image → (told_by self.old).may_leave image }
+        ensures pending { OnErr result (StaysSame (told_by self.old) (told_by self.new)) }
+        ensures content { (told_by self.new).content ≡ (told_by self.old).content }
+        ensures time { Elapses (told_by self.old) (told_by self.new) }
+        ensures image { (told_by self.new).may_leave (told_by self.new).content }
         ensures cause { HasCause self.old.faults self.new.faults result }
         ensures synced { OnOk result (¬ IsListed self.old × (self.new ≡ changed (answered self.old) Synced)) }
         ensures failed { OnErr result
@@ -302,7 +291,7 @@ fn is_listed(failing: &[u64], stop: Option<u64>, call: u64) -> bool
 
 // Writes the bytes at the place, and keeps that they were written.
 fn put(content: &mut Vec<u8>, past: &mut Past, at: usize, bytes: &[u8]) -> Result<(), AllocError>
-    requires { at + length bytes.now ≤ 2 ^ 32 }
+    requires { at + length bytes.now ≤ LONGEST_DISK }
     ensures content { OnOk result (content.new.items ≡ overwrite content.old.items at bytes.now) }
     ensures past { OnOk result (past.new ≡ past.old ++ Wrote at bytes.now ∷ []) }
     ensures kept { OnErr result ((content.new.items ≡ content.old.items) × (past.new ≡ past.old)) }

@@ -1,4 +1,3 @@
-use Rattle.ss_outside.specs.MemDisk.{now}
 use Rattle.ss_outside.proofs.MemDiskCalls.{time_synced, state_synced, content_synced, durable_synced, no_other_synced}
 use Rattle.ss_outside.proofs.mem_disk.MemDiskDisk.sync.Goals as goal
 
@@ -7,13 +6,13 @@ returns-clause-time c = time_synced c.args.self.now c.settle.new.self c.settle.r
 
 pub returns-clause-content : goal.returns-clause-content
 returns-clause-content c =
-    content_synced (now c.args.self.now) (now c.settle.new.self) c.settle.result (state_synced c.args.self.now c.settle.new.self c.settle.result c.settle.ensures.synced c.settle.ensures.failed)
+    content_synced c.args.self.now c.settle.new.self c.settle.result (state_synced c.args.self.now c.settle.new.self c.settle.result c.settle.ensures.synced c.settle.ensures.failed)
 
 pub returns-clause-durable : goal.returns-clause-durable
 returns-clause-durable c =
-    durable_synced (now c.args.self.now) (now c.settle.new.self) c.settle.result (state_synced c.args.self.now c.settle.new.self c.settle.result c.settle.ensures.synced c.settle.ensures.failed)
+    durable_synced c.args.self.now c.settle.new.self c.settle.result (state_synced c.args.self.now c.settle.new.self c.settle.result c.settle.ensures.synced c.settle.ensures.failed)
 
 pub returns-clause-no_other : goal.returns-clause-no_other
 returns-clause-no_other c =
-    no_other_synced (now c.args.self.now) (now c.settle.new.self) c.settle.result (state_synced c.args.self.now c.settle.new.self c.settle.result c.settle.ensures.synced c.settle.ensures.failed)
+    no_other_synced c.args.self.now c.settle.new.self c.settle.result (state_synced c.args.self.now c.settle.new.self c.settle.result c.settle.ensures.synced c.settle.ensures.failed)
     c.settle.ensures.sound_before
