@@ -4,17 +4,18 @@ use Rattle.std.proofs.lemmas.Bool.{cases_Bool, cases_lt, cond-true, cond-false, 
 use Rattle.std.proofs.lemmas.List.{ext_get_or, get_or-take, get_or-drop, get_or-replicate, length-take, length-drop, length-replicate}
 use lib.Pointwise.{pointwise_long}
 use Rattle.std.specs.Prelude.{slice_index}
-use Rattle.ss_outside.specs.Disk.{Torn, overwrite}
+use Rattle.ss_outside.specs.Disk.{overwrite}
 use Rattle.ss_outside.proofs.DiskLemmas.{length-overwrite, get_or-overwrite_inside}
 use Rattle.ss_journal.specs.Kept.{AllClosed}
 use Rattle.ss_journal.specs.Format.{is_born, is_unborn, has_magic, magic, opens, slots_in, slot_at, slot_place, entry_place}
 use Rattle.ss_journal.specs.Redo.{SlotMap, SameMap, Redone, Gives, blank_map, file_map, StandsFor, zeros}
 use Rattle.ss_journal.specs.Writes.{end_of, DiffersIn, DiffersAt}
-use Rattle.ss_journal.specs.Birth.{IsBegun, IsFormed, magic_bytes, blank_end}
+use Rattle.ss_journal.specs.Birth.{IsBegun, IsFormed, magic_bytes, blank_end, form_ranges}
 use Rattle.ss_journal.proofs.HeaderLemmas.{has_magic-same, is_born-from}
 use Rattle.ss_journal.proofs.MapLemmas.{slot_within}
 use Rattle.ss_journal.proofs.RedoLemmas.{SameMap-trans, StandsFor-from, redo-unborn}
-use Rattle.ss_journal.proofs.WriteLemmas.{DiffersAt-torn, DiffersIn-overwrite, length-differs, get_or-differs, StandsFor-first_closed}
+use Rattle.ss_journal.proofs.RangeLemmas.{DiffersIn-overwrite, length-differs, get_or-differs}
+use Rattle.ss_journal.proofs.WriteLemmas.{StandsFor-first_closed}
 
 -- the ways in which a file isn't formed
 is_unborn-short : (image : List ℕ) → length image ≤ 1 → IsTrue (is_unborn image)
@@ -60,28 +61,29 @@ long-has_magic image there = omega (arith, pointwise_long nat_eq magic (take 8 (
 slots_in-blank : (size longer : ℕ) → size ≤ longer → longer ≤ max (max size 9) (blank_end size) → slots_in longer ≡ slots_in size
 slots_in-blank size longer le most = omega arith
 
-pub StandsFor-form : (content was image : List ℕ) (found : SlotMap) (end : ℕ) → IsBegun content → StandsFor content found → DiffersAt 1 (length (magic_bytes content magic)) content was → DiffersIn ((9, end) ∷ []) was image → 9 + end ≡ blank_end (length content) → StandsFor image found
-StandsFor-form content was image found end begun is marked differs long = StandsFor-unborn content image found begun.unborn is unborn slots
-  where
-    few : length (magic_bytes content magic) ≤ 8
-    few = elim (cases_Bool (nat_eq (slice_index content 0) 0)) [
-      | inl zero ↦ omega (arith, ap length (cond-true (nat_eq (slice_index content 0) 0) magic [] zero))
-      | inr other ↦ omega (arith, ap length (cond-false (nat_eq (slice_index content 0) 0) magic [] other))
-    ]
+pub few-magic_bytes : (content : List ℕ) → length (magic_bytes content) ≤ 8
+few-magic_bytes content = elim (cases_Bool (nat_eq (slice_index content 0) 0)) [
+  | inl zero ↦ omega (arith, ap length (cond-true (nat_eq (slice_index content 0) 0) magic [] zero))
+  | inr other ↦ omega (arith, ap length (cond-false (nat_eq (slice_index content 0) 0) magic [] other))
+]
 
+-- the magic and the zeros behind it, lost, torn or whole
+pub StandsFor-form : (content image : List ℕ) (found : SlotMap) → IsBegun content → StandsFor content found → DiffersIn (form_ranges content) content image → StandsFor image found
+StandsFor-form content image found begun is differs = StandsFor-unborn content image found begun.unborn is unborn slots
+  where
     slots : slots_in (length image) ≡ slots_in (length content)
-    slots = slots_in-blank (length content) (length image) (omega (arith, marked.no_shorter, differs.no_shorter)) (omega (arith, marked.no_longer, differs.no_longer, few, long))
+    slots = slots_in-blank (length content) (length image) differs.no_shorter (omega (arith, differs.no_longer, few-magic_bytes content))
 
     first : slice_index image 0 ≡ slice_index content 0
-    first = differs.kept 0 (omega (arith, begun.some, marked.no_shorter)) (inl (omega arith), tt) ∙ marked.kept 0 begun.some (inl (omega arith), tt)
+    first = differs.kept 0 begun.some (inl (omega arith), (inl (omega arith), tt))
 
     -- with the magic there nothing is written before it
     unborn-magic : IsFalse (nat_eq (slice_index content 0) 0) → IsTrue (has_magic content) → IsTrue (is_unborn image)
     unborn-magic other magic_there =
         let nine = long-has_magic content magic_there in
-        let none : length (magic_bytes content magic) ≡ 0 = ap length (cond-false (nat_eq (slice_index content 0) 0) magic [] other) in
-        let same = has_magic-same content image nine (omega (arith, nine, marked.no_shorter, differs.no_shorter))
-        (λ place low high. differs.kept place (omega (arith, high, nine, marked.no_shorter)) (inl high, tt) ∙ marked.kept place (omega (arith, high, nine)) (inr (omega (arith, none, low)), tt)) in
+        let none : length (magic_bytes content) ≡ 0 = ap length (cond-false (nat_eq (slice_index content 0) 0) magic [] other) in
+        let same = has_magic-same content image nine (omega (arith, nine, differs.no_shorter))
+        (λ place low high. differs.kept place (omega (arith, high, nine)) (inr (omega (arith, none, low)), (inl high, tt))) in
         elim (is_unborn-cases content begun.unborn) [
           | inl short ↦ absurd (omega (arith, short, nine))
           | inr late ↦ elim late [
@@ -117,7 +119,7 @@ file_map-blank image blank = record {
 }
 
 is_unborn-formed : (content : List ℕ) → IsFormed content → IsTrue (is_unborn content)
-is_unborn-formed content formed = is_unborn-gate content formed.magic formed.closed
+is_unborn-formed content formed = is_unborn-gate content formed.marked formed.closed
 
 module _ (content image : List ℕ) (formed : IsFormed content) (differs : DiffersAt 0 1 content image) where
   inside : end_of ((0, 1) ∷ []) (length content) ≤ length content
@@ -130,7 +132,7 @@ module _ (content image : List ℕ) (formed : IsFormed content) (differs : Diffe
   beside place low = get_or-differs ((0, 1) ∷ []) content image inside differs place (inr low, tt)
 
   magic-image : IsTrue (has_magic image)
-  magic-image = has_magic-same content image (omega (arith, formed.long)) (omega (arith, formed.long, length-image)) (λ place low high. beside place low) ∙ formed.magic
+  magic-image = has_magic-same content image (omega (arith, formed.long)) (omega (arith, formed.long, length-image)) (λ place low high. beside place low) ∙ formed.marked
 
   blank-image : (place : ℕ) → 9 ≤ place → place < 134254592 → slice_index image place ≡ 0
   blank-image place low high = beside place (omega (arith, low)) ∙ formed.blank place low high
@@ -151,12 +153,6 @@ module _ (content image : List ℕ) (formed : IsFormed content) (differs : Diffe
     | inr closed ↦ StandsFor-unborn content image found (is_unborn-formed content formed) is (is_unborn-gate image magic-image closed) (ap slots_in length-image)
   ]
 
--- the magic is torn where it is written
-pub magic-torn : (content was image : List ℕ) → slice_index content 0 ≡ 0 → Torn 1 8 was image → DiffersAt 1 (length (magic_bytes content magic)) was image
-magic-torn content was image zero torn =
-    let long : length (magic_bytes content magic) ≡ 8 = ap length (cond-true (nat_eq (slice_index content 0) 0) magic [] (eq-eqb (slice_index content 0) 0 zero)) in
-    subst (λ (count : ℕ). DiffersAt 1 count was image) (sym long) (DiffersAt-torn 1 8 was image torn)
-
 -- the gate is opened
 pub birth-opened : (content : List ℕ) → IsFormed content → IsTrue (is_born (overwrite content 0 (165 ∷ []))) × AllClosed (overwrite content 0 (165 ∷ []))
 birth-opened content formed =
@@ -167,9 +163,6 @@ birth-opened content formed =
       born-opened content image formed differs (subst (λ (byte : ℕ). IsTrue (opens byte)) (sym gate) refl),
       λ n lt. gate-image content image formed differs (entry_place n) (omega arith) (omega (arith, lt)),
     )
-
-pub StandsFor-birth_opened : (content : List ℕ) (found : SlotMap) → IsFormed content → StandsFor content found → StandsFor (overwrite content 0 (165 ∷ [])) found
-StandsFor-birth_opened content found formed is = StandsFor-birth_gate content (overwrite content 0 (165 ∷ [])) formed (DiffersIn-overwrite 0 content (165 ∷ []) (omega arith)) found is
 
 -- a file of at most one byte begins with one 0
 pub IsBegun-short : (content : List ℕ) → length content ≤ 1 → IsBegun (overwrite content 0 (0 ∷ []))
@@ -188,6 +181,3 @@ IsBegun-long content unborn long = record {
   ];
   some = omega (arith, long);
 }
-
-pub StandsFor-begun : (content : List ℕ) (found : SlotMap) → length content ≤ 1 → StandsFor content found → StandsFor (overwrite content 0 (0 ∷ [])) found
-StandsFor-begun content found short is = StandsFor-begin content (overwrite content 0 (0 ∷ [])) found short is (DiffersIn-overwrite 0 content (0 ∷ []) (omega arith))

@@ -22,7 +22,8 @@ use Rattle.ss_journal.specs.Commit.{IsReady}
 use Rattle.ss_journal.proofs.HeaderLemmas.{is_born-parts, redo-first_closed, redo-formed, puts_in_use-formed, open_prefix-open, open_prefix-second}
 use Rattle.ss_journal.proofs.MapLemmas.{file_map-same, changed-same}
 use Rattle.ss_journal.proofs.RedoLemmas.{SameMap-refl, SameMap-trans, StandsFor-from}
-use Rattle.ss_journal.proofs.WriteLemmas.{DiffersIn-overwrite, StandsFor-body, length-differs, get_or-differs, is_born-same, file_map-first_closed, StandsFor-first_closed}
+use Rattle.ss_journal.proofs.RangeLemmas.{DiffersIn-overwrite, length-differs, get_or-differs}
+use Rattle.ss_journal.proofs.WriteLemmas.{StandsFor-body, is_born-same, file_map-first_closed, StandsFor-first_closed}
 
 -- a number reads back from where its bytes stand
 number_at-dropped : (bytes rest : List ℕ) (at x : ℕ) → x < 2 ^ 32 → drop at bytes ≡ number_bytes 4 x ++ rest → number_at 4 bytes at ≡ x

@@ -1,5 +1,4 @@
 pub mod BirthLemmas
-pub mod CallLemmas
 pub mod EntryLemmas
 pub mod FormLemmas
 pub mod GateLemmas
@@ -7,10 +6,12 @@ pub mod HeaderLemmas
 pub mod KeptLemmas
 pub mod MapLemmas
 pub mod PutLemmas
+pub mod RangeLemmas
 pub mod ReadLemmas
 pub mod RedoLemmas
 pub mod Rows
 pub mod SlotLemmas
+pub mod TearLemmas
 pub mod WriteLemmas
 pub mod GoodLemmas
 pub mod OpenLemmas

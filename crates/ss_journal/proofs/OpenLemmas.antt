@@ -6,7 +6,6 @@ use Rattle.std.proofs.lemmas.Bool.Decides.{nat_tests}
 use Rattle.std.proofs.lemmas.List.{append-nil, drop_all}
 use Rattle.std.proofs.lemmas.List.Elements.{All-nil, All-cons, All-head, All-tail, All-append, All-weaker}
 use Rattle.std.proofs.lemmas.List.FromFn.{length-map-range_with_len}
-use Rattle.ss_outside.proofs.CrashLemmas.{at_start, joined, weaker}
 use Rattle.arrayvec.specs.ArrayVec.{ArrayVec}
 use Rattle.ss_journal.specs.declared.put.Put.{Put}
 use Rattle.ss_journal.specs.declared.journal_error.JournalError.{JournalError}
@@ -15,7 +14,6 @@ use Rattle.ss_journal.specs.Format.{is_born, slots_in, entry_at}
 use Rattle.ss_journal.specs.Puts.{IsTxn, slots_fit, extent_after}
 use Rattle.ss_journal.specs.Entries.{is_open, is_good, puts_of, open_prefix, entries}
 use Rattle.ss_journal.specs.Redo.{SlotMap, bad_entry, changed, file_map, redo_entries, redo, puts_in_use}
-use Rattle.ss_journal.specs.Calls.{OnlyReads}
 use Rattle.ss_journal.specs.Opening.{NextAs, InUse, InUseAs}
 use Rattle.ss_journal.proofs.PutLemmas.{next, le-extent_after}
 use Rattle.ss_journal.proofs.RedoLemmas.{redo-at_born, puts_in_use-born, open_prefix-drop, AreSlots-rise}
@@ -128,21 +126,3 @@ waiting-below waiting puts extent fit below =
 
 pub extent_after-most : (puts : List Put) (extent : ℕ) → IsTxn puts → extent ≤ 2 ^ 20 → extent_after puts extent ≤ 2 ^ 20
 extent_after-most puts extent txn le = extent_after-bound puts extent (2 ^ 20) (AreSlots-rise 0 puts txn.rise) le
-
-module _ {D : Type 0} (content : D → List ℕ) (may_leave : D → List ℕ → Type 0) (moment : D → ℕ) (left_since : D → ℕ → List ℕ → Type 0) where
-  -- before the first call
-  pub OnlyReads-start : (old : D) → ((image : List ℕ) → left_since old (moment old) image → may_leave old image) → OnlyReads content may_leave moment left_since old old
-  OnlyReads-start old here = record {
-    same_content = refl;
-    same_images = λ image. (λ is. is, λ is. is);
-    any_moment = at_start moment left_since old (may_leave old) here;
-  }
-
-  -- one call after another
-  pub OnlyReads-joined : (old mid new : D) → OnlyReads content may_leave moment left_since old mid → OnlyReads content may_leave moment left_since mid new → OnlyReads content may_leave moment left_since old new
-  OnlyReads-joined old mid new first second = record {
-    same_content = second.same_content ∙ first.same_content;
-    same_images = λ image. (λ is. (second.same_images image).0 ((first.same_images image).0 is), λ is. (first.same_images image).1 ((second.same_images image).1 is));
-    any_moment = joined moment left_since old mid new (may_leave old) first.any_moment
-        (weaker moment left_since mid new (may_leave mid) (may_leave old) (λ image is. (first.same_images image).1 is) second.any_moment);
-  }

@@ -12,7 +12,7 @@ use Rattle.ss_outside.specs.Disk.{IsReadFrom}
 use Rattle.ss_journal.specs.declared.put.Put.{Put}
 use Rattle.ss_journal.specs.Format.{magic, has_magic, opens, is_born, is_unborn}
 use Rattle.ss_journal.specs.Puts.{with_put, with_puts, extent_after, slots_fit, is_put}
-use Rattle.ss_journal.specs.Calls.{IsHead}
+use Rattle.ss_journal.specs.Opening.{IsHead}
 use Rattle.ss_journal.proofs.PutLemmas.{next}
 
 -- a buffer that was filled from within the file is that piece of it

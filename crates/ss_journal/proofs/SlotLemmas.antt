@@ -4,7 +4,7 @@ use Rattle.std.proofs.lemmas.Bool.{cases_lt, cases_eq, cases_order, cond-true, c
 use Rattle.std.proofs.lemmas.Bool.Decides.{nat_tests}
 use Rattle.std.proofs.lemmas.List.{take_at, drop_at, drop_more, length-take-le, append_assoc}
 use Rattle.std.proofs.lemmas.List.Elements.{All-head, All-tail}
-use Rattle.ss_outside.specs.Disk.{overwrite, Torn, IsOutside, IsOutsideAll}
+use Rattle.ss_outside.specs.Disk.{overwrite, IsOutside, IsOutsideAll}
 use Rattle.ss_outside.proofs.DiskLemmas.{length-overwrite, get_or-overwrite_outside}
 use Rattle.ss_journal.specs.declared.put.Put.{Put}
 use Rattle.ss_journal.specs.Format.{slots_in, slot_at, slot_place}
@@ -14,6 +14,7 @@ use Rattle.ss_journal.specs.Writes.{AreSlots, HasRoom, DiffersIn, end_of, slot_r
 use Rattle.ss_journal.proofs.HeaderLemmas.{piece-same}
 use Rattle.ss_journal.proofs.MapLemmas.{slot_within, changed-same}
 use Rattle.ss_journal.proofs.PutLemmas.{next, next-le, le-extent_after, slots_fit-cases}
+use Rattle.ss_journal.proofs.RangeLemmas.{Covers}
 use Rattle.ss_journal.proofs.ReadLemmas.{below_extent}
 use Rattle.ss_journal.proofs.RedoLemmas.{SameMap-refl, SameMap-trans}
 
@@ -176,9 +177,5 @@ end_of_at [] k d size lt = absurd (omega (arith, lt))
 end_of_at (put ∷ puts) zero d size lt = omega arith
 end_of_at (put ∷ puts) (suc k) d size lt = omega (arith, end_of_at puts k d size (omega (arith, lt)))
 
-pub DiffersIn-slot : (puts : List Put) (k : ℕ) (d : Put) (content old new : List ℕ) → k < length puts → DiffersIn (slot_ranges puts) content old → Torn (slot_place (get_or puts k d).slot) 128 old new → DiffersIn (slot_ranges puts) content new
-DiffersIn-slot puts k d content old new lt differs torn = record {
-  no_shorter = omega (arith, differs.no_shorter, torn.no_shorter);
-  no_longer = omega (arith, differs.no_longer, torn.no_longer, end_of_at puts k d (length content) lt);
-  kept = λ place low out. torn.kept place (omega (arith, low, differs.no_shorter)) (outside_at puts k d place lt out) ∙ differs.kept place low out;
-}
+pub Covers-slot : (puts : List Put) (k : ℕ) (d : Put) → k < length puts → Covers (slot_ranges puts) (slot_place (get_or puts k d).slot) 128
+Covers-slot puts k d lt = record { outside = λ place out. outside_at puts k d place lt out; end = λ size. end_of_at puts k d size lt }

@@ -5,7 +5,7 @@ use Rattle.std.proofs.lemmas.List.{ext_get_or, get_or_past, append_assoc, take_a
 use Rattle.std.proofs.lemmas.List.Elements.{All-head, All-tail}
 use Rattle.std.specs.Prelude.{slice_index, flat_map}
 use Rattle.std.specs.List.{range_with_len}
-use Rattle.ss_outside.specs.Disk.{Torn, overwrite, IsOutside, IsOutsideAll}
+use Rattle.ss_outside.specs.Disk.{overwrite, IsOutside, IsOutsideAll}
 use Rattle.ss_outside.proofs.DiskLemmas.{length-overwrite, get_or-overwrite_outside, get_or-overwrite_inside}
 use Rattle.ss_journal.specs.declared.put.Put.{Put}
 use Rattle.ss_journal.specs.Format.{is_born, opens, slots_in, slot_place, entry_place}
@@ -13,70 +13,13 @@ use Rattle.ss_journal.specs.Puts.{AreWhole, slots_fit}
 use Rattle.ss_journal.specs.Entries.{puts_of, open_prefix, entries}
 use Rattle.ss_journal.specs.Redo.{SlotMap, SameMap, Redone, Gives, stands, changed, redo_entries, file_map, redo, StandsFor}
 use Rattle.ss_journal.specs.Writes.{end_of, DiffersIn, DiffersAt, AreSlots, HasRoom, slot_ranges, slots_written, other_gates, FirstClosed, SameOthers}
-use Rattle.ss_journal.specs.Settling.{AreInUse, ClosesTorn}
+use Rattle.ss_journal.specs.Settling.{AreInUse}
 use Rattle.ss_journal.proofs.HeaderLemmas.{has_magic-same, is_born-parts, is_born-from, redo-formed, puts_in_use-formed, redo-same_header, redo-first_closed}
 use Rattle.ss_journal.proofs.MapLemmas.{file_map-same, redo_entries-again}
+use Rattle.ss_journal.proofs.RangeLemmas.{DiffersIn-refl, DiffersIn-append, DiffersIn-overwrite, length-differs, get_or-differs}
 use Rattle.ss_journal.proofs.PutLemmas.{slots_fit-cases, with_puts-again, extent_after-again}
-use Rattle.ss_journal.proofs.RedoLemmas.{SameMap-refl, SameMap-trans, StandsFor-from, redo-born}
+use Rattle.ss_journal.proofs.RedoLemmas.{SameMap-refl, SameMap-trans, StandsFor-from, StandsFor-same, redo-born}
 use Rattle.ss_journal.proofs.SlotLemmas.{length-written, slots-written, outside_slots, slots_in-mono, slots_in-torn, AgreeBeside-torn, file_map-slots_written}
-
--- ranges make no file shorter
-pub end_of-le : (ranges : List (ℕ × ℕ)) (size : ℕ) → size ≤ end_of ranges size
-end_of-le [] size = omega arith
-end_of-le (range ∷ ranges) size = omega (arith, end_of-le ranges size)
-
-pub DiffersIn-refl : (ranges : List (ℕ × ℕ)) (content : List ℕ) → DiffersIn ranges content content
-DiffersIn-refl ranges content = record { no_shorter = omega arith; no_longer = end_of-le ranges (length content); kept = λ place lt out. refl }
-
--- a torn write on top is one range more
-pub DiffersIn-torn : (ranges : List (ℕ × ℕ)) (at count : ℕ) (content old new : List ℕ) → DiffersIn ranges content old → Torn at count old new → DiffersIn ((at, count) ∷ ranges) content new
-DiffersIn-torn ranges at count content old new differs torn = record {
-  no_shorter = omega (arith, differs.no_shorter, torn.no_shorter);
-  no_longer = omega (arith, differs.no_longer, torn.no_longer);
-  kept = λ place lt out. torn.kept place (omega (arith, lt, differs.no_shorter)) out.0 ∙ differs.kept place lt out.1;
-}
-
--- where several ranges end
-end_of-from : (ranges : List (ℕ × ℕ)) (size : ℕ) → end_of ranges size ≡ max (end_of ranges 0) size
-end_of-from [] size = omega arith
-end_of-from (range ∷ ranges) size = omega (arith, end_of-from ranges size)
-
-end_of-append : (first second : List (ℕ × ℕ)) (size : ℕ) → end_of (first ++ second) size ≡ max (end_of first size) (end_of second 0)
-end_of-append [] second size = omega (arith, end_of-from second size)
-end_of-append (range ∷ first) second size = omega (arith, end_of-append first second size)
-
-outside_both : (first second : List (ℕ × ℕ)) (place : ℕ) → IsOutsideAll (first ++ second) place → IsOutsideAll first place × IsOutsideAll second place
-outside_both [] second place out = (tt, out)
-outside_both (range ∷ first) second place out =
-    let rest = outside_both first second place out.1 in
-    ((out.0, rest.0), rest.1)
-
--- the ranges in the order in which they were written
-pub DiffersIn-append : (first second : List (ℕ × ℕ)) (content old new : List ℕ) → DiffersIn first content old → DiffersIn second old new → DiffersIn (first ++ second) content new
-DiffersIn-append first second content old new before after = record {
-  no_shorter = omega (arith, before.no_shorter, after.no_shorter);
-  no_longer = omega (arith, before.no_longer, after.no_longer, end_of-append first second (length content), end_of-from second (length old));
-  kept = λ place lt out.
-      let both = outside_both first second place out in
-      after.kept place (omega (arith, lt, before.no_shorter)) both.1 ∙ before.kept place lt both.0;
-}
-
-pub DiffersIn-overwrite : (at : ℕ) (content bytes : List ℕ) → at ≤ length content → DiffersAt at (length bytes) content (overwrite content at bytes)
-DiffersIn-overwrite at content bytes within = record {
-  no_shorter = omega (arith, length-overwrite content bytes at within);
-  no_longer = omega (arith, length-overwrite content bytes at within);
-  kept = λ place lt out. get_or-overwrite_outside content bytes at within place out.0;
-}
-
--- ranges within a file leave its length and all other places, also past the end
-pub length-differs : (ranges : List (ℕ × ℕ)) (old new : List ℕ) → end_of ranges (length old) ≤ length old → DiffersIn ranges old new → length new ≡ length old
-length-differs ranges old new inside differs = omega (arith, differs.no_shorter, differs.no_longer, inside)
-
-pub get_or-differs : (ranges : List (ℕ × ℕ)) (old new : List ℕ) → end_of ranges (length old) ≤ length old → DiffersIn ranges old new → (place : ℕ) → IsOutsideAll ranges place → slice_index new place ≡ slice_index old place
-get_or-differs ranges old new inside differs place out = elim (cases_lt place (length old)) [
-  | inl lt ↦ differs.kept place lt out
-  | inr past ↦ get_or_past new place 0 (omega (arith, past, length-differs ranges old new inside differs)) ∙ sym (get_or_past old place 0 past)
-]
 
 -- the entries in use, by the file and the puts
 module _ (puts : List Put) (content : List ℕ) (in_use : AreInUse puts content) where
@@ -214,45 +157,6 @@ StandsFor-body content image found born closed is differs =
     StandsFor-entries ((513, 543) ∷ []) content image found born closed is (omega (arith, long))
     (λ place beside. (⊎_elim (λ below. inl below) (λ above. inr (omega (arith, above))) beside, tt)) differs
 
--- a torn write within a range is no other range
-pub DiffersAt-within : (at count from part : ℕ) (was old new : List ℕ) → at ≤ from → from + part ≤ at + count → DiffersAt at count was old → Torn from part old new → DiffersAt at count was new
-DiffersAt-within at count from part was old new low high differs torn = record {
-  no_shorter = omega (arith, differs.no_shorter, torn.no_shorter);
-  no_longer = omega (arith, differs.no_longer, torn.no_longer, high);
-  kept = λ place lt out. torn.kept place (omega (arith, lt, differs.no_shorter)) (⊎_elim (λ below. inl (omega (arith, below, low))) (λ above. inr (omega (arith, above, high))) out.0) ∙ differs.kept place lt out;
-}
-
--- two writes, one behind the other, are one
-overwrite-overwrite : (content first second : List ℕ) (at mid : ℕ) → at ≤ length content → at + length first ≡ mid → overwrite (overwrite content at first) mid second ≡ overwrite content at (first ++ second)
-overwrite-overwrite content first second at mid within there =
-    let front : length (take at content ++ first) ≡ mid = omega (arith, there, length-append (take at content) first, length-take-le at content within) in
-    let kept = drop (at + length first) content in
-    let start : take mid (take at content ++ first ++ kept) ≡ take at content ++ first = take_at (take at content ++ first) kept mid front in
-    let rest : drop (mid + length second) (take at content ++ first ++ kept) ≡ drop (at + length (first ++ second)) content =
-    sym (drop-drop (length second) mid (take at content ++ first ++ kept)) ∙ ap (drop (length second)) (drop_at (take at content ++ first) kept mid front)
-    ∙ drop-drop (length second) (at + length first) content ∙ ap (λ (n : ℕ). drop n content) (let same : at + length first + length second ≡ at + length (first ++ second) = omega (arith, length-append first second) in same) in
-    ap (λ (list : List ℕ). list ++ second ++ drop (mid + length second) (take at content ++ first ++ kept)) start
-    ∙ ap (λ (list : List ℕ). take at content ++ first ++ second ++ list) rest
-    ∙ ap (λ (list : List ℕ). list ++ drop (at + length (first ++ second)) content) (append_assoc (take at content) first second)
-
-pub overwrite-zeros : (content now : List ℕ) (at from count : ℕ) → at ≤ length content → at ≤ from → now ≡ overwrite content at (replicate (from - at) 0) → overwrite now from (replicate count 0) ≡ overwrite content at (replicate (from + count - at) 0)
-overwrite-zeros content now at from count within low is =
-    let there : at + length (replicate {A = ℕ} (from - at) 0) ≡ from = omega (arith, low, length-replicate {A = ℕ} (from - at) 0) in
-    let more : from - at + count ≡ from + count - at = omega (arith, low) in
-    ap (λ (list : List ℕ). overwrite list from (replicate count 0)) is
-    ∙ overwrite-overwrite content (replicate (from - at) 0) (replicate count 0) at from within there
-    ∙ ap (overwrite content at) (replicate-append-replicate {A = ℕ} (from - at) count 0 ∙ ap (λ (n : ℕ). replicate n 0) more)
-
--- one torn write
-pub DiffersAt-torn : (at count : ℕ) (was image : List ℕ) → Torn at count was image → DiffersAt at count was image
-DiffersAt-torn at count was image torn = DiffersIn-torn [] at count was was image (DiffersIn-refl [] was) torn
-
-pub ClosesTorn-open : (n place : ℕ) (content was image : List ℕ) → place ≡ entry_place n → IsTrue (opens (slice_index content place)) → Torn place 1 was image → ClosesTorn n content was image
-ClosesTorn-open n place content was image there opened torn =
-    let gate = subst (λ (at : ℕ). IsTrue (opens (slice_index content at))) there opened in
-    subst (λ (count : ℕ). DiffersAt (entry_place n) count was image) (sym (cond-true (opens (slice_index content (entry_place n))) 1 0 gate))
-    (subst (λ (at : ℕ). DiffersAt at 1 was image) there (DiffersAt-torn place 1 was image torn))
-
 -- the puts that are written are one way to tear their slots
 DiffersIn-slots_written : (puts : List Put) (content : List ℕ) → 36864 ≤ length content → IsTrue (slots_fit puts (slots_in (length content))) → AreSlots puts → AreWhole puts → DiffersIn (slot_ranges puts) content (slots_written puts content)
 DiffersIn-slots_written [] content long fit slots whole = DiffersIn-refl [] content
@@ -271,7 +175,7 @@ module _ (puts : List Put) (content : List ℕ) (in_use : AreInUse puts content)
   pub HasRoom-in_use : HasRoom puts content
   HasRoom-in_use = record { long = long-in_use puts content in_use; fit = in_use-fit puts content in_use }
 
-  differs-written : DiffersIn (slot_ranges puts) content (slots_written puts content)
+  pub differs-written : DiffersIn (slot_ranges puts) content (slots_written puts content)
   differs-written =
       let all = redone puts content in_use in
       DiffersIn-slots_written puts content (long-in_use puts content in_use) all.1 all.2 all.3
@@ -282,20 +186,20 @@ module _ (puts : List Put) (content : List ℕ) (in_use : AreInUse puts content)
   StandsFor-found : StandsFor content in_use.found
   StandsFor-found = StandsFor-from content in_use.found in_use.found in_use.map (SameMap-refl in_use.found)
 
-  -- the gate, torn or closed when the puts are in their slots
-  pub StandsFor-applied : (image : List ℕ) (found : SlotMap) → 0 < length puts → StandsFor content found → DiffersAt 512 1 (slots_written puts content) image → StandsFor image found × IsTrue (is_born image)
-  StandsFor-applied image found some is differs =
-      let there = StandsFor-slots_torn puts content (slots_written puts content) found in_use is differs-written in
-      StandsFor-first_gate puts (slots_written puts content) image found some there.1 there.0 (SameMap-slots_written puts content found in_use is) differs
+  -- with the puts in their slots the file alone gives the map, and the same entries are in use
+  stands-written : StandsFor (slots_written puts content) in_use.found × AreInUse puts (slots_written puts content)
+  stands-written = StandsFor-slots_torn puts content (slots_written puts content) in_use.found in_use StandsFor-found differs-written
 
-  pub StandsFor-closed : (found : SlotMap) → 0 < length puts → StandsFor content found → StandsFor (overwrite (slots_written puts content) 512 (0 ∷ [])) found
-  StandsFor-closed found some is =
-      (StandsFor-applied (overwrite (slots_written puts content) 512 (0 ∷ [])) found some is (DiffersIn-overwrite 512 (slots_written puts content) (0 ∷ []) (omega (arith, long-slots_written)))).0
+  -- then the gate may be torn or closed
+  pub StandsFor-applied : (image : List ℕ) (found : SlotMap) → 0 < length puts → StandsFor (slots_written puts content) found → DiffersAt 512 1 (slots_written puts content) image → StandsFor image found × IsTrue (is_born image)
+  StandsFor-applied image found some is differs =
+      let alike = StandsFor-same (slots_written puts content) in_use.found found stands-written.0 is in
+      StandsFor-first_gate puts (slots_written puts content) image found some stands-written.1 is (SameMap-trans _ _ _ (SameMap-slots_written puts content in_use.found in_use StandsFor-found) alike) differs
 
   pub closed-written : 0 < length puts → IsTrue (is_born (overwrite (slots_written puts content) 512 (0 ∷ []))) × FirstClosed (overwrite (slots_written puts content) 512 (0 ∷ [])) × SameOthers content (overwrite (slots_written puts content) 512 (0 ∷ []))
   closed-written some =
       let within : 512 ≤ length (slots_written puts content) = omega (arith, long-slots_written) in (
-        (StandsFor-applied (overwrite (slots_written puts content) 512 (0 ∷ [])) in_use.found some StandsFor-found (DiffersIn-overwrite 512 (slots_written puts content) (0 ∷ []) within)).1,
+        (StandsFor-applied (overwrite (slots_written puts content) 512 (0 ∷ [])) in_use.found some stands-written.0 (DiffersIn-overwrite 512 (slots_written puts content) (0 ∷ []) within)).1,
         subst (λ (byte : ℕ). IsFalse (opens byte)) (sym (get_or-overwrite_inside (slots_written puts content) (0 ∷ []) 512 within 0 (omega arith))) refl,
         λ n low high. get_or-overwrite_outside (slots_written puts content) (0 ∷ []) 512 within (entry_place n) (inr (omega (arith, low)))
             ∙ differs-written.kept (entry_place n) (omega (arith, high, long-in_use puts content in_use)) (outside_slots puts (entry_place n) (omega (arith, high))),

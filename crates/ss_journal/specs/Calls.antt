@@ -1,23 +1,31 @@
--- What a call that only reads leaves of a disk.
-use Rattle.std.specs.Prelude.{◌≡◌, ℕ, ◌≤◌, List, length, Result, Ok, Err, ⊤}
+-- What the calls of a journal leave of the map, also in a crash, and which error they blame on the disk.
+use Rattle.std.specs.Prelude.{◌⊎◌, ℕ, ◌≤◌, List, Result, Ok, Err, OnOk, ⊤}
 use Rattle.ss_outside.specs.Causes.{Rose}
 use Rattle.ss_outside.specs.Crash.{LeavesOnly}
-use Rattle.ss_outside.specs.Disk.{IsReadFrom, SameImages}
+use Rattle.ss_outside.specs.Disk.{Told, NothingPending}
+use Rattle.ss_journal.specs.declared.put.Put.{Put}
 use Rattle.ss_journal.specs.declared.journal_error.JournalError.{JournalError}
 use Rattle.ss_journal.specs.declared.journal_error.JournalError.TheVariants.{Disk, NotAStore, BadEntry, OutOfMemory}
+use Rattle.ss_journal.specs.Redo.{SlotMap, StandsFor, changed}
 
--- The content and the images are those from before the call, and it took time.
-pub record OnlyReads {D : Type 0} (content : D → List ℕ) (may_leave : D → List ℕ → Type 0) (moment : D → ℕ)
-    (left_since : D → ℕ → List ℕ → Type 0) (old new : D) : Type 0 where
-  pub same_content : content new ≡ content old
-  pub same_images : SameImages (may_leave old) (may_leave new)
-  pub any_moment : LeavesOnly moment left_since old new (may_leave old)
+-- A call leaves the map as it is.
+pub record KeepsMap {T E : Type 0} (old new : Told) (result : Result T E) : Type 0 where
+  -- at Ok the content stands for the same map
+  pub map : (found : SlotMap) → StandsFor old.content found → OnOk result (StandsFor new.content found)
+  -- with nothing pending at the call, a crash at any moment of it leaves the same map
+  pub any_moment : NothingPending old → (found : SlotMap) → StandsFor old.content found → LeavesOnly old new (λ image. StandsFor image found)
+  -- and at Ok nothing is pending
+  pub durable : NothingPending old → OnOk result (NothingPending new)
 
--- the length of an image and its first nine bytes, with zeros past its end
-pub record IsHead (size : ℕ) (first image : List ℕ) : Type 0 where
-  pub whole : size ≡ length image
-  pub nine : length first ≡ 9
-  pub bytes : IsReadFrom image 0 first
+-- A call changes the map by these puts: all of them, or none.
+pub record ChangesMap {T E : Type 0} (puts : List Put) (old new : Told) (result : Result T E) : Type 0 where
+  -- at Ok the content stands for the map with the puts
+  pub map : (found : SlotMap) → StandsFor old.content found → OnOk result (StandsFor new.content (changed found puts))
+  -- with nothing pending at the call, a crash at any moment of it leaves the map from before or the map with the puts
+  pub any_moment : NothingPending old → (found : SlotMap) → StandsFor old.content found
+      → LeavesOnly old new (λ image. StandsFor image found ⊎ StandsFor image (changed found puts))
+  -- at Ok nothing is pending
+  pub durable : OnOk result (NothingPending new)
 
 -- opening blames the disk only where its count rose
 abbrev pub IfDisk : {T : Type 0} → Result T JournalError → Type 0 → Type 0

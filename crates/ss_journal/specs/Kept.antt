@@ -24,7 +24,11 @@ pub record IsSound (journal : JournalState) : Type 0 where
 abbrev pub IsRunning : JournalState → Type 0
 IsRunning journal = journal.phase ≢ Stopped
 
--- the file is formed, and every gate past the entries in use is closed
+-- a call has failed
+abbrev pub HasStopped : JournalState → Type 0
+HasStopped journal = journal.phase ≡ Stopped
+
+-- the file is formed, and no gate is open
 abbrev pub IsSettled : JournalState → Type 0
 IsSettled journal = journal.phase ≡ Settled
 

@@ -1,12 +1,19 @@
--- What reading the entries answers.
-use Rattle.std.specs.Prelude.{◌≡◌, ℕ, List, Option, Some, None, Result, Ok, Err, IsTrue, IsFalse, ⊤}
+-- What reading a file from its beginning answers.
+use Rattle.std.specs.Prelude.{◌≡◌, ℕ, List, length, Option, Some, None, Result, Ok, Err, IsTrue, IsFalse, ⊤}
 use Rattle.std.specs.Global.{Vec}
 use Rattle.arrayvec.specs.ArrayVec.{ArrayVec}
+use Rattle.ss_outside.specs.Disk.{IsReadFrom}
 use Rattle.ss_journal.specs.declared.put.Put.{Put}
 use Rattle.ss_journal.specs.declared.journal_error.JournalError.{JournalError}
 use Rattle.ss_journal.specs.declared.journal_error.JournalError.TheVariants.{Disk, NotAStore, BadEntry, OutOfMemory}
 use Rattle.ss_journal.specs.Entries.{is_open, is_good, puts_of}
 use Rattle.ss_journal.specs.Redo.{SlotMap, stands, bad_entry, redo, puts_in_use}
+
+-- the length of an image and its first nine bytes, with zeros past its end
+pub record IsHead (size : ℕ) (first image : List ℕ) : Type 0 where
+  pub whole : size ≡ length image
+  pub nine : length first ≡ 9
+  pub bytes : IsReadFrom image 0 first
 
 -- what reading entry n over this extent answers
 abbrev pub NextAs : List ℕ → ℕ → ℕ → Result (Option (ArrayVec Put)) JournalError → Type 0

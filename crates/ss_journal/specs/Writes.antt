@@ -1,7 +1,8 @@
 -- What the journal's writes make of a content, and what a crash may make of it before they are synced.
 use Rattle.std.specs.Prelude.{◌≡◌, ℕ, ◌+◌, ◌<◌, ◌≤◌, ◌^◌, max, List, [], ◌∷◌, length, slice_index, EachIndex, All, IsTrue, IsFalse, map}
 use Rattle.std.specs.List.{range_with_len}
-use Rattle.ss_outside.specs.Disk.{overwrite, IsOutsideAll}
+use Rattle.ss_outside.specs.Crash.{LeavesOnly}
+use Rattle.ss_outside.specs.Disk.{Told, overwrite, IsOutsideAll}
 use Rattle.ss_journal.specs.declared.put.Put.{Put}
 use Rattle.ss_journal.specs.Format.{opens, entry_place, slot_place, slots_in}
 use Rattle.ss_journal.specs.Puts.{slots_fit}
@@ -20,6 +21,16 @@ pub record DiffersIn (ranges : List (ℕ × ℕ)) (old new : List ℕ) : Type 0 
 -- the same of one range
 abbrev pub DiffersAt : ℕ → ℕ → List ℕ → List ℕ → Type 0
 DiffersAt at count = DiffersIn ((at, count) ∷ [])
+
+-- one of a disk's images, with the writes to these ranges lost, torn or whole
+pub record IsTorn (ranges : List (ℕ × ℕ)) (disk : Told) (image : List ℕ) : Type 0 where
+  pub was : List ℕ
+  pub left : disk.may_leave was
+  pub differs : DiffersIn ranges was image
+
+-- A run of writes to these ranges: a crash at any moment of it leaves an image from before, torn there.
+abbrev pub Tears : List (ℕ × ℕ) → Told → Told → Type 0
+Tears ranges old new = LeavesOnly old new (IsTorn ranges old)
 
 -- the place of each put's slot
 abbrev pub slot_ranges : List Put → List (ℕ × ℕ)

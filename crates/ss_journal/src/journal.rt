@@ -35,24 +35,22 @@ impl Model for Journal {
 }
 
 impl Journal {
-    ghost use Rattle.std.specs.Prelude.{◌≡◌, ◌⊎◌, ◌≤◌, ◌<◌, ◌^◌, IsTrue, IfOk, OnOk};
+    ghost use Rattle.std.specs.Prelude.{◌≡◌, ◌≤◌, ◌<◌, ◌^◌, IsTrue, IfOk, OnOk, OnErr};
     ghost use Rattle.ss_outside.specs.Causes.{HasCause};
-    ghost use Rattle.ss_outside.specs.Crash.{LeavesOnly};
-    ghost use Rattle.ss_outside.specs.Disk.{NothingPending};
+    ghost use Rattle.ss_outside.specs.Crash.{OnlyReads};
     ghost use Rattle.ss_journal.specs.Puts.{extent_after, slots_fit, IsTxn};
-    ghost use Rattle.ss_journal.specs.Redo.{SlotMap, StandsFor, changed, zeros};
-    ghost use Rattle.ss_journal.specs.Kept.{IsKept, IsRunning, IsSettled, OpensAs};
-    ghost use Rattle.ss_journal.specs.Calls.{OnlyReads, BlamesDisk};
+    ghost use Rattle.ss_journal.specs.Redo.{SlotMap, StandsFor, zeros};
+    ghost use Rattle.ss_journal.specs.Kept.{IsKept, IsRunning, IsSettled, HasStopped, OpensAs};
+    ghost use Rattle.ss_journal.specs.Calls.{KeepsMap, ChangesMap, BlamesDisk};
 
     /// Opens a disk, formed or not. It reads the entries in use and writes nothing.
     pub fn open<D: Disk>(alloc: Global, disk: &mut D) -> Result<Journal, JournalError>
         // The map of the content, or why it has none.
-        ensures map { IsTrue (D.tells disk.old) → OpensAs (D.content disk.old) result }
+        ensures map { IsTrue (D.tells disk.old) → OpensAs (D.told disk.old).content result }
         ensures running { IfOk result (λ journal. IsRunning journal) }
         ensures extent { IfOk result (λ journal. journal.extent ≤ 2 ^ 20) }
         // The content and the images are those from before.
-        ensures reads { IsTrue (D.tells disk.old)
-            → OnlyReads D.content D.may_leave D.moment D.left_since disk.old disk.new }
+        ensures reads { IsTrue (D.tells disk.old) → OnlyReads (D.told disk.old) (D.told disk.new) }
         ensures tells { D.tells disk.new ≡ D.tells disk.old }
         ensures cause { BlamesDisk (D.faults disk.old) (D.faults disk.new) result }
     {
@@ -88,18 +86,13 @@ impl Journal {
     /// the map as it is, also in a crash.
     pub fn settle<D: Disk>(&mut self, disk: &mut D) -> Result<(), Failed>
         requires running { IsRunning self.old }
-        requires one_disk { IsTrue (D.tells disk.old) → IsKept self.old (D.content disk.old) }
-        ensures one_disk { IsTrue (D.tells disk.old) → OnOk result (IsKept self.new (D.content disk.new)) }
+        requires one_disk { IsTrue (D.tells disk.old) → IsKept self.old (D.told disk.old).content }
+        ensures one_disk { IsTrue (D.tells disk.old) → OnOk result (IsKept self.new (D.told disk.new).content) }
         ensures settled { OnOk result (IsSettled self.new) }
         ensures extent { OnOk result (self.new.extent ≡ self.old.extent) }
-        ensures map { IsTrue (D.tells disk.old) → (found : SlotMap) → StandsFor (D.content disk.old) found
-            → OnOk result (StandsFor (D.content disk.new) found) }
-        // With nothing pending at the call, a crash at any moment of it leaves the same map.
-        ensures any_moment { IsTrue (D.tells disk.old) → NothingPending (D.content disk.old) (D.may_leave disk.old)
-            → (found : SlotMap) → StandsFor (D.content disk.old) found
-            → LeavesOnly D.moment D.left_since disk.old disk.new (λ image. StandsFor image found) }
-        ensures durable { IsTrue (D.tells disk.old) → NothingPending (D.content disk.old) (D.may_leave disk.old)
-            → OnOk result (NothingPending (D.content disk.new) (D.may_leave disk.new)) }
+        // The map stays, also in a crash at any moment of the call.
+        ensures map { IsTrue (D.tells disk.old) → KeepsMap (D.told disk.old) (D.told disk.new) result }
+        ensures stopped { OnErr result (HasStopped self.new) }
         ensures tells { D.tells disk.new ≡ D.tells disk.old }
         ensures cause { HasCause (D.faults disk.old) (D.faults disk.new) result }
     {
@@ -119,14 +112,14 @@ impl Journal {
     pub fn read<D: Disk>(&mut self, disk: &mut D, slot: u32) -> Result<[u8; SLOT_SIZE], Failed>
         requires running { IsRunning self.old }
         requires slot { slot < 2 ^ 20 }
-        requires one_disk { IsTrue (D.tells disk.old) → IsKept self.old (D.content disk.old) }
-        ensures bytes { IsTrue (D.tells disk.old) → (found : SlotMap) → StandsFor (D.content disk.old) found
+        requires one_disk { IsTrue (D.tells disk.old) → IsKept self.old (D.told disk.old).content }
+        ensures bytes { IsTrue (D.tells disk.old) → (found : SlotMap) → StandsFor (D.told disk.old).content found
             → IfOk result (λ bytes. bytes ≡ found.bytes slot) }
         ensures unused { self.old.extent ≤ slot → IfOk result (λ bytes. bytes ≡ zeros) }
         ensures journal { OnOk result (self.new ≡ self.old) }
+        ensures stopped { OnErr result (HasStopped self.new) }
         // The content and the images are those from before.
-        ensures reads { IsTrue (D.tells disk.old)
-            → OnlyReads D.content D.may_leave D.moment D.left_since disk.old disk.new }
+        ensures reads { IsTrue (D.tells disk.old) → OnlyReads (D.told disk.old) (D.told disk.new) }
         ensures tells { D.tells disk.new ≡ D.tells disk.old }
         ensures cause { HasCause (D.faults disk.old) (D.faults disk.new) result }
     {
@@ -152,18 +145,13 @@ impl Journal {
         requires txn { IsTxn txn.now.items }
         // Each slot in order is at most the extent so far.
         requires fit { IsTrue (slots_fit txn.now.items self.old.extent) }
-        requires one_disk { IsTrue (D.tells disk.old) → IsKept self.old (D.content disk.old) }
-        ensures one_disk { IsTrue (D.tells disk.old) → OnOk result (IsKept self.new (D.content disk.new)) }
+        requires one_disk { IsTrue (D.tells disk.old) → IsKept self.old (D.told disk.old).content }
+        ensures one_disk { IsTrue (D.tells disk.old) → OnOk result (IsKept self.new (D.told disk.new).content) }
         ensures settled { OnOk result (IsSettled self.new) }
         ensures extent { OnOk result (self.new.extent ≡ extent_after txn.now.items self.old.extent) }
-        ensures map { IsTrue (D.tells disk.old) → (found : SlotMap) → StandsFor (D.content disk.old) found
-            → OnOk result (StandsFor (D.content disk.new) (changed found txn.now.items)) }
-        // With nothing pending at the call, a crash at any moment of it leaves the map before or after.
-        ensures any_moment { IsTrue (D.tells disk.old) → NothingPending (D.content disk.old) (D.may_leave disk.old)
-            → (found : SlotMap) → StandsFor (D.content disk.old) found
-            → LeavesOnly D.moment D.left_since disk.old disk.new
-            (λ image. StandsFor image found ⊎ StandsFor image (changed found txn.now.items)) }
-        ensures durable { IsTrue (D.tells disk.old) → OnOk result (NothingPending (D.content disk.new) (D.may_leave disk.new)) }
+        // All of the puts or none, also in a crash at any moment of the call.
+        ensures map { IsTrue (D.tells disk.old) → ChangesMap txn.now.items (D.told disk.old) (D.told disk.new) result }
+        ensures stopped { OnErr result (HasStopped self.new) }
         ensures tells { D.tells disk.new ≡ D.tells disk.old }
         ensures cause { HasCause (D.faults disk.old) (D.faults disk.new) result }
     {

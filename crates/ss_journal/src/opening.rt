@@ -1,11 +1,12 @@
 // How a file is opened. Nothing is written.
 ghost use Rattle.std.specs.Prelude.{◌≡◌, ◌+◌, ◌≤◌, ◌<◌, ◌^◌, ℕ, List, length, slice_index, IsTrue, IfOk, All};
 ghost use Rattle.ss_outside.specs.Causes.{HasCause};
+ghost use Rattle.ss_outside.specs.Crash.{OnlyReads};
 ghost use Rattle.ss_journal.specs.Format.{has_magic, is_unborn, is_born, entry_at, slots_in};
-ghost use Rattle.ss_journal.specs.Calls.{OnlyReads, IsHead, BlamesDisk};
+ghost use Rattle.ss_journal.specs.Calls.{BlamesDisk};
 ghost use Rattle.ss_journal.specs.Entries.{is_open, is_good, puts_of};
 ghost use Rattle.ss_journal.specs.Puts.{slots_fit, IsTxn};
-ghost use Rattle.ss_journal.specs.Opening.{NextAs, IfNext, InUseAs};
+ghost use Rattle.ss_journal.specs.Opening.{IsHead, NextAs, IfNext, InUseAs};
 
 use crate::JournalError;
 use crate::entry::{extent_after, is_good, puts_of};
@@ -47,9 +48,8 @@ impl Head {
 // Reads the length and the first bytes.
 pub fn read_head<D: Disk>(disk: &mut D) -> Result<Head, Failed>
     ensures head { IsTrue (D.tells disk.old)
-        → IfOk result (λ head. IsHead head.length head.bytes (D.content disk.old)) }
-    ensures reads { IsTrue (D.tells disk.old)
-        → OnlyReads D.content D.may_leave D.moment D.left_since disk.old disk.new }
+        → IfOk result (λ head. IsHead head.length head.bytes (D.told disk.old).content) }
+    ensures reads { IsTrue (D.tells disk.old) → OnlyReads (D.told disk.old) (D.told disk.new) }
     ensures tells { D.tells disk.new ≡ D.tells disk.old }
     ensures cause { HasCause (D.faults disk.old) (D.faults disk.new) result }
 {
@@ -62,10 +62,9 @@ pub fn read_head<D: Disk>(disk: &mut D) -> Result<Head, Failed>
 // Reads an entry of a formed file.
 pub fn read_entry<D: Disk>(disk: &mut D, n: u32) -> Result<[u8; ENTRY_SIZE], Failed>
     requires { n < 64 }
-    ensures entry { IsTrue (D.tells disk.old) → 36864 ≤ length (D.content disk.old)
-        → IfOk result (λ entry. entry ≡ entry_at (D.content disk.old) n) }
-    ensures reads { IsTrue (D.tells disk.old)
-        → OnlyReads D.content D.may_leave D.moment D.left_since disk.old disk.new }
+    ensures entry { IsTrue (D.tells disk.old) → 36864 ≤ length (D.told disk.old).content
+        → IfOk result (λ entry. entry ≡ entry_at (D.told disk.old).content n) }
+    ensures reads { IsTrue (D.tells disk.old) → OnlyReads (D.told disk.old) (D.told disk.new) }
     ensures tells { D.tells disk.new ≡ D.tells disk.old }
     ensures cause { HasCause (D.faults disk.old) (D.faults disk.new) result }
 {
@@ -78,11 +77,10 @@ pub fn read_entry<D: Disk>(disk: &mut D, n: u32) -> Result<[u8; ENTRY_SIZE], Fai
 fn next_entry<D: Disk>(disk: &mut D, n: u32, extent: u32) -> Result<Option<Txn>, JournalError>
     requires number { n < 64 }
     requires extent { extent ≤ 2 ^ 20 }
-    requires born { IsTrue (D.tells disk.old) → IsTrue (is_born (D.content disk.old)) }
-    ensures entry { IsTrue (D.tells disk.old) → NextAs (entry_at (D.content disk.old) n) n extent result }
+    requires born { IsTrue (D.tells disk.old) → IsTrue (is_born (D.told disk.old).content) }
+    ensures entry { IsTrue (D.tells disk.old) → NextAs (entry_at (D.told disk.old).content n) n extent result }
     ensures sound { IfNext result (λ puts. IsTxn puts × IsTrue (slots_fit puts extent)) }
-    ensures reads { IsTrue (D.tells disk.old)
-        → OnlyReads D.content D.may_leave D.moment D.left_since disk.old disk.new }
+    ensures reads { IsTrue (D.tells disk.old) → OnlyReads (D.told disk.old) (D.told disk.new) }
     ensures tells { D.tells disk.new ≡ D.tells disk.old }
     ensures cause { BlamesDisk (D.faults disk.old) (D.faults disk.new) result }
 {
@@ -103,13 +101,12 @@ pub fn read_entries<D: Disk>(
     slots: u32,
 ) -> Result<(u32, Vec<Put>), JournalError>
     requires slots { slots ≤ 2 ^ 20 }
-    requires born { IsTrue (D.tells disk.old) → IsTrue (is_born (D.content disk.old)) }
-    requires counted { IsTrue (D.tells disk.old) → slots ≡ slots_in (length (D.content disk.old)) }
-    ensures entries { IsTrue (D.tells disk.old) → InUseAs (D.content disk.old) result }
+    requires born { IsTrue (D.tells disk.old) → IsTrue (is_born (D.told disk.old).content) }
+    requires counted { IsTrue (D.tells disk.old) → slots ≡ slots_in (length (D.told disk.old).content) }
+    ensures entries { IsTrue (D.tells disk.old) → InUseAs (D.told disk.old).content result }
     ensures extent { IfOk result (λ read. read.0 ≤ 2 ^ 20) }
     ensures waiting { IfOk result (λ read. All (λ put. put.slot < read.0) read.1.items) }
-    ensures reads { IsTrue (D.tells disk.old)
-        → OnlyReads D.content D.may_leave D.moment D.left_since disk.old disk.new }
+    ensures reads { IsTrue (D.tells disk.old) → OnlyReads (D.told disk.old) (D.told disk.new) }
     ensures tells { D.tells disk.new ≡ D.tells disk.old }
     ensures cause { BlamesDisk (D.faults disk.old) (D.faults disk.new) result }
 {

@@ -1,9 +1,9 @@
 // How a slot is read.
 ghost use Rattle.std.specs.Prelude.{◌≡◌, ◌≤◌, ◌<◌, ◌^◌, ℕ, List, length, unwrap_or, IsTrue, IfOk};
 ghost use Rattle.ss_outside.specs.Causes.{HasCause};
+ghost use Rattle.ss_outside.specs.Crash.{OnlyReads};
 ghost use Rattle.ss_journal.specs.Format.{slots_in, slot_at};
 ghost use Rattle.ss_journal.specs.Puts.{with_puts};
-ghost use Rattle.ss_journal.specs.Calls.{OnlyReads};
 
 use crate::format::{SLOT_SIZE, slot_place};
 use crate::put::Put;
@@ -25,10 +25,9 @@ pub fn last_put(puts: &[Put], slot: u32) -> Option<[u8; SLOT_SIZE]>
 // The bytes of a slot that lies in the file.
 pub fn read_slot<D: Disk>(disk: &mut D, slot: u32) -> Result<[u8; SLOT_SIZE], Failed>
     requires { slot < 2 ^ 20 }
-    ensures bytes { IsTrue (D.tells disk.old) → slot < slots_in (length (D.content disk.old))
-        → IfOk result (λ bytes. bytes ≡ slot_at (D.content disk.old) slot) }
-    ensures reads { IsTrue (D.tells disk.old)
-        → OnlyReads D.content D.may_leave D.moment D.left_since disk.old disk.new }
+    ensures bytes { IsTrue (D.tells disk.old) → slot < slots_in (length (D.told disk.old).content)
+        → IfOk result (λ bytes. bytes ≡ slot_at (D.told disk.old).content slot) }
+    ensures reads { IsTrue (D.tells disk.old) → OnlyReads (D.told disk.old) (D.told disk.new) }
     ensures tells { D.tells disk.new ≡ D.tells disk.old }
     ensures cause { HasCause (D.faults disk.old) (D.faults disk.new) result }
 {

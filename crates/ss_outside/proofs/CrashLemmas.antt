@@ -9,6 +9,10 @@ pub after_write : {A : Type 0} (at count : ℕ) (old new : Told) (P : List ℕ �
 after_write at count old new P (inl pending) stays torn image is = let from = pending.nothing_else image is in torn from.0 image from.1 from.2
 after_write at count old new P (inr none) stays torn image is = stays image ((none.1.images image).1 is)
 
+-- with nothing pending, a property of the content is one of each image
+pub of_content : (disk : Told) (P : List ℕ → Type 0) → NothingPending disk → P disk.content → (image : List ℕ) → disk.may_leave image → P image
+of_content disk P only has image is = subst P (sym (only image is)) has
+
 -- before the first call
 pub at_start : (disk : Told) (P : List ℕ → Type 0) → KnowsNow disk → ((image : List ℕ) → disk.may_leave image → P image) → LeavesOnly disk disk P
 at_start disk P knows here = record { later = omega arith; each = λ image left. here image (knows.only_now image left); earlier = λ t image le left. inl left }
@@ -25,10 +29,6 @@ module _ (old new : Told) where
   -- what holds at any moment holds now
   pub now : (P : List ℕ → Type 0) → KnowsNow new → LeavesOnly old new P → (image : List ℕ) → new.may_leave image → P image
   now P knows run image is = run.each image (knows.counts_now old.moment image run.later is)
-
-  -- with nothing pending, a property of the images is one of the content
-  pub of_content : (P : List ℕ → Type 0) → NothingPending old → P old.content → (image : List ℕ) → old.may_leave image → P image
-  of_content P only has image is = subst P (sym (only image is)) has
 
   -- a call that only reads leaves one of the images from before
   pub read_leaves : KnowsNow old → OnlyReads old new → LeavesOnly old new old.may_leave
@@ -55,6 +55,16 @@ module _ (old mid new : Told) (P : List ℕ → Type 0) where
     earlier = λ t image le left. ⊎_elim (so_far.earlier t image le) (λ now. inr (here image now)) (time.nothing_else t image (omega (arith, le, so_far.later)) left);
   }
 
+-- calls that change nothing
+pub same-joined : (old mid new : Told) → StaysSame old mid → StaysSame mid new → StaysSame old new
+same-joined old mid new first second = record {
+  content = second.content ∙ first.content;
+  images = λ image. (λ is. (second.images image).0 ((first.images image).0 is), λ is. (first.images image).1 ((second.images image).1 is));
+}
+
+pub nothing_pending-same : (old new : Told) → StaysSame old new → NothingPending old → NothingPending new
+nothing_pending-same old new same only image left = only image ((same.images image).1 left) ∙ sym same.content
+
 -- no call
 pub reads-none : (disk : Told) → OnlyReads disk disk
 reads-none disk = record {
@@ -65,10 +75,7 @@ reads-none disk = record {
 -- calls that only read, one after another
 pub reads-joined : (old mid new : Told) → OnlyReads old mid → OnlyReads mid new → OnlyReads old new
 reads-joined old mid new first second = record {
-  same = record {
-    content = second.same.content ∙ first.same.content;
-    images = λ image. (λ is. (second.same.images image).0 ((first.same.images image).0 is), λ is. (first.same.images image).1 ((second.same.images image).1 is));
-  };
+  same = same-joined old mid new first.same second.same;
   time = record {
     later = omega (arith, first.time.later, second.time.later);
     nothing_else = λ t image le left. ⊎_elim (λ was. ⊎_elim (λ left. inl left) (λ is. inr ((second.same.images image).0 is)) (first.time.nothing_else t image le was)) (λ is. inr is)

@@ -2,11 +2,12 @@ use Rattle.std.proofs.Common.{◌≡◌, ◌<◌, ◌≤◌, ◌^◌, ◌++◌, 
 use Rattle.std.proofs.lemmas.List.Elements.{All-same, All-nil}
 use Rattle.std.proofs.lemmas.Result.{err_from_is_err_and}
 use Rattle.arrayvec.specs.ArrayVec.{ArrayVec}
+use Rattle.ss_outside.proofs.CrashLemmas.{reads-none, reads-joined}
 use Rattle.ss_journal.specs.declared.put.Put.{Put}
 use Rattle.ss_journal.specs.Format.{entry_at}
 use Rattle.ss_journal.specs.Puts.{IsTxn, slots_fit, extent_after}
 use Rattle.ss_journal.specs.Opening.{NextAs, IfNext}
-use Rattle.ss_journal.proofs.OpenLemmas.{IsReadTo, IsReadTo-none, IsReadTo-next, IsReadTo-all, InUse-next, InUseAs-next, OnlyReads-start, OnlyReads-joined, extent_after-most, waiting-below}
+use Rattle.ss_journal.proofs.OpenLemmas.{IsReadTo, IsReadTo-none, IsReadTo-next, IsReadTo-all, InUse-next, InUseAs-next, extent_after-most, waiting-below}
 use Rattle.ss_journal.proofs.opening.read_entries.Goals as goal
 
 pub loop-n-init : goal.loop-n-init
@@ -18,8 +19,8 @@ loop-n-init g c =
       waiting = All-same (λ (put : Put). put.slot < c.args.slots) _ [] none (All-nil (λ (put : Put). put.slot < c.args.slots));
       tells = refl;
       later = omega arith;
-      reads = λ told. OnlyReads-start g.D.Disk.content g.D.Disk.may_leave g.D.Disk.moment g.D.Disk.left_since disk (λ image left. g.met.D.Disk.only_now disk image told left);
-      read = λ told. subst (λ (puts : List Put). IsReadTo (g.D.Disk.content disk) 0 c.args.slots puts) (sym none) (IsReadTo-none (g.D.Disk.content disk) c.args.slots (c.requires.born told) (c.requires.counted told));
+      reads = λ told. reads-none (g.D.Disk.told disk);
+      read = λ told. subst (λ (puts : List Put). IsReadTo (g.D.Disk.told disk).content 0 c.args.slots puts) (sym none) (IsReadTo-none (g.D.Disk.told disk).content c.args.slots (c.requires.born told) (c.requires.counted told));
     }
 
 pub returns-in_err-puts-clause-entries : goal.returns-in_err-puts-clause-entries
@@ -27,14 +28,14 @@ returns-in_err-puts-clause-entries g c told =
     let before = c.loop-n.invariant in
     let next = c.in_err-puts.ensures.entry (before.tells ∙ told) in
     let error = err_from_is_err_and c.from_residual.result c.from_residual.ensures.1 in
-    rw (error.1, error.2) (InUseAs-next _ _ c.loop-n.n c.loop-n.extent c.loop-n.waiting.items (before.reads told).same_content c.loop-n-test.true (before.read told) c.in_err-puts.field-0.0 next)
+    rw (error.1, error.2) (InUseAs-next _ _ c.loop-n.n c.loop-n.extent c.loop-n.waiting.items (before.reads told).same.content c.loop-n-test.true (before.read told) c.in_err-puts.field-0.0 next)
 
 pub returns-in-None-clause-entries : goal.returns-in-None-clause-entries
 returns-in-None-clause-entries g c told =
     let before = c.loop-n.invariant in
-    let entry = entry_at (g.D.Disk.content c.loop-n.disk) c.loop-n.n in
+    let entry = entry_at (g.D.Disk.told c.loop-n.disk).content c.loop-n.n in
     let next = subst (λ (o : Option (ArrayVec Put)). NextAs entry c.loop-n.n c.loop-n.extent (Ok o)) c.in-None.is (c.in_ok-puts.ensures.entry (before.tells ∙ told)) in
-    InUse-next _ _ c.loop-n.n c.loop-n.extent c.loop-n.waiting.items (before.reads told).same_content c.loop-n-test.true (before.read told) next
+    InUse-next _ _ c.loop-n.n c.loop-n.extent c.loop-n.waiting.items (before.reads told).same.content c.loop-n-test.true (before.read told) next
 
 pub loop-n-preserved : goal.loop-n-preserved
 loop-n-preserved g c =
@@ -49,11 +50,11 @@ loop-n-preserved g c =
       waiting = rw (more, last) (waiting-below c.loop-n.waiting.items puts extent sound.1 before.waiting);
       tells = c.next_entry.ensures.tells ∙ before.tells;
       later = omega (arith, before.later, c.next_entry.ensures.cause.later);
-      reads = λ told. OnlyReads-joined g.D.Disk.content g.D.Disk.may_leave g.D.Disk.moment g.D.Disk.left_since c.args.disk.now c.loop-n.disk c.next_entry.new.disk (before.reads told) (c.next_entry.ensures.reads (before.tells ∙ told));
+      reads = λ told. reads-joined (g.D.Disk.told c.args.disk.now) (g.D.Disk.told c.loop-n.disk) (g.D.Disk.told c.next_entry.new.disk) (before.reads told) (c.next_entry.ensures.reads (before.tells ∙ told));
       read = λ told.
-          let entry = entry_at (g.D.Disk.content c.loop-n.disk) c.loop-n.n in
+          let entry = entry_at (g.D.Disk.told c.loop-n.disk).content c.loop-n.n in
           let next = subst (λ (o : Option (ArrayVec Put)). NextAs entry c.loop-n.n extent (Ok o)) c.in-Some.is (c.in_ok-puts.ensures.entry (before.tells ∙ told)) in
-          IsReadTo-next _ _ c.loop-n.n extent c.loop-n.waiting.items (before.reads told).same_content c.loop-n-test.true (before.read told) c.in-Some.puts _ _ next last more;
+          IsReadTo-next _ _ c.loop-n.n extent c.loop-n.waiting.items (before.reads told).same.content c.loop-n-test.true (before.read told) c.in-Some.puts _ _ next last more;
     }
 
 pub returns-clause-entries : goal.returns-clause-entries

@@ -1,5 +1,5 @@
 use Rattle.std.proofs.Common.{◌≡◌, ◌≤◌, ◌<◌, ◌^◌, IsTrue, All}
-use Rattle.ss_journal.specs.Calls.{OnlyReads}
+use Rattle.ss_outside.specs.Crash.{OnlyReads}
 use Rattle.ss_journal.proofs.OpenLemmas.{IsReadTo}
 use Rattle.ss_journal.proofs.opening.read_entries.Given as goal
 
@@ -10,6 +10,6 @@ invariant-loop-n g l =
       waiting : All (λ put. put.slot < l.extent) l.waiting.items;
       tells : g.D.Disk.tells l.disk ≡ g.D.Disk.tells l.fn.disk;
       later : g.D.Disk.faults l.fn.disk ≤ g.D.Disk.faults l.disk;
-      reads : IsTrue (g.D.Disk.tells l.fn.disk) → OnlyReads g.D.Disk.content g.D.Disk.may_leave g.D.Disk.moment g.D.Disk.left_since l.fn.disk l.disk;
-      read : IsTrue (g.D.Disk.tells l.fn.disk) → IsReadTo (g.D.Disk.content l.fn.disk) l.n l.extent l.waiting.items;
+      reads : IsTrue (g.D.Disk.tells l.fn.disk) → OnlyReads (g.D.Disk.told l.fn.disk) (g.D.Disk.told l.disk);
+      read : IsTrue (g.D.Disk.tells l.fn.disk) → IsReadTo (g.D.Disk.told l.fn.disk).content l.n l.extent l.waiting.items;
     }

@@ -1,110 +1,54 @@
-use Rattle.std.proofs.Common.{◌≡◌, ◌⊎◌, inl, inr, ⊎_elim, ℕ, List, [], ◌∷◌, length, take, drop, IsTrue, sym, ◌∙◌, ap, subst, arith}
+use Rattle.std.proofs.Common.{◌⊎◌, inl, inr, ⊎_elim, ℕ, List, [], ◌∷◌, length, sym, ◌∙◌, ap, subst, arith}
+use Rattle.std.proofs.lemmas.Result.{on_ok_weaker}
 use Rattle.ss_outside.specs.Disk.{overwrite}
 use Rattle.ss_outside.proofs.CrashLemmas.{joined, weaker}
-use Rattle.ss_journal.specs.Entries.{entry_body}
 use Rattle.ss_journal.specs.Redo.{StandsFor, changed}
 use Rattle.ss_journal.specs.Settling.{AreInUse}
 use Rattle.ss_journal.specs.Writes.{DiffersAt, SameOthers}
-use Rattle.ss_journal.proofs.CallLemmas.{OnOk-weaker}
-use Rattle.ss_journal.proofs.EntryLemmas.{body-entry, long-ready, long-spelled, StandsFor-spelled, StandsFor-gate, StandsFor-gated, AreInUse-gated, SameOthers-gated}
+use Rattle.ss_journal.proofs.EntryLemmas.{long-spelled, StandsFor-gate, StandsFor-gated, AreInUse-gated, SameOthers-gated}
+use Rattle.ss_journal.proofs.TearLemmas.{tears-content, changes-failed}
 use Rattle.ss_journal.proofs.txn.open_entry.Goals as goal
 
-pub returns-in_err-write_through-clause-any_moment : goal.returns-in_err-write_through-clause-any_moment
-returns-in_err-write_through-clause-any_moment g c told only found is =
-    let disk = c.args.disk.now in
-    let content = g.D.Disk.content disk in
-    let puts = c.args.txn.now.items in
-    let whole = c.entry_of-entry.ensures.whole in
-    let txn = c.requires.txn in
-    let body : take 543 (drop 1 c.entry_of-entry.result) ≡ entry_body puts = body-entry puts c.entry_of-entry.result whole txn.few c.entry_of-entry.ensures.value in
-    let ready = c.requires.ready told in
-    let mid = c.write_through.new.disk in
-    let P : List ℕ → Type 0 = λ image. StandsFor image found ⊎ StandsFor image (changed found puts) in
-    let first = weaker g.D.Disk.moment g.D.Disk.left_since disk mid (DiffersAt 513 (length (take 543 (drop 1 c.entry_of-entry.result))) content) P
-    (λ image differs. inl (StandsFor-spelled puts content whole txn ready image found is (subst (λ (list : List ℕ). DiffersAt 513 (length list) content image) body differs))) (c.write_through.ensures.any_moment told only) in
-    first
+pub returns-in_err-write_entry-clause-changes : goal.returns-in_err-write_entry-clause-changes
+returns-in_err-write_entry-clause-changes g c told =
+    changes-failed (g.D.Disk.told c.args.disk.now) (g.D.Disk.told c.write_entry.new.disk) c.args.txn.now.items _ c.write_entry.result c.from_residual.ensures.0 (c.write_entry.ensures.keeps told)
 
-pub returns-clause-any_moment : goal.returns-clause-any_moment
-returns-clause-any_moment g c told only found is =
-    let disk = c.args.disk.now in
-    let content = g.D.Disk.content disk in
-    let puts = c.args.txn.now.items in
-    let whole = c.entry_of-entry.ensures.whole in
-    let txn = c.requires.txn in
-    let body : take 543 (drop 1 c.entry_of-entry.result) ≡ entry_body puts = body-entry puts c.entry_of-entry.result whole txn.few c.entry_of-entry.ensures.value in
-    let ready = c.requires.ready told in
-    let mid = c.write_through.new.disk in
-    let P : List ℕ → Type 0 = λ image. StandsFor image found ⊎ StandsFor image (changed found puts) in
-    let first = weaker g.D.Disk.moment g.D.Disk.left_since disk mid (DiffersAt 513 (length (take 543 (drop 1 c.entry_of-entry.result))) content) P
-    (λ image differs. inl (StandsFor-spelled puts content whole txn ready image found is (subst (λ (list : List ℕ). DiffersAt 513 (length list) content image) body differs))) (c.write_through.ensures.any_moment told only) in
-    let told_then : IsTrue (g.D.Disk.tells mid) = c.write_through.ensures.tells ∙ told in
-    let spelled : g.D.Disk.content mid ≡ overwrite content 513 (entry_body puts) = c.in_ok-write_through.ensures.done told ∙ ap (overwrite content 513) body in
-    let second = weaker g.D.Disk.moment g.D.Disk.left_since mid c.write_through-2.new.disk (DiffersAt 512 1 (g.D.Disk.content mid)) P
-    (λ image differs. ⊎_elim (λ stands. inl stands) (λ stands. inr stands.0) (StandsFor-gate puts content image found whole txn ready is (subst (λ (list : List ℕ). DiffersAt 512 1 list image) spelled differs)))
-    (c.write_through-2.ensures.any_moment told_then (c.in_ok-write_through.ensures.settled told)) in
-    joined g.D.Disk.moment g.D.Disk.left_since disk mid c.write_through-2.new.disk P first second
+pub write_through-requires-clause-within : goal.write_through-requires-clause-within
+write_through-requires-clause-within g c told_then =
+    let told = sym c.write_entry.ensures.tells ∙ told_then in
+    let long = long-spelled c.args.txn.now.items (g.D.Disk.told c.args.disk.now).content c.write_entry.ensures.whole c.requires.txn (c.requires.ready told) in
+    omega (arith, long, ap length (c.in_ok-write_entry.ensures.written told))
 
-pub returns-clause-changed : goal.returns-clause-changed
-returns-clause-changed g c told found is =
-    let disk = c.args.disk.now in
-    let content = g.D.Disk.content disk in
+pub returns-clause-changes : goal.returns-clause-changes
+returns-clause-changes g c told =
+    let old = g.D.Disk.told c.args.disk.now in
+    let mid = g.D.Disk.told c.write_entry.new.disk in
+    let new = g.D.Disk.told c.write_through.new.disk in
     let puts = c.args.txn.now.items in
-    let whole = c.entry_of-entry.ensures.whole in
+    let whole = c.write_entry.ensures.whole in
     let txn = c.requires.txn in
-    let body : take 543 (drop 1 c.entry_of-entry.result) ≡ entry_body puts = body-entry puts c.entry_of-entry.result whole txn.few c.entry_of-entry.ensures.value in
     let ready = c.requires.ready told in
-    let mid = c.write_through.new.disk in
-    let told_then : IsTrue (g.D.Disk.tells mid) = c.write_through.ensures.tells ∙ told in
-    let spelled : g.D.Disk.content mid ≡ overwrite content 513 (entry_body puts) = c.in_ok-write_through.ensures.done told ∙ ap (overwrite content 513) body in
-    let new = c.write_through-2.new.disk in
-    let to_all : g.D.Disk.content new ≡ overwrite (g.D.Disk.content mid) 512 (165 ∷ []) → g.D.Disk.content new ≡ overwrite (overwrite content 513 (entry_body puts)) 512 (165 ∷ []) = λ same. same ∙ ap (λ (list : List ℕ). overwrite list 512 (165 ∷ [])) spelled in
-    OnOk-weaker c.write_through-2.result (λ (same : g.D.Disk.content new ≡ overwrite (g.D.Disk.content mid) 512 (165 ∷ [])). subst (λ (list : List ℕ). StandsFor list (changed found puts)) (sym (to_all same)) (StandsFor-gated puts content whole txn ready found is))
-    (c.write_through-2.ensures.done told_then)
+    let told_then = c.write_entry.ensures.tells ∙ told in
+    let spelled = c.in_ok-write_entry.ensures.written told in
+    record {
+      map = λ found is. on_ok_weaker c.write_through.result (λ written. subst (λ (list : List ℕ). StandsFor list (changed found puts)) (sym (written ∙ ap (λ (list : List ℕ). overwrite list 512 (165 ∷ [])) spelled)) (StandsFor-gated puts old.content whole txn ready found is))
+          (c.write_through.ensures.written told_then);
+      any_moment = λ only found is.
+          let P : List ℕ → Type 0 = λ image. StandsFor image found ⊎ StandsFor image (changed found puts) in
+          joined old mid new P (weaker old mid (λ image. StandsFor image found) P (λ image stands. inl stands) ((c.in_ok-write_entry.ensures.keeps told).any_moment only found is))
+          (weaker mid new (DiffersAt 512 1 mid.content) P (λ image differs. ⊎_elim (λ stands. inl stands) (λ stands. inr stands.0) (StandsFor-gate puts old.content image found whole txn ready is (subst (λ (list : List ℕ). DiffersAt 512 1 list image) spelled differs)))
+          (tears-content mid new ((512, 1) ∷ []) (c.in_ok-write_entry.ensures.durable told) (c.write_through.ensures.tears told_then)));
+      durable = c.write_through.ensures.durable told_then;
+    }
 
 pub returns-clause-in_use : goal.returns-clause-in_use
 returns-clause-in_use g c told =
-    let disk = c.args.disk.now in
-    let content = g.D.Disk.content disk in
-    let puts = c.args.txn.now.items in
-    let whole = c.entry_of-entry.ensures.whole in
-    let txn = c.requires.txn in
-    let body : take 543 (drop 1 c.entry_of-entry.result) ≡ entry_body puts = body-entry puts c.entry_of-entry.result whole txn.few c.entry_of-entry.ensures.value in
-    let ready = c.requires.ready told in
-    let mid = c.write_through.new.disk in
-    let told_then : IsTrue (g.D.Disk.tells mid) = c.write_through.ensures.tells ∙ told in
-    let spelled : g.D.Disk.content mid ≡ overwrite content 513 (entry_body puts) = c.in_ok-write_through.ensures.done told ∙ ap (overwrite content 513) body in
-    let new = c.write_through-2.new.disk in
-    let to_all : g.D.Disk.content new ≡ overwrite (g.D.Disk.content mid) 512 (165 ∷ []) → g.D.Disk.content new ≡ overwrite (overwrite content 513 (entry_body puts)) 512 (165 ∷ []) = λ same. same ∙ ap (λ (list : List ℕ). overwrite list 512 (165 ∷ [])) spelled in
-    OnOk-weaker c.write_through-2.result (λ (same : g.D.Disk.content new ≡ overwrite (g.D.Disk.content mid) 512 (165 ∷ [])). subst (AreInUse puts) (sym (to_all same)) (AreInUse-gated puts content whole txn ready))
-    (c.write_through-2.ensures.done told_then)
+    let content = (g.D.Disk.told c.args.disk.now).content in
+    on_ok_weaker c.write_through.result (λ written. subst (AreInUse c.args.txn.now.items) (sym (written ∙ ap (λ (list : List ℕ). overwrite list 512 (165 ∷ [])) (c.in_ok-write_entry.ensures.written told)))
+    (AreInUse-gated c.args.txn.now.items content c.write_entry.ensures.whole c.requires.txn (c.requires.ready told))) (c.write_through.ensures.written (c.write_entry.ensures.tells ∙ told))
 
 pub returns-clause-others : goal.returns-clause-others
 returns-clause-others g c told =
-    let disk = c.args.disk.now in
-    let content = g.D.Disk.content disk in
-    let puts = c.args.txn.now.items in
-    let whole = c.entry_of-entry.ensures.whole in
-    let txn = c.requires.txn in
-    let body : take 543 (drop 1 c.entry_of-entry.result) ≡ entry_body puts = body-entry puts c.entry_of-entry.result whole txn.few c.entry_of-entry.ensures.value in
-    let ready = c.requires.ready told in
-    let mid = c.write_through.new.disk in
-    let told_then : IsTrue (g.D.Disk.tells mid) = c.write_through.ensures.tells ∙ told in
-    let spelled : g.D.Disk.content mid ≡ overwrite content 513 (entry_body puts) = c.in_ok-write_through.ensures.done told ∙ ap (overwrite content 513) body in
-    let new = c.write_through-2.new.disk in
-    let to_all : g.D.Disk.content new ≡ overwrite (g.D.Disk.content mid) 512 (165 ∷ []) → g.D.Disk.content new ≡ overwrite (overwrite content 513 (entry_body puts)) 512 (165 ∷ []) = λ same. same ∙ ap (λ (list : List ℕ). overwrite list 512 (165 ∷ [])) spelled in
-    OnOk-weaker c.write_through-2.result (λ (same : g.D.Disk.content new ≡ overwrite (g.D.Disk.content mid) 512 (165 ∷ [])). subst (SameOthers content) (sym (to_all same)) (SameOthers-gated puts content whole txn ready))
-    (c.write_through-2.ensures.done told_then)
-
-pub write_through-requires-clause-within : goal.write_through-requires-clause-within
-write_through-requires-clause-within g c told = long-ready c.args.txn.now.items (g.D.Disk.content c.args.disk.now) c.entry_of-entry.ensures.whole c.requires.txn (c.requires.ready told)
-
-pub write_through-requires-2-clause-within : goal.write_through-requires-2-clause-within
-write_through-requires-2-clause-within g c told_then =
-    let told : IsTrue (g.D.Disk.tells c.args.disk.now) = sym c.write_through.ensures.tells ∙ told_then in
-    let content = g.D.Disk.content c.args.disk.now in
-    let puts = c.args.txn.now.items in
-    let whole = c.entry_of-entry.ensures.whole in
-    let body : take 543 (drop 1 c.entry_of-entry.result) ≡ entry_body puts = body-entry puts c.entry_of-entry.result whole c.requires.txn.few c.entry_of-entry.ensures.value in
-    let spelled : g.D.Disk.content c.write_through.new.disk ≡ overwrite content 513 (entry_body puts) = c.in_ok-write_through.ensures.done told ∙ ap (overwrite content 513) body in
-    let long = long-spelled puts content whole c.requires.txn (c.requires.ready told) in
-    omega (arith, long, ap length spelled)
+    let content = (g.D.Disk.told c.args.disk.now).content in
+    on_ok_weaker c.write_through.result (λ written. subst (SameOthers content) (sym (written ∙ ap (λ (list : List ℕ). overwrite list 512 (165 ∷ [])) (c.in_ok-write_entry.ensures.written told)))
+    (SameOthers-gated c.args.txn.now.items content c.write_entry.ensures.whole c.requires.txn (c.requires.ready told))) (c.write_through.ensures.written (c.write_entry.ensures.tells ∙ told))

@@ -6,5 +6,5 @@ use Rattle.ss_journal.proofs.writing.write_piece.Goals as goal
 
 pub returns-clause-written : goal.returns-clause-written
 returns-clause-written g c told =
-    subst (λ (bytes : List ℕ). OnOk c.write_at.result (g.D.Disk.content c.write_at.new.self ≡ overwrite (g.D.Disk.content c.args.disk.now) c.args.at bytes))
-    (take-replicate c.args.count 4096 0 c.requires.few) (c.write_at.ensures.written told)
+    subst (λ (bytes : List ℕ). OnOk c.write.result ((g.D.Disk.told c.write.new.disk).content ≡ overwrite (g.D.Disk.told c.args.disk.now).content c.args.at bytes))
+    (take-replicate c.args.count 4096 0 c.requires.few) (c.write.ensures.written told)

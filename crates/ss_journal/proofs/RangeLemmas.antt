@@ -1,0 +1,109 @@
+-- Contents that differ in some ranges: what writes there make of them, lost, torn or whole.
+use Rattle.std.proofs.Common.{◌≡◌, ◌⊎◌, inl, inr, ⊎_elim, ℕ, ◌+◌, ◌-◌, ◌≤◌, max, List, [], ◌∷◌, ◌++◌, length, take, drop, replicate, refl, sym, ◌∙◌, ap, arith}
+use Rattle.std.proofs.lemmas.Bool.{cases_lt}
+use Rattle.std.proofs.lemmas.List.{get_or_past, append_assoc, take_at, drop_at, drop-drop, length-append, length-take-le, length-replicate, replicate-append-replicate}
+use Rattle.std.specs.Prelude.{slice_index}
+use Rattle.ss_outside.specs.Disk.{Torn, overwrite, IsOutside, IsOutsideAll}
+use Rattle.ss_outside.proofs.DiskLemmas.{length-overwrite, get_or-overwrite_outside}
+use Rattle.ss_journal.specs.Writes.{end_of, DiffersIn, DiffersAt}
+
+-- ranges make no file shorter
+pub end_of-le : (ranges : List (ℕ × ℕ)) (size : ℕ) → size ≤ end_of ranges size
+end_of-le [] size = omega arith
+end_of-le (range ∷ ranges) size = omega (arith, end_of-le ranges size)
+
+pub DiffersIn-refl : (ranges : List (ℕ × ℕ)) (content : List ℕ) → DiffersIn ranges content content
+DiffersIn-refl ranges content = record { no_shorter = omega arith; no_longer = end_of-le ranges (length content); kept = λ place lt out. refl }
+
+-- a torn write on top is one range more
+pub DiffersIn-torn : (ranges : List (ℕ × ℕ)) (at count : ℕ) (content old new : List ℕ) → DiffersIn ranges content old → Torn at count old new → DiffersIn ((at, count) ∷ ranges) content new
+DiffersIn-torn ranges at count content old new differs torn = record {
+  no_shorter = omega (arith, differs.no_shorter, torn.no_shorter);
+  no_longer = omega (arith, differs.no_longer, torn.no_longer);
+  kept = λ place lt out. torn.kept place (omega (arith, lt, differs.no_shorter)) out.0 ∙ differs.kept place lt out.1;
+}
+
+-- where several ranges end
+end_of-from : (ranges : List (ℕ × ℕ)) (size : ℕ) → end_of ranges size ≡ max (end_of ranges 0) size
+end_of-from [] size = omega arith
+end_of-from (range ∷ ranges) size = omega (arith, end_of-from ranges size)
+
+end_of-append : (first second : List (ℕ × ℕ)) (size : ℕ) → end_of (first ++ second) size ≡ max (end_of first size) (end_of second 0)
+end_of-append [] second size = omega (arith, end_of-from second size)
+end_of-append (range ∷ first) second size = omega (arith, end_of-append first second size)
+
+outside_both : (first second : List (ℕ × ℕ)) (place : ℕ) → IsOutsideAll (first ++ second) place → IsOutsideAll first place × IsOutsideAll second place
+outside_both [] second place out = (tt, out)
+outside_both (range ∷ first) second place out =
+    let rest = outside_both first second place out.1 in
+    ((out.0, rest.0), rest.1)
+
+-- the ranges in the order in which they were written
+pub DiffersIn-append : (first second : List (ℕ × ℕ)) (content old new : List ℕ) → DiffersIn first content old → DiffersIn second old new → DiffersIn (first ++ second) content new
+DiffersIn-append first second content old new before after = record {
+  no_shorter = omega (arith, before.no_shorter, after.no_shorter);
+  no_longer = omega (arith, before.no_longer, after.no_longer, end_of-append first second (length content), end_of-from second (length old));
+  kept = λ place lt out.
+      let both = outside_both first second place out in
+      after.kept place (omega (arith, lt, before.no_shorter)) both.1 ∙ before.kept place lt both.0;
+}
+
+pub DiffersIn-overwrite : (at : ℕ) (content bytes : List ℕ) → at ≤ length content → DiffersAt at (length bytes) content (overwrite content at bytes)
+DiffersIn-overwrite at content bytes within = record {
+  no_shorter = omega (arith, length-overwrite content bytes at within);
+  no_longer = omega (arith, length-overwrite content bytes at within);
+  kept = λ place lt out. get_or-overwrite_outside content bytes at within place out.0;
+}
+
+-- ranges within a file leave its length and all other places, also past the end
+pub length-differs : (ranges : List (ℕ × ℕ)) (old new : List ℕ) → end_of ranges (length old) ≤ length old → DiffersIn ranges old new → length new ≡ length old
+length-differs ranges old new inside differs = omega (arith, differs.no_shorter, differs.no_longer, inside)
+
+pub get_or-differs : (ranges : List (ℕ × ℕ)) (old new : List ℕ) → end_of ranges (length old) ≤ length old → DiffersIn ranges old new → (place : ℕ) → IsOutsideAll ranges place → slice_index new place ≡ slice_index old place
+get_or-differs ranges old new inside differs place out = elim (cases_lt place (length old)) [
+  | inl lt ↦ differs.kept place lt out
+  | inr past ↦ get_or_past new place 0 (omega (arith, past, length-differs ranges old new inside differs)) ∙ sym (get_or_past old place 0 past)
+]
+
+-- one torn write
+pub DiffersAt-torn : (at count : ℕ) (was image : List ℕ) → Torn at count was image → DiffersAt at count was image
+DiffersAt-torn at count was image torn = DiffersIn-torn [] at count was was image (DiffersIn-refl [] was) torn
+
+-- each place outside the ranges lies outside this one, which ends where they end at the latest
+pub record Covers (ranges : List (ℕ × ℕ)) (at count : ℕ) : Type 0 where
+  pub outside : (place : ℕ) → IsOutsideAll ranges place → IsOutside at count place
+  pub end : (size : ℕ) → at + count ≤ end_of ranges size
+
+pub DiffersIn-covered : (ranges : List (ℕ × ℕ)) (at count : ℕ) (content old new : List ℕ) → Covers ranges at count → DiffersIn ranges content old → DiffersAt at count old new → DiffersIn ranges content new
+DiffersIn-covered ranges at count content old new covers before after = record {
+  no_shorter = omega (arith, before.no_shorter, after.no_shorter);
+  no_longer = omega (arith, before.no_longer, after.no_longer, covers.end (length content));
+  kept = λ place lt out. after.kept place (omega (arith, lt, before.no_shorter)) (covers.outside place out, tt) ∙ before.kept place lt out;
+}
+
+pub Covers-part : (at count from part : ℕ) → at ≤ from → from + part ≤ at + count → Covers ((at, count) ∷ []) from part
+Covers-part at count from part low high = record {
+  outside = λ place out. ⊎_elim (λ below. inl (omega (arith, below, low))) (λ above. inr (omega (arith, above, high))) out.0;
+  end = λ size. omega (arith, high);
+}
+
+-- two writes, one behind the other, are one
+overwrite-overwrite : (content first second : List ℕ) (at mid : ℕ) → at ≤ length content → at + length first ≡ mid → overwrite (overwrite content at first) mid second ≡ overwrite content at (first ++ second)
+overwrite-overwrite content first second at mid within there =
+    let front : length (take at content ++ first) ≡ mid = omega (arith, there, length-append (take at content) first, length-take-le at content within) in
+    let kept = drop (at + length first) content in
+    let start : take mid (take at content ++ first ++ kept) ≡ take at content ++ first = take_at (take at content ++ first) kept mid front in
+    let rest : drop (mid + length second) (take at content ++ first ++ kept) ≡ drop (at + length (first ++ second)) content =
+    sym (drop-drop (length second) mid (take at content ++ first ++ kept)) ∙ ap (drop (length second)) (drop_at (take at content ++ first) kept mid front)
+    ∙ drop-drop (length second) (at + length first) content ∙ ap (λ (n : ℕ). drop n content) (let same : at + length first + length second ≡ at + length (first ++ second) = omega (arith, length-append first second) in same) in
+    ap (λ (list : List ℕ). list ++ second ++ drop (mid + length second) (take at content ++ first ++ kept)) start
+    ∙ ap (λ (list : List ℕ). take at content ++ first ++ second ++ list) rest
+    ∙ ap (λ (list : List ℕ). list ++ drop (at + length (first ++ second)) content) (append_assoc (take at content) first second)
+
+pub overwrite-zeros : (content now : List ℕ) (at from count : ℕ) → at ≤ length content → at ≤ from → now ≡ overwrite content at (replicate (from - at) 0) → overwrite now from (replicate count 0) ≡ overwrite content at (replicate (from + count - at) 0)
+overwrite-zeros content now at from count within low is =
+    let there : at + length (replicate {A = ℕ} (from - at) 0) ≡ from = omega (arith, low, length-replicate {A = ℕ} (from - at) 0) in
+    let more : from - at + count ≡ from + count - at = omega (arith, low) in
+    ap (λ (list : List ℕ). overwrite list from (replicate count 0)) is
+    ∙ overwrite-overwrite content (replicate (from - at) 0) (replicate count 0) at from within there
+    ∙ ap (overwrite content at) (replicate-append-replicate {A = ℕ} (from - at) count 0 ∙ ap (λ (n : ℕ). replicate n 0) more)
