@@ -1,44 +1,23 @@
--- What a crash may leave of the steps of the birth.
-use Rattle.std.proofs.Common.{◌≡◌, ◌⊎◌, inl, inr, ℕ, ◌+◌, ◌<◌, ◌≤◌, max, not, ◌&&◌, ◌||◌, ◌==◌, nat_eq, nat_le, IsTrue, IsFalse, List, [], ◌∷◌, length, take, drop, refl, sym, ◌∙◌, ap, subst, arith}
-use Rattle.std.proofs.lemmas.Bool.{cases_Bool, cases_lt, cond-true, cond-false, and_parts, and_from, or_cases, or_left, or_right, le-leb, leb-true, lt-ltb, le-ltb, eqb-true, eqb-false, eq-eqb, not-true, not_from_false}
-use Rattle.std.proofs.lemmas.List.{ext_get_or, get_or-take, get_or-drop, get_or-replicate, length-take, length-drop, length-replicate}
-use lib.Pointwise.{pointwise_long}
-use Rattle.std.specs.Prelude.{slice_index}
-use Rattle.ss_outside.specs.Disk.{overwrite}
-use Rattle.ss_outside.proofs.DiskLemmas.{length-overwrite, get_or-overwrite_inside}
+-- The steps of the birth, and what a crash may leave of them.
+use Rattle.ss_journal.specs.Birth.{IsBegun, IsFormed, blank_end, form_ranges, magic_bytes}
+use Rattle.ss_journal.specs.Calls.{KeepsMap}
+use Rattle.ss_journal.specs.Format.{entry_place, has_magic, is_born, is_unborn, magic, opens, slots_in}
 use Rattle.ss_journal.specs.Kept.{AllClosed}
-use Rattle.ss_journal.specs.Format.{is_born, is_unborn, has_magic, magic, opens, slots_in, slot_at, slot_place, entry_place}
-use Rattle.ss_journal.specs.Redo.{SlotMap, SameMap, Redone, Gives, blank_map, file_map, StandsFor, zeros}
-use Rattle.ss_journal.specs.Writes.{end_of, DiffersIn, DiffersAt}
-use Rattle.ss_journal.specs.Birth.{IsBegun, IsFormed, magic_bytes, blank_end, form_ranges}
-use Rattle.ss_journal.proofs.HeaderLemmas.{has_magic-same, is_born-from}
-use Rattle.ss_journal.proofs.MapLemmas.{slot_within}
-use Rattle.ss_journal.proofs.RedoLemmas.{SameMap-trans, StandsFor-from, redo-unborn}
-use Rattle.ss_journal.proofs.RangeLemmas.{DiffersIn-overwrite, length-differs, get_or-differs}
-use Rattle.ss_journal.proofs.WriteLemmas.{StandsFor-first_closed}
-
--- the ways in which a file isn't formed
-is_unborn-short : (image : List ℕ) → length image ≤ 1 → IsTrue (is_unborn image)
-unfolding is_unborn
-is_unborn-short image short = or_left _ _ (or_left _ _ (le-leb (length image) 1 short))
-
-pub is_unborn-zero : (image : List ℕ) → slice_index image 0 ≡ 0 → IsTrue (is_unborn image)
-unfolding is_unborn
-is_unborn-zero image zero = or_left _ _ (or_right _ _ (eq-eqb (slice_index image 0) 0 zero))
-
-is_unborn-gate : (image : List ℕ) → IsTrue (has_magic image) → IsFalse (opens (slice_index image 0)) → IsTrue (is_unborn image)
-unfolding is_unborn
-is_unborn-gate image magic closed = or_right _ _ (and_from _ _ magic (not_from_false _ closed))
-
-pub is_unborn-cases : (image : List ℕ) → IsTrue (is_unborn image) → (length image ≤ 1) ⊎ ((slice_index image 0 ≡ 0) ⊎ (IsTrue (has_magic image) × IsFalse (opens (slice_index image 0))))
-unfolding is_unborn
-is_unborn-cases image unborn = elim (or_cases (nat_le (length image) 1 || slice_index image 0 == 0) (has_magic image && not (opens (slice_index image 0))) unborn) [
-  | inl early ↦ elim (or_cases (nat_le (length image) 1) (slice_index image 0 == 0) early) [
-    | inl short ↦ inl (leb-true (length image) 1 short)
-    | inr zero ↦ inr (inl (eqb-true (slice_index image 0) 0 zero))
-  ]
-  | inr late ↦ let parts = and_parts (has_magic image) (not (opens (slice_index image 0))) late in inr (inr (parts.0, not-true _ parts.1))
-]
+use Rattle.ss_journal.specs.Redo.{Gives, Redone, SameMap, SlotMap, StandsFor, blank_map}
+use Rattle.ss_journal.specs.Writes.{DiffersAt, DiffersIn, Tears, end_of}
+use Rattle.ss_outside.proofs.DiskLemmas.{get_or-overwrite_inside, get_or-overwrite_outside, length-overwrite}
+use Rattle.ss_outside.specs.Crash.{KnowsNow, OnlyReads}
+use Rattle.ss_outside.specs.Disk.{Told, overwrite}
+use Rattle.std.proofs.Common.{IsFalse, IsTrue, List, Result, [], ap, arith, drop, inl, inr, length, max, nat_eq, refl, replicate, subst, sym, take, ℕ, ◌++◌, ◌+◌, ◌-◌, ◌<◌, ◌∙◌, ◌∷◌, ◌≡◌, ◌≤◌}
+use Rattle.std.proofs.lemmas.Bool.{cases_Bool, cases_lt, cond-false, cond-true, eqb-false, eqb-true}
+use Rattle.std.proofs.lemmas.List.{append-nil, get_or-replicate, get_or_past, length-replicate, take-append-drop}
+use Rattle.std.specs.Prelude.{IsErr, slice_index}
+use Rattle.ss_journal.proofs.GateLemmas.{StandsFor-first_closed}
+use Rattle.ss_journal.proofs.HeaderLemmas.{has_magic-same, is_born-from, is_unborn-cases, is_unborn-gate, is_unborn-short, is_unborn-zero, long-has_magic}
+use Rattle.ss_journal.proofs.MapLemmas.{SameMap-trans, file_map-blank}
+use Rattle.ss_journal.proofs.RangeLemmas.{DiffersIn-append, DiffersIn-overwrite, DiffersIn-refl, get_or-differs, length-differs}
+use Rattle.ss_journal.proofs.RedoLemmas.{StandsFor-from, redo-unborn}
+use Rattle.ss_journal.proofs.TearLemmas.{keeps-failed, tears-after_read, tears-joined}
 
 -- unformed files with as many slots stand for one map
 StandsFor-unborn : (content image : List ℕ) (found : SlotMap) → IsTrue (is_unborn content) → StandsFor content found → IsTrue (is_unborn image) → slots_in (length image) ≡ slots_in (length content) → StandsFor image found
@@ -53,9 +32,23 @@ StandsFor-begin content image found short is differs =
     let still : length image ≤ 1 = omega (arith, differs.no_longer, short) in
     StandsFor-unborn content image found (is_unborn-short content short) is (is_unborn-short image still) (omega (arith, short, still))
 
--- the magic has eight places
-pub long-has_magic : (image : List ℕ) → IsTrue (has_magic image) → 9 ≤ length image
-long-has_magic image there = omega (arith, pointwise_long nat_eq magic (take 8 (drop 1 image)) there, length-take 8 (drop 1 image), length-drop 1 image)
+-- a file of at most one byte begins with one 0
+pub IsBegun-short : (content : List ℕ) → length content ≤ 1 → IsBegun (overwrite content 0 (0 ∷ []))
+IsBegun-short content short =
+    let within : 0 ≤ length content = omega arith in
+    let gate = get_or-overwrite_inside content (0 ∷ []) 0 within 0 (omega arith) in
+    record { unborn = is_unborn-zero (overwrite content 0 (0 ∷ [])) gate; gate = inl gate; some = omega (arith, length-overwrite content (0 ∷ []) 0 within) }
+
+-- and so does any longer one that isn't formed, unless the magic stands there
+pub IsBegun-long : (content : List ℕ) → IsTrue (is_unborn content) → 1 < length content → IsBegun content
+IsBegun-long content unborn long = record {
+  unborn = unborn;
+  gate = elim (is_unborn-cases content unborn) [
+    | inl short ↦ absurd (omega (arith, short, long))
+    | inr late ↦ elim late [ inl zero ↦ inl zero | inr there ↦ inr there.0 ]
+  ];
+  some = omega (arith, long);
+}
 
 -- as many slots, with what is written behind the magic
 slots_in-blank : (size longer : ℕ) → size ≤ longer → longer ≤ max (max size 9) (blank_end size) → slots_in longer ≡ slots_in size
@@ -101,22 +94,107 @@ StandsFor-form content image found begun is differs = StandsFor-unborn content i
       ]
     ]
 
--- a blank file has zeros in each slot
-file_map-blank : (image : List ℕ) → ((place : ℕ) → 9 ≤ place → place < 134254592 → slice_index image place ≡ 0) → SameMap (file_map image) (blank_map image)
-file_map-blank image blank = record {
-  bytes = λ slot lt. elim (cases_lt slot (slots_in (length image))) [
-    | inl within ↦
-        let inside = slot_within (length image) slot within in
-        let piece : length (slot_at image slot) ≡ 128 = omega (arith, inside, length-take 128 (drop (slot_place slot) image), length-drop (slot_place slot) image) in
-        cond-true _ _ _ (lt-ltb slot (slots_in (length image)) within)
-        ∙ ext_get_or 0 (slot_at image slot) zeros (omega (arith, piece, length-replicate {A = ℕ} 128 0)) (λ k low.
-        let few : k < 128 = omega (arith, low, piece) in
-        get_or-take 128 (drop (slot_place slot) image) k 0 few ∙ get_or-drop (slot_place slot) image k 0
-        ∙ blank (slot_place slot + k) (omega arith) (omega (arith, lt, few)) ∙ sym (get_or-replicate {A = ℕ} 128 k 0 0 few))
-    | inr past ↦ cond-false _ _ _ (le-ltb slot (slots_in (length image)) past)
-  ];
-  extent = refl;
-}
+overwrite-nothing : (content : List ℕ) → overwrite content 1 [] ≡ content
+overwrite-nothing content = ap (λ (front : List ℕ). front ++ drop 1 content) (append-nil (take 1 content)) ∙ take-append-drop 1 content
+
+has_magic-overwrite : (content : List ℕ) → 0 < length content → IsTrue (has_magic (overwrite content 1 magic))
+has_magic-overwrite [] some = absurd (omega (arith, some))
+has_magic-overwrite (byte ∷ content) some = refl
+
+module _ (content : List ℕ) (begun : IsBegun content) where
+  abbrev marked : List ℕ
+  marked = overwrite content 1 (magic_bytes content)
+
+  within : 1 ≤ length content
+  within = omega (arith, begun.some)
+
+  first-marked : slice_index marked 0 ≡ slice_index content 0
+  first-marked = get_or-overwrite_outside content (magic_bytes content) 1 within 0 (inl (omega arith))
+
+  closed-begun : IsFalse (opens (slice_index content 0))
+  closed-begun = elim (is_unborn-cases content begun.unborn) [
+    | inl short ↦ elim begun.gate [
+      | inl zero ↦ subst (λ (byte : ℕ). IsFalse (opens byte)) (sym zero) refl
+      | inr there ↦ absurd (omega (arith, short, long-has_magic content there))
+    ]
+    | inr late ↦ elim late [
+      | inl zero ↦ subst (λ (byte : ℕ). IsFalse (opens byte)) (sym zero) refl
+      | inr there ↦ there.1
+    ]
+  ]
+
+  has_magic-marked : IsTrue (has_magic marked)
+  has_magic-marked = elim (cases_Bool (nat_eq (slice_index content 0) 0)) [
+    | inl zero ↦
+        let all : magic_bytes content ≡ magic = cond-true (nat_eq (slice_index content 0) 0) magic [] zero in
+        subst (λ (bytes : List ℕ). IsTrue (has_magic (overwrite content 1 bytes))) (sym all) (has_magic-overwrite content begun.some)
+    | inr other ↦
+        let none : magic_bytes content ≡ [] = cond-false (nat_eq (slice_index content 0) 0) magic [] other in
+        let there : IsTrue (has_magic content) = elim begun.gate [ inl zero ↦ absurd (eqb-false (slice_index content 0) 0 other zero) | inr stands ↦ stands ] in
+        subst (λ (bytes : List ℕ). IsTrue (has_magic (overwrite content 1 bytes))) (sym none) (subst (λ (list : List ℕ). IsTrue (has_magic list)) (sym (overwrite-nothing content)) there)
+  ]
+
+  pub long-marked : 9 ≤ length marked
+  long-marked = long-has_magic marked has_magic-marked
+
+  length-marked : length marked ≤ max (length content) 9
+  length-marked = omega (arith, few-magic_bytes content, length-overwrite content (magic_bytes content) 1 within)
+
+  module _ (end : ℕ) (is_end : end ≡ blank_end (length content)) where
+    abbrev wiped : List ℕ
+    wiped = replicate (end - 9) 0
+
+    abbrev blank : List ℕ
+    blank = overwrite marked 9 wiped
+
+    length-wiped : length wiped ≡ end - 9
+    length-wiped = length-replicate {A = ℕ} (end - 9) 0
+
+    length-blank : length blank ≡ max (length marked) end
+    length-blank = omega (arith, length-overwrite marked wiped 9 long-marked, length-wiped, is_end)
+
+    below : (place : ℕ) → place < 9 → slice_index blank place ≡ slice_index marked place
+    below place lt = get_or-overwrite_outside marked wiped 9 long-marked place (inl lt)
+
+    zero-at : (place : ℕ) → 9 ≤ place → place < 134254592 → slice_index blank place ≡ 0
+    zero-at place low high = elim (cases_lt place end) [
+      | inl inside ↦
+          let there : 9 + (place - 9) ≡ place = omega (arith, low) in
+          let fits : place - 9 < end - 9 = omega (arith, low, inside) in
+          ap (slice_index blank) (sym there) ∙ get_or-overwrite_inside marked wiped 9 long-marked (place - 9) (omega (arith, fits, length-wiped)) ∙ get_or-replicate {A = ℕ} (end - 9) (place - 9) 0 0 fits
+      | inr past ↦ get_or_past blank place 0 (omega (arith, past, high, is_end, length-blank, length-marked))
+    ]
+
+    pub IsFormed-blank : IsFormed blank
+    IsFormed-blank = record {
+      closed = subst (λ (byte : ℕ). IsFalse (opens byte)) (sym (below 0 (omega arith) ∙ first-marked)) closed-begun;
+      marked = has_magic-same marked blank long-marked (omega (arith, length-blank, long-marked)) (λ place low high. below place high) ∙ has_magic-marked;
+      long = omega (arith, length-blank, is_end);
+      blank = zero-at;
+    }
+
+    -- both writes differ from the content where they are made
+    pub DiffersIn-blank : DiffersIn (form_ranges content) content blank
+    DiffersIn-blank =
+        let wipes = subst (λ (count : ℕ). DiffersIn ((9, count) ∷ []) marked blank) (length-wiped ∙ ap (λ (n : ℕ). n - 9) is_end) (DiffersIn-overwrite 9 marked wiped long-marked) in
+        DiffersIn-append ((1, length (magic_bytes content)) ∷ []) ((9, blank_end (length content) - 9) ∷ []) content marked blank (DiffersIn-overwrite 1 content (magic_bytes content) within) wipes
+
+-- the run: a read, the magic, the zeros
+module _ (old read marked : Told) (knows : KnowsNow old) (reads : OnlyReads old read) (marking : Tears ((1, length (magic_bytes read.content)) ∷ []) read marked) where
+  abbrev marks : List (ℕ × ℕ)
+  marks = (1, length (magic_bytes old.content)) ∷ []
+
+  to_marked : Tears marks old marked
+  to_marked = tears-after_read old read marked marks knows reads (subst (λ (list : List ℕ). Tears ((1, length (magic_bytes list)) ∷ []) read marked) reads.same.content marking)
+
+  -- the magic alone
+  pub keeps-marked : {T E : Type 0} (result : Result T E) → IsErr result → IsBegun old.content → KeepsMap old marked result
+  keeps-marked result failed begun = keeps-failed old marked result failed marks to_marked
+      (λ found image is differs. StandsFor-form old.content image found begun is (DiffersIn-append marks ((9, blank_end (length old.content) - 9) ∷ []) old.content image image differs (DiffersIn-refl _ image)))
+
+  module _ (blank : Told) (knows_marked : KnowsNow marked) (end : ℕ) (is_end : end ≡ blank_end (length old.content)) (wiping : Tears ((9, end - 9) ∷ []) marked blank) where
+    pub to_blank : Tears (form_ranges old.content) old blank
+    to_blank = tears-joined old marked blank marks knows_marked to_marked ((9, blank_end (length old.content) - 9) ∷ []) (subst (λ (n : ℕ). Tears ((9, n - 9) ∷ []) marked blank) is_end wiping)
 
 is_unborn-formed : (content : List ℕ) → IsFormed content → IsTrue (is_unborn content)
 is_unborn-formed content formed = is_unborn-gate content formed.marked formed.closed
@@ -163,21 +241,3 @@ birth-opened content formed =
       born-opened content image formed differs (subst (λ (byte : ℕ). IsTrue (opens byte)) (sym gate) refl),
       λ n lt. gate-image content image formed differs (entry_place n) (omega arith) (omega (arith, lt)),
     )
-
--- a file of at most one byte begins with one 0
-pub IsBegun-short : (content : List ℕ) → length content ≤ 1 → IsBegun (overwrite content 0 (0 ∷ []))
-IsBegun-short content short =
-    let within : 0 ≤ length content = omega arith in
-    let gate = get_or-overwrite_inside content (0 ∷ []) 0 within 0 (omega arith) in
-    record { unborn = is_unborn-zero (overwrite content 0 (0 ∷ [])) gate; gate = inl gate; some = omega (arith, length-overwrite content (0 ∷ []) 0 within) }
-
--- and so does any longer one that isn't formed, unless the magic stands there
-pub IsBegun-long : (content : List ℕ) → IsTrue (is_unborn content) → 1 < length content → IsBegun content
-IsBegun-long content unborn long = record {
-  unborn = unborn;
-  gate = elim (is_unborn-cases content unborn) [
-    | inl short ↦ absurd (omega (arith, short, long))
-    | inr late ↦ elim late [ inl zero ↦ inl zero | inr there ↦ inr there.0 ]
-  ];
-  some = omega (arith, long);
-}

@@ -1,29 +1,91 @@
--- An entry that is spelled from puts, and what opens its gate.
-use Rattle.std.proofs.Common.{◌≡◌, ◌⊎◌, inl, inr, ℕ, zero, suc, ◌+◌, ◌*◌, ◌-◌, ◌<◌, ◌≤◌, ◌^◌, true, ◌&&◌, ◌==◌, nat_le, nat_lt, IsTrue, IsFalse, List, [], ◌∷◌, ◌++◌, length, take, drop, replicate, get_or, refl, sym, ◌∙◌, ap, subst, arith}
-use Rattle.std.proofs.lemmas.Bool.{cases_Bool, cond-true, and_parts, and_from, le-leb, ltb-true, eqb-true}
-use Rattle.std.proofs.lemmas.List.{ext_get_or, append_assoc, append-nil, take_all, take_more, drop-replicate, drop-drop, drop_at, take_at, take-append-drop, length-append, length-drop, length-take, length-replicate, get_or-take, get_or-drop}
-use Rattle.std.proofs.lemmas.List.Elements.{All-head, All-tail, All-cons, All-nil, All-get_or}
-use Rattle.std.proofs.lemmas.List.Concat.{flat_map-append}
-use Rattle.std.proofs.lemmas.List.FromFn.{fill_by_all}
-use Rattle.std.specs.Prelude.{slice_index, flat_map}
-use Rattle.std.specs.List.{list_all}
-use Rattle.ss_fields.specs.Fields.{number_at, number_bytes}
+-- How an entry is judged, and how it is spelled.
 use Rattle.ss_fields.proofs.FieldLemmas.{length-number_bytes, number_at-written}
-use Rattle.ss_outside.specs.Disk.{overwrite, IsOutside}
-use Rattle.ss_outside.proofs.DiskLemmas.{length-overwrite, get_or-overwrite_outside, get_or-overwrite_inside}
+use Rattle.ss_fields.specs.Fields.{number_at, number_bytes}
+use Rattle.ss_journal.specs.Entries.{count_of, entry_body, is_good, put_at, put_bytes, puts_of}
+use Rattle.ss_journal.specs.Puts.{AreWhole, IsTxn, slots_fit, slots_rise_from}
 use Rattle.ss_journal.specs.declared.put.Put.{Put}
-use Rattle.ss_journal.specs.Format.{is_born, opens, slots_in, entry_place, entry_at}
-use Rattle.ss_journal.specs.Puts.{IsTxn, AreWhole, slots_fit, slots_rise_from}
-use Rattle.ss_journal.specs.Entries.{put_at, put_bytes, puts_of, is_good, entry_body, open_prefix, entries}
-use Rattle.ss_journal.specs.Redo.{SlotMap, SameMap, stands, changed, redo_entries, file_map, redo, StandsFor}
-use Rattle.ss_journal.specs.Writes.{end_of, DiffersAt, AreSlots, SameOthers}
-use Rattle.ss_journal.specs.Settling.{AreInUse}
-use Rattle.ss_journal.specs.Commit.{IsReady}
-use Rattle.ss_journal.proofs.HeaderLemmas.{is_born-parts, redo-first_closed, redo-formed, puts_in_use-formed, open_prefix-open, open_prefix-second}
-use Rattle.ss_journal.proofs.MapLemmas.{file_map-same, changed-same}
-use Rattle.ss_journal.proofs.RedoLemmas.{SameMap-refl, SameMap-trans, StandsFor-from}
-use Rattle.ss_journal.proofs.RangeLemmas.{DiffersIn-overwrite, length-differs, get_or-differs}
-use Rattle.ss_journal.proofs.WriteLemmas.{StandsFor-body, is_born-same, file_map-first_closed, StandsFor-first_closed}
+use Rattle.std.proofs.Common.{IsFalse, IsTrue, List, [], ap, arith, drop, get_or, length, refl, replicate, subst, suc, sym, take, true, zero, ℕ, ◌&&◌, ◌*◌, ◌++◌, ◌+◌, ◌-◌, ◌<◌, ◌==◌, ◌^◌, ◌∙◌, ◌∷◌, ◌≡◌, ◌≤◌}
+use Rattle.std.proofs.Math.Nat.{zero-add}
+use Rattle.std.proofs.lemmas.Bool.{and_from, and_parts, le-leb, leb-true, lt-leb}
+use Rattle.std.proofs.lemmas.Bool.Decides.{nat_tests}
+use Rattle.std.proofs.lemmas.List.{append-nil, append_assoc, drop-drop, drop-replicate, drop_at, length-append, length-drop, length-replicate, length-take, take-append-drop, take_all, take_at, take_more}
+use Rattle.std.proofs.lemmas.List.Concat.{flat_map-append}
+use Rattle.std.proofs.lemmas.List.Elements.{All-get_or, All-head, All-map, All-tail}
+use Rattle.std.proofs.lemmas.List.FromFn.{fill_by_all, get_or-range_with_len, length-map-range_with_len, length-range_with_len}
+use Rattle.std.specs.List.{list_all, range_with_len}
+use Rattle.std.specs.Prelude.{All, flat_map}
+use Rattle.ss_journal.proofs.PutLemmas.{AreSlots-rise, slots_fit-again}
+
+-- what is true of a sound entry
+pub record IsSoundEntry (entry : List ℕ) (extent : ℕ) : Type 0 where
+  pub some : 1 ≤ count_of entry
+  pub few : count_of entry ≤ 4
+  pub rise : IsTrue (slots_rise_from 0 (puts_of entry))
+  pub fit : IsTrue (slots_fit (puts_of entry) extent)
+
+pub IsSoundEntry-good : (entry : List ℕ) (extent : ℕ) → IsTrue (is_good entry extent) → IsSoundEntry entry extent
+unfolding is_good
+IsSoundEntry-good entry extent good =
+    let outer = and_parts _ _ good in
+    let fits = and_parts _ _ outer.0 in
+    let rises = and_parts _ _ fits.0 in
+    let counts = and_parts _ _ rises.0 in
+    record { some = leb-true 1 (count_of entry) counts.0; few = leb-true (count_of entry) 4 counts.1; rise = rises.1; fit = fits.1 }
+
+pub length-puts_of : (entry : List ℕ) → length (puts_of entry) ≡ count_of entry
+unfolding puts_of
+length-puts_of entry = length-map-range_with_len (put_at entry) 0 (count_of entry)
+
+-- the puts of a sound entry may be committed over the extent
+pub IsTxn-good : (entry : List ℕ) (extent : ℕ) → IsTrue (is_good entry extent) → IsTxn (puts_of entry) × IsTrue (slots_fit (puts_of entry) extent)
+IsTxn-good entry extent good =
+    let sound = IsSoundEntry-good entry extent good in
+    let long = length-puts_of entry in
+    (record { some = omega (arith, sound.some); few = omega (arith, sound.few); rise = sound.rise }, sound.fit)
+
+-- a sound entry has a put
+pub is_good-some : (entry : List ℕ) (extent : ℕ) → IsTrue (is_good entry extent) → (rest : List Put) → puts_of entry ++ rest ≡ [] → ⊥
+is_good-some entry extent good rest none =
+    let some = (IsSoundEntry-good entry extent good).some in
+    let long = length-puts_of entry in
+    let empty : length (puts_of entry ++ rest) ≡ 0 = ap length none in
+    omega (arith, some, long, empty, length-append (puts_of entry) rest)
+
+pub is_good-again : (entry : List ℕ) (old new : ℕ) → IsTrue (is_good entry old) → old ≤ new → IsTrue (is_good entry new) × IsTrue (slots_fit (puts_of entry) old)
+unfolding is_good
+is_good-again entry old new good le =
+    let zero = and_parts _ _ good in
+    let fits = and_parts _ _ zero.0 in
+    (and_from _ _ (and_from _ _ fits.0 (slots_fit-again (puts_of entry) old new fits.1 le)) zero.1, fits.1)
+
+-- an entry of so few puts is judged by them, and by what stands behind them
+pub is_good-few : (entry : List ℕ) (extent : ℕ) → 1 ≤ count_of entry → count_of entry ≤ 4 → is_good entry extent ≡ (slots_rise_from 0 (puts_of entry) && slots_fit (puts_of entry) extent && list_all (λ byte. byte == 0) (drop (2 + 132 * count_of entry) entry))
+unfolding is_good
+is_good-few entry extent some few = rw (le-leb 1 (count_of entry) some, le-leb (count_of entry) 4 few) refl
+
+pub is_good-none : (entry : List ℕ) (extent : ℕ) → count_of entry < 1 → IsFalse (is_good entry extent)
+unfolding is_good
+is_good-none entry extent none = rw (lt-leb 1 (count_of entry) none) refl
+
+pub is_good-many : (entry : List ℕ) (extent : ℕ) → 4 < count_of entry → IsFalse (is_good entry extent)
+unfolding is_good
+is_good-many entry extent many = grind (arith, nat_tests)
+
+-- what is true of each number below n
+pub All-range_with_len : (P : ℕ → Type 0) (n : ℕ) → ((k : ℕ) → k < n → P k) → All P (range_with_len 0 n)
+All-range_with_len P n each k d lt =
+    let below : k < n = omega (arith, length-range_with_len 0 n) in
+    subst P (sym (get_or-range_with_len 0 n k d below ∙ zero-add k)) (each k below)
+
+-- the puts of a whole entry are whole
+put_at-whole : (entry : List ℕ) (k : ℕ) → length entry ≡ 544 → k < 4 → length (take 128 (drop (6 + 132 * k) entry)) ≡ 128
+put_at-whole entry k long lt = simp (length-take, length-drop) (omega arith)
+
+pub AreWhole-puts_of : (entry : List ℕ) → length entry ≡ 544 → count_of entry ≤ 4 → AreWhole (puts_of entry)
+unfolding puts_of
+AreWhole-puts_of entry long few =
+    All-map (λ (put : Put). length put.bytes ≡ 128) (put_at entry) (range_with_len 0 (count_of entry))
+    (All-range_with_len (λ (k : ℕ). length (take 128 (drop (6 + 132 * k) entry)) ≡ 128) (count_of entry) (λ k lt. put_at-whole entry k long (omega (arith, lt, few))))
 
 -- a number reads back from where its bytes stand
 number_at-dropped : (bytes rest : List ℕ) (at x : ℕ) → x < 2 ^ 32 → drop at bytes ≡ number_bytes 4 x ++ rest → number_at 4 bytes at ≡ x
@@ -59,16 +121,6 @@ drop-puts_bytes (suc k) (put ∷ puts) end d whole lt =
           ∙ rest.1,
     )
 
-slots_rise-slots : (puts : List Put) (least : ℕ) → IsTrue (slots_rise_from least puts) → AreSlots puts
-slots_rise-slots [] least rise = All-nil (λ (p : Put). p.slot < 2 ^ 20)
-slots_rise-slots (put ∷ puts) least rise =
-    let parts = and_parts (nat_le least put.slot && nat_lt put.slot (2 ^ 20)) (slots_rise_from (put.slot + 1) puts) rise in
-    let below = and_parts (nat_le least put.slot) (nat_lt put.slot (2 ^ 20)) parts.0 in
-    All-cons (λ (p : Put). p.slot < 2 ^ 20) put puts (ltb-true put.slot (2 ^ 20) below.1) (slots_rise-slots puts (put.slot + 1) parts.1)
-
-pub AreSlots-txn : (puts : List Put) → IsTxn puts → AreSlots puts
-AreSlots-txn puts txn = slots_rise-slots puts 0 txn.rise
-
 same_put : (put : Put) (slot : ℕ) (bytes : List ℕ) → slot ≡ put.slot → bytes ≡ put.bytes → put ≡ record { slot = slot; bytes = bytes }
 same_put put slot bytes same also = rw (same, also) refl
 
@@ -91,7 +143,7 @@ module _ (puts : List Put) (gate : ℕ) (whole : AreWhole puts) (txn : IsTxn put
       let place : 6 + 132 * k ≡ 2 + 132 * k + 4 = omega arith in
       let behind : drop (6 + 132 * k) entry ≡ put.bytes ++ there.0 =
       ap (λ (n : ℕ). drop n entry) place ∙ sym (drop-drop 4 (2 + 132 * k) entry) ∙ ap (drop 4) split ∙ drop_at (number_bytes 4 put.slot) (put.bytes ++ there.0) 4 (length-number_bytes 4 put.slot) in
-      let below = All-get_or (λ (p : Put). p.slot < 2 ^ 20) puts k none lt (AreSlots-txn puts txn) in
+      let below = All-get_or (λ (p : Put). p.slot < 2 ^ 20) puts k none lt (AreSlots-rise 0 puts txn.rise) in
       let full = All-get_or (λ (p : Put). length p.bytes ≡ 128) puts k none lt whole in
       same_put put (number_at 4 entry (2 + 132 * k)) (take 128 (drop (6 + 132 * k) entry))
       (number_at-dropped entry (put.bytes ++ there.0) (2 + 132 * k) put.slot (omega (arith, below)) split)
@@ -121,133 +173,6 @@ pub length-entry_body : (puts : List Put) → AreWhole puts → length puts ≤ 
 unfolding entry_body
 length-entry_body puts whole few =
     omega (arith, few, length-append (flat_map put_bytes puts) (replicate (542 - 132 * length puts) 0), length-puts_bytes puts whole, length-replicate {A = ℕ} (542 - 132 * length puts) 0)
-
--- the bytes of the first entry, by place
-entry-first_is : (image bytes : List ℕ) (gate : ℕ) → 1056 ≤ length image → length bytes ≡ 543 → slice_index image 512 ≡ gate → ((k : ℕ) → k < 543 → slice_index image (513 + k) ≡ slice_index bytes k) → entry_at image 0 ≡ gate ∷ bytes
-entry-first_is image bytes gate long size first rest =
-    let length-entry : length (entry_at image 0) ≡ 544 = omega (arith, long, length-take 544 (drop 512 image), length-drop 512 image) in
-    ext_get_or 0 (entry_at image 0) (gate ∷ bytes) (omega (arith, length-entry, size)) (λ place lt.
-    let within : place < 544 = omega (arith, lt, length-entry) in
-    get_or-take 544 (drop 512 image) place 0 within ∙ get_or-drop 512 image place 0 ∙ by_place place within)
-  where
-    by_place : (place : ℕ) → place < 544 → slice_index image (512 + place) ≡ slice_index (gate ∷ bytes) place
-    by_place zero lt = first
-    by_place (suc k) lt = let there : 512 + suc k ≡ 513 + k = omega arith in ap (slice_index image) there ∙ rest k (omega (arith, lt))
-
-module _ (puts : List Put) (content image : List ℕ) (found : SlotMap) (whole : AreWhole puts) (txn : IsTxn puts) (ready : IsReady puts content) (is : StandsFor content found) (differs : DiffersAt 512 1 (overwrite content 513 (entry_body puts)) image) where
-  abbrev body : List ℕ
-  body = entry_body puts
-
-  abbrev ranges : List (ℕ × ℕ)
-  ranges = (512, 1) ∷ []
-
-  long : 36864 ≤ length content
-  long = (is_born-parts content ready.born).0
-
-  within : 513 ≤ length content
-  within = omega (arith, long)
-
-  size : length body ≡ 543
-  size = length-entry_body puts whole txn.few
-
-  length-written : length (overwrite content 513 body) ≡ length content
-  length-written = omega (arith, long, size, length-overwrite content body 513 within)
-
-  inside : end_of ranges (length (overwrite content 513 body)) ≤ length (overwrite content 513 body)
-  inside = omega (arith, length-written, long)
-
-  length-image : length image ≡ length content
-  length-image = length-differs ranges (overwrite content 513 body) image inside differs ∙ length-written
-
-  at_body : (place : ℕ) → IsOutside 512 1 place → slice_index image place ≡ slice_index (overwrite content 513 body) place
-  at_body place out = get_or-differs ranges (overwrite content 513 body) image inside differs place (out, tt)
-
-  beside : (place : ℕ) → (place < 512) ⊎ (1056 ≤ place) → slice_index image place ≡ slice_index content place
-  beside place (inl below) = at_body place (inl below) ∙ get_or-overwrite_outside content body 513 within place (inl (omega (arith, below)))
-  beside place (inr above) = at_body place (inr (omega (arith, above))) ∙ get_or-overwrite_outside content body 513 within place (inr (omega (arith, above, size)))
-
-  pub born-gate : IsTrue (is_born image)
-  born-gate = is_born-same content image ready.born length-image (λ place lt. beside place (inl (omega (arith, lt))))
-
-  map-gate : SameMap (file_map image) found
-  map-gate = SameMap-trans _ _ _ (file_map-same content image length-image (λ place from. beside place (inr (omega (arith, from))))) (file_map-first_closed content found ready.born (ready.closed 0 (omega arith)) is)
-
-  closed-second : IsFalse (opens (slice_index image 1056))
-  closed-second = subst (λ (byte : ℕ). IsFalse (opens byte)) (sym (beside 1056 (inr (omega arith)))) (ready.closed 1 (omega arith))
-
-  module _ (opened : IsTrue (opens (slice_index image 512))) where
-    entry-image : entry_at image 0 ≡ 165 ∷ entry_body puts
-    entry-image = entry-first_is image body 165 (omega (arith, long, length-image)) size (eqb-true (slice_index image 512) 165 opened)
-        (λ k lt. at_body (513 + k) (inr (omega arith)) ∙ get_or-overwrite_inside content body 513 within k (omega (arith, lt, size)))
-
-    prefix-image : open_prefix (entries image) ≡ (165 ∷ entry_body puts) ∷ []
-    prefix-image = open_prefix-open image opened ∙ ap (λ (rest : List (List ℕ)). entry_at image 0 ∷ rest) (open_prefix-second image closed-second) ∙ ap (λ (first : List ℕ). first ∷ []) entry-image
-
-    fit-image : IsTrue (slots_fit puts (slots_in (length image)))
-    fit-image = subst (λ (n : ℕ). IsTrue (slots_fit puts (slots_in n))) (sym length-image) ready.fit
-
-    redo-image : redo image ≡ stands (changed (file_map image) puts)
-    redo-image = redo-formed image born-gate
-        ∙ ap (λ (list : List (List ℕ)). redo_entries 0 list (file_map image)) prefix-image
-        ∙ cond-true _ _ _ (is_good-body puts 165 (slots_in (length image)) whole txn fit-image)
-        ∙ ap (λ (p : List Put). stands (changed (file_map image) p)) (puts_of-body puts 165 whole txn)
-
-    -- the open gate
-    pub StandsFor-opened : StandsFor image (changed found puts) × AreInUse puts image
-    StandsFor-opened = (
-      StandsFor-from image (changed (file_map image) puts) (changed found puts) redo-image (changed-same puts (file_map image) found map-gate),
-      record {
-        born = born-gate;
-        in_use = sym (puts_in_use-formed image born-gate ∙ ap (flat_map puts_of) prefix-image ∙ append-nil (puts_of (165 ∷ entry_body puts)) ∙ puts_of-body puts 165 whole txn);
-        found = changed (file_map image) puts;
-        map = redo-image;
-      },
-    )
-
-  -- the gate of a whole entry: closed it leaves the map before, open the map after
-  pub StandsFor-gate : StandsFor image found ⊎ (StandsFor image (changed found puts) × AreInUse puts image)
-  StandsFor-gate = elim (cases_Bool (opens (slice_index image 512))) [
-    | inl opened ↦ inr (StandsFor-opened opened)
-    | inr closed ↦ inl (StandsFor-first_closed image found born-gate closed map-gate)
-  ]
-
--- the entry is written, and then its gate is opened
-module _ (puts : List Put) (content : List ℕ) (whole : AreWhole puts) (txn : IsTxn puts) (ready : IsReady puts content) where
-  abbrev spelled : List ℕ
-  spelled = overwrite content 513 (entry_body puts)
-
-  pub long-ready : 513 ≤ length content
-  long-ready = omega (arith, (is_born-parts content ready.born).0)
-
-  pub long-spelled : 513 ≤ length spelled
-  long-spelled = omega (arith, long-ready, length-overwrite content (entry_body puts) 513 long-ready)
-
-  abbrev gated : List ℕ
-  gated = overwrite spelled 512 (165 ∷ [])
-
-  differs-gated : DiffersAt 512 1 spelled gated
-  differs-gated = DiffersIn-overwrite 512 spelled (165 ∷ []) (omega (arith, long-spelled))
-
-  opened-gated : IsTrue (opens (slice_index gated 512))
-  opened-gated = subst (λ (byte : ℕ). IsTrue (opens byte)) (sym (get_or-overwrite_inside spelled (165 ∷ []) 512 (omega (arith, long-spelled)) 0 (omega arith))) refl
-
-  -- the body alone leaves the map
-  pub StandsFor-spelled : (image : List ℕ) (found : SlotMap) → StandsFor content found → DiffersAt 513 (length (entry_body puts)) content image → StandsFor image found
-  StandsFor-spelled image found is differs =
-      (StandsFor-body content image found ready.born (ready.closed 0 (omega arith)) is (subst (λ (count : ℕ). DiffersAt 513 count content image) (length-entry_body puts whole txn.few) differs)).0
-
-  pub StandsFor-gated : (found : SlotMap) → StandsFor content found → StandsFor gated (changed found puts)
-  StandsFor-gated found is = (StandsFor-opened puts content gated found whole txn ready is differs-gated opened-gated).0
-
-  pub AreInUse-gated : AreInUse puts gated
-  AreInUse-gated =
-      let is = StandsFor-from content (file_map content) (file_map content) (redo-first_closed content ready.born (ready.closed 0 (omega arith))).0 (SameMap-refl (file_map content)) in
-      (StandsFor-opened puts content gated (file_map content) whole txn ready is differs-gated opened-gated).1
-
-  pub SameOthers-gated : SameOthers content gated
-  SameOthers-gated n low high =
-      get_or-overwrite_outside spelled (165 ∷ []) 512 (omega (arith, long-spelled)) (entry_place n) (inr (omega (arith, low)))
-      ∙ get_or-overwrite_outside content (entry_body puts) 513 long-ready (entry_place n) (inr (omega (arith, low, length-entry_body puts whole txn.few)))
 
 -- what stands behind the gate of a spelled entry
 pub body-entry : (puts : List Put) (entry : List ℕ) → AreWhole puts → length puts ≤ 4 → entry ≡ 0 ∷ entry_body puts → take 543 (drop 1 entry) ≡ entry_body puts

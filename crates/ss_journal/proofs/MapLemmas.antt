@@ -1,14 +1,26 @@
--- The map of a file's slots, and entries that are redone over a map to which some of them came already.
-use Rattle.std.proofs.Common.{◌≡◌, inl, inr, ℕ, ◌+◌, ◌<◌, ◌≤◌, ◌^◌, cond, nat_eq, IsTrue, List, [], ◌∷◌, ◌++◌, length, refl, sym, ◌∙◌, ap, subst, arith}
-use Rattle.std.proofs.lemmas.Bool.{cases_Bool, cases_lt, cond-true, cond-false, and_parts, and_from, lt-ltb, le-ltb}
-use Rattle.std.specs.Prelude.{slice_index, flat_map}
+-- The map of a file's slots, and maps that are the same.
+use Rattle.ss_journal.specs.Format.{slot_at, slot_place, slots_in}
+use Rattle.ss_journal.specs.Puts.{extent_after}
+use Rattle.ss_journal.specs.Redo.{SameMap, SlotMap, blank_map, changed, file_map, zeros}
 use Rattle.ss_journal.specs.declared.put.Put.{Put}
-use Rattle.ss_journal.specs.Format.{slots_in, slot_place}
-use Rattle.ss_journal.specs.Puts.{with_put, with_puts, extent_after, slots_fit}
-use Rattle.ss_journal.specs.Entries.{is_good, puts_of}
-use Rattle.ss_journal.specs.Redo.{SlotMap, SameMap, stands, bad_entry, changed, redo_entries, file_map}
+use Rattle.std.proofs.Common.{List, ap, arith, drop, inl, inr, length, refl, subst, sym, ℕ, ◌++◌, ◌+◌, ◌<◌, ◌∙◌, ◌≡◌, ◌≤◌}
+use Rattle.std.proofs.lemmas.Bool.{cases_lt, cond-false, cond-true, le-ltb, lt-ltb}
+use Rattle.std.proofs.lemmas.List.{ext_get_or, get_or-drop, get_or-replicate, get_or-take, length-drop, length-replicate, length-take}
+use Rattle.std.specs.Prelude.{slice_index}
 use Rattle.ss_journal.proofs.HeaderLemmas.{piece-same}
-use Rattle.ss_journal.proofs.PutLemmas.{next, next-mono, slots_fit-cases, slots_fit-again}
+use Rattle.ss_journal.proofs.PutLemmas.{extent_after-append, with_puts-append, with_puts-same}
+
+pub SameMap-refl : (found : SlotMap) → SameMap found found
+SameMap-refl found = record { bytes = λ slot lt. refl; extent = refl }
+
+pub SameMap-trans : (a b c : SlotMap) → SameMap a b → SameMap b c → SameMap a c
+SameMap-trans a b c first second = record {
+  bytes = λ slot lt. first.bytes slot lt ∙ second.bytes slot lt;
+  extent = first.extent ∙ second.extent;
+}
+
+pub SameMap-sym : (a b : SlotMap) → SameMap a b → SameMap b a
+SameMap-sym a b same = record { bytes = λ slot lt. sym (same.bytes slot lt); extent = sym same.extent }
 
 -- a slot of a file lies in it
 pub slot_within : (size slot : ℕ) → slot < slots_in size → slot_place slot + 128 ≤ size
@@ -29,11 +41,22 @@ file_map-same old new long same = record {
   extent = ap slots_in long;
 }
 
--- puts over maps that are alike
-with_puts-same : (puts : List Put) (old new : ℕ → List ℕ) → ((slot : ℕ) → slot < 2 ^ 20 → new slot ≡ old slot) → (slot : ℕ) → slot < 2 ^ 20 → with_puts puts new slot ≡ with_puts puts old slot
-with_puts-same [] old new same slot lt = same slot lt
-with_puts-same (put ∷ puts) old new same slot lt =
-    with_puts-same puts (with_put put old) (with_put put new) (λ other below. ap (cond (nat_eq other put.slot) put.bytes) (same other below)) slot lt
+-- a blank file has zeros in each slot
+pub file_map-blank : (image : List ℕ) → ((place : ℕ) → 9 ≤ place → place < 134254592 → slice_index image place ≡ 0) → SameMap (file_map image) (blank_map image)
+file_map-blank image blank = record {
+  bytes = λ slot lt. elim (cases_lt slot (slots_in (length image))) [
+    | inl within ↦
+        let inside = slot_within (length image) slot within in
+        let piece : length (slot_at image slot) ≡ 128 = omega (arith, inside, length-take 128 (drop (slot_place slot) image), length-drop (slot_place slot) image) in
+        cond-true _ _ _ (lt-ltb slot (slots_in (length image)) within)
+        ∙ ext_get_or 0 (slot_at image slot) zeros (omega (arith, piece, length-replicate {A = ℕ} 128 0)) (λ k low.
+        let few : k < 128 = omega (arith, low, piece) in
+        get_or-take 128 (drop (slot_place slot) image) k 0 few ∙ get_or-drop (slot_place slot) image k 0
+        ∙ blank (slot_place slot + k) (omega arith) (omega (arith, lt, few)) ∙ sym (get_or-replicate {A = ℕ} 128 k 0 0 few))
+    | inr past ↦ cond-false _ _ _ (le-ltb slot (slots_in (length image)) past)
+  ];
+  extent = refl;
+}
 
 pub changed-same : (puts : List Put) (first second : SlotMap) → SameMap first second → SameMap (changed first puts) (changed second puts)
 changed-same puts first second same = record {
@@ -41,42 +64,8 @@ changed-same puts first second same = record {
   extent = ap (extent_after puts) same.extent;
 }
 
--- puts one after another
-with_puts-joined : (first second : List Put) (map : ℕ → List ℕ) → with_puts (first ++ second) map ≡ with_puts second (with_puts first map)
-with_puts-joined [] second map = refl
-with_puts-joined (put ∷ first) second map = with_puts-joined first second (with_put put map)
-
-extent_after-joined : (first second : List Put) (extent : ℕ) → extent_after (first ++ second) extent ≡ extent_after second (extent_after first extent)
-extent_after-joined [] second extent = refl
-extent_after-joined (put ∷ first) second extent = extent_after-joined first second (next put.slot extent)
-
-pub changed-joined : (first second : List Put) (found : SlotMap) → changed found (first ++ second) ≡ changed (changed found first) second
-changed-joined first second found =
-    rw (with_puts-joined, extent_after-joined) refl
-
--- puts that fit add no less to a greater extent
-extent_after-mono : (puts : List Put) (old new : ℕ) → IsTrue (slots_fit puts old) → old ≤ new → extent_after puts old ≤ extent_after puts new
-extent_after-mono [] old new fit le = le
-extent_after-mono (put ∷ puts) old new fit le =
-    let cases = slots_fit-cases put puts old fit in
-    extent_after-mono puts (next put.slot old) (next put.slot new) cases.1 (next-mono put.slot old new cases.0 le)
-
-is_good-again : (entry : List ℕ) (old new : ℕ) → IsTrue (is_good entry old) → old ≤ new → IsTrue (is_good entry new) × IsTrue (slots_fit (puts_of entry) old)
-unfolding is_good
-is_good-again entry old new good le =
-    let zero = and_parts _ _ good in
-    let fits = and_parts _ _ zero.0 in
-    (and_from _ _ (and_from _ _ fits.0 (slots_fit-again (puts_of entry) old new fits.1 le)) zero.1, fits.1)
-
--- entries that stand over a map stand over one with a greater extent
-pub redo_entries-again : (n : ℕ) (list : List (List ℕ)) (old new its : SlotMap) → redo_entries n list old ≡ stands its → old.extent ≤ new.extent → redo_entries n list new ≡ stands (changed new (flat_map puts_of list))
-redo_entries-again n [] old new its is le = refl
-redo_entries-again n (entry ∷ rest) old new its is le = elim (cases_Bool (is_good entry old.extent)) [
-  | inl good ↦
-      let again = is_good-again entry old.extent new.extent good le in
-      let stood : redo_entries (n + 1) rest (changed old (puts_of entry)) ≡ stands its = sym (cond-true _ _ _ good) ∙ is in
-      cond-true _ _ _ again.0
-      ∙ redo_entries-again (n + 1) rest (changed old (puts_of entry)) (changed new (puts_of entry)) its stood (extent_after-mono (puts_of entry) old.extent new.extent again.1 le)
-      ∙ ap stands (sym (changed-joined (puts_of entry) (flat_map puts_of rest) new))
-  | inr bad ↦ let other : bad_entry n ≡ stands its = sym (cond-false _ _ _ bad) ∙ is in absurd (cc)
-]
+pub changed-append : (found : SlotMap) (first second : List Put) → changed found (first ++ second) ≡ changed (changed found first) second
+changed-append found first second =
+    let bytes = with_puts-append first second found.bytes in
+    let extent = extent_after-append first second found.extent in
+    λ i. record { bytes = bytes i; extent = extent i }

@@ -1,22 +1,20 @@
 -- How the entries of a formed file are read one after another.
-use Rattle.std.proofs.Common.{◌≡◌, ℕ, ◌+◌, ◌<◌, ◌≤◌, ◌^◌, nat_le, IsTrue, IsFalse, List, [], ◌∷◌, ◌++◌, length, drop, append_assoc, refl, sym, ◌∙◌, ap, subst, Some, None, Ok, Err, arith}
-use Rattle.std.specs.Prelude.{All, flat_map}
-use Rattle.std.proofs.lemmas.Bool.{and_parts, cond-true, cond-false}
-use Rattle.std.proofs.lemmas.Bool.Decides.{nat_tests}
-use Rattle.std.proofs.lemmas.List.{append-nil, drop_all}
-use Rattle.std.proofs.lemmas.List.Elements.{All-nil, All-cons, All-head, All-tail, All-append, All-weaker}
-use Rattle.std.proofs.lemmas.List.FromFn.{length-map-range_with_len}
 use Rattle.arrayvec.specs.ArrayVec.{ArrayVec}
-use Rattle.ss_journal.specs.declared.put.Put.{Put}
+use Rattle.ss_journal.specs.Entries.{entries, is_good, is_open, open_prefix, puts_of}
+use Rattle.ss_journal.specs.Format.{entry_at, is_born, slots_in}
+use Rattle.ss_journal.specs.Opening.{InUse, InUseAs, NextAs}
+use Rattle.ss_journal.specs.Puts.{extent_after}
+use Rattle.ss_journal.specs.Redo.{SlotMap, bad_entry, changed, file_map, puts_in_use, redo, redo_entries}
 use Rattle.ss_journal.specs.declared.journal_error.JournalError.{JournalError}
-use Rattle.ss_journal.specs.declared.journal_error.JournalError.TheVariants.{Disk, NotAStore, BadEntry, OutOfMemory}
-use Rattle.ss_journal.specs.Format.{is_born, slots_in, entry_at}
-use Rattle.ss_journal.specs.Puts.{IsTxn, slots_fit, extent_after}
-use Rattle.ss_journal.specs.Entries.{is_open, is_good, puts_of, open_prefix, entries}
-use Rattle.ss_journal.specs.Redo.{SlotMap, bad_entry, changed, file_map, redo_entries, redo, puts_in_use}
-use Rattle.ss_journal.specs.Opening.{NextAs, InUse, InUseAs}
-use Rattle.ss_journal.proofs.PutLemmas.{next, le-extent_after}
-use Rattle.ss_journal.proofs.RedoLemmas.{redo-at_born, puts_in_use-born, open_prefix-drop, AreSlots-rise}
+use Rattle.ss_journal.specs.declared.journal_error.JournalError.TheVariants.{BadEntry, Disk, NotAStore, OutOfMemory}
+use Rattle.ss_journal.specs.declared.put.Put.{Put}
+use Rattle.std.proofs.Common.{Err, IsFalse, IsTrue, List, None, Ok, Some, [], ap, append_assoc, arith, drop, length, subst, sym, ℕ, ◌++◌, ◌+◌, ◌<◌, ◌∙◌, ◌∷◌, ◌≡◌}
+use Rattle.std.proofs.lemmas.Bool.{cond-false, cond-true}
+use Rattle.std.proofs.lemmas.List.{append-nil, drop_all}
+use Rattle.std.proofs.lemmas.List.FromFn.{length-map-range_with_len}
+use Rattle.std.specs.Prelude.{flat_map}
+use Rattle.ss_journal.proofs.PrefixLemmas.{open_prefix-drop}
+use Rattle.ss_journal.proofs.RedoLemmas.{puts_in_use-formed, redo-formed}
 
 -- the entries before number n are in use: these are their puts, and the extent after them
 pub record IsReadTo (content : List ℕ) (n extent : ℕ) (puts : List Put) : Type 0 where
@@ -29,8 +27,8 @@ pub IsReadTo-none : (content : List ℕ) (slots : ℕ) → IsTrue (is_born conte
 IsReadTo-none content slots born counted = record {
   current = file_map content;
   same_extent = sym counted;
-  in_use = sym (puts_in_use-born content born);
-  redone = redo-at_born content born;
+  in_use = sym (puts_in_use-formed content born);
+  redone = redo-formed content born;
 }
 
 module _ (content : List ℕ) (n extent : ℕ) (puts : List Put) (read : IsReadTo content n extent puts) where
@@ -95,34 +93,3 @@ module _ (content now : List ℕ) (n extent : ℕ) (puts : List Put) (same : now
       let last_is = after ∙ ap (λ (l : List Put). extent_after l extent) here.2 in
       let more_is = joins ∙ ap (λ (l : List Put). puts ++ l) here.2 in
       rw (last_is, more_is) (IsReadTo-more content n extent puts read lt here.0 here.1)
-
--- the extent stays below a bound of the slots
-next-bound : (slot extent most : ℕ) → slot < most → extent ≤ most → next slot extent ≤ most
-next-bound slot extent most lt le = grind (arith, nat_tests)
-
-pub extent_after-bound : (puts : List Put) (extent most : ℕ) → All (λ put. put.slot < most) puts → extent ≤ most → extent_after puts extent ≤ most
-extent_after-bound [] extent most below le = le
-extent_after-bound (put ∷ puts) extent most below le =
-    let P = λ (p : Put). p.slot < most in
-    extent_after-bound puts (next put.slot extent) most (All-tail P put puts below) (next-bound put.slot extent most (All-head P put puts below) le)
-
-lt-next : (slot extent : ℕ) → IsTrue (nat_le slot extent) → slot < next slot extent
-lt-next slot extent fits = grind (arith, nat_tests)
-
--- puts that fit lie below the extent after them
-pub slots_fit-below : (puts : List Put) (extent : ℕ) → IsTrue (slots_fit puts extent) → All (λ put. put.slot < extent_after puts extent) puts
-slots_fit-below [] extent fit = All-nil (λ (put : Put). put.slot < extent)
-slots_fit-below (put ∷ puts) extent fit =
-    let cases = and_parts (nat_le put.slot extent) (slots_fit puts (next put.slot extent)) fit in
-    let least = le-extent_after puts (next put.slot extent) in
-    All-cons (λ (p : Put). p.slot < extent_after puts (next put.slot extent)) put puts
-    (omega (arith, lt-next put.slot extent cases.0, least)) (slots_fit-below puts (next put.slot extent) cases.1)
-
--- so do those before them
-pub waiting-below : (waiting puts : List Put) (extent : ℕ) → IsTrue (slots_fit puts extent) → All (λ put. put.slot < extent) waiting → All (λ put. put.slot < extent_after puts extent) (waiting ++ puts)
-waiting-below waiting puts extent fit below =
-    let P = λ (p : Put). p.slot < extent_after puts extent in
-    All-append P waiting puts (All-weaker (λ (p : Put). p.slot < extent) P (λ p lt. omega (arith, lt, le-extent_after puts extent)) waiting below) (slots_fit-below puts extent fit)
-
-pub extent_after-most : (puts : List Put) (extent : ℕ) → IsTxn puts → extent ≤ 2 ^ 20 → extent_after puts extent ≤ 2 ^ 20
-extent_after-most puts extent txn le = extent_after-bound puts extent (2 ^ 20) (AreSlots-rise 0 puts txn.rise) le

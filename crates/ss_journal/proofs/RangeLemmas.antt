@@ -1,11 +1,11 @@
 -- Contents that differ in some ranges: what writes there make of them, lost, torn or whole.
-use Rattle.std.proofs.Common.{◌≡◌, ◌⊎◌, inl, inr, ⊎_elim, ℕ, ◌+◌, ◌-◌, ◌≤◌, max, List, [], ◌∷◌, ◌++◌, length, take, drop, replicate, refl, sym, ◌∙◌, ap, arith}
+use Rattle.ss_journal.specs.Writes.{DiffersAt, DiffersIn, end_of}
+use Rattle.ss_outside.proofs.DiskLemmas.{get_or-overwrite_outside, length-overwrite}
+use Rattle.ss_outside.specs.Disk.{IsOutside, IsOutsideAll, Torn, overwrite}
+use Rattle.std.proofs.Common.{List, [], ap, arith, drop, inl, inr, length, max, refl, replicate, sym, take, ℕ, ⊎_elim, ◌++◌, ◌+◌, ◌-◌, ◌∙◌, ◌∷◌, ◌≡◌, ◌≤◌}
 use Rattle.std.proofs.lemmas.Bool.{cases_lt}
-use Rattle.std.proofs.lemmas.List.{get_or_past, append_assoc, take_at, drop_at, drop-drop, length-append, length-take-le, length-replicate, replicate-append-replicate}
+use Rattle.std.proofs.lemmas.List.{append_assoc, drop-drop, drop_at, get_or_past, length-append, length-replicate, length-take-le, replicate-append-replicate, take_at}
 use Rattle.std.specs.Prelude.{slice_index}
-use Rattle.ss_outside.specs.Disk.{Torn, overwrite, IsOutside, IsOutsideAll}
-use Rattle.ss_outside.proofs.DiskLemmas.{length-overwrite, get_or-overwrite_outside}
-use Rattle.ss_journal.specs.Writes.{end_of, DiffersIn, DiffersAt}
 
 -- ranges make no file shorter
 pub end_of-le : (ranges : List (ℕ × ℕ)) (size : ℕ) → size ≤ end_of ranges size

@@ -1,22 +1,19 @@
 -- Puts that are written into their slots, and slots that a crash tears.
-use Rattle.std.proofs.Common.{◌≡◌, inl, inr, ℕ, zero, suc, ◌+◌, ◌<◌, ◌≤◌, ◌^◌, max, nat_eq, IsTrue, IsFalse, List, [], ◌∷◌, ◌++◌, length, take, drop, get_or, sym, ◌∙◌, ap, subst, arith}
-use Rattle.std.proofs.lemmas.Bool.{cases_lt, cases_eq, cases_order, cond-true, cond-false, or_parts, lt-ltb, le-ltb, eqb-false, eq-eqb, ne_eqb}
-use Rattle.std.proofs.lemmas.Bool.Decides.{nat_tests}
-use Rattle.std.proofs.lemmas.List.{take_at, drop_at, drop_more, length-take-le, append_assoc}
-use Rattle.std.proofs.lemmas.List.Elements.{All-head, All-tail}
-use Rattle.ss_outside.specs.Disk.{overwrite, IsOutside, IsOutsideAll}
-use Rattle.ss_outside.proofs.DiskLemmas.{length-overwrite, get_or-overwrite_outside}
-use Rattle.ss_journal.specs.declared.put.Put.{Put}
-use Rattle.ss_journal.specs.Format.{slots_in, slot_at, slot_place}
-use Rattle.ss_journal.specs.Puts.{extent_after, slots_fit, is_put, AgreeBeside, AreWhole}
+use Rattle.ss_journal.specs.Format.{slot_at, slot_place, slots_in}
+use Rattle.ss_journal.specs.Puts.{AgreeBeside, AreWhole, extent_after, is_put, slots_fit}
 use Rattle.ss_journal.specs.Redo.{SameMap, changed, file_map}
-use Rattle.ss_journal.specs.Writes.{AreSlots, HasRoom, DiffersIn, end_of, slot_ranges, slots_written}
+use Rattle.ss_journal.specs.Writes.{AreSlots, DiffersAt, DiffersIn, HasRoom, end_of, slot_ranges, slots_written}
+use Rattle.ss_journal.specs.declared.put.Put.{Put}
+use Rattle.ss_outside.proofs.DiskLemmas.{get_or-overwrite_outside, length-overwrite}
+use Rattle.ss_outside.specs.Disk.{IsOutside, IsOutsideAll, overwrite}
+use Rattle.std.proofs.Common.{IsFalse, IsTrue, List, [], ap, arith, drop, get_or, inl, inr, length, max, nat_eq, subst, suc, sym, take, zero, ℕ, ◌++◌, ◌+◌, ◌<◌, ◌^◌, ◌∙◌, ◌∷◌, ◌≡◌, ◌≤◌}
+use Rattle.std.proofs.lemmas.Bool.{cases_eq, cases_lt, cases_order, cond-false, cond-true, eq-eqb, eqb-false, le-ltb, lt-ltb, ne_eqb, or_parts}
+use Rattle.std.proofs.lemmas.List.{append_assoc, drop_at, drop_more, length-take-le, take_at}
+use Rattle.std.proofs.lemmas.List.Elements.{All-head, All-tail}
 use Rattle.ss_journal.proofs.HeaderLemmas.{piece-same}
-use Rattle.ss_journal.proofs.MapLemmas.{slot_within, changed-same}
-use Rattle.ss_journal.proofs.PutLemmas.{next, next-le, le-extent_after, slots_fit-cases}
-use Rattle.ss_journal.proofs.RangeLemmas.{Covers}
-use Rattle.ss_journal.proofs.ReadLemmas.{below_extent}
-use Rattle.ss_journal.proofs.RedoLemmas.{SameMap-refl, SameMap-trans}
+use Rattle.ss_journal.proofs.MapLemmas.{SameMap-refl, SameMap-trans, changed-same, slot_within}
+use Rattle.ss_journal.proofs.PutLemmas.{below_extent, le-extent_after, lt-next, next, next-le, slots_fit-cases}
+use Rattle.ss_journal.proofs.RangeLemmas.{Covers, DiffersIn-append, DiffersIn-overwrite, DiffersIn-refl}
 
 -- the header lies outside each slot
 pub outside_slots : (puts : List Put) (place : ℕ) → place < 36864 → IsOutsideAll (slot_ranges puts) place
@@ -38,9 +35,6 @@ outside_slot (put ∷ puts) slot place beside low high =
 -- one more slot is reached only by a put into the next
 slots_in-max : (slot size end extent : ℕ) → slots_in end ≤ extent → slot < extent → slots_in (max end (slot_place slot + 128)) ≤ extent
 slots_in-max slot size end extent most lt = omega arith
-
-lt-next : (slot extent : ℕ) → slot ≤ extent → slot < next slot extent
-lt-next slot extent le = grind (arith, nat_tests)
 
 -- a file with some of the puts has no more slots than the extent after them
 slots_in-end_of : (puts : List Put) (size extent : ℕ) → IsTrue (slots_fit puts extent) → slots_in size ≤ extent → slots_in (end_of (slot_ranges puts) size) ≤ extent_after puts extent
@@ -179,3 +173,17 @@ end_of_at (put ∷ puts) (suc k) d size lt = omega (arith, end_of_at puts k d si
 
 pub Covers-slot : (puts : List Put) (k : ℕ) (d : Put) → k < length puts → Covers (slot_ranges puts) (slot_place (get_or puts k d).slot) 128
 Covers-slot puts k d lt = record { outside = λ place out. outside_at puts k d place lt out; end = λ size. end_of_at puts k d size lt }
+
+-- the puts that are written are one way to tear their slots
+pub DiffersIn-slots_written : (puts : List Put) (content : List ℕ) → 36864 ≤ length content → IsTrue (slots_fit puts (slots_in (length content))) → AreSlots puts → AreWhole puts → DiffersIn (slot_ranges puts) content (slots_written puts content)
+DiffersIn-slots_written [] content long fit slots whole = DiffersIn-refl [] content
+DiffersIn-slots_written (put ∷ puts) content long fit slots whole =
+    let cases = slots_fit-cases put puts (slots_in (length content)) fit in
+    let below = All-head (λ (p : Put). p.slot < 2 ^ 20) put puts slots in
+    let full = All-head (λ (p : Put). length p.bytes ≡ 128) put puts whole in
+    let grown = length-written put content long cases.0 below full in
+    let next = overwrite content (slot_place put.slot) put.bytes in
+    let first = subst (λ (n : ℕ). DiffersAt (slot_place put.slot) n content next) full (DiffersIn-overwrite (slot_place put.slot) content put.bytes (omega (arith, long, cases.0))) in
+    let rest = DiffersIn-slots_written puts next (omega (arith, grown, long)) (subst (λ (n : ℕ). IsTrue (slots_fit puts n)) (sym (slots-written put content long cases.0 below full)) cases.1)
+    (All-tail (λ (p : Put). p.slot < 2 ^ 20) put puts slots) (All-tail (λ (p : Put). length p.bytes ≡ 128) put puts whole) in
+    DiffersIn-append ((slot_place put.slot, 128) ∷ []) (slot_ranges puts) content next (slots_written puts next) first rest

@@ -1,15 +1,15 @@
 -- What a crash may leave of some calls in a row: of writes, and of the map.
-use Rattle.std.proofs.Common.{◌⊎◌, inl, inr, ℕ, List, [], ◌∷◌, ◌++◌, Result, Ok, Err, subst, sym, ◌∙◌}
-use Rattle.std.specs.Prelude.{OnOk, IsErr}
-use Rattle.std.proofs.lemmas.Result.{on_ok_weaker}
-use Rattle.ss_outside.specs.Crash.{Elapses, KnowsNow, OnlyReads, LeavesOnly}
-use Rattle.ss_outside.specs.Disk.{Told, Torn, BecomesPending, StaysSame, NothingPending}
-use Rattle.ss_outside.proofs.CrashLemmas.{after_write, at_start, weaker, now, of_content, nothing_pending-same, read_leaves, joined, goes_on}
-use Rattle.ss_journal.specs.declared.put.Put.{Put}
+use Rattle.ss_journal.specs.Calls.{ChangesMap, KeepsMap}
 use Rattle.ss_journal.specs.Redo.{SlotMap, StandsFor, changed}
-use Rattle.ss_journal.specs.Writes.{DiffersIn, DiffersAt, IsTorn, Tears}
-use Rattle.ss_journal.specs.Calls.{KeepsMap, ChangesMap}
-use Rattle.ss_journal.proofs.RangeLemmas.{DiffersIn-refl, DiffersIn-append, DiffersAt-torn, DiffersIn-covered, Covers}
+use Rattle.ss_journal.specs.Writes.{DiffersIn, IsTorn, Tears}
+use Rattle.ss_journal.specs.declared.put.Put.{Put}
+use Rattle.ss_outside.proofs.CrashLemmas.{after_write, at_start, goes_on, joined, nothing_pending-same, now, of_content, read_leaves, weaker}
+use Rattle.ss_outside.specs.Crash.{Elapses, KnowsNow, LeavesOnly, OnlyReads}
+use Rattle.ss_outside.specs.Disk.{BecomesPending, NothingPending, StaysSame, Told}
+use Rattle.std.proofs.Common.{Err, List, Ok, Result, [], inl, inr, subst, sym, ℕ, ◌++◌, ◌∷◌, ◌⊎◌}
+use Rattle.std.proofs.lemmas.Result.{on_ok_weaker}
+use Rattle.std.specs.Prelude.{IsErr, OnOk}
+use Rattle.ss_journal.proofs.RangeLemmas.{Covers, DiffersAt-torn, DiffersIn-append, DiffersIn-covered, DiffersIn-refl}
 
 IsTorn-none : (ranges : List (ℕ × ℕ)) (disk : Told) (image : List ℕ) → disk.may_leave image → IsTorn ranges disk image
 IsTorn-none ranges disk image left = record { was = image; left = left; differs = DiffersIn-refl ranges image }

@@ -2,8 +2,7 @@ use Rattle.std.proofs.Common.{◌≡◌, ℕ, ◌-◌, List, length, replicate, 
 use Rattle.ss_outside.specs.Disk.{overwrite}
 use Rattle.ss_journal.specs.Birth.{IsFormed, magic_bytes, blank_end, form_ranges}
 use Rattle.ss_journal.specs.Writes.{DiffersIn}
-use Rattle.ss_journal.proofs.BirthLemmas.{StandsFor-form}
-use Rattle.ss_journal.proofs.FormLemmas.{keeps-marked, to_blank, DiffersIn-blank, IsFormed-blank}
+use Rattle.ss_journal.proofs.BirthLemmas.{StandsFor-form, keeps-marked, to_blank, DiffersIn-blank, IsFormed-blank}
 use Rattle.ss_journal.proofs.TearLemmas.{tears-synced, on_ok, keeps-torn, keeps-failed}
 use Rattle.ss_journal.proofs.birth.form.Goals as goal
 

@@ -7,7 +7,8 @@ use Rattle.ss_journal.specs.declared.put.Put.{Put}
 use Rattle.ss_journal.specs.Format.{entry_at}
 use Rattle.ss_journal.specs.Puts.{IsTxn, slots_fit, extent_after}
 use Rattle.ss_journal.specs.Opening.{NextAs, IfNext}
-use Rattle.ss_journal.proofs.OpenLemmas.{IsReadTo, IsReadTo-none, IsReadTo-next, IsReadTo-all, InUse-next, InUseAs-next, extent_after-most, waiting-below}
+use Rattle.ss_journal.proofs.OpenLemmas.{IsReadTo, IsReadTo-none, IsReadTo-next, IsReadTo-all, InUse-next, InUseAs-next}
+use Rattle.ss_journal.proofs.PutLemmas.{extent_after-most, waiting-below}
 use Rattle.ss_journal.proofs.opening.read_entries.Goals as goal
 
 pub loop-n-init : goal.loop-n-init

@@ -1,5 +1,5 @@
 use Rattle.std.proofs.Common.{ℕ, take, drop, ◌∙◌, ap, arith}
-use Rattle.ss_journal.proofs.ReadLemmas.{read-piece}
+use Rattle.ss_journal.proofs.HeaderLemmas.{read-piece}
 use Rattle.ss_journal.proofs.opening.read_entry.Goals as goal
 
 pub returns-clause-entry : goal.returns-clause-entry

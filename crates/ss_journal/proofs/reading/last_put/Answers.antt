@@ -1,6 +1,6 @@
 use Rattle.std.proofs.Common.{Option, List, ℕ, [], unwrap_or, sym, ap, ◌∙◌}
 use Rattle.std.proofs.lemmas.Bool.{cond-true, cond-false, eq-eqb, ne_eqb}
-use Rattle.ss_journal.proofs.ReadLemmas.{with_puts-take}
+use Rattle.ss_journal.proofs.PutLemmas.{with_puts-take}
 use Rattle.ss_journal.proofs.reading.last_put.Goals as goal
 use Rattle.ss_journal.proofs.reading.last_put.Goals.{then-put-slot, else-put-slot}
 

@@ -8,7 +8,7 @@ use Rattle.ss_journal.specs.Redo.{StandsFor}
 use Rattle.ss_journal.specs.Writes.{DiffersIn, DiffersAt, slot_ranges, FirstClosed, SameOthers}
 use Rattle.ss_journal.proofs.RangeLemmas.{DiffersIn-overwrite}
 use Rattle.ss_journal.proofs.TearLemmas.{keeps-torn, keeps-failed, keeps-joined}
-use Rattle.ss_journal.proofs.WriteLemmas.{HasRoom-in_use, long-slots_written, differs-written, StandsFor-slots_torn, StandsFor-applied, closed-written}
+use Rattle.ss_journal.proofs.InUseLemmas.{HasRoom-in_use, long-slots_written, differs-written, StandsFor-slots_torn, StandsFor-applied, closed-written}
 use Rattle.ss_journal.proofs.settling.apply.Goals as goal
 
 pub write_slots-requires-clause-room : goal.write_slots-requires-clause-room

@@ -1,7 +1,7 @@
 use Rattle.std.proofs.Common.{◌≡◌, length, sym, ◌∙◌}
 use Rattle.std.proofs.lemmas.Bool.{eqb-true}
 use Rattle.std.proofs.lemmas.List.{nil_from_length}
-use Rattle.ss_journal.proofs.HeaderLemmas.{first_closed-none}
+use Rattle.ss_journal.proofs.RedoLemmas.{first_closed-none}
 use Rattle.ss_journal.proofs.settling.apply_any.Goals as goal
 
 pub returns-then-is_empty-clause-closed : goal.returns-then-is_empty-clause-closed

@@ -4,10 +4,9 @@ use Rattle.ss_journal.specs.Format.{is_born}
 use Rattle.ss_journal.specs.Kept.{AllClosed}
 use Rattle.ss_journal.specs.Settling.{ClosesGate}
 use Rattle.ss_journal.specs.Writes.{DiffersIn, other_gates}
-use Rattle.ss_journal.proofs.GateLemmas.{Covers-gate, DiffersIn-gate, closed-more, born-others, AllClosed-others}
+use Rattle.ss_journal.proofs.GateLemmas.{Covers-gate, DiffersIn-gate, closed-more, born-others, AllClosed-others, StandsFor-other_gates}
 use Rattle.ss_journal.proofs.HeaderLemmas.{is_born-parts}
 use Rattle.ss_journal.proofs.TearLemmas.{tears-more, tears-synced, keeps-torn, keeps-failed}
-use Rattle.ss_journal.proofs.WriteLemmas.{StandsFor-other_gates}
 use Rattle.ss_journal.proofs.settling.close_others.Goals as goal
 use Rattle.ss_journal.proofs.settling.close_others.Goals.{then-branch, else-branch}
 

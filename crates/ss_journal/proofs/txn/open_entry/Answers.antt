@@ -5,7 +5,7 @@ use Rattle.ss_outside.proofs.CrashLemmas.{joined, weaker}
 use Rattle.ss_journal.specs.Redo.{StandsFor, changed}
 use Rattle.ss_journal.specs.Settling.{AreInUse}
 use Rattle.ss_journal.specs.Writes.{DiffersAt, SameOthers}
-use Rattle.ss_journal.proofs.EntryLemmas.{long-spelled, StandsFor-gate, StandsFor-gated, AreInUse-gated, SameOthers-gated}
+use Rattle.ss_journal.proofs.TxnLemmas.{long-spelled, StandsFor-gate, StandsFor-gated, AreInUse-gated, SameOthers-gated}
 use Rattle.ss_journal.proofs.TearLemmas.{tears-content, changes-failed}
 use Rattle.ss_journal.proofs.txn.open_entry.Goals as goal
 

@@ -1,9 +1,10 @@
-use Rattle.std.proofs.Common.{◌≡◌, ℕ, List, [], ◌∷◌, length, take, drop, sym, ◌∙◌, ap, subst, arith}
+use Rattle.std.proofs.Common.{ℕ, List, [], ◌∷◌, length, sym, ◌∙◌, ap, subst}
 use Rattle.std.proofs.lemmas.Result.{on_ok_weaker}
 use Rattle.ss_outside.specs.Disk.{overwrite}
 use Rattle.ss_journal.specs.Entries.{entry_body}
 use Rattle.ss_journal.specs.Writes.{DiffersAt, Tears}
-use Rattle.ss_journal.proofs.EntryLemmas.{body-entry, long-ready, StandsFor-spelled}
+use Rattle.ss_journal.proofs.EntryLemmas.{body-entry}
+use Rattle.ss_journal.proofs.TxnLemmas.{long-ready, StandsFor-spelled}
 use Rattle.ss_journal.proofs.RangeLemmas.{DiffersIn-overwrite}
 use Rattle.ss_journal.proofs.TearLemmas.{keeps-torn}
 use Rattle.ss_journal.proofs.txn.write_entry.Goals as goal

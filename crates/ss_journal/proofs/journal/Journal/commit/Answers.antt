@@ -4,15 +4,15 @@ use Rattle.ss_journal.specs.Puts.{extent_after}
 use Rattle.ss_journal.specs.Redo.{file_map}
 use Rattle.ss_journal.specs.Kept.{JournalState, IsKept}
 use Rattle.ss_journal.specs.Writes.{AreSlots}
-use Rattle.ss_journal.proofs.CommitLemmas.{StandsFor-settled, IsReady-settled, IsKept-committed, IsSound-committed}
-use Rattle.ss_journal.proofs.EntryLemmas.{AreSlots-txn}
+use Rattle.ss_journal.proofs.KeptLemmas.{StandsFor-settled, IsReady-settled, IsKept-committed, IsSound-committed}
+use Rattle.ss_journal.proofs.PutLemmas.{AreSlots-rise}
 use Rattle.ss_journal.proofs.journal.Journal.commit.Goals as goal
 
 pub open_entry-requires-clause-ready : goal.open_entry-requires-clause-ready
 open_entry-requires-clause-ready g c told = IsReady-settled c.args.self.now _ c.requires.settled (c.requires.one_disk told) c.args.txn.now.items c.requires.fit
 
 pub apply-requires-clause-slots : goal.apply-requires-clause-slots
-apply-requires-clause-slots g c = subst AreSlots (sym c.deref.ensures.0) (AreSlots-txn c.args.txn.now.items c.requires.txn)
+apply-requires-clause-slots g c = subst AreSlots (sym c.deref.ensures.0) (AreSlots-rise 0 c.args.txn.now.items c.requires.txn.rise)
 
 pub invariant_of-self-2 : goal.invariant_of-self-2
 invariant_of-self-2 g c =

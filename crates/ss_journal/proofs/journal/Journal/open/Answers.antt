@@ -1,5 +1,6 @@
 use Rattle.std.proofs.Common.{sym}
-use Rattle.ss_journal.proofs.StandLemmas.{IsKept-unborn, redo-neither}
+use Rattle.ss_journal.proofs.KeptLemmas.{IsKept-unborn}
+use Rattle.ss_journal.proofs.RedoLemmas.{redo-neither}
 use Rattle.ss_journal.proofs.journal.Journal.open.Goals as goal
 
 pub returns-then-is_unborn-clause-map : goal.returns-then-is_unborn-clause-map

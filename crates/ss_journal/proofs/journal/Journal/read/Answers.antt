@@ -8,7 +8,7 @@ use Rattle.ss_journal.specs.declared.phase.Phase.TheVariants.{Unborn}
 use Rattle.ss_journal.specs.Puts.{with_puts}
 use Rattle.ss_journal.specs.Redo.{file_map}
 use Rattle.ss_journal.specs.Kept.{JournalState, IsKept, IsInPhase}
-use Rattle.ss_journal.proofs.StandLemmas.{unused_bytes, born_phase, born_bytes, slot_lies, slot_bytes}
+use Rattle.ss_journal.proofs.KeptLemmas.{unused_bytes, born_phase, born_bytes, slot_lies, slot_bytes}
 use Rattle.ss_journal.proofs.journal.Journal.read.Goals as goal
 use Rattle.ss_journal.proofs.journal.Journal.read.Goals.{then-eq-via-then-eq, then-eq-via-else-eq+then-slot-self}
 

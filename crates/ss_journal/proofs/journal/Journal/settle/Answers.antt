@@ -2,7 +2,8 @@ use Rattle.std.proofs.Common.{sym, subst}
 use Rattle.ss_journal.specs.declared.phase.Phase.TheVariants.{Settled}
 use Rattle.ss_journal.specs.Kept.{JournalState, IsKept}
 use Rattle.ss_journal.proofs.KeptLemmas.{IsKept-settled, closed_phase}
-use Rattle.ss_journal.proofs.RedoLemmas.{SameMap-refl, StandsFor-from}
+use Rattle.ss_journal.proofs.MapLemmas.{SameMap-refl}
+use Rattle.ss_journal.proofs.RedoLemmas.{StandsFor-from}
 use Rattle.ss_journal.proofs.journal.Journal.settle.Goals.{in-Unborn+in_ok-give_birth-in-Unborn, in-Born+in_ok-settle_entries-in-Born, in-Settled}
 use Rattle.ss_journal.proofs.journal.Journal.settle.Goals as goal
 

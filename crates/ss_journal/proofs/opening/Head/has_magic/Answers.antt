@@ -2,7 +2,7 @@ use Rattle.std.proofs.Common.{ℕ, List, drop, nat_eq, ap, ◌∙◌, arith}
 use Rattle.std.specs.List.{starts_with}
 use Rattle.std.proofs.lemmas.List.{length-drop, take_all}
 use Rattle.ss_journal.specs.Format.{magic}
-use Rattle.ss_journal.proofs.ReadLemmas.{has_magic-head}
+use Rattle.ss_journal.proofs.HeaderLemmas.{has_magic-head}
 use Rattle.ss_journal.proofs.opening.Head.has_magic.Goals as goal
 
 pub returns : goal.returns

@@ -1,25 +1,24 @@
--- What a crash may leave of the journal's writes.
-use Rattle.std.proofs.Common.{◌≡◌, ◌⊎◌, inl, inr, ⊎_elim, ℕ, zero, suc, ◌+◌, ◌-◌, ◌<◌, ◌≤◌, ◌^◌, max, IsTrue, IsFalse, List, [], ◌∷◌, ◌++◌, length, take, drop, replicate, map, refl, sym, ◌∙◌, ap, subst, arith}
-use Rattle.std.proofs.lemmas.Bool.{cases_Bool, cases_lt, cases_eq, cond-true, eqb-true}
-use Rattle.std.proofs.lemmas.List.{ext_get_or, get_or_past, append_assoc, take_at, drop_at, drop-drop, length-append, length-take-le, length-replicate, replicate-append-replicate}
-use Rattle.std.proofs.lemmas.List.Elements.{All-head, All-tail}
-use Rattle.std.specs.Prelude.{slice_index, flat_map}
-use Rattle.std.specs.List.{range_with_len}
-use Rattle.ss_outside.specs.Disk.{overwrite, IsOutside, IsOutsideAll}
-use Rattle.ss_outside.proofs.DiskLemmas.{length-overwrite, get_or-overwrite_outside, get_or-overwrite_inside}
-use Rattle.ss_journal.specs.declared.put.Put.{Put}
-use Rattle.ss_journal.specs.Format.{is_born, opens, slots_in, slot_place, entry_place}
+-- Entries in use, whose puts are written into their slots, lost, torn or whole.
+use Rattle.ss_journal.specs.Entries.{entries, open_prefix, puts_of}
+use Rattle.ss_journal.specs.Format.{entry_place, is_born, opens, slots_in}
 use Rattle.ss_journal.specs.Puts.{AreWhole, slots_fit}
-use Rattle.ss_journal.specs.Entries.{puts_of, open_prefix, entries}
-use Rattle.ss_journal.specs.Redo.{SlotMap, SameMap, Redone, Gives, stands, changed, redo_entries, file_map, redo, StandsFor}
-use Rattle.ss_journal.specs.Writes.{end_of, DiffersIn, DiffersAt, AreSlots, HasRoom, slot_ranges, slots_written, other_gates, FirstClosed, SameOthers}
+use Rattle.ss_journal.specs.Redo.{Gives, Redone, SameMap, SlotMap, StandsFor, changed, file_map, redo, redo_entries, stands}
 use Rattle.ss_journal.specs.Settling.{AreInUse}
-use Rattle.ss_journal.proofs.HeaderLemmas.{has_magic-same, is_born-parts, is_born-from, redo-formed, puts_in_use-formed, redo-same_header, redo-first_closed}
-use Rattle.ss_journal.proofs.MapLemmas.{file_map-same, redo_entries-again}
-use Rattle.ss_journal.proofs.RangeLemmas.{DiffersIn-refl, DiffersIn-append, DiffersIn-overwrite, length-differs, get_or-differs}
-use Rattle.ss_journal.proofs.PutLemmas.{slots_fit-cases, with_puts-again, extent_after-again}
-use Rattle.ss_journal.proofs.RedoLemmas.{SameMap-refl, SameMap-trans, StandsFor-from, StandsFor-same, redo-born}
-use Rattle.ss_journal.proofs.SlotLemmas.{length-written, slots-written, outside_slots, slots_in-mono, slots_in-torn, AgreeBeside-torn, file_map-slots_written}
+use Rattle.ss_journal.specs.Writes.{AreSlots, DiffersAt, DiffersIn, FirstClosed, HasRoom, SameOthers, end_of, slot_ranges, slots_written}
+use Rattle.ss_journal.specs.declared.put.Put.{Put}
+use Rattle.ss_outside.proofs.DiskLemmas.{get_or-overwrite_inside, get_or-overwrite_outside}
+use Rattle.ss_outside.specs.Disk.{IsOutside, overwrite}
+use Rattle.std.proofs.Common.{IsFalse, IsTrue, List, [], ap, arith, inl, inr, length, refl, subst, sym, ℕ, ◌<◌, ◌∙◌, ◌∷◌, ◌≡◌, ◌≤◌}
+use Rattle.std.proofs.lemmas.Bool.{cases_Bool, cases_eq, cases_lt, eqb-true}
+use Rattle.std.proofs.lemmas.List.{ext_get_or}
+use Rattle.std.specs.Prelude.{flat_map, slice_index}
+use Rattle.ss_journal.proofs.GateLemmas.{StandsFor-first_closed}
+use Rattle.ss_journal.proofs.HeaderLemmas.{is_born-parts, is_born-same}
+use Rattle.ss_journal.proofs.MapLemmas.{SameMap-refl, SameMap-trans, file_map-same}
+use Rattle.ss_journal.proofs.PutLemmas.{extent_after-again, with_puts-again}
+use Rattle.ss_journal.proofs.RangeLemmas.{DiffersIn-overwrite, get_or-differs, length-differs}
+use Rattle.ss_journal.proofs.RedoLemmas.{StandsFor-from, StandsFor-same, puts_in_use-formed, redo-born, redo-first_closed, redo-formed, redo-same_header, redo_entries-again}
+use Rattle.ss_journal.proofs.SlotLemmas.{AgreeBeside-torn, DiffersIn-slots_written, file_map-slots_written, outside_slots, slots_in-mono, slots_in-torn}
 
 -- the entries in use, by the file and the puts
 module _ (puts : List Put) (content : List ℕ) (in_use : AreInUse puts content) where
@@ -75,21 +74,6 @@ SameMap-slots_written puts content found in_use is =
     let all = redone puts content in_use in
     SameMap-trans _ _ _ (file_map-slots_written puts content (long-in_use puts content in_use) all.1 all.2 all.3) (same_map puts content in_use found is)
 
--- a formed file whose first places stay is formed
-pub is_born-same : (content image : List ℕ) → IsTrue (is_born content) → length image ≡ length content → ((place : ℕ) → place < 9 → slice_index image place ≡ slice_index content place) → IsTrue (is_born image)
-is_born-same content image born long same =
-    let was = is_born-parts content born in
-    is_born-from image (omega (arith, long, was.0))
-    (subst (λ (byte : ℕ). IsTrue (opens byte)) (sym (same 0 (omega arith))) was.1)
-    (has_magic-same content image (omega (arith, was.0)) (omega (arith, long, was.0)) (λ place low high. same place high) ∙ was.2)
-
--- with the first gate closed the file alone gives the map
-pub file_map-first_closed : (content : List ℕ) (found : SlotMap) → IsTrue (is_born content) → FirstClosed content → StandsFor content found → SameMap (file_map content) found
-file_map-first_closed content found born closed is = subst (λ (r : Redone). Gives r found) (redo-first_closed content born closed).0 is
-
-pub StandsFor-first_closed : (image : List ℕ) (found : SlotMap) → IsTrue (is_born image) → FirstClosed image → SameMap (file_map image) found → StandsFor image found
-StandsFor-first_closed image found born closed same = StandsFor-from image (file_map image) found (redo-first_closed image born closed).0 same
-
 -- with puts in use the first gate is open
 first_open : (puts : List Put) (content : List ℕ) → 0 < length puts → AreInUse puts content → IsTrue (opens (slice_index content 512))
 first_open puts content some in_use = elim (cases_Bool (opens (slice_index content 512))) [
@@ -120,56 +104,6 @@ StandsFor-first_gate puts content image found some in_use is same differs =
       ],
       born,
     )
-
--- behind a closed first gate, what differs between the header and the slots counts for nothing
-StandsFor-entries : (ranges : List (ℕ × ℕ)) (content image : List ℕ) (found : SlotMap) → IsTrue (is_born content) → FirstClosed content → StandsFor content found → end_of ranges (length content) ≤ length content
-    → ((place : ℕ) → (place < 513) ⊎ (36864 ≤ place) → IsOutsideAll ranges place) → DiffersIn ranges content image → StandsFor image found × IsTrue (is_born image) × FirstClosed image
-StandsFor-entries ranges content image found born closed is inside out differs =
-    let size = length-differs ranges content image inside differs in
-    let same : (place : ℕ) → (place < 513) ⊎ (36864 ≤ place) → slice_index image place ≡ slice_index content place = λ place beside. get_or-differs ranges content image inside differs place (out place beside) in
-    let formed = is_born-same content image born size (λ place lt. same place (inl (omega (arith, lt)))) in
-    let gate : FirstClosed image = subst (λ (byte : ℕ). IsFalse (opens byte)) (sym (same 512 (inl (omega arith)))) closed in
-    (StandsFor-first_closed image found formed gate (SameMap-trans _ _ _ (file_map-same content image size (λ place from. same place (inr from))) (file_map-first_closed content found born closed is)), formed, gate)
-
--- gates of entries in a row
-pub outside_gates : (from n place : ℕ) → (place < entry_place from) ⊎ (entry_place (from + n) ≤ place) → IsOutsideAll (map (λ k. (entry_place k, 1)) (range_with_len from n)) place
-outside_gates from zero place out = tt
-outside_gates from (suc n) place out = (
-  elim out [ inl below ↦ inl below | inr above ↦ inr (omega (arith, above)) ],
-  outside_gates (from + 1) n place (elim out [ inl below ↦ inl (omega (arith, below)) | inr above ↦ inr (omega (arith, above)) ]),
-)
-
-end_of-gates : (from n size : ℕ) → entry_place (from + n) ≤ size → end_of (map (λ k. (entry_place k, 1)) (range_with_len from n)) size ≤ size
-end_of-gates from zero size le = omega arith
-end_of-gates from (suc n) size le = omega (arith, end_of-gates (from + 1) n size (omega (arith, le)), le)
-
--- with the first gate closed the others count for nothing
-pub StandsFor-other_gates : (content image : List ℕ) (found : SlotMap) → IsTrue (is_born content) → FirstClosed content → StandsFor content found → DiffersIn other_gates content image → StandsFor image found × IsTrue (is_born image) × FirstClosed image
-StandsFor-other_gates content image found born closed is differs =
-    let long = (is_born-parts content born).0 in
-    StandsFor-entries other_gates content image found born closed is (end_of-gates 1 63 (length content) (omega (arith, long)))
-    (λ place beside. outside_gates 1 63 place (⊎_elim (λ below. inl (omega (arith, below))) (λ above. inr (omega (arith, above))) beside)) differs
-
--- behind a closed gate anything may stand
-pub StandsFor-body : (content image : List ℕ) (found : SlotMap) → IsTrue (is_born content) → FirstClosed content → StandsFor content found → DiffersAt 513 543 content image → StandsFor image found × IsTrue (is_born image) × FirstClosed image
-StandsFor-body content image found born closed is differs =
-    let long = (is_born-parts content born).0 in
-    StandsFor-entries ((513, 543) ∷ []) content image found born closed is (omega (arith, long))
-    (λ place beside. (⊎_elim (λ below. inl below) (λ above. inr (omega (arith, above))) beside, tt)) differs
-
--- the puts that are written are one way to tear their slots
-DiffersIn-slots_written : (puts : List Put) (content : List ℕ) → 36864 ≤ length content → IsTrue (slots_fit puts (slots_in (length content))) → AreSlots puts → AreWhole puts → DiffersIn (slot_ranges puts) content (slots_written puts content)
-DiffersIn-slots_written [] content long fit slots whole = DiffersIn-refl [] content
-DiffersIn-slots_written (put ∷ puts) content long fit slots whole =
-    let cases = slots_fit-cases put puts (slots_in (length content)) fit in
-    let below = All-head (λ (p : Put). p.slot < 2 ^ 20) put puts slots in
-    let full = All-head (λ (p : Put). length p.bytes ≡ 128) put puts whole in
-    let grown = length-written put content long cases.0 below full in
-    let next = overwrite content (slot_place put.slot) put.bytes in
-    let first = subst (λ (n : ℕ). DiffersAt (slot_place put.slot) n content next) full (DiffersIn-overwrite (slot_place put.slot) content put.bytes (omega (arith, long, cases.0))) in
-    let rest = DiffersIn-slots_written puts next (omega (arith, grown, long)) (subst (λ (n : ℕ). IsTrue (slots_fit puts n)) (sym (slots-written put content long cases.0 below full)) cases.1)
-    (All-tail (λ (p : Put). p.slot < 2 ^ 20) put puts slots) (All-tail (λ (p : Put). length p.bytes ≡ 128) put puts whole) in
-    DiffersIn-append ((slot_place put.slot, 128) ∷ []) (slot_ranges puts) content next (slots_written puts next) first rest
 
 module _ (puts : List Put) (content : List ℕ) (in_use : AreInUse puts content) where
   pub HasRoom-in_use : HasRoom puts content

@@ -1,0 +1,78 @@
+-- The entries of a file, and its open prefix.
+use Rattle.ss_journal.specs.Entries.{entries, is_open, open_prefix}
+use Rattle.ss_journal.specs.Format.{entry_at, entry_place, opens}
+use Rattle.ss_journal.specs.Writes.{FirstClosed}
+use Rattle.std.proofs.Common.{IsFalse, IsTrue, List, [], ap, arith, drop, length, map, refl, subst, suc, sym, zero, ℕ, ◌+◌, ◌<◌, ◌∙◌, ◌∷◌, ◌≡◌, ◌≤◌}
+use Rattle.std.proofs.Math.Nat.{zero-add}
+use Rattle.std.proofs.lemmas.Bool.{cond-false, cond-true, cond_both}
+use Rattle.std.proofs.lemmas.List.{drop_more, get_or-drop, get_or-take, length-drop, length-take}
+use Rattle.std.proofs.lemmas.List.Elements.{All-cons, All-head, All-map, All-nil, All-tail}
+use Rattle.std.proofs.lemmas.List.FromFn.{get_or-map-range_with_len, length-map-range_with_len}
+use Rattle.std.specs.List.{range_with_len}
+use Rattle.std.specs.Prelude.{All, slice_index}
+use Rattle.ss_journal.proofs.EntryLemmas.{All-range_with_len}
+use Rattle.ss_journal.proofs.HeaderLemmas.{piece-same}
+
+-- the same function at each place of a range
+map-range-same : (f g : ℕ → List ℕ) (from n : ℕ) → ((k : ℕ) → from ≤ k → k < from + n → f k ≡ g k) → map f (range_with_len from n) ≡ map g (range_with_len from n)
+map-range-same f g from zero same = refl
+map-range-same f g from (suc n) same =
+    let first = same from (omega arith) (omega arith) in
+    let rest = map-range-same f g (from + 1) n (λ k low high. same k (omega (arith, low)) (omega (arith, high))) in
+    rw (first, rest) refl
+
+pub entries-same : (old new : List ℕ) → 36864 ≤ length old → 36864 ≤ length new → ((place : ℕ) → 512 ≤ place → place < 36864 → slice_index new place ≡ slice_index old place) → entries new ≡ entries old
+unfolding entries
+entries-same old new long also same =
+    map-range-same (entry_at new) (entry_at old) 0 64 (λ k low high. piece-same old new (entry_place k) 544 (omega (arith, high, long)) (omega (arith, high, also)) (λ place from to. same place (omega (arith, from)) (omega (arith, high, to))))
+
+-- the entries behind the first
+abbrev pub other_entries : List ℕ → List (List ℕ)
+other_entries image = map (entry_at image) (range_with_len 1 63)
+
+entries-first : (image : List ℕ) → entries image ≡ entry_at image 0 ∷ other_entries image
+unfolding entries
+entries-first image = refl
+
+-- the gate of an entry is its first place
+pub gate-entry_at : (image : List ℕ) (n : ℕ) → slice_index (entry_at image n) 0 ≡ slice_index image (entry_place n)
+gate-entry_at image n = get_or-take 544 (drop (entry_place n) image) 0 0 (omega arith) ∙ get_or-drop (entry_place n) image 0 0 ∙ ap (slice_index image) (let none : entry_place n + 0 ≡ entry_place n = omega arith in none)
+
+pub open_prefix-closed : (image : List ℕ) → FirstClosed image → open_prefix (entries image) ≡ []
+open_prefix-closed image closed =
+    let gate : IsFalse (is_open (entry_at image 0)) = subst (λ (byte : ℕ). IsFalse (opens byte)) (sym (gate-entry_at image 0)) closed in
+    rw entries-first (cond-false _ _ _ gate)
+
+pub open_prefix-open : (image : List ℕ) → IsTrue (opens (slice_index image 512)) → open_prefix (entries image) ≡ entry_at image 0 ∷ open_prefix (other_entries image)
+open_prefix-open image opened =
+    let gate : IsTrue (is_open (entry_at image 0)) = subst (λ (byte : ℕ). IsTrue (opens byte)) (sym (gate-entry_at image 0)) opened in
+    rw entries-first (cond-true _ _ _ gate)
+
+-- and there the prefix ends, if the second is closed
+pub open_prefix-second : (image : List ℕ) → IsFalse (opens (slice_index image 1056)) → open_prefix (other_entries image) ≡ []
+open_prefix-second image closed =
+    let gate : IsFalse (is_open (entry_at image 1)) = subst (λ (byte : ℕ). IsFalse (opens byte)) (sym (gate-entry_at image 1)) closed in
+    let rest = open_prefix (map (entry_at image) (range_with_len 2 62)) in
+    cond-false (is_open (entry_at image 1)) (entry_at image 1 ∷ rest) [] gate
+
+-- the reader's step: the entries from n on, over what those before it gave
+pub open_prefix-drop : (image : List ℕ) (n : ℕ) → n < 64 → drop n (entries image) ≡ entry_at image n ∷ drop (n + 1) (entries image)
+unfolding entries
+open_prefix-drop image n lt =
+    let long = length-map-range_with_len (entry_at image) 0 64 in
+    drop_more (entries image) n [] (omega (arith, long)) ∙ ap (λ (entry : List ℕ). entry ∷ drop (n + 1) (entries image)) (get_or-map-range_with_len (entry_at image) 0 64 n n [] lt (zero-add n))
+
+pub open_prefix-long : (list : List (List ℕ)) → All (λ entry. length entry ≡ 544) list → All (λ entry. length entry ≡ 544) (open_prefix list)
+open_prefix-long [] long = long
+open_prefix-long (entry ∷ rest) long =
+    let P = λ (e : List ℕ). length e ≡ 544 in
+    cond_both (is_open entry) (entry ∷ open_prefix rest) [] (λ l. All P l) (λ opened. All-cons P entry (open_prefix rest) (All-head P entry rest long) (open_prefix-long rest (All-tail P entry rest long))) (λ closed. All-nil P)
+
+entry_at-whole : (image : List ℕ) (n : ℕ) → 36864 ≤ length image → n < 64 → length (entry_at image n) ≡ 544
+entry_at-whole image n long lt = simp (length-take, length-drop) (omega arith)
+
+-- the entries of a file that is long enough are whole
+pub entries-long : (image : List ℕ) → 36864 ≤ length image → All (λ entry. length entry ≡ 544) (entries image)
+unfolding entries
+entries-long image long = All-map (λ (e : List ℕ). length e ≡ 544) (entry_at image) (range_with_len 0 64)
+    (All-range_with_len (λ (n : ℕ). length (entry_at image n) ≡ 544) 64 (λ n lt. entry_at-whole image n long lt))
