@@ -1,17 +1,17 @@
 -- The steps of the birth, and what a crash may leave of them.
+use Rattle.std.proofs.Common.{IsFalse, IsTrue, List, Result, [], ap, arith, drop, inl, inr, length, max, nat_eq, refl, replicate, subst, sym, take, ℕ, ◌++◌, ◌+◌, ◌-◌, ◌<◌, ◌∙◌, ◌∷◌, ◌≡◌, ◌≤◌}
+use Rattle.std.proofs.lemmas.Bool.{cases_Bool, cases_lt, cond-false, cond-true, eqb-false, eqb-true}
+use Rattle.std.proofs.lemmas.List.{append-nil, get_or-replicate, get_or_past, length-replicate, take-append-drop}
+use Rattle.std.specs.Prelude.{IsErr, slice_index}
+use Rattle.ss_outside.proofs.DiskLemmas.{get_or-overwrite_inside, get_or-overwrite_outside, length-overwrite}
+use Rattle.ss_outside.specs.Crash.{KnowsNow, OnlyReads}
+use Rattle.ss_outside.specs.Disk.{Told, overwrite}
 use Rattle.ss_journal.specs.Birth.{IsBegun, IsFormed, blank_end, form_ranges, magic_bytes}
 use Rattle.ss_journal.specs.Calls.{KeepsMap}
 use Rattle.ss_journal.specs.Format.{entry_place, has_magic, is_born, is_unborn, magic, opens, slots_in}
 use Rattle.ss_journal.specs.Kept.{AllClosed}
 use Rattle.ss_journal.specs.Redo.{Gives, Redone, SameMap, SlotMap, StandsFor, blank_map}
 use Rattle.ss_journal.specs.Writes.{DiffersAt, DiffersIn, Tears, end_of}
-use Rattle.ss_outside.proofs.DiskLemmas.{get_or-overwrite_inside, get_or-overwrite_outside, length-overwrite}
-use Rattle.ss_outside.specs.Crash.{KnowsNow, OnlyReads}
-use Rattle.ss_outside.specs.Disk.{Told, overwrite}
-use Rattle.std.proofs.Common.{IsFalse, IsTrue, List, Result, [], ap, arith, drop, inl, inr, length, max, nat_eq, refl, replicate, subst, sym, take, ℕ, ◌++◌, ◌+◌, ◌-◌, ◌<◌, ◌∙◌, ◌∷◌, ◌≡◌, ◌≤◌}
-use Rattle.std.proofs.lemmas.Bool.{cases_Bool, cases_lt, cond-false, cond-true, eqb-false, eqb-true}
-use Rattle.std.proofs.lemmas.List.{append-nil, get_or-replicate, get_or_past, length-replicate, take-append-drop}
-use Rattle.std.specs.Prelude.{IsErr, slice_index}
 use Rattle.ss_journal.proofs.GateLemmas.{StandsFor-first_closed}
 use Rattle.ss_journal.proofs.HeaderLemmas.{has_magic-same, is_born-from, is_unborn-cases, is_unborn-gate, is_unborn-short, is_unborn-zero, long-has_magic}
 use Rattle.ss_journal.proofs.MapLemmas.{SameMap-trans, file_map-blank}
@@ -20,14 +20,16 @@ use Rattle.ss_journal.proofs.RedoLemmas.{StandsFor-from, redo-unborn}
 use Rattle.ss_journal.proofs.TearLemmas.{keeps-failed, tears-after_read, tears-joined}
 
 -- unformed files with as many slots stand for one map
-StandsFor-unborn : (content image : List ℕ) (found : SlotMap) → IsTrue (is_unborn content) → StandsFor content found → IsTrue (is_unborn image) → slots_in (length image) ≡ slots_in (length content) → StandsFor image found
+StandsFor-unborn : (content image : List ℕ) (found : SlotMap) → IsTrue (is_unborn content) → StandsFor content found → IsTrue (is_unborn image)
+    → slots_in (length image) ≡ slots_in (length content) → StandsFor image found
 StandsFor-unborn content image found unborn is still slots =
     let its : SameMap (blank_map content) found = subst (λ (r : Redone). Gives r found) (redo-unborn content unborn) is in
     let alike : SameMap (blank_map image) (blank_map content) = record { bytes = λ slot lt. refl; extent = slots } in
     StandsFor-from image (blank_map image) found (redo-unborn image still) (SameMap-trans _ _ _ alike its)
 
 -- the steps of the birth
-pub StandsFor-begin : (content image : List ℕ) (found : SlotMap) → length content ≤ 1 → StandsFor content found → DiffersAt 0 1 content image → StandsFor image found
+pub StandsFor-begin : (content image : List ℕ) (found : SlotMap) → length content ≤ 1 → StandsFor content found → DiffersAt 0 1 content image
+    → StandsFor image found
 StandsFor-begin content image found short is differs =
     let still : length image ≤ 1 = omega (arith, differs.no_longer, short) in
     StandsFor-unborn content image found (is_unborn-short content short) is (is_unborn-short image still) (omega (arith, short, still))
@@ -61,7 +63,8 @@ few-magic_bytes content = elim (cases_Bool (nat_eq (slice_index content 0) 0)) [
 ]
 
 -- the magic and the zeros behind it, lost, torn or whole
-pub StandsFor-form : (content image : List ℕ) (found : SlotMap) → IsBegun content → StandsFor content found → DiffersIn (form_ranges content) content image → StandsFor image found
+pub StandsFor-form : (content image : List ℕ) (found : SlotMap) → IsBegun content → StandsFor content found
+    → DiffersIn (form_ranges content) content image → StandsFor image found
 StandsFor-form content image found begun is differs = StandsFor-unborn content image found begun.unborn is unborn slots
   where
     slots : slots_in (length image) ≡ slots_in (length content)
@@ -232,7 +235,8 @@ module _ (content image : List ℕ) (formed : IsFormed content) (differs : Diffe
   ]
 
 -- the gate is opened
-pub birth-opened : (content : List ℕ) → IsFormed content → IsTrue (is_born (overwrite content 0 (165 ∷ []))) × AllClosed (overwrite content 0 (165 ∷ []))
+pub birth-opened : (content : List ℕ) → IsFormed content
+    → IsTrue (is_born (overwrite content 0 (165 ∷ []))) × AllClosed (overwrite content 0 (165 ∷ []))
 birth-opened content formed =
     let within : 0 ≤ length content = omega arith in
     let image = overwrite content 0 (165 ∷ []) in

@@ -1,19 +1,19 @@
 -- How an entry is judged, and how it is spelled.
+use Rattle.std.proofs.Common.{IsFalse, IsTrue, List, [], ap, arith, drop, get_or, length, refl, replicate, subst, suc, sym, take, true, zero, ℕ, ◌&&◌, ◌*◌, ◌++◌, ◌+◌, ◌-◌, ◌<◌, ◌==◌, ◌^◌, ◌∙◌, ◌∷◌, ◌≡◌, ◌≤◌}
+use Rattle.std.proofs.Math.Nat.{zero-add}
+use Rattle.std.proofs.lemmas.Bool.Decides.{nat_tests}
+use Rattle.std.proofs.lemmas.Bool.{and_from, and_parts, le-leb, leb-true, lt-leb}
+use Rattle.std.proofs.lemmas.List.Concat.{flat_map-append}
+use Rattle.std.proofs.lemmas.List.Elements.{All-get_or, All-head, All-map, All-tail}
+use Rattle.std.proofs.lemmas.List.FromFn.{fill_by_all, get_or-range_with_len, length-map-range_with_len, length-range_with_len}
+use Rattle.std.proofs.lemmas.List.{append-nil, append_assoc, drop-drop, drop-replicate, drop_at, length-append, length-drop, length-replicate, length-take, take-append-drop, take_all, take_at, take_more}
+use Rattle.std.specs.List.{list_all, range_with_len}
+use Rattle.std.specs.Prelude.{All, flat_map}
 use Rattle.ss_fields.proofs.FieldLemmas.{length-number_bytes, number_at-written}
 use Rattle.ss_fields.specs.Fields.{number_at, number_bytes}
 use Rattle.ss_journal.specs.Entries.{count_of, entry_body, is_good, put_at, put_bytes, puts_of}
 use Rattle.ss_journal.specs.Puts.{AreWhole, IsTxn, slots_fit, slots_rise_from}
 use Rattle.ss_journal.specs.declared.put.Put.{Put}
-use Rattle.std.proofs.Common.{IsFalse, IsTrue, List, [], ap, arith, drop, get_or, length, refl, replicate, subst, suc, sym, take, true, zero, ℕ, ◌&&◌, ◌*◌, ◌++◌, ◌+◌, ◌-◌, ◌<◌, ◌==◌, ◌^◌, ◌∙◌, ◌∷◌, ◌≡◌, ◌≤◌}
-use Rattle.std.proofs.Math.Nat.{zero-add}
-use Rattle.std.proofs.lemmas.Bool.{and_from, and_parts, le-leb, leb-true, lt-leb}
-use Rattle.std.proofs.lemmas.Bool.Decides.{nat_tests}
-use Rattle.std.proofs.lemmas.List.{append-nil, append_assoc, drop-drop, drop-replicate, drop_at, length-append, length-drop, length-replicate, length-take, take-append-drop, take_all, take_at, take_more}
-use Rattle.std.proofs.lemmas.List.Concat.{flat_map-append}
-use Rattle.std.proofs.lemmas.List.Elements.{All-get_or, All-head, All-map, All-tail}
-use Rattle.std.proofs.lemmas.List.FromFn.{fill_by_all, get_or-range_with_len, length-map-range_with_len, length-range_with_len}
-use Rattle.std.specs.List.{list_all, range_with_len}
-use Rattle.std.specs.Prelude.{All, flat_map}
 use Rattle.ss_journal.proofs.PutLemmas.{AreSlots-rise, slots_fit-again}
 
 -- what is true of a sound entry
@@ -51,7 +51,8 @@ is_good-some entry extent good rest none =
     let empty : length (puts_of entry ++ rest) ≡ 0 = ap length none in
     omega (arith, some, long, empty, length-append (puts_of entry) rest)
 
-pub is_good-again : (entry : List ℕ) (old new : ℕ) → IsTrue (is_good entry old) → old ≤ new → IsTrue (is_good entry new) × IsTrue (slots_fit (puts_of entry) old)
+pub is_good-again : (entry : List ℕ) (old new : ℕ) → IsTrue (is_good entry old) → old ≤ new
+    → IsTrue (is_good entry new) × IsTrue (slots_fit (puts_of entry) old)
 unfolding is_good
 is_good-again entry old new good le =
     let zero = and_parts _ _ good in
@@ -59,7 +60,8 @@ is_good-again entry old new good le =
     (and_from _ _ (and_from _ _ fits.0 (slots_fit-again (puts_of entry) old new fits.1 le)) zero.1, fits.1)
 
 -- an entry of so few puts is judged by them, and by what stands behind them
-pub is_good-few : (entry : List ℕ) (extent : ℕ) → 1 ≤ count_of entry → count_of entry ≤ 4 → is_good entry extent ≡ (slots_rise_from 0 (puts_of entry) && slots_fit (puts_of entry) extent && list_all (λ byte. byte == 0) (drop (2 + 132 * count_of entry) entry))
+pub is_good-few : (entry : List ℕ) (extent : ℕ) → 1 ≤ count_of entry → count_of entry ≤ 4
+    → is_good entry extent ≡ (slots_rise_from 0 (puts_of entry) && slots_fit (puts_of entry) extent && list_all (λ byte. byte == 0) (drop (2 + 132 * count_of entry) entry))
 unfolding is_good
 is_good-few entry extent some few = rw (le-leb 1 (count_of entry) some, le-leb (count_of entry) 4 few) refl
 
@@ -107,7 +109,8 @@ length-puts_bytes (put ∷ puts) whole =
     omega (arith, first, rest, length-append (put_bytes put) (flat_map put_bytes puts))
 
 -- where a put stands among the bytes of all
-drop-puts_bytes : (k : ℕ) (puts : List Put) (end : List ℕ) (d : Put) → AreWhole puts → k < length puts → (rest : List ℕ) × (drop (132 * k) (flat_map put_bytes puts ++ end) ≡ put_bytes (get_or puts k d) ++ rest)
+drop-puts_bytes : (k : ℕ) (puts : List Put) (end : List ℕ) (d : Put) → AreWhole puts → k < length puts
+    → (rest : List ℕ) × (drop (132 * k) (flat_map put_bytes puts ++ end) ≡ put_bytes (get_or puts k d) ++ rest)
 drop-puts_bytes k [] end d whole lt = absurd (omega (arith, lt))
 drop-puts_bytes zero (put ∷ puts) end d whole lt = (flat_map put_bytes puts ++ end, append_assoc (put_bytes put) (flat_map put_bytes puts) end)
 drop-puts_bytes (suc k) (put ∷ puts) end d whole lt =
@@ -161,7 +164,8 @@ all_zeros : (n : ℕ) → list_all (λ byte. byte == 0) (replicate n 0) ≡ true
 all_zeros zero = refl
 all_zeros (suc n) = all_zeros n
 
-pub is_good-body : (puts : List Put) (gate extent : ℕ) → AreWhole puts → IsTxn puts → IsTrue (slots_fit puts extent) → IsTrue (is_good (gate ∷ entry_body puts) extent)
+pub is_good-body : (puts : List Put) (gate extent : ℕ) → AreWhole puts → IsTxn puts → IsTrue (slots_fit puts extent)
+    → IsTrue (is_good (gate ∷ entry_body puts) extent)
 unfolding is_good entry_body
 is_good-body puts gate extent whole txn fit =
     let same = sym (puts_of-body puts gate whole txn) in
@@ -175,12 +179,14 @@ length-entry_body puts whole few =
     omega (arith, few, length-append (flat_map put_bytes puts) (replicate (542 - 132 * length puts) 0), length-puts_bytes puts whole, length-replicate {A = ℕ} (542 - 132 * length puts) 0)
 
 -- what stands behind the gate of a spelled entry
-pub body-entry : (puts : List Put) (entry : List ℕ) → AreWhole puts → length puts ≤ 4 → entry ≡ 0 ∷ entry_body puts → take 543 (drop 1 entry) ≡ entry_body puts
+pub body-entry : (puts : List Put) (entry : List ℕ) → AreWhole puts → length puts ≤ 4 → entry ≡ 0 ∷ entry_body puts
+    → take 543 (drop 1 entry) ≡ entry_body puts
 body-entry puts entry whole few is =
     ap (λ (list : List ℕ). take 543 (drop 1 list)) is ∙ take_all 543 (entry_body puts) (omega (arith, length-entry_body puts whole few))
 
 -- one put more
-pub entry-more : (puts : List Put) (k : ℕ) (d : Put) (old : List ℕ) → k < length puts → length puts ≤ 4 → AreWhole (take k puts) → old ≡ 0 ∷ length puts ∷ flat_map put_bytes (take k puts) ++ replicate (542 - 132 * k) 0
+pub entry-more : (puts : List Put) (k : ℕ) (d : Put) (old : List ℕ) → k < length puts → length puts ≤ 4 → AreWhole (take k puts)
+    → old ≡ 0 ∷ length puts ∷ flat_map put_bytes (take k puts) ++ replicate (542 - 132 * k) 0
     → take (2 + 132 * k) old ++ put_bytes (get_or puts k d) ++ drop (134 + 132 * k) old ≡ 0 ∷ length puts ∷ flat_map put_bytes (take (k + 1) puts) ++ replicate (542 - 132 * (k + 1)) 0
 entry-more puts k d old lt few whole is =
     let front : List ℕ = 0 ∷ length puts ∷ flat_map put_bytes (take k puts) in
@@ -199,6 +205,7 @@ entry-more puts k d old lt few whole is =
     ∙ ap (λ (list : List ℕ). front ++ put_bytes put ++ list) rest
     ∙ ap (λ (list : List ℕ). 0 ∷ length puts ∷ list ++ replicate (542 - 132 * (k + 1)) 0) (sym puts_bytes)
 
-pub entry-all : (puts : List Put) (entry : List ℕ) → entry ≡ 0 ∷ length puts ∷ flat_map put_bytes (take (length puts) puts) ++ replicate (542 - 132 * length puts) 0 → entry ≡ 0 ∷ entry_body puts
+pub entry-all : (puts : List Put) (entry : List ℕ)
+    → entry ≡ 0 ∷ length puts ∷ flat_map put_bytes (take (length puts) puts) ++ replicate (542 - 132 * length puts) 0 → entry ≡ 0 ∷ entry_body puts
 unfolding entry_body
 entry-all puts entry is = is ∙ ap (λ (list : List Put). 0 ∷ length puts ∷ flat_map put_bytes list ++ replicate (542 - 132 * length puts) 0) (take_all (length puts) puts (omega arith))

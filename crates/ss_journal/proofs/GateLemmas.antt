@@ -1,29 +1,32 @@
 -- What counts behind a closed first gate, and how the other gates close.
+use Rattle.std.proofs.Common.{Bool, IsFalse, IsTrue, List, Ok, [], ap, arith, false, inl, inr, length, map, refl, subst, suc, sym, true, zero, ℕ, ⊎_elim, ◌+◌, ◌<◌, ◌∙◌, ◌∷◌, ◌≡◌, ◌≤◌, ◌⊎◌}
+use Rattle.std.proofs.lemmas.Bool.{cases_eq, cases_lt}
+use Rattle.std.specs.List.{range_with_len}
+use Rattle.std.specs.Prelude.{slice_index}
+use Rattle.ss_outside.proofs.DiskLemmas.{get_or-overwrite_inside, get_or-overwrite_outside}
+use Rattle.ss_outside.specs.Disk.{IsOutside, IsOutsideAll, Told, overwrite}
 use Rattle.ss_journal.specs.Format.{entry_place, is_born, opens}
 use Rattle.ss_journal.specs.Kept.{AllClosed}
 use Rattle.ss_journal.specs.Redo.{Gives, Redone, SameMap, SlotMap, StandsFor, file_map}
 use Rattle.ss_journal.specs.Settling.{ClosesGate}
 use Rattle.ss_journal.specs.Writes.{DiffersAt, DiffersIn, FirstClosed, end_of, other_gates}
-use Rattle.ss_outside.proofs.DiskLemmas.{get_or-overwrite_inside, get_or-overwrite_outside}
-use Rattle.ss_outside.specs.Disk.{IsOutside, IsOutsideAll, Told, overwrite}
-use Rattle.std.proofs.Common.{Bool, IsFalse, IsTrue, List, Ok, [], ap, arith, false, inl, inr, length, map, refl, subst, suc, sym, true, zero, ℕ, ⊎_elim, ◌+◌, ◌<◌, ◌∙◌, ◌∷◌, ◌≡◌, ◌≤◌, ◌⊎◌}
-use Rattle.std.proofs.lemmas.Bool.{cases_eq, cases_lt}
-use Rattle.std.specs.List.{range_with_len}
-use Rattle.std.specs.Prelude.{slice_index}
 use Rattle.ss_journal.proofs.HeaderLemmas.{is_born-parts, is_born-same}
 use Rattle.ss_journal.proofs.MapLemmas.{SameMap-refl, SameMap-trans, file_map-same}
 use Rattle.ss_journal.proofs.RangeLemmas.{Covers, DiffersIn-covered, DiffersIn-overwrite, get_or-differs, length-differs}
 use Rattle.ss_journal.proofs.RedoLemmas.{StandsFor-from, redo-first_closed}
 
 -- with the first gate closed the file alone gives the map
-pub file_map-first_closed : (content : List ℕ) (found : SlotMap) → IsTrue (is_born content) → FirstClosed content → StandsFor content found → SameMap (file_map content) found
+pub file_map-first_closed : (content : List ℕ) (found : SlotMap) → IsTrue (is_born content) → FirstClosed content → StandsFor content found
+    → SameMap (file_map content) found
 file_map-first_closed content found born closed is = subst (λ (r : Redone). Gives r found) (redo-first_closed content born closed).0 is
 
-pub StandsFor-first_closed : (image : List ℕ) (found : SlotMap) → IsTrue (is_born image) → FirstClosed image → SameMap (file_map image) found → StandsFor image found
+pub StandsFor-first_closed : (image : List ℕ) (found : SlotMap) → IsTrue (is_born image) → FirstClosed image → SameMap (file_map image) found
+    → StandsFor image found
 StandsFor-first_closed image found born closed same = StandsFor-from image (file_map image) found (redo-first_closed image born closed).0 same
 
 -- behind a closed first gate, what differs between the header and the slots counts for nothing
-StandsFor-entries : (ranges : List (ℕ × ℕ)) (content image : List ℕ) (found : SlotMap) → IsTrue (is_born content) → FirstClosed content → StandsFor content found → end_of ranges (length content) ≤ length content
+StandsFor-entries : (ranges : List (ℕ × ℕ)) (content image : List ℕ) (found : SlotMap) → IsTrue (is_born content) → FirstClosed content
+    → StandsFor content found → end_of ranges (length content) ≤ length content
     → ((place : ℕ) → (place < 513) ⊎ (36864 ≤ place) → IsOutsideAll ranges place) → DiffersIn ranges content image → StandsFor image found × IsTrue (is_born image) × FirstClosed image
 StandsFor-entries ranges content image found born closed is inside out differs =
     let size = length-differs ranges content image inside differs in
@@ -33,7 +36,8 @@ StandsFor-entries ranges content image found born closed is inside out differs =
     (StandsFor-first_closed image found formed gate (SameMap-trans _ _ _ (file_map-same content image size (λ place from. same place (inr from))) (file_map-first_closed content found born closed is)), formed, gate)
 
 -- gates of entries in a row
-pub outside_gates : (from n place : ℕ) → (place < entry_place from) ⊎ (entry_place (from + n) ≤ place) → IsOutsideAll (map (λ k. (entry_place k, 1)) (range_with_len from n)) place
+pub outside_gates : (from n place : ℕ) → (place < entry_place from) ⊎ (entry_place (from + n) ≤ place)
+    → IsOutsideAll (map (λ k. (entry_place k, 1)) (range_with_len from n)) place
 outside_gates from zero place out = tt
 outside_gates from (suc n) place out = (
   elim out [ inl below ↦ inl below | inr above ↦ inr (omega (arith, above)) ],
@@ -45,20 +49,23 @@ end_of-gates from zero size le = omega arith
 end_of-gates from (suc n) size le = omega (arith, end_of-gates (from + 1) n size (omega (arith, le)), le)
 
 -- with the first gate closed the others count for nothing
-pub StandsFor-other_gates : (content image : List ℕ) (found : SlotMap) → IsTrue (is_born content) → FirstClosed content → StandsFor content found → DiffersIn other_gates content image → StandsFor image found × IsTrue (is_born image) × FirstClosed image
+pub StandsFor-other_gates : (content image : List ℕ) (found : SlotMap) → IsTrue (is_born content) → FirstClosed content → StandsFor content found
+    → DiffersIn other_gates content image → StandsFor image found × IsTrue (is_born image) × FirstClosed image
 StandsFor-other_gates content image found born closed is differs =
     let long = (is_born-parts content born).0 in
     StandsFor-entries other_gates content image found born closed is (end_of-gates 1 63 (length content) (omega (arith, long)))
     (λ place beside. outside_gates 1 63 place (⊎_elim (λ below. inl (omega (arith, below))) (λ above. inr (omega (arith, above))) beside)) differs
 
 -- behind a closed gate anything may stand
-pub StandsFor-body : (content image : List ℕ) (found : SlotMap) → IsTrue (is_born content) → FirstClosed content → StandsFor content found → DiffersAt 513 543 content image → StandsFor image found × IsTrue (is_born image) × FirstClosed image
+pub StandsFor-body : (content image : List ℕ) (found : SlotMap) → IsTrue (is_born content) → FirstClosed content → StandsFor content found
+    → DiffersAt 513 543 content image → StandsFor image found × IsTrue (is_born image) × FirstClosed image
 StandsFor-body content image found born closed is differs =
     let long = (is_born-parts content born).0 in
     StandsFor-entries ((513, 543) ∷ []) content image found born closed is (omega (arith, long))
     (λ place beside. (⊎_elim (λ below. inl below) (λ above. inr (omega (arith, above))) beside, tt)) differs
 
-outside_gate : (from m n place : ℕ) → from ≤ n → n < from + m → IsOutsideAll (map (λ k. (entry_place k, 1)) (range_with_len from m)) place → IsOutside (entry_place n) 1 place
+outside_gate : (from m n place : ℕ) → from ≤ n → n < from + m → IsOutsideAll (map (λ k. (entry_place k, 1)) (range_with_len from m)) place
+    → IsOutside (entry_place n) 1 place
 outside_gate from zero n place low high out = absurd (omega (arith, low, high))
 outside_gate from (suc m) n place low high out = elim (cases_eq n from) [
   | inl same ↦ subst (λ (k : ℕ). IsOutside (entry_place k) 1 place) (sym same) out.0
@@ -85,7 +92,8 @@ module _ (content : List ℕ) (n : ℕ) (old new : Told) (low : 0 < n) (high : n
       (DiffersIn-covered other_gates (entry_place n) 1 content old.content _ (Covers-gate n low high) so_far (DiffersIn-overwrite (entry_place n) old.content (0 ∷ []) within))
   DiffersIn-gate false gate = subst (DiffersIn other_gates content) (sym gate.1.content) so_far
 
-  pub closed-more : (b : Bool) → ClosesGate n old new (Ok b) → ((k : ℕ) → 0 < k → k < n → IsFalse (opens (slice_index old.content (entry_place k)))) → (k : ℕ) → 0 < k → k < n + 1 → IsFalse (opens (slice_index new.content (entry_place k)))
+  pub closed-more : (b : Bool) → ClosesGate n old new (Ok b) → ((k : ℕ) → 0 < k → k < n → IsFalse (opens (slice_index old.content (entry_place k))))
+      → (k : ℕ) → 0 < k → k < n + 1 → IsFalse (opens (slice_index new.content (entry_place k)))
   closed-more true gate below k some lt =
       subst (λ (list : List ℕ). IsFalse (opens (slice_index list (entry_place k)))) (sym gate.1) (elim (cases_lt k n) [
         | inl before ↦ subst (λ (byte : ℕ). IsFalse (opens byte)) (sym (get_or-overwrite_outside old.content (0 ∷ []) (entry_place n) within (entry_place k) (inl (omega (arith, before))))) (below k some before)
@@ -100,12 +108,14 @@ module _ (content : List ℕ) (n : ℕ) (old new : Told) (low : 0 < n) (high : n
       ])
 
 -- a formed file whose other gates differ is formed, and its first gate is closed
-pub born-others : (content image : List ℕ) → IsTrue (is_born content) → FirstClosed content → DiffersIn other_gates content image → IsTrue (is_born image) × FirstClosed image
+pub born-others : (content image : List ℕ) → IsTrue (is_born content) → FirstClosed content → DiffersIn other_gates content image
+    → IsTrue (is_born image) × FirstClosed image
 born-others content image born closed differs =
     let is = StandsFor-from content (file_map content) (file_map content) (redo-first_closed content born closed).0 (SameMap-refl (file_map content)) in
     let all = StandsFor-other_gates content image (file_map content) born closed is differs in
     (all.1, all.2)
 
-pub AllClosed-others : (content : List ℕ) → FirstClosed content → ((k : ℕ) → 0 < k → k < 64 → IsFalse (opens (slice_index content (entry_place k)))) → AllClosed content
+pub AllClosed-others : (content : List ℕ) → FirstClosed content → ((k : ℕ) → 0 < k → k < 64 → IsFalse (opens (slice_index content (entry_place k))))
+    → AllClosed content
 AllClosed-others content first others zero lt = first
 AllClosed-others content first others (suc n) lt = others (suc n) (omega arith) lt

@@ -1,20 +1,22 @@
 -- The header: whether a file is formed, and how that is read.
-use Rattle.ss_journal.specs.Format.{has_magic, is_born, is_unborn, magic, opens}
-use Rattle.ss_journal.specs.Opening.{IsHead}
-use Rattle.ss_outside.specs.Disk.{IsReadFrom}
 use Rattle.std.proofs.Common.{IsFalse, IsTrue, List, [], ap, arith, drop, eqb, inl, inr, length, nat_eq, nat_le, not, refl, rules, subst, suc, sym, take, ℕ, ◌&&◌, ◌+◌, ◌<◌, ◌==◌, ◌||◌, ◌∙◌, ◌∷◌, ◌≡◌, ◌≤◌, ◌⊎◌}
 use Rattle.std.proofs.Math.Nat.{zero-add}
-use Rattle.std.proofs.lemmas.Bool.{and_from, and_left, and_parts, both_ways, eq-eqb, eqb-true, false_from_ne_true, le-leb, leb-true, ne_eqb, not-true, not_from_false, or_cases, or_left, or_right}
 use Rattle.std.proofs.lemmas.Bool.Decides.{nat_tests}
+use Rattle.std.proofs.lemmas.Bool.{and_from, and_left, and_parts, both_ways, eq-eqb, eqb-true, false_from_ne_true, le-leb, leb-true, ne_eqb, not-true, not_from_false, or_cases, or_left, or_right}
 use Rattle.std.proofs.lemmas.Grind.{get_or_after_one, same_number_lists}
-use Rattle.std.proofs.lemmas.List.{ext_get_or, get_or-drop, get_or-take, length-drop, length-take}
 use Rattle.std.proofs.lemmas.List.Elements.{All-from_recursion, All-head, All-tail}
+use Rattle.std.proofs.lemmas.List.{ext_get_or, get_or-drop, get_or-take, length-drop, length-take}
 use Rattle.std.specs.Cmp.Lexicographic.{pointwise}
 use Rattle.std.specs.Prelude.{All, slice_index}
 use lib.Pointwise.{pointwise, pointwise_long}
+use Rattle.ss_outside.specs.Disk.{IsReadFrom}
+use Rattle.ss_journal.specs.Format.{has_magic, is_born, is_unborn, magic, opens}
+use Rattle.ss_journal.specs.Opening.{IsHead}
 
 -- a piece of two lists that agree there is the same
-pub piece-same : (old new : List ℕ) (at count : ℕ) → at + count ≤ length old → at + count ≤ length new → ((place : ℕ) → at ≤ place → place < at + count → slice_index new place ≡ slice_index old place) → take count (drop at new) ≡ take count (drop at old)
+pub piece-same : (old new : List ℕ) (at count : ℕ) → at + count ≤ length old → at + count ≤ length new
+    → ((place : ℕ) → at ≤ place → place < at + count → slice_index new place ≡ slice_index old place)
+    → take count (drop at new) ≡ take count (drop at old)
 piece-same old new at count fits also same =
     ext_get_or 0 (take count (drop at new)) (take count (drop at old))
     (omega (arith, length-take count (drop at new), length-take count (drop at old), length-drop at new, length-drop at old))
@@ -22,7 +24,8 @@ piece-same old new at count fits also same =
     get_or-take count (drop at new) i 0 within ∙ get_or-drop at new i 0 ∙ same (at + i) (omega arith) (omega (arith, within)) ∙ sym (get_or-drop at old i 0) ∙ sym (get_or-take count (drop at old) i 0 within))
 
 -- the magic is eight places
-pub has_magic-same : (old new : List ℕ) → 9 ≤ length old → 9 ≤ length new → ((place : ℕ) → 1 ≤ place → place < 9 → slice_index new place ≡ slice_index old place) → has_magic new ≡ has_magic old
+pub has_magic-same : (old new : List ℕ) → 9 ≤ length old → 9 ≤ length new
+    → ((place : ℕ) → 1 ≤ place → place < 9 → slice_index new place ≡ slice_index old place) → has_magic new ≡ has_magic old
 has_magic-same old new fits also same =
     ap (pointwise nat_eq magic) (piece-same old new 1 8 fits also same)
 
@@ -31,7 +34,8 @@ pub long-has_magic : (image : List ℕ) → IsTrue (has_magic image) → 9 ≤ l
 long-has_magic image there = omega (arith, pointwise_long nat_eq magic (take 8 (drop 1 image)) there, length-take 8 (drop 1 image), length-drop 1 image)
 
 -- the parts of a formed file
-pub is_born-parts : (image : List ℕ) → IsTrue (is_born image) → (36864 ≤ length image) × IsTrue (opens (slice_index image 0)) × IsTrue (has_magic image)
+pub is_born-parts : (image : List ℕ) → IsTrue (is_born image)
+    → (36864 ≤ length image) × IsTrue (opens (slice_index image 0)) × IsTrue (has_magic image)
 unfolding is_born
 is_born-parts image born =
     let long_gate = and_parts (nat_le 36864 (length image) && opens (slice_index image 0)) (has_magic image) born in
@@ -44,7 +48,8 @@ is_born-from image long gate magic =
     and_from _ _ (and_from _ _ (le-leb 36864 (length image) long) gate) magic
 
 -- a formed file whose first places stay is formed
-pub is_born-same : (content image : List ℕ) → IsTrue (is_born content) → length image ≡ length content → ((place : ℕ) → place < 9 → slice_index image place ≡ slice_index content place) → IsTrue (is_born image)
+pub is_born-same : (content image : List ℕ) → IsTrue (is_born content) → length image ≡ length content
+    → ((place : ℕ) → place < 9 → slice_index image place ≡ slice_index content place) → IsTrue (is_born image)
 is_born-same content image born long same =
     let was = is_born-parts content born in
     is_born-from image (omega (arith, long, was.0))
@@ -73,7 +78,8 @@ pub is_unborn-gate : (image : List ℕ) → IsTrue (has_magic image) → IsFalse
 unfolding is_unborn
 is_unborn-gate image magic closed = or_right _ _ (and_from _ _ magic (not_from_false _ closed))
 
-pub is_unborn-cases : (image : List ℕ) → IsTrue (is_unborn image) → (length image ≤ 1) ⊎ ((slice_index image 0 ≡ 0) ⊎ (IsTrue (has_magic image) × IsFalse (opens (slice_index image 0))))
+pub is_unborn-cases : (image : List ℕ) → IsTrue (is_unborn image)
+    → (length image ≤ 1) ⊎ ((slice_index image 0 ≡ 0) ⊎ (IsTrue (has_magic image) × IsFalse (opens (slice_index image 0))))
 unfolding is_unborn
 is_unborn-cases image unborn = elim (or_cases (nat_le (length image) 1 || slice_index image 0 == 0) (has_magic image && not (opens (slice_index image 0))) unborn) [
   | inl early ↦ elim (or_cases (nat_le (length image) 1) (slice_index image 0 == 0) early) [
@@ -84,13 +90,16 @@ is_unborn-cases image unborn = elim (or_cases (nat_le (length image) 1 || slice_
 ]
 
 -- a buffer that was filled from within the file is that piece of it
-pub read-piece : (content buffer : List ℕ) (at count : ℕ) → length buffer ≡ count → at + count ≤ length content → IsReadFrom content at buffer → buffer ≡ take count (drop at content)
+pub read-piece : (content buffer : List ℕ) (at count : ℕ) → length buffer ≡ count → at + count ≤ length content → IsReadFrom content at buffer
+    → buffer ≡ take count (drop at content)
 read-piece content buffer at count long within read =
     same_number_lists buffer (take count (drop at content)) (simp (length-take, length-drop) (omega arith))
     (λ k lt. let below : k < count = omega arith in read k lt ∙ sym (get_or-take count (drop at content) k 0 below ∙ get_or-drop at content k 0))
 
 -- a list of a text's length tells whether the text stands at the front, where zeros stand for what is past the end
-pointwise-front : (text front whole : List ℕ) → All (λ byte. 0 < byte) text → length front ≡ length text → ((k : ℕ) → k < length front → slice_index front k ≡ slice_index whole k) → pointwise eqb text front ≡ pointwise eqb text (take (length text) whole)
+pointwise-front : (text front whole : List ℕ) → All (λ byte. 0 < byte) text → length front ≡ length text
+    → ((k : ℕ) → k < length front → slice_index front k ≡ slice_index whole k)
+    → pointwise eqb text front ≡ pointwise eqb text (take (length text) whole)
 pointwise-front [] [] whole some long same = refl
 pointwise-front [] (x ∷ front) whole some long same = absurd (omega arith)
 pointwise-front (byte ∷ text) [] whole some long same = absurd (omega arith)
@@ -116,14 +125,16 @@ has_magic-head size first image head =
     get_or-take 8 (drop 1 first) k 0 below ∙ get_or_after_one first k 0 ∙ same ∙ sym (get_or_after_one image k 0))
 
 -- and the rest that tells whether the file is formed
-pub is_born-head : (size : ℕ) (first image : List ℕ) → IsHead size first image → is_born image ≡ (nat_le 36864 size && opens (slice_index first 0) && has_magic image)
+pub is_born-head : (size : ℕ) (first image : List ℕ) → IsHead size first image
+    → is_born image ≡ (nat_le 36864 size && opens (slice_index first 0) && has_magic image)
 unfolding is_born
 is_born-head size first image head =
     let long = head.whole in
     let gate = head.bytes 0 (omega (arith, head.nine)) in
     rw (long, gate) refl
 
-pub is_unborn-head : (size : ℕ) (first image : List ℕ) → IsHead size first image → is_unborn image ≡ (nat_le size 1 || slice_index first 0 == 0 || (has_magic image && not (opens (slice_index first 0))))
+pub is_unborn-head : (size : ℕ) (first image : List ℕ) → IsHead size first image
+    → is_unborn image ≡ (nat_le size 1 || slice_index first 0 == 0 || (has_magic image && not (opens (slice_index first 0))))
 unfolding is_unborn
 is_unborn-head size first image head =
     let long = head.whole in

@@ -1,4 +1,10 @@
 -- Entries in use, whose puts are written into their slots, lost, torn or whole.
+use Rattle.std.proofs.Common.{IsFalse, IsTrue, List, [], ap, arith, inl, inr, length, refl, subst, sym, ℕ, ◌<◌, ◌∙◌, ◌∷◌, ◌≡◌, ◌≤◌}
+use Rattle.std.proofs.lemmas.Bool.{cases_Bool, cases_eq, cases_lt, eqb-true}
+use Rattle.std.proofs.lemmas.List.{ext_get_or}
+use Rattle.std.specs.Prelude.{flat_map, slice_index}
+use Rattle.ss_outside.proofs.DiskLemmas.{get_or-overwrite_inside, get_or-overwrite_outside}
+use Rattle.ss_outside.specs.Disk.{IsOutside, overwrite}
 use Rattle.ss_journal.specs.Entries.{entries, open_prefix, puts_of}
 use Rattle.ss_journal.specs.Format.{entry_place, is_born, opens, slots_in}
 use Rattle.ss_journal.specs.Puts.{AreWhole, slots_fit}
@@ -6,12 +12,6 @@ use Rattle.ss_journal.specs.Redo.{Gives, Redone, SameMap, SlotMap, StandsFor, ch
 use Rattle.ss_journal.specs.Settling.{AreInUse}
 use Rattle.ss_journal.specs.Writes.{AreSlots, DiffersAt, DiffersIn, FirstClosed, HasRoom, SameOthers, end_of, slot_ranges, slots_written}
 use Rattle.ss_journal.specs.declared.put.Put.{Put}
-use Rattle.ss_outside.proofs.DiskLemmas.{get_or-overwrite_inside, get_or-overwrite_outside}
-use Rattle.ss_outside.specs.Disk.{IsOutside, overwrite}
-use Rattle.std.proofs.Common.{IsFalse, IsTrue, List, [], ap, arith, inl, inr, length, refl, subst, sym, ℕ, ◌<◌, ◌∙◌, ◌∷◌, ◌≡◌, ◌≤◌}
-use Rattle.std.proofs.lemmas.Bool.{cases_Bool, cases_eq, cases_lt, eqb-true}
-use Rattle.std.proofs.lemmas.List.{ext_get_or}
-use Rattle.std.specs.Prelude.{flat_map, slice_index}
 use Rattle.ss_journal.proofs.GateLemmas.{StandsFor-first_closed}
 use Rattle.ss_journal.proofs.HeaderLemmas.{is_born-parts, is_born-same}
 use Rattle.ss_journal.proofs.MapLemmas.{SameMap-refl, SameMap-trans, file_map-same}
@@ -35,7 +35,8 @@ module _ (puts : List Put) (content : List ℕ) (in_use : AreInUse puts content)
   pub long-in_use : 36864 ≤ length content
   long-in_use = (is_born-parts content in_use.born).0
 
-  redo-torn : (image : List ℕ) → IsTrue (is_born image) → entries image ≡ entries content → length content ≤ length image → redo image ≡ stands (changed (file_map image) puts)
+  redo-torn : (image : List ℕ) → IsTrue (is_born image) → entries image ≡ entries content → length content ≤ length image
+      → redo image ≡ stands (changed (file_map image) puts)
   redo-torn image born same longer =
       let list = open_prefix (entries content) in
       let was : redo_entries 0 list (file_map content) ≡ stands in_use.found = sym (redo-formed content in_use.born) ∙ in_use.map in
@@ -54,7 +55,8 @@ module _ (puts : List Put) (content : List ℕ) (in_use : AreInUse puts content)
   }
 
 -- the puts in use, lost, torn or whole in their slots, leave the map, since their entries stand
-pub StandsFor-slots_torn : (puts : List Put) (content image : List ℕ) (found : SlotMap) → AreInUse puts content → StandsFor content found → DiffersIn (slot_ranges puts) content image → StandsFor image found × AreInUse puts image
+pub StandsFor-slots_torn : (puts : List Put) (content image : List ℕ) (found : SlotMap) → AreInUse puts content → StandsFor content found
+    → DiffersIn (slot_ranges puts) content image → StandsFor image found × AreInUse puts image
 StandsFor-slots_torn puts content image found in_use is differs =
     let long = long-in_use puts content in_use in
     let header = redo-same_header content image in_use.born differs.no_shorter (λ place lt. differs.kept place (omega (arith, lt, long)) (outside_slots puts place lt)) in
@@ -69,7 +71,8 @@ StandsFor-slots_torn puts content image found in_use is differs =
     )
 
 -- written, they stand in their slots: the file alone gives the map
-pub SameMap-slots_written : (puts : List Put) (content : List ℕ) (found : SlotMap) → AreInUse puts content → StandsFor content found → SameMap (file_map (slots_written puts content)) found
+pub SameMap-slots_written : (puts : List Put) (content : List ℕ) (found : SlotMap) → AreInUse puts content → StandsFor content found
+    → SameMap (file_map (slots_written puts content)) found
 SameMap-slots_written puts content found in_use is =
     let all = redone puts content in_use in
     SameMap-trans _ _ _ (file_map-slots_written puts content (long-in_use puts content in_use) all.1 all.2 all.3) (same_map puts content in_use found is)
@@ -84,7 +87,8 @@ first_open puts content some in_use = elim (cases_Bool (opens (slice_index conte
 ]
 
 -- then the first gate, which is open, may be torn or closed
-pub StandsFor-first_gate : (puts : List Put) (content image : List ℕ) (found : SlotMap) → 0 < length puts → AreInUse puts content → StandsFor content found → SameMap (file_map content) found → DiffersAt 512 1 content image → StandsFor image found × IsTrue (is_born image)
+pub StandsFor-first_gate : (puts : List Put) (content image : List ℕ) (found : SlotMap) → 0 < length puts → AreInUse puts content
+    → StandsFor content found → SameMap (file_map content) found → DiffersAt 512 1 content image → StandsFor image found × IsTrue (is_born image)
 StandsFor-first_gate puts content image found some in_use is same differs =
     let long = long-in_use puts content in_use in
     let ranges : List (ℕ × ℕ) = (512, 1) ∷ [] in
@@ -125,12 +129,14 @@ module _ (puts : List Put) (content : List ℕ) (in_use : AreInUse puts content)
   stands-written = StandsFor-slots_torn puts content (slots_written puts content) in_use.found in_use StandsFor-found differs-written
 
   -- then the gate may be torn or closed
-  pub StandsFor-applied : (image : List ℕ) (found : SlotMap) → 0 < length puts → StandsFor (slots_written puts content) found → DiffersAt 512 1 (slots_written puts content) image → StandsFor image found × IsTrue (is_born image)
+  pub StandsFor-applied : (image : List ℕ) (found : SlotMap) → 0 < length puts → StandsFor (slots_written puts content) found
+      → DiffersAt 512 1 (slots_written puts content) image → StandsFor image found × IsTrue (is_born image)
   StandsFor-applied image found some is differs =
       let alike = StandsFor-same (slots_written puts content) in_use.found found stands-written.0 is in
       StandsFor-first_gate puts (slots_written puts content) image found some stands-written.1 is (SameMap-trans _ _ _ (SameMap-slots_written puts content in_use.found in_use StandsFor-found) alike) differs
 
-  pub closed-written : 0 < length puts → IsTrue (is_born (overwrite (slots_written puts content) 512 (0 ∷ []))) × FirstClosed (overwrite (slots_written puts content) 512 (0 ∷ [])) × SameOthers content (overwrite (slots_written puts content) 512 (0 ∷ []))
+  pub closed-written : 0 < length puts
+      → IsTrue (is_born (overwrite (slots_written puts content) 512 (0 ∷ []))) × FirstClosed (overwrite (slots_written puts content) 512 (0 ∷ [])) × SameOthers content (overwrite (slots_written puts content) 512 (0 ∷ []))
   closed-written some =
       let within : 512 ≤ length (slots_written puts content) = omega (arith, long-slots_written) in (
         (StandsFor-applied (overwrite (slots_written puts content) 512 (0 ∷ [])) in_use.found some stands-written.0 (DiffersIn-overwrite 512 (slots_written puts content) (0 ∷ []) within)).1,

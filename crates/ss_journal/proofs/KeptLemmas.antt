@@ -1,16 +1,16 @@
 -- A journal and the content of its disk: opened, settled, read and committed.
+use Rattle.std.proofs.Common.{IsFalse, IsTrue, List, [], ap, arith, inl, inr, length, nat_lt, refl, subst, suc, sym, zero, ℕ, ⊎_elim, ◌<◌, ◌^◌, ◌∙◌, ◌≡◌, ◌≢◌, ◌≤◌, ◌⊎◌}
+use Rattle.std.proofs.lemmas.Bool.{cond-false, cond-true, le-ltb, lt-ltb}
+use Rattle.std.proofs.lemmas.List.Elements.{All-weaker}
 use Rattle.ss_journal.specs.Commit.{IsReady}
 use Rattle.ss_journal.specs.Format.{is_born, is_unborn, opens, slot_at, slots_in}
 use Rattle.ss_journal.specs.Kept.{AllClosed, IsInPhase, IsKept, IsSound, JournalState}
 use Rattle.ss_journal.specs.Puts.{IsTxn, extent_after, slots_fit, with_puts}
 use Rattle.ss_journal.specs.Redo.{Gives, Redone, SameMap, SlotMap, StandsFor, blank_map, changed, file_map, zeros}
 use Rattle.ss_journal.specs.Writes.{FirstClosed, SameOthers}
-use Rattle.ss_journal.specs.declared.phase.Phase.{Phase}
 use Rattle.ss_journal.specs.declared.phase.Phase.TheVariants.{Born, Settled, Stopped, Unborn}
+use Rattle.ss_journal.specs.declared.phase.Phase.{Phase}
 use Rattle.ss_journal.specs.declared.put.Put.{Put}
-use Rattle.std.proofs.Common.{IsFalse, IsTrue, List, [], ap, arith, inl, inr, length, nat_lt, refl, subst, suc, sym, zero, ℕ, ⊎_elim, ◌<◌, ◌^◌, ◌∙◌, ◌≡◌, ◌≢◌, ◌≤◌, ◌⊎◌}
-use Rattle.std.proofs.lemmas.Bool.{cond-false, cond-true, le-ltb, lt-ltb}
-use Rattle.std.proofs.lemmas.List.Elements.{All-weaker}
 use Rattle.ss_journal.proofs.GateLemmas.{file_map-first_closed}
 use Rattle.ss_journal.proofs.MapLemmas.{SameMap-refl}
 use Rattle.ss_journal.proofs.PutLemmas.{below_extent, extent_after-most, is_put-none, le-extent_after, past_extent, with_puts-beside}
@@ -36,7 +36,8 @@ closed_phase phase content (inl is) now = subst (λ p. IsInPhase p content) is n
 closed_phase phase content (inr is) now = absurd (subst (λ p. IsInPhase p content) is now)
 
 -- a journal over an unformed file
-pub IsKept-unborn : (size slots : ℕ) (waiting : List Put) (content : List ℕ) → size ≡ length content → slots ≡ slots_in size → waiting ≡ [] → IsTrue (is_unborn content) → IsKept (record { phase = Unborn; extent = slots; waiting = waiting }) content
+pub IsKept-unborn : (size slots : ℕ) (waiting : List Put) (content : List ℕ) → size ≡ length content → slots ≡ slots_in size → waiting ≡ []
+    → IsTrue (is_unborn content) → IsKept (record { phase = Unborn; extent = slots; waiting = waiting }) content
 IsKept-unborn size slots waiting content long counted none unborn = record {
   phase = unborn;
   waiting = none ∙ sym (puts_in_use-unborn content unborn);
@@ -46,7 +47,8 @@ IsKept-unborn size slots waiting content long counted none unborn = record {
 }
 
 -- the file alone gives the map, and no put waits
-pub IsKept-settled : (extent : ℕ) (waiting : List Put) (content : List ℕ) (found : SlotMap) → IsTrue (is_born content) → AllClosed content → StandsFor content found → found.extent ≡ extent → waiting ≡ [] → IsKept (record { phase = Settled; extent = extent; waiting = waiting }) content
+pub IsKept-settled : (extent : ℕ) (waiting : List Put) (content : List ℕ) (found : SlotMap) → IsTrue (is_born content) → AllClosed content
+    → StandsFor content found → found.extent ≡ extent → waiting ≡ [] → IsKept (record { phase = Settled; extent = extent; waiting = waiting }) content
 IsKept-settled extent waiting content found born closed is same none =
     let alone = redo-first_closed content born (closed 0 (omega arith)) in
     record {
@@ -125,7 +127,8 @@ module _ (journal : JournalState) (content : List ℕ) (settled : journal.phase 
         subst (λ (byte : ℕ). IsFalse (opens byte)) (sym (applied.2 (suc n) (omega arith) lt ∙ others (suc n) (omega arith) lt)) (formed.1 (suc n) lt)
 
     -- with the transaction in its slots, and the gates closed again
-    pub IsKept-committed : (puts : List Put) (extent : ℕ) → extent ≡ extent_after puts journal.extent → StandsFor new (changed (file_map content) puts) → IsKept (record { phase = Settled; extent = extent; waiting = journal.waiting }) new
+    pub IsKept-committed : (puts : List Put) (extent : ℕ) → extent ≡ extent_after puts journal.extent
+        → StandsFor new (changed (file_map content) puts) → IsKept (record { phase = Settled; extent = extent; waiting = journal.waiting }) new
     IsKept-committed puts extent after is = record {
       phase = (applied.0, AllClosed-committed);
       waiting = kept.waiting ∙ (redo-first_closed content formed.0 none_in_use).1 ∙ sym (redo-first_closed new applied.0 applied.1).1;
@@ -135,7 +138,8 @@ module _ (journal : JournalState) (content : List ℕ) (settled : journal.phase 
     }
 
 -- its numbers stay in their bounds
-pub IsSound-committed : (journal : JournalState) (puts : List Put) (extent : ℕ) → IsSound journal → IsTxn puts → extent ≡ extent_after puts journal.extent → IsSound (record { phase = Settled; extent = extent; waiting = journal.waiting })
+pub IsSound-committed : (journal : JournalState) (puts : List Put) (extent : ℕ) → IsSound journal → IsTxn puts
+    → extent ≡ extent_after puts journal.extent → IsSound (record { phase = Settled; extent = extent; waiting = journal.waiting })
 IsSound-committed journal puts extent sound txn after = record {
   extent = omega (arith, after, extent_after-most puts journal.extent txn sound.extent);
   waiting = All-weaker (λ (put : Put). put.slot < journal.extent) (λ (put : Put). put.slot < extent) (λ put lt. omega (arith, lt, after, le-extent_after puts journal.extent)) journal.waiting sound.waiting;

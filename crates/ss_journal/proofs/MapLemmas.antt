@@ -1,12 +1,12 @@
 -- The map of a file's slots, and maps that are the same.
-use Rattle.ss_journal.specs.Format.{slot_at, slot_place, slots_in}
-use Rattle.ss_journal.specs.Puts.{extent_after}
-use Rattle.ss_journal.specs.Redo.{SameMap, SlotMap, blank_map, changed, file_map, zeros}
-use Rattle.ss_journal.specs.declared.put.Put.{Put}
 use Rattle.std.proofs.Common.{List, ap, arith, drop, inl, inr, length, refl, subst, sym, ℕ, ◌++◌, ◌+◌, ◌<◌, ◌∙◌, ◌≡◌, ◌≤◌}
 use Rattle.std.proofs.lemmas.Bool.{cases_lt, cond-false, cond-true, le-ltb, lt-ltb}
 use Rattle.std.proofs.lemmas.List.{ext_get_or, get_or-drop, get_or-replicate, get_or-take, length-drop, length-replicate, length-take}
 use Rattle.std.specs.Prelude.{slice_index}
+use Rattle.ss_journal.specs.Format.{slot_at, slot_place, slots_in}
+use Rattle.ss_journal.specs.Puts.{extent_after}
+use Rattle.ss_journal.specs.Redo.{SameMap, SlotMap, blank_map, changed, file_map, zeros}
+use Rattle.ss_journal.specs.declared.put.Put.{Put}
 use Rattle.ss_journal.proofs.HeaderLemmas.{piece-same}
 use Rattle.ss_journal.proofs.PutLemmas.{extent_after-append, with_puts-append, with_puts-same}
 
@@ -27,7 +27,8 @@ pub slot_within : (size slot : ℕ) → slot < slots_in size → slot_place slot
 slot_within size slot lt = omega arith
 
 -- a file of the same length that is the same from the slots on has the same map
-pub file_map-same : (old new : List ℕ) → length new ≡ length old → ((place : ℕ) → 36864 ≤ place → slice_index new place ≡ slice_index old place) → SameMap (file_map new) (file_map old)
+pub file_map-same : (old new : List ℕ) → length new ≡ length old → ((place : ℕ) → 36864 ≤ place → slice_index new place ≡ slice_index old place)
+    → SameMap (file_map new) (file_map old)
 file_map-same old new long same = record {
   bytes = λ slot lt. elim (cases_lt slot (slots_in (length old))) [
     | inl within ↦
@@ -42,7 +43,8 @@ file_map-same old new long same = record {
 }
 
 -- a blank file has zeros in each slot
-pub file_map-blank : (image : List ℕ) → ((place : ℕ) → 9 ≤ place → place < 134254592 → slice_index image place ≡ 0) → SameMap (file_map image) (blank_map image)
+pub file_map-blank : (image : List ℕ) → ((place : ℕ) → 9 ≤ place → place < 134254592 → slice_index image place ≡ 0)
+    → SameMap (file_map image) (blank_map image)
 file_map-blank image blank = record {
   bytes = λ slot lt. elim (cases_lt slot (slots_in (length image))) [
     | inl within ↦

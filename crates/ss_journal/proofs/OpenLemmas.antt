@@ -1,18 +1,18 @@
 -- How the entries of a formed file are read one after another.
+use Rattle.std.proofs.Common.{Err, IsFalse, IsTrue, List, None, Ok, Some, [], ap, append_assoc, arith, drop, length, subst, sym, ℕ, ◌++◌, ◌+◌, ◌<◌, ◌∙◌, ◌∷◌, ◌≡◌}
+use Rattle.std.proofs.lemmas.Bool.{cond-false, cond-true}
+use Rattle.std.proofs.lemmas.List.FromFn.{length-map-range_with_len}
+use Rattle.std.proofs.lemmas.List.{append-nil, drop_all}
+use Rattle.std.specs.Prelude.{flat_map}
 use Rattle.arrayvec.specs.ArrayVec.{ArrayVec}
 use Rattle.ss_journal.specs.Entries.{entries, is_good, is_open, open_prefix, puts_of}
 use Rattle.ss_journal.specs.Format.{entry_at, is_born, slots_in}
 use Rattle.ss_journal.specs.Opening.{InUse, InUseAs, NextAs}
 use Rattle.ss_journal.specs.Puts.{extent_after}
 use Rattle.ss_journal.specs.Redo.{SlotMap, bad_entry, changed, file_map, puts_in_use, redo, redo_entries}
-use Rattle.ss_journal.specs.declared.journal_error.JournalError.{JournalError}
 use Rattle.ss_journal.specs.declared.journal_error.JournalError.TheVariants.{BadEntry, Disk, NotAStore, OutOfMemory}
+use Rattle.ss_journal.specs.declared.journal_error.JournalError.{JournalError}
 use Rattle.ss_journal.specs.declared.put.Put.{Put}
-use Rattle.std.proofs.Common.{Err, IsFalse, IsTrue, List, None, Ok, Some, [], ap, append_assoc, arith, drop, length, subst, sym, ℕ, ◌++◌, ◌+◌, ◌<◌, ◌∙◌, ◌∷◌, ◌≡◌}
-use Rattle.std.proofs.lemmas.Bool.{cond-false, cond-true}
-use Rattle.std.proofs.lemmas.List.{append-nil, drop_all}
-use Rattle.std.proofs.lemmas.List.FromFn.{length-map-range_with_len}
-use Rattle.std.specs.Prelude.{flat_map}
 use Rattle.ss_journal.proofs.PrefixLemmas.{open_prefix-drop}
 use Rattle.ss_journal.proofs.RedoLemmas.{puts_in_use-formed, redo-formed}
 
@@ -63,7 +63,8 @@ module _ (content : List ℕ) (n extent : ℕ) (puts : List Put) (read : IsReadT
           let here = ap (is_good (entry_at content n)) read.same_extent ∙ bad in
           redo-here ∙ cond-false (is_good (entry_at content n) read.current.extent) _ _ here
 
-      pub IsReadTo-more : IsTrue (is_good (entry_at content n) extent) → IsReadTo content (n + 1) (extent_after (puts_of (entry_at content n)) extent) (puts ++ puts_of (entry_at content n))
+      pub IsReadTo-more : IsTrue (is_good (entry_at content n) extent)
+          → IsReadTo content (n + 1) (extent_after (puts_of (entry_at content n)) extent) (puts ++ puts_of (entry_at content n))
       IsReadTo-more good =
           let own = puts_of (entry_at content n) in
           let here = ap (is_good (entry_at content n)) read.same_extent ∙ good in
@@ -87,7 +88,8 @@ module _ (content now : List ℕ) (n extent : ℕ) (puts : List Put) (same : now
       let here = subst (λ (image : List ℕ). IsTrue (is_open (entry_at image n)) × IsFalse (is_good (entry_at image n) extent)) same (is.0, is.1) in
       IsReadTo-bad content n extent puts read lt here.0 here.1 ∙ ap bad_entry (sym is.2)
 
-  pub IsReadTo-next : (own : ArrayVec Put) (last : ℕ) (more : List Put) → NextAs (entry_at now n) n extent (Ok (Some own)) → last ≡ extent_after own.items extent → more ≡ puts ++ own.items → IsReadTo content (n + 1) last more
+  pub IsReadTo-next : (own : ArrayVec Put) (last : ℕ) (more : List Put) → NextAs (entry_at now n) n extent (Ok (Some own))
+      → last ≡ extent_after own.items extent → more ≡ puts ++ own.items → IsReadTo content (n + 1) last more
   IsReadTo-next own last more is after joins =
       let here = subst (λ (image : List ℕ). IsTrue (is_open (entry_at image n)) × IsTrue (is_good (entry_at image n) extent) × (own.items ≡ puts_of (entry_at image n))) same is in
       let last_is = after ∙ ap (λ (l : List Put). extent_after l extent) here.2 in

@@ -1,27 +1,29 @@
 -- The entries of a file, and its open prefix.
-use Rattle.ss_journal.specs.Entries.{entries, is_open, open_prefix}
-use Rattle.ss_journal.specs.Format.{entry_at, entry_place, opens}
-use Rattle.ss_journal.specs.Writes.{FirstClosed}
 use Rattle.std.proofs.Common.{IsFalse, IsTrue, List, [], ap, arith, drop, length, map, refl, subst, suc, sym, zero, ℕ, ◌+◌, ◌<◌, ◌∙◌, ◌∷◌, ◌≡◌, ◌≤◌}
 use Rattle.std.proofs.Math.Nat.{zero-add}
 use Rattle.std.proofs.lemmas.Bool.{cond-false, cond-true, cond_both}
-use Rattle.std.proofs.lemmas.List.{drop_more, get_or-drop, get_or-take, length-drop, length-take}
 use Rattle.std.proofs.lemmas.List.Elements.{All-cons, All-head, All-map, All-nil, All-tail}
 use Rattle.std.proofs.lemmas.List.FromFn.{get_or-map-range_with_len, length-map-range_with_len}
+use Rattle.std.proofs.lemmas.List.{drop_more, get_or-drop, get_or-take, length-drop, length-take}
 use Rattle.std.specs.List.{range_with_len}
 use Rattle.std.specs.Prelude.{All, slice_index}
+use Rattle.ss_journal.specs.Entries.{entries, is_open, open_prefix}
+use Rattle.ss_journal.specs.Format.{entry_at, entry_place, opens}
+use Rattle.ss_journal.specs.Writes.{FirstClosed}
 use Rattle.ss_journal.proofs.EntryLemmas.{All-range_with_len}
 use Rattle.ss_journal.proofs.HeaderLemmas.{piece-same}
 
 -- the same function at each place of a range
-map-range-same : (f g : ℕ → List ℕ) (from n : ℕ) → ((k : ℕ) → from ≤ k → k < from + n → f k ≡ g k) → map f (range_with_len from n) ≡ map g (range_with_len from n)
+map-range-same : (f g : ℕ → List ℕ) (from n : ℕ) → ((k : ℕ) → from ≤ k → k < from + n → f k ≡ g k)
+    → map f (range_with_len from n) ≡ map g (range_with_len from n)
 map-range-same f g from zero same = refl
 map-range-same f g from (suc n) same =
     let first = same from (omega arith) (omega arith) in
     let rest = map-range-same f g (from + 1) n (λ k low high. same k (omega (arith, low)) (omega (arith, high))) in
     rw (first, rest) refl
 
-pub entries-same : (old new : List ℕ) → 36864 ≤ length old → 36864 ≤ length new → ((place : ℕ) → 512 ≤ place → place < 36864 → slice_index new place ≡ slice_index old place) → entries new ≡ entries old
+pub entries-same : (old new : List ℕ) → 36864 ≤ length old → 36864 ≤ length new
+    → ((place : ℕ) → 512 ≤ place → place < 36864 → slice_index new place ≡ slice_index old place) → entries new ≡ entries old
 unfolding entries
 entries-same old new long also same =
     map-range-same (entry_at new) (entry_at old) 0 64 (λ k low high. piece-same old new (entry_place k) 544 (omega (arith, high, long)) (omega (arith, high, also)) (λ place from to. same place (omega (arith, from)) (omega (arith, high, to))))
@@ -43,7 +45,8 @@ open_prefix-closed image closed =
     let gate : IsFalse (is_open (entry_at image 0)) = subst (λ (byte : ℕ). IsFalse (opens byte)) (sym (gate-entry_at image 0)) closed in
     rw entries-first (cond-false _ _ _ gate)
 
-pub open_prefix-open : (image : List ℕ) → IsTrue (opens (slice_index image 512)) → open_prefix (entries image) ≡ entry_at image 0 ∷ open_prefix (other_entries image)
+pub open_prefix-open : (image : List ℕ) → IsTrue (opens (slice_index image 512))
+    → open_prefix (entries image) ≡ entry_at image 0 ∷ open_prefix (other_entries image)
 open_prefix-open image opened =
     let gate : IsTrue (is_open (entry_at image 0)) = subst (λ (byte : ℕ). IsTrue (opens byte)) (sym (gate-entry_at image 0)) opened in
     rw entries-first (cond-true _ _ _ gate)

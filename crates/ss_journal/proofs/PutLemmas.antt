@@ -1,13 +1,13 @@
 -- What puts make of maps and extents, and which puts fit.
+use Rattle.std.proofs.Common.{IsFalse, IsTrue, List, [], ap, arith, cond, false, get_or, if◌then◌else◌, inl, inr, length, map, nat_eq, refl, subst, sym, take, true, ℕ, ⊎_elim, ◌++◌, ◌+◌, ◌<◌, ◌^◌, ◌∙◌, ◌∷◌, ◌≡◌, ◌≤◌}
+use Rattle.std.proofs.lemmas.Bool.Decides.{nat_tests}
+use Rattle.std.proofs.lemmas.Bool.{both_ways, cases_Bool, cases_lt, cond-false, cond-true, false_from_ne_true, or_cases, or_from, or_parts}
+use Rattle.std.proofs.lemmas.List.Elements.{All-append, All-cons, All-head, All-nil, All-tail, All-weaker}
+use Rattle.std.proofs.lemmas.List.{take_more}
+use Rattle.std.specs.Prelude.{All}
 use Rattle.ss_journal.specs.Puts.{AgreeBeside, IsTxn, extent_after, is_put, slots_fit, slots_rise_from, with_put, with_puts}
 use Rattle.ss_journal.specs.Writes.{AreSlots}
 use Rattle.ss_journal.specs.declared.put.Put.{Put}
-use Rattle.std.proofs.Common.{IsFalse, IsTrue, List, [], ap, arith, cond, false, get_or, if◌then◌else◌, inl, inr, length, map, nat_eq, refl, subst, sym, take, true, ℕ, ⊎_elim, ◌++◌, ◌+◌, ◌<◌, ◌^◌, ◌∙◌, ◌∷◌, ◌≡◌, ◌≤◌}
-use Rattle.std.proofs.lemmas.Bool.{both_ways, cases_Bool, cases_lt, cond-false, cond-true, false_from_ne_true, or_cases, or_from, or_parts}
-use Rattle.std.proofs.lemmas.Bool.Decides.{nat_tests}
-use Rattle.std.proofs.lemmas.List.{take_more}
-use Rattle.std.proofs.lemmas.List.Elements.{All-append, All-cons, All-head, All-nil, All-tail, All-weaker}
-use Rattle.std.specs.Prelude.{All}
 
 -- the extent with one more slot
 abbrev pub next : ℕ → ℕ → ℕ
@@ -37,7 +37,8 @@ with_puts-append [] second map = refl
 with_puts-append (put ∷ first) second map = with_puts-append first second (with_put put map)
 
 -- one put more
-pub with_puts-take : (puts : List Put) (i slot : ℕ) (d : Put) (map : ℕ → List ℕ) → i < length puts → with_puts (take (i + 1) puts) map slot ≡ with_put (get_or puts i d) (with_puts (take i puts) map) slot
+pub with_puts-take : (puts : List Put) (i slot : ℕ) (d : Put) (map : ℕ → List ℕ) → i < length puts
+    → with_puts (take (i + 1) puts) map slot ≡ with_put (get_or puts i d) (with_puts (take i puts) map) slot
 with_puts-take puts i slot d map lt =
     ap (λ (l : List Put). with_puts l map slot) (take_more puts i d lt) ∙ ap (λ (m : ℕ → List ℕ). m slot) (with_puts-append (take i puts) (get_or puts i d ∷ []) map)
 
@@ -49,7 +50,8 @@ with_puts-beside (put ∷ puts) map slot beside =
     with_puts-beside puts (with_put put map) slot apart.1 ∙ cond-false (nat_eq slot put.slot) put.bytes (map slot) apart.0
 
 -- a put for the slot makes the map before count for nothing
-with_puts-put : (puts : List Put) (slot : ℕ) (first second : ℕ → List ℕ) → IsTrue (is_put puts slot) → with_puts puts first slot ≡ with_puts puts second slot
+with_puts-put : (puts : List Put) (slot : ℕ) (first second : ℕ → List ℕ) → IsTrue (is_put puts slot)
+    → with_puts puts first slot ≡ with_puts puts second slot
 with_puts-put [] slot first second none = absurd (both_ways false refl none)
 with_puts-put (put ∷ puts) slot first second is =
     elim (cases_Bool (is_put puts slot)) [
@@ -68,13 +70,15 @@ is_put-none puts slot leaves =
     cc)
 
 -- puts over maps that are alike
-pub with_puts-same : (puts : List Put) (old new : ℕ → List ℕ) → ((slot : ℕ) → slot < 2 ^ 20 → new slot ≡ old slot) → (slot : ℕ) → slot < 2 ^ 20 → with_puts puts new slot ≡ with_puts puts old slot
+pub with_puts-same : (puts : List Put) (old new : ℕ → List ℕ) → ((slot : ℕ) → slot < 2 ^ 20 → new slot ≡ old slot) → (slot : ℕ) → slot < 2 ^ 20
+    → with_puts puts new slot ≡ with_puts puts old slot
 with_puts-same [] old new same slot lt = same slot lt
 with_puts-same (put ∷ puts) old new same slot lt =
     with_puts-same puts (with_put put old) (with_put put new) (λ other below. ap (cond (nat_eq other put.slot) put.bytes) (same other below)) slot lt
 
 -- with one put the maps agree beside the rest
-AgreeBeside-put : (put : Put) (puts : List Put) (old new : ℕ → List ℕ) → AgreeBeside (put ∷ puts) old new → AgreeBeside puts (with_put put old) (with_put put new)
+AgreeBeside-put : (put : Put) (puts : List Put) (old new : ℕ → List ℕ) → AgreeBeside (put ∷ puts) old new
+    → AgreeBeside puts (with_put put old) (with_put put new)
 AgreeBeside-put put puts old new agree slot beside =
     elim (nat_eq slot put.slot) as (λ b. (nat_eq slot put.slot ≡ b) → cond b put.bytes (new slot) ≡ cond b put.bytes (old slot)) [
       | true ↦ λ same. refl
@@ -82,11 +86,13 @@ AgreeBeside-put put puts old new agree slot beside =
     ] refl
 
 -- puts give the same map again
-pub with_puts-again : (puts : List Put) (old new : ℕ → List ℕ) → AgreeBeside puts old new → (slot : ℕ) → with_puts puts new slot ≡ with_puts puts old slot
+pub with_puts-again : (puts : List Put) (old new : ℕ → List ℕ) → AgreeBeside puts old new → (slot : ℕ)
+    → with_puts puts new slot ≡ with_puts puts old slot
 with_puts-again [] old new agree slot = agree slot refl
 with_puts-again (put ∷ puts) old new agree slot = with_puts-again puts (with_put put old) (with_put put new) (AgreeBeside-put put puts old new agree) slot
 
-pub extent_after-append : (first second : List Put) (extent : ℕ) → extent_after (first ++ second) extent ≡ extent_after second (extent_after first extent)
+pub extent_after-append : (first second : List Put) (extent : ℕ)
+    → extent_after (first ++ second) extent ≡ extent_after second (extent_after first extent)
 extent_after-append [] second extent = refl
 extent_after-append (put ∷ first) second extent = extent_after-append first second (next put.slot extent)
 
@@ -103,13 +109,16 @@ extent_after-bound (put ∷ puts) extent most below le =
     extent_after-bound puts (next put.slot extent) most (All-tail P put puts below) (next-bound put.slot extent most (All-head P put puts below) le)
 
 -- the first put fits, and the rest fits over the extent with it
-pub slots_fit-cases : (put : Put) (puts : List Put) (extent : ℕ) → IsTrue (slots_fit (put ∷ puts) extent) → (put.slot ≤ extent) × IsTrue (slots_fit puts (next put.slot extent))
+pub slots_fit-cases : (put : Put) (puts : List Put) (extent : ℕ) → IsTrue (slots_fit (put ∷ puts) extent)
+    → (put.slot ≤ extent) × IsTrue (slots_fit puts (next put.slot extent))
 slots_fit-cases put puts extent fit = grind (arith, nat_tests, fit)
 
-slots_fit-make : (put : Put) (puts : List Put) (extent : ℕ) → put.slot ≤ extent → IsTrue (slots_fit puts (next put.slot extent)) → IsTrue (slots_fit (put ∷ puts) extent)
+slots_fit-make : (put : Put) (puts : List Put) (extent : ℕ) → put.slot ≤ extent → IsTrue (slots_fit puts (next put.slot extent))
+    → IsTrue (slots_fit (put ∷ puts) extent)
 slots_fit-make put puts extent first rest = grind (arith, nat_tests)
 
-pub slots_fit-append : (first second : List Put) (extent : ℕ) → IsTrue (slots_fit first extent) → IsTrue (slots_fit second (extent_after first extent)) → IsTrue (slots_fit (first ++ second) extent)
+pub slots_fit-append : (first second : List Put) (extent : ℕ) → IsTrue (slots_fit first extent)
+    → IsTrue (slots_fit second (extent_after first extent)) → IsTrue (slots_fit (first ++ second) extent)
 slots_fit-append [] second extent fit rest = rest
 slots_fit-append (put ∷ first) second extent fit rest =
     let cases = slots_fit-cases put first extent fit in
@@ -123,7 +132,8 @@ slots_fit-again (put ∷ puts) old new fit le =
     slots_fit-make put puts new (omega (arith, cases.0, le)) (slots_fit-again puts (next put.slot old) (next put.slot new) cases.1 (next-mono put.slot old new cases.0 le))
 
 -- the new extent with the slot is still at most the last
-next-most : (put : Put) (puts : List Put) (old new : ℕ) → put.slot ≤ old → old ≤ new → new ≤ extent_after puts (next put.slot old) → next put.slot new ≤ extent_after puts (next put.slot old)
+next-most : (put : Put) (puts : List Put) (old new : ℕ) → put.slot ≤ old → old ≤ new → new ≤ extent_after puts (next put.slot old)
+    → next put.slot new ≤ extent_after puts (next put.slot old)
 next-most put puts old new fits le most =
     let least = le-extent_after puts (next put.slot old) in
     elim (cases_lt put.slot new) [
@@ -132,7 +142,8 @@ next-most put puts old new fits le most =
     ]
 
 -- puts that fit give the same extent again over each extent up to it
-pub extent_after-again : (puts : List Put) (old new : ℕ) → IsTrue (slots_fit puts old) → old ≤ new → new ≤ extent_after puts old → extent_after puts new ≡ extent_after puts old
+pub extent_after-again : (puts : List Put) (old new : ℕ) → IsTrue (slots_fit puts old) → old ≤ new → new ≤ extent_after puts old
+    → extent_after puts new ≡ extent_after puts old
 extent_after-again [] old new fit le most = omega (arith, le, most)
 extent_after-again (put ∷ puts) old new fit le most =
     let cases = slots_fit-cases put puts old fit in
@@ -155,7 +166,8 @@ slots_fit-below (put ∷ puts) extent fit =
     (omega (arith, lt-next put.slot extent cases.0, least)) (slots_fit-below puts (next put.slot extent) cases.1)
 
 -- so do those before them
-pub waiting-below : (waiting puts : List Put) (extent : ℕ) → IsTrue (slots_fit puts extent) → All (λ put. put.slot < extent) waiting → All (λ put. put.slot < extent_after puts extent) (waiting ++ puts)
+pub waiting-below : (waiting puts : List Put) (extent : ℕ) → IsTrue (slots_fit puts extent) → All (λ put. put.slot < extent) waiting
+    → All (λ put. put.slot < extent_after puts extent) (waiting ++ puts)
 waiting-below waiting puts extent fit below =
     let P = λ (p : Put). p.slot < extent_after puts extent in
     All-append P waiting puts (All-weaker (λ (p : Put). p.slot < extent) P (λ p lt. omega (arith, lt, le-extent_after puts extent)) waiting below) (slots_fit-below puts extent fit)
@@ -175,7 +187,8 @@ past_next : (own extent slot : ℕ) → own ≤ extent → next own extent ≤ s
 past_next own extent slot fits past = (grind (arith, nat_tests), grind (arith, nat_tests))
 
 -- a slot from the extent on has no put, and does not lie in the file
-pub past_extent : (puts : List Put) (extent slot : ℕ) → IsTrue (slots_fit puts extent) → extent_after puts extent ≤ slot → IsFalse (is_put puts slot) × (extent ≤ slot)
+pub past_extent : (puts : List Put) (extent slot : ℕ) → IsTrue (slots_fit puts extent) → extent_after puts extent ≤ slot
+    → IsFalse (is_put puts slot) × (extent ≤ slot)
 past_extent [] extent slot fit past = (refl, past)
 past_extent (put ∷ puts) extent slot fit past =
     let cases = slots_fit-cases put puts extent fit in
@@ -184,7 +197,8 @@ past_extent (put ∷ puts) extent slot fit past =
     (or_from (nat_eq slot put.slot) (is_put puts slot) here.0 rest.0, here.1)
 
 -- slots that rise are numbers of slots
-slots_rise-cases : (least : ℕ) (put : Put) (puts : List Put) → IsTrue (slots_rise_from least (put ∷ puts)) → (put.slot < 2 ^ 20) × IsTrue (slots_rise_from (put.slot + 1) puts)
+slots_rise-cases : (least : ℕ) (put : Put) (puts : List Put) → IsTrue (slots_rise_from least (put ∷ puts))
+    → (put.slot < 2 ^ 20) × IsTrue (slots_rise_from (put.slot + 1) puts)
 slots_rise-cases least put puts rise = grind (arith, nat_tests, rise)
 
 pub AreSlots-rise : (least : ℕ) (puts : List Put) → IsTrue (slots_rise_from least puts) → AreSlots puts

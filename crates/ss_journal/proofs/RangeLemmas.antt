@@ -1,11 +1,11 @@
 -- Contents that differ in some ranges: what writes there make of them, lost, torn or whole.
-use Rattle.ss_journal.specs.Writes.{DiffersAt, DiffersIn, end_of}
-use Rattle.ss_outside.proofs.DiskLemmas.{get_or-overwrite_outside, length-overwrite}
-use Rattle.ss_outside.specs.Disk.{IsOutside, IsOutsideAll, Torn, overwrite}
 use Rattle.std.proofs.Common.{List, [], ap, arith, drop, inl, inr, length, max, refl, replicate, sym, take, ℕ, ⊎_elim, ◌++◌, ◌+◌, ◌-◌, ◌∙◌, ◌∷◌, ◌≡◌, ◌≤◌}
 use Rattle.std.proofs.lemmas.Bool.{cases_lt}
 use Rattle.std.proofs.lemmas.List.{append_assoc, drop-drop, drop_at, get_or_past, length-append, length-replicate, length-take-le, replicate-append-replicate, take_at}
 use Rattle.std.specs.Prelude.{slice_index}
+use Rattle.ss_outside.proofs.DiskLemmas.{get_or-overwrite_outside, length-overwrite}
+use Rattle.ss_outside.specs.Disk.{IsOutside, IsOutsideAll, Torn, overwrite}
+use Rattle.ss_journal.specs.Writes.{DiffersAt, DiffersIn, end_of}
 
 -- ranges make no file shorter
 pub end_of-le : (ranges : List (ℕ × ℕ)) (size : ℕ) → size ≤ end_of ranges size
@@ -16,7 +16,8 @@ pub DiffersIn-refl : (ranges : List (ℕ × ℕ)) (content : List ℕ) → Diffe
 DiffersIn-refl ranges content = record { no_shorter = omega arith; no_longer = end_of-le ranges (length content); kept = λ place lt out. refl }
 
 -- a torn write on top is one range more
-pub DiffersIn-torn : (ranges : List (ℕ × ℕ)) (at count : ℕ) (content old new : List ℕ) → DiffersIn ranges content old → Torn at count old new → DiffersIn ((at, count) ∷ ranges) content new
+pub DiffersIn-torn : (ranges : List (ℕ × ℕ)) (at count : ℕ) (content old new : List ℕ) → DiffersIn ranges content old → Torn at count old new
+    → DiffersIn ((at, count) ∷ ranges) content new
 DiffersIn-torn ranges at count content old new differs torn = record {
   no_shorter = omega (arith, differs.no_shorter, torn.no_shorter);
   no_longer = omega (arith, differs.no_longer, torn.no_longer);
@@ -39,7 +40,8 @@ outside_both (range ∷ first) second place out =
     ((out.0, rest.0), rest.1)
 
 -- the ranges in the order in which they were written
-pub DiffersIn-append : (first second : List (ℕ × ℕ)) (content old new : List ℕ) → DiffersIn first content old → DiffersIn second old new → DiffersIn (first ++ second) content new
+pub DiffersIn-append : (first second : List (ℕ × ℕ)) (content old new : List ℕ) → DiffersIn first content old → DiffersIn second old new
+    → DiffersIn (first ++ second) content new
 DiffersIn-append first second content old new before after = record {
   no_shorter = omega (arith, before.no_shorter, after.no_shorter);
   no_longer = omega (arith, before.no_longer, after.no_longer, end_of-append first second (length content), end_of-from second (length old));
@@ -56,10 +58,12 @@ DiffersIn-overwrite at content bytes within = record {
 }
 
 -- ranges within a file leave its length and all other places, also past the end
-pub length-differs : (ranges : List (ℕ × ℕ)) (old new : List ℕ) → end_of ranges (length old) ≤ length old → DiffersIn ranges old new → length new ≡ length old
+pub length-differs : (ranges : List (ℕ × ℕ)) (old new : List ℕ) → end_of ranges (length old) ≤ length old → DiffersIn ranges old new
+    → length new ≡ length old
 length-differs ranges old new inside differs = omega (arith, differs.no_shorter, differs.no_longer, inside)
 
-pub get_or-differs : (ranges : List (ℕ × ℕ)) (old new : List ℕ) → end_of ranges (length old) ≤ length old → DiffersIn ranges old new → (place : ℕ) → IsOutsideAll ranges place → slice_index new place ≡ slice_index old place
+pub get_or-differs : (ranges : List (ℕ × ℕ)) (old new : List ℕ) → end_of ranges (length old) ≤ length old → DiffersIn ranges old new → (place : ℕ)
+    → IsOutsideAll ranges place → slice_index new place ≡ slice_index old place
 get_or-differs ranges old new inside differs place out = elim (cases_lt place (length old)) [
   | inl lt ↦ differs.kept place lt out
   | inr past ↦ get_or_past new place 0 (omega (arith, past, length-differs ranges old new inside differs)) ∙ sym (get_or_past old place 0 past)
@@ -74,7 +78,8 @@ pub record Covers (ranges : List (ℕ × ℕ)) (at count : ℕ) : Type 0 where
   pub outside : (place : ℕ) → IsOutsideAll ranges place → IsOutside at count place
   pub end : (size : ℕ) → at + count ≤ end_of ranges size
 
-pub DiffersIn-covered : (ranges : List (ℕ × ℕ)) (at count : ℕ) (content old new : List ℕ) → Covers ranges at count → DiffersIn ranges content old → DiffersAt at count old new → DiffersIn ranges content new
+pub DiffersIn-covered : (ranges : List (ℕ × ℕ)) (at count : ℕ) (content old new : List ℕ) → Covers ranges at count → DiffersIn ranges content old
+    → DiffersAt at count old new → DiffersIn ranges content new
 DiffersIn-covered ranges at count content old new covers before after = record {
   no_shorter = omega (arith, before.no_shorter, after.no_shorter);
   no_longer = omega (arith, before.no_longer, after.no_longer, covers.end (length content));
@@ -88,7 +93,8 @@ Covers-part at count from part low high = record {
 }
 
 -- two writes, one behind the other, are one
-overwrite-overwrite : (content first second : List ℕ) (at mid : ℕ) → at ≤ length content → at + length first ≡ mid → overwrite (overwrite content at first) mid second ≡ overwrite content at (first ++ second)
+overwrite-overwrite : (content first second : List ℕ) (at mid : ℕ) → at ≤ length content → at + length first ≡ mid
+    → overwrite (overwrite content at first) mid second ≡ overwrite content at (first ++ second)
 overwrite-overwrite content first second at mid within there =
     let front : length (take at content ++ first) ≡ mid = omega (arith, there, length-append (take at content) first, length-take-le at content within) in
     let kept = drop (at + length first) content in
@@ -100,7 +106,9 @@ overwrite-overwrite content first second at mid within there =
     ∙ ap (λ (list : List ℕ). take at content ++ first ++ second ++ list) rest
     ∙ ap (λ (list : List ℕ). list ++ drop (at + length (first ++ second)) content) (append_assoc (take at content) first second)
 
-pub overwrite-zeros : (content now : List ℕ) (at from count : ℕ) → at ≤ length content → at ≤ from → now ≡ overwrite content at (replicate (from - at) 0) → overwrite now from (replicate count 0) ≡ overwrite content at (replicate (from + count - at) 0)
+pub overwrite-zeros : (content now : List ℕ) (at from count : ℕ) → at ≤ length content → at ≤ from
+    → now ≡ overwrite content at (replicate (from - at) 0)
+    → overwrite now from (replicate count 0) ≡ overwrite content at (replicate (from + count - at) 0)
 overwrite-zeros content now at from count within low is =
     let there : at + length (replicate {A = ℕ} (from - at) 0) ≡ from = omega (arith, low, length-replicate {A = ℕ} (from - at) 0) in
     let more : from - at + count ≡ from + count - at = omega (arith, low) in

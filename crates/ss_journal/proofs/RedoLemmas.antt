@@ -1,15 +1,15 @@
 -- What an image stands for.
+use Rattle.std.proofs.Common.{IsFalse, IsTrue, List, [], ap, arith, cond, false, inl, inr, length, refl, subst, sym, true, ℕ, ◌++◌, ◌+◌, ◌<◌, ◌^◌, ◌∙◌, ◌∷◌, ◌≡◌, ◌≤◌}
+use Rattle.std.proofs.lemmas.Bool.Decides.{nat_tests}
+use Rattle.std.proofs.lemmas.Bool.{cases_Bool, cond-false, cond-true}
+use Rattle.std.proofs.lemmas.List.Elements.{All-append, All-head, All-nil, All-tail}
+use Rattle.std.specs.Prelude.{All, flat_map, slice_index}
 use Rattle.ss_journal.specs.Entries.{entries, is_good, open_prefix, puts_of}
 use Rattle.ss_journal.specs.Format.{entry_at, is_born, is_unborn, opens, slots_in}
 use Rattle.ss_journal.specs.Puts.{AreWhole, slots_fit}
 use Rattle.ss_journal.specs.Redo.{Gives, Redone, SameMap, SlotMap, StandsFor, bad_entry, blank_map, changed, file_map, not_a_store, puts_in_use, redo, redo_entries, stands}
 use Rattle.ss_journal.specs.Writes.{AreSlots, FirstClosed}
 use Rattle.ss_journal.specs.declared.put.Put.{Put}
-use Rattle.std.proofs.Common.{IsFalse, IsTrue, List, [], ap, arith, cond, false, inl, inr, length, refl, subst, sym, true, ℕ, ◌++◌, ◌+◌, ◌<◌, ◌^◌, ◌∙◌, ◌∷◌, ◌≡◌, ◌≤◌}
-use Rattle.std.proofs.lemmas.Bool.{cases_Bool, cond-false, cond-true}
-use Rattle.std.proofs.lemmas.Bool.Decides.{nat_tests}
-use Rattle.std.proofs.lemmas.List.Elements.{All-append, All-head, All-nil, All-tail}
-use Rattle.std.specs.Prelude.{All, flat_map, slice_index}
 use Rattle.ss_journal.proofs.EntryLemmas.{AreWhole-puts_of, IsSoundEntry-good, is_good-again, is_good-some}
 use Rattle.ss_journal.proofs.HeaderLemmas.{has_magic-same, is_born-from, is_born-parts, is_born-unborn, is_unborn-born}
 use Rattle.ss_journal.proofs.MapLemmas.{SameMap-sym, SameMap-trans, changed-append}
@@ -53,7 +53,8 @@ unfolding redo
 redo-neither content unborn other = cond-false (is_born content) _ _ unborn ∙ cond-false (is_unborn content) _ _ other
 
 -- a file that is the same below the slots has the same entries, and is formed too
-pub redo-same_header : (old new : List ℕ) → IsTrue (is_born old) → length old ≤ length new → ((place : ℕ) → place < 36864 → slice_index new place ≡ slice_index old place) → IsTrue (is_born new) × (entries new ≡ entries old)
+pub redo-same_header : (old new : List ℕ) → IsTrue (is_born old) → length old ≤ length new
+    → ((place : ℕ) → place < 36864 → slice_index new place ≡ slice_index old place) → IsTrue (is_born new) × (entries new ≡ entries old)
 redo-same_header old new born long same =
     let was = is_born-parts old born in
     let first = same 0 (omega arith) in
@@ -63,7 +64,8 @@ redo-same_header old new born long same =
     )
 
 -- the first entry is sound, and the rest goes on over the map after it
-redo_entries-cases : (n : ℕ) (entry : List ℕ) (rest : List (List ℕ)) (found its : SlotMap) → redo_entries n (entry ∷ rest) found ≡ stands its → IsTrue (is_good entry found.extent) × (redo_entries (n + 1) rest (changed found (puts_of entry)) ≡ stands its)
+redo_entries-cases : (n : ℕ) (entry : List ℕ) (rest : List (List ℕ)) (found its : SlotMap) → redo_entries n (entry ∷ rest) found ≡ stands its
+    → IsTrue (is_good entry found.extent) × (redo_entries (n + 1) rest (changed found (puts_of entry)) ≡ stands its)
 redo_entries-cases n entry rest found its is =
     let later = redo_entries (n + 1) rest (changed found (puts_of entry)) in
     elim (is_good entry found.extent) as (λ good. (cond good later (bad_entry n) ≡ stands its) → IsTrue good × (later ≡ stands its)) [
@@ -72,7 +74,8 @@ redo_entries-cases n entry rest found its is =
     ] is
 
 -- sound entries give the map after their puts, which fit in order
-pub redo_entries-stands : (n : ℕ) (list : List (List ℕ)) (found its : SlotMap) → redo_entries n list found ≡ stands its → (its ≡ changed found (flat_map puts_of list)) × IsTrue (slots_fit (flat_map puts_of list) found.extent) × AreSlots (flat_map puts_of list)
+pub redo_entries-stands : (n : ℕ) (list : List (List ℕ)) (found its : SlotMap) → redo_entries n list found ≡ stands its
+    → (its ≡ changed found (flat_map puts_of list)) × IsTrue (slots_fit (flat_map puts_of list) found.extent) × AreSlots (flat_map puts_of list)
 redo_entries-stands n [] found its is = (cc, refl, All-nil (λ (put : Put). put.slot < 2 ^ 20))
 redo_entries-stands n (entry ∷ rest) found its is =
     let cases = redo_entries-cases n entry rest found its is in
@@ -83,7 +86,8 @@ redo_entries-stands n (entry ∷ rest) found its is =
       All-append (λ (put : Put). put.slot < 2 ^ 20) (puts_of entry) (flat_map puts_of rest) (AreSlots-rise 0 (puts_of entry) sound.rise) later.2,
     )
 
-AreWhole-entries : (n : ℕ) (list : List (List ℕ)) (found its : SlotMap) → All (λ entry. length entry ≡ 544) list → redo_entries n list found ≡ stands its → AreWhole (flat_map puts_of list)
+AreWhole-entries : (n : ℕ) (list : List (List ℕ)) (found its : SlotMap) → All (λ entry. length entry ≡ 544) list
+    → redo_entries n list found ≡ stands its → AreWhole (flat_map puts_of list)
 AreWhole-entries n [] found its long is = All-nil (λ (put : Put). length put.bytes ≡ 128)
 AreWhole-entries n (entry ∷ rest) found its long is =
     let cases = redo_entries-cases n entry rest found its is in
@@ -93,7 +97,8 @@ AreWhole-entries n (entry ∷ rest) found its long is =
     (AreWhole-puts_of entry (All-head (λ (e : List ℕ). length e ≡ 544) entry rest long) sound.few) later
 
 -- and so does a formed file
-pub redo-born : (image : List ℕ) (its : SlotMap) → IsTrue (is_born image) → redo image ≡ stands its → (its ≡ changed (file_map image) (puts_in_use image)) × IsTrue (slots_fit (puts_in_use image) (slots_in (length image))) × AreSlots (puts_in_use image) × AreWhole (puts_in_use image)
+pub redo-born : (image : List ℕ) (its : SlotMap) → IsTrue (is_born image) → redo image ≡ stands its
+    → (its ≡ changed (file_map image) (puts_in_use image)) × IsTrue (slots_fit (puts_in_use image) (slots_in (length image))) × AreSlots (puts_in_use image) × AreWhole (puts_in_use image)
 redo-born image its born is =
     let list = open_prefix (entries image) in
     let here : redo_entries 0 list (file_map image) ≡ stands its = sym (redo-formed image born) ∙ is in
@@ -103,7 +108,8 @@ redo-born image its born is =
     subst P (sym (puts_in_use-formed image born)) (parts.0, parts.1, parts.2, whole)
 
 -- entries that stand over a map stand over one with a greater extent
-pub redo_entries-again : (n : ℕ) (list : List (List ℕ)) (old new its : SlotMap) → redo_entries n list old ≡ stands its → old.extent ≤ new.extent → redo_entries n list new ≡ stands (changed new (flat_map puts_of list))
+pub redo_entries-again : (n : ℕ) (list : List (List ℕ)) (old new its : SlotMap) → redo_entries n list old ≡ stands its → old.extent ≤ new.extent
+    → redo_entries n list new ≡ stands (changed new (flat_map puts_of list))
 redo_entries-again n [] old new its is le = refl
 redo_entries-again n (entry ∷ rest) old new its is le = elim (cases_Bool (is_good entry old.extent)) [
   | inl good ↦
@@ -116,7 +122,8 @@ redo_entries-again n (entry ∷ rest) old new its is le = elim (cases_Bool (is_g
 ]
 
 -- with the first gate closed a formed file stands for its slots, and no entry is in use
-pub redo-first_closed : (image : List ℕ) → IsTrue (is_born image) → FirstClosed image → (redo image ≡ stands (file_map image)) × (puts_in_use image ≡ [])
+pub redo-first_closed : (image : List ℕ) → IsTrue (is_born image) → FirstClosed image
+    → (redo image ≡ stands (file_map image)) × (puts_in_use image ≡ [])
 redo-first_closed image born closed =
     let none = open_prefix-closed image closed in (
       redo-formed image born ∙ ap (λ (list : List (List ℕ)). redo_entries 0 list (file_map image)) none,
@@ -124,14 +131,16 @@ redo-first_closed image born closed =
     )
 
 -- entries that stand for a map begin with a sound one
-redo_entries-first : (entry : List ℕ) (rest : List (List ℕ)) (found its : SlotMap) → redo_entries 0 (entry ∷ rest) found ≡ stands its → IsTrue (is_good entry found.extent)
+redo_entries-first : (entry : List ℕ) (rest : List (List ℕ)) (found its : SlotMap) → redo_entries 0 (entry ∷ rest) found ≡ stands its
+    → IsTrue (is_good entry found.extent)
 redo_entries-first entry rest found its is = elim (cases_Bool (is_good entry found.extent)) [
   | inl good ↦ good
   | inr bad ↦ let other : bad_entry 0 ≡ stands its = sym (cond-false _ _ _ bad) ∙ is in absurd (cc)
 ]
 
 -- with no entry in use the first gate is closed, where the file stands for a map
-pub first_closed-none : (image : List ℕ) (its : SlotMap) → IsTrue (is_born image) → redo image ≡ stands its → puts_in_use image ≡ [] → FirstClosed image
+pub first_closed-none : (image : List ℕ) (its : SlotMap) → IsTrue (is_born image) → redo image ≡ stands its → puts_in_use image ≡ []
+    → FirstClosed image
 first_closed-none image its born is none = elim (cases_Bool (opens (slice_index image 512))) [
   | inl opened ↦
       let prefix = open_prefix-open image opened in

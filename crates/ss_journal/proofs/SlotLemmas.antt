@@ -1,15 +1,15 @@
 -- Puts that are written into their slots, and slots that a crash tears.
+use Rattle.std.proofs.Common.{IsFalse, IsTrue, List, [], ap, arith, drop, get_or, inl, inr, length, max, nat_eq, subst, suc, sym, take, zero, ℕ, ◌++◌, ◌+◌, ◌<◌, ◌^◌, ◌∙◌, ◌∷◌, ◌≡◌, ◌≤◌}
+use Rattle.std.proofs.lemmas.Bool.{cases_eq, cases_lt, cases_order, cond-false, cond-true, eq-eqb, eqb-false, le-ltb, lt-ltb, ne_eqb, or_parts}
+use Rattle.std.proofs.lemmas.List.Elements.{All-head, All-tail}
+use Rattle.std.proofs.lemmas.List.{append_assoc, drop_at, drop_more, length-take-le, take_at}
+use Rattle.ss_outside.proofs.DiskLemmas.{get_or-overwrite_outside, length-overwrite}
+use Rattle.ss_outside.specs.Disk.{IsOutside, IsOutsideAll, overwrite}
 use Rattle.ss_journal.specs.Format.{slot_at, slot_place, slots_in}
 use Rattle.ss_journal.specs.Puts.{AgreeBeside, AreWhole, extent_after, is_put, slots_fit}
 use Rattle.ss_journal.specs.Redo.{SameMap, changed, file_map}
 use Rattle.ss_journal.specs.Writes.{AreSlots, DiffersAt, DiffersIn, HasRoom, end_of, slot_ranges, slots_written}
 use Rattle.ss_journal.specs.declared.put.Put.{Put}
-use Rattle.ss_outside.proofs.DiskLemmas.{get_or-overwrite_outside, length-overwrite}
-use Rattle.ss_outside.specs.Disk.{IsOutside, IsOutsideAll, overwrite}
-use Rattle.std.proofs.Common.{IsFalse, IsTrue, List, [], ap, arith, drop, get_or, inl, inr, length, max, nat_eq, subst, suc, sym, take, zero, ℕ, ◌++◌, ◌+◌, ◌<◌, ◌^◌, ◌∙◌, ◌∷◌, ◌≡◌, ◌≤◌}
-use Rattle.std.proofs.lemmas.Bool.{cases_eq, cases_lt, cases_order, cond-false, cond-true, eq-eqb, eqb-false, le-ltb, lt-ltb, ne_eqb, or_parts}
-use Rattle.std.proofs.lemmas.List.{append_assoc, drop_at, drop_more, length-take-le, take_at}
-use Rattle.std.proofs.lemmas.List.Elements.{All-head, All-tail}
 use Rattle.ss_journal.proofs.HeaderLemmas.{piece-same}
 use Rattle.ss_journal.proofs.MapLemmas.{SameMap-refl, SameMap-trans, changed-same, slot_within}
 use Rattle.ss_journal.proofs.PutLemmas.{below_extent, le-extent_after, lt-next, next, next-le, slots_fit-cases}
@@ -21,7 +21,8 @@ outside_slots [] place lt = tt
 outside_slots (put ∷ puts) place lt = (inl (omega (arith, lt)), outside_slots puts place lt)
 
 -- and so does a slot without a put
-outside_slot : (puts : List Put) (slot place : ℕ) → IsFalse (is_put puts slot) → slot_place slot ≤ place → place < slot_place slot + 128 → IsOutsideAll (slot_ranges puts) place
+outside_slot : (puts : List Put) (slot place : ℕ) → IsFalse (is_put puts slot) → slot_place slot ≤ place → place < slot_place slot + 128
+    → IsOutsideAll (slot_ranges puts) place
 outside_slot [] slot place beside low high = tt
 outside_slot (put ∷ puts) slot place beside low high =
     let parts = or_parts (nat_eq slot put.slot) (is_put puts slot) beside in (
@@ -37,7 +38,8 @@ slots_in-max : (slot size end extent : ℕ) → slots_in end ≤ extent → slot
 slots_in-max slot size end extent most lt = omega arith
 
 -- a file with some of the puts has no more slots than the extent after them
-slots_in-end_of : (puts : List Put) (size extent : ℕ) → IsTrue (slots_fit puts extent) → slots_in size ≤ extent → slots_in (end_of (slot_ranges puts) size) ≤ extent_after puts extent
+slots_in-end_of : (puts : List Put) (size extent : ℕ) → IsTrue (slots_fit puts extent) → slots_in size ≤ extent
+    → slots_in (end_of (slot_ranges puts) size) ≤ extent_after puts extent
 slots_in-end_of [] size extent fit le = le
 slots_in-end_of (put ∷ puts) size extent fit le =
     let cases = slots_fit-cases put puts extent fit in
@@ -70,14 +72,16 @@ module _ (puts : List Put) (content image : List ℕ) (fit : IsTrue (slots_fit p
   ]
 
 -- one put is written
-slots_in-put : (size slot : ℕ) → 36864 ≤ size → slot ≤ slots_in size → slot < 2 ^ 20 → slots_in (max size (slot_place slot + 128)) ≡ next slot (slots_in size)
+slots_in-put : (size slot : ℕ) → 36864 ≤ size → slot ≤ slots_in size → slot < 2 ^ 20
+    → slots_in (max size (slot_place slot + 128)) ≡ next slot (slots_in size)
 slots_in-put size slot long fits lt = elim (cases_eq slot (slots_in size)) [
   | inl same ↦ let more : next slot (slots_in size) ≡ slots_in size + 1 = cond-true _ _ _ (eq-eqb slot (slots_in size) same) in omega (arith, more, same, lt, long)
   | inr other ↦ let none : next slot (slots_in size) ≡ slots_in size = cond-false _ _ _ (ne_eqb slot (slots_in size) other) in omega (arith, none, other, fits, long)
 ]
 
 -- a slot past the file is past it with another slot written
-slots_in-other : (size slot other : ℕ) → 36864 ≤ size → slot ≤ slots_in size → slots_in size ≤ other → (other ≡ slot → ⊥) → slots_in (max size (slot_place slot + 128)) ≤ other
+slots_in-other : (size slot other : ℕ) → 36864 ≤ size → slot ≤ slots_in size → slots_in size ≤ other → (other ≡ slot → ⊥)
+    → slots_in (max size (slot_place slot + 128)) ≤ other
 slots_in-other size slot other long fits past apart = omega (arith, apart)
 
 module _ (put : Put) (content : List ℕ) (long : 36864 ≤ length content) (fits : put.slot ≤ slots_in (length content)) (below : put.slot < 2 ^ 20) (whole : length put.bytes ≡ 128) where
@@ -131,7 +135,8 @@ module _ (put : Put) (content : List ℕ) (long : 36864 ≤ length content) (fit
   }
 
 -- the puts that are written in order give the map after them
-pub file_map-slots_written : (puts : List Put) (content : List ℕ) → 36864 ≤ length content → IsTrue (slots_fit puts (slots_in (length content))) → AreSlots puts → AreWhole puts → SameMap (file_map (slots_written puts content)) (changed (file_map content) puts)
+pub file_map-slots_written : (puts : List Put) (content : List ℕ) → 36864 ≤ length content → IsTrue (slots_fit puts (slots_in (length content)))
+    → AreSlots puts → AreWhole puts → SameMap (file_map (slots_written puts content)) (changed (file_map content) puts)
 file_map-slots_written [] content long fit slots whole = SameMap-refl (file_map content)
 file_map-slots_written (put ∷ puts) content long fit slots whole =
     let cases = slots_fit-cases put puts (slots_in (length content)) fit in
@@ -145,7 +150,8 @@ file_map-slots_written (put ∷ puts) content long fit slots whole =
     SameMap-trans _ _ _ rest (changed-same puts _ _ first)
 
 -- room for the rest, with the first written
-pub HasRoom-more : (puts : List Put) (k : ℕ) (d : Put) (content : List ℕ) → k < length puts → (get_or puts k d).slot < 2 ^ 20 → length (get_or puts k d).bytes ≡ 128 → HasRoom (drop k puts) content
+pub HasRoom-more : (puts : List Put) (k : ℕ) (d : Put) (content : List ℕ) → k < length puts → (get_or puts k d).slot < 2 ^ 20
+    → length (get_or puts k d).bytes ≡ 128 → HasRoom (drop k puts) content
     → HasRoom (drop (k + 1) puts) (overwrite content (slot_place (get_or puts k d).slot) (get_or puts k d).bytes)
 HasRoom-more puts k d content lt below whole room =
     let put = get_or puts k d in
@@ -157,16 +163,19 @@ HasRoom-more puts k d content lt below whole room =
       fit = subst (λ (n : ℕ). IsTrue (slots_fit (drop (k + 1) puts) n)) (sym (slots-written put content room.long cases.0 below whole)) cases.1;
     }
 
-pub slots_written-more : (puts : List Put) (k : ℕ) (d : Put) (content : List ℕ) → k < length puts → slots_written (drop (k + 1) puts) (overwrite content (slot_place (get_or puts k d).slot) (get_or puts k d).bytes) ≡ slots_written (drop k puts) content
+pub slots_written-more : (puts : List Put) (k : ℕ) (d : Put) (content : List ℕ) → k < length puts
+    → slots_written (drop (k + 1) puts) (overwrite content (slot_place (get_or puts k d).slot) (get_or puts k d).bytes) ≡ slots_written (drop k puts) content
 slots_written-more puts k d content lt = ap (λ (list : List Put). slots_written list content) (sym (drop_more puts k d lt))
 
 -- one of the slots
-outside_at : (puts : List Put) (k : ℕ) (d : Put) (place : ℕ) → k < length puts → IsOutsideAll (slot_ranges puts) place → IsOutside (slot_place (get_or puts k d).slot) 128 place
+outside_at : (puts : List Put) (k : ℕ) (d : Put) (place : ℕ) → k < length puts → IsOutsideAll (slot_ranges puts) place
+    → IsOutside (slot_place (get_or puts k d).slot) 128 place
 outside_at [] k d place lt out = absurd (omega (arith, lt))
 outside_at (put ∷ puts) zero d place lt out = out.0
 outside_at (put ∷ puts) (suc k) d place lt out = outside_at puts k d place (omega (arith, lt)) out.1
 
-end_of_at : (puts : List Put) (k : ℕ) (d : Put) (size : ℕ) → k < length puts → slot_place (get_or puts k d).slot + 128 ≤ end_of (slot_ranges puts) size
+end_of_at : (puts : List Put) (k : ℕ) (d : Put) (size : ℕ) → k < length puts
+    → slot_place (get_or puts k d).slot + 128 ≤ end_of (slot_ranges puts) size
 end_of_at [] k d size lt = absurd (omega (arith, lt))
 end_of_at (put ∷ puts) zero d size lt = omega arith
 end_of_at (put ∷ puts) (suc k) d size lt = omega (arith, end_of_at puts k d size (omega (arith, lt)))
@@ -175,7 +184,8 @@ pub Covers-slot : (puts : List Put) (k : ℕ) (d : Put) → k < length puts → 
 Covers-slot puts k d lt = record { outside = λ place out. outside_at puts k d place lt out; end = λ size. end_of_at puts k d size lt }
 
 -- the puts that are written are one way to tear their slots
-pub DiffersIn-slots_written : (puts : List Put) (content : List ℕ) → 36864 ≤ length content → IsTrue (slots_fit puts (slots_in (length content))) → AreSlots puts → AreWhole puts → DiffersIn (slot_ranges puts) content (slots_written puts content)
+pub DiffersIn-slots_written : (puts : List Put) (content : List ℕ) → 36864 ≤ length content → IsTrue (slots_fit puts (slots_in (length content)))
+    → AreSlots puts → AreWhole puts → DiffersIn (slot_ranges puts) content (slots_written puts content)
 DiffersIn-slots_written [] content long fit slots whole = DiffersIn-refl [] content
 DiffersIn-slots_written (put ∷ puts) content long fit slots whole =
     let cases = slots_fit-cases put puts (slots_in (length content)) fit in

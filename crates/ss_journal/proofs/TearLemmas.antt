@@ -1,14 +1,14 @@
 -- What a crash may leave of some calls in a row: of writes, and of the map.
+use Rattle.std.proofs.Common.{Err, List, Ok, Result, [], inl, inr, subst, sym, ℕ, ◌++◌, ◌∷◌, ◌⊎◌}
+use Rattle.std.proofs.lemmas.Result.{on_ok_weaker}
+use Rattle.std.specs.Prelude.{IsErr, OnOk}
+use Rattle.ss_outside.proofs.CrashLemmas.{after_write, at_start, goes_on, joined, nothing_pending-same, now, of_content, read_leaves, weaker}
+use Rattle.ss_outside.specs.Crash.{Elapses, KnowsNow, LeavesOnly, OnlyReads}
+use Rattle.ss_outside.specs.Disk.{BecomesPending, NothingPending, StaysSame, Told}
 use Rattle.ss_journal.specs.Calls.{ChangesMap, KeepsMap}
 use Rattle.ss_journal.specs.Redo.{SlotMap, StandsFor, changed}
 use Rattle.ss_journal.specs.Writes.{DiffersIn, IsTorn, Tears}
 use Rattle.ss_journal.specs.declared.put.Put.{Put}
-use Rattle.ss_outside.proofs.CrashLemmas.{after_write, at_start, goes_on, joined, nothing_pending-same, now, of_content, read_leaves, weaker}
-use Rattle.ss_outside.specs.Crash.{Elapses, KnowsNow, LeavesOnly, OnlyReads}
-use Rattle.ss_outside.specs.Disk.{BecomesPending, NothingPending, StaysSame, Told}
-use Rattle.std.proofs.Common.{Err, List, Ok, Result, [], inl, inr, subst, sym, ℕ, ◌++◌, ◌∷◌, ◌⊎◌}
-use Rattle.std.proofs.lemmas.Result.{on_ok_weaker}
-use Rattle.std.specs.Prelude.{IsErr, OnOk}
 use Rattle.ss_journal.proofs.RangeLemmas.{Covers, DiffersAt-torn, DiffersIn-append, DiffersIn-covered, DiffersIn-refl}
 
 IsTorn-none : (ranges : List (ℕ × ℕ)) (disk : Told) (image : List ℕ) → disk.may_leave image → IsTorn ranges disk image
@@ -24,7 +24,8 @@ module _ (old new : Told) where
   tears-read ranges knows reads = weaker old new old.may_leave (IsTorn ranges old) (IsTorn-none ranges old) (read_leaves old new knows reads)
 
   -- one write, whatever it answers
-  pub tears-write : {A : Type 0} (at count : ℕ) → KnowsNow old → BecomesPending at count old new ⊎ (A × StaysSame old new) → Elapses old new → Tears ((at, count) ∷ []) old new
+  pub tears-write : {A : Type 0} (at count : ℕ) → KnowsNow old → BecomesPending at count old new ⊎ (A × StaysSame old new) → Elapses old new
+      → Tears ((at, count) ∷ []) old new
   tears-write at count knows pending time =
       let ranges : List (ℕ × ℕ) = (at, count) ∷ [] in
       goes_on old old new (IsTorn ranges old) (tears-none ranges old knows) time
@@ -76,7 +77,8 @@ on_err (Err error) A is = tt
 
 module _ {T E : Type 0} (old new : Told) (result : Result T E) where
   -- writes that leave the map however they are torn
-  pub keeps-torn : (ranges : List (ℕ × ℕ)) → Tears ranges old new → ((found : SlotMap) (image : List ℕ) → StandsFor old.content found → DiffersIn ranges old.content image → StandsFor image found)
+  pub keeps-torn : (ranges : List (ℕ × ℕ)) → Tears ranges old new
+      → ((found : SlotMap) (image : List ℕ) → StandsFor old.content found → DiffersIn ranges old.content image → StandsFor image found)
       → OnOk result (DiffersIn ranges old.content new.content) → (NothingPending old → OnOk result (NothingPending new)) → KeepsMap old new result
   keeps-torn ranges run stays differs durable = record {
     map = λ found is. on_ok_weaker result (stays found new.content is) differs;
@@ -98,7 +100,8 @@ pub keeps-failed : {T E : Type 0} (old new : Told) (result : Result T E) → IsE
 keeps-failed old new result failed ranges run stays = keeps-torn old new result ranges run stays (on_err result _ failed) (λ only. on_err result _ failed)
 
 -- a call that changed nothing because it failed early
-pub changes-failed : {T E S : Type 0} (old new : Told) (puts : List Put) (result : Result T E) (step : Result S E) → IsErr result → KeepsMap old new step → ChangesMap puts old new result
+pub changes-failed : {T E S : Type 0} (old new : Told) (puts : List Put) (result : Result T E) (step : Result S E) → IsErr result
+    → KeepsMap old new step → ChangesMap puts old new result
 changes-failed old new puts result step failed keeps = record {
   map = λ found is. on_err result _ failed;
   any_moment = λ only found is. weaker old new (λ image. StandsFor image found) (λ image. StandsFor image found ⊎ StandsFor image (changed found puts)) (λ image stands. inl stands) (keeps.any_moment only found is);
@@ -113,7 +116,8 @@ module _ {T E : Type 0} (old mid new : Told) (result : Result T E) {S : Type 0} 
     durable = λ only. second.durable (first.durable only);
   }
 
-  pub changes-joined : (puts : List Put) → ChangesMap {T = S} {E = E} puts old mid (Ok value) → KeepsMap mid new result → ChangesMap puts old new result
+  pub changes-joined : (puts : List Put) → ChangesMap {T = S} {E = E} puts old mid (Ok value) → KeepsMap mid new result
+      → ChangesMap puts old new result
   changes-joined puts first second = record {
     map = λ found is. second.map (changed found puts) (first.map found is);
     any_moment = λ only found is.

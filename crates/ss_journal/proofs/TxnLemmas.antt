@@ -1,4 +1,10 @@
 -- A transaction in the first entry, and the gate that makes it count.
+use Rattle.std.proofs.Common.{IsFalse, IsTrue, List, [], ap, arith, drop, inl, inr, length, refl, subst, suc, sym, zero, ℕ, ◌+◌, ◌<◌, ◌∙◌, ◌∷◌, ◌≡◌, ◌≤◌, ◌⊎◌}
+use Rattle.std.proofs.lemmas.Bool.{cases_Bool, cond-true, eqb-true}
+use Rattle.std.proofs.lemmas.List.{append-nil, ext_get_or, get_or-drop, get_or-take, length-drop, length-take}
+use Rattle.std.specs.Prelude.{flat_map, slice_index}
+use Rattle.ss_outside.proofs.DiskLemmas.{get_or-overwrite_inside, get_or-overwrite_outside, length-overwrite}
+use Rattle.ss_outside.specs.Disk.{IsOutside, overwrite}
 use Rattle.ss_journal.specs.Commit.{IsReady}
 use Rattle.ss_journal.specs.Entries.{entries, entry_body, open_prefix, puts_of}
 use Rattle.ss_journal.specs.Format.{entry_at, entry_place, is_born, opens, slots_in}
@@ -7,12 +13,6 @@ use Rattle.ss_journal.specs.Redo.{SameMap, SlotMap, StandsFor, changed, file_map
 use Rattle.ss_journal.specs.Settling.{AreInUse}
 use Rattle.ss_journal.specs.Writes.{DiffersAt, SameOthers, end_of}
 use Rattle.ss_journal.specs.declared.put.Put.{Put}
-use Rattle.ss_outside.proofs.DiskLemmas.{get_or-overwrite_inside, get_or-overwrite_outside, length-overwrite}
-use Rattle.ss_outside.specs.Disk.{IsOutside, overwrite}
-use Rattle.std.proofs.Common.{IsFalse, IsTrue, List, [], ap, arith, drop, inl, inr, length, refl, subst, suc, sym, zero, ℕ, ◌+◌, ◌<◌, ◌∙◌, ◌∷◌, ◌≡◌, ◌≤◌, ◌⊎◌}
-use Rattle.std.proofs.lemmas.Bool.{cases_Bool, cond-true, eqb-true}
-use Rattle.std.proofs.lemmas.List.{append-nil, ext_get_or, get_or-drop, get_or-take, length-drop, length-take}
-use Rattle.std.specs.Prelude.{flat_map, slice_index}
 use Rattle.ss_journal.proofs.EntryLemmas.{is_good-body, length-entry_body, puts_of-body}
 use Rattle.ss_journal.proofs.GateLemmas.{StandsFor-body, StandsFor-first_closed, file_map-first_closed}
 use Rattle.ss_journal.proofs.HeaderLemmas.{is_born-parts, is_born-same}
@@ -22,7 +22,8 @@ use Rattle.ss_journal.proofs.RangeLemmas.{DiffersIn-overwrite, get_or-differs, l
 use Rattle.ss_journal.proofs.RedoLemmas.{StandsFor-from, puts_in_use-formed, redo-first_closed, redo-formed}
 
 -- the bytes of the first entry, by place
-entry-first_is : (image bytes : List ℕ) (gate : ℕ) → 1056 ≤ length image → length bytes ≡ 543 → slice_index image 512 ≡ gate → ((k : ℕ) → k < 543 → slice_index image (513 + k) ≡ slice_index bytes k) → entry_at image 0 ≡ gate ∷ bytes
+entry-first_is : (image bytes : List ℕ) (gate : ℕ) → 1056 ≤ length image → length bytes ≡ 543 → slice_index image 512 ≡ gate
+    → ((k : ℕ) → k < 543 → slice_index image (513 + k) ≡ slice_index bytes k) → entry_at image 0 ≡ gate ∷ bytes
 entry-first_is image bytes gate long size first rest =
     let length-entry : length (entry_at image 0) ≡ 544 = omega (arith, long, length-take 544 (drop 512 image), length-drop 512 image) in
     ext_get_or 0 (entry_at image 0) (gate ∷ bytes) (omega (arith, length-entry, size)) (λ place lt.
@@ -131,7 +132,8 @@ module _ (puts : List Put) (content : List ℕ) (whole : AreWhole puts) (txn : I
   opened-gated = subst (λ (byte : ℕ). IsTrue (opens byte)) (sym (get_or-overwrite_inside spelled (165 ∷ []) 512 (omega (arith, long-spelled)) 0 (omega arith))) refl
 
   -- the body alone leaves the map
-  pub StandsFor-spelled : (image : List ℕ) (found : SlotMap) → StandsFor content found → DiffersAt 513 (length (entry_body puts)) content image → StandsFor image found
+  pub StandsFor-spelled : (image : List ℕ) (found : SlotMap) → StandsFor content found → DiffersAt 513 (length (entry_body puts)) content image
+      → StandsFor image found
   StandsFor-spelled image found is differs =
       (StandsFor-body content image found ready.born (ready.closed 0 (omega arith)) is (subst (λ (count : ℕ). DiffersAt 513 count content image) (length-entry_body puts whole txn.few) differs)).0
 
