@@ -15,7 +15,7 @@ use ss_outside::{Disk, Failed};
 // Makes a file of no byte, or of one byte, one 0.
 fn begin<D: Disk>(disk: &mut D) -> Result<(), Failed>
     requires unborn { IsTrue (D.tells disk.old) → IsTrue (is_unborn (D.told disk.old).content) }
-    ensures keeps { IsTrue (D.tells disk.old) → KeepsMap (D.told disk.old) (D.told disk.new) result }
+    ensures keeps_map { IsTrue (D.tells disk.old) → KeepsMap (D.told disk.old) (D.told disk.new) result }
     ensures begun { IsTrue (D.tells disk.old) → OnOk result (IsBegun (D.told disk.new).content) }
     ensures tells { D.tells disk.new ≡ D.tells disk.old }
     ensures cause { HasCause (D.faults disk.old) (D.faults disk.new) result }
@@ -45,7 +45,7 @@ fn write_magic<D: Disk>(disk: &mut D) -> Result<(), Failed>
 // Writes the magic and zeros behind it, as far as anything is looked at.
 fn form<D: Disk>(disk: &mut D) -> Result<(), Failed>
     requires begun { IsTrue (D.tells disk.old) → IsBegun (D.told disk.old).content }
-    ensures keeps { IsTrue (D.tells disk.old) → KeepsMap (D.told disk.old) (D.told disk.new) result }
+    ensures keeps_map { IsTrue (D.tells disk.old) → KeepsMap (D.told disk.old) (D.told disk.new) result }
     ensures formed { IsTrue (D.tells disk.old) → OnOk result (IsFormed (D.told disk.new).content) }
     ensures tells { D.tells disk.new ≡ D.tells disk.old }
     ensures cause { HasCause (D.faults disk.old) (D.faults disk.new) result }
@@ -59,7 +59,7 @@ fn form<D: Disk>(disk: &mut D) -> Result<(), Failed>
 // Opens the birth gate of a formed file.
 fn open_gate<D: Disk>(disk: &mut D) -> Result<(), Failed>
     requires formed { IsTrue (D.tells disk.old) → IsFormed (D.told disk.old).content }
-    ensures keeps { IsTrue (D.tells disk.old) → KeepsMap (D.told disk.old) (D.told disk.new) result }
+    ensures keeps_map { IsTrue (D.tells disk.old) → KeepsMap (D.told disk.old) (D.told disk.new) result }
     ensures born { IsTrue (D.tells disk.old)
         → OnOk result (IsTrue (is_born (D.told disk.new).content) × AllClosed (D.told disk.new).content) }
     ensures tells { D.tells disk.new ≡ D.tells disk.old }
@@ -71,7 +71,7 @@ fn open_gate<D: Disk>(disk: &mut D) -> Result<(), Failed>
 // Forms an unborn file. Every slot is zeros before and after.
 pub fn give_birth<D: Disk>(disk: &mut D) -> Result<(), Failed>
     requires unborn { IsTrue (D.tells disk.old) → IsTrue (is_unborn (D.told disk.old).content) }
-    ensures keeps { IsTrue (D.tells disk.old) → KeepsMap (D.told disk.old) (D.told disk.new) result }
+    ensures keeps_map { IsTrue (D.tells disk.old) → KeepsMap (D.told disk.old) (D.told disk.new) result }
     ensures born { IsTrue (D.tells disk.old)
         → OnOk result (IsTrue (is_born (D.told disk.new).content) × AllClosed (D.told disk.new).content) }
     ensures tells { D.tells disk.new ≡ D.tells disk.old }

@@ -24,6 +24,7 @@ pub const PUT_SIZE: usize = 132;
 
 pub const SLOT_SIZE: usize = 128;
 
+/// How many slots a file has at most. They are numbered from 0.
 pub const MOST_SLOTS: u32 = 1 << 20;
 
 pub const FIRST_SLOT: u64 = 36864;

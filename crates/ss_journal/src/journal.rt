@@ -2,7 +2,7 @@
 use crate::JournalError;
 use crate::birth::give_birth;
 use crate::entry::extent_after;
-use crate::format::{SLOT_SIZE, slots_in};
+use crate::format::{MOST_SLOTS, SLOT_SIZE, slots_in};
 use crate::opening::{read_entries, read_head};
 use crate::phase::Phase;
 use crate::put::{Put, Txn};
@@ -35,7 +35,7 @@ impl Model for Journal {
 }
 
 impl Journal {
-    ghost use Rattle.std.specs.Prelude.{◌≡◌, ◌≤◌, ◌<◌, ◌^◌, IsTrue, IfOk, OnOk, OnErr};
+    ghost use Rattle.std.specs.Prelude.{◌≡◌, ◌≤◌, ◌<◌, IsTrue, IfOk, OnOk, OnErr};
     ghost use Rattle.ss_outside.specs.Causes.{HasCause};
     ghost use Rattle.ss_outside.specs.Crash.{OnlyReads};
     ghost use Rattle.ss_journal.specs.Puts.{extent_after, slots_fit, IsTxn};
@@ -48,7 +48,7 @@ impl Journal {
         // The map of the content, or why it has none.
         ensures map { IsTrue (D.tells disk.old) → OpensAs (D.told disk.old).content result }
         ensures running { IfOk result (λ journal. IsRunning journal) }
-        ensures extent { IfOk result (λ journal. journal.extent ≤ 2 ^ 20) }
+        ensures extent { IfOk result (λ journal. journal.extent ≤ MOST_SLOTS) }
         // The content and the images are those from before.
         ensures reads { IsTrue (D.tells disk.old) → OnlyReads (D.told disk.old) (D.told disk.new) }
         ensures tells { D.tells disk.new ≡ D.tells disk.old }
@@ -77,7 +77,7 @@ impl Journal {
     /// How many slots were used: those of the file, and one more for each put into the slot that was next.
     pub fn extent(&self) -> u32
         ensures value { result ≡ self.now.extent }
-        ensures most { result ≤ 2 ^ 20 }
+        ensures most { result ≤ MOST_SLOTS }
     {
         self.extent
     }
@@ -91,7 +91,7 @@ impl Journal {
         ensures settled { OnOk result (IsSettled self.new) }
         ensures extent { OnOk result (self.new.extent ≡ self.old.extent) }
         // The map stays, also in a crash at any moment of the call.
-        ensures map { IsTrue (D.tells disk.old) → KeepsMap (D.told disk.old) (D.told disk.new) result }
+        ensures keeps_map { IsTrue (D.tells disk.old) → KeepsMap (D.told disk.old) (D.told disk.new) result }
         ensures stopped { OnErr result (HasStopped self.new) }
         ensures tells { D.tells disk.new ≡ D.tells disk.old }
         ensures cause { HasCause (D.faults disk.old) (D.faults disk.new) result }
@@ -111,7 +111,7 @@ impl Journal {
     /// The bytes of a slot: zeros where none were put.
     pub fn read<D: Disk>(&mut self, disk: &mut D, slot: u32) -> Result<[u8; SLOT_SIZE], Failed>
         requires running { IsRunning self.old }
-        requires slot { slot < 2 ^ 20 }
+        requires slot { slot < MOST_SLOTS }
         requires one_disk { IsTrue (D.tells disk.old) → IsKept self.old (D.told disk.old).content }
         ensures bytes { IsTrue (D.tells disk.old) → (found : SlotMap) → StandsFor (D.told disk.old).content found
             → IfOk result (λ bytes. bytes ≡ found.bytes slot) }
@@ -150,7 +150,7 @@ impl Journal {
         ensures settled { OnOk result (IsSettled self.new) }
         ensures extent { OnOk result (self.new.extent ≡ extent_after txn.now.items self.old.extent) }
         // All of the puts or none, also in a crash at any moment of the call.
-        ensures map { IsTrue (D.tells disk.old) → ChangesMap txn.now.items (D.told disk.old) (D.told disk.new) result }
+        ensures changes_map { IsTrue (D.tells disk.old) → ChangesMap txn.now.items (D.told disk.old) (D.told disk.new) result }
         ensures stopped { OnErr result (HasStopped self.new) }
         ensures tells { D.tells disk.new ≡ D.tells disk.old }
         ensures cause { HasCause (D.faults disk.old) (D.faults disk.new) result }

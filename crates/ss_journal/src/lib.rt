@@ -15,6 +15,7 @@ mod settling;
 mod txn;
 mod writing;
 
+pub use format::MOST_SLOTS;
 pub use journal::Journal;
 pub use journal_error::JournalError;
 pub use laws::{puts_agree_again, puts_extend_again};

@@ -18,7 +18,7 @@ pub fn apply<D: Disk>(disk: &mut D, puts: &[Put]) -> Result<(), Failed>
     requires some { 0 < length puts.now }
     requires slots { AreSlots puts.now }
     requires in_use { IsTrue (D.tells disk.old) → AreInUse puts.now (D.told disk.old).content }
-    ensures keeps { IsTrue (D.tells disk.old) → KeepsMap (D.told disk.old) (D.told disk.new) result }
+    ensures keeps_map { IsTrue (D.tells disk.old) → KeepsMap (D.told disk.old) (D.told disk.new) result }
     ensures closed { IsTrue (D.tells disk.old) → OnOk result (IsTrue (is_born (D.told disk.new).content)
         × FirstClosed (D.told disk.new).content × SameOthers (D.told disk.old).content (D.told disk.new).content) }
     ensures tells { D.tells disk.new ≡ D.tells disk.old }
@@ -32,7 +32,7 @@ pub fn apply<D: Disk>(disk: &mut D, puts: &[Put]) -> Result<(), Failed>
 fn apply_any<D: Disk>(disk: &mut D, puts: &[Put]) -> Result<(), Failed>
     requires slots { AreSlots puts.now }
     requires in_use { IsTrue (D.tells disk.old) → AreInUse puts.now (D.told disk.old).content }
-    ensures keeps { IsTrue (D.tells disk.old) → KeepsMap (D.told disk.old) (D.told disk.new) result }
+    ensures keeps_map { IsTrue (D.tells disk.old) → KeepsMap (D.told disk.old) (D.told disk.new) result }
     ensures closed { IsTrue (D.tells disk.old)
         → OnOk result (IsTrue (is_born (D.told disk.new).content) × FirstClosed (D.told disk.new).content) }
     ensures tells { D.tells disk.new ≡ D.tells disk.old }
@@ -65,7 +65,7 @@ fn close_gate<D: Disk>(disk: &mut D, n: u32) -> Result<bool, Failed>
 fn close_others<D: Disk>(disk: &mut D) -> Result<(), Failed>
     requires { IsTrue (D.tells disk.old)
         → IsTrue (is_born (D.told disk.old).content) × FirstClosed (D.told disk.old).content }
-    ensures keeps { IsTrue (D.tells disk.old) → KeepsMap (D.told disk.old) (D.told disk.new) result }
+    ensures keeps_map { IsTrue (D.tells disk.old) → KeepsMap (D.told disk.old) (D.told disk.new) result }
     ensures closed { IsTrue (D.tells disk.old)
         → OnOk result (IsTrue (is_born (D.told disk.new).content) × AllClosed (D.told disk.new).content) }
     ensures tells { D.tells disk.new ≡ D.tells disk.old }
@@ -87,7 +87,7 @@ fn close_others<D: Disk>(disk: &mut D) -> Result<(), Failed>
 pub fn settle_entries<D: Disk>(disk: &mut D, puts: &[Put]) -> Result<(), Failed>
     requires slots { AreSlots puts.now }
     requires in_use { IsTrue (D.tells disk.old) → AreInUse puts.now (D.told disk.old).content }
-    ensures keeps { IsTrue (D.tells disk.old) → KeepsMap (D.told disk.old) (D.told disk.new) result }
+    ensures keeps_map { IsTrue (D.tells disk.old) → KeepsMap (D.told disk.old) (D.told disk.new) result }
     ensures closed { IsTrue (D.tells disk.old)
         → OnOk result (IsTrue (is_born (D.told disk.new).content) × AllClosed (D.told disk.new).content) }
     ensures tells { D.tells disk.new ≡ D.tells disk.old }

@@ -19,7 +19,7 @@ use ss_outside::{Disk, Failed};
 fn write_entry<D: Disk>(disk: &mut D, txn: &Txn) -> Result<(), Failed>
     requires txn { IsTxn txn.now.items }
     requires ready { IsTrue (D.tells disk.old) → IsReady txn.now.items (D.told disk.old).content }
-    ensures keeps { IsTrue (D.tells disk.old) → KeepsMap (D.told disk.old) (D.told disk.new) result }
+    ensures keeps_map { IsTrue (D.tells disk.old) → KeepsMap (D.told disk.old) (D.told disk.new) result }
     ensures written { IsTrue (D.tells disk.old)
         → OnOk result ((D.told disk.new).content ≡ overwrite (D.told disk.old).content 513 (entry_body txn.now.items)) }
     ensures durable { IsTrue (D.tells disk.old) → OnOk result (NothingPending (D.told disk.new)) }
@@ -35,7 +35,7 @@ fn write_entry<D: Disk>(disk: &mut D, txn: &Txn) -> Result<(), Failed>
 pub fn open_entry<D: Disk>(disk: &mut D, txn: &Txn) -> Result<(), Failed>
     requires txn { IsTxn txn.now.items }
     requires ready { IsTrue (D.tells disk.old) → IsReady txn.now.items (D.told disk.old).content }
-    ensures changes { IsTrue (D.tells disk.old) → ChangesMap txn.now.items (D.told disk.old) (D.told disk.new) result }
+    ensures changes_map { IsTrue (D.tells disk.old) → ChangesMap txn.now.items (D.told disk.old) (D.told disk.new) result }
     ensures in_use { IsTrue (D.tells disk.old) → OnOk result (AreInUse txn.now.items (D.told disk.new).content) }
     ensures others { IsTrue (D.tells disk.old)
         → OnOk result (SameOthers (D.told disk.old).content (D.told disk.new).content) }

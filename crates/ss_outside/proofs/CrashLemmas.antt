@@ -1,11 +1,12 @@
 -- How "a crash at any moment" goes on from call to call.
-use Rattle.std.proofs.Common.{inl, inr, ◌⊎◌, ⊎_elim, ℕ, ◌≤◌, List, refl, ◌∙◌, subst, sym, arith}
+use Rattle.std.proofs.Common.{inl, inr, ◌⊎◌, ⊎_elim, ℕ, List, refl, ◌∙◌, subst, sym, arith}
 use Rattle.ss_outside.specs.Crash.{Elapses, KnowsNow, OnlyReads, LeavesOnly}
 use Rattle.ss_outside.specs.Disk.{Told, Torn, BecomesPending, StaysSame, NothingPending}
 
 -- after a write, whatever it answers: what holds of each image before, and of each way to tear it, holds of each image
 pub after_write : {A : Type 0} (at count : ℕ) (old new : Told) (P : List ℕ → Type 0) → BecomesPending at count old new ⊎ (A × StaysSame old new)
-    → ((image : List ℕ) → old.may_leave image → P image) → ((was image : List ℕ) → old.may_leave was → Torn at count was image → P image) → (image : List ℕ) → new.may_leave image → P image
+    → ((image : List ℕ) → old.may_leave image → P image) → ((was image : List ℕ) → old.may_leave was → Torn at count was image → P image)
+    → (image : List ℕ) → new.may_leave image → P image
 after_write at count old new P (inl pending) stays torn image is = let from = pending.nothing_else image is in torn from.0 image from.1 from.2
 after_write at count old new P (inr none) stays torn image is = stays image ((none.1.images image).1 is)
 

@@ -89,8 +89,7 @@ module _ (synced : List ℕ) (pending : List (ℕ × ℕ)) (longest at count : �
         bytes = is.bytes;
       },
     )
-
-  -- a range that is written becomes pending
+    -- a range that is written becomes pending
 
 module _ (content bytes : List ℕ) (at : ℕ) (within : at ≤ length content) where
   pub length-overwrite : length (overwrite content at bytes) ≡ max (length content) (at + length bytes)

@@ -1,14 +1,14 @@
 -- What the calls of a disk in memory leave, as every disk says it.
 use Rattle.std.proofs.Common.{◌≡◌, ◌⊎◌, inl, inr, ℕ, List, [], ◌∷◌, length, Result, Ok, Err, refl, sym, ◌∙◌, ap, subst}
 use Rattle.std.specs.Prelude.{IsErr, OnOk, OnErr, MatchResult}
-use Rattle.ss_outside.specs.declared.source.Failed.{Failed}
-use Rattle.ss_outside.specs.Crash.{Elapses, OnlyReads}
-use Rattle.ss_outside.specs.Disk.{Told, overwrite, BecomesPending, StaysSame, NothingPending}
-use Rattle.ss_outside.specs.MemDisk.{DiskCall, Wrote, Tore, Synced, DiskState, MemDiskState, fresh, pend, step, now, Leaves, told_by, IsListed, IsSound, answered, failed, starved, changed}
 use Rattle.ss_outside.proofs.CrashLemmas.{reads-none}
 use Rattle.ss_outside.proofs.DiskLemmas.{only_image, torn_is_image, image_is_torn}
 use Rattle.ss_outside.proofs.MemDiskTime.{time_push}
 use Rattle.ss_outside.proofs.PastLemmas.{replay-append}
+use Rattle.ss_outside.specs.Crash.{Elapses}
+use Rattle.ss_outside.specs.Disk.{overwrite, BecomesPending, StaysSame, NothingPending}
+use Rattle.ss_outside.specs.MemDisk.{DiskCall, Wrote, Tore, Synced, DiskState, MemDiskState, fresh, pend, step, now, Leaves, told_by, IsListed, IsSound, answered, failed, starved, changed}
+use Rattle.ss_outside.specs.declared.source.Failed.{Failed}
 
 stepped : (s : MemDiskState) (call : DiskCall) → now (changed s call) ≡ step (now s) call
 stepped s call = replay-append (fresh s.start) s.changes (call ∷ [])
@@ -18,7 +18,8 @@ module _ (old new : MemDiskState) where
     pub content_written : new ≡ changed (answered old) (Wrote at bytes) → (told_by new).content ≡ overwrite (told_by old).content at bytes
     content_written is = ap (λ (s : DiskState). s.content) (ap now is ∙ stepped (answered old) (Wrote at bytes))
 
-    pends : (content : List ℕ) → IsSound (now old) → now new ≡ pend (now old) at (length bytes) content → BecomesPending at (length bytes) (told_by old) (told_by new)
+    pends : (content : List ℕ) → IsSound (now old) → now new ≡ pend (now old) at (length bytes) content
+        → BecomesPending at (length bytes) (told_by old) (told_by new)
     pends content sound is = let s = now old in record {
       nothing_else = λ image left. image_is_torn s.synced s.pending s.longest at (length bytes) image sound.bytes sound.short (subst (λ (t : DiskState). Leaves t image) is left);
       each = λ was image left torn. subst (λ (t : DiskState). Leaves t image) (sym is) (torn_is_image s.synced s.pending s.longest at (length bytes) was image left torn);
@@ -50,15 +51,18 @@ module _ (old new : MemDiskState) where
   state_synced (Err e) none (inr short) = ap now short.1
 
   -- by the state after a sync
-  pub content_synced : (result : Result (Unit {0}) Failed) → MatchResult result (λ _. now new ≡ fresh (now old).content) (λ _. now new ≡ now old) → (told_by new).content ≡ (told_by old).content
+  pub content_synced : (result : Result (Unit {0}) Failed) → MatchResult result (λ _. now new ≡ fresh (now old).content) (λ _. now new ≡ now old)
+      → (told_by new).content ≡ (told_by old).content
   content_synced (Ok done) is = ap (λ (s : DiskState). s.content) is
   content_synced (Err e) is = ap (λ (s : DiskState). s.content) is
 
-  pub durable_synced : (result : Result (Unit {0}) Failed) → MatchResult result (λ _. now new ≡ fresh (now old).content) (λ _. now new ≡ now old) → OnOk result (NothingPending (told_by new))
+  pub durable_synced : (result : Result (Unit {0}) Failed) → MatchResult result (λ _. now new ≡ fresh (now old).content) (λ _. now new ≡ now old)
+      → OnOk result (NothingPending (told_by new))
   durable_synced (Ok done) is = subst (λ (s : DiskState). (image : List ℕ) → Leaves s image → image ≡ s.content) (sym is) (only_image (now old).content)
   durable_synced (Err e) is = tt
 
-  pub no_other_synced : (result : Result (Unit {0}) Failed) → MatchResult result (λ _. now new ≡ fresh (now old).content) (λ _. now new ≡ now old) → IsSound (now old) → (image : List ℕ) → (told_by new).may_leave image → (told_by old).may_leave image
+  pub no_other_synced : (result : Result (Unit {0}) Failed) → MatchResult result (λ _. now new ≡ fresh (now old).content) (λ _. now new ≡ now old)
+      → IsSound (now old) → (image : List ℕ) → (told_by new).may_leave image → (told_by old).may_leave image
   no_other_synced (Ok done) is sound image left =
       subst (Leaves (now old)) (sym (only_image (now old).content image (subst (λ (s : DiskState). Leaves s image) is left))) sound.own
   no_other_synced (Err e) is sound image left = subst (λ (s : DiskState). Leaves s image) is left

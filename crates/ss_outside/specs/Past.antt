@@ -1,6 +1,7 @@
 -- How the calls of a disk in memory are kept.
-use Rattle.std.specs.Prelude.{◌≡◌, ℕ, ◌+◌, ◌≤◌, ◌^◌, List, [], ◌∷◌, length, take, drop, ⊤}
+use Rattle.std.specs.Prelude.{◌≡◌, ℕ, ◌+◌, ◌≤◌, List, [], ◌∷◌, length, take, drop, ⊤}
 use Rattle.ss_outside.specs.MemDisk.{DiskCall, Wrote, Tore, Synced, fresh, replay}
+use Rattle.ss_outside.specs.declared.disk.TheConstants.{LONGEST_DISK}
 use Rattle.ss_outside.specs.declared.past.Change.{Change}
 use Rattle.ss_outside.specs.declared.past.Change.TheVariants.{Bytes, Torn, Sync}
 
@@ -12,8 +13,8 @@ call_of pool Sync = Synced
 
 -- its bytes lie in a pool of this size, and it ends within the longest disk
 abbrev pub IsKept : ℕ → Change → Type 0
-IsKept size (Bytes at from count) = (from + count ≤ size) × (at + count ≤ 2 ^ 32)
-IsKept size (Torn at count) = at + count ≤ 2 ^ 32
+IsKept size (Bytes at from count) = (from + count ≤ size) × (at + count ≤ LONGEST_DISK)
+IsKept size (Torn at count) = at + count ≤ LONGEST_DISK
 IsKept size Sync = ⊤
 
 -- none of the calls is a sync

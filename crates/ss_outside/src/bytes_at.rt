@@ -1,7 +1,8 @@
 // Bytes at places of a content.
-ghost use Rattle.std.specs.Prelude.{◌≡◌, ◌⊎◌, ℕ, ◌+◌, ◌<◌, ◌≤◌, ◌^◌, max, length, slice_index, EachIndex, IsOk, OnOk, OnErr, vec_capacity};
+ghost use Rattle.std.specs.Prelude.{◌≡◌, ◌⊎◌, ℕ, ◌+◌, ◌<◌, ◌≤◌, max, length, slice_index, EachIndex, IsOk, OnOk, OnErr, vec_capacity};
 ghost use Rattle.ss_outside.specs.Disk.{overwrite, IsOutside, IsReadFrom};
 
+use crate::LONGEST_DISK;
 use std::alloc::AllocError;
 
 // Fills the buffer with the content from `at` on, and with 0 past its end.
@@ -34,7 +35,7 @@ pub(crate) fn fill_at(
     count: usize,
     byte: u8,
 ) -> Result<(), AllocError>
-    requires { at + count ≤ 2 ^ 32 }
+    requires { at + count ≤ LONGEST_DISK }
     ensures length { OnOk result (length image.new.items ≡ max (length image.old.items) (at + count)) }
     ensures kept { OnOk result (EachIndex image.old.items (λ place. IsOutside at count place
         → slice_index image.new.items place ≡ slice_index image.old.items place)) }

@@ -1,5 +1,5 @@
 // Where the store lies.
-ghost use Rattle.std.specs.Prelude.{◌≡◌, ◌⊎◌, ◌+◌, ◌≤◌, ◌^◌, ℕ, Bool, List, length, IsErr, IfOk, OnOk, OnErr, IsTrue};
+ghost use Rattle.std.specs.Prelude.{◌≡◌, ◌⊎◌, ◌+◌, ◌≤◌, ℕ, Bool, List, length, IsErr, IfOk, OnOk, OnErr, IsTrue};
 ghost use Rattle.ss_outside.specs.Causes.{HasCause};
 ghost use Rattle.ss_outside.specs.Crash.{Elapses, KnowsNow, OnlyReads};
 ghost use Rattle.ss_outside.specs.Disk.{Told, IsReadFrom, overwrite, BecomesPending, StaysSame, NothingPending};

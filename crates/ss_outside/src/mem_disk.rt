@@ -54,7 +54,7 @@ impl Model for MemDisk {
 }
 
 impl MemDisk {
-    ghost use Rattle.std.specs.Prelude.{◌≡◌, ◌⊎◌, ◌+◌, ◌≤◌, ◌^◌, ◌↔◌, length, Some, IsErr, IfOk, OnOk, OnErr};
+    ghost use Rattle.std.specs.Prelude.{◌≡◌, ◌⊎◌, ◌+◌, ◌≤◌, ◌↔◌, length, Some, IsErr, IfOk, OnOk, OnErr};
     ghost use Rattle.ss_outside.specs.Causes.{HasCause};
     ghost use Rattle.ss_outside.specs.Choice.{IsChosen};
     ghost use Rattle.ss_outside.specs.MemDisk.{Wrote, Tore, Synced, made, now, Leaves, IsListed, IsSound, answered, failed, starved, changed};
@@ -272,7 +272,7 @@ impl Disk for MemDisk {
     }
 }
 
-ghost use Rattle.std.specs.Prelude.{◌≡◌, ◌⊎◌, ◌+◌, ◌≤◌, ◌^◌, ◌++◌, ◌∷◌, [], ◌↔◌, length, Contains, IsTrue, IsSomeAnd, IfOk, OnOk, OnErr};
+ghost use Rattle.std.specs.Prelude.{◌≡◌, ◌⊎◌, ◌+◌, ◌≤◌, ◌++◌, ◌∷◌, [], ◌↔◌, length, Contains, IsTrue, IsSomeAnd, IfOk, OnOk, OnErr};
 ghost use Rattle.ss_outside.specs.Disk.{overwrite};
 ghost use Rattle.ss_outside.specs.Choice.{IsFilled};
 ghost use Rattle.ss_outside.specs.MemDisk.{Wrote, fresh, replay};

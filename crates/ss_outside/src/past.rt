@@ -1,4 +1,5 @@
 // The calls of a disk in memory, as data.
+use crate::LONGEST_DISK;
 use crate::bytes_at::{fill_at, overwrite_at};
 use std::alloc::{AllocError, Global};
 use std::marker::Model;
@@ -39,7 +40,7 @@ impl Model for Past {
 }
 
 impl Past {
-    ghost use Rattle.std.specs.Prelude.{◌≡◌, ◌+◌, ◌≤◌, ◌^◌, [], ◌∷◌, ◌++◌, length, take, drop, IfOk, OnOk, OnErr};
+    ghost use Rattle.std.specs.Prelude.{◌≡◌, ◌+◌, ◌≤◌, [], ◌∷◌, ◌++◌, length, take, drop, IfOk, OnOk, OnErr};
     ghost use Rattle.ss_outside.specs.MemDisk.{Wrote, Tore, Synced, fresh, replay};
     ghost use Rattle.ss_outside.specs.Past.{IsSettled};
     ghost use Rattle.ss_outside.specs.Choice.{IsFilled};
@@ -54,7 +55,7 @@ impl Past {
     }
 
     pub(crate) fn write(&mut self, at: usize, bytes: &[u8]) -> Result<(), AllocError>
-        requires { at + length bytes.now ≤ 2 ^ 32 }
+        requires { at + length bytes.now ≤ LONGEST_DISK }
         ensures added { OnOk result (self.new ≡ self.old ++ Wrote at bytes.now ∷ []) }
         ensures kept { OnErr result (self.new ≡ self.old) }
     {
@@ -66,7 +67,7 @@ impl Past {
     }
 
     pub(crate) fn tear(&mut self, at: usize, count: usize) -> Result<(), AllocError>
-        requires { at + count ≤ 2 ^ 32 }
+        requires { at + count ≤ LONGEST_DISK }
         ensures added { OnOk result (self.new ≡ self.old ++ Tore at count ∷ []) }
         ensures kept { OnErr result (self.new ≡ self.old) }
     {

@@ -7,8 +7,8 @@ use Rattle.ss_journal.proofs.RangeLemmas.{DiffersIn-overwrite}
 use Rattle.ss_journal.proofs.TearLemmas.{tears-after_read, keeps-torn, keeps-failed}
 use Rattle.ss_journal.proofs.birth.begin.Goals as goal
 
-pub returns-in_err-write_through-clause-keeps : goal.returns-in_err-write_through-clause-keeps
-returns-in_err-write_through-clause-keeps g c told =
+pub returns-in_err-write_through-clause-keeps_map : goal.returns-in_err-write_through-clause-keeps_map
+returns-in_err-write_through-clause-keeps_map g c told =
     let old = g.D.Disk.told c.args.disk.now in
     let read = g.D.Disk.told c.len.new.self in
     let new = g.D.Disk.told c.write_through.new.disk in
@@ -18,8 +18,8 @@ returns-in_err-write_through-clause-keeps g c told =
     (tears-after_read old read new ((0, 1) ∷ []) (g.met.D.Disk.knows_now c.args.disk.now told) (c.len.ensures.reads told) (c.write_through.ensures.tears (c.len.ensures.tells ∙ told)))
     (λ found image is differs. StandsFor-begin old.content image found short is differs)
 
-pub returns-in_ok-write_through-clause-keeps : goal.returns-in_ok-write_through-clause-keeps
-returns-in_ok-write_through-clause-keeps g c told =
+pub returns-in_ok-write_through-clause-keeps_map : goal.returns-in_ok-write_through-clause-keeps_map
+returns-in_ok-write_through-clause-keeps_map g c told =
     let old = g.D.Disk.told c.args.disk.now in
     let read = g.D.Disk.told c.len.new.self in
     let new = g.D.Disk.told c.write_through.new.disk in

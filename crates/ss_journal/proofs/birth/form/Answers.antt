@@ -6,13 +6,13 @@ use Rattle.ss_journal.proofs.BirthLemmas.{StandsFor-form, keeps-marked, to_blank
 use Rattle.ss_journal.proofs.TearLemmas.{tears-synced, on_ok, keeps-torn, keeps-failed}
 use Rattle.ss_journal.proofs.birth.form.Goals as goal
 
-pub returns-in_err-write_magic-clause-keeps : goal.returns-in_err-write_magic-clause-keeps
-returns-in_err-write_magic-clause-keeps g c told =
+pub returns-in_err-write_magic-clause-keeps_map : goal.returns-in_err-write_magic-clause-keeps_map
+returns-in_err-write_magic-clause-keeps_map g c told =
     keeps-marked (g.D.Disk.told c.args.disk.now) (g.D.Disk.told c.len.new.self) (g.D.Disk.told c.write_magic.new.disk) (g.met.D.Disk.knows_now c.args.disk.now told) (c.len.ensures.reads told)
     (c.write_magic.ensures.tears (c.len.ensures.tells ∙ told)) _ c.from_residual-in_err-write_magic.ensures.0 (c.requires.begun told)
 
-pub returns-in_err-write_zeros-clause-keeps : goal.returns-in_err-write_zeros-clause-keeps
-returns-in_err-write_zeros-clause-keeps g c told =
+pub returns-in_err-write_zeros-clause-keeps_map : goal.returns-in_err-write_zeros-clause-keeps_map
+returns-in_err-write_zeros-clause-keeps_map g c told =
     let old = g.D.Disk.told c.args.disk.now in
     let blank = g.D.Disk.told c.write_zeros.new.disk in
     let told_marked = c.write_magic.ensures.tells ∙ c.len.ensures.tells ∙ told in
@@ -27,8 +27,8 @@ content-synced : (old read marked blank synced : List ℕ) (end : ℕ) → read 
 content-synced old read marked blank synced end same marks wipes still =
     still ∙ wipes ∙ ap (λ (list : List ℕ). overwrite list 9 (replicate (end - 9) 0)) (marks ∙ ap (λ (list : List ℕ). overwrite list 1 (magic_bytes list)) same)
 
-pub returns-clause-keeps : goal.returns-clause-keeps
-returns-clause-keeps g c told =
+pub returns-clause-keeps_map : goal.returns-clause-keeps_map
+returns-clause-keeps_map g c told =
     let old = g.D.Disk.told c.args.disk.now in
     let read = g.D.Disk.told c.len.new.self in
     let marked = g.D.Disk.told c.write_magic.new.disk in

@@ -8,8 +8,8 @@ use Rattle.ss_journal.proofs.RangeLemmas.{DiffersIn-overwrite}
 use Rattle.ss_journal.proofs.TearLemmas.{keeps-torn}
 use Rattle.ss_journal.proofs.birth.open_gate.Goals as goal
 
-pub returns-clause-keeps : goal.returns-clause-keeps
-returns-clause-keeps g c told =
+pub returns-clause-keeps_map : goal.returns-clause-keeps_map
+returns-clause-keeps_map g c told =
     let content = (g.D.Disk.told c.args.disk.now).content in
     keeps-torn (g.D.Disk.told c.args.disk.now) (g.D.Disk.told c.write_through.new.disk) c.write_through.result ((0, 1) ∷ []) (c.write_through.ensures.tears told)
     (λ found image is differs. StandsFor-birth_gate content image (c.requires.formed told) differs found is)

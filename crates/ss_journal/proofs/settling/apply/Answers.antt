@@ -20,15 +20,15 @@ write_through-requires-clause-within g c told =
     let long = long-slots_written c.args.puts.now (g.D.Disk.told c.args.disk.now).content (c.requires.in_use before) in
     omega (arith, long, ap length (c.in_ok-write_slots.ensures.written before))
 
-pub returns-in_err-write_slots-clause-keeps : goal.returns-in_err-write_slots-clause-keeps
-returns-in_err-write_slots-clause-keeps g c told =
+pub returns-in_err-write_slots-clause-keeps_map : goal.returns-in_err-write_slots-clause-keeps_map
+returns-in_err-write_slots-clause-keeps_map g c told =
     let old = g.D.Disk.told c.args.disk.now in
     let puts = c.args.puts.now in
     keeps-failed old (g.D.Disk.told c.write_slots.new.disk) c.from_residual.result c.from_residual.ensures.0 (slot_ranges puts) (c.write_slots.ensures.tears told)
     (λ found image is differs. (StandsFor-slots_torn puts old.content image found (c.requires.in_use told) is differs).0)
 
-pub returns-clause-keeps : goal.returns-clause-keeps
-returns-clause-keeps g c told =
+pub returns-clause-keeps_map : goal.returns-clause-keeps_map
+returns-clause-keeps_map g c told =
     let old = g.D.Disk.told c.args.disk.now in
     let mid = g.D.Disk.told c.write_slots.new.disk in
     let new = g.D.Disk.told c.write_through.new.disk in

@@ -16,8 +16,8 @@ close_gate-requires-clause-long g c told_then =
     let long = (is_born-parts (g.D.Disk.told c.args.disk.now).content (c.requires told).0).0 in
     omega (arith, long, (c.loop-n.invariant.differs told).no_shorter)
 
-pub returns-in_err-close_gate-clause-keeps : goal.returns-in_err-close_gate-clause-keeps
-returns-in_err-close_gate-clause-keeps g c told =
+pub returns-in_err-close_gate-clause-keeps_map : goal.returns-in_err-close_gate-clause-keeps_map
+returns-in_err-close_gate-clause-keeps_map g c told =
     let old = g.D.Disk.told c.args.disk.now in
     let before = c.loop-n.invariant in
     let told_then = before.tells ∙ told in
@@ -51,8 +51,8 @@ loop-n-preserved g c =
       tears = λ told. tears-more old mid new other_gates (g.met.D.Disk.knows_now c.loop-n.disk (before.tells ∙ told)) (before.tears told) _ 1 (Covers-gate n low high) (c.close_gate.ensures.tears (before.tells ∙ told));
     }
 
-pub returns-in_err-sync-clause-keeps : goal.returns-in_err-sync-clause-keeps
-returns-in_err-sync-clause-keeps g c told =
+pub returns-in_err-sync-clause-keeps_map : goal.returns-in_err-sync-clause-keeps_map
+returns-in_err-sync-clause-keeps_map g c told =
     let old = g.D.Disk.told c.args.disk.now in
     let told_then = c.loop-n.invariant.tells ∙ told in
     let ready = c.requires told in
@@ -60,8 +60,8 @@ returns-in_err-sync-clause-keeps g c told =
     (tears-synced old (g.D.Disk.told c.loop-n.disk) (g.D.Disk.told c.sync.new.self) other_gates (g.met.D.Disk.knows_now c.loop-n.disk told_then) (c.loop-n.invariant.tears told) (c.sync.ensures.time told_then) (c.sync.ensures.no_other told_then))
     (λ found image is differs. (StandsFor-other_gates old.content image found ready.0 ready.1 is differs).0)
 
-pub returns-in_ok-sync-clause-keeps : goal.returns-in_ok-sync-clause-keeps
-returns-in_ok-sync-clause-keeps g c told =
+pub returns-in_ok-sync-clause-keeps_map : goal.returns-in_ok-sync-clause-keeps_map
+returns-in_ok-sync-clause-keeps_map g c told =
     let old = g.D.Disk.told c.args.disk.now in
     let told_then = c.loop-n.invariant.tells ∙ told in
     let ready = c.requires told in
@@ -80,8 +80,8 @@ returns-in_ok-sync-clause-closed g c told =
     subst (λ (list : List ℕ). IsTrue (is_born list) × AllClosed list) (sym (c.sync.ensures.content (c.loop-n.invariant.tells ∙ told)))
     (formed.0, AllClosed-others mid.content formed.1 (λ k low high. c.loop-n.invariant.closed told k low (omega (arith, high))))
 
-pub returns-else-any-clause-keeps : goal.returns-else-any-clause-keeps
-returns-else-any-clause-keeps g c told =
+pub returns-else-any-clause-keeps_map : goal.returns-else-any-clause-keeps_map
+returns-else-any-clause-keeps_map g c told =
     let old = g.D.Disk.told c.args.disk.now in
     let new = g.D.Disk.told c.loop-n.disk in
     let ready = c.requires told in

@@ -2,7 +2,7 @@ use Rattle.std.proofs.Common.{◌∙◌}
 use Rattle.ss_journal.proofs.TearLemmas.{keeps-joined}
 use Rattle.ss_journal.proofs.settling.settle_entries.Goals as goal
 
-pub returns-clause-keeps : goal.returns-clause-keeps
-returns-clause-keeps g c told =
+pub returns-clause-keeps_map : goal.returns-clause-keeps_map
+returns-clause-keeps_map g c told =
     keeps-joined (g.D.Disk.told c.args.disk.now) (g.D.Disk.told c.apply_any.new.disk) (g.D.Disk.told c.close_others.new.disk) c.close_others.result _
-    (c.in_ok-apply_any.ensures.keeps told) (c.close_others.ensures.keeps (c.apply_any.ensures.tells ∙ told))
+    (c.in_ok-apply_any.ensures.keeps_map told) (c.close_others.ensures.keeps_map (c.apply_any.ensures.tells ∙ told))

@@ -9,9 +9,9 @@ use Rattle.ss_journal.proofs.TxnLemmas.{long-spelled, StandsFor-gate, StandsFor-
 use Rattle.ss_journal.proofs.TearLemmas.{tears-content, changes-failed}
 use Rattle.ss_journal.proofs.txn.open_entry.Goals as goal
 
-pub returns-in_err-write_entry-clause-changes : goal.returns-in_err-write_entry-clause-changes
-returns-in_err-write_entry-clause-changes g c told =
-    changes-failed (g.D.Disk.told c.args.disk.now) (g.D.Disk.told c.write_entry.new.disk) c.args.txn.now.items _ c.write_entry.result c.from_residual.ensures.0 (c.write_entry.ensures.keeps told)
+pub returns-in_err-write_entry-clause-changes_map : goal.returns-in_err-write_entry-clause-changes_map
+returns-in_err-write_entry-clause-changes_map g c told =
+    changes-failed (g.D.Disk.told c.args.disk.now) (g.D.Disk.told c.write_entry.new.disk) c.args.txn.now.items _ c.write_entry.result c.from_residual.ensures.0 (c.write_entry.ensures.keeps_map told)
 
 pub write_through-requires-clause-within : goal.write_through-requires-clause-within
 write_through-requires-clause-within g c told_then =
@@ -19,8 +19,8 @@ write_through-requires-clause-within g c told_then =
     let long = long-spelled c.args.txn.now.items (g.D.Disk.told c.args.disk.now).content c.write_entry.ensures.whole c.requires.txn (c.requires.ready told) in
     omega (arith, long, ap length (c.in_ok-write_entry.ensures.written told))
 
-pub returns-clause-changes : goal.returns-clause-changes
-returns-clause-changes g c told =
+pub returns-clause-changes_map : goal.returns-clause-changes_map
+returns-clause-changes_map g c told =
     let old = g.D.Disk.told c.args.disk.now in
     let mid = g.D.Disk.told c.write_entry.new.disk in
     let new = g.D.Disk.told c.write_through.new.disk in
@@ -35,7 +35,7 @@ returns-clause-changes g c told =
           (c.write_through.ensures.written told_then);
       any_moment = λ only found is.
           let P : List ℕ → Type 0 = λ image. StandsFor image found ⊎ StandsFor image (changed found puts) in
-          joined old mid new P (weaker old mid (λ image. StandsFor image found) P (λ image stands. inl stands) ((c.in_ok-write_entry.ensures.keeps told).any_moment only found is))
+          joined old mid new P (weaker old mid (λ image. StandsFor image found) P (λ image stands. inl stands) ((c.in_ok-write_entry.ensures.keeps_map told).any_moment only found is))
           (weaker mid new (DiffersAt 512 1 mid.content) P (λ image differs. ⊎_elim (λ stands. inl stands) (λ stands. inr stands.0) (StandsFor-gate puts old.content image found whole txn ready is (subst (λ (list : List ℕ). DiffersAt 512 1 list image) spelled differs)))
           (tears-content mid new ((512, 1) ∷ []) (c.in_ok-write_entry.ensures.durable told) (c.write_through.ensures.tears told_then)));
       durable = c.write_through.ensures.durable told_then;

@@ -17,8 +17,8 @@ returns-clause-written g c told =
     let body = body-entry c.args.txn.now.items c.entry_of-entry.result c.entry_of-entry.ensures.whole c.requires.txn.few c.entry_of-entry.ensures.value in
     on_ok_weaker c.write_through.result (λ written. written ∙ ap (overwrite (g.D.Disk.told c.args.disk.now).content 513) body) (c.write_through.ensures.written told)
 
-pub returns-clause-keeps : goal.returns-clause-keeps
-returns-clause-keeps g c told =
+pub returns-clause-keeps_map : goal.returns-clause-keeps_map
+returns-clause-keeps_map g c told =
     let old = g.D.Disk.told c.args.disk.now in
     let new = g.D.Disk.told c.write_through.new.disk in
     let puts = c.args.txn.now.items in

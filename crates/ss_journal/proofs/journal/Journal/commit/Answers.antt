@@ -26,8 +26,8 @@ returns-clause-one_disk g c told =
     let kept : IsKept journal content = subst (λ (j : JournalState). IsKept j content) (sym c.self.view_is) (c.requires.one_disk told) in
     let settled = ap (λ (j : JournalState). j.phase) c.self.view_is ∙ c.requires.settled in
     let told_then = c.open_entry.ensures.tells ∙ told in
-    let opened = (c.in_ok-open_entry.ensures.changes told).map (file_map content) (StandsFor-settled journal content settled kept) in
+    let opened = (c.in_ok-open_entry.ensures.changes_map told).map (file_map content) (StandsFor-settled journal content settled kept) in
     IsKept-committed journal content settled kept (g.D.Disk.told c.open_entry.new.disk).content (g.D.Disk.told c.apply.new.disk).content
     (c.in_ok-open_entry.ensures.others told) (c.in_ok-apply.ensures.closed told_then) c.args.txn.now.items c.extent_after-self-inside.result
     (c.extent_after-self-inside.ensures ∙ ap (λ (puts : List Put). extent_after puts c.self.inside.extent) c.deref-2.ensures.0)
-    ((c.in_ok-apply.ensures.keeps told_then).map _ opened)
+    ((c.in_ok-apply.ensures.keeps_map told_then).map _ opened)

@@ -18,11 +18,11 @@ returns-clause-one_disk g c told =
       | in-Unborn+in_ok-give_birth-in-Unborn w ↦ (let born = w.in_ok-give_birth-in-Unborn.ensures.born told in
           subst (λ d. IsKept settled (g.D.Disk.told d).content) (sym w.disk-is)
           (IsKept-settled c.self.inside.extent c.clear.new.self.items (g.D.Disk.told w.give_birth.new.disk).content kept.found born.0 born.1
-          ((w.in_ok-give_birth-in-Unborn.ensures.keeps told).map kept.found stands) kept.extent c.clear.ensures.items))
+          ((w.in_ok-give_birth-in-Unborn.ensures.keeps_map told).map kept.found stands) kept.extent c.clear.ensures.items))
       | in-Born+in_ok-settle_entries-in-Born w ↦ (let closed = w.in_ok-settle_entries-in-Born.ensures.closed told in
           subst (λ d. IsKept settled (g.D.Disk.told d).content) (sym w.disk-is)
           (IsKept-settled c.self.inside.extent c.clear.new.self.items (g.D.Disk.told w.settle_entries.new.disk).content kept.found closed.0 closed.1
-          ((w.in_ok-settle_entries-in-Born.ensures.keeps told).map kept.found stands) kept.extent c.clear.ensures.items))
+          ((w.in_ok-settle_entries-in-Born.ensures.keeps_map told).map kept.found stands) kept.extent c.clear.ensures.items))
       | in-Settled w ↦ (let closed = closed_phase c.self.inside.phase content w.in-Settled.is kept.phase in
           subst (λ d. IsKept settled (g.D.Disk.told d).content) (sym w.disk-is)
           (IsKept-settled c.self.inside.extent c.clear.new.self.items content kept.found closed.0 closed.1 stands kept.extent c.clear.ensures.items))
