@@ -1,5 +1,5 @@
 // How a slot is read.
-ghost use Rattle.std.specs.Prelude.{◌≡◌, ◌≤◌, ◌<◌, ◌^◌, ℕ, List, length, unwrap_or, IsTrue, IfOk};
+ghost use Rattle.std.specs.Prelude.{◌≡◌, ◌<◌, ◌^◌, ℕ, List, length, unwrap_or, IsTrue, IfOk};
 ghost use Rattle.ss_outside.specs.Causes.{HasCause};
 ghost use Rattle.ss_outside.specs.Crash.{OnlyReads};
 ghost use Rattle.ss_journal.specs.Format.{slots_in, slot_at};

@@ -1,5 +1,5 @@
 // Bytes at places of a content.
-ghost use Rattle.std.specs.Prelude.{◌≡◌, ◌⊎◌, ℕ, ◌+◌, ◌<◌, ◌≤◌, max, length, slice_index, EachIndex, IsOk, OnOk, OnErr, vec_capacity};
+ghost use Rattle.std.specs.Prelude.{◌≡◌, ◌⊎◌, ◌+◌, ◌<◌, ◌≤◌, max, length, slice_index, EachIndex, IsOk, OnOk, OnErr, vec_capacity};
 ghost use Rattle.ss_outside.specs.Disk.{overwrite, IsOutside, IsReadFrom};
 
 use crate::LONGEST_DISK;
