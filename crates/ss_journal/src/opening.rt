@@ -4,7 +4,6 @@ ghost use Rattle.ss_outside.specs.Causes.{HasCause};
 ghost use Rattle.ss_outside.specs.Crash.{OnlyReads};
 ghost use Rattle.ss_journal.specs.Format.{has_magic, is_unborn, is_born, entry_at, slots_in};
 ghost use Rattle.ss_journal.specs.Calls.{BlamesDisk};
-ghost use Rattle.ss_journal.specs.Entries.{is_good, puts_of};
 ghost use Rattle.ss_journal.specs.Puts.{slots_fit, IsTxn};
 ghost use Rattle.ss_journal.specs.Opening.{IsHead, NextAs, IfNext, InUseAs};
 
