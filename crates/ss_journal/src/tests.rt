@@ -2,6 +2,9 @@ use super::*;
 use ss_outside::{Choice, Disk, MemDisk};
 use std::alloc::{AllocError, Global};
 
+// The byte that fills each slot below the extent. The other slots are zeros.
+type Map = &'static [u8];
+
 // An open entry of a single put.
 struct Entry {
     place: usize,
@@ -9,18 +12,12 @@ struct Entry {
     byte: u8,
 }
 
-// A formed file. Each slot is of one byte.
 #[derive(Clone, Copy)]
-struct File {
-    slots: &'static [u8],
-    entries: &'static [Entry],
-}
-
-// An extent, and the byte that fills slot 0 and the one that fills slot 1.
-struct Map {
-    extent: u32,
-    first: u8,
-    second: u8,
+enum File {
+    // What it begins with, and its length. The other bytes are a5.
+    Begun(&'static [u8], usize),
+    // Its entries, and its slots.
+    Formed(&'static [Entry], Map),
 }
 
 fn set(bytes: &mut [u8], place: usize, new: &[u8]) {
@@ -31,33 +28,50 @@ fn set(bytes: &mut [u8], place: usize, new: &[u8]) {
     }
 }
 
+fn set_entries(bytes: &mut [u8], entries: &[Entry]) {
+    for entry in entries {
+        set(bytes, entry.place, &[0xA5, 1, 0, 0, 0, entry.slot]);
+        set(bytes, entry.place.wrapping_add(6), &[entry.byte; 128]);
+    }
+}
+
 fn bytes_of(alloc: Global, file: &File) -> Result<Vec<u8>, AllocError> {
-    let mut bytes = vec![in alloc; 0; 36864]?;
-    set(&mut bytes, 0, b"\xA5SSTORE01");
-    for entry in file.entries {
-        set(&mut bytes, entry.place, &[0xA5, 1, 0, 0, 0, entry.slot]);
-        set(&mut bytes, entry.place.wrapping_add(6), &[entry.byte; 128]);
-    }
-    for slot in file.slots {
-        bytes.extend_from_slice(&[*slot; 128])?;
-    }
-    Ok(bytes)
-}
-
-// The disk of the file, or an empty one.
-fn disk_of(alloc: Global, file: &Option<File>) -> Result<MemDisk, AllocError> {
     match file {
-        Some(file) => MemDisk::new(alloc, bytes_of(alloc, file)?),
-        None => MemDisk::new(alloc, Vec::new(alloc)),
+        File::Begun(head, length) => {
+            let mut bytes = vec![in alloc; 0xA5; *length]?;
+            set(&mut bytes, 0, head);
+            Ok(bytes)
+        }
+        File::Formed(entries, slots) => {
+            let mut bytes = vec![in alloc; 0; 36864]?;
+            set(&mut bytes, 0, b"\xA5SSTORE01");
+            set_entries(&mut bytes, entries);
+            for slot in *slots {
+                bytes.extend_from_slice(&[*slot; 128])?;
+            }
+            Ok(bytes)
+        }
     }
 }
 
-// Whether the disk opens with this map.
-fn holds<D: Disk>(alloc: Global, disk: &mut D, map: &Map) -> Result<bool, JournalError> {
+fn disk_of(alloc: Global, bytes: &[u8]) -> Result<MemDisk, AllocError> {
+    MemDisk::new(alloc, bytes.to_vec(alloc)?)
+}
+
+fn byte_in(map: Map, slot: usize) -> u8 {
+    map.get(slot).copied().unwrap_or(0)
+}
+
+// Whether the disk opens with this map, of at most two slots.
+fn holds<D: Disk>(alloc: Global, disk: &mut D, map: Map) -> Result<bool, JournalError> {
     let mut journal = Journal::open(alloc, disk)?;
     let first = journal.read(disk, 0)?;
     let second = journal.read(disk, 1)?;
-    Ok(journal.extent() == map.extent && first == [map.first; 128] && second == [map.second; 128])
+    Ok(
+        journal.extent() as usize == map.len()
+            && first == [byte_in(map, 0); 128]
+            && second == [byte_in(map, 1); 128],
+    )
 }
 
 // Opens and settles. Then it puts 7 into slot 0 and 8 into slot 1, if it is to, over one slot.
@@ -79,36 +93,20 @@ fn run<D: Disk>(alloc: Global, disk: &mut D, commits: bool) -> Result<(), Journa
     Ok(())
 }
 
-// A run, and the map before it and after it.
+// A run over a file, the map before it and after it, and the length after it.
+#[derive(Clone, Copy)]
 struct Row {
-    file: Option<File>,
+    file: File,
     commits: bool,
     before: Map,
     after: Map,
     length: usize,
 }
 
-const BIRTH: Row = Row {
-    file: None,
-    commits: false,
-    before: Map {
-        extent: 0,
-        first: 0,
-        second: 0,
-    },
-    after: Map {
-        extent: 0,
-        first: 0,
-        second: 0,
-    },
-    length: 36864,
-};
-
 // Two entries in use share a slot, which isn't in the file yet.
 const SHARED: Row = Row {
-    file: Some(File {
-        slots: &[],
-        entries: &[
+    file: File::Formed(
+        &[
             Entry {
                 place: 512,
                 slot: 0,
@@ -120,70 +118,44 @@ const SHARED: Row = Row {
                 byte: 5,
             },
         ],
-    }),
+        &[],
+    ),
     commits: false,
-    before: Map {
-        extent: 1,
-        first: 5,
-        second: 0,
-    },
-    after: Map {
-        extent: 1,
-        first: 5,
-        second: 0,
-    },
+    before: &[5],
+    after: &[5],
     length: 36992,
 };
 
 // An entry behind a closed gate isn't in use.
 const BEHIND: Row = Row {
-    file: Some(File {
-        slots: &[3],
-        entries: &[Entry {
+    file: File::Formed(
+        &[Entry {
             place: 1056,
             slot: 0,
             byte: 5,
         }],
-    }),
+        &[3],
+    ),
     commits: false,
-    before: Map {
-        extent: 1,
-        first: 3,
-        second: 0,
-    },
-    after: Map {
-        extent: 1,
-        first: 3,
-        second: 0,
-    },
+    before: &[3],
+    after: &[3],
     length: 36992,
 };
 
 const COMMIT: Row = Row {
-    file: Some(File {
-        slots: &[3],
-        entries: &[],
-    }),
+    file: File::Formed(&[], &[3]),
     commits: true,
-    before: Map {
-        extent: 1,
-        first: 3,
-        second: 0,
-    },
-    after: Map {
-        extent: 2,
-        first: 7,
-        second: 8,
-    },
+    before: &[3],
+    after: &[7, 8],
     length: 37120,
 };
 
-const ROWS: [Row; 4] = [BIRTH, SHARED, BEHIND, COMMIT];
+const ROWS: [Row; 3] = [SHARED, BEHIND, COMMIT];
 
 // What isn't as the row says, or "".
 fn mismatch(alloc: Global, row: &Row) -> Result<&'static str, JournalError> {
-    let mut disk = disk_of(alloc, &row.file)?;
-    if !holds(alloc, &mut disk, &row.before)? {
+    let mut disk = disk_of(alloc, &bytes_of(alloc, &row.file)?)?;
+    if !holds(alloc, &mut disk, row.before)? {
         return Ok("before");
     }
     run(alloc, &mut disk, row.commits)?;
@@ -195,7 +167,7 @@ fn mismatch(alloc: Global, row: &Row) -> Result<&'static str, JournalError> {
             return Ok("gate");
         }
     }
-    Ok(if holds(alloc, &mut disk, &row.after)? {
+    Ok(if holds(alloc, &mut disk, row.after)? {
         ""
     } else {
         "after"
@@ -210,31 +182,50 @@ fn a_run_gives_the_map_after_it(rt: HostRuntime) -> Result<(), JournalError> {
     Ok(())
 }
 
-// Whether each crash leaves the map before or after, or, once the run has ended, the one after.
-fn survives(alloc: Global, disk: &MemDisk, row: &Row, ended: bool) -> Result<bool, JournalError> {
-    for choice in [
-        Choice::Lost,
-        Choice::Kept,
-        Choice::Fill(0),
-        Choice::Fill(0xA5),
-        Choice::Fill(0xFF),
-    ] {
+const CRASHES: [Choice; 5] = [
+    Choice::Lost,
+    Choice::Kept,
+    Choice::Fill(0),
+    Choice::Fill(0xA5),
+    Choice::Fill(0xFF),
+];
+
+// Whether the disk opens with one of the maps, and with the same one once it is settled.
+fn keeps_one<D: Disk>(alloc: Global, disk: &mut D, maps: &[Map]) -> Result<bool, JournalError> {
+    for map in maps {
+        if holds(alloc, disk, map) == Ok(true) {
+            run(alloc, disk, false)?;
+            return holds(alloc, disk, map);
+        }
+    }
+    Ok(false)
+}
+
+// Whether each crash leaves one of the maps.
+fn survives(alloc: Global, disk: &MemDisk, maps: &[Map]) -> Result<bool, JournalError> {
+    for choice in CRASHES {
         let mut left = disk.crash(choice)?;
-        let is_after = holds(alloc, &mut left, &row.after)?;
-        if !is_after && (ended || !holds(alloc, &mut left, &row.before)?) {
+        if !keeps_one(alloc, &mut left, maps)? {
             return Ok(false);
         }
     }
     Ok(true)
 }
 
-// The first stop that leaves another map, or the number of calls.
-fn first_bad_stop(alloc: Global, row: &Row) -> Result<Result<u64, u64>, JournalError> {
+// The number of calls of the row's run over these bytes, or its first stop that leaves neither the map before nor the
+// one after.
+fn calls_or_bad_stop(
+    alloc: Global,
+    bytes: &[u8],
+    row: &Row,
+) -> Result<Result<u64, u64>, JournalError> {
+    let maps = [row.after, row.before];
     for stop in 0..200 {
-        let mut disk = disk_of(alloc, &row.file)?;
+        let mut disk = disk_of(alloc, bytes)?;
         disk.stop_from(stop);
         let ended = run(alloc, &mut disk, row.commits).is_ok();
-        if !survives(alloc, &disk, row, ended)? {
+        let count = if ended { 1 } else { 2 };
+        if !survives(alloc, &disk, &maps[..count])? {
             return Ok(Err(stop));
         }
         if ended {
@@ -247,8 +238,141 @@ fn first_bad_stop(alloc: Global, row: &Row) -> Result<Result<u64, u64>, JournalE
 #[test]
 fn each_stop_leaves_the_map_before_or_after(rt: HostRuntime) -> Result<(), JournalError> {
     for (k, row) in ROWS.iter().enumerate() {
-        let calls = first_bad_stop(rt.alloc(), row)?;
+        let bytes = bytes_of(rt.alloc(), &row.file)?;
+        let calls = calls_or_bad_stop(rt.alloc(), &bytes, row)?;
         assert!(rt; calls.is_ok(), "row {k}");
+    }
+    Ok(())
+}
+
+// Whether each crash of a run that stops at this call leaves a file of which the same is true.
+fn survives_twice(alloc: Global, bytes: &[u8], row: &Row, stop: u64) -> Result<bool, JournalError> {
+    let mut disk = disk_of(alloc, bytes)?;
+    disk.stop_from(stop);
+    let _ = run(alloc, &mut disk, row.commits);
+    for choice in CRASHES {
+        let left = disk.crash(choice)?;
+        if calls_or_bad_stop(alloc, left.content(), row)?.is_err() {
+            return Ok(false);
+        }
+    }
+    Ok(true)
+}
+
+#[test]
+fn a_second_stop_leaves_the_map_too(rt: HostRuntime) -> Result<(), JournalError> {
+    let bytes = bytes_of(rt.alloc(), &SHARED.file)?;
+    let calls = calls_or_bad_stop(rt.alloc(), &bytes, &SHARED)?;
+    assert!(rt; calls.is_ok());
+    for stop in 0..calls.unwrap_or(0) {
+        assert!(rt;
+            survives_twice(rt.alloc(), &bytes, &SHARED, stop)?,
+            "stop {stop}"
+        );
+    }
+    Ok(())
+}
+
+// A file that isn't formed: what it begins with, its length, and its map.
+type Unborn = (&'static [u8], usize, Map);
+
+const UNBORN: [Unborn; 10] = [
+    (b"", 0, &[]),
+    // One byte, whatever it is.
+    (b"\xA5", 1, &[]),
+    (b"\x01", 1, &[]),
+    // Behind 0 may stand anything.
+    (b"\0", 2, &[]),
+    (b"\0TSTORE01", 36863, &[]),
+    (b"\0", 37119, &[0]),
+    (b"\0SSTORE01", 37120, &[0, 0]),
+    // Behind another closed gate the magic has to stand.
+    (b"\x01SSTORE01", 9, &[]),
+    (b"\x01SSTORE01", 36863, &[]),
+    (b"\xFFSSTORE01", 37120, &[0, 0]),
+];
+
+// Settling forms the file, and leaves its map.
+fn birth_of(unborn: &Unborn) -> Row {
+    Row {
+        file: File::Begun(unborn.0, unborn.1),
+        commits: false,
+        before: unborn.2,
+        after: unborn.2,
+        length: unborn.1.max(36864),
+    }
+}
+
+#[test]
+fn a_birth_leaves_zeros_at_each_stop(rt: HostRuntime) -> Result<(), JournalError> {
+    for (k, unborn) in UNBORN.iter().enumerate() {
+        let row = birth_of(unborn);
+        assert_eq!(rt; mismatch(rt.alloc(), &row)?, "", "row {k}");
+        let bytes = bytes_of(rt.alloc(), &row.file)?;
+        let calls = calls_or_bad_stop(rt.alloc(), &bytes, &row)?;
+        assert!(rt; calls.is_ok(), "row {k}");
+    }
+    Ok(())
+}
+
+// Files that don't open, and why not.
+const REFUSED: [(File, JournalError); 6] = [
+    (File::Begun(b"\xA5SSTORE02", 37120), JournalError::NotAStore),
+    (File::Begun(b"\xA5TSTORE01", 37120), JournalError::NotAStore),
+    (File::Begun(b"\x01SSTORE02", 37120), JournalError::NotAStore),
+    (File::Begun(b"\x01SSTORE0", 8), JournalError::NotAStore),
+    (File::Begun(b"\x01", 2), JournalError::NotAStore),
+    (
+        File::Formed(
+            &[Entry {
+                place: 512,
+                slot: 2,
+                byte: 3,
+            }],
+            &[3],
+        ),
+        JournalError::BadEntry { n: 0 },
+    ),
+];
+
+#[test]
+fn another_file_is_refused(rt: HostRuntime) -> Result<(), JournalError> {
+    for (k, (file, error)) in REFUSED.iter().enumerate() {
+        let bytes = bytes_of(rt.alloc(), file)?;
+        let opened = holds(rt.alloc(), &mut disk_of(rt.alloc(), &bytes)?, &[]);
+        assert_eq!(rt; opened, Err(*error), "row {k}");
+    }
+    Ok(())
+}
+
+// A formed file of the slots 3 and 4, cut to any length from the first to the last: its map, or no store.
+type Cut = (usize, usize, Result<Map, JournalError>);
+
+const CUTS: [Cut; 5] = [
+    (0, 1, Ok(&[])),
+    (2, 36863, Err(JournalError::NotAStore)),
+    (36864, 36991, Ok(&[])),
+    (36992, 37119, Ok(&[3])),
+    (37120, 37120, Ok(&[3, 4])),
+];
+
+// Whether the cut file opens as the table says of its length.
+fn is_as_cut(alloc: Global, bytes: &[u8]) -> Result<bool, JournalError> {
+    let length = bytes.len();
+    let cut = CUTS.iter().find(|cut| cut.0 <= length && length <= cut.1);
+    let mut disk = disk_of(alloc, bytes)?;
+    match cut {
+        Some((_, _, Ok(map))) => holds(alloc, &mut disk, map),
+        Some((_, _, Err(error))) => Ok(holds(alloc, &mut disk, &[]) == Err(*error)),
+        None => Ok(false),
+    }
+}
+
+#[test]
+fn a_formed_file_is_cut_to_each_length(rt: HostRuntime) -> Result<(), JournalError> {
+    let whole = bytes_of(rt.alloc(), &File::Formed(&[], &[3, 4]))?;
+    for length in 0..=whole.len() {
+        assert!(rt; is_as_cut(rt.alloc(), &whole[..length])?, "length {length}");
     }
     Ok(())
 }
@@ -258,96 +382,13 @@ const SECOND_SYNC: u64 = 70;
 
 #[test]
 fn the_gate_alone_decides(rt: HostRuntime) -> Result<(), JournalError> {
-    let mut disk = disk_of(rt.alloc(), &COMMIT.file)?;
+    let mut disk = disk_of(rt.alloc(), &bytes_of(rt.alloc(), &COMMIT.file)?)?;
     disk.stop_from(SECOND_SYNC);
     let ran = run(rt.alloc(), &mut disk, true);
     assert_eq!(rt; ran, Err(JournalError::Disk));
     let mut closed = disk.crash(Choice::Fill(0))?;
-    assert!(rt; holds(rt.alloc(), &mut closed, &COMMIT.before)?);
+    assert!(rt; holds(rt.alloc(), &mut closed, COMMIT.before)?);
     let mut open = disk.crash(Choice::Fill(0xA5))?;
-    assert!(rt; holds(rt.alloc(), &mut open, &COMMIT.after)?);
-    Ok(())
-}
-
-// The length to which a formed file of two slots is cut, its birth gate, and its extent or that it
-// isn't a store.
-type Cut = (usize, u8, Result<u32, JournalError>);
-
-const CUTS: [Cut; 17] = [
-    (0, 0xA5, Ok(0)),
-    (1, 0xA5, Ok(0)),
-    (2, 0xA5, Err(JournalError::NotAStore)),
-    (8, 0xA5, Err(JournalError::NotAStore)),
-    (9, 0xA5, Err(JournalError::NotAStore)),
-    (10, 0xA5, Err(JournalError::NotAStore)),
-    (36863, 0xA5, Err(JournalError::NotAStore)),
-    (36864, 0xA5, Ok(0)),
-    (36991, 0xA5, Ok(0)),
-    (36992, 0xA5, Ok(1)),
-    (37120, 0xA5, Ok(2)),
-    // Behind a closed birth gate the magic may be torn, and behind a torn one it may not.
-    (1, 1, Ok(0)),
-    (2, 0, Ok(0)),
-    (8, 1, Err(JournalError::NotAStore)),
-    (9, 1, Ok(0)),
-    (36863, 0, Ok(0)),
-    (36863, 1, Ok(0)),
-];
-
-fn extent_of<D: Disk>(alloc: Global, disk: &mut D) -> Result<u32, JournalError> {
-    Ok(Journal::open(alloc, disk)?.extent())
-}
-
-fn disk_of_cut(alloc: Global, cut: &Cut) -> Result<MemDisk, AllocError> {
-    let mut bytes = bytes_of(
-        alloc,
-        &File {
-            slots: &[3, 3],
-            entries: &[],
-        },
-    )?;
-    set(&mut bytes, 0, &[cut.1]);
-    bytes.truncate(cut.0);
-    MemDisk::new(alloc, bytes)
-}
-
-// Whether the cut file opens with its extent, and settling forms it and leaves that.
-fn opens_as_cut(alloc: Global, cut: &Cut) -> Result<bool, JournalError> {
-    let mut disk = disk_of_cut(alloc, cut)?;
-    if extent_of(alloc, &mut disk) != cut.2 {
-        return Ok(false);
-    }
-    if cut.2.is_err() {
-        return Ok(true);
-    }
-    run(alloc, &mut disk, false)?;
-    Ok(
-        extent_of(alloc, &mut disk) == cut.2
-            && disk.content().len() == cut.0.max(36864)
-            && disk.content().first() == Some(&0xA5),
-    )
-}
-
-#[test]
-fn a_cut_file_is_unborn_or_formed_or_no_store(rt: HostRuntime) -> Result<(), JournalError> {
-    for (k, cut) in CUTS.iter().enumerate() {
-        assert!(rt; opens_as_cut(rt.alloc(), cut)?, "row {k}");
-    }
-    Ok(())
-}
-
-#[test]
-fn a_damaged_entry_is_named(rt: HostRuntime) -> Result<(), JournalError> {
-    let file = File {
-        slots: &[3],
-        entries: &[Entry {
-            place: 512,
-            slot: 2,
-            byte: 3,
-        }],
-    };
-    let mut disk = disk_of(rt.alloc(), &Some(file))?;
-    let opened = extent_of(rt.alloc(), &mut disk);
-    assert_eq!(rt; opened, Err(JournalError::BadEntry { n: 0 }));
+    assert!(rt; holds(rt.alloc(), &mut open, COMMIT.after)?);
     Ok(())
 }
