@@ -377,8 +377,8 @@ fn a_formed_file_is_cut_to_each_length(rt: HostRuntime) -> Result<(), JournalErr
     Ok(())
 }
 
-// The calls before the second sync of a commit: 3 of open, 64 of settle, a write, a sync and a write.
-const SECOND_SYNC: u64 = 70;
+// The calls before the second sync of a commit: 3 of open, 63 of settle, a write, a sync and a write.
+const SECOND_SYNC: u64 = 69;
 
 #[test]
 fn the_gate_alone_decides(rt: HostRuntime) -> Result<(), JournalError> {
