@@ -1,5 +1,6 @@
 # Needs the toolchain's `rt` on the PATH (rt version: rattle-kit-13f). `bench` also needs awk and python3.
 PROGRAM = crates/summarystore/out/summarystore
+BENCH = crates/journal_bench/out/journal_bench
 
 .PHONY: build demo test bench
 
@@ -15,7 +16,9 @@ demo: build
 test:
 	.ci/run
 
-# Times the program that was built last: bench/README.md.
+# Times the programs that were built last: bench/README.md.
 bench:
 	@test -x $(PROGRAM) || $(MAKE) build
+	@test -x $(BENCH) || (cd crates/journal_bench && rt run < /dev/null)
 	@bench/appends $(PROGRAM)
+	@bench/commits $(BENCH)

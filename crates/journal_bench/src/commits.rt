@@ -1,0 +1,63 @@
+// Commits, one after another.
+ghost use Rattle.std.specs.Prelude.{◌≡◌, ◌+◌, ◌<◌, ◌≤◌, ◌%◌, ◌^◌, ℕ, min, IsTrue, IfOk, OnOk};
+ghost use Rattle.ss_outside.specs.Causes.{HasCause};
+ghost use Rattle.ss_journal.specs.Calls.{BlamesDisk};
+ghost use Rattle.ss_journal.specs.Kept.{IsKept, IsSettled};
+ghost use Rattle.ss_journal.specs.Puts.{IsTxn, slots_fit};
+ghost use Rattle.ss_journal.specs.Redo.{SlotMap, StandsFor, changed};
+ghost use Rattle.journal_bench.specs.Puts.{puts_from};
+
+use ss_journal::{Journal, JournalError, Put, Txn};
+use ss_outside::{Disk, Failed};
+use std::alloc::Global;
+
+/// The commits go round this many slots.
+pub const SLOTS: u32 = 1024;
+
+// Puts into so many slots from the first on, each filled with the byte.
+fn txn_of(first: u32, puts: u32, byte: u8) -> Txn
+    requires some { 0 < puts }
+    requires few { puts ≤ 4 }
+    requires slots { first + puts ≤ 2 ^ 20 }
+    ensures puts { result.items ≡ puts_from first puts byte }
+    ensures txn { IsTxn result.items }
+    ensures fit { (extent : ℕ) → first ≤ extent → IsTrue (slots_fit result.items extent) }
+{
+    let mut txn = Txn::new();
+    for k in 0..puts {
+        txn.push(Put {
+            slot: first + k,
+            bytes: [byte; 128],
+        });
+    }
+    txn
+}
+
+/// A journal on the disk, ready for commits.
+pub fn start<D: Disk>(alloc: Global, disk: &mut D) -> Result<Journal, JournalError>
+    ensures settled { IfOk result (λ journal. IsSettled journal) }
+    ensures one_disk { IsTrue (D.tells disk.old) → IfOk result (λ journal. IsKept journal (D.content disk.new)) }
+    ensures cause { BlamesDisk (D.faults disk.old) (D.faults disk.new) result }
+{
+    let mut journal = Journal::open(alloc, disk)?;
+    journal.settle(disk)?;
+    Ok(journal)
+}
+
+/// Makes commit number `k`: puts into so many slots, from the one whose turn it is, or from the extent where that is
+/// less.
+pub fn commit<D: Disk>(journal: &mut Journal, disk: &mut D, k: u32, puts: u32) -> Result<(), Failed>
+    requires some { 0 < puts }
+    requires few { puts ≤ 4 }
+    requires settled { IsSettled journal.old }
+    requires one_disk { IsTrue (D.tells disk.old) → IsKept journal.old (D.content disk.old) }
+    // At `Ok` the content stands for the map with the puts.
+    ensures map { IsTrue (D.tells disk.old) → (found : SlotMap) → StandsFor (D.content disk.old) found
+        → OnOk result (StandsFor (D.content disk.new) (changed found (puts_from (min (k % 1024) journal.old.extent) puts (k % 256)))) }
+    ensures one_disk { IsTrue (D.tells disk.old) → OnOk result (IsKept journal.new (D.content disk.new)) }
+    ensures settled { OnOk result (IsSettled journal.new) }
+    ensures cause { HasCause (D.faults disk.old) (D.faults disk.new) result }
+{
+    let first = (k % SLOTS).min(journal.extent());
+    journal.commit(disk, &txn_of(first, puts, (k % 256) as u8))
+}
