@@ -71,7 +71,12 @@ fn time_of<R: AllocGlobal + Clock>(rt: &R, commits: u32) -> Result<f64> {
     }
     let micros = begin.elapsed(rt)?.as_secs_f64() * 1e6;
     let calls = disk.calls().saturating_sub(before);
-    ensure!(calls == 8 * u64::from(commits), "{calls} calls");
+    let own = Calls::of_commit(1);
+    let wanted = (own.reads + own.writes + own.syncs) * u64::from(commits);
+    ensure!(
+        calls == wanted,
+        "{calls} calls of the disk in place of {wanted}"
+    );
     Ok(micros)
 }
 
