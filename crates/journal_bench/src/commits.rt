@@ -1,10 +1,9 @@
 // Commits, one after another.
 ghost use Rattle.std.specs.Prelude.{◌≡◌, ◌+◌, ◌<◌, ◌≤◌, ◌%◌, ◌^◌, ℕ, min, IsTrue, IfOk, OnOk};
 ghost use Rattle.ss_outside.specs.Causes.{HasCause};
-ghost use Rattle.ss_journal.specs.Calls.{BlamesDisk};
+ghost use Rattle.ss_journal.specs.Calls.{BlamesDisk, ChangesMap};
 ghost use Rattle.ss_journal.specs.Kept.{IsKept, IsSettled};
 ghost use Rattle.ss_journal.specs.Puts.{IsTxn, slots_fit};
-ghost use Rattle.ss_journal.specs.Redo.{SlotMap, StandsFor, changed};
 ghost use Rattle.journal_bench.specs.Puts.{puts_from};
 
 use ss_journal::{Journal, JournalError, Put, Txn};
@@ -36,7 +35,7 @@ fn txn_of(first: u32, puts: u32, byte: u8) -> Txn
 /// A journal on the disk, ready for commits.
 pub fn start<D: Disk>(alloc: Global, disk: &mut D) -> Result<Journal, JournalError>
     ensures settled { IfOk result (λ journal. IsSettled journal) }
-    ensures one_disk { IsTrue (D.tells disk.old) → IfOk result (λ journal. IsKept journal (D.content disk.new)) }
+    ensures one_disk { IsTrue (D.tells disk.old) → IfOk result (λ journal. IsKept journal (D.told disk.new).content) }
     ensures cause { BlamesDisk (D.faults disk.old) (D.faults disk.new) result }
 {
     let mut journal = Journal::open(alloc, disk)?;
@@ -50,11 +49,10 @@ pub fn commit<D: Disk>(journal: &mut Journal, disk: &mut D, k: u32, puts: u32) -
     requires some { 0 < puts }
     requires few { puts ≤ 4 }
     requires settled { IsSettled journal.old }
-    requires one_disk { IsTrue (D.tells disk.old) → IsKept journal.old (D.content disk.old) }
-    // At `Ok` the content stands for the map with the puts.
-    ensures map { IsTrue (D.tells disk.old) → (found : SlotMap) → StandsFor (D.content disk.old) found
-        → OnOk result (StandsFor (D.content disk.new) (changed found (puts_from (min (k % 1024) journal.old.extent) puts (k % 256)))) }
-    ensures one_disk { IsTrue (D.tells disk.old) → OnOk result (IsKept journal.new (D.content disk.new)) }
+    requires one_disk { IsTrue (D.tells disk.old) → IsKept journal.old (D.told disk.old).content }
+    ensures changes_map { IsTrue (D.tells disk.old)
+        → ChangesMap (puts_from (min (k % 1024) journal.old.extent) puts (k % 256)) (D.told disk.old) (D.told disk.new) result }
+    ensures one_disk { IsTrue (D.tells disk.old) → OnOk result (IsKept journal.new (D.told disk.new).content) }
     ensures settled { OnOk result (IsSettled journal.new) }
     ensures cause { HasCause (D.faults disk.old) (D.faults disk.new) result }
 {

@@ -12,19 +12,11 @@ pub struct Counted<D> {
 impl<D: Disk> Disk for Counted<D> {
     ghost tells = { λ s. D.tells s.inner };
 
-    ghost content = { λ s. D.content s.inner };
-
-    ghost may_leave = { λ s. D.may_leave s.inner };
-
-    ghost moment = { λ s. D.moment s.inner };
-
-    ghost left_since = { λ s. D.left_since s.inner };
+    ghost told = { λ s. D.told s.inner };
 
     ghost faults = { λ s. D.faults s.inner };
 
-    ghost counts_now = { λ s t image told le is. D.counts_now s.inner t image told le is };
-
-    ghost only_now = { λ s image told left. D.only_now s.inner image told left };
+    ghost knows_now = { λ s tells. D.knows_now s.inner tells };
 
     fn len(&mut self) -> Result<u64, Failed> {
         self.calls.reads = self.calls.reads.saturating_add(1);
