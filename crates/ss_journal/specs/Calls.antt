@@ -1,5 +1,5 @@
 -- What the calls of a journal leave of the map, also in a crash, and which error they blame on the disk.
-use Rattle.std.specs.Prelude.{◌⊎◌, ℕ, ◌≤◌, List, Result, Ok, Err, OnOk, ⊤}
+use Rattle.std.specs.Prelude.{◌≡◌, ◌⊎◌, ℕ, ◌≤◌, List, Result, Ok, Err, OnOk}
 use Rattle.ss_outside.specs.Causes.{Rose}
 use Rattle.ss_outside.specs.Crash.{LeavesOnly}
 use Rattle.ss_outside.specs.Disk.{Told, NothingPending}
@@ -27,15 +27,10 @@ pub record ChangesMap {T E : Type 0} (puts : List Put) (old new : Told) (result 
   -- at Ok nothing is pending
   pub durable : OnOk result (NothingPending new)
 
--- opening blames the disk only where its count rose
-abbrev pub IfDisk : {T : Type 0} → Result T JournalError → Type 0 → Type 0
-IfDisk (Err Disk) P = P
-IfDisk (Err NotAStore) P = ⊤
-IfDisk (Err (BadEntry n)) P = ⊤
-IfDisk (Err OutOfMemory) P = ⊤
-IfDisk (Ok value) P = ⊤
-
--- a count of faults doesn't fall, and opening blames the disk only where it rose
-pub record BlamesDisk {T : Type 0} (before now : ℕ) (result : Result T JournalError) : Type 0 where
-  pub later : before ≤ now
-  pub failed : IfDisk result (Rose before now)
+-- Opening blames the disk only where its count of faults rose, and otherwise leaves the count.
+abbrev pub BlamesDisk : {T : Type 0} → ℕ → ℕ → Result T JournalError → Type 0
+BlamesDisk before now (Err Disk) = (before ≤ now) × Rose before now
+BlamesDisk before now (Err NotAStore) = now ≡ before
+BlamesDisk before now (Err (BadEntry n)) = now ≡ before
+BlamesDisk before now (Err OutOfMemory) = now ≡ before
+BlamesDisk before now (Ok value) = now ≡ before

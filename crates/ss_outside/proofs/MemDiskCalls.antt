@@ -1,36 +1,46 @@
 -- What the calls of a disk in memory leave, as every disk says it.
-use Rattle.std.proofs.Common.{◌≡◌, ◌⊎◌, inl, inr, ℕ, List, [], ◌∷◌, length, Result, Ok, Err, refl, sym, ◌∙◌, ap, subst}
+use Rattle.std.proofs.Common.{◌≡◌, ◌⊎◌, inl, inr, ⊎_elim, ℕ, List, [], ◌∷◌, length, Result, Ok, Err, refl, sym, ◌∙◌, ap, subst}
 use Rattle.std.specs.Prelude.{IsErr, OnOk, OnErr, MatchResult}
 use Rattle.ss_outside.proofs.CrashLemmas.{reads-none}
 use Rattle.ss_outside.proofs.DiskLemmas.{only_image, torn_is_image, image_is_torn}
 use Rattle.ss_outside.proofs.MemDiskTime.{time_push}
 use Rattle.ss_outside.proofs.PastLemmas.{replay-append}
 use Rattle.ss_outside.specs.Crash.{Elapses}
-use Rattle.ss_outside.specs.Disk.{overwrite, BecomesPending, StaysSame, NothingPending}
+use Rattle.ss_outside.specs.Disk.{overwrite, IsImage, BecomesPending, StaysSame, NothingPending}
 use Rattle.ss_outside.specs.MemDisk.{DiskCall, Wrote, Tore, Synced, DiskState, MemDiskState, fresh, pend, step, now, Leaves, told_by, IsListed, IsSound, answered, failed, starved, changed}
 use Rattle.ss_outside.specs.declared.source.Failed.{Failed}
 
 stepped : (s : MemDiskState) (call : DiskCall) → now (changed s call) ≡ step (now s) call
 stepped s call = replay-append (fresh s.start) s.changes (call ∷ [])
 
+-- each image is one of the disk model
+in_model : (s : DiskState) → IsSound s → (image : List ℕ) → Leaves s image → IsImage s.synced s.pending s.longest image
+in_model s sound image (inl same) = subst (IsImage s.synced s.pending s.longest) (sym same) sound.own
+in_model s sound image (inr model) = model
+
 module _ (old new : MemDiskState) where
   module _ (at : ℕ) (bytes : List ℕ) where
     pub content_written : new ≡ changed (answered old) (Wrote at bytes) → (told_by new).content ≡ overwrite (told_by old).content at bytes
     content_written is = ap (λ (s : DiskState). s.content) (ap now is ∙ stepped (answered old) (Wrote at bytes))
 
-    pends : (content : List ℕ) → IsSound (now old) → now new ≡ pend (now old) at (length bytes) content
+    pends : (content : List ℕ) → IsSound (now old) → IsSound (now new) → now new ≡ pend (now old) at (length bytes) content
         → BecomesPending at (length bytes) (told_by old) (told_by new)
-    pends content sound is = let s = now old in record {
-      nothing_else = λ image left. image_is_torn s.synced s.pending s.longest at (length bytes) image sound.bytes sound.short (subst (λ (t : DiskState). Leaves t image) is left);
-      each = λ was image left torn. subst (λ (t : DiskState). Leaves t image) (sym is) (torn_is_image s.synced s.pending s.longest at (length bytes) was image left torn);
+    pends content sound_old sound_new is = let s = now old in record {
+      nothing_else = λ image left.
+          let model = subst (λ (t : DiskState). IsImage t.synced t.pending t.longest image) is (in_model (now new) sound_new image left) in
+          let from = image_is_torn s.synced s.pending s.longest at (length bytes) image sound_old.bytes sound_old.short model in
+          (from.0, inr from.1, from.2);
+      each = λ was image left torn.
+          let model = torn_is_image s.synced s.pending s.longest at (length bytes) was image (in_model s sound_old was left) torn in
+          inr (subst (λ (t : DiskState). IsImage t.synced t.pending t.longest image) (sym is) model);
     }
 
-    pub pending_written : IsSound (now old) → (result : Result (Unit {0}) Failed) → OnOk result (new ≡ changed (answered old) (Wrote at bytes))
+    pub pending_written : IsSound (now old) → IsSound (now new) → (result : Result (Unit {0}) Failed) → OnOk result (new ≡ changed (answered old) (Wrote at bytes))
         → OnErr result ((IsListed old × (new ≡ changed (failed old) (Tore at (length bytes)))) ⊎ (new ≡ starved old))
         → BecomesPending at (length bytes) (told_by old) (told_by new) ⊎ (IsErr result × StaysSame (told_by old) (told_by new))
-    pending_written sound (Ok done) is none = inl (pends _ sound (ap now is ∙ stepped (answered old) (Wrote at bytes)))
-    pending_written sound (Err e) none (inl tore) = inl (pends _ sound (ap now tore.1 ∙ stepped (failed old) (Tore at (length bytes))))
-    pending_written sound (Err e) none (inr short) = inr (refl, subst (λ (s : MemDiskState). StaysSame (told_by old) (told_by s)) (sym short) (reads-none (told_by old)).same)
+    pending_written sound_old sound_new (Ok done) is none = inl (pends _ sound_old sound_new (ap now is ∙ stepped (answered old) (Wrote at bytes)))
+    pending_written sound_old sound_new (Err e) none (inl tore) = inl (pends _ sound_old sound_new (ap now tore.1 ∙ stepped (failed old) (Tore at (length bytes))))
+    pending_written sound_old sound_new (Err e) none (inr short) = inr (refl, subst (λ (s : MemDiskState). StaysSame (told_by old) (told_by s)) (sym short) (reads-none (told_by old)).same)
 
     pub time_written : (result : Result (Unit {0}) Failed) → OnOk result (new ≡ changed (answered old) (Wrote at bytes))
         → OnErr result ((IsListed old × (new ≡ changed (failed old) (Tore at (length bytes)))) ⊎ (new ≡ starved old)) → Elapses (told_by old) (told_by new)
@@ -56,13 +66,15 @@ module _ (old new : MemDiskState) where
   content_synced (Ok done) is = ap (λ (s : DiskState). s.content) is
   content_synced (Err e) is = ap (λ (s : DiskState). s.content) is
 
+  only_content : now new ≡ fresh (now old).content → (image : List ℕ) → Leaves (now new) image → image ≡ (now old).content
+  only_content is image left = ⊎_elim (λ same. same) (only_image (now old).content image) (subst (λ (s : DiskState). Leaves s image) is left)
+
   pub durable_synced : (result : Result (Unit {0}) Failed) → MatchResult result (λ _. now new ≡ fresh (now old).content) (λ _. now new ≡ now old)
       → OnOk result (NothingPending (told_by new))
-  durable_synced (Ok done) is = subst (λ (s : DiskState). (image : List ℕ) → Leaves s image → image ≡ s.content) (sym is) (only_image (now old).content)
+  durable_synced (Ok done) is = λ image left. only_content is image left ∙ sym (content_synced (Ok done) is)
   durable_synced (Err e) is = tt
 
   pub no_other_synced : (result : Result (Unit {0}) Failed) → MatchResult result (λ _. now new ≡ fresh (now old).content) (λ _. now new ≡ now old)
-      → IsSound (now old) → (image : List ℕ) → (told_by new).may_leave image → (told_by old).may_leave image
-  no_other_synced (Ok done) is sound image left =
-      subst (Leaves (now old)) (sym (only_image (now old).content image (subst (λ (s : DiskState). Leaves s image) is left))) sound.own
-  no_other_synced (Err e) is sound image left = subst (λ (s : DiskState). Leaves s image) is left
+      → (image : List ℕ) → (told_by new).may_leave image → (told_by old).may_leave image
+  no_other_synced (Ok done) is image left = inl (only_content is image left)
+  no_other_synced (Err e) is image left = subst (λ (s : DiskState). Leaves s image) is left

@@ -8,8 +8,9 @@ pub record Elapses (old new : Told) : Type 0 where
   pub nothing_else : (moment : ℕ) (image : List ℕ) → moment ≤ old.moment → new.left_since moment image → old.left_since moment image ⊎ new.may_leave image
   pub keeps : (moment : ℕ) (image : List ℕ) → moment ≤ old.moment → old.left_since moment image → new.left_since moment image
 
--- This moment is one of those since an earlier one, and since this moment there is no other.
+-- The content is one of the images, this moment is one of those since an earlier one, and since this moment there is no other.
 pub record KnowsNow (disk : Told) : Type 0 where
+  pub content_is_image : disk.may_leave disk.content
   pub counts_now : (moment : ℕ) (image : List ℕ) → moment ≤ disk.moment → disk.may_leave image → disk.left_since moment image
   pub only_now : (image : List ℕ) → disk.left_since disk.moment image → disk.may_leave image
 

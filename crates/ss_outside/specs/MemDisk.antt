@@ -1,6 +1,6 @@
 -- A disk in memory, as its calls tell it.
-use Rattle.std.specs.Prelude.{◌⊎◌, ℕ, zero, suc, ◌+◌, ◌≤◌, max, List, [], ◌∷◌, ◌++◌, length, Option, None, Contains, IsSomeAnd}
-use mathlib.Core.Logic.{inr}
+use Rattle.std.specs.Prelude.{◌≡◌, ◌⊎◌, ℕ, zero, suc, ◌+◌, ◌≤◌, max, List, [], ◌∷◌, ◌++◌, length, Option, None, Contains, IsSomeAnd, refl}
+use mathlib.Core.Logic.{inl, inr}
 use Rattle.ss_outside.specs.Crash.{KnowsNow}
 use Rattle.ss_outside.specs.Disk.{Told, overwrite, IsImage, AreBytes}
 use Rattle.ss_outside.specs.Memory.{one_more}
@@ -38,9 +38,9 @@ abbrev pub replay : DiskState → List DiskCall → DiskState
 replay s [] = s
 replay s (call ∷ calls) = replay (step s call) calls
 
--- what a crash may leave
+-- what a crash may leave: the content, and every other image of the disk model
 abbrev pub Leaves : DiskState → List ℕ → Type 0
-Leaves s image = IsImage s.synced s.pending s.longest image
+Leaves s image = (image ≡ s.content) ⊎ IsImage s.synced s.pending s.longest image
 
 -- what a crash may have left after the first t calls or later
 abbrev pub LeftSince : DiskState → List DiskCall → ℕ → List ℕ → Type 0
@@ -94,11 +94,11 @@ told_by s = record {
   left_since = LeftSince (fresh s.start) s.changes;
 }
 
--- what every disk in memory keeps: it synced bytes, and its content is an image
+-- what every disk in memory keeps: it synced bytes, and its content is an image of the disk model
 pub record IsSound (s : DiskState) : Type 0 where
   pub bytes : AreBytes s.synced
   pub short : length s.synced ≤ s.longest
-  pub own : Leaves s s.content
+  pub own : IsImage s.synced s.pending s.longest s.content
 
 -- it tells of now: this moment is one of those since an earlier one, and there is none since
 left_now : (s : DiskState) (calls : List DiskCall) (t : ℕ) (image : List ℕ) → Leaves (replay s calls) image → LeftSince s calls t image
@@ -111,4 +111,8 @@ only_left s [] image left = left
 only_left s (call ∷ calls) image left = only_left (step s call) calls image left
 
 pub knows_now : (s : MemDiskState) → KnowsNow (told_by s)
-knows_now s = record { counts_now = λ t image le is. left_now (fresh s.start) s.changes t image is; only_now = only_left (fresh s.start) s.changes }
+knows_now s = record {
+  content_is_image = inl refl;
+  counts_now = λ t image le is. left_now (fresh s.start) s.changes t image is;
+  only_now = only_left (fresh s.start) s.changes;
+}

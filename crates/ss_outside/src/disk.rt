@@ -15,7 +15,7 @@ pub trait Disk {
     /// more than whether it failed.
     ghost tells: { Self → Bool };
 
-    /// What it tells. Its content is always one of the images.
+    /// What it tells.
     ghost told: { Self → Told };
 
     /// How many calls have failed, a number of 64 bits that stands still at its greatest.
@@ -25,7 +25,6 @@ pub trait Disk {
     fn len(&mut self) -> Result<u64, Failed>
         ensures length { IsTrue (tells self.old) → IfOk result (λ n. n ≡ length (told self.old).content) }
         ensures reads { IsTrue (tells self.old) → OnlyReads (told self.old) (told self.new) }
-        ensures image { IsTrue (tells self.old) → (told self.new).may_leave (told self.new).content }
         ensures tells { tells self.new ≡ tells self.old }
         ensures cause { HasCause (faults self.old) (faults self.new) result };
 
@@ -33,7 +32,6 @@ pub trait Disk {
     fn read_at(&mut self, at: u64, into: &mut [u8]) -> Result<(), Failed>
         ensures bytes { IsTrue (tells self.old) → OnOk result (IsReadFrom (told self.old).content at into.new) }
         ensures reads { IsTrue (tells self.old) → OnlyReads (told self.old) (told self.new) }
-        ensures image { IsTrue (tells self.old) → (told self.new).may_leave (told self.new).content }
         ensures tells { tells self.new ≡ tells self.old }
         ensures cause { HasCause (faults self.old) (faults self.new) result };
 
@@ -47,7 +45,6 @@ pub trait Disk {
         ensures pending { IsTrue (tells self.old) → BecomesPending at (length bytes.now) (told self.old) (told self.new)
             ⊎ (IsErr result × StaysSame (told self.old) (told self.new)) }
         ensures time { IsTrue (tells self.old) → Elapses (told self.old) (told self.new) }
-        ensures image { IsTrue (tells self.old) → (told self.new).may_leave (told self.new).content }
         ensures tells { tells self.new ≡ tells self.old }
         ensures cause { HasCause (faults self.old) (faults self.new) result };
 
@@ -59,10 +56,9 @@ pub trait Disk {
         ensures pending { IsTrue (tells self.old) → OnErr result (StaysSame (told self.old) (told self.new)) }
         ensures content { IsTrue (tells self.old) → (told self.new).content ≡ (told self.old).content }
         ensures time { IsTrue (tells self.old) → Elapses (told self.old) (told self.new) }
-        ensures image { IsTrue (tells self.old) → (told self.new).may_leave (told self.new).content }
         ensures tells { tells self.new ≡ tells self.old }
         ensures cause { HasCause (faults self.old) (faults self.new) result };
 
-    /// What it tells of now.
+    /// The content is always one of the images, and the clock tells of now what a crash now may leave.
     ghost knows_now: { (disk : Self) → IsTrue (tells disk) → KnowsNow (told disk) };
 }

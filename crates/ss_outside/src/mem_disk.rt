@@ -210,7 +210,6 @@ impl Disk for MemDisk {
     fn len(&mut self) -> Result<u64, Failed>
         ensures length { IfOk result (λ n. n ≡ length (told_by self.old).content) }
         ensures reads { OnlyReads (told_by self.old) (told_by self.new) }
-        ensures image { (told_by self.new).may_leave (told_by self.new).content }
         ensures cause { HasCause self.old.faults self.new.faults result }
         ensures listed { IsErr result ↔ IsListed self.old }
         ensures answered { OnOk result (self.new ≡ answered self.old) }
@@ -224,7 +223,6 @@ impl Disk for MemDisk {
     fn read_at(&mut self, at: u64, into: &mut [u8]) -> Result<(), Failed>
         ensures bytes { OnOk result (IsReadFrom (told_by self.old).content at into.new) }
         ensures reads { OnlyReads (told_by self.old) (told_by self.new) }
-        ensures image { (told_by self.new).may_leave (told_by self.new).content }
         ensures cause { HasCause self.old.faults self.new.faults result }
         ensures listed { IsErr result ↔ IsListed self.old }
         ensures answered { OnOk result (self.new ≡ answered self.old) }
@@ -245,7 +243,6 @@ impl Disk for MemDisk {
         ensures pending { BecomesPending at (length bytes.now) (told_by self.old) (told_by self.new)
             ⊎ (IsErr result × StaysSame (told_by self.old) (told_by self.new)) }
         ensures time { Elapses (told_by self.old) (told_by self.new) }
-        ensures image { (told_by self.new).may_leave (told_by self.new).content }
         ensures cause { HasCause self.old.faults self.new.faults result }
         ensures listed { IsListed self.old → IsErr result }
         ensures wrote { OnOk result (self.new ≡ changed (answered self.old) (Wrote at bytes.now)) }
@@ -262,7 +259,6 @@ impl Disk for MemDisk {
         ensures pending { OnErr result (StaysSame (told_by self.old) (told_by self.new)) }
         ensures content { (told_by self.new).content ≡ (told_by self.old).content }
         ensures time { Elapses (told_by self.old) (told_by self.new) }
-        ensures image { (told_by self.new).may_leave (told_by self.new).content }
         ensures cause { HasCause self.old.faults self.new.faults result }
         ensures synced { OnOk result (¬ IsListed self.old × (self.new ≡ changed (answered self.old) Synced)) }
         ensures failed { OnErr result

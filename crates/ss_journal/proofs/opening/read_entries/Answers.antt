@@ -19,7 +19,7 @@ loop-n-init g c =
       extent = c.requires.slots;
       waiting = All-same (λ (put : Put). put.slot < c.args.slots) _ [] none (All-nil (λ (put : Put). put.slot < c.args.slots));
       tells = refl;
-      later = omega arith;
+      faults = refl;
       reads = λ told. reads-none (g.D.Disk.told disk);
       read = λ told. subst (λ (puts : List Put). IsReadTo (g.D.Disk.told disk).content 0 c.args.slots puts) (sym none) (IsReadTo-none (g.D.Disk.told disk).content c.args.slots (c.requires.born told) (c.requires.counted told));
     }
@@ -50,7 +50,7 @@ loop-n-preserved g c =
       extent = subst (λ (n : ℕ). n ≤ 2 ^ 20) (sym last) (extent_after-most puts extent sound.0 before.extent);
       waiting = rw (more, last) (waiting-below c.loop-n.waiting.items puts extent sound.1 before.waiting);
       tells = c.next_entry.ensures.tells ∙ before.tells;
-      later = omega (arith, before.later, c.next_entry.ensures.cause.later);
+      faults = c.in_ok-puts.ensures.cause ∙ before.faults;
       reads = λ told. reads-joined (g.D.Disk.told c.args.disk.now) (g.D.Disk.told c.loop-n.disk) (g.D.Disk.told c.next_entry.new.disk) (before.reads told) (c.next_entry.ensures.reads (before.tells ∙ told));
       read = λ told.
           let entry = entry_at (g.D.Disk.told c.loop-n.disk).content c.loop-n.n in

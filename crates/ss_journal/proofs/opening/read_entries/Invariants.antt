@@ -9,7 +9,7 @@ invariant-loop-n g l =
       extent : l.extent ≤ 2 ^ 20;
       waiting : All (λ put. put.slot < l.extent) l.waiting.items;
       tells : g.D.Disk.tells l.disk ≡ g.D.Disk.tells l.fn.disk;
-      later : g.D.Disk.faults l.fn.disk ≤ g.D.Disk.faults l.disk;
+      faults : g.D.Disk.faults l.disk ≡ g.D.Disk.faults l.fn.disk;
       reads : IsTrue (g.D.Disk.tells l.fn.disk) → OnlyReads (g.D.Disk.told l.fn.disk) (g.D.Disk.told l.disk);
       read : IsTrue (g.D.Disk.tells l.fn.disk) → IsReadTo (g.D.Disk.told l.fn.disk).content l.n l.extent l.waiting.items;
     }

@@ -44,7 +44,7 @@ loop-n-preserved g c =
     ] in
     record {
       tells = c.close_gate.ensures.tells ∙ before.tells;
-      later = omega (arith, c.close_gate.ensures.cause.later, before.later);
+      faults = c.in_ok-close_gate.ensures.cause.fine ∙ before.faults;
       differs = λ told. DiffersIn-gate old.content n mid new low high (long told) (before.differs told) b (gate told);
       closed = λ told. closed-more old.content n mid new low high (long told) (before.differs told) b (gate told) (before.closed told);
       same = λ is told. same-joined old mid new (before.same (none is).1 told) (subst (λ (t : Bool). ClosesGate n mid new (Ok t)) (none is).0 (gate told)).1;

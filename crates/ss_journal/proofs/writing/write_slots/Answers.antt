@@ -1,4 +1,4 @@
-use Rattle.std.proofs.Common.{[], refl, ◌∙◌, arith}
+use Rattle.std.proofs.Common.{[], refl, ◌∙◌}
 use Rattle.ss_journal.specs.declared.put.Put.{Put}
 use Rattle.ss_journal.specs.Writes.{slot_ranges}
 use Rattle.ss_journal.proofs.SlotLemmas.{HasRoom-more, slots_written-more, Covers-slot}
@@ -8,7 +8,7 @@ use Rattle.ss_journal.proofs.writing.write_slots.Goals as goal
 pub loop-put-init : goal.loop-put-init
 loop-put-init g c = record {
   tells = refl;
-  later = omega arith;
+  faults = refl;
   written = λ told. refl;
   room = c.requires.room;
   tears = λ told. tears-none (slot_ranges c.args.puts.now) (g.D.Disk.told c.args.disk.now) (g.met.D.Disk.knows_now c.args.disk.now told);
@@ -28,7 +28,7 @@ loop-put-preserved g c =
     let before = c.loop-put.invariant in
     record {
       tells = c.write_slot.ensures.tells ∙ before.tells;
-      later = omega (arith, c.write_slot.ensures.cause.later, before.later);
+      faults = c.in_ok-write_slot.ensures.cause.fine ∙ before.faults;
       written = λ told. rw (c.in_ok-write_slot.ensures.written (before.tells ∙ told)) (slots_written-more c.args.puts.now c.loop-put.put-index d (g.D.Disk.told c.loop-put.disk).content lt ∙ before.written told);
       room = λ told. rw (c.in_ok-write_slot.ensures.written (before.tells ∙ told)) (HasRoom-more c.args.puts.now c.loop-put.put-index d (g.D.Disk.told c.loop-put.disk).content lt (c.requires.slots c.loop-put.put-index d lt) c.write_slot.ensures.whole (before.room told));
       tears = λ told.

@@ -12,7 +12,7 @@ returns-in_err-write_piece-clause-tears g c told =
 pub loop-from-preserved : goal.loop-from-preserved
 loop-from-preserved g c = record {
   tells = c.write_piece.ensures.tells ∙ c.loop-from.invariant.tells;
-  later = omega (arith, c.write_piece.ensures.cause.later, c.loop-from.invariant.later);
+  faults = c.in_ok-write_piece.ensures.cause.fine ∙ c.loop-from.invariant.faults;
   low = omega arith;
   high = omega arith;
   written = λ told. c.in_ok-write_piece.ensures.written (c.loop-from.invariant.tells ∙ told)

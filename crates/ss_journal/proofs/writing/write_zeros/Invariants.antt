@@ -6,7 +6,7 @@ use Rattle.ss_journal.proofs.writing.write_zeros.Given as goal
 abbrev pub invariant-loop-from : goal.invariant-loop-from
 invariant-loop-from g l = record {
   tells : g.D.Disk.tells l.disk ≡ g.D.Disk.tells l.fn.disk;
-  later : g.D.Disk.faults l.fn.disk ≤ g.D.Disk.faults l.disk;
+  faults : g.D.Disk.faults l.disk ≡ g.D.Disk.faults l.fn.disk;
   low : l.fn.at ≤ l.from;
   high : l.from ≤ l.end;
   written : IsTrue (g.D.Disk.tells l.fn.disk) → (g.D.Disk.told l.disk).content ≡ overwrite (g.D.Disk.told l.fn.disk).content l.fn.at (replicate (l.from - l.fn.at) 0);

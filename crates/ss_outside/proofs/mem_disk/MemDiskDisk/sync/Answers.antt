@@ -15,4 +15,3 @@ returns-clause-durable c =
 pub returns-clause-no_other : goal.returns-clause-no_other
 returns-clause-no_other c =
     no_other_synced c.args.self.now c.settle.new.self c.settle.result (state_synced c.args.self.now c.settle.new.self c.settle.result c.settle.ensures.synced c.settle.ensures.failed)
-    c.settle.ensures.sound_before

@@ -7,7 +7,7 @@ returns-clause-written c = on_ok_weaker c.write.result (content_written c.args.s
 
 pub returns-clause-pending : goal.returns-clause-pending
 returns-clause-pending c =
-    pending_written c.args.self.now c.write.new.self c.args.at c.args.bytes.now c.write.ensures.sound_before c.write.result c.write.ensures.wrote c.write.ensures.failed
+    pending_written c.args.self.now c.write.new.self c.args.at c.args.bytes.now c.write.ensures.sound_before c.write.ensures.sound c.write.result c.write.ensures.wrote c.write.ensures.failed
 
 pub returns-clause-time : goal.returns-clause-time
 returns-clause-time c = time_written c.args.self.now c.write.new.self c.args.at c.args.bytes.now c.write.result c.write.ensures.wrote c.write.ensures.failed
