@@ -225,7 +225,7 @@ fn calls_or_bad_stop(
         disk.stop_from(stop);
         let ended = run(alloc, &mut disk, row.commits).is_ok();
         let count = if ended { 1 } else { 2 };
-        if !survives(alloc, &disk, &maps[..count])? {
+        if disk.short() > 0 || !survives(alloc, &disk, &maps[..count])? {
             return Ok(Err(stop));
         }
         if ended {
@@ -390,5 +390,18 @@ fn the_gate_alone_decides(rt: HostRuntime) -> Result<(), JournalError> {
     assert!(rt; holds(rt.alloc(), &mut closed, COMMIT.before)?);
     let mut open = disk.crash(Choice::Fill(0xA5))?;
     assert!(rt; holds(rt.alloc(), &mut open, COMMIT.after)?);
+    Ok(())
+}
+
+#[test]
+fn an_error_says_what_is_wrong(rt: HostRuntime) -> Result<(), JournalError> {
+    for (error, text) in [
+        (JournalError::Disk, "disk failed"),
+        (JournalError::NotAStore, "not a store"),
+        (JournalError::BadEntry { n: 5 }, "damaged entry 5"),
+        (JournalError::OutOfMemory, "out of memory"),
+    ] {
+        assert_eq!(rt; format!(in rt.alloc(); "{error}")?.as_str(), text);
+    }
     Ok(())
 }

@@ -2,7 +2,7 @@
 use Rattle.std.proofs.Common.{◌≡◌, ◌⊎◌, inl, inr, take_all, length-drop, ℕ, ◌+◌, ◌<◌, ◌≤◌, ◌++◌, List, [], ◌∷◌, length, take, drop, get_or, map, Bool, IsTrue, ◌↔◌, Option, Some, None, Ok, Err, Result, refl, sym, ap, ◌∙◌, subst, codes, arith}
 use Rattle.std.proofs.Math.Seq.{take-add}
 use Rattle.std.proofs.lemmas.List.{append-nil, drop-drop, drop_all, take-append-drop}
-use Rattle.ss_outside.specs.Causes.{HasCause}
+use Rattle.ss_outside.specs.Causes.{Rose, HasCause}
 use Rattle.ss_outside.specs.Source.{Moves}
 use Rattle.ss_command.specs.LineState.{LineState}
 use Rattle.ss_model.specs.declared.types.Window.{Window}
@@ -10,7 +10,7 @@ use Rattle.ss_outside.specs.declared.source.Failed.{Failed}
 use Rattle.summarystore.specs.Outcome.{Reports, Reads, SaysUsage}
 use Rattle.summarystore.specs.Progress.{appended, AppendsFront, IsAt, Sends}
 use Rattle.summarystore.specs.Session.{report, report_so_far}
-use Rattle.summarystore.specs.Status.{number_of, IsStop}
+use Rattle.summarystore.specs.Status.{number_of, IsStop, CountsSource, CountsSink}
 use Rattle.summarystore.specs.Words.{ArePlain, usage}
 use Rattle.summarystore.specs.declared.run.TheConstants.{LONGEST_INPUT}
 use Rattle.summarystore.specs.declared.status.Status.{Status}
@@ -172,3 +172,10 @@ completes SourceFault words source sink limit = absurd (source refl)
 completes SinkFault words source sink limit = absurd (sink refl)
 completes OutOfMemory words source sink limit = inr refl
 completes InputLimit words source sink limit = absurd (limit refl)
+
+-- which count rose, by the status
+pub CountsSource-fault : (before now : ℕ) (status : Status) → status ≡ SourceFault → CountsSource before now status → Rose before now
+CountsSource-fault before now status is counts = subst (CountsSource before now) is counts
+
+pub CountsSink-fault : (before now : ℕ) (status : Status) → status ≡ SinkFault → CountsSink before now status → Rose before now
+CountsSink-fault before now status is counts = subst (CountsSink before now) is counts

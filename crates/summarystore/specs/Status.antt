@@ -1,5 +1,5 @@
 -- The exit statuses.
-use Rattle.std.specs.Prelude.{◌≡◌, ℕ, ◌⊎◌, ◌≤◌, Result, IfErr}
+use Rattle.std.specs.Prelude.{◌≡◌, ℕ, ◌⊎◌, Result, Ok, Err}
 use Rattle.ss_outside.specs.Causes.{Rose}
 use Rattle.summarystore.specs.declared.status.Status.{Status}
 use Rattle.summarystore.specs.declared.status.Status.TheVariants.{Done, Usage, SourceFault, SinkFault, OutOfMemory, InputLimit}
@@ -17,7 +17,25 @@ number_of InputLimit = 8
 abbrev pub IsStop : Status → Type 0
 IsStop status = (status ≡ SinkFault) ⊎ (status ≡ OutOfMemory)
 
--- the sink's count of faults doesn't fall, and a fault of it is answered only where that count rose
-pub record HasSinkCause {T : Type 0} (before now : ℕ) (result : Result T Status) : Type 0 where
-  pub later : before ≤ now
-  pub fault : IfErr result (λ status. status ≡ SinkFault → Rose before now)
+-- The source's count of faults rose where a fault of the source is the status, and is as it was at every other.
+abbrev pub CountsSource : ℕ → ℕ → Status → Type 0
+CountsSource before now SourceFault = Rose before now
+CountsSource before now Done = now ≡ before
+CountsSource before now Usage = now ≡ before
+CountsSource before now SinkFault = now ≡ before
+CountsSource before now OutOfMemory = now ≡ before
+CountsSource before now InputLimit = now ≡ before
+
+-- the same of the sink's count
+abbrev pub CountsSink : ℕ → ℕ → Status → Type 0
+CountsSink before now SinkFault = Rose before now
+CountsSink before now Done = now ≡ before
+CountsSink before now Usage = now ≡ before
+CountsSink before now SourceFault = now ≡ before
+CountsSink before now OutOfMemory = now ≡ before
+CountsSink before now InputLimit = now ≡ before
+
+-- and of what goes on at Ok, where the count is as it was
+abbrev pub GoesOnOr : {T : Type 0} → (ℕ → ℕ → Status → Type 0) → ℕ → ℕ → Result T Status → Type 0
+GoesOnOr counts before now (Ok value) = now ≡ before
+GoesOnOr counts before now (Err status) = counts before now status

@@ -5,7 +5,7 @@ ghost use Rattle.ss_outside.specs.Causes.{Rose, HasCause};
 ghost use Rattle.summarystore.specs.Outcome.{Reports, Reads, SaysUsage};
 ghost use Rattle.summarystore.specs.Progress.{AppendsFront, IsAt};
 ghost use Rattle.summarystore.specs.Session.{report};
-ghost use Rattle.summarystore.specs.Status.{number_of, IsStop};
+ghost use Rattle.summarystore.specs.Status.{number_of, IsStop, CountsSource, CountsSink, GoesOnOr};
 ghost use Rattle.summarystore.specs.Words.{ArePlain};
 
 use crate::send::send;
@@ -69,10 +69,8 @@ fn read_piece<S: Source, K: Sink>(
         AppendsFront before (K.held sink.new) (report (input ++ left))) }
     ensures status { IfErr result (λ status. (status ≡ Status.SourceFault) ⊎ IsStop status) }
     ensures few { IfOk result (λ count. taken session.new.store ≤ taken session.old.store + count) }
-    ensures source_later { S.faults source.old ≤ S.faults source.new }
-    ensures source_cause { IsErrOf result Status.SourceFault → Rose (S.faults source.old) (S.faults source.new) }
-    ensures sink_later { K.faults sink.old ≤ K.faults sink.new }
-    ensures sink_cause { IsErrOf result Status.SinkFault → Rose (K.faults sink.old) (K.faults sink.new) }
+    ensures source_cause { GoesOnOr CountsSource (S.faults source.old) (S.faults source.new) result }
+    ensures sink_cause { GoesOnOr CountsSink (K.faults sink.old) (K.faults sink.new) result }
 {
     let mut buffer = [0u8; BUFFER];
     let want = room.min(BUFFER as u64) as usize;
@@ -105,10 +103,8 @@ fn is_at_end<S: Source>(source: &mut S) -> Result<bool, Failed>
 // Reads the source to its end, and replies to each of its lines.
 fn serve<S: Source, K: Sink>(alloc: Global, source: &mut S, sink: &mut K) -> Status
     ensures known { result ≢ Status.Usage }
-    ensures source_later { S.faults source.old ≤ S.faults source.new }
-    ensures source_cause { result ≡ Status.SourceFault → Rose (S.faults source.old) (S.faults source.new) }
-    ensures sink_later { K.faults sink.old ≤ K.faults sink.new }
-    ensures sink_cause { result ≡ Status.SinkFault → Rose (K.faults sink.old) (K.faults sink.new) }
+    ensures source_cause { CountsSource (S.faults source.old) (S.faults source.new) result }
+    ensures sink_cause { CountsSink (K.faults sink.old) (K.faults sink.new) result }
     ensures reads { (input : List ℕ) → S.left source.old ≡ Some input → Reads input (S.left source.new) (number_of result) }
     ensures reports { (input : List ℕ) → S.left source.old ≡ Some input →
         Reports input (S.left source.new) (K.held sink.old) (K.held sink.new) (number_of result) }
@@ -141,9 +137,13 @@ pub fn run<S: Source, K: Sink>(alloc: Global, words: &[String], source: &mut S, 
     ensures unread { result ≡ 2 → source.new ≡ source.old }
     ensures usage { result ≡ 2 → SaysUsage (K.held sink.old) (K.held sink.new) (K.faults sink.old) (K.faults sink.new) }
 
-    // 5 and 6 only where the count of faults of the source or the sink rose.
+    // 5 only where the count of faults of the source rose, and where it rose nothing else: no fault is passed over.
     ensures source_fault { result ≡ 5 → Rose (S.faults source.old) (S.faults source.new) }
+    ensures source_fine { (result ≡ 5 → ⊥) → S.faults source.new ≡ S.faults source.old }
+
+    // The same of 6 and the sink. At 2 the usage line may have failed to go out.
     ensures sink_fault { result ≡ 6 → Rose (K.faults sink.old) (K.faults sink.new) }
+    ensures sink_fine { (result ≡ 2 → ⊥) → (result ≡ 6 → ⊥) → K.faults sink.new ≡ K.faults sink.old }
 
     // What is read and what is written, at known words and where the devices tell.
     ensures reads { (result ≡ 2 → ⊥) → (input : List ℕ) → S.left source.old ≡ Some input →

@@ -2,12 +2,12 @@
 ghost use Rattle.std.specs.Prelude.{◌≡◌, ◌↔◌, ◌⊎◌, ◌+◌, ◌^◌, ◌<◌, ◌≤◌, ◌++◌, ℕ, ℤ, List, [], Option, Some, true, length, take, IsSome, IfOk, IfErr, OnOk, OnErr, IsErrOf};
 ghost use Rattle.ss_command.specs.LineState.{kept, under_way};
 ghost use Rattle.ss_model.specs.Windows.{windows, taken};
-ghost use Rattle.ss_outside.specs.Causes.{Rose, HasCause};
+ghost use Rattle.ss_outside.specs.Causes.{HasCause};
 ghost use Rattle.ss_report.specs.Text.{reply_line};
 ghost use Rattle.ss_store.specs.Stream.{stream_length};
 ghost use Rattle.summarystore.specs.Session.{reply_to, values_after, report};
 ghost use Rattle.summarystore.specs.Progress.{appended, AppendsFront, IsAt, Sends};
-ghost use Rattle.summarystore.specs.Status.{IsStop, HasSinkCause};
+ghost use Rattle.summarystore.specs.Status.{IsStop, CountsSink, GoesOnOr};
 
 use crate::send::send;
 use crate::status::Status;
@@ -94,7 +94,7 @@ impl Session {
             self.old.reader.line ≡ kept line →
             AppendsFront (K.held sink.old) (K.held sink.new) (reply_line (reply_to values line))) }
         ensures status { IfErr result IsStop }
-        ensures cause { HasSinkCause (K.faults sink.old) (K.faults sink.new) result }
+        ensures cause { GoesOnOr CountsSink (K.faults sink.old) (K.faults sink.new) result }
         ensures room { taken self.new.store ≤ taken self.old.store + 1 }
         ensures reader { self.new.reader ≡ self.old.reader }
     {
@@ -120,7 +120,7 @@ impl Session {
             IsAt self.old.store self.old.reader before (K.held sink.old) input →
             AppendsFront before (K.held sink.new) (report (input ++ (piece.now ++ rest)))) }
         ensures status { IfErr result IsStop }
-        ensures cause { HasSinkCause (K.faults sink.old) (K.faults sink.new) result }
+        ensures cause { GoesOnOr CountsSink (K.faults sink.old) (K.faults sink.new) result }
         ensures room { taken self.new.store ≤ taken self.old.store + 1 }
     {
         let (count, ended) = self.reader.feed(piece);
@@ -144,7 +144,7 @@ impl Session {
             IsAt self.old.store self.old.reader before (K.held sink.old) input →
             AppendsFront before (K.held sink.new) (report (input ++ (piece.now ++ rest)))) }
         ensures status { IfErr result IsStop }
-        ensures cause { HasSinkCause (K.faults sink.old) (K.faults sink.new) result }
+        ensures cause { GoesOnOr CountsSink (K.faults sink.old) (K.faults sink.new) result }
         ensures room { taken self.new.store ≤ taken self.old.store + length piece.now }
     {
         let mut done = 0;
@@ -167,8 +167,7 @@ impl Session {
             IsAt self.old.store self.old.reader before (K.held sink.old) input →
             AppendsFront before (K.held sink.new) (report input) }
         ensures status { (result ≡ Status.Done) ⊎ IsStop result }
-        ensures later { K.faults sink.old ≤ K.faults sink.new }
-        ensures cause { result ≡ Status.SinkFault → Rose (K.faults sink.old) (K.faults sink.new) }
+        ensures cause { CountsSink (K.faults sink.old) (K.faults sink.new) result }
     {
         match self.reader.finish() {
             None => Status::Done,

@@ -1,4 +1,4 @@
-use Rattle.std.proofs.Common.{◌≡◌, ◌≤◌, ℕ, List, [], Some, length, take, drop, Err, refl, ap, subst, arith, inl, inr}
+use Rattle.std.proofs.Common.{◌≡◌, ◌≤◌, ℕ, List, [], Some, length, take, drop, Err, refl, ap, ◌∙◌, subst, arith, inl, inr}
 use Rattle.std.proofs.lemmas.List.{take-append-drop}
 use Rattle.summarystore.specs.Progress.{AppendsFront, IsAt}
 use Rattle.summarystore.specs.Session.{report}
@@ -13,8 +13,8 @@ loop-done-init g c = record {
   few = omega (arith, c.start-session.ensures.room);
   through = λ input tells. IsThrough-start c.start-session.result.store c.start-session.result.reader (g.K.Sink.held c.args.sink.now)
       (g.S.Source.left c.args.source.now) input (c.start-session.ensures.start (g.K.Sink.held c.args.sink.now)) tells;
-  source_later = omega arith;
-  sink_later = omega arith;
+  source_faults = refl;
+  sink_faults = refl;
 }
 
 pub loop-done-preserved : goal.loop-done-preserved
@@ -25,8 +25,8 @@ loop-done-preserved g c = record {
       let new = c.in-Ok.ensures.ok (g.K.Sink.held c.args.sink.now) (take c.loop-done.done input) (drop c.loop-done.done input) old.source old.at in
       IsThrough-more c.read_piece.new.session.store c.read_piece.new.session.reader (g.K.Sink.held c.args.sink.now)
       (g.K.Sink.held c.read_piece.new.sink) (g.S.Source.left c.read_piece.new.source) input c.loop-done.done c.in-Ok.count old.within new.0 new.2 new.3;
-  source_later = omega (arith, c.in-Ok.ensures.source_later, c.loop-done.invariant.source_later);
-  sink_later = omega (arith, c.in-Ok.ensures.sink_later, c.loop-done.invariant.sink_later);
+  source_faults = c.in-Ok.ensures.source_cause ∙ c.loop-done.invariant.source_faults;
+  sink_faults = c.in-Ok.ensures.sink_cause ∙ c.loop-done.invariant.sink_faults;
 }
 
 -- what the piece of no bytes leaves

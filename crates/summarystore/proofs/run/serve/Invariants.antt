@@ -10,8 +10,8 @@ invariant-loop-done g l = record {
   few : taken l.session.store ≤ l.done;
   through : (input : List ℕ) → g.S.Source.left l.fn.source ≡ Some input →
       IsThrough l.session.store l.session.reader (g.K.Sink.held l.fn.sink) (g.K.Sink.held l.sink) (g.S.Source.left l.source) input l.done;
-  source_later : g.S.Source.faults l.fn.source ≤ g.S.Source.faults l.source;
-  sink_later : g.K.Sink.faults l.fn.sink ≤ g.K.Sink.faults l.sink;
+  source_faults : g.S.Source.faults l.source ≡ g.S.Source.faults l.fn.source;
+  sink_faults : g.K.Sink.faults l.sink ≡ g.K.Sink.faults l.fn.sink;
 }
 
 abbrev pub decreases-loop-done : goal.decreases-loop-done

@@ -1,4 +1,4 @@
-use Rattle.std.proofs.Common.{arith}
+use Rattle.std.proofs.Common.{◌∙◌}
 use Rattle.summarystore.proofs.SendLemmas.{appended_more, fits_more}
 use Rattle.summarystore.proofs.send.send.Goals as goal
 
@@ -6,5 +6,5 @@ pub loop-sent-preserved : goal.loop-sent-preserved
 loop-sent-preserved g c = record {
   fits = fits_more c.args.text.now c.loop-sent.sent c.in_ok-sent.field-0 c.loop-sent.invariant.fits c.in_ok-sent.ensures.bound.1;
   held = appended_more (g.K.Sink.held c.args.sink.now) (g.K.Sink.held c.loop-sent.sink) (g.K.Sink.held c.put.new.self) c.args.text.now c.loop-sent.sent c.in_ok-sent.field-0 c.loop-sent.invariant.held c.in_ok-sent.ensures.appends;
-  later = omega (arith, c.in_ok-sent.ensures.cause.later);
+  faults = c.in_ok-sent.ensures.cause.fine ∙ c.loop-sent.invariant.faults;
 }

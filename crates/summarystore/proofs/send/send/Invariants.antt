@@ -7,7 +7,7 @@ abbrev pub invariant-loop-sent : goal.invariant-loop-sent
 invariant-loop-sent g l = record {
   fits : l.sent ≤ length l.text;
   held : g.K.Sink.held l.sink ≡ appended (g.K.Sink.held l.fn.sink) (take l.sent l.text);
-  later : g.K.Sink.faults l.fn.sink ≤ g.K.Sink.faults l.sink;
+  faults : g.K.Sink.faults l.sink ≡ g.K.Sink.faults l.fn.sink;
 }
 
 abbrev pub decreases-loop-sent : goal.decreases-loop-sent

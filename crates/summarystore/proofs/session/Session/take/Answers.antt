@@ -1,4 +1,4 @@
-use Rattle.std.proofs.Common.{◌++◌, take, subst, arith}
+use Rattle.std.proofs.Common.{◌++◌, take, subst, ◌∙◌, arith}
 use Rattle.summarystore.specs.Progress.{IsAt, AppendsFront}
 use Rattle.summarystore.specs.Session.{report}
 use Rattle.summarystore.proofs.SendLemmas.{fits_more}
@@ -12,7 +12,7 @@ loop-done-preserved g c = record {
       (taken_more input c.args.piece.now c.loop-done.done c.in-Ok.count)
       (c.in-Ok.ensures.ok before (input ++ take c.loop-done.done c.args.piece.now) (c.loop-done.invariant.at before input at));
   room = omega (arith, c.in-Ok.ensures.room, c.in-Ok.ensures.count.0);
-  later = omega (arith, c.in-Ok.ensures.cause.later);
+  faults = c.in-Ok.ensures.cause ∙ c.loop-done.invariant.faults;
 }
 
 pub returns-in-Err-clause-err : goal.returns-in-Err-clause-err
