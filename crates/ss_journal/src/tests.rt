@@ -1,3 +1,5 @@
+ghost use Rattle.std.specs.Prelude.{◌≡◌};
+
 use super::*;
 use ss_outside::{Choice, Disk, MemDisk};
 use std::alloc::{AllocError, Global};
@@ -74,22 +76,42 @@ fn holds<D: Disk>(alloc: Global, disk: &mut D, map: Map) -> Result<bool, Journal
     )
 }
 
-// Opens and settles. Then it puts 7 into slot 0 and 8 into slot 1, if it is to, over one slot.
-fn run<D: Disk>(alloc: Global, disk: &mut D, commits: bool) -> Result<(), JournalError> {
+// What is committed over one slot.
+#[derive(Clone, Copy)]
+enum Commit {
+    Nothing,
+    // 7 into slot 0.
+    One,
+    // And 8 into slot 1, which is next.
+    Two,
+}
+
+fn put_of(slot: u32, byte: u8) -> Put
+    ensures { result.slot ≡ slot }
+{
+    Put {
+        slot,
+        bytes: [byte; 128],
+    }
+}
+
+// Opens, settles and commits.
+fn run<D: Disk>(alloc: Global, disk: &mut D, commit: Commit) -> Result<(), JournalError> {
     let mut journal = Journal::open(alloc, disk)?;
     journal.settle(disk)?;
-    if commits && journal.extent() == 1 {
-        let mut txn = Txn::new();
-        txn.push(Put {
-            slot: 0,
-            bytes: [7; 128],
-        });
-        txn.push(Put {
-            slot: 1,
-            bytes: [8; 128],
-        });
-        journal.commit(disk, &txn)?;
+    if journal.extent() != 1 {
+        return Ok(());
     }
+    let mut txn = Txn::new();
+    match commit {
+        Commit::Nothing => return Ok(()),
+        Commit::One => txn.push(put_of(0, 7)),
+        Commit::Two => {
+            txn.push(put_of(0, 7));
+            txn.push(put_of(1, 8));
+        }
+    }
+    journal.commit(disk, &txn)?;
     Ok(())
 }
 
@@ -97,7 +119,7 @@ fn run<D: Disk>(alloc: Global, disk: &mut D, commits: bool) -> Result<(), Journa
 #[derive(Clone, Copy)]
 struct Row {
     file: File,
-    commits: bool,
+    commit: Commit,
     before: Map,
     after: Map,
     length: usize,
@@ -120,7 +142,7 @@ const SHARED: Row = Row {
         ],
         &[],
     ),
-    commits: false,
+    commit: Commit::Nothing,
     before: &[5],
     after: &[5],
     length: 36992,
@@ -136,21 +158,29 @@ const BEHIND: Row = Row {
         }],
         &[3],
     ),
-    commits: false,
+    commit: Commit::Nothing,
     before: &[3],
     after: &[3],
     length: 36992,
 };
 
-const COMMIT: Row = Row {
+const ONE: Row = Row {
     file: File::Formed(&[], &[3]),
-    commits: true,
+    commit: Commit::One,
+    before: &[3],
+    after: &[7],
+    length: 36992,
+};
+
+const TWO: Row = Row {
+    file: File::Formed(&[], &[3]),
+    commit: Commit::Two,
     before: &[3],
     after: &[7, 8],
     length: 37120,
 };
 
-const ROWS: [Row; 3] = [SHARED, BEHIND, COMMIT];
+const ROWS: [Row; 4] = [SHARED, BEHIND, ONE, TWO];
 
 // What isn't as the row says, or "".
 fn mismatch(alloc: Global, row: &Row) -> Result<&'static str, JournalError> {
@@ -158,7 +188,7 @@ fn mismatch(alloc: Global, row: &Row) -> Result<&'static str, JournalError> {
     if !holds(alloc, &mut disk, row.before)? {
         return Ok("before");
     }
-    run(alloc, &mut disk, row.commits)?;
+    run(alloc, &mut disk, row.commit)?;
     if disk.content().len() != row.length {
         return Ok("length");
     }
@@ -194,7 +224,7 @@ const CRASHES: [Choice; 5] = [
 fn keeps_one<D: Disk>(alloc: Global, disk: &mut D, maps: &[Map]) -> Result<bool, JournalError> {
     for map in maps {
         if holds(alloc, disk, map) == Ok(true) {
-            run(alloc, disk, false)?;
+            run(alloc, disk, Commit::Nothing)?;
             return holds(alloc, disk, map);
         }
     }
@@ -223,7 +253,7 @@ fn calls_or_bad_stop(
     for stop in 0..200 {
         let mut disk = disk_of(alloc, bytes)?;
         disk.stop_from(stop);
-        let ended = run(alloc, &mut disk, row.commits).is_ok();
+        let ended = run(alloc, &mut disk, row.commit).is_ok();
         let count = if ended { 1 } else { 2 };
         if disk.short() > 0 || !survives(alloc, &disk, &maps[..count])? {
             return Ok(Err(stop));
@@ -249,7 +279,7 @@ fn each_stop_leaves_the_map_before_or_after(rt: HostRuntime) -> Result<(), Journ
 fn survives_twice(alloc: Global, bytes: &[u8], row: &Row, stop: u64) -> Result<bool, JournalError> {
     let mut disk = disk_of(alloc, bytes)?;
     disk.stop_from(stop);
-    let _ = run(alloc, &mut disk, row.commits);
+    let _ = run(alloc, &mut disk, row.commit);
     for choice in CRASHES {
         let left = disk.crash(choice)?;
         if calls_or_bad_stop(alloc, left.content(), row)?.is_err() {
@@ -296,7 +326,7 @@ const UNBORN: [Unborn; 10] = [
 fn birth_of(unborn: &Unborn) -> Row {
     Row {
         file: File::Begun(unborn.0, unborn.1),
-        commits: false,
+        commit: Commit::Nothing,
         before: unborn.2,
         after: unborn.2,
         length: unborn.1.max(36864),
@@ -382,14 +412,14 @@ const SECOND_SYNC: u64 = 69;
 
 #[test]
 fn the_gate_alone_decides(rt: HostRuntime) -> Result<(), JournalError> {
-    let mut disk = disk_of(rt.alloc(), &bytes_of(rt.alloc(), &COMMIT.file)?)?;
+    let mut disk = disk_of(rt.alloc(), &bytes_of(rt.alloc(), &ONE.file)?)?;
     disk.stop_from(SECOND_SYNC);
-    let ran = run(rt.alloc(), &mut disk, true);
+    let ran = run(rt.alloc(), &mut disk, ONE.commit);
     assert_eq!(rt; ran, Err(JournalError::Disk));
     let mut closed = disk.crash(Choice::Fill(0))?;
-    assert!(rt; holds(rt.alloc(), &mut closed, COMMIT.before)?);
+    assert!(rt; holds(rt.alloc(), &mut closed, ONE.before)?);
     let mut open = disk.crash(Choice::Fill(0xA5))?;
-    assert!(rt; holds(rt.alloc(), &mut open, COMMIT.after)?);
+    assert!(rt; holds(rt.alloc(), &mut open, ONE.after)?);
     Ok(())
 }
 
