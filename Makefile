@@ -1,4 +1,4 @@
-# Needs the toolchain's `rt` on the PATH (rt version: rattle-kit-13f). `bench` also needs awk and python3.
+# Needs the toolchain's `rt` on the PATH (rt version: rattle-kit-13b). `bench` also needs awk and python3.
 PROGRAM = crates/summarystore/out/summarystore
 BENCH = crates/journal_bench/out/journal_bench
 

@@ -1,7 +1,7 @@
 // The disk in memory: what its calls leave, and what a crash leaves of that.
-ghost use Rattle.std.specs.Prelude.{◌≤◌, ◌^◌, length};
+ghost use Rattle.std.specs.Prelude.{◌≤◌, length};
 
-use crate::{Choice, Disk, Failed, MemDisk};
+use crate::{Choice, Disk, Failed, LONGEST_DISK, MemDisk};
 use std::alloc::{AllocError, Global};
 use std::test::Fail;
 
@@ -113,7 +113,7 @@ fn a_crash_leaves_the_chosen_image(rt: HostRuntime) -> Result<(), Fail> {
 
 // Replaces what a disk begins with, and reads on from there.
 fn replace<D: Disk>(disk: &mut D, bytes: &[u8], rest: &mut [u8]) -> Result<u64, Failed>
-    requires { length bytes.now ≤ 2 ^ 32 }
+    requires { length bytes.now ≤ LONGEST_DISK }
 {
     disk.write_at(0, bytes)?;
     disk.sync()?;
