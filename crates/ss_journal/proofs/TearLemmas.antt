@@ -1,8 +1,8 @@
 -- What a crash may leave of some calls in a row: of writes, and of the map.
-use Rattle.std.proofs.Common.{Err, List, Ok, Result, [], inl, inr, subst, sym, ℕ, ◌++◌, ◌∷◌, ◌⊎◌}
+use Rattle.std.proofs.Common.{Err, List, Ok, Result, [], inl, subst, ℕ, ◌++◌, ◌∷◌, ◌⊎◌}
 use Rattle.std.proofs.lemmas.Result.{on_ok_weaker}
 use Rattle.std.specs.Prelude.{IsErr, OnOk}
-use Rattle.ss_outside.proofs.CrashLemmas.{after_write, at_start, goes_on, joined, nothing_pending-same, now, of_content, read_leaves, weaker}
+use Rattle.ss_outside.proofs.CrashLemmas.{after_write, at_start, goes_on, joined, now, read_leaves, weaker}
 use Rattle.ss_outside.specs.Crash.{Elapses, KnowsNow, LeavesOnly, OnlyReads}
 use Rattle.ss_outside.specs.Disk.{BecomesPending, NothingPending, StaysSame, Told}
 use Rattle.ss_journal.specs.Calls.{ChangesMap, KeepsMap}
@@ -86,14 +86,6 @@ module _ {T E : Type 0} (old new : Told) (result : Result T E) where
     durable = durable;
   }
 
-  -- calls that only read
-  pub keeps-read : KnowsNow old → OnlyReads old new → KeepsMap old new result
-  keeps-read knows reads = record {
-    map = λ found is. on_ok result (subst (λ (content : List ℕ). StandsFor content found) (sym reads.same.content) is);
-    any_moment = λ only found is. weaker old new old.may_leave (λ image. StandsFor image found) (of_content old (λ image. StandsFor image found) only is) (read_leaves old new knows reads);
-    durable = λ only. on_ok result (nothing_pending-same old new reads.same only);
-  }
-
 -- the same where the run failed
 pub keeps-failed : {T E : Type 0} (old new : Told) (result : Result T E) → IsErr result → (ranges : List (ℕ × ℕ)) → Tears ranges old new
     → ((found : SlotMap) (image : List ℕ) → StandsFor old.content found → DiffersIn ranges old.content image → StandsFor image found) → KeepsMap old new result
@@ -114,15 +106,4 @@ module _ {T E : Type 0} (old mid new : Told) (result : Result T E) {S : Type 0} 
     map = λ found is. second.map found (first.map found is);
     any_moment = λ only found is. joined old mid new (λ image. StandsFor image found) (first.any_moment only found is) (second.any_moment (first.durable only) found (first.map found is));
     durable = λ only. second.durable (first.durable only);
-  }
-
-  pub changes-joined : (puts : List Put) → ChangesMap {T = S} {E = E} puts old mid (Ok value) → KeepsMap mid new result
-      → ChangesMap puts old new result
-  changes-joined puts first second = record {
-    map = λ found is. second.map (changed found puts) (first.map found is);
-    any_moment = λ only found is.
-        let P : List ℕ → Type 0 = λ image. StandsFor image found ⊎ StandsFor image (changed found puts) in
-        joined old mid new P (first.any_moment only found is)
-        (weaker mid new (λ image. StandsFor image (changed found puts)) P (λ image stands. inr stands) (second.any_moment first.durable (changed found puts) (first.map found is)));
-    durable = second.durable first.durable;
   }

@@ -122,14 +122,3 @@ module _ (content bytes : List ℕ) (at : ℕ) (within : at ≤ length content) 
     kept = λ place lt out. get_or-overwrite_outside place out;
     bytes = overwrite_bytes content_bytes new_bytes;
   }
-
--- a range that begins within an image leaves every other place as it is, also past the end
-pub get_or-torn : (old new : List ℕ) (at count : ℕ) → at ≤ length old → Torn at count old new → (place : ℕ) → IsOutside at count place → get_or new place 0 ≡ get_or old place 0
-get_or-torn old new at count within torn place out = elim (cases_lt place (length old)) [
-  | inl lt ↦ torn.kept place lt out
-  | inr past ↦ get_or_past new place 0 (ends out past) ∙ sym (get_or_past old place 0 past)
-]
-  where
-    ends : IsOutside at count place → length old ≤ place → length new ≤ place
-    ends (inl below) past = absurd (omega (arith, below, past, within))
-    ends (inr above) past = omega (arith, above, past, torn.no_longer)

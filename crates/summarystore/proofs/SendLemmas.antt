@@ -1,8 +1,7 @@
 -- What puts one after another leave.
-use Rattle.std.proofs.Common.{◌≡◌, ℕ, ◌+◌, ◌++◌, ◌-◌, ◌≤◌, List, length, take, drop, take_all, Option, Some, None, Ok, Err, refl, sym, ap, ◌∙◌, append_assoc, length-drop, arith}
+use Rattle.std.proofs.Common.{◌≡◌, ℕ, ◌+◌, ◌++◌, ◌-◌, ◌≤◌, List, length, take, drop, take_all, Option, Some, None, Ok, refl, sym, ap, ◌∙◌, append_assoc, length-drop, arith}
 use Rattle.std.proofs.Math.Seq.{take-add}
 use Rattle.ss_outside.specs.Sink.{Appends}
-use Rattle.ss_outside.specs.declared.source.Failed.{Failed}
 use Rattle.summarystore.specs.Progress.{appended}
 
 appends : (held after : Option (List ℕ)) (piece : List ℕ) (k : ℕ) → Appends held after (Ok k) piece → after ≡ appended held (take k piece)
@@ -30,8 +29,3 @@ appended_more before held after text sent k is more =
 -- and it is no longer than the rest
 pub fits_more : (text : List ℕ) (sent k : ℕ) → sent ≤ length text → k ≤ length (take (length text - sent) (drop sent text)) → sent + k ≤ length text
 fits_more text sent k within part = let short = ap (λ (s : List ℕ). length s) (rest-slice text sent) in omega (arith, length-drop sent text)
-
--- a put that fails appends nothing
-pub appended_failed : (held after : Option (List ℕ)) (e : Failed) (piece : List ℕ) → Appends held after (Err e) piece → after ≡ held
-appended_failed None after e piece is = is
-appended_failed (Some bytes) after e piece is = is

@@ -2,7 +2,7 @@
 use Rattle.std.proofs.Common.{◌≡◌, ℕ, ◌+◌, ◌<◌, ◌++◌, List, [], ◌∷◌, length, min, take, take_all, Bool, true, false, Option, Some, None, Ok, refl, sym, ap, ◌∙◌, subst, ℤ, leb, inl, inr, arith, IsSome, IsErrOf, ◌↔◌}
 use Rattle.ss_command.specs.declared.TheConstants.{LONGEST_LINE}
 use Rattle.std.specs.List.{flat_map}
-use Rattle.std.proofs.Math.Seq.{take-append-add, take-append_seam}
+use Rattle.std.proofs.Math.Seq.{take-append-add}
 use Rattle.std.proofs.lemmas.Bool.{cond-true, cond-false, cases_lt, le-leb, lt-leb}
 use Rattle.std.proofs.lemmas.List.{append-nil, take-append-le}
 use Rattle.std.proofs.lemmas.Grind.{flat_map-append}
@@ -126,10 +126,6 @@ AppendsFront-behind before held after a b is part = (
   part.1 ∙ ap (λ o. appended o (take part.0 b)) is ∙ appended-appended before a (take part.0 b)
       ∙ ap (λ bs. appended before bs) (sym (take-append-add a b part.0)),
 )
-
--- all of a front is a front
-pub AppendsFront-whole : (before after : Option (List ℕ)) (a b : List ℕ) → after ≡ appended before a → AppendsFront before after (a ++ b)
-AppendsFront-whole before after a b is = (length a, is ∙ ap (λ bs. appended before bs) (sym (take-append_seam a b)))
 
 -- a line that ended too long isn't kept
 pub not_whole : (ended : Ended) (line : Option (List ℕ)) → ended ≡ TooLong → ((ended ≡ Whole) ↔ IsSome line) → None ≡ line
