@@ -12,6 +12,7 @@ use Rattle.ss_journal.specs.declared.phase.Phase.TheVariants.{Born, Settled, Sto
 use Rattle.ss_journal.specs.declared.phase.Phase.{Phase}
 use Rattle.ss_journal.specs.declared.put.Put.{Put}
 use Rattle.ss_journal.proofs.GateLemmas.{file_map-first_closed}
+use Rattle.ss_journal.proofs.HeaderLemmas.{is_born-parts}
 use Rattle.ss_journal.proofs.MapLemmas.{SameMap-refl}
 use Rattle.ss_journal.proofs.PutLemmas.{below_extent, extent_after-most, is_put-none, le-extent_after, past_extent, with_puts-beside}
 use Rattle.ss_journal.proofs.RedoLemmas.{StandsFor-from, puts_in_use-unborn, redo-born, redo-first_closed, redo-unborn}
@@ -116,6 +117,7 @@ module _ (journal : JournalState) (content : List ℕ) (settled : journal.phase 
   pub IsReady-settled : (puts : List Put) → IsTrue (slots_fit puts journal.extent) → IsReady puts content
   IsReady-settled puts fit = record {
     born = formed.0;
+    long = (is_born-parts content formed.0).0;
     closed = formed.1;
     fit = subst (λ (n : ℕ). IsTrue (slots_fit puts n)) extent-settled fit;
   }

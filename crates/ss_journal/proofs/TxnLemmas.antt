@@ -15,7 +15,7 @@ use Rattle.ss_journal.specs.Writes.{DiffersAt, SameOthers, end_of}
 use Rattle.ss_journal.specs.declared.put.Put.{Put}
 use Rattle.ss_journal.proofs.EntryLemmas.{is_good-body, length-entry_body, puts_of-body}
 use Rattle.ss_journal.proofs.GateLemmas.{StandsFor-body, StandsFor-first_closed, file_map-first_closed}
-use Rattle.ss_journal.proofs.HeaderLemmas.{is_born-parts, is_born-same}
+use Rattle.ss_journal.proofs.HeaderLemmas.{is_born-same}
 use Rattle.ss_journal.proofs.MapLemmas.{SameMap-refl, SameMap-trans, changed-same, file_map-same}
 use Rattle.ss_journal.proofs.PrefixLemmas.{open_prefix-open, open_prefix-second}
 use Rattle.ss_journal.proofs.RangeLemmas.{DiffersIn-overwrite, get_or-differs, length-differs}
@@ -41,20 +41,17 @@ module _ (puts : List Put) (content image : List ℕ) (found : SlotMap) (whole :
   abbrev ranges : List (ℕ × ℕ)
   ranges = (512, 1) ∷ []
 
-  long : 36864 ≤ length content
-  long = (is_born-parts content ready.born).0
-
   within : 513 ≤ length content
-  within = omega (arith, long)
+  within = omega (arith, ready.long)
 
   size : length body ≡ 543
   size = length-entry_body puts whole txn.few
 
   length-written : length (overwrite content 513 body) ≡ length content
-  length-written = omega (arith, long, size, length-overwrite content body 513 within)
+  length-written = omega (arith, ready.long, size, length-overwrite content body 513 within)
 
   inside : end_of ranges (length (overwrite content 513 body)) ≤ length (overwrite content 513 body)
-  inside = omega (arith, length-written, long)
+  inside = omega (arith, length-written, ready.long)
 
   length-image : length image ≡ length content
   length-image = length-differs ranges (overwrite content 513 body) image inside differs ∙ length-written
@@ -77,7 +74,7 @@ module _ (puts : List Put) (content image : List ℕ) (found : SlotMap) (whole :
 
   module _ (opened : IsTrue (opens (slice_index image 512))) where
     entry-image : entry_at image 0 ≡ 165 ∷ entry_body puts
-    entry-image = entry-first_is image body 165 (omega (arith, long, length-image)) size (eqb-true (slice_index image 512) 165 opened)
+    entry-image = entry-first_is image body 165 (omega (arith, ready.long, length-image)) size (eqb-true (slice_index image 512) 165 opened)
         (λ k lt. at_body (513 + k) (inr (omega arith)) ∙ get_or-overwrite_inside content body 513 within k (omega (arith, lt, size)))
 
     prefix-image : open_prefix (entries image) ≡ (165 ∷ entry_body puts) ∷ []
@@ -117,7 +114,7 @@ module _ (puts : List Put) (content : List ℕ) (whole : AreWhole puts) (txn : I
   spelled = overwrite content 513 (entry_body puts)
 
   pub long-ready : 513 ≤ length content
-  long-ready = omega (arith, (is_born-parts content ready.born).0)
+  long-ready = omega (arith, ready.long)
 
   pub long-spelled : 513 ≤ length spelled
   long-spelled = omega (arith, long-ready, length-overwrite content (entry_body puts) 513 long-ready)

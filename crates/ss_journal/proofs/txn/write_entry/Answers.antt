@@ -9,9 +9,6 @@ use Rattle.ss_journal.proofs.RangeLemmas.{DiffersIn-overwrite}
 use Rattle.ss_journal.proofs.TearLemmas.{keeps-torn}
 use Rattle.ss_journal.proofs.txn.write_entry.Goals as goal
 
-pub write_through-requires-clause-within : goal.write_through-requires-clause-within
-write_through-requires-clause-within g c told = long-ready c.args.txn.now.items _ c.entry_of-entry.ensures.whole c.requires.txn (c.requires.ready told)
-
 pub returns-clause-written : goal.returns-clause-written
 returns-clause-written g c told =
     let body = body-entry c.args.txn.now.items c.entry_of-entry.result c.entry_of-entry.ensures.whole c.requires.txn.few c.entry_of-entry.ensures.value in
