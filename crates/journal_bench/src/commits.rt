@@ -1,8 +1,8 @@
 // Commits, one after another.
-ghost use Rattle.std.specs.Prelude.{◌≡◌, ◌+◌, ◌<◌, ◌≤◌, ◌%◌, ◌^◌, ℕ, min, IsTrue, IfOk, OnOk};
+ghost use Rattle.std.specs.Prelude.{◌≡◌, ◌+◌, ◌<◌, ◌≤◌, ◌%◌, ◌^◌, ℕ, min, Err, IsTrue, IfOk, OnOk};
 ghost use Rattle.ss_outside.specs.Causes.{HasCause};
 ghost use Rattle.ss_journal.specs.Calls.{BlamesDisk, ChangesMap};
-ghost use Rattle.ss_journal.specs.Kept.{IsKept, IsSettled};
+ghost use Rattle.ss_journal.specs.Kept.{IsKept, IsSettled, OpensAs};
 ghost use Rattle.ss_journal.specs.Puts.{IsTxn, slots_fit};
 ghost use Rattle.journal_bench.specs.Puts.{puts_from};
 
@@ -36,6 +36,9 @@ fn txn_of(first: u32, puts: u32, byte: u8) -> Txn
 pub fn start<D: Disk>(alloc: Global, disk: &mut D) -> Result<Journal, JournalError>
     ensures settled { IfOk result (λ journal. IsSettled journal) }
     ensures one_disk { IsTrue (D.tells disk.old) → IfOk result (λ journal. IsKept journal (D.told disk.new).content) }
+    // A file is refused as opening refuses it.
+    ensures refused { IsTrue (D.tells disk.old) → (error : JournalError) → result ≡ Err error
+        → OpensAs (D.told disk.old).content (Err error) }
     ensures cause { BlamesDisk (D.faults disk.old) (D.faults disk.new) result }
 {
     let mut journal = Journal::open(alloc, disk)?;
