@@ -1,12 +1,12 @@
 -- A number that is written at a place reads back, and what a write leaves.
-use Rattle.std.proofs.Common.{◌≡◌, ℕ, zero, suc, ◌⊎◌, ◌+◌, ◌-◌, ◌^◌, ◌<◌, ◌≤◌, List, [], ◌++◌, length, take, drop, arith, append_assoc, ap, ◌∙◌, refl}
+use Rattle.std.proofs.Common.{◌≡◌, ℕ, zero, suc, ◌⊎◌, ◌+◌, ◌-◌, ◌^◌, ◌<◌, ◌≤◌, List, [], ◌++◌, length, take, drop, arith, append_assoc, ap, sym, ◌∙◌, refl}
 use Rattle.std.proofs.lemmas.List.{append-nil, drop-drop, drop_all, drop_at, length-drop, length-take-le, places, take_rest}
 use Rattle.std.proofs.lemmas.Int.{to_z-of_z}
 use borrow.Rule.Slice.PartMut.{put_mid}
 use Rattle.std.specs.Prelude.{ℤ, pos, negsuc, FitsSigned, slice_index}
 use Rattle.std.specs.Int.{cast_signed, cast_unsigned, w64, w128}
 use Rattle.byteorder.specs.Endian.{big_from}
-use Rattle.byteorder.specs.Numbers.{big_number-reads_back, length-bytes_high_first}
+use Rattle.byteorder.specs.Numbers.{big_from-take, big_number-reads_back, length-bytes_high_first}
 use Rattle.ss_fields.specs.Fields.{number_at, number_bytes}
 
 -- there are n bytes
@@ -62,3 +62,21 @@ unfolding number_at
 number_at-written_beside n at m from x bytes inside beside =
     let long = length-number_bytes m x in
     big_from-same 0 n _ _ (λ k low high. grind (arith, places))
+
+-- where a number's bytes stand, it is read
+pub number_at-take : (n at x : ℕ) (bytes : List ℕ) → x < 256 ^ n → take n (drop at bytes) ≡ number_bytes n x → number_at n bytes at ≡ x
+unfolding number_at number_bytes
+number_at-take n at x bytes fits there =
+    sym (big_from-take 0 n n (drop at bytes) (omega arith))
+    ∙ ap (big_from 0 n) (there ∙ sym (append-nil (number_bytes n x)))
+    ∙ big_number-reads_back n x [] fits
+
+-- the same for an `i64`
+pub i64_at-take : (at : ℕ) (z : ℤ) (bytes : List ℕ) → FitsSigned w64 z → take 8 (drop at bytes) ≡ number_bytes 8 (cast_unsigned w64 z) → cast_signed w64 (number_at 8 bytes at) ≡ z
+i64_at-take at z bytes fits there =
+    ap (cast_signed w64) (number_at-take 8 at (cast_unsigned w64 z) bytes (cast_unsigned_w64-lt z fits) there) ∙ to_z-of_z w64 z fits
+
+-- the same for an `i128`
+pub i128_at-take : (at : ℕ) (z : ℤ) (bytes : List ℕ) → FitsSigned w128 z → take 16 (drop at bytes) ≡ number_bytes 16 (cast_unsigned w128 z) → cast_signed w128 (number_at 16 bytes at) ≡ z
+i128_at-take at z bytes fits there =
+    ap (cast_signed w128) (number_at-take 16 at (cast_unsigned w128 z) bytes (cast_unsigned_w128-lt z fits) there) ∙ to_z-of_z w128 z fits

@@ -68,7 +68,7 @@ signed_of-number word digits small =
     let plain : starts_with_minus word ≡ false = grind (arith, nat_tests) in
     rw (plain, number_up_to-number (2 ^ 63 - 1) word digits (omega arith)) refl
 
--- so is one behind a '-'
+-- so is one after a '-'
 pub signed_of-minus : (word : List ℕ) → is_number word ≡ true → number_of word ≤ 2 ^ 63 → signed_of (45 ∷ word) ≡ Ok (neg_ℤ (pos (number_of word)))
 unfolding signed_of
 signed_of-minus word digits small = rw (number_up_to-number (2 ^ 63) word digits small) refl

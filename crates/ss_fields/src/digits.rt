@@ -12,7 +12,7 @@ fn is_number(word: &[u8]) -> bool
     !word.is_empty() && word.iter().all(|byte| byte.is_ascii_digit())
 }
 
-// `value` with one more digit behind it.
+// `value` with one more digit after it.
 fn with_digit(value: u64, digit: u8) -> Option<u64>
     requires low { 48 ≤ digit }
     requires high { digit ≤ 57 }

@@ -30,7 +30,7 @@ fn negative(magnitude: u64) -> i64
     magnitude.wrapping_neg().cast_signed()
 }
 
-// Reads the digits behind a `-`.
+// Reads the digits after a `-`.
 fn read_negative(digits: &[u8]) -> Result<i64, NumberError>
     ensures { result ≡ as_negative (number_up_to (2 ^ 63) digits.now) }
 {

@@ -1,5 +1,6 @@
 use super::*;
 use arrayvec::ArrayString;
+use std::test::Fail;
 
 #[test]
 fn words_read_as_numbers_without_sign(rt: HostRuntime) {
@@ -39,7 +40,7 @@ fn words_read_as_signed_numbers(rt: HostRuntime) {
 }
 
 #[test]
-fn numbers_print_behind_a_text(rt: HostRuntime) {
+fn numbers_print_after_a_text(rt: HostRuntime) {
     let mut out = ArrayString::<256>::new();
     out.push_str("max ");
     print_u64(u64::MAX, &mut out);
@@ -50,7 +51,7 @@ fn numbers_print_behind_a_text(rt: HostRuntime) {
 }
 
 #[test]
-fn signed_numbers_print_behind_a_text(rt: HostRuntime) {
+fn signed_numbers_print_after_a_text(rt: HostRuntime) {
     for (value, want) in [(-1, "z-1"), (i64::MIN, "z-9223372036854775808")] {
         let mut out = ArrayString::<256>::new();
         out.push('z');
@@ -60,7 +61,7 @@ fn signed_numbers_print_behind_a_text(rt: HostRuntime) {
 }
 
 #[test]
-fn wide_numbers_print_behind_a_text(rt: HostRuntime) {
+fn wide_numbers_print_after_a_text(rt: HostRuntime) {
     let rows = [
         (i128::MIN, "z-170141183460469231731687303715884105728"),
         (i128::MAX, "z170141183460469231731687303715884105727"),
@@ -97,4 +98,16 @@ fn signed_fields_are_written_and_read(rt: HostRuntime) {
     put_i128(&mut bytes, 0, 11);
     assert_eq!(rt; bytes, [0, 0, 0, 0, 0, 0, 0, 0, 0, 0, 0, 0, 0, 0, 0, 11]);
     assert_eq!(rt; get_i128(&bytes, 0), 11);
+}
+
+#[test]
+fn errors_say_why(rt: HostRuntime) -> Result<(), Fail> {
+    let rows = [
+        (NumberError::NotNumber, "not a number"),
+        (NumberError::OutOfRange, "number out of range"),
+    ];
+    for (error, text) in rows {
+        assert_eq!(rt; error.to_string(rt.alloc())?.as_str(), text);
+    }
+    Ok(())
 }

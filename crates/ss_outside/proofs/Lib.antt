@@ -4,3 +4,4 @@ pub mod MemDiskCalls
 pub mod MemDiskLemmas
 pub mod MemDiskTime
 pub mod PastLemmas
+mod Rows

@@ -7,23 +7,23 @@ use Rattle.ss_outside.proofs.MemDiskTime.{time_push}
 use Rattle.ss_outside.proofs.PastLemmas.{replay-append}
 use Rattle.ss_outside.specs.Crash.{Elapses}
 use Rattle.ss_outside.specs.Disk.{overwrite, IsImage, BecomesPending, StaysSame, NothingPending}
-use Rattle.ss_outside.specs.MemDisk.{DiskCall, Wrote, Tore, Synced, DiskState, MemDiskState, fresh, pend, step, now, Leaves, told_by, IsListed, IsSound, answered, failed, starved, changed}
+use Rattle.ss_outside.specs.MemDisk.{DiskCall, Wrote, Tore, Synced, DiskState, MemDiskState, fresh, pend, step, now, Leaves, told_by, IsListed, IsConsistent, answered, failed, starved, with_change}
 use Rattle.ss_outside.specs.declared.source.Failed.{Failed}
 
-stepped : (s : MemDiskState) (call : DiskCall) → now (changed s call) ≡ step (now s) call
+stepped : (s : MemDiskState) (call : DiskCall) → now (with_change s call) ≡ step (now s) call
 stepped s call = replay-append (fresh s.start) s.changes (call ∷ [])
 
 -- each image is one of the disk model
-in_model : (s : DiskState) → IsSound s → (image : List ℕ) → Leaves s image → IsImage s.synced s.pending s.longest image
+in_model : (s : DiskState) → IsConsistent s → (image : List ℕ) → Leaves s image → IsImage s.synced s.pending s.longest image
 in_model s sound image (inl same) = subst (IsImage s.synced s.pending s.longest) (sym same) sound.own
 in_model s sound image (inr model) = model
 
 module _ (old new : MemDiskState) where
   module _ (at : ℕ) (bytes : List ℕ) where
-    pub content_written : new ≡ changed (answered old) (Wrote at bytes) → (told_by new).content ≡ overwrite (told_by old).content at bytes
+    pub content_written : new ≡ with_change (answered old) (Wrote at bytes) → (told_by new).content ≡ overwrite (told_by old).content at bytes
     content_written is = ap (λ (s : DiskState). s.content) (ap now is ∙ stepped (answered old) (Wrote at bytes))
 
-    pends : (content : List ℕ) → IsSound (now old) → IsSound (now new) → now new ≡ pend (now old) at (length bytes) content
+    pends : (content : List ℕ) → IsConsistent (now old) → IsConsistent (now new) → now new ≡ pend (now old) at (length bytes) content
         → BecomesPending at (length bytes) (told_by old) (told_by new)
     pends content sound_old sound_new is = let s = now old in record {
       nothing_else = λ image left.
@@ -35,26 +35,26 @@ module _ (old new : MemDiskState) where
           inr (subst (λ (t : DiskState). IsImage t.synced t.pending t.longest image) (sym is) model);
     }
 
-    pub pending_written : IsSound (now old) → IsSound (now new) → (result : Result (Unit {0}) Failed) → OnOk result (new ≡ changed (answered old) (Wrote at bytes))
-        → OnErr result ((IsListed old × (new ≡ changed (failed old) (Tore at (length bytes)))) ⊎ (new ≡ starved old))
+    pub pending_written : IsConsistent (now old) → IsConsistent (now new) → (result : Result (Unit {0}) Failed) → OnOk result (new ≡ with_change (answered old) (Wrote at bytes))
+        → OnErr result ((IsListed old × (new ≡ with_change (failed old) (Tore at (length bytes)))) ⊎ (new ≡ starved old))
         → BecomesPending at (length bytes) (told_by old) (told_by new) ⊎ (IsErr result × StaysSame (told_by old) (told_by new))
     pending_written sound_old sound_new (Ok done) is none = inl (pends _ sound_old sound_new (ap now is ∙ stepped (answered old) (Wrote at bytes)))
     pending_written sound_old sound_new (Err e) none (inl tore) = inl (pends _ sound_old sound_new (ap now tore.1 ∙ stepped (failed old) (Tore at (length bytes))))
     pending_written sound_old sound_new (Err e) none (inr short) = inr (refl, subst (λ (s : MemDiskState). StaysSame (told_by old) (told_by s)) (sym short) (reads-none (told_by old)).same)
 
-    pub time_written : (result : Result (Unit {0}) Failed) → OnOk result (new ≡ changed (answered old) (Wrote at bytes))
-        → OnErr result ((IsListed old × (new ≡ changed (failed old) (Tore at (length bytes)))) ⊎ (new ≡ starved old)) → Elapses (told_by old) (told_by new)
+    pub time_written : (result : Result (Unit {0}) Failed) → OnOk result (new ≡ with_change (answered old) (Wrote at bytes))
+        → OnErr result ((IsListed old × (new ≡ with_change (failed old) (Tore at (length bytes)))) ⊎ (new ≡ starved old)) → Elapses (told_by old) (told_by new)
     time_written (Ok done) is none = subst (λ (s : MemDiskState). Elapses (told_by old) (told_by s)) (sym is) (time_push old (Wrote at bytes))
     time_written (Err e) none (inl tore) = subst (λ (s : MemDiskState). Elapses (told_by old) (told_by s)) (sym tore.1) (time_push old (Tore at (length bytes)))
     time_written (Err e) none (inr short) = subst (λ (s : MemDiskState). Elapses (told_by old) (told_by s)) (sym short) (reads-none (told_by old)).time
 
-  pub time_synced : (result : Result (Unit {0}) Failed) → OnOk result (¬ IsListed old × (new ≡ changed (answered old) Synced))
+  pub time_synced : (result : Result (Unit {0}) Failed) → OnOk result (¬ IsListed old × (new ≡ with_change (answered old) Synced))
       → OnErr result ((IsListed old × (new ≡ failed old)) ⊎ (¬ IsListed old × (new ≡ starved old))) → Elapses (told_by old) (told_by new)
   time_synced (Ok done) is none = subst (λ (s : MemDiskState). Elapses (told_by old) (told_by s)) (sym is.1) (time_push old Synced)
   time_synced (Err e) none (inl listed) = subst (λ (s : MemDiskState). Elapses (told_by old) (told_by s)) (sym listed.1) (reads-none (told_by old)).time
   time_synced (Err e) none (inr short) = subst (λ (s : MemDiskState). Elapses (told_by old) (told_by s)) (sym short.1) (reads-none (told_by old)).time
 
-  pub state_synced : (result : Result (Unit {0}) Failed) → OnOk result (¬ IsListed old × (new ≡ changed (answered old) Synced))
+  pub state_synced : (result : Result (Unit {0}) Failed) → OnOk result (¬ IsListed old × (new ≡ with_change (answered old) Synced))
       → OnErr result ((IsListed old × (new ≡ failed old)) ⊎ (¬ IsListed old × (new ≡ starved old))) → MatchResult result (λ _. now new ≡ fresh (now old).content) (λ _. now new ≡ now old)
   state_synced (Ok done) is none = ap now is.1 ∙ stepped (answered old) Synced
   state_synced (Err e) none (inl listed) = ap now listed.1

@@ -1,7 +1,7 @@
 -- How time goes on at a disk in memory.
 use Rattle.std.proofs.Common.{◌⊎◌, inl, inr, ⊎_elim, ℕ, zero, suc, ◌≤◌, List, [], ◌∷◌, ◌++◌, length, arith, length-append}
 use Rattle.ss_outside.specs.Crash.{Elapses}
-use Rattle.ss_outside.specs.MemDisk.{DiskCall, DiskState, MemDiskState, fresh, step, replay, changed, told_by, Leaves, LeftSince}
+use Rattle.ss_outside.specs.MemDisk.{DiskCall, DiskState, MemDiskState, fresh, step, replay, with_change, told_by, Leaves, LeftSince}
 
 left_push : (s : DiskState) (calls : List DiskCall) (call : DiskCall) (t : ℕ) (image : List ℕ) → t ≤ length calls
     → LeftSince s (calls ++ call ∷ []) t image → LeftSince s calls t image ⊎ Leaves (replay s (calls ++ call ∷ [])) image
@@ -20,7 +20,7 @@ push_keeps s (c ∷ calls) call zero image le (inr left) = inr (push_keeps (step
 push_keeps s (c ∷ calls) call (suc t) image le left = push_keeps (step s c) calls call t image (omega arith) left
 
 -- a call that changed something
-pub time_push : (s : MemDiskState) (call : DiskCall) → Elapses (told_by s) (told_by (changed s call))
+pub time_push : (s : MemDiskState) (call : DiskCall) → Elapses (told_by s) (told_by (with_change s call))
 time_push s call = record {
   later = omega (arith, length-append s.changes (call ∷ []));
   nothing_else = left_push (fresh s.start) s.changes call;

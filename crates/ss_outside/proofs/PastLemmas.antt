@@ -1,13 +1,13 @@
 -- How a disk in memory goes on from call to call.
-use Rattle.std.proofs.Common.{◌≡◌, ◌⊎◌, inl, inr, ℕ, zero, suc, ◌+◌, ◌<◌, ◌≤◌, max, List, [], ◌∷◌, ◌++◌, length, get_or, map, take, drop, refl, sym, ◌∙◌, ap, subst, arith}
+use Rattle.std.proofs.Common.{◌≡◌, ◌⊎◌, inl, inr, ℕ, zero, suc, ◌+◌, ◌<◌, ◌≤◌, max, List, [], ◌∷◌, ◌++◌, length, length-append, add-zero, get_or, map, filter, take, drop, refl, sym, ◌∙◌, ap, subst, arith}
 use Rattle.std.specs.Prelude.{All}
 use Rattle.std.proofs.lemmas.Bool.{cases_lt}
 use Rattle.std.proofs.lemmas.List.{take-append-le, drop-append-le, take_all, drop_at, take_more, get_or-map, length-map, length_push, length-take-le, length-drop, map_push, drop_all}
-use Rattle.std.proofs.lemmas.List.Elements.{All-head, All-tail}
+use Rattle.std.proofs.lemmas.List.Elements.{All-head, All-tail, filter-append}
 use Rattle.ss_outside.specs.Disk.{IsOutside}
-use Rattle.ss_outside.specs.MemDisk.{DiskCall, Wrote, Tore, Synced, DiskState, fresh, pend, step, replay}
+use Rattle.ss_outside.specs.MemDisk.{DiskCall, Wrote, Tore, Synced, DiskState, fresh, good_syncs, is_sync, pend, step, replay}
 use Rattle.ss_outside.specs.Choice.{IsFree, IsFilled}
-use Rattle.ss_outside.specs.Past.{call_of, IsKept, AreWrites, IsSettled}
+use Rattle.ss_outside.specs.Past.{call_of, LiesWithin, AreWrites, CountsToSync}
 use Rattle.ss_outside.specs.declared.past.Change.{Change}
 use Rattle.ss_outside.specs.declared.past.Change.TheVariants.{Bytes, Torn, Sync}
 use Rattle.ss_outside.proofs.DiskLemmas.{cases_place}
@@ -23,17 +23,17 @@ synced_no_longer s (Tore at count ∷ calls) short = synced_no_longer (step s (T
 synced_no_longer s (Synced ∷ calls) short = synced_no_longer (step s Synced) calls (omega arith)
 
 -- more bytes in the pool
-call_of-grown : (pool more : List ℕ) (change : Change) → IsKept (length pool) change → call_of (pool ++ more) change ≡ call_of pool change
+call_of-grown : (pool more : List ℕ) (change : Change) → LiesWithin (length pool) change → call_of (pool ++ more) change ≡ call_of pool change
 call_of-grown pool more (Bytes at from count) kept =
     ap (Wrote at) (ap (take count) (drop-append-le from pool more (omega (arith, kept.0))) ∙ take-append-le count (drop from pool) more (omega (arith, kept.0, length-drop from pool)))
 call_of-grown pool more (Torn at count) kept = refl
 call_of-grown pool more Sync kept = refl
 
-pub calls-grown : (pool more : List ℕ) (changes : List Change) → All (IsKept (length pool)) changes → map (call_of (pool ++ more)) changes ≡ map (call_of pool) changes
+pub calls-grown : (pool more : List ℕ) (changes : List Change) → All (LiesWithin (length pool)) changes → map (call_of (pool ++ more)) changes ≡ map (call_of pool) changes
 calls-grown pool more [] kept = refl
-calls-grown pool more (change ∷ changes) kept = λ i. call_of-grown pool more change (All-head (IsKept (length pool)) change changes kept) i ∷ calls-grown pool more changes (All-tail (IsKept (length pool)) change changes kept) i
+calls-grown pool more (change ∷ changes) kept = λ i. call_of-grown pool more change (All-head (LiesWithin (length pool)) change changes kept) i ∷ calls-grown pool more changes (All-tail (LiesWithin (length pool)) change changes kept) i
 
-pub calls-push : (pool bytes : List ℕ) (changes : List Change) (at from : ℕ) → from ≡ length pool → All (IsKept (length pool)) changes
+pub calls-push : (pool bytes : List ℕ) (changes : List Change) (at from : ℕ) → from ≡ length pool → All (LiesWithin (length pool)) changes
     → map (call_of (pool ++ bytes)) (changes ++ Bytes at from (length bytes) ∷ []) ≡ map (call_of pool) changes ++ Wrote at bytes ∷ []
 calls-push pool bytes changes at from end kept =
     map_push (call_of (pool ++ bytes)) changes _ ∙ (λ i. calls-grown pool bytes changes kept i ++ Wrote at (here i) ∷ [])
@@ -52,7 +52,7 @@ synced-write s (Wrote at bytes) is = refl
 synced-write s (Tore at count) is = refl
 synced-write s Synced is = absurd is
 
-pub settled_sync : (calls : List DiskCall) → IsSettled (length calls + 1) (calls ++ Synced ∷ [])
+pub settled_sync : (calls : List DiskCall) → CountsToSync (length calls + 1) (calls ++ Synced ∷ [])
 settled_sync calls = record {
   within = omega (arith, length_push calls Synced);
   since = subst AreWrites (sym (drop_all (length calls + 1) (calls ++ Synced ∷ []) (omega (arith, length_push calls Synced)))) tt;
@@ -61,7 +61,7 @@ settled_sync calls = record {
       ∙ ap (λ (s : DiskState). fresh s.synced) (sym (replay-append (fresh start) calls (Synced ∷ [])));
 }
 
-pub settled_write : (settled : ℕ) (calls : List DiskCall) (call : DiskCall) → IsSettled settled calls → AreWrites (call ∷ []) → IsSettled settled (calls ++ call ∷ [])
+pub settled_write : (settled : ℕ) (calls : List DiskCall) (call : DiskCall) → CountsToSync settled calls → AreWrites (call ∷ []) → CountsToSync settled (calls ++ call ∷ [])
 settled_write settled calls call is write = record {
   within = omega (arith, is.within, length_push calls call);
   since = subst AreWrites (sym (drop-append-le settled calls (call ∷ []) is.within)) (AreWrites-push (drop settled calls) call is.since write);
@@ -102,6 +102,11 @@ filled_more s byte old new at count content short is length_new same filled = re
     others place (inr above) (inr (inl within)) = absurd (omega (arith, above, within.1))
     others place out (inr (inr other)) = inr other
 
+-- the good syncs of one call more
+good_syncs-push : (calls : List DiskCall) (call : DiskCall) → good_syncs (calls ++ call ∷ []) ≡ good_syncs calls + good_syncs (call ∷ [])
+good_syncs-push calls call =
+    ap length (filter-append is_sync calls (call ∷ [])) ∙ length-append (filter is_sync calls) (filter is_sync (call ∷ []))
+
 -- one call more of those that a disk keeps
 module _ (pool : List ℕ) (changes : List Change) (calls : List DiskCall) (kept : map (call_of pool) changes ≡ calls) (k : ℕ) (lt : k < length changes) (d : Change) where
   calls_more : take (k + 1) calls ≡ take k calls ++ call_of pool (get_or changes k d) ∷ []
@@ -114,15 +119,28 @@ module _ (pool : List ℕ) (changes : List Change) (calls : List DiskCall) (kept
   replay_more s change is =
       ap (replay s) calls_more ∙ replay-append s (take k calls) (call_of pool (get_or changes k d) ∷ []) ∙ ap (λ (c : Change). step (replay s (take k calls)) (call_of pool c)) is
 
-  pub settled_more_sync : get_or changes k d ≡ Sync → IsSettled (k + 1) (take (k + 1) calls)
+  pub settled_more_sync : get_or changes k d ≡ Sync → CountsToSync (k + 1) (take (k + 1) calls)
   settled_more_sync is =
       let more : take (k + 1) calls ≡ take k calls ++ Synced ∷ [] = calls_more ∙ ap (λ (c : Change). take k calls ++ call_of pool c ∷ []) is in
       let size : length (take k calls) ≡ k = length-take-le k calls (omega (arith, lt, ap length kept, length-map changes (call_of pool))) in
-      subst (λ (l : List DiskCall). IsSettled (k + 1) l) (sym more) (subst (λ (n : ℕ). IsSettled (n + 1) (take k calls ++ Synced ∷ [])) size (settled_sync (take k calls)))
+      subst (λ (l : List DiskCall). CountsToSync (k + 1) l) (sym more) (subst (λ (n : ℕ). CountsToSync (n + 1) (take k calls ++ Synced ∷ [])) size (settled_sync (take k calls)))
 
-  pub settled_more_write : (settled : ℕ) → IsSettled settled (take k calls) → (get_or changes k d ≡ Sync → ⊥) → IsSettled settled (take (k + 1) calls)
+  pub syncs_more_sync : get_or changes k d ≡ Sync → good_syncs (take (k + 1) calls) ≡ good_syncs (take k calls) + 1
+  syncs_more_sync is = ap good_syncs (calls_more ∙ ap (λ (c : Change). take k calls ++ call_of pool c ∷ []) is) ∙ good_syncs-push (take k calls) Synced
+
+  pub syncs_more_write : (get_or changes k d ≡ Sync → ⊥) → good_syncs (take (k + 1) calls) ≡ good_syncs (take k calls)
+  syncs_more_write other =
+      ap good_syncs calls_more ∙ good_syncs-push (take k calls) (call_of pool (get_or changes k d))
+      ∙ ap (λ n. good_syncs (take k calls) + n) (none (get_or changes k d) other) ∙ add-zero (good_syncs (take k calls))
+    where
+      none : (change : Change) → (change ≡ Sync → ⊥) → good_syncs (call_of pool change ∷ []) ≡ 0
+      none (Bytes at from count) other = refl
+      none (Torn at count) other = refl
+      none Sync other = absurd (other refl)
+
+  pub settled_more_write : (settled : ℕ) → CountsToSync settled (take k calls) → (get_or changes k d ≡ Sync → ⊥) → CountsToSync settled (take (k + 1) calls)
   settled_more_write settled is other =
-      subst (λ (l : List DiskCall). IsSettled settled l) (sym calls_more) (settled_write settled (take k calls) (call_of pool (get_or changes k d)) is (write-unless_sync (get_or changes k d) other))
+      subst (λ (l : List DiskCall). CountsToSync settled l) (sym calls_more) (settled_write settled (take k calls) (call_of pool (get_or changes k d)) is (write-unless_sync (get_or changes k d) other))
     where
       write-unless_sync : (change : Change) → (change ≡ Sync → ⊥) → AreWrites (call_of pool change ∷ [])
       write-unless_sync (Bytes at from count) other = tt

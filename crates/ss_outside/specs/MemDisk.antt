@@ -1,5 +1,5 @@
 -- A disk in memory, as its calls tell it.
-use Rattle.std.specs.Prelude.{◌≡◌, ◌⊎◌, ℕ, zero, suc, ◌+◌, ◌≤◌, max, List, [], ◌∷◌, ◌++◌, length, Option, None, Contains, IsSomeAnd, refl}
+use Rattle.std.specs.Prelude.{◌≡◌, ◌⊎◌, ℕ, zero, suc, ◌+◌, ◌≤◌, max, Bool, true, false, List, [], ◌∷◌, ◌++◌, length, filter, Option, None, Contains, IsSomeAnd, refl}
 use mathlib.Core.Logic.{inl, inr}
 use Rattle.ss_outside.specs.Crash.{KnowsNow}
 use Rattle.ss_outside.specs.Disk.{Told, overwrite, IsImage, AreBytes}
@@ -10,6 +10,16 @@ pub data DiskCall : Type 0 where
   Wrote : ℕ → List ℕ → DiskCall
   Tore : ℕ → ℕ → DiskCall
   Synced : DiskCall
+
+-- whether a call is a good sync
+abbrev pub is_sync : DiskCall → Bool
+is_sync (Wrote at bytes) = false
+is_sync (Tore at count) = false
+is_sync Synced = true
+
+-- how many of these calls are good syncs
+abbrev pub good_syncs : List DiskCall → ℕ
+good_syncs calls = length (filter is_sync calls)
 
 -- the content now, the content at the last good sync, and since then the ranges that became pending and the greatest
 -- length reached
@@ -49,7 +59,7 @@ LeftSince s (call ∷ calls) zero image = Leaves s image ⊎ LeftSince (step s c
 LeftSince s (call ∷ calls) (suc t) image = LeftSince (step s call) calls t image
 
 -- what contracts see of a disk in memory: what it held when it was made, the calls since that changed something, the
--- listed calls, the first of those that fail all, and how many calls were made, failed, and failed for want of memory
+-- listed calls, the first of those that fail all, and how many calls were made, failed, and failed because memory ran out
 pub record MemDiskState : Type 0 where
   pub start : List ℕ
   pub changes : List DiskCall
@@ -71,7 +81,7 @@ now s = replay (fresh s.start) s.changes
 abbrev pub IsListed : MemDiskState → Type 0
 IsListed s = Contains s.failing s.calls ⊎ IsSomeAnd s.stop (λ first. first ≤ s.calls)
 
--- after a call that answered, one that failed, and one that failed for want of memory
+-- after a call that answered, one that failed, and one that failed because memory ran out
 abbrev pub answered : MemDiskState → MemDiskState
 answered s = record s { calls = one_more s.calls }
 
@@ -82,8 +92,8 @@ abbrev pub starved : MemDiskState → MemDiskState
 starved s = record s { calls = one_more s.calls; faults = one_more s.faults; short = one_more s.short }
 
 -- the same with one change more
-abbrev pub changed : MemDiskState → DiskCall → MemDiskState
-changed s call = record s { changes = s.changes ++ call ∷ [] }
+abbrev pub with_change : MemDiskState → DiskCall → MemDiskState
+with_change s call = record s { changes = s.changes ++ call ∷ [] }
 
 -- what it tells
 abbrev pub told_by : MemDiskState → Told
@@ -95,7 +105,7 @@ told_by s = record {
 }
 
 -- what every disk in memory keeps: it synced bytes, and its content is an image of the disk model
-pub record IsSound (s : DiskState) : Type 0 where
+pub record IsConsistent (s : DiskState) : Type 0 where
   pub bytes : AreBytes s.synced
   pub short : length s.synced ≤ s.longest
   pub own : IsImage s.synced s.pending s.longest s.content

@@ -9,7 +9,7 @@ pub record SourceState : Type 0 where
   pub calls : ℕ
   pub faults : ℕ
 
--- a sink: the bytes held, the listed puts, and how many puts were made, failed, and failed for want of memory
+-- a sink: the bytes held, the listed puts, and how many puts were made, failed, and failed because memory ran out
 pub record SinkState : Type 0 where
   pub held : List ℕ
   pub failing : List ℕ

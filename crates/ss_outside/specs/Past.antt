@@ -12,10 +12,10 @@ call_of pool (Torn at count) = Tore at count
 call_of pool Sync = Synced
 
 -- its bytes lie in a pool of this size, and it ends within the longest disk
-abbrev pub IsKept : ℕ → Change → Type 0
-IsKept size (Bytes at from count) = (from + count ≤ size) × (at + count ≤ LONGEST_DISK)
-IsKept size (Torn at count) = at + count ≤ LONGEST_DISK
-IsKept size Sync = ⊤
+abbrev pub LiesWithin : ℕ → Change → Type 0
+LiesWithin size (Bytes at from count) = (from + count ≤ size) × (at + count ≤ LONGEST_DISK)
+LiesWithin size (Torn at count) = at + count ≤ LONGEST_DISK
+LiesWithin size Sync = ⊤
 
 -- none of the calls is a sync
 abbrev pub AreWrites : List DiskCall → Type 0
@@ -25,7 +25,7 @@ AreWrites (Tore at count ∷ calls) = AreWrites calls
 AreWrites (Synced ∷ calls) = ⊥
 
 -- so many of the calls came up to the last good sync
-pub record IsSettled (settled : ℕ) (calls : List DiskCall) : Type 0 where
+pub record CountsToSync (settled : ℕ) (calls : List DiskCall) : Type 0 where
   pub within : settled ≤ length calls
   pub since : AreWrites (drop settled calls)
   -- nothing was pending then

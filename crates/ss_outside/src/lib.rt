@@ -18,6 +18,4 @@ pub use sink::Sink;
 pub use source::{Failed, Source};
 
 #[cfg(test)]
-mod mem_disk_tests;
-#[cfg(test)]
 mod tests;

@@ -28,7 +28,7 @@ pub struct MemDisk {
     // The numbers of the calls that fail, and the number from which on all fail.
     failing: Vec<u64>,
     stop: Option<u64>,
-    // How many calls were made, how many of them failed, and how many of those for want of memory.
+    // How many calls were made, how many of them failed, and how many of those because memory ran out.
     calls: u64,
     faults: u64,
     short: u64,
@@ -36,7 +36,7 @@ pub struct MemDisk {
 
 impl Model for MemDisk {
     ghost use Rattle.std.specs.Prelude.{◌≡◌};
-    ghost use Rattle.ss_outside.specs.MemDisk.{MemDiskState, IsSound, fresh, replay};
+    ghost use Rattle.ss_outside.specs.MemDisk.{MemDiskState, IsConsistent, fresh, replay};
 
     ghost Value = { MemDiskState };
 
@@ -50,19 +50,21 @@ impl Model for MemDisk {
       short = s.short;
     } };
 
-    ghost invariant = { λ s. let state = replay (fresh s.start.items) s.past in (s.bytes.items ≡ state.content) × IsSound state };
+    ghost invariant = { λ s. let state = replay (fresh s.start.items) s.past in (s.bytes.items ≡ state.content) × IsConsistent state };
 }
 
 impl MemDisk {
     ghost use Rattle.std.specs.Prelude.{◌≡◌, ◌⊎◌, ◌+◌, ◌≤◌, ◌↔◌, length, Some, IsErr, IfOk, OnOk, OnErr};
     ghost use Rattle.ss_outside.specs.Causes.{HasCause};
     ghost use Rattle.ss_outside.specs.Choice.{IsChosen};
-    ghost use Rattle.ss_outside.specs.MemDisk.{Wrote, Tore, Synced, made, now, Leaves, IsListed, IsSound, answered, failed, starved, changed};
+    ghost use Rattle.ss_outside.specs.Disk.{NothingPending};
+    ghost use Rattle.ss_outside.specs.MemDisk.{Wrote, Tore, Synced, made, now, good_syncs, told_by, Leaves, IsListed, IsConsistent, answered, failed, starved, with_change};
 
     /// A disk that holds these bytes, with nothing pending and no call listed as failing. It takes memory for a copy of
     /// them.
     pub fn new(alloc: Global, content: Vec<u8>) -> Result<MemDisk, AllocError>
-        ensures { IfOk result (λ disk. disk ≡ made content.items) }
+        ensures made { IfOk result (λ disk. disk ≡ made content.items) }
+        ensures nothing_pending { IfOk result (λ disk. NothingPending (told_by disk)) }
     {
         let start = content.as_slice().to_vec(alloc)?;
         Ok(MemDisk {
@@ -107,7 +109,14 @@ impl MemDisk {
         self.calls
     }
 
-    /// How many calls failed for want of memory, a number of 64 bits that stands still at its greatest.
+    /// How many syncs answered `Ok`.
+    pub fn syncs(&self) -> u64
+        ensures { result ≡ good_syncs self.now.changes }
+    {
+        self.past.syncs()
+    }
+
+    /// How many calls failed because memory ran out, a number of 64 bits that stands still at its greatest.
     pub fn short(&self) -> u64
         ensures { result ≡ self.now.short }
     {
@@ -120,6 +129,7 @@ impl MemDisk {
         ensures made { IfOk result (λ disk. disk ≡ made (now disk).content) }
         ensures chosen { IfOk result (λ disk. IsChosen choice (now self.now) (now disk).content) }
         ensures may_leave { IfOk result (λ disk. Leaves (now self.now) (now disk).content) }
+        ensures nothing_pending { IfOk result (λ disk. NothingPending (told_by disk)) }
     {
         let image = match choice {
             Choice::Kept => self.bytes.as_slice().to_vec(self.alloc)?,
@@ -135,7 +145,7 @@ impl MemDisk {
         ensures answered { OnOk result (self.new ≡ answered self.old) }
         ensures failed { OnErr result (self.new ≡ failed self.old) }
         ensures cause { HasCause self.old.faults self.new.faults result }
-        ensures sound { IsSound (now self.old) }
+        ensures sound { IsConsistent (now self.old) }
     {
         let call = self.calls;
         self.calls = call.saturating_add(1);
@@ -151,12 +161,12 @@ impl MemDisk {
         requires within { at ≤ length (now self.old).content }
         requires end { at + length bytes.now ≤ LONGEST_DISK }
         ensures listed { IsListed self.old → IsErr result }
-        ensures wrote { OnOk result (self.new ≡ changed (answered self.old) (Wrote at bytes.now)) }
+        ensures wrote { OnOk result (self.new ≡ with_change (answered self.old) (Wrote at bytes.now)) }
         ensures failed { OnErr result
-            ((IsListed self.old × (self.new ≡ changed (failed self.old) (Tore at (length bytes.now)))) ⊎ (self.new ≡ starved self.old)) }
+            ((IsListed self.old × (self.new ≡ with_change (failed self.old) (Tore at (length bytes.now)))) ⊎ (self.new ≡ starved self.old)) }
         ensures cause { HasCause self.old.faults self.new.faults result }
-        ensures sound_before { IsSound (now self.old) }
-        ensures sound { IsSound (now self.new) }
+        ensures sound_before { IsConsistent (now self.old) }
+        ensures sound { IsConsistent (now self.new) }
     {
         if let Err(Failed) = self.begin() {
             if let Err(AllocError) = self.past.tear(at, bytes.len()) {
@@ -173,13 +183,13 @@ impl MemDisk {
     }
 
     // Makes one sync.
-    fn settle(&mut self) -> Result<(), Failed>
-        ensures synced { OnOk result (¬ IsListed self.old × (self.new ≡ changed (answered self.old) Synced)) }
+    fn make_sync(&mut self) -> Result<(), Failed>
+        ensures synced { OnOk result (¬ IsListed self.old × (self.new ≡ with_change (answered self.old) Synced)) }
         ensures failed { OnErr result
             ((IsListed self.old × (self.new ≡ failed self.old)) ⊎ (¬ IsListed self.old × (self.new ≡ starved self.old))) }
         ensures cause { HasCause self.old.faults self.new.faults result }
-        ensures sound_before { IsSound (now self.old) }
-        ensures sound { IsSound (now self.new) }
+        ensures sound_before { IsConsistent (now self.old) }
+        ensures sound { IsConsistent (now self.new) }
     {
         self.begin()?;
         if let Err(AllocError) = self.past.sync() {
@@ -196,7 +206,7 @@ impl Disk for MemDisk {
     ghost use Rattle.ss_outside.specs.Causes.{HasCause};
     ghost use Rattle.ss_outside.specs.Crash.{Elapses, OnlyReads};
     ghost use Rattle.ss_outside.specs.Disk.{overwrite, IsReadFrom, BecomesPending, StaysSame, NothingPending};
-    ghost use Rattle.ss_outside.specs.MemDisk.{Wrote, Tore, Synced, told_by, knows_now, IsListed, answered, failed, starved, changed};
+    ghost use Rattle.ss_outside.specs.MemDisk.{Wrote, Tore, Synced, told_by, knows_now, IsListed, answered, failed, starved, with_change};
 
     ghost tells = { λ s. true };
 
@@ -245,9 +255,9 @@ impl Disk for MemDisk {
         ensures time { Elapses (told_by self.old) (told_by self.new) }
         ensures cause { HasCause self.old.faults self.new.faults result }
         ensures listed { IsListed self.old → IsErr result }
-        ensures wrote { OnOk result (self.new ≡ changed (answered self.old) (Wrote at bytes.now)) }
+        ensures wrote { OnOk result (self.new ≡ with_change (answered self.old) (Wrote at bytes.now)) }
         ensures failed { OnErr result
-            ((IsListed self.old × (self.new ≡ changed (failed self.old) (Tore at (length bytes.now)))) ⊎ (self.new ≡ starved self.old)) }
+            ((IsListed self.old × (self.new ≡ with_change (failed self.old) (Tore at (length bytes.now)))) ⊎ (self.new ≡ starved self.old)) }
     {
         self.write(at as usize, bytes)
     }
@@ -260,11 +270,11 @@ impl Disk for MemDisk {
         ensures content { (told_by self.new).content ≡ (told_by self.old).content }
         ensures time { Elapses (told_by self.old) (told_by self.new) }
         ensures cause { HasCause self.old.faults self.new.faults result }
-        ensures synced { OnOk result (¬ IsListed self.old × (self.new ≡ changed (answered self.old) Synced)) }
+        ensures synced { OnOk result (¬ IsListed self.old × (self.new ≡ with_change (answered self.old) Synced)) }
         ensures failed { OnErr result
             ((IsListed self.old × (self.new ≡ failed self.old)) ⊎ (¬ IsListed self.old × (self.new ≡ starved self.old))) }
     {
-        self.settle()
+        self.make_sync()
     }
 }
 

@@ -10,7 +10,7 @@ pub struct MemSink {
     bytes: Vec<u8>,
     // The numbers of the puts that fail.
     failing: Vec<u64>,
-    // How many puts were made, how many of them failed, and how many of those for want of memory.
+    // How many puts were made, how many of them failed, and how many of those because memory ran out.
     calls: u64,
     faults: u64,
     short: u64,
@@ -60,7 +60,7 @@ impl MemSink {
         self.bytes.as_slice()
     }
 
-    /// How many puts failed for want of memory, a number of 64 bits that stands still at its greatest.
+    /// How many puts failed because memory ran out, a number of 64 bits that stands still at its greatest.
     pub fn short(&self) -> u64
         ensures { result ≡ self.now.short }
     {

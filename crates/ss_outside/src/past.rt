@@ -32,17 +32,17 @@ impl Model for Past {
 
     ghost Value = { List DiskCall };
 
-    ghost use Rattle.ss_outside.specs.Past.{call_of, IsKept};
+    ghost use Rattle.ss_outside.specs.Past.{call_of, LiesWithin};
 
     ghost view = { λ p. map (call_of p.pool.items) p.changes.items };
 
-    ghost invariant = { λ p. All (IsKept (length p.pool.items)) p.changes.items };
+    ghost invariant = { λ p. All (LiesWithin (length p.pool.items)) p.changes.items };
 }
 
 impl Past {
     ghost use Rattle.std.specs.Prelude.{◌≡◌, ◌+◌, ◌≤◌, [], ◌∷◌, ◌++◌, length, take, drop, IfOk, OnOk, OnErr};
-    ghost use Rattle.ss_outside.specs.MemDisk.{Wrote, Tore, Synced, fresh, replay};
-    ghost use Rattle.ss_outside.specs.Past.{IsSettled};
+    ghost use Rattle.ss_outside.specs.MemDisk.{Wrote, Tore, Synced, fresh, good_syncs, replay};
+    ghost use Rattle.ss_outside.specs.Past.{CountsToSync};
     ghost use Rattle.ss_outside.specs.Choice.{IsFilled};
 
     pub(crate) fn new(alloc: Global) -> Past
@@ -85,7 +85,7 @@ impl Past {
 
     // How many of the calls came up to the last good sync.
     pub(crate) fn settled(&self) -> usize
-        ensures { IsSettled result self.now }
+        ensures { CountsToSync result self.now }
     {
         let mut settled = 0;
         for (k, change) in self.changes.iter().enumerate() {
@@ -94,6 +94,19 @@ impl Past {
             }
         }
         settled
+    }
+
+    // How many of the calls were good syncs.
+    pub(crate) fn syncs(&self) -> u64
+        ensures { result ≡ good_syncs self.now }
+    {
+        let mut syncs = 0;
+        for change in self.changes.iter() {
+            if let Change::Sync = change {
+                syncs += 1;
+            }
+        }
+        syncs
     }
 
     // The content after so many of the calls.
@@ -122,7 +135,7 @@ impl Past {
         image: &mut Vec<u8>,
         byte: u8,
     ) -> Result<(), AllocError>
-        requires { IsSettled settled self.now }
+        requires { CountsToSync settled self.now }
         ensures { OnOk result (IsFilled (replay (fresh image.old.items) (drop settled self.now)) byte image.new.items) }
     {
         for change in &self.changes[settled..] {

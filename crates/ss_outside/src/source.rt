@@ -17,7 +17,7 @@ pub trait Source {
     ghost faults: { Self → ℕ };
 
     /// Moves some of the bytes that are left, in order, to the front of the buffer, and answers how many. 0 says that
-    /// none is left. `Failed` moves none, and a later call may succeed. Behind the bytes that were moved, the buffer
+    /// none is left. `Failed` moves none, and a later call may succeed. After the bytes that were moved, the buffer
     /// may hold anything.
     fn read(&mut self, into: &mut [u8]) -> Result<usize, Failed>
         requires { 0 < length into.old }

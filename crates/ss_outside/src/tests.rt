@@ -1,4 +1,6 @@
 // The devices in memory, called through the bounds that the crates above use.
+mod mem_disk;
+
 use crate::{Failed, MemSink, MemSource, Sink, Source};
 use std::alloc::{AllocError, Global};
 use std::test::Fail;

@@ -6,7 +6,7 @@ use Rattle.std.proofs.lemmas.Int.{ints, clamps}
 use Rattle.std.proofs.Math.Nat.{mul-le-mul, mul-le-mul_left}
 use borrow.Author.Differences.{up, down}
 
-times-le-times : (n : ℕ) (a b : ℤ) → a ≤ℤ b → (pos n *ℤ a) ≤ℤ (pos n *ℤ b)
+pub times-le-times : (n : ℕ) (a b : ℤ) → a ≤ℤ b → (pos n *ℤ a) ≤ℤ (pos n *ℤ b)
 times-le-times n a b at_most =
     let scaled : n * (up a + down b) ≤ n * (up b + down a) = mul-le-mul_left n (omega (arith, ints)) in
     omega (arith, ints)

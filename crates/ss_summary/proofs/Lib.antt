@@ -1,3 +1,5 @@
 pub mod Bounds
+pub mod PossibleLemmas
 pub mod Rows
 pub mod SummaryLemmas
+pub mod Values

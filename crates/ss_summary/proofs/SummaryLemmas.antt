@@ -1,4 +1,4 @@
--- What holds of the figures of two lists, one behind the other.
+-- What holds of the figures of two lists, one after the other.
 use Rattle.std.specs.Prelude.{◌≡◌, ℕ, ◌+◌, ◌-◌, ◌^◌, ◌<◌, ◌≤◌, ℤ, ◌+ℤ◌, List, [], ◌∷◌, ◌++◌, length, unsigned_abs}
 use Rattle.std.specs.Int.{w64, w128, int_min, int_max}
 use Rattle.std.proofs.Common.{arith, refl}
@@ -7,6 +7,7 @@ use Rattle.std.proofs.lemmas.Int.{ints, clamps, to_z-of_z}
 use mir.Val.{to_z, of_z}
 use Rattle.ss_summary.specs.Figures.{Figures, IsPossible}
 use Rattle.ss_summary.specs.Summaries.{total, least, greatest, last_time, summary_of, joined}
+use Rattle.ss_summary.specs.declared.summary.TheConstants.{GREATEST_COUNT}
 use Rattle.ss_summary.proofs.Bounds.{max_times_min-le-sum, sum-le-min_times_max, unsigned_abs-lt}
 
 int_min_assoc : (a b c : ℤ) → int_min (int_min a b) c ≡ int_min a (int_min b c)
@@ -29,7 +30,7 @@ greatest-append : (v : ℤ) (xs : List (ℕ × ℤ)) (y : ℕ × ℤ) (ys : List
 greatest-append v [] y ys = refl
 greatest-append v (x ∷ xs) y ys = rw (greatest-append x.1 xs y ys, int_max_assoc)
 
-last_time-append : (t : ℕ) (xs : List (ℕ × ℤ)) (y : ℕ × ℤ) (ys : List (ℕ × ℤ))
+pub last_time-append : (t : ℕ) (xs : List (ℕ × ℤ)) (y : ℕ × ℤ) (ys : List (ℕ × ℤ))
     → last_time t (xs ++ y ∷ ys) ≡ last_time y.0 ys
 last_time-append t [] y ys = refl
 last_time-append t (x ∷ xs) y ys = last_time-append x.0 xs y ys
@@ -58,7 +59,7 @@ joined_assoc a b c =
 
 -- possible figures, joined, are possible
 pub IsPossible-joined : (a b : Figures) → IsPossible a → IsPossible b → a.t_last < b.t_first
-    → a.count + b.count ≤ 2 ^ 40 → IsPossible (joined a b)
+    → a.count + b.count ≤ GREATEST_COUNT → IsPossible (joined a b)
 IsPossible-joined a b left right behind few =
     let counts : a.count + b.count - 1 ≡ (a.count - 1) + (b.count - 1) + 1 = omega arith in
     record {

@@ -1,7 +1,8 @@
--- The summary of a list of timestamped values, and of two lists one behind the other.
-use Rattle.std.specs.Prelude.{◌≡◌, ℕ, ◌+◌, ◌<◌, ℤ, pos, ◌+ℤ◌, List, [], ◌∷◌, length}
-use Rattle.std.specs.Int.{int_min, int_max}
+-- The summary of a list of timestamped values, and of two lists one after the other.
+use Rattle.std.specs.Prelude.{◌≡◌, ℕ, ◌+◌, ◌<◌, ◌≤◌, ℤ, pos, ◌+ℤ◌, FitsSigned, List, [], ◌∷◌, length}
+use Rattle.std.specs.Int.{w64, int_min, int_max}
 use Rattle.ss_summary.specs.Figures.{Figures}
+use Rattle.ss_summary.specs.declared.summary.TheConstants.{LATEST_TIME, GREATEST_COUNT}
 
 -- the sum of the values
 abbrev pub total : List (ℕ × ℤ) → ℤ
@@ -18,7 +19,7 @@ abbrev pub greatest : ℤ → List (ℕ × ℤ) → ℤ
 greatest v [] = v
 greatest v (p ∷ ps) = int_max v (greatest p.1 ps)
 
--- the time of the last value, behind one at time t
+-- the time of the last value, after one at time t
 abbrev pub last_time : ℕ → List (ℕ × ℤ) → ℕ
 last_time t [] = t
 last_time t (p ∷ ps) = last_time p.0 ps
@@ -41,7 +42,7 @@ pub record Summarizes (f : Figures) (values : List (ℕ × ℤ)) : Type 0 where
   pub some : 0 < length values
   pub is : f ≡ summary_of values
 
--- the figures of two lists, the second behind the first
+-- the figures of two lists, the second after the first
 abbrev pub joined : Figures → Figures → Figures
 joined a b = record {
   count = a.count + b.count;
@@ -51,3 +52,14 @@ joined a b = record {
   t_first = a.t_first;
   t_last = b.t_last;
 }
+
+-- values of 64 bits at rising times, the first at `from` or later and none after the latest time
+abbrev pub RiseFrom : ℕ → List (ℕ × ℤ) → Type 0
+RiseFrom from [] = Unit
+RiseFrom from (p ∷ ps) = (from ≤ p.0) × (p.0 ≤ LATEST_TIME) × FitsSigned w64 p.1 × RiseFrom (p.0 + 1) ps
+
+-- the values that a summary may be of: some, but not too many, at rising times
+pub record AreValues (values : List (ℕ × ℤ)) : Type 0 where
+  pub some : 0 < length values
+  pub few : length values ≤ GREATEST_COUNT
+  pub rising : RiseFrom 0 values

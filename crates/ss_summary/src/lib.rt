@@ -2,9 +2,13 @@
 #![tactic(auto)]
 
 mod laws;
+mod possible;
 mod summary;
 #[cfg(test)]
 mod tests;
 
-pub use laws::{joined_is_of_the_joined_list, joining_is_associative};
-pub use summary::Summary;
+pub use laws::{
+    joined_is_of_the_joined_list, joining_is_associative, possible_figures_are_those_of_values,
+    possible_figures_pass_the_test,
+};
+pub use summary::{GREATEST_COUNT, LATEST_TIME, Summary};

@@ -1,5 +1,12 @@
 // Summaries of timestamped values.
+use crate::possible::{has_sum, has_times};
 use std::marker::Model;
+
+/// The latest time that a value may have, a whole number in the caller's unit.
+pub const LATEST_TIME: u64 = 1 << 62;
+
+/// The most values that a summary may be of.
+pub const GREATEST_COUNT: u64 = 1 << 40;
 
 /// Figures such as one or more values with rising times have. Times and values are whole numbers, and the sum never wraps.
 /// Every `Summary` meets the conditions of possible figures, `IsPossible` (docs/DEFINITIONS.md, "Possible summaries"): at
@@ -50,13 +57,13 @@ impl Model for Summary {
 }
 
 impl Summary {
-    ghost use Rattle.std.specs.Prelude.{◌≡◌, ◌+◌, ◌^◌, ◌<◌, ◌≤◌, ℕ, ℤ, List, [], ◌∷◌, ◌++◌};
+    ghost use Rattle.std.specs.Prelude.{◌≡◌, ◌↔◌, ◌+◌, ◌<◌, ◌≤◌, ℕ, ℤ, List, [], ◌∷◌, ◌++◌, IsSome, IfSome};
     ghost use Rattle.ss_summary.specs.Figures.{Figures, IsPossible};
     ghost use Rattle.ss_summary.specs.Summaries.{summary_of, Summarizes, joined};
 
     /// The summary of the value `v` at the time `t`.
     pub fn one(t: u64, v: i64) -> Summary
-        requires { t ≤ 2 ^ 62 }
+        requires { t ≤ LATEST_TIME }
         ensures { result ≡ summary_of ((t, v) ∷ []) }
     {
         Summary {
@@ -71,8 +78,8 @@ impl Summary {
 
     /// The summary of the values of both, where all of the second's times are greater.
     pub fn join(a: Summary, b: Summary) -> Summary
-        requires behind { a.t_last < b.t_first }
-        requires few { a.count + b.count ≤ 2 ^ 40 }
+        requires later { a.t_last < b.t_first }
+        requires few { a.count + b.count ≤ GREATEST_COUNT }
         ensures exact { result ≡ joined a b }
         ensures lists { (xs ys : List (ℕ × ℤ)) → Summarizes a xs → Summarizes b ys
             → Summarizes result (xs ++ ys) }
@@ -87,10 +94,30 @@ impl Summary {
         }
     }
 
-    /// Tells a proof that these figures are possible, as those of every summary are. It does nothing when it runs.
-    pub fn is_possible(&self)
-        ensures { IsPossible self.now }
+    /// The summary that has these figures, if they are possible. No sum is too large to be asked for.
+    pub fn of(
+        count: u64,
+        sum: i128,
+        min: i64,
+        max: i64,
+        t_first: u64,
+        t_last: u64,
+    ) -> Option<Summary>
+        ensures possible { IsSome result
+            ↔ IsPossible (record { count = count; sum = sum; min = min; max = max; t_first = t_first; t_last = t_last }) }
+        ensures figures { IfSome result (λ summary. summary
+            ≡ record { count = count; sum = sum; min = min; max = max; t_first = t_first; t_last = t_last }) }
     {
-        let _count = self.count;
+        if !has_times(count, t_first, t_last) || !has_sum(count, sum, min, max) {
+            return None;
+        }
+        Some(Summary {
+            count,
+            sum,
+            min,
+            max,
+            t_first,
+            t_last,
+        })
     }
 }

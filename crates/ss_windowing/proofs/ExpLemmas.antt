@@ -1,7 +1,7 @@
 -- The starts of an exponential target's windows, group by group.
 use Rattle.std.proofs.Common.{ℕ, zero, suc, ◌≡◌, ◌+◌, ◌-◌, ◌*◌, ◌/◌, ◌^◌, ◌<◌, ◌≤◌, sym, ap, ◌∙◌, add-one, arith}
-use Rattle.std.proofs.Math.Nat.{mul_comm, mul-pos, mul-le-mul, mul-le-mul_left, mul-le-mul_right, div-mul-le_self, lt-div-mul-add, pow-suc, pow-le-pow_right}
-use Rattle.std.proofs.lemmas.Nat.{div-mul-add, div_below, le-div}
+use Rattle.std.proofs.Math.Nat.{mul_comm, mul-pos, mul-le-mul, mul-le-mul_right, div-mul-le_self, lt-div-mul-add, pow-suc}
+use Rattle.std.proofs.lemmas.Nat.{div-mul-add, div_below}
 use Rattle.ss_windowing.specs.Exp.{exp_length, IsExp}
 use Rattle.ss_windowing.specs.ExpLaws.{exp_length-positive}
 use Rattle.ss_windowing.specs.Windowing.{cut, Holds}
@@ -69,9 +69,3 @@ module _ {b r s g start len age : ℕ} (in_range : IsExp b r s) (at : InGroup b 
 
     pub place_le_age : r * g + (age - start) / len ≤ age
     place_le_age = omega (arith, holds-place.start, index_le_cut (exp_length b r s) (r * g + (age - start) / len) (exp_length-positive in_range))
-
--- the later window is as long or longer
-pub exp_length-monotone : (b r s i : ℕ) → IsExp b r s → exp_length b r s i ≤ exp_length b r s (i + 1)
-exp_length-monotone b r s i in_range =
-    let group : i / r ≤ (i + 1) / r = le-div (i / r) (i + 1) r in_range.repeat_low (omega (arith, div-mul-le_self i r)) in
-    mul-le-mul_left s (pow-le-pow_right (omega arith) group)

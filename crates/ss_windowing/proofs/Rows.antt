@@ -1,7 +1,18 @@
 -- Worked rows, each computed.
-use Rattle.std.proofs.Common.{◌≡◌, ℕ, Bool, true, false, List, [], ◌∷◌, map, refl}
+use Rattle.std.proofs.Common.{◌≡◌, ℕ, ◌-◌, ◌^◌, Bool, true, false, List, [], ◌∷◌, map, refl, arith}
 use Rattle.ss_windowing.specs.Exp.{exp_length}
-use Rattle.ss_windowing.specs.Windowing.{cut, fits, index_of}
+use Rattle.ss_windowing.specs.Windowing.{cut, fits, index_of, NeverFall}
+use Rattle.ss_windowing.specs.declared.decay.TheConstants.{MOST_VALUES}
+use Rattle.ss_windowing.specs.declared.exp.TheConstants.{LEAST_BASE, GREATEST_BASE, MOST_REPEAT, GREATEST_SCALE}
+
+most_values : MOST_VALUES ≡ 2 ^ 40
+most_values = refl
+
+bases : LEAST_BASE ∷ GREATEST_BASE ∷ [] ≡ 2 ∷ 16 ∷ []
+bases = refl
+
+repeats_and_scales : MOST_REPEAT ∷ GREATEST_SCALE ∷ [] ≡ 65536 ∷ 65536 ∷ []
+repeats_and_scales = refl
 
 lengths-doubling : map (exp_length 2 1 1) (0 ∷ 1 ∷ 2 ∷ 3 ∷ 4 ∷ []) ≡ 1 ∷ 2 ∷ 4 ∷ 8 ∷ 16 ∷ []
 lengths-doubling = refl
@@ -34,3 +45,10 @@ fit-3-5 = refl
 fit-5-6 : fit_at 5 6 (6 ∷ 7 ∷ []) ≡ false ∷ true ∷ []
 unfolding fit_at index_of
 fit-5-6 = refl
+
+-- lengths that stay the same never fall, and those that shrink do
+NeverFall-same : NeverFall (λ i. 3)
+NeverFall-same i = omega arith
+
+NeverFall-shrinking : NeverFall (λ i. 3 - i) → ⊥
+NeverFall-shrinking never = omega (arith, never 0)

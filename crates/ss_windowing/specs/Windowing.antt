@@ -26,6 +26,10 @@ index_of len age = ended_windows len age age
 abbrev pub ArePositive : (ℕ → ℕ) → Type 0
 ArePositive len = (i : ℕ) → 0 < len i
 
+-- no window is shorter than the one before it
+abbrev pub NeverFall : (ℕ → ℕ) → Type 0
+NeverFall len = (i : ℕ) → len i ≤ len (i + 1)
+
 -- the positions l to r lie in one target window when n values have been taken
 abbrev pub Fits : (ℕ → ℕ) → ℕ → ℕ → ℕ → Type 0
 Fits len l r n = (i : ℕ) × (cut len i ≤ n - r) × (n - l < cut len i + len i)

@@ -1,6 +1,6 @@
 // What every family of target windows offers.
 ghost use Rattle.std.specs.Prelude.{◌≡◌, ◌≤◌, ℕ};
-ghost use Rattle.ss_windowing.specs.Windowing.{cut, Holds, ArePositive};
+ghost use Rattle.ss_windowing.specs.Windowing.{cut, Holds, ArePositive, NeverFall};
 
 /// The greatest age: a stream takes at most this many values outside landmarks.
 pub const MOST_VALUES: u64 = 1 << 40;
@@ -31,4 +31,7 @@ pub trait Decay {
 
     /// No window is empty.
     ghost positive: { (target : Self) → ArePositive (length_of target) };
+
+    /// No window is shorter than the one before it, which is the next newer one.
+    ghost never_falls: { (target : Self) → NeverFall (length_of target) };
 }

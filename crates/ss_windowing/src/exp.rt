@@ -5,6 +5,18 @@ ghost use Rattle.ss_windowing.specs.Windowing.{cut, Holds};
 
 use crate::{Decay, MOST_VALUES, Param, Spot};
 
+/// The least base of an exponential target.
+pub const LEAST_BASE: u32 = 2;
+
+/// The greatest base of an exponential target.
+pub const GREATEST_BASE: u32 = 16;
+
+/// The most windows in a group of an exponential target.
+pub const MOST_REPEAT: u32 = 65536;
+
+/// The greatest length of the newest window of an exponential target.
+pub const GREATEST_SCALE: u32 = 65536;
+
 /// A target whose group g = 0, 1, 2, .. has `repeat` windows of length `scale * base^g`.
 #[derive(Clone, Copy, Debug, PartialEq, Eq)]
 pub struct Exp {
@@ -15,15 +27,18 @@ pub struct Exp {
 }
 
 impl Exp {
-    ghost use Rattle.ss_windowing.specs.Family.{exp_lengths};
+    ghost use Rattle.ss_windowing.specs.Family.{exp_lengths, exp_parameters};
 
-    /// The target of base `b`, 2 to 16, with `r` windows a group and the first of length `s`, both 1 to 65536.
+    /// The target of base `b`, 2 to 16, with `r` windows a group and the newest of length `s`, both 1 to 65536.
     pub fn new(b: u32, r: u32, s: u32) -> Result<Exp, Param>
         ensures exactly { IsOk result ↔ IsExp b r s }
         ensures lengths { IfOk result (λ target. exp_lengths target ≡ exp_length b r s) }
+        ensures parameters { IfOk result (λ target. exp_parameters target ≡ (b, r, s)) }
     {
-        let in_range = 2 <= b && b <= 16 && 1 <= r && r <= 65536 && 1 <= s && s <= 65536;
-        if in_range {
+        let base_in_range = LEAST_BASE <= b && b <= GREATEST_BASE;
+        let repeat_in_range = 1 <= r && r <= MOST_REPEAT;
+        let scale_in_range = 1 <= s && s <= GREATEST_SCALE;
+        if base_in_range && repeat_in_range && scale_in_range {
             Ok(Exp {
                 base: b,
                 repeat: r,
@@ -33,15 +48,24 @@ impl Exp {
             Err(Param)
         }
     }
+
+    /// The base, the number of windows a group and the length of the newest, as `new` took them.
+    pub fn parameters(&self) -> (u32, u32, u32)
+        ensures { result ≡ exp_parameters self.now }
+    {
+        (self.base, self.repeat, self.scale)
+    }
 }
 
 impl Decay for Exp {
-    ghost use Rattle.ss_windowing.specs.ExpLaws.{exp_length-positive};
+    ghost use Rattle.ss_windowing.specs.ExpLaws.{exp_length-never_falls, exp_length-positive};
     ghost use Rattle.ss_windowing.specs.Family.{exp_lengths};
 
     ghost length_of = { exp_lengths };
 
     ghost positive = { λ target. exp_length-positive target.in_range };
+
+    ghost never_falls = { λ target. exp_length-never_falls target.in_range };
 
     fn window_at(&self, age: u64) -> Spot {
         spot(

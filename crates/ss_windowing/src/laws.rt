@@ -1,7 +1,7 @@
 // Laws of target windows, each the contract of a function that does nothing.
-ghost use Rattle.std.specs.Prelude.{◌≡◌, ◌+◌, ◌≤◌, ◌↔◌, ℕ, true};
+ghost use Rattle.std.specs.Prelude.{◌≡◌, ◌≤◌, ◌↔◌, ℕ, true};
 ghost use Rattle.ss_windowing.specs.Exp.{exp_length, IsExp};
-ghost use Rattle.ss_windowing.specs.Windowing.{ArePositive, Fits, fits, Holds, index_of};
+ghost use Rattle.ss_windowing.specs.Windowing.{ArePositive, Fits, fits, Holds, index_of, NeverFall};
 
 /// The index of an age is that of the one window that holds it, as `window_at` gives it.
 pub fn index_is_of_the_window_that_holds()
@@ -17,5 +17,5 @@ pub fn fits_is_one_window()
 /// The windows of an exponential target are never empty, and never shorter than the one before.
 pub fn exp_lengths_never_fall()
     ensures positive { (b r s : ℕ) → IsExp b r s → ArePositive (exp_length b r s) }
-    ensures rising { (b r s i : ℕ) → IsExp b r s → exp_length b r s i ≤ exp_length b r s (i + 1) }
+    ensures rising { (b r s : ℕ) → IsExp b r s → NeverFall (exp_length b r s) }
 {}

@@ -1,6 +1,6 @@
 use Rattle.std.proofs.Common.{◌≡◌, ◌≤◌, ℕ, ap, map, sym, ◌∙◌, take, drop, length, ◌-◌, arith, subst}
 use Rattle.std.proofs.lemmas.List.{drop-map, take_rest, length-take, length-drop}
-use Rattle.ss_outside.specs.Past.{call_of, IsKept}
+use Rattle.ss_outside.specs.Past.{call_of, LiesWithin}
 use Rattle.ss_outside.specs.Disk.{overwrite}
 use Rattle.std.specs.Prelude.{All}
 use Rattle.std.proofs.lemmas.List.Elements.{All-take, All-drop, All-same}
@@ -21,13 +21,13 @@ loop-change-preserved c =
     ∙ ap (drop c.args.settled) (ap (map (call_of pool)) c.deref.ensures.value ∙ c.self.view_is) in
     let before = replay (fresh c.args.image.now.items) (take c.loop-change.change-index calls) in
     let short : length before.synced ≤ before.longest = synced_no_longer (fresh c.args.image.now.items) (take c.loop-change.change-index calls) (omega arith) in
-    let all : All (IsKept (length pool)) changes =
-    All-take (IsKept (length pool)) (length c.deref.result.now - c.args.settled) (drop c.args.settled c.deref.result.now) (All-drop (IsKept (length pool)) c.args.settled c.deref.result.now (All-same (IsKept (length pool)) c.deref.result.now c.self.inside.changes.items c.deref.ensures.value c.self.invariant)) in
+    let all : All (LiesWithin (length pool)) changes =
+    All-take (LiesWithin (length pool)) (length c.deref.result.now - c.args.settled) (drop c.args.settled c.deref.result.now) (All-drop (LiesWithin (length pool)) c.args.settled c.deref.result.now (All-same (LiesWithin (length pool)) c.deref.result.now c.self.inside.changes.items c.deref.ensures.value c.self.invariant)) in
     elim c.match-change.branch [
       | in-Bytes+in_ok-fill_at-in-Bytes w ↦
           let more = replay_more pool changes calls kept c.loop-change.change-index c.loop-change-test.true (Bytes 0 0 0) (fresh c.args.image.now.items) (Bytes w.in-Bytes.at w.in-Bytes.from w.in-Bytes.count) w.in-Bytes.is in
           let bytes = take w.in-Bytes.count (drop w.in-Bytes.from pool) in
-          let room : IsKept (length pool) (Bytes w.in-Bytes.at w.in-Bytes.from w.in-Bytes.count) = subst (IsKept (length pool)) w.in-Bytes.is (all c.loop-change.change-index (Bytes 0 0 0) c.loop-change-test.true) in
+          let room : LiesWithin (length pool) (Bytes w.in-Bytes.at w.in-Bytes.from w.in-Bytes.count) = subst (LiesWithin (length pool)) w.in-Bytes.is (all c.loop-change.change-index (Bytes 0 0 0) c.loop-change-test.true) in
           let size : length bytes ≡ w.in-Bytes.count = omega (arith, room.0, length-take w.in-Bytes.count (drop w.in-Bytes.from pool), length-drop w.in-Bytes.from pool) in
           let content = overwrite before.content w.in-Bytes.at bytes in
           let filled = filled_more before c.args.byte c.loop-change.image.items w.fill_at.new.image.items w.in-Bytes.at w.in-Bytes.count content short c.loop-change.invariant w.in_ok-fill_at-in-Bytes.ensures.length w.in_ok-fill_at-in-Bytes.ensures.kept w.in_ok-fill_at-in-Bytes.ensures.filled in

@@ -1,6 +1,6 @@
 use Rattle.std.proofs.Common.{take}
-use Rattle.ss_outside.specs.Past.{IsSettled}
+use Rattle.ss_outside.specs.Past.{CountsToSync}
 use Rattle.ss_outside.proofs.past.Past.settled.Given as goal
 
 abbrev pub invariant-loop-k : goal.invariant-loop-k
-invariant-loop-k l = IsSettled l.settled (take l.k l.self)
+invariant-loop-k l = CountsToSync l.settled (take l.k l.self)

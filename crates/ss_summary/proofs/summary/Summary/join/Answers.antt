@@ -11,7 +11,7 @@ possible : (c : goal.After-max) → IsPossible (joined c.args.a c.args.b)
 possible c =
     let left = subst IsPossible c.a.view_is c.a.invariant in
     let right = subst IsPossible c.b.view_is c.b.invariant in
-    IsPossible-joined c.args.a c.args.b left right c.requires.behind c.requires.few
+    IsPossible-joined c.args.a c.args.b left right c.requires.later c.requires.few
 
 pub overflow_add-result-2 : goal.overflow_add-result-2
 overflow_add-result-2 c =

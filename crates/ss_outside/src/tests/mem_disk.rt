@@ -86,6 +86,9 @@ fn mismatch(alloc: Global, row: &Row) -> Result<&'static str, AllocError> {
     if run(&mut disk) != row.failed || disk.calls() != 4 {
         return Ok("calls");
     }
+    if disk.syncs() != u64::from(!row.failed[1]) {
+        return Ok("syncs");
+    }
     for (part, choice, image) in [
         ("lost", Choice::Lost, row.lost),
         ("kept", Choice::Kept, row.content),

@@ -1,0 +1,93 @@
+-- The test of possible figures tells which figures are possible.
+use Rattle.std.specs.Prelude.{◌≡◌, ◌↔◌, ℕ, ◌+◌, ◌-◌, ◌^◌, ◌<◌, ◌≤◌, true, ◌&&◌, ℤ, pos, negsuc, ◌+ℤ◌, ◌*ℤ◌, ◌≤ℤ◌, int_le, FitsSigned, IsTrue}
+use Rattle.std.specs.Int.{w64}
+use Rattle.std.proofs.Common.{arith, refl}
+use Rattle.std.proofs.lemmas.Bool.Decides.{nat_tests}
+use Rattle.std.proofs.lemmas.Int.{ints}
+use Rattle.ss_summary.specs.Figures.{Figures, IsPossible}
+use Rattle.ss_summary.specs.Possible.{fits_i64, has_times, has_sum, is_possible}
+use Rattle.ss_summary.specs.declared.summary.TheConstants.{LATEST_TIME, GREATEST_COUNT}
+
+-- what the test of times says
+record Times (count t_first t_last : ℕ) : Type 0 where
+  low : 1 ≤ count
+  high : count ≤ GREATEST_COUNT
+  times : t_first + count ≤ t_last + 1
+  last : t_last ≤ LATEST_TIME
+  one : count ≡ 1 → t_first ≡ t_last
+
+times-true : (count t_first t_last : ℕ) → has_times count t_first t_last ≡ true → Times count t_first t_last
+times-true count t_first t_last test = record {
+  low = grind (arith, nat_tests);
+  high = grind (arith, nat_tests);
+  times = grind (arith, nat_tests);
+  last = grind (arith, nat_tests);
+  one = λ one. grind (arith, nat_tests);
+}
+
+true-times : (count t_first t_last : ℕ) → Times count t_first t_last → has_times count t_first t_last ≡ true
+true-times count t_first t_last times = grind (arith, nat_tests)
+
+-- what the test of a sum says
+record Sum (count : ℕ) (sum min max : ℤ) : Type 0 where
+  order : min ≤ℤ max
+  low : (max +ℤ pos (count - 1) *ℤ min) ≤ℤ sum
+  high : sum ≤ℤ (min +ℤ pos (count - 1) *ℤ max)
+
+three : (a b c d e f : ℤ) → (int_le a b && int_le c d && int_le e f) ≡ true → (a ≤ℤ b) × (c ≤ℤ d) × (e ≤ℤ f)
+three a b c d e f test = (grind (arith, ints), grind (arith, ints), grind (arith, ints))
+
+three-true : (a b c d e f : ℤ) → a ≤ℤ b → c ≤ℤ d → e ≤ℤ f → (int_le a b && int_le c d && int_le e f) ≡ true
+three-true a b c d e f first second third = grind (arith, ints)
+
+sum-true : (count : ℕ) (sum min max : ℤ) → has_sum count sum min max ≡ true → Sum count sum min max
+sum-true count sum min max test =
+    let all = three min max (max +ℤ pos (count - 1) *ℤ min) sum sum (min +ℤ pos (count - 1) *ℤ max) test in
+    record { order = all.0; low = all.1; high = all.2 }
+
+true-sum : (count : ℕ) (sum min max : ℤ) → Sum count sum min max → has_sum count sum min max ≡ true
+true-sum count sum min max s = three-true min max (max +ℤ pos (count - 1) *ℤ min) sum sum (min +ℤ pos (count - 1) *ℤ max) s.order s.low s.high
+
+fits-true : (z : ℤ) → fits_i64 z ≡ true → FitsSigned w64 z
+fits-true (pos n) test = let small : n < 2 ^ 63 = grind (arith, nat_tests) in record { sfits = small }
+fits-true (negsuc n) test = let small : n < 2 ^ 63 = grind (arith, nat_tests) in record { sfits = small }
+
+true-fits : (z : ℤ) → FitsSigned w64 z → fits_i64 z ≡ true
+true-fits (pos n) fits = let small : n < 2 ^ 63 = fits.sfits in grind (arith, nat_tests)
+true-fits (negsuc n) fits = let small : n < 2 ^ 63 = fits.sfits in grind (arith, nat_tests)
+
+-- figures are possible where their times, their numbers and their sum are
+pub IsPossible-tests : (f : Figures) → has_times f.count f.t_first f.t_last ≡ true → FitsSigned w64 f.min → FitsSigned w64 f.max
+    → has_sum f.count f.sum f.min f.max ≡ true → IsPossible f
+IsPossible-tests f times min max sum =
+    let t = times-true f.count f.t_first f.t_last times in
+    let s = sum-true f.count f.sum f.min f.max sum in
+    record {
+      count_low = t.low;
+      count_high = t.high;
+      times = t.times;
+      last = t.last;
+      one = t.one;
+      min_fits = min;
+      max_fits = max;
+      order = s.order;
+      sum_low = s.low;
+      sum_high = s.high;
+    }
+
+pub is_possible-tells : (f : Figures) → IsTrue (is_possible f) ↔ IsPossible f
+unfolding is_possible
+is_possible-tells f = (
+  λ test.
+      let times : has_times f.count f.t_first f.t_last ≡ true = grind arith in
+      let min : fits_i64 f.min ≡ true = grind arith in
+      let max : fits_i64 f.max ≡ true = grind arith in
+      let sum : has_sum f.count f.sum f.min f.max ≡ true = grind arith in
+      IsPossible-tests f times (fits-true f.min min) (fits-true f.max max) sum,
+  λ possible.
+      let times = true-times f.count f.t_first f.t_last (record { low = possible.count_low; high = possible.count_high; times = possible.times; last = possible.last; one = possible.one }) in
+      let min = true-fits f.min possible.min_fits in
+      let max = true-fits f.max possible.max_fits in
+      let sum = true-sum f.count f.sum f.min f.max (record { order = possible.order; low = possible.sum_low; high = possible.sum_high }) in
+      rw (times, min, max, sum) refl,
+)
