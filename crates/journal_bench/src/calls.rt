@@ -1,5 +1,6 @@
 // How often a disk was called.
-ghost use Rattle.std.specs.Prelude.{◌≡◌, ◌+◌, ◌*◌};
+ghost use Rattle.std.specs.Prelude.{◌≡◌, ◌+◌, ◌*◌, ◌≤◌};
+ghost use Rattle.journal_bench.specs.Settlings.{settlings};
 
 /// Calls of a disk, and the bytes of the writes. Each number stands still at its greatest.
 #[derive(Clone, Copy, Debug, Default, PartialEq, Eq)]
@@ -12,20 +13,24 @@ pub struct Calls {
 }
 
 impl Calls {
-    /// Those of a commit, by the steps in docs/FORMAT.md: the entry behind its gate, the gate, each put's slot, and the
-    /// gate again.
-    pub fn of_commit(puts: u32) -> Calls
-        ensures reads { result.reads ≡ 0 }
-        ensures writes { result.writes ≡ 1 + 1 + puts + 1 }
-        ensures syncs { result.syncs ≡ 4 }
-        ensures bytes { result.bytes ≡ 543 + 1 + 128 * puts + 1 }
+    /// Those of so many commits of so many puts each on an empty journal, by the steps in docs/FORMAT.md: the entry after
+    /// its gate and the gate, each with a sync. Where all 64 entries are in use, first the puts' slots, the first gate
+    /// and the other gates, each with a sync; the other gates are read.
+    pub fn of_commits(commits: u32, puts: u32) -> Calls
+        requires few { puts ≤ 4 }
+        ensures reads { result.reads ≡ 63 * settlings commits }
+        ensures writes { result.writes ≡ 2 * commits + (64 * puts + 64) * settlings commits }
+        ensures syncs { result.syncs ≡ 2 * commits + 3 * settlings commits }
+        ensures bytes { result.bytes ≡ 544 * commits + (128 * (64 * puts) + 64) * settlings commits }
     {
+        let settlings = u64::from(commits.saturating_sub(1) / 64);
+        let commits = u64::from(commits);
         let puts = u64::from(puts);
         Calls {
-            reads: 0,
-            writes: 3 + puts,
-            syncs: 4,
-            bytes: 545 + 128 * puts,
+            reads: 63 * settlings,
+            writes: 2 * commits + (64 * puts + 64) * settlings,
+            syncs: 2 * commits + 3 * settlings,
+            bytes: 544 * commits + (128 * (64 * puts) + 64) * settlings,
         }
     }
 }

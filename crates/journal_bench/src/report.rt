@@ -15,8 +15,10 @@ use std::time::Instant;
 // The commits that come before the timed ones: the first in a process take longer.
 const WARM_UP: u32 = 64;
 
-// The calls of one commit of so many puts: the first that isn't as the format's, or the last of those that go twice
-// round the slots.
+// How many commits are counted.
+const COUNTED: u32 = 10_000;
+
+// The calls of those commits, of so many puts each.
 fn calls_of(alloc: Global, puts: u32) -> Result<Calls, JournalError>
     requires some { 0 < puts }
     requires few { puts ≤ 4 }
@@ -26,32 +28,32 @@ fn calls_of(alloc: Global, puts: u32) -> Result<Calls, JournalError>
         calls: Calls::default(),
     };
     let mut journal = start(alloc, &mut disk)?;
-    for k in 0..2 * SLOTS {
-        disk.calls = Calls::default();
+    disk.calls = Calls::default();
+    for k in 0..COUNTED {
         commit(&mut journal, &mut disk, k, puts)?;
-        if disk.calls != Calls::of_commit(puts) {
-            break;
-        }
     }
     Ok(disk.calls)
 }
 
 // Prints the row of so many puts, and answers whether its counts agree.
-fn print_row(rt: &impl Print, puts: u32, calls: &Calls) -> io::Result<bool> {
-    let own = Calls::of_commit(puts);
+fn print_row(rt: &impl Print, puts: u32, calls: &Calls) -> io::Result<bool>
+    requires few { puts ≤ 4 }
+{
+    let own = Calls::of_commits(COUNTED, puts);
     let agree = *calls == own;
     print!(rt; "{puts:>4} {:>6} {:>6}", calls.syncs, own.syncs)?;
     print!(rt; " {:>7} {:>6}", calls.writes, own.writes)?;
-    print!(rt; " {:>6} {:>6}", calls.bytes, own.bytes)?;
+    print!(rt; " {:>9} {:>8}", calls.bytes, own.bytes)?;
     print!(rt; " {:>6} {:>6}", calls.reads, own.reads)?;
     rt.println(if agree { "  agree" } else { "  differ" })?;
     Ok(agree)
 }
 
-/// Prints what a commit of 1 to 4 puts does on a disk in memory beside the format's own count, and answers whether they
-/// agree.
+/// Prints what 10,000 commits of 1 to 4 puts do on a disk in memory beside the format's own count, and answers whether
+/// they agree.
 pub fn print_table<R: Print + AllocGlobal>(rt: &R) -> Result<bool> {
-    rt.println("puts  syncs format  writes format  bytes format  reads format")?;
+    println!(rt; "{COUNTED} commits")?;
+    rt.println("puts  syncs format  writes format     bytes   format  reads format")?;
     let mut agree = true;
     for puts in 1..5 {
         let calls = calls_of(rt.alloc(), puts)?;
@@ -71,8 +73,8 @@ fn time_of<R: AllocGlobal + Clock>(rt: &R, commits: u32) -> Result<f64> {
     }
     let micros = begin.elapsed(rt)?.as_secs_f64() * 1e6;
     let calls = disk.calls().saturating_sub(before);
-    let own = Calls::of_commit(1);
-    let wanted = (own.reads + own.writes + own.syncs) * u64::from(commits);
+    let own = Calls::of_commits(commits, 1);
+    let wanted = own.reads + own.writes + own.syncs;
     ensure!(
         calls == wanted,
         "{calls} calls of the disk in place of {wanted}"
@@ -85,5 +87,41 @@ pub fn print_time<R: Print + AllocGlobal + Clock>(rt: &R, commits: u32) -> Resul
     time_of(rt, WARM_UP)?;
     let each = time_of(rt, commits)? / f64::from(commits);
     println!(rt; "{commits} commits: {each:.3} us a commit")?;
+    Ok(())
+}
+
+// How many reads are timed, round all slots.
+const READS: u32 = 100_000;
+
+// The microseconds that those reads take with so many entries in use, over a file that has all slots.
+fn read_time_of<R: AllocGlobal + Clock>(rt: &R, in_use: u32) -> Result<f64> {
+    let mut disk = MemDisk::new(rt.alloc(), Vec::new(rt.alloc()))?;
+    let mut journal = start(rt.alloc(), &mut disk)?;
+    for k in 0..SLOTS {
+        commit(&mut journal, &mut disk, k, 1).map_err(JournalError::from)?;
+    }
+    journal.settle(&mut disk).map_err(JournalError::from)?;
+    for k in 0..in_use {
+        commit(&mut journal, &mut disk, k, 1).map_err(JournalError::from)?;
+    }
+    let begin = Instant::now(rt)?;
+    let mut sum = 0u64;
+    for k in 0..READS {
+        let bytes = journal
+            .read(&mut disk, k % SLOTS)
+            .map_err(JournalError::from)?;
+        sum = sum.saturating_add(u64::from(bytes[0]));
+    }
+    let micros = begin.elapsed(rt)?.as_secs_f64() * 1e6;
+    ensure!(sum > 0, "every slot reads as zeros");
+    Ok(micros)
+}
+
+/// Prints the time of a read with none, half and nearly all of the entries in use.
+pub fn print_reads<R: Print + AllocGlobal + Clock>(rt: &R) -> Result<()> {
+    for in_use in [0, 32, 63] {
+        let each = read_time_of(rt, in_use)? / f64::from(READS);
+        println!(rt; "{in_use} entries in use: {each:.3} us a read")?;
+    }
     Ok(())
 }

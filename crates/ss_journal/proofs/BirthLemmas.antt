@@ -8,14 +8,14 @@ use Rattle.ss_outside.specs.Crash.{KnowsNow, OnlyReads}
 use Rattle.ss_outside.specs.Disk.{Told, overwrite}
 use Rattle.ss_journal.specs.Birth.{IsBegun, IsFormed, blank_end, form_ranges, magic_bytes}
 use Rattle.ss_journal.specs.Calls.{KeepsMap}
-use Rattle.ss_journal.specs.Format.{entry_place, has_magic, is_born, is_unborn, magic, opens, slots_in}
-use Rattle.ss_journal.specs.Kept.{AllClosed}
+use Rattle.ss_journal.specs.Format.{has_magic, is_born, is_unborn, magic, slots_in}
+use Rattle.ss_journal.specs.Gates.{ClosedFrom, entry_place, opens}
 use Rattle.ss_journal.specs.Redo.{Gives, Redone, SameMap, SlotMap, StandsFor, blank_map}
-use Rattle.ss_journal.specs.Writes.{DiffersAt, DiffersIn, Tears, end_of}
+use Rattle.ss_journal.specs.Writes.{SameRest, DiffersAt, DiffersIn, Tears, end_of}
 use Rattle.ss_journal.proofs.GateLemmas.{StandsFor-first_closed}
 use Rattle.ss_journal.proofs.HeaderLemmas.{has_magic-same, is_born-from, is_unborn-cases, is_unborn-gate, is_unborn-short, is_unborn-zero, long-has_magic}
 use Rattle.ss_journal.proofs.MapLemmas.{SameMap-trans, file_map-blank}
-use Rattle.ss_journal.proofs.RangeLemmas.{DiffersIn-append, DiffersIn-overwrite, DiffersIn-refl, get_or-differs, length-differs}
+use Rattle.ss_journal.proofs.RangeLemmas.{SameRest-differs, DiffersIn-append, DiffersIn-overwrite, DiffersIn-refl, get_or-differs, length-differs}
 use Rattle.ss_journal.proofs.RedoLemmas.{StandsFor-from, redo-unborn}
 use Rattle.ss_journal.proofs.TearLemmas.{keeps-failed, tears-after_read, tears-joined}
 
@@ -52,7 +52,7 @@ IsBegun-long content unborn long = record {
   some = omega (arith, long);
 }
 
--- as many slots, with what is written behind the magic
+-- as many slots, with what is written after the magic
 slots_in-blank : (size longer : ℕ) → size ≤ longer → longer ≤ max (max size 9) (blank_end size) → slots_in longer ≡ slots_in size
 slots_in-blank size longer le most = omega arith
 
@@ -62,7 +62,7 @@ few-magic_bytes content = elim (cases_Bool (nat_eq (slice_index content 0) 0)) [
   | inr other ↦ omega (arith, ap length (cond-false (nat_eq (slice_index content 0) 0) magic [] other))
 ]
 
--- the magic and the zeros behind it, lost, torn or whole
+-- the magic and the zeros after it, lost, torn or whole
 pub StandsFor-form : (content image : List ℕ) (found : SlotMap) → IsBegun content → StandsFor content found
     → DiffersIn (form_ranges content) content image → StandsFor image found
 StandsFor-form content image found begun is differs = StandsFor-unborn content image found begun.unborn is unborn slots
@@ -182,6 +182,11 @@ module _ (content : List ℕ) (begun : IsBegun content) where
         let wipes = subst (λ (count : ℕ). DiffersIn ((9, count) ∷ []) marked blank) (length-wiped ∙ ap (λ (n : ℕ). n - 9) is_end) (DiffersIn-overwrite 9 marked wiped long-marked) in
         DiffersIn-append ((1, length (magic_bytes content)) ∷ []) ((9, blank_end (length content) - 9) ∷ []) content marked blank (DiffersIn-overwrite 1 content (magic_bytes content) within) wipes
 
+    pub SameRest-blank : SameRest content blank
+    SameRest-blank = SameRest-differs (form_ranges content) content blank
+        (λ place past. (inr (omega (arith, past, few-magic_bytes content)), (inr (omega (arith, past)), tt)))
+        (omega (arith, few-magic_bytes content)) DiffersIn-blank
+
 -- the run: a read, the magic, the zeros
 module _ (old read marked : Told) (knows : KnowsNow old) (reads : OnlyReads old read) (marking : Tears ((1, length (magic_bytes read.content)) ∷ []) read marked) where
   abbrev marks : List (ℕ × ℕ)
@@ -236,12 +241,12 @@ module _ (content image : List ℕ) (formed : IsFormed content) (differs : Diffe
 
 -- the gate is opened
 pub birth-opened : (content : List ℕ) → IsFormed content
-    → IsTrue (is_born (overwrite content 0 (165 ∷ []))) × AllClosed (overwrite content 0 (165 ∷ []))
+    → IsTrue (is_born (overwrite content 0 (165 ∷ []))) × ClosedFrom 0 (overwrite content 0 (165 ∷ []))
 birth-opened content formed =
     let within : 0 ≤ length content = omega arith in
     let image = overwrite content 0 (165 ∷ []) in
     let differs = DiffersIn-overwrite 0 content (165 ∷ []) within in
     let gate = get_or-overwrite_inside content (165 ∷ []) 0 within 0 (omega arith) in (
       born-opened content image formed differs (subst (λ (byte : ℕ). IsTrue (opens byte)) (sym gate) refl),
-      λ n lt. gate-image content image formed differs (entry_place n) (omega arith) (omega (arith, lt)),
+      λ n le lt. gate-image content image formed differs (entry_place n) (omega arith) (omega (arith, lt)),
     )

@@ -59,7 +59,7 @@ is_good-again entry old new good le =
     let fits = and_parts _ _ zero.0 in
     (and_from _ _ (and_from _ _ fits.0 (slots_fit-again (puts_of entry) old new fits.1 le)) zero.1, fits.1)
 
--- an entry of so few puts is judged by them, and by what stands behind them
+-- an entry of so few puts is judged by them, and by what stands after them
 pub is_good-few : (entry : List ℕ) (extent : ℕ) → 1 ≤ count_of entry → count_of entry ≤ 4
     → is_good entry extent ≡ (slots_rise_from 0 (puts_of entry) && slots_fit (puts_of entry) extent && list_all (λ byte. byte == 0) (drop (2 + 132 * count_of entry) entry))
 unfolding is_good
@@ -92,9 +92,9 @@ AreWhole-puts_of entry long few =
 -- a number reads back from where its bytes stand
 number_at-dropped : (bytes rest : List ℕ) (at x : ℕ) → x < 2 ^ 32 → drop at bytes ≡ number_bytes 4 x ++ rest → number_at 4 bytes at ≡ x
 number_at-dropped bytes rest at x fits there =
-    let behind : drop (at + 4) bytes ≡ rest = sym (drop-drop 4 at bytes) ∙ ap (drop 4) there ∙ drop_at (number_bytes 4 x) rest 4 (length-number_bytes 4 x) in
+    let after : drop (at + 4) bytes ≡ rest = sym (drop-drop 4 at bytes) ∙ ap (drop 4) there ∙ drop_at (number_bytes 4 x) rest 4 (length-number_bytes 4 x) in
     let whole : take at bytes ++ number_bytes 4 x ++ drop (at + 4) bytes ≡ bytes =
-    append_assoc (take at bytes) (number_bytes 4 x) (drop (at + 4) bytes) ∙ ap (λ (list : List ℕ). take at bytes ++ (number_bytes 4 x ++ list)) behind ∙ ap (λ (list : List ℕ). take at bytes ++ list) (sym there) ∙ take-append-drop at bytes in
+    append_assoc (take at bytes) (number_bytes 4 x) (drop (at + 4) bytes) ∙ ap (λ (list : List ℕ). take at bytes ++ (number_bytes 4 x ++ list)) after ∙ ap (λ (list : List ℕ). take at bytes ++ list) (sym there) ∙ take-append-drop at bytes in
     let inside : at + 4 ≤ length bytes = omega (arith, ap length there, length-drop at bytes, length-append (number_bytes 4 x) rest, length-number_bytes 4 x) in
     ap (λ (list : List ℕ). number_at 4 list at) (sym whole) ∙ number_at-written 4 at x bytes inside (omega (arith, fits))
 
@@ -144,13 +144,13 @@ module _ (puts : List Put) (gate : ℕ) (whole : AreWhole puts) (txn : IsTxn put
       let from : drop (2 + 132 * k) entry ≡ put_bytes put ++ there.0 = sym (drop-drop (132 * k) 2 entry) ∙ there.1 in
       let split : drop (2 + 132 * k) entry ≡ number_bytes 4 put.slot ++ (put.bytes ++ there.0) = from ∙ append_assoc (number_bytes 4 put.slot) put.bytes there.0 in
       let place : 6 + 132 * k ≡ 2 + 132 * k + 4 = omega arith in
-      let behind : drop (6 + 132 * k) entry ≡ put.bytes ++ there.0 =
+      let after : drop (6 + 132 * k) entry ≡ put.bytes ++ there.0 =
       ap (λ (n : ℕ). drop n entry) place ∙ sym (drop-drop 4 (2 + 132 * k) entry) ∙ ap (drop 4) split ∙ drop_at (number_bytes 4 put.slot) (put.bytes ++ there.0) 4 (length-number_bytes 4 put.slot) in
       let below = All-get_or (λ (p : Put). p.slot < 2 ^ 20) puts k none lt (AreSlots-rise 0 puts txn.rise) in
       let full = All-get_or (λ (p : Put). length p.bytes ≡ 128) puts k none lt whole in
       same_put put (number_at 4 entry (2 + 132 * k)) (take 128 (drop (6 + 132 * k) entry))
       (number_at-dropped entry (put.bytes ++ there.0) (2 + 132 * k) put.slot (omega (arith, below)) split)
-      (ap (take 128) behind ∙ take_at put.bytes there.0 128 full)
+      (ap (take 128) after ∙ take_at put.bytes there.0 128 full)
 
   -- an entry that is spelled from puts has these puts, and is sound where they fit
   pub puts_of-body : puts_of (gate ∷ entry_body puts) ≡ puts
@@ -178,7 +178,7 @@ unfolding entry_body
 length-entry_body puts whole few =
     omega (arith, few, length-append (flat_map put_bytes puts) (replicate (542 - 132 * length puts) 0), length-puts_bytes puts whole, length-replicate {A = ℕ} (542 - 132 * length puts) 0)
 
--- what stands behind the gate of a spelled entry
+-- what stands after the gate of a spelled entry
 pub body-entry : (puts : List Put) (entry : List ℕ) → AreWhole puts → length puts ≤ 4 → entry ≡ 0 ∷ entry_body puts
     → take 543 (drop 1 entry) ≡ entry_body puts
 body-entry puts entry whole few is =
@@ -187,23 +187,25 @@ body-entry puts entry whole few is =
 -- one put more
 pub entry-more : (puts : List Put) (k : ℕ) (d : Put) (old : List ℕ) → k < length puts → length puts ≤ 4 → AreWhole (take k puts)
     → old ≡ 0 ∷ length puts ∷ flat_map put_bytes (take k puts) ++ replicate (542 - 132 * k) 0
-    → take (2 + 132 * k) old ++ put_bytes (get_or puts k d) ++ drop (134 + 132 * k) old ≡ 0 ∷ length puts ∷ flat_map put_bytes (take (k + 1) puts) ++ replicate (542 - 132 * (k + 1)) 0
+    → take (2 + 132 * k) old ++ put_bytes (get_or puts k d) ++ drop (2 + 132 * (k + 1)) old ≡ 0 ∷ length puts ∷ flat_map put_bytes (take (k + 1) puts) ++ replicate (542 - 132 * (k + 1)) 0
 entry-more puts k d old lt few whole is =
     let front : List ℕ = 0 ∷ length puts ∷ flat_map put_bytes (take k puts) in
     let put = get_or puts k d in
     let zeros : List ℕ = replicate (542 - 132 * k) 0 in
     let long : length front ≡ 2 + 132 * k = omega (arith, length-puts_bytes (take k puts) whole, length-take k puts, lt) in
     let start : take (2 + 132 * k) old ≡ front = ap (take (2 + 132 * k)) is ∙ take_at front zeros (2 + 132 * k) long in
-    let place : 134 + 132 * k ≡ 2 + 132 * k + 132 = omega arith in
+    let place : 2 + 132 * (k + 1) ≡ 2 + 132 * k + 132 = omega arith in
     let less : 542 - 132 * k - 132 ≡ 542 - 132 * (k + 1) = omega arith in
-    let rest : drop (134 + 132 * k) old ≡ replicate (542 - 132 * (k + 1)) 0 =
+    let rest : drop (2 + 132 * (k + 1)) old ≡ replicate (542 - 132 * (k + 1)) 0 =
     ap (λ (n : ℕ). drop n old) place ∙ sym (drop-drop 132 (2 + 132 * k) old) ∙ ap (drop 132) (ap (drop (2 + 132 * k)) is ∙ drop_at front zeros (2 + 132 * k) long)
     ∙ drop-replicate 132 (542 - 132 * k) 0 ∙ ap (λ (n : ℕ). replicate n 0) less in
     let puts_bytes : flat_map put_bytes (take (k + 1) puts) ≡ flat_map put_bytes (take k puts) ++ put_bytes put =
     ap (flat_map put_bytes) (take_more puts k d lt) ∙ flat_map-append put_bytes (take k puts) (put ∷ []) ∙ ap (λ (list : List ℕ). flat_map put_bytes (take k puts) ++ list) (append-nil (put_bytes put)) in
-    ap (λ (list : List ℕ). list ++ put_bytes put ++ drop (134 + 132 * k) old) start
-    ∙ ap (λ (list : List ℕ). front ++ put_bytes put ++ list) rest
-    ∙ ap (λ (list : List ℕ). 0 ∷ length puts ∷ list ++ replicate (542 - 132 * (k + 1)) 0) (sym puts_bytes)
+    let tail : List ℕ = drop (2 + 132 * (k + 1)) old in
+    let zeros_then : List ℕ = replicate (542 - 132 * (k + 1)) 0 in
+    let first : take (2 + 132 * k) old ++ put_bytes put ++ tail ≡ front ++ put_bytes put ++ tail = ap (λ (list : List ℕ). list ++ put_bytes put ++ tail) start in
+    let second : front ++ put_bytes put ++ tail ≡ front ++ put_bytes put ++ zeros_then = ap (λ (list : List ℕ). front ++ put_bytes put ++ list) rest in
+    first ∙ second ∙ ap (λ (list : List ℕ). 0 ∷ length puts ∷ list ++ zeros_then) (sym puts_bytes)
 
 pub entry-all : (puts : List Put) (entry : List ℕ)
     → entry ≡ 0 ∷ length puts ∷ flat_map put_bytes (take (length puts) puts) ++ replicate (542 - 132 * length puts) 0 → entry ≡ 0 ∷ entry_body puts

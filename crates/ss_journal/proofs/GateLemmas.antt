@@ -1,38 +1,37 @@
--- What counts behind a closed first gate, and how the other gates close.
+-- What counts after a closed first gate, and how the other gates close.
 use Rattle.std.proofs.Common.{Bool, IsFalse, IsTrue, List, Ok, [], ap, arith, false, inl, inr, length, map, refl, subst, suc, sym, true, zero, ℕ, ⊎_elim, ◌+◌, ◌<◌, ◌∙◌, ◌∷◌, ◌≡◌, ◌≤◌, ◌⊎◌}
 use Rattle.std.proofs.lemmas.Bool.{cases_eq, cases_lt}
 use Rattle.std.specs.List.{range_with_len}
 use Rattle.std.specs.Prelude.{slice_index}
 use Rattle.ss_outside.proofs.DiskLemmas.{get_or-overwrite_inside, get_or-overwrite_outside}
 use Rattle.ss_outside.specs.Disk.{IsOutside, IsOutsideAll, Told, overwrite}
-use Rattle.ss_journal.specs.Format.{entry_place, is_born, opens}
-use Rattle.ss_journal.specs.Kept.{AllClosed}
+use Rattle.ss_journal.specs.Format.{is_born}
+use Rattle.ss_journal.specs.Gates.{ClosedFrom, ClosesGate, IsClosed, entry_place, opens, other_gates}
 use Rattle.ss_journal.specs.Redo.{Gives, Redone, SameMap, SlotMap, StandsFor, file_map}
-use Rattle.ss_journal.specs.Settling.{ClosesGate}
-use Rattle.ss_journal.specs.Writes.{DiffersAt, DiffersIn, FirstClosed, end_of, other_gates}
+use Rattle.ss_journal.specs.Writes.{DiffersAt, DiffersIn, end_of}
 use Rattle.ss_journal.proofs.HeaderLemmas.{is_born-parts, is_born-same}
 use Rattle.ss_journal.proofs.MapLemmas.{SameMap-refl, SameMap-trans, file_map-same}
 use Rattle.ss_journal.proofs.RangeLemmas.{Covers, DiffersIn-covered, DiffersIn-overwrite, get_or-differs, length-differs}
 use Rattle.ss_journal.proofs.RedoLemmas.{StandsFor-from, redo-first_closed}
 
 -- with the first gate closed the file alone gives the map
-pub file_map-first_closed : (content : List ℕ) (found : SlotMap) → IsTrue (is_born content) → FirstClosed content → StandsFor content found
+pub file_map-first_closed : (content : List ℕ) (found : SlotMap) → IsTrue (is_born content) → IsClosed 0 content → StandsFor content found
     → SameMap (file_map content) found
 file_map-first_closed content found born closed is = subst (λ (r : Redone). Gives r found) (redo-first_closed content born closed).0 is
 
-pub StandsFor-first_closed : (image : List ℕ) (found : SlotMap) → IsTrue (is_born image) → FirstClosed image → SameMap (file_map image) found
+pub StandsFor-first_closed : (image : List ℕ) (found : SlotMap) → IsTrue (is_born image) → IsClosed 0 image → SameMap (file_map image) found
     → StandsFor image found
 StandsFor-first_closed image found born closed same = StandsFor-from image (file_map image) found (redo-first_closed image born closed).0 same
 
--- behind a closed first gate, what differs between the header and the slots counts for nothing
-StandsFor-entries : (ranges : List (ℕ × ℕ)) (content image : List ℕ) (found : SlotMap) → IsTrue (is_born content) → FirstClosed content
+-- after a closed first gate, what differs between the header and the slots counts for nothing
+StandsFor-entries : (ranges : List (ℕ × ℕ)) (content image : List ℕ) (found : SlotMap) → IsTrue (is_born content) → IsClosed 0 content
     → StandsFor content found → end_of ranges (length content) ≤ length content
-    → ((place : ℕ) → (place < 513) ⊎ (36864 ≤ place) → IsOutsideAll ranges place) → DiffersIn ranges content image → StandsFor image found × IsTrue (is_born image) × FirstClosed image
+    → ((place : ℕ) → (place < 513) ⊎ (36864 ≤ place) → IsOutsideAll ranges place) → DiffersIn ranges content image → StandsFor image found × IsTrue (is_born image) × IsClosed 0 image
 StandsFor-entries ranges content image found born closed is inside out differs =
     let size = length-differs ranges content image inside differs in
     let same : (place : ℕ) → (place < 513) ⊎ (36864 ≤ place) → slice_index image place ≡ slice_index content place = λ place beside. get_or-differs ranges content image inside differs place (out place beside) in
     let formed = is_born-same content image born size (λ place lt. same place (inl (omega (arith, lt)))) in
-    let gate : FirstClosed image = subst (λ (byte : ℕ). IsFalse (opens byte)) (sym (same 512 (inl (omega arith)))) closed in
+    let gate : IsClosed 0 image = subst (λ (byte : ℕ). IsFalse (opens byte)) (sym (same 512 (inl (omega arith)))) closed in
     (StandsFor-first_closed image found formed gate (SameMap-trans _ _ _ (file_map-same content image size (λ place from. same place (inr from))) (file_map-first_closed content found born closed is)), formed, gate)
 
 -- gates of entries in a row
@@ -49,16 +48,16 @@ end_of-gates from zero size le = omega arith
 end_of-gates from (suc n) size le = omega (arith, end_of-gates (from + 1) n size (omega (arith, le)), le)
 
 -- with the first gate closed the others count for nothing
-pub StandsFor-other_gates : (content image : List ℕ) (found : SlotMap) → IsTrue (is_born content) → FirstClosed content → StandsFor content found
-    → DiffersIn other_gates content image → StandsFor image found × IsTrue (is_born image) × FirstClosed image
+pub StandsFor-other_gates : (content image : List ℕ) (found : SlotMap) → IsTrue (is_born content) → IsClosed 0 content → StandsFor content found
+    → DiffersIn other_gates content image → StandsFor image found × IsTrue (is_born image) × IsClosed 0 image
 StandsFor-other_gates content image found born closed is differs =
     let long = (is_born-parts content born).0 in
     StandsFor-entries other_gates content image found born closed is (end_of-gates 1 63 (length content) (omega (arith, long)))
     (λ place beside. outside_gates 1 63 place (⊎_elim (λ below. inl (omega (arith, below))) (λ above. inr (omega (arith, above))) beside)) differs
 
--- behind a closed gate anything may stand
-pub StandsFor-body : (content image : List ℕ) (found : SlotMap) → IsTrue (is_born content) → FirstClosed content → StandsFor content found
-    → DiffersAt 513 543 content image → StandsFor image found × IsTrue (is_born image) × FirstClosed image
+-- after a closed gate anything may stand
+pub StandsFor-body : (content image : List ℕ) (found : SlotMap) → IsTrue (is_born content) → IsClosed 0 content → StandsFor content found
+    → DiffersAt 513 543 content image → StandsFor image found × IsTrue (is_born image) × IsClosed 0 image
 StandsFor-body content image found born closed is differs =
     let long = (is_born-parts content born).0 in
     StandsFor-entries ((513, 543) ∷ []) content image found born closed is (omega (arith, long))
@@ -108,14 +107,13 @@ module _ (content : List ℕ) (n : ℕ) (old new : Told) (low : 0 < n) (high : n
       ])
 
 -- a formed file whose other gates differ is formed, and its first gate is closed
-pub born-others : (content image : List ℕ) → IsTrue (is_born content) → FirstClosed content → DiffersIn other_gates content image
-    → IsTrue (is_born image) × FirstClosed image
+pub born-others : (content image : List ℕ) → IsTrue (is_born content) → IsClosed 0 content → DiffersIn other_gates content image
+    → IsTrue (is_born image) × IsClosed 0 image
 born-others content image born closed differs =
     let is = StandsFor-from content (file_map content) (file_map content) (redo-first_closed content born closed).0 (SameMap-refl (file_map content)) in
     let all = StandsFor-other_gates content image (file_map content) born closed is differs in
     (all.1, all.2)
 
-pub AllClosed-others : (content : List ℕ) → FirstClosed content → ((k : ℕ) → 0 < k → k < 64 → IsFalse (opens (slice_index content (entry_place k))))
-    → AllClosed content
-AllClosed-others content first others zero lt = first
-AllClosed-others content first others (suc n) lt = others (suc n) (omega arith) lt
+pub ClosedFrom-others : (content : List ℕ) → IsClosed 0 content → ((k : ℕ) → 0 < k → k < 64 → IsClosed k content) → ClosedFrom 0 content
+ClosedFrom-others content first others zero le lt = first
+ClosedFrom-others content first others (suc n) le lt = others (suc n) (omega arith) lt

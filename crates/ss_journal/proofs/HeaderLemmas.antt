@@ -10,7 +10,8 @@ use Rattle.std.specs.Cmp.Lexicographic.{pointwise}
 use Rattle.std.specs.Prelude.{All, slice_index}
 use lib.Pointwise.{pointwise, pointwise_long}
 use Rattle.ss_outside.specs.Disk.{IsReadFrom}
-use Rattle.ss_journal.specs.Format.{has_magic, is_born, is_unborn, magic, opens}
+use Rattle.ss_journal.specs.Format.{has_magic, is_born, is_unborn, magic}
+use Rattle.ss_journal.specs.Gates.{opens}
 use Rattle.ss_journal.specs.Opening.{IsHead}
 
 -- a piece of two lists that agree there is the same

@@ -6,99 +6,102 @@ use Rattle.std.specs.Prelude.{flat_map, slice_index}
 use Rattle.ss_outside.proofs.DiskLemmas.{get_or-overwrite_inside, get_or-overwrite_outside}
 use Rattle.ss_outside.specs.Disk.{IsOutside, overwrite}
 use Rattle.ss_journal.specs.Entries.{entries, open_prefix, puts_of}
-use Rattle.ss_journal.specs.Format.{entry_place, is_born, opens, slots_in}
+use Rattle.ss_journal.specs.Format.{is_born, slots_in}
+use Rattle.ss_journal.specs.Gates.{IsClosed, opens}
 use Rattle.ss_journal.specs.Puts.{AreWhole, slots_fit}
-use Rattle.ss_journal.specs.Redo.{Gives, Redone, SameMap, SlotMap, StandsFor, changed, file_map, redo, redo_entries, stands}
-use Rattle.ss_journal.specs.Settling.{AreInUse}
-use Rattle.ss_journal.specs.Writes.{AreSlots, DiffersAt, DiffersIn, FirstClosed, HasRoom, SameOthers, end_of, slot_ranges, slots_written}
+use Rattle.ss_journal.specs.Redo.{CameInPart, entries_in_use, Gives, InUse, Redone, SameMap, SlotMap, StandsFor, changed, file_map, redo, redo_entries, stands}
+use Rattle.ss_journal.specs.Writes.{AreSlots, DiffersAt, DiffersIn, HasRoom, end_of, slot_ranges, slots_written}
 use Rattle.ss_journal.specs.declared.put.Put.{Put}
 use Rattle.ss_journal.proofs.GateLemmas.{StandsFor-first_closed}
 use Rattle.ss_journal.proofs.HeaderLemmas.{is_born-parts, is_born-same}
 use Rattle.ss_journal.proofs.MapLemmas.{SameMap-refl, SameMap-trans, file_map-same}
-use Rattle.ss_journal.proofs.PutLemmas.{extent_after-again, with_puts-again}
 use Rattle.ss_journal.proofs.RangeLemmas.{DiffersIn-overwrite, get_or-differs, length-differs}
-use Rattle.ss_journal.proofs.RedoLemmas.{StandsFor-from, StandsFor-same, puts_in_use-formed, redo-born, redo-first_closed, redo-formed, redo-same_header, redo_entries-again}
+use Rattle.ss_journal.proofs.RedoLemmas.{StandsFor-from, StandsFor-also, StandsFor-parts, StandsFor-same, entries_in_use-formed, redo-born, redo-first_closed, redo-formed, redo-same_header, redo_entries-idempotent}
 use Rattle.ss_journal.proofs.SlotLemmas.{AgreeBeside-torn, DiffersIn-slots_written, file_map-slots_written, outside_slots, slots_in-mono, slots_in-torn}
 
 -- the entries in use, by the file and the puts
-module _ (puts : List Put) (content : List ℕ) (in_use : AreInUse puts content) where
+module _ (puts : List Put) (content : List ℕ) (born : IsTrue (is_born content)) (in_use : InUse puts content) where
   redone : (in_use.found ≡ changed (file_map content) puts) × IsTrue (slots_fit puts (slots_in (length content))) × AreSlots puts × AreWhole puts
   redone = subst (λ (p : List Put). (in_use.found ≡ changed (file_map content) p) × IsTrue (slots_fit p (slots_in (length content))) × AreSlots p × AreWhole p)
-      (sym in_use.in_use) (redo-born content in_use.found in_use.born in_use.map)
+      (sym in_use.all) (redo-born content in_use.found born in_use.map)
 
-  same_map : (found : SlotMap) → StandsFor content found → SameMap (changed (file_map content) puts) found
-  same_map found is = subst (λ (map : SlotMap). SameMap map found) redone.0 (subst (λ (r : Redone). Gives r found) in_use.map is)
+  same_map : (found : SlotMap) → StandsFor content found → SameMap in_use.found found
+  same_map found is = subst (λ (r : Redone). Gives r found) in_use.map is
 
   pub in_use-fit : IsTrue (slots_fit puts (slots_in (length content)))
   in_use-fit = redone.1
 
   pub long-in_use : 36864 ≤ length content
-  long-in_use = (is_born-parts content in_use.born).0
+  long-in_use = (is_born-parts content born).0
 
-  redo-torn : (image : List ℕ) → IsTrue (is_born image) → entries image ≡ entries content → length content ≤ length image
-      → redo image ≡ stands (changed (file_map image) puts)
-  redo-torn image born same longer =
-      let list = open_prefix (entries content) in
-      let was : redo_entries 0 list (file_map content) ≡ stands in_use.found = sym (redo-formed content in_use.born) ∙ in_use.map in
-      let its : flat_map puts_of list ≡ puts = sym (puts_in_use-formed content in_use.born) ∙ sym in_use.in_use in
-      redo-formed image born
-      ∙ ap (λ (all : List (List ℕ)). redo_entries 0 (open_prefix all) (file_map image)) same
-      ∙ redo_entries-again 0 list (file_map content) (file_map image) in_use.found was (slots_in-mono (length content) (length image) longer)
-      ∙ ap (λ (p : List Put). stands (changed (file_map image) p)) its
+  pub StandsFor-found : StandsFor content in_use.found
+  StandsFor-found = StandsFor-from content in_use.found in_use.found in_use.map (SameMap-refl in_use.found)
 
-  in_use-torn : (image : List ℕ) → IsTrue (is_born image) → entries image ≡ entries content → length content ≤ length image → AreInUse puts image
-  in_use-torn image born same longer = record {
-    born = born;
-    in_use = in_use.in_use ∙ puts_in_use-formed content in_use.born ∙ ap (λ (all : List (List ℕ)). flat_map puts_of (open_prefix all)) (sym same) ∙ sym (puts_in_use-formed image born);
-    found = changed (file_map image) puts;
-    map = redo-torn image born same longer;
-  }
+  -- any of the puts may have come to the file, in whole or in part
+  module _ (image : List ℕ) (differs : DiffersIn (slot_ranges puts) content image) where
+    part : CameInPart puts (file_map content) in_use.found (file_map image)
+    part = record {
+      beside = AgreeBeside-torn puts content image in_use-fit differs;
+      no_less = slots_in-mono (length content) (length image) differs.no_shorter;
+      no_more = subst (λ (m : SlotMap). slots_in (length image) ≤ m.extent) (sym redone.0) (slots_in-torn puts content image in_use-fit differs);
+    }
 
--- the puts in use, lost, torn or whole in their slots, leave the map, since their entries stand
-pub StandsFor-slots_torn : (puts : List Put) (content image : List ℕ) (found : SlotMap) → AreInUse puts content → StandsFor content found
-    → DiffersIn (slot_ranges puts) content image → StandsFor image found × AreInUse puts image
-StandsFor-slots_torn puts content image found in_use is differs =
-    let long = long-in_use puts content in_use in
-    let header = redo-same_header content image in_use.born differs.no_shorter (λ place lt. differs.kept place (omega (arith, lt, long)) (outside_slots puts place lt)) in
-    let fit = in_use-fit puts content in_use in
-    let mono = slots_in-mono (length content) (length image) differs.no_shorter in
-    let alike : SameMap (changed (file_map image) puts) (changed (file_map content) puts) = record {
-      bytes = λ slot lt. with_puts-again puts (file_map content).bytes (file_map image).bytes (AgreeBeside-torn puts content image fit differs) slot;
-      extent = extent_after-again puts (slots_in (length content)) (slots_in (length image)) fit mono (slots_in-torn puts content image fit differs);
-    } in (
-      StandsFor-from image (changed (file_map image) puts) found (redo-torn puts content in_use image header.0 header.1 differs.no_shorter) (SameMap-trans _ _ _ alike (same_map puts content in_use found is)),
-      in_use-torn puts content in_use image header.0 header.1 differs.no_shorter,
-    )
+    header : IsTrue (is_born image) × (entries image ≡ entries content)
+    header = redo-same_header content image born differs.no_shorter (λ place lt. differs.kept place (omega (arith, lt, long-in_use)) (outside_slots puts place lt))
 
--- written, they stand in their slots: the file alone gives the map
-pub SameMap-slots_written : (puts : List Put) (content : List ℕ) (found : SlotMap) → AreInUse puts content → StandsFor content found
-    → SameMap (file_map (slots_written puts content)) found
-SameMap-slots_written puts content found in_use is =
-    let all = redone puts content in_use in
-    SameMap-trans _ _ _ (file_map-slots_written puts content (long-in_use puts content in_use) all.1 all.2 all.3) (same_map puts content in_use found is)
+    same_entries : open_prefix (entries image) ≡ entries_in_use content
+    same_entries = ap open_prefix header.1 ∙ sym (entries_in_use-formed content born)
+
+    -- redo is idempotent
+    again : StandsFor image in_use.found
+    again =
+        let was : redo_entries 0 (entries_in_use content) (file_map content) ≡ stands in_use.found = ap (λ (list : List (List ℕ)). redo_entries 0 list (file_map content)) (entries_in_use-formed content born) ∙ sym (redo-formed content born) ∙ in_use.map in
+        let its : redo image ≡ redo_entries 0 (entries_in_use content) (file_map image) = redo-formed image header.0 ∙ ap (λ (list : List (List ℕ)). redo_entries 0 list (file_map image)) same_entries in
+        subst (λ (r : Redone). Gives r in_use.found) (sym its)
+        (redo_entries-idempotent 0 (entries_in_use content) (file_map content) in_use.found (file_map image) was (subst (λ (p : List Put). CameInPart p (file_map content) in_use.found (file_map image)) in_use.all part))
+
+    -- the map stays, since the entries stand
+    pub StandsFor-slots_torn : (found : SlotMap) → StandsFor content found → StandsFor image found
+    StandsFor-slots_torn found is = StandsFor-also image in_use.found found again (same_map found is)
+
+    pub InUse-slots_torn : IsTrue (is_born image) × InUse puts image
+    InUse-slots_torn =
+        let parts = StandsFor-parts image in_use.found again in (
+          header.0,
+          record {
+            all = in_use.all ∙ ap (flat_map puts_of) (sym same_entries ∙ sym (entries_in_use-formed image header.0));
+            found = parts.0;
+            map = parts.1;
+          },
+        )
+
+  -- written, they stand in their slots: the file alone gives the map
+  pub SameMap-slots_written : (found : SlotMap) → StandsFor content found → SameMap (file_map (slots_written puts content)) found
+  SameMap-slots_written found is =
+      SameMap-trans _ _ _ (file_map-slots_written puts content long-in_use redone.1 redone.2 redone.3) (subst (λ (map : SlotMap). SameMap map found) redone.0 (same_map found is))
 
 -- with puts in use the first gate is open
-first_open : (puts : List Put) (content : List ℕ) → 0 < length puts → AreInUse puts content → IsTrue (opens (slice_index content 512))
-first_open puts content some in_use = elim (cases_Bool (opens (slice_index content 512))) [
+first_open : (puts : List Put) (content : List ℕ) → 0 < length puts → IsTrue (is_born content) → InUse puts content → IsTrue (opens (slice_index content 512))
+first_open puts content some born in_use = elim (cases_Bool (opens (slice_index content 512))) [
   | inl opened ↦ opened
   | inr closed ↦
-      let none : puts ≡ [] = in_use.in_use ∙ (redo-first_closed content in_use.born closed).1 in
+      let none : puts ≡ [] = in_use.all ∙ (redo-first_closed content born closed).1 in
       absurd (omega (arith, some, ap length none))
 ]
 
 -- then the first gate, which is open, may be torn or closed
-pub StandsFor-first_gate : (puts : List Put) (content image : List ℕ) (found : SlotMap) → 0 < length puts → AreInUse puts content
+pub StandsFor-first_gate : (puts : List Put) (content image : List ℕ) (found : SlotMap) → 0 < length puts → IsTrue (is_born content) → InUse puts content
     → StandsFor content found → SameMap (file_map content) found → DiffersAt 512 1 content image → StandsFor image found × IsTrue (is_born image)
-StandsFor-first_gate puts content image found some in_use is same differs =
-    let long = long-in_use puts content in_use in
+StandsFor-first_gate puts content image found some formed in_use is same differs =
+    let long = long-in_use puts content formed in_use in
     let ranges : List (ℕ × ℕ) = (512, 1) ∷ [] in
     let inside : end_of ranges (length content) ≤ length content = omega (arith, long) in
     let size = length-differs ranges content image inside differs in
     let beside : (place : ℕ) → IsOutside 512 1 place → slice_index image place ≡ slice_index content place = λ place out. get_or-differs ranges content image inside differs place (out, tt) in
-    let born = is_born-same content image in_use.born size (λ place lt. beside place (inl (omega (arith, lt)))) in (
+    let born = is_born-same content image formed size (λ place lt. beside place (inl (omega (arith, lt)))) in (
       elim (cases_Bool (opens (slice_index image 512))) [
         | inl opened ↦
-            let gate : slice_index image 512 ≡ slice_index content 512 = eqb-true (slice_index image 512) 165 opened ∙ sym (eqb-true (slice_index content 512) 165 (first_open puts content some in_use)) in
+            let gate : slice_index image 512 ≡ slice_index content 512 = eqb-true (slice_index image 512) 165 opened ∙ sym (eqb-true (slice_index content 512) 165 (first_open puts content some formed in_use)) in
             let all : image ≡ content = ext_get_or 0 image content size (λ place lt. elim (cases_eq place 512) [
               | inl here ↦ subst (λ (p : ℕ). slice_index image p ≡ slice_index content p) (sym here) gate
               | inr other ↦ elim (cases_lt place 512) [ inl below ↦ beside place (inl below) | inr from ↦ beside place (inr (omega (arith, from, other))) ]
@@ -109,38 +112,37 @@ StandsFor-first_gate puts content image found some in_use is same differs =
       born,
     )
 
-module _ (puts : List Put) (content : List ℕ) (in_use : AreInUse puts content) where
+module _ (puts : List Put) (content : List ℕ) (born : IsTrue (is_born content)) (in_use : InUse puts content) where
   pub HasRoom-in_use : HasRoom puts content
-  HasRoom-in_use = record { long = long-in_use puts content in_use; fit = in_use-fit puts content in_use }
+  HasRoom-in_use = record { long = long-in_use puts content born in_use; fit = in_use-fit puts content born in_use }
 
   pub differs-written : DiffersIn (slot_ranges puts) content (slots_written puts content)
   differs-written =
-      let all = redone puts content in_use in
-      DiffersIn-slots_written puts content (long-in_use puts content in_use) all.1 all.2 all.3
+      let all = redone puts content born in_use in
+      DiffersIn-slots_written puts content (long-in_use puts content born in_use) all.1 all.2 all.3
 
   pub long-slots_written : 36864 ≤ length (slots_written puts content)
-  long-slots_written = omega (arith, differs-written.no_shorter, long-in_use puts content in_use)
-
-  StandsFor-found : StandsFor content in_use.found
-  StandsFor-found = StandsFor-from content in_use.found in_use.found in_use.map (SameMap-refl in_use.found)
+  long-slots_written = omega (arith, differs-written.no_shorter, long-in_use puts content born in_use)
 
   -- with the puts in their slots the file alone gives the map, and the same entries are in use
-  stands-written : StandsFor (slots_written puts content) in_use.found × AreInUse puts (slots_written puts content)
-  stands-written = StandsFor-slots_torn puts content (slots_written puts content) in_use.found in_use StandsFor-found differs-written
+  stands-written : StandsFor (slots_written puts content) in_use.found
+  stands-written = StandsFor-slots_torn puts content born in_use (slots_written puts content) differs-written in_use.found (StandsFor-found puts content born in_use)
+
+  in_use-written : IsTrue (is_born (slots_written puts content)) × InUse puts (slots_written puts content)
+  in_use-written = InUse-slots_torn puts content born in_use (slots_written puts content) differs-written
 
   -- then the gate may be torn or closed
   pub StandsFor-applied : (image : List ℕ) (found : SlotMap) → 0 < length puts → StandsFor (slots_written puts content) found
       → DiffersAt 512 1 (slots_written puts content) image → StandsFor image found × IsTrue (is_born image)
   StandsFor-applied image found some is differs =
-      let alike = StandsFor-same (slots_written puts content) in_use.found found stands-written.0 is in
-      StandsFor-first_gate puts (slots_written puts content) image found some stands-written.1 is (SameMap-trans _ _ _ (SameMap-slots_written puts content in_use.found in_use StandsFor-found) alike) differs
+      let alike = StandsFor-same (slots_written puts content) in_use.found found stands-written is in
+      StandsFor-first_gate puts (slots_written puts content) image found some in_use-written.0 in_use-written.1 is
+      (SameMap-trans _ _ _ (SameMap-slots_written puts content born in_use in_use.found (StandsFor-found puts content born in_use)) alike) differs
 
   pub closed-written : 0 < length puts
-      → IsTrue (is_born (overwrite (slots_written puts content) 512 (0 ∷ []))) × FirstClosed (overwrite (slots_written puts content) 512 (0 ∷ [])) × SameOthers content (overwrite (slots_written puts content) 512 (0 ∷ []))
+      → IsTrue (is_born (overwrite (slots_written puts content) 512 (0 ∷ []))) × IsClosed 0 (overwrite (slots_written puts content) 512 (0 ∷ []))
   closed-written some =
       let within : 512 ≤ length (slots_written puts content) = omega (arith, long-slots_written) in (
-        (StandsFor-applied (overwrite (slots_written puts content) 512 (0 ∷ [])) in_use.found some stands-written.0 (DiffersIn-overwrite 512 (slots_written puts content) (0 ∷ []) within)).1,
+        (StandsFor-applied (overwrite (slots_written puts content) 512 (0 ∷ [])) in_use.found some stands-written (DiffersIn-overwrite 512 (slots_written puts content) (0 ∷ []) within)).1,
         subst (λ (byte : ℕ). IsFalse (opens byte)) (sym (get_or-overwrite_inside (slots_written puts content) (0 ∷ []) 512 within 0 (omega arith))) refl,
-        λ n low high. get_or-overwrite_outside (slots_written puts content) (0 ∷ []) 512 within (entry_place n) (inr (omega (arith, low)))
-            ∙ differs-written.kept (entry_place n) (omega (arith, high, long-in_use puts content in_use)) (outside_slots puts (entry_place n) (omega (arith, high))),
       )

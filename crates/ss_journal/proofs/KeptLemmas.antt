@@ -1,63 +1,93 @@
 -- A journal and the content of its disk: opened, settled, read and committed.
-use Rattle.std.proofs.Common.{IsFalse, IsTrue, List, [], ap, arith, inl, inr, length, nat_lt, refl, subst, suc, sym, zero, ℕ, ⊎_elim, ◌<◌, ◌^◌, ◌∙◌, ◌≡◌, ◌≢◌, ◌≤◌, ◌⊎◌}
-use Rattle.std.proofs.lemmas.Bool.{cond-false, cond-true, le-ltb, lt-ltb}
+use Rattle.std.proofs.Common.{◌++◌, ◌+◌, IsFalse, Result, IsTrue, List, [], ap, arith, inl, inr, length, nat_lt, refl, subst, suc, sym, zero, ℕ, ⊎_elim, ◌<◌, ◌^◌, ◌∙◌, ◌≡◌, ◌≢◌, ◌≤◌, ◌⊎◌}
+use Rattle.std.proofs.lemmas.Bool.{both_ways, cond-false, cond-true, le-ltb, lt-ltb}
+use Rattle.std.proofs.lemmas.List.{length-append}
 use Rattle.std.proofs.lemmas.List.Elements.{All-weaker}
-use Rattle.ss_journal.specs.Commit.{IsReady}
-use Rattle.ss_journal.specs.Format.{is_born, is_unborn, opens, slot_at, slots_in}
-use Rattle.ss_journal.specs.Kept.{AllClosed, IsInPhase, IsKept, IsSound, JournalState}
+use Rattle.ss_journal.specs.Commit.{AddsEntry, IsReady}
+use Rattle.std.specs.Prelude.{OnOk, flat_map}
+use Rattle.ss_outside.specs.Disk.{NothingPending, Told}
+use Rattle.ss_journal.specs.Calls.{MakesDurable}
+use Rattle.ss_journal.specs.Entries.{puts_of}
+use Rattle.ss_journal.specs.Format.{is_born, is_unborn, slot_at, slots_in}
+use Rattle.ss_journal.specs.Gates.{ClosedFrom, IsClosed, opens}
+use Rattle.ss_journal.specs.Kept.{IsBounded, IsInPhase, IsKept, JournalState}
+use Rattle.ss_journal.specs.Opening.{AreEntries}
 use Rattle.ss_journal.specs.Puts.{IsTxn, extent_after, slots_fit, with_puts}
 use Rattle.ss_journal.specs.Redo.{Gives, Redone, SameMap, SlotMap, StandsFor, blank_map, changed, file_map, zeros}
-use Rattle.ss_journal.specs.Writes.{FirstClosed, SameOthers}
 use Rattle.ss_journal.specs.declared.phase.Phase.TheVariants.{Born, Settled, Stopped, Unborn}
 use Rattle.ss_journal.specs.declared.phase.Phase.{Phase}
 use Rattle.ss_journal.specs.declared.put.Put.{Put}
 use Rattle.ss_journal.proofs.GateLemmas.{file_map-first_closed}
-use Rattle.ss_journal.proofs.HeaderLemmas.{is_born-parts}
+use Rattle.ss_journal.proofs.HeaderLemmas.{is_born-parts, is_born-unborn}
 use Rattle.ss_journal.proofs.MapLemmas.{SameMap-refl}
-use Rattle.ss_journal.proofs.PutLemmas.{below_extent, extent_after-most, is_put-none, le-extent_after, past_extent, with_puts-beside}
-use Rattle.ss_journal.proofs.RedoLemmas.{StandsFor-from, puts_in_use-unborn, redo-born, redo-first_closed, redo-unborn}
+use Rattle.ss_journal.proofs.PutLemmas.{below_extent, extent_after-most, is_put-none, le-extent_after, past_extent, waiting-below, with_puts-beside}
+use Rattle.ss_journal.proofs.RedoLemmas.{StandsFor-from, StandsFor-parts, entries_in_use-unborn, redo-born, redo-first_closed, redo-unborn}
 
 -- the file of a journal that has not failed is formed or not
-pub cases_phase : (phase : Phase) (content : List ℕ) → IsInPhase phase content → IsTrue (is_unborn content) ⊎ IsTrue (is_born content)
-cases_phase Unborn content is = inl is
-cases_phase Born content is = inr is
-cases_phase Settled content is = inr is.0
-cases_phase Stopped content is = absurd is
+pub cases_phase : (phase : Phase) (in_use : ℕ) (content : List ℕ) → IsInPhase phase in_use content → IsTrue (is_unborn content) ⊎ IsTrue (is_born content)
+cases_phase Unborn in_use content is = inl is
+cases_phase Born in_use content is = inr is
+cases_phase Settled in_use content is = inr is.0
+cases_phase Stopped in_use content is = absurd is
 
-pub born_phase : (phase : Phase) (content : List ℕ) → phase ≢ Unborn → IsInPhase phase content → IsTrue (is_born content)
-born_phase Unborn content other is = absurd (other refl)
-born_phase Born content other is = is
-born_phase Settled content other is = is.0
-born_phase Stopped content other is = absurd is
+pub born_phase : (phase : Phase) (in_use : ℕ) (content : List ℕ) → phase ≢ Unborn → IsInPhase phase in_use content → IsTrue (is_born content)
+born_phase Unborn in_use content other is = absurd (other refl)
+born_phase Born in_use content other is = is
+born_phase Settled in_use content other is = is.0
+born_phase Stopped in_use content other is = absurd is
 
--- in either phase of a match no gate is open, since nothing is kept of a stopped journal
-pub closed_phase : (phase : Phase) (content : List ℕ) → (phase ≡ Settled) ⊎ (phase ≡ Stopped) → IsInPhase phase content →
-    IsTrue (is_born content) × AllClosed content
-closed_phase phase content (inl is) now = subst (λ p. IsInPhase p content) is now
-closed_phase phase content (inr is) now = absurd (subst (λ p. IsInPhase p content) is now)
+-- a birth makes what was pending durable; of a formed file it says nothing
+pub durable-unborn : {T E : Type 0} (old new : Told) (result : Result T E) → IsTrue (is_unborn old.content) → OnOk result (NothingPending new)
+    → MakesDurable old new result
+durable-unborn old new result unborn durable = record {
+  durable = durable;
+  any_moment = λ born found is. absurd (both_ways (is_born old.content) (is_born-unborn old.content unborn) born);
+}
 
 -- a journal over an unformed file
 pub IsKept-unborn : (size slots : ℕ) (waiting : List Put) (content : List ℕ) → size ≡ length content → slots ≡ slots_in size → waiting ≡ []
-    → IsTrue (is_unborn content) → IsKept (record { phase = Unborn; extent = slots; waiting = waiting }) content
+    → IsTrue (is_unborn content) → IsKept (record { phase = Unborn; extent = slots; in_use = 0; waiting = waiting }) content
 IsKept-unborn size slots waiting content long counted none unborn = record {
   phase = unborn;
-  waiting = none ∙ sym (puts_in_use-unborn content unborn);
+  number = ap length (sym (entries_in_use-unborn content unborn));
+  waiting = none ∙ ap (flat_map puts_of) (sym (entries_in_use-unborn content unborn));
   found = blank_map content;
   map = redo-unborn content unborn;
   extent = sym (counted ∙ ap slots_in long);
 }
 
+-- a journal over a formed file, of which the entries were read
+pub IsKept-born : (content : List ℕ) (in_use : ℕ) (waiting : List Put) (extent : ℕ) → IsTrue (is_born content) → AreEntries content in_use waiting extent
+    → IsKept (record { phase = Born; extent = extent; in_use = in_use; waiting = waiting }) content
+IsKept-born content in_use waiting extent born read = record {
+  phase = born;
+  number = read.number;
+  waiting = read.in_use.all;
+  found = read.in_use.found;
+  map = read.in_use.map;
+  extent = read.extent;
+}
+
+-- the file of a journal in any phase but the first is formed, since nothing is kept of a stopped one
+pub born_formed : (phase : Phase) (in_use : ℕ) (content : List ℕ) → (phase ≡ Born) ⊎ ((phase ≡ Settled) ⊎ (phase ≡ Stopped)) → IsInPhase phase in_use content
+    → IsTrue (is_born content)
+born_formed phase in_use content (inl is) now = subst (λ p. IsInPhase p in_use content) is now
+born_formed phase in_use content (inr (inl is)) now = (subst (λ p. IsInPhase p in_use content) is now).0
+born_formed phase in_use content (inr (inr is)) now = absurd (subst (λ p. IsInPhase p in_use content) is now)
+
 -- the file alone gives the map, and no put waits
-pub IsKept-settled : (extent : ℕ) (waiting : List Put) (content : List ℕ) (found : SlotMap) → IsTrue (is_born content) → AllClosed content
-    → StandsFor content found → found.extent ≡ extent → waiting ≡ [] → IsKept (record { phase = Settled; extent = extent; waiting = waiting }) content
+pub IsKept-settled : (extent : ℕ) (waiting : List Put) (content : List ℕ) (found : SlotMap) → IsTrue (is_born content) → ClosedFrom 0 content
+    → StandsFor content found → found.extent ≡ extent → waiting ≡ [] → IsKept (record { phase = Settled; extent = extent; in_use = 0; waiting = waiting }) content
 IsKept-settled extent waiting content found born closed is same none =
-    let alone = redo-first_closed content born (closed 0 (omega arith)) in
+    let first = closed 0 (omega arith) (omega arith) in
+    let alone = redo-first_closed content born first in
     record {
       phase = (born, closed);
+      number = ap length (sym alone.2);
       waiting = none ∙ sym alone.1;
       found = file_map content;
       map = alone.0;
-      extent = (file_map-first_closed content found born (closed 0 (omega arith)) is).extent ∙ same;
+      extent = (file_map-first_closed content found born first is).extent ∙ same;
     }
 
 module _ (journal : JournalState) (content : List ℕ) (found : SlotMap) (slot : ℕ) (kept : IsKept journal content) (is : StandsFor content found) (lt : slot < 2 ^ 20) where
@@ -96,54 +126,49 @@ module _ (journal : JournalState) (content : List ℕ) (found : SlotMap) (slot :
   -- a slot of an unformed file, or from the extent on
   pub unused_bytes : IsTrue (is_unborn content) ⊎ (journal.extent ≤ slot) → zeros ≡ found.bytes slot
   unused_bytes (inl unborn) = unborn_bytes unborn
-  unused_bytes (inr past) = ⊎_elim unborn_bytes (λ born. past_bytes born past) (cases_phase journal.phase content kept.phase)
+  unused_bytes (inr past) = ⊎_elim unborn_bytes (λ born. past_bytes born past) (cases_phase journal.phase journal.in_use content kept.phase)
 
 module _ (journal : JournalState) (content : List ℕ) (settled : journal.phase ≡ Settled) (kept : IsKept journal content) where
-  formed : IsTrue (is_born content) × AllClosed content
-  formed = subst (λ (phase : Phase). IsInPhase phase content) settled kept.phase
+  pub formed-settled : IsTrue (is_born content) × ClosedFrom journal.in_use content
+  formed-settled = subst (λ (phase : Phase). IsInPhase phase journal.in_use content) settled kept.phase
 
-  none_in_use : FirstClosed content
-  none_in_use = formed.1 0 (omega arith)
-
-  -- a settled file stands for its slots
-  pub StandsFor-settled : StandsFor content (file_map content)
-  StandsFor-settled = StandsFor-from content (file_map content) (file_map content) (redo-first_closed content formed.0 none_in_use).0 (SameMap-refl (file_map content))
-
-  extent-settled : journal.extent ≡ slots_in (length content)
-  extent-settled =
-      let same : SameMap kept.found (file_map content) = subst (λ (r : Redone). Gives r (file_map content)) kept.map StandsFor-settled in
-      sym kept.extent ∙ same.extent
-
-  pub IsReady-settled : (puts : List Put) → IsTrue (slots_fit puts journal.extent) → IsReady puts content
+  -- puts that fit the extent may be committed
+  pub IsReady-settled : (puts : List Put) → IsTrue (slots_fit puts journal.extent) → IsReady journal.in_use puts content
   IsReady-settled puts fit = record {
-    born = formed.0;
-    long = (is_born-parts content formed.0).0;
-    closed = formed.1;
-    fit = subst (λ (n : ℕ). IsTrue (slots_fit puts n)) extent-settled fit;
+    born = formed-settled.0;
+    closed = formed-settled.1;
+    number = kept.number;
+    found = kept.found;
+    map = kept.map;
+    fit = subst (λ (n : ℕ). IsTrue (slots_fit puts n)) (sym kept.extent) fit;
   }
 
-  module _ (mid new : List ℕ) (others : SameOthers content mid) (applied : IsTrue (is_born new) × FirstClosed new × SameOthers mid new) where
-    AllClosed-committed : AllClosed new
-    AllClosed-committed zero lt = applied.1
-    AllClosed-committed (suc n) lt =
-        subst (λ (byte : ℕ). IsFalse (opens byte)) (sym (applied.2 (suc n) (omega arith) lt ∙ others (suc n) (omega arith) lt)) (formed.1 (suc n) lt)
+  pub StandsFor-kept : StandsFor content kept.found
+  StandsFor-kept = StandsFor-from content kept.found kept.found kept.map (SameMap-refl kept.found)
 
-    -- with the transaction in its slots, and the gates closed again
-    pub IsKept-committed : (puts : List Put) (extent : ℕ) → extent ≡ extent_after puts journal.extent
-        → StandsFor new (changed (file_map content) puts) → IsKept (record { phase = Settled; extent = extent; waiting = journal.waiting }) new
-    IsKept-committed puts extent after is = record {
-      phase = (applied.0, AllClosed-committed);
-      waiting = kept.waiting ∙ (redo-first_closed content formed.0 none_in_use).1 ∙ sym (redo-first_closed new applied.0 applied.1).1;
-      found = file_map new;
-      map = (redo-first_closed new applied.0 applied.1).0;
-      extent = (file_map-first_closed new (changed (file_map content) puts) applied.0 applied.1 is).extent ∙ sym (after ∙ ap (extent_after puts) extent-settled);
-    }
+  -- with the transaction in the next entry
+  pub IsKept-committed : (puts : List Put) (new : List ℕ) (extent in_use : ℕ) (waiting : List Put) → AddsEntry journal.in_use puts content new
+      → StandsFor new (changed kept.found puts) → extent ≡ extent_after puts journal.extent → in_use ≡ journal.in_use + 1
+      → waiting ≡ journal.waiting ++ puts → IsKept (record { phase = Settled; extent = extent; in_use = in_use; waiting = waiting }) new
+  IsKept-committed puts new extent in_use waiting added is after more joins =
+      let parts = StandsFor-parts new (changed kept.found puts) is in
+      record {
+        phase = (added.born, subst (λ (n : ℕ). ClosedFrom n new) (sym more) added.closed);
+        number = more ∙ added.number;
+        waiting = joins ∙ ap (λ (p : List Put). p ++ puts) kept.waiting ∙ sym added.all;
+        found = parts.0;
+        map = parts.1;
+        extent = parts.2.extent ∙ ap (extent_after puts) kept.extent ∙ sym after;
+      }
 
 -- its numbers stay in their bounds
-pub IsSound-committed : (journal : JournalState) (puts : List Put) (extent : ℕ) → IsSound journal → IsTxn puts
-    → extent ≡ extent_after puts journal.extent → IsSound (record { phase = Settled; extent = extent; waiting = journal.waiting })
-IsSound-committed journal puts extent sound txn after = record {
-  extent = omega (arith, after, extent_after-most puts journal.extent txn sound.extent);
-  waiting = All-weaker (λ (put : Put). put.slot < journal.extent) (λ (put : Put). put.slot < extent) (λ put lt. omega (arith, lt, after, le-extent_after puts journal.extent)) journal.waiting sound.waiting;
+pub IsBounded-committed : (journal : JournalState) (puts : List Put) (extent in_use : ℕ) (waiting : List Put) → IsBounded journal → IsTxn puts
+    → IsTrue (slots_fit puts journal.extent) → journal.in_use < 64 → extent ≡ extent_after puts journal.extent → in_use ≡ journal.in_use + 1
+    → waiting ≡ journal.waiting ++ puts → IsBounded (record { phase = Settled; extent = extent; in_use = in_use; waiting = waiting })
+IsBounded-committed journal puts extent in_use waiting bounded txn fit free after more joins = record {
+  extent = omega (arith, after, extent_after-most puts journal.extent txn bounded.extent);
+  waiting = rw (joins, after) (waiting-below journal.waiting puts journal.extent fit bounded.waiting);
   unborn = λ same. absurd (cc);
+  in_use = omega (arith, more, free);
+  few = omega (arith, more, bounded.few, txn.few, ap length joins, length-append journal.waiting puts);
 }

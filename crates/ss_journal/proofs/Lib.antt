@@ -1,4 +1,5 @@
 pub mod BirthLemmas
+pub mod CommitLemmas
 pub mod EntryLemmas
 pub mod GateLemmas
 pub mod HeaderLemmas
@@ -13,4 +14,3 @@ pub mod RedoLemmas
 pub mod Rows
 pub mod SlotLemmas
 pub mod TearLemmas
-pub mod TxnLemmas

@@ -5,21 +5,23 @@ use Rattle.std.proofs.lemmas.List.FromFn.{length-map-range_with_len}
 use Rattle.std.proofs.lemmas.List.{append-nil, drop_all}
 use Rattle.std.specs.Prelude.{flat_map}
 use Rattle.arrayvec.specs.ArrayVec.{ArrayVec}
-use Rattle.ss_journal.specs.Entries.{entries, is_good, is_open, open_prefix, puts_of}
+use Rattle.ss_journal.specs.Entries.{entries, is_good, open_prefix, puts_of}
 use Rattle.ss_journal.specs.Format.{entry_at, is_born, slots_in}
-use Rattle.ss_journal.specs.Opening.{InUse, InUseAs, NextAs}
+use Rattle.ss_journal.specs.Gates.{is_open}
+use Rattle.ss_journal.specs.Opening.{AreEntries, InUseAs, NextAs}
 use Rattle.ss_journal.specs.Puts.{extent_after}
-use Rattle.ss_journal.specs.Redo.{SlotMap, bad_entry, changed, file_map, puts_in_use, redo, redo_entries}
+use Rattle.ss_journal.specs.Redo.{entries_in_use, SlotMap, bad_entry, changed, file_map, puts_in_use, redo, redo_entries}
 use Rattle.ss_journal.specs.declared.journal_error.JournalError.TheVariants.{BadEntry, Disk, NotAStore, OutOfMemory}
 use Rattle.ss_journal.specs.declared.journal_error.JournalError.{JournalError}
 use Rattle.ss_journal.specs.declared.put.Put.{Put}
 use Rattle.ss_journal.proofs.PrefixLemmas.{open_prefix-drop}
-use Rattle.ss_journal.proofs.RedoLemmas.{puts_in_use-formed, redo-formed}
+use Rattle.ss_journal.proofs.RedoLemmas.{entries_in_use-formed, puts_in_use-formed, redo-formed}
 
 -- the entries before number n are in use: these are their puts, and the extent after them
 pub record IsReadTo (content : List ℕ) (n extent : ℕ) (puts : List Put) : Type 0 where
   pub current : SlotMap
   pub same_extent : current.extent ≡ extent
+  pub number : n + length (open_prefix (drop n (entries content))) ≡ length (entries_in_use content)
   pub in_use : puts ++ flat_map puts_of (open_prefix (drop n (entries content))) ≡ puts_in_use content
   pub redone : redo content ≡ redo_entries n (open_prefix (drop n (entries content))) current
 
@@ -27,28 +29,32 @@ pub IsReadTo-none : (content : List ℕ) (slots : ℕ) → IsTrue (is_born conte
 IsReadTo-none content slots born counted = record {
   current = file_map content;
   same_extent = sym counted;
+  number = omega (arith, ap length (sym (entries_in_use-formed content born)));
   in_use = sym (puts_in_use-formed content born);
   redone = redo-formed content born;
 }
 
 module _ (content : List ℕ) (n extent : ℕ) (puts : List Put) (read : IsReadTo content n extent puts) where
   -- no entry from here on is in use
-  IsReadTo-closed : open_prefix (drop n (entries content)) ≡ [] → InUse content extent puts
+  IsReadTo-closed : open_prefix (drop n (entries content)) ≡ [] → AreEntries content n puts extent
   IsReadTo-closed none = record {
-    in_use = sym (append-nil puts) ∙ sym (ap (λ (list : List (List ℕ)). puts ++ flat_map puts_of list) none) ∙ read.in_use;
-    found = read.current;
-    map = read.redone ∙ ap (λ (list : List (List ℕ)). redo_entries n list read.current) none;
-    same_extent = read.same_extent;
+    number = omega (arith, read.number, ap length none);
+    in_use = record {
+      all = sym (append-nil puts) ∙ sym (ap (λ (list : List (List ℕ)). puts ++ flat_map puts_of list) none) ∙ read.in_use;
+      found = read.current;
+      map = read.redone ∙ ap (λ (list : List (List ℕ)). redo_entries n list read.current) none;
+    };
+    extent = read.same_extent;
   }
 
-  pub IsReadTo-all : n ≡ 64 → InUse content extent puts
+  pub IsReadTo-all : n ≡ 64 → AreEntries content 64 puts extent
   unfolding entries
   IsReadTo-all all =
       let past = drop_all n (entries content) (omega (arith, length-map-range_with_len (entry_at content) 0 64)) in
-      IsReadTo-closed (ap open_prefix past)
+      subst (λ (k : ℕ). AreEntries content k puts extent) all (IsReadTo-closed (ap open_prefix past))
 
   module _ (lt : n < 64) where
-    pub IsReadTo-shut : IsFalse (is_open (entry_at content n)) → InUse content extent puts
+    pub IsReadTo-shut : IsFalse (is_open (entry_at content n)) → AreEntries content n puts extent
     IsReadTo-shut shut = IsReadTo-closed (ap open_prefix (open_prefix-drop content n lt) ∙ cond-false (is_open (entry_at content n)) _ _ shut)
 
     module _ (opened : IsTrue (is_open (entry_at content n))) where
@@ -71,14 +77,15 @@ module _ (content : List ℕ) (n extent : ℕ) (puts : List Put) (read : IsReadT
           record {
             current = changed read.current own;
             same_extent = ap (extent_after own) read.same_extent;
+            number = omega (arith, read.number, ap length open_prefix-here);
             in_use = append_assoc puts own _ ∙ sym (ap (λ (list : List (List ℕ)). puts ++ flat_map puts_of list) open_prefix-here) ∙ read.in_use;
             redone = redo-here ∙ cond-true (is_good (entry_at content n) read.current.extent) _ _ here;
           }
 
 -- the same of what reading entry n answers, where the content is still the same
 module _ (content now : List ℕ) (n extent : ℕ) (puts : List Put) (same : now ≡ content) (lt : n < 64) (read : IsReadTo content n extent puts) where
-  pub InUse-next : NextAs (entry_at now n) n extent (Ok None) → InUse content extent puts
-  InUse-next shut = IsReadTo-shut content n extent puts read lt (subst (λ (image : List ℕ). IsFalse (is_open (entry_at image n))) same shut)
+  pub AreEntries-next : NextAs (entry_at now n) n extent (Ok None) → AreEntries content n puts extent
+  AreEntries-next shut = IsReadTo-shut content n extent puts read lt (subst (λ (image : List ℕ). IsFalse (is_open (entry_at image n))) same shut)
 
   pub InUseAs-next : (error : JournalError) → NextAs (entry_at now n) n extent (Err error) → InUseAs content (Err error)
   InUseAs-next Disk is = tt

@@ -1,20 +1,20 @@
 -- The entries of a file, and its open prefix.
-use Rattle.std.proofs.Common.{IsFalse, IsTrue, List, [], ap, arith, drop, length, map, refl, subst, suc, sym, zero, ℕ, ◌+◌, ◌<◌, ◌∙◌, ◌∷◌, ◌≡◌, ◌≤◌}
+use Rattle.std.proofs.Common.{inl, inr, IsFalse, IsTrue, List, [], ap, arith, drop, length, map, refl, subst, suc, sym, zero, ℕ, ◌+◌, ◌<◌, ◌∙◌, ◌∷◌, ◌≡◌, ◌≤◌}
 use Rattle.std.proofs.Math.Nat.{zero-add}
-use Rattle.std.proofs.lemmas.Bool.{cond-false, cond-true, cond_both}
+use Rattle.std.proofs.lemmas.Bool.{cases_Bool, cases_eq, cond-false, cond-true, cond_both}
 use Rattle.std.proofs.lemmas.List.Elements.{All-cons, All-head, All-map, All-nil, All-tail}
 use Rattle.std.proofs.lemmas.List.FromFn.{get_or-map-range_with_len, length-map-range_with_len}
 use Rattle.std.proofs.lemmas.List.{drop_more, get_or-drop, get_or-take, length-drop, length-take}
 use Rattle.std.specs.List.{range_with_len}
 use Rattle.std.specs.Prelude.{All, slice_index}
-use Rattle.ss_journal.specs.Entries.{entries, is_open, open_prefix}
-use Rattle.ss_journal.specs.Format.{entry_at, entry_place, opens}
-use Rattle.ss_journal.specs.Writes.{FirstClosed}
+use Rattle.ss_journal.specs.Entries.{entries, open_prefix}
+use Rattle.ss_journal.specs.Format.{entry_at}
+use Rattle.ss_journal.specs.Gates.{IsClosed, entry_place, is_open, opens}
 use Rattle.ss_journal.proofs.EntryLemmas.{All-range_with_len}
 use Rattle.ss_journal.proofs.HeaderLemmas.{piece-same}
 
 -- the same function at each place of a range
-map-range-same : (f g : ℕ → List ℕ) (from n : ℕ) → ((k : ℕ) → from ≤ k → k < from + n → f k ≡ g k)
+pub map-range-same : (f g : ℕ → List ℕ) (from n : ℕ) → ((k : ℕ) → from ≤ k → k < from + n → f k ≡ g k)
     → map f (range_with_len from n) ≡ map g (range_with_len from n)
 map-range-same f g from zero same = refl
 map-range-same f g from (suc n) same =
@@ -28,7 +28,7 @@ unfolding entries
 entries-same old new long also same =
     map-range-same (entry_at new) (entry_at old) 0 64 (λ k low high. piece-same old new (entry_place k) 544 (omega (arith, high, long)) (omega (arith, high, also)) (λ place from to. same place (omega (arith, from)) (omega (arith, high, to))))
 
--- the entries behind the first
+-- the entries after the first
 abbrev pub other_entries : List ℕ → List (List ℕ)
 other_entries image = map (entry_at image) (range_with_len 1 63)
 
@@ -40,7 +40,7 @@ entries-first image = refl
 pub gate-entry_at : (image : List ℕ) (n : ℕ) → slice_index (entry_at image n) 0 ≡ slice_index image (entry_place n)
 gate-entry_at image n = get_or-take 544 (drop (entry_place n) image) 0 0 (omega arith) ∙ get_or-drop (entry_place n) image 0 0 ∙ ap (slice_index image) (let none : entry_place n + 0 ≡ entry_place n = omega arith in none)
 
-pub open_prefix-closed : (image : List ℕ) → FirstClosed image → open_prefix (entries image) ≡ []
+pub open_prefix-closed : (image : List ℕ) → IsClosed 0 image → open_prefix (entries image) ≡ []
 open_prefix-closed image closed =
     let gate : IsFalse (is_open (entry_at image 0)) = subst (λ (byte : ℕ). IsFalse (opens byte)) (sym (gate-entry_at image 0)) closed in
     rw entries-first (cond-false _ _ _ gate)
@@ -51,12 +51,65 @@ open_prefix-open image opened =
     let gate : IsTrue (is_open (entry_at image 0)) = subst (λ (byte : ℕ). IsTrue (opens byte)) (sym (gate-entry_at image 0)) opened in
     rw entries-first (cond-true _ _ _ gate)
 
--- and there the prefix ends, if the second is closed
-pub open_prefix-second : (image : List ℕ) → IsFalse (opens (slice_index image 1056)) → open_prefix (other_entries image) ≡ []
-open_prefix-second image closed =
-    let gate : IsFalse (is_open (entry_at image 1)) = subst (λ (byte : ℕ). IsFalse (opens byte)) (sym (gate-entry_at image 1)) closed in
-    let rest = open_prefix (map (entry_at image) (range_with_len 2 62)) in
-    cond-false (is_open (entry_at image 1)) (entry_at image 1 ∷ rest) [] gate
+-- the open prefix of a run of entries: its first n, which are open
+pub record IsPrefix (f : ℕ → List ℕ) (from m n : ℕ) : Type 0 where
+  pub prefix : open_prefix (map f (range_with_len from m)) ≡ map f (range_with_len from n)
+  pub opened : (k : ℕ) → from ≤ k → k < from + n → IsTrue (is_open (f k))
+
+pub IsPrefix-length : (f : ℕ → List ℕ) (from m n : ℕ) → n ≡ length (open_prefix (map f (range_with_len from m))) → IsPrefix f from m n
+IsPrefix-length f from zero zero is = record { prefix = refl; opened = λ k low high. absurd (omega (arith, low, high)) }
+IsPrefix-length f from zero (suc n) is = absurd (omega (arith, is))
+IsPrefix-length f from (suc m) zero is = elim (cases_Bool (is_open (f from))) [
+  | inl opened ↦
+      let step : open_prefix (map f (range_with_len from (suc m))) ≡ f from ∷ open_prefix (map f (range_with_len (from + 1) m)) = cond-true _ _ _ opened in
+      absurd (omega (arith, is, ap length step))
+  | inr closed ↦ record { prefix = cond-false _ _ _ closed; opened = λ k low high. absurd (omega (arith, low, high)) }
+]
+IsPrefix-length f from (suc m) (suc n) is = elim (cases_Bool (is_open (f from))) [
+  | inl opened ↦
+      let step : open_prefix (map f (range_with_len from (suc m))) ≡ f from ∷ open_prefix (map f (range_with_len (from + 1) m)) = cond-true _ _ _ opened in
+      let rest = IsPrefix-length f (from + 1) m n (omega (arith, is, ap length step)) in
+      record {
+        prefix = step ∙ ap (λ (list : List (List ℕ)). f from ∷ list) rest.prefix;
+        opened = λ k low high. elim (cases_eq k from) [
+          | inl same ↦ subst (λ (place : ℕ). IsTrue (is_open (f place))) (sym same) opened
+          | inr other ↦ rest.opened k (omega (arith, low, other)) (omega (arith, high))
+        ];
+      }
+  | inr closed ↦
+      let none : open_prefix (map f (range_with_len from (suc m))) ≡ [] = cond-false _ _ _ closed in
+      absurd (omega (arith, is, ap length none))
+]
+
+-- so many open entries, and then a closed one or the end
+pub open_prefix-run : (f : ℕ → List ℕ) (from m n : ℕ) → n ≤ m → ((k : ℕ) → from ≤ k → k < from + n → IsTrue (is_open (f k)))
+    → (n < m → IsFalse (is_open (f (from + n)))) → open_prefix (map f (range_with_len from m)) ≡ map f (range_with_len from n)
+open_prefix-run f from zero zero le opened closed = refl
+open_prefix-run f from zero (suc n) le opened closed = absurd (omega (arith, le))
+open_prefix-run f from (suc m) zero le opened closed =
+    let here : from + 0 ≡ from = omega arith in
+    cond-false _ _ _ (subst (λ (k : ℕ). IsFalse (is_open (f k))) here (closed (omega arith)))
+open_prefix-run f from (suc m) (suc n) le opened closed =
+    let there : from + suc n ≡ from + 1 + n = omega arith in
+    cond-true _ _ _ (opened from (omega arith) (omega arith))
+    ∙ ap (λ (list : List (List ℕ)). f from ∷ list) (open_prefix-run f (from + 1) m n (omega (arith, le)) (λ k low high. opened k (omega (arith, low)) (omega (arith, high)))
+    (λ lt. subst (λ (k : ℕ). IsFalse (is_open (f k))) there (closed (omega (arith, lt)))))
+
+-- the same of the entries of a file
+pub IsPrefix-entries : (image : List ℕ) (n : ℕ) → n ≡ length (open_prefix (entries image)) → IsPrefix (entry_at image) 0 64 n
+unfolding entries
+IsPrefix-entries image n is = IsPrefix-length (entry_at image) 0 64 n is
+
+pub open_prefix-is : (image : List ℕ) (n : ℕ) → IsPrefix (entry_at image) 0 64 n → open_prefix (entries image) ≡ map (entry_at image) (range_with_len 0 n)
+unfolding entries
+open_prefix-is image n is = is.prefix
+
+pub open_prefix-entries : (image : List ℕ) (n : ℕ) → n ≤ 64 → ((k : ℕ) → k < n → IsTrue (is_open (entry_at image k)))
+    → (n < 64 → IsFalse (is_open (entry_at image n))) → open_prefix (entries image) ≡ map (entry_at image) (range_with_len 0 n)
+unfolding entries
+open_prefix-entries image n le opened closed =
+    open_prefix-run (entry_at image) 0 64 n le (λ k low high. opened k (omega (arith, high)))
+    (λ lt. let here : n ≡ 0 + n = omega arith in subst (λ (k : ℕ). IsFalse (is_open (entry_at image k))) here (closed lt))
 
 -- the reader's step: the entries from n on, over what those before it gave
 pub open_prefix-drop : (image : List ℕ) (n : ℕ) → n < 64 → drop n (entries image) ≡ entry_at image n ∷ drop (n + 1) (entries image)

@@ -1,9 +1,9 @@
 -- What puts make of maps and extents, and which puts fit.
-use Rattle.std.proofs.Common.{IsFalse, IsTrue, List, [], ap, arith, cond, false, get_or, if◌then◌else◌, inl, inr, length, map, nat_eq, refl, subst, sym, take, true, ℕ, ⊎_elim, ◌++◌, ◌+◌, ◌<◌, ◌^◌, ◌∙◌, ◌∷◌, ◌≡◌, ◌≤◌}
+use Rattle.std.proofs.Common.{IsFalse, IsTrue, List, [], ap, arith, cond, drop, false, get_or, if◌then◌else◌, inl, inr, length, map, nat_eq, refl, subst, sym, take, true, ℕ, ⊎_elim, ◌++◌, ◌+◌, ◌<◌, ◌^◌, ◌∙◌, ◌∷◌, ◌≡◌, ◌≤◌}
 use Rattle.std.proofs.lemmas.Bool.Decides.{nat_tests}
-use Rattle.std.proofs.lemmas.Bool.{both_ways, cases_Bool, cases_lt, cond-false, cond-true, false_from_ne_true, or_cases, or_from, or_parts}
+use Rattle.std.proofs.lemmas.Bool.{both_ways, cases_Bool, cases_lt, cond-false, cond-true, eq-eqb, false_from_ne_true, ne_eqb, or_cases, or_from, or_parts}
 use Rattle.std.proofs.lemmas.List.Elements.{All-append, All-cons, All-head, All-nil, All-tail, All-weaker}
-use Rattle.std.proofs.lemmas.List.{take_more}
+use Rattle.std.proofs.lemmas.List.{drop_more, take-append-drop}
 use Rattle.std.specs.Prelude.{All}
 use Rattle.ss_journal.specs.Puts.{AgreeBeside, IsTxn, extent_after, is_put, slots_fit, slots_rise_from, with_put, with_puts}
 use Rattle.ss_journal.specs.Writes.{AreSlots}
@@ -36,11 +36,20 @@ pub with_puts-append : (first second : List Put) (map : ℕ → List ℕ) → wi
 with_puts-append [] second map = refl
 with_puts-append (put ∷ first) second map = with_puts-append first second (with_put put map)
 
--- one put more
-pub with_puts-take : (puts : List Put) (i slot : ℕ) (d : Put) (map : ℕ → List ℕ) → i < length puts
-    → with_puts (take (i + 1) puts) map slot ≡ with_put (get_or puts i d) (with_puts (take i puts) map) slot
-with_puts-take puts i slot d map lt =
-    ap (λ (l : List Put). with_puts l map slot) (take_more puts i d lt) ∙ ap (λ (m : ℕ → List ℕ). m slot) (with_puts-append (take i puts) (get_or puts i d ∷ []) map)
+-- where no later put is for the slot, this one counts if it is
+module _ (puts : List Put) (k slot : ℕ) (d : Put) (lt : k < length puts) (later : (map : ℕ → List ℕ) → with_puts (drop (k + 1) puts) map slot ≡ map slot) where
+  from_here : (map : ℕ → List ℕ) → with_puts (drop k puts) map slot ≡ with_put (get_or puts k d) map slot
+  from_here map = ap (λ (list : List Put). with_puts list map slot) (drop_more puts k d lt) ∙ later (with_put (get_or puts k d) map)
+
+  pub with_puts-newest : slot ≡ (get_or puts k d).slot → (map : ℕ → List ℕ) → with_puts puts map slot ≡ (get_or puts k d).bytes
+  with_puts-newest same map =
+      ap (λ (list : List Put). with_puts list map slot) (sym (take-append-drop k puts))
+      ∙ ap (λ (m : ℕ → List ℕ). m slot) (with_puts-append (take k puts) (drop k puts) map)
+      ∙ from_here (with_puts (take k puts) map)
+      ∙ cond-true _ _ _ (eq-eqb slot (get_or puts k d).slot same)
+
+  pub with_puts-other : (slot ≡ (get_or puts k d).slot → ⊥) → (map : ℕ → List ℕ) → with_puts (drop k puts) map slot ≡ map slot
+  with_puts-other apart map = from_here map ∙ cond-false _ _ _ (ne_eqb slot (get_or puts k d).slot apart)
 
 -- without a put for it, a slot is as in the map before
 pub with_puts-beside : (puts : List Put) (map : ℕ → List ℕ) (slot : ℕ) → IsFalse (is_put puts slot) → with_puts puts map slot ≡ map slot

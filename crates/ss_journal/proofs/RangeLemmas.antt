@@ -5,7 +5,7 @@ use Rattle.std.proofs.lemmas.List.{append_assoc, drop-drop, drop_at, get_or_past
 use Rattle.std.specs.Prelude.{slice_index}
 use Rattle.ss_outside.proofs.DiskLemmas.{get_or-overwrite_outside, length-overwrite}
 use Rattle.ss_outside.specs.Disk.{IsOutside, IsOutsideAll, Torn, overwrite}
-use Rattle.ss_journal.specs.Writes.{DiffersAt, DiffersIn, end_of}
+use Rattle.ss_journal.specs.Writes.{DiffersAt, DiffersIn, SameRest, end_of}
 
 -- ranges make no file shorter
 pub end_of-le : (ranges : List (ℕ × ℕ)) (size : ℕ) → size ≤ end_of ranges size
@@ -69,6 +69,14 @@ get_or-differs ranges old new inside differs place out = elim (cases_lt place (l
   | inr past ↦ get_or_past new place 0 (omega (arith, past, length-differs ranges old new inside differs)) ∙ sym (get_or_past old place 0 past)
 ]
 
+-- ranges that end where the last possible slot ends leave the rest
+pub SameRest-differs : (ranges : List (ℕ × ℕ)) (old new : List ℕ) → ((place : ℕ) → 134254592 ≤ place → IsOutsideAll ranges place)
+    → end_of ranges (length old) ≤ max (length old) 134254592 → DiffersIn ranges old new → SameRest old new
+SameRest-differs ranges old new out end differs place past = elim (cases_lt place (length old)) [
+  | inl lt ↦ differs.kept place lt (out place past)
+  | inr beyond ↦ get_or_past new place 0 (omega (arith, past, beyond, end, differs.no_longer)) ∙ sym (get_or_past old place 0 beyond)
+]
+
 -- one torn write
 pub DiffersAt-torn : (at count : ℕ) (was image : List ℕ) → Torn at count was image → DiffersAt at count was image
 DiffersAt-torn at count was image torn = DiffersIn-torn [] at count was was image (DiffersIn-refl [] was) torn
@@ -92,7 +100,7 @@ Covers-part at count from part low high = record {
   end = λ size. omega (arith, high);
 }
 
--- two writes, one behind the other, are one
+-- two writes, one after the other, are one
 overwrite-overwrite : (content first second : List ℕ) (at mid : ℕ) → at ≤ length content → at + length first ≡ mid
     → overwrite (overwrite content at first) mid second ≡ overwrite content at (first ++ second)
 overwrite-overwrite content first second at mid within there =

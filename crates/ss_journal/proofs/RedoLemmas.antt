@@ -5,16 +5,17 @@ use Rattle.std.proofs.lemmas.Bool.{cases_Bool, cond-false, cond-true}
 use Rattle.std.proofs.lemmas.List.Elements.{All-append, All-head, All-nil, All-tail}
 use Rattle.std.specs.Prelude.{All, flat_map, slice_index}
 use Rattle.ss_journal.specs.Entries.{entries, is_good, open_prefix, puts_of}
-use Rattle.ss_journal.specs.Format.{entry_at, is_born, is_unborn, opens, slots_in}
-use Rattle.ss_journal.specs.Puts.{AreWhole, slots_fit}
-use Rattle.ss_journal.specs.Redo.{Gives, Redone, SameMap, SlotMap, StandsFor, bad_entry, blank_map, changed, file_map, not_a_store, puts_in_use, redo, redo_entries, stands}
-use Rattle.ss_journal.specs.Writes.{AreSlots, FirstClosed}
+use Rattle.ss_journal.specs.Format.{entry_at, is_born, is_unborn, slots_in}
+use Rattle.ss_journal.specs.Gates.{IsClosed, opens}
+use Rattle.ss_journal.specs.Puts.{extent_after, AreWhole, slots_fit}
+use Rattle.ss_journal.specs.Redo.{CameInPart, entries_in_use, Gives, Redone, SameMap, SlotMap, StandsFor, bad_entry, blank_map, changed, file_map, not_a_store, puts_in_use, redo, redo_entries, stands}
+use Rattle.ss_journal.specs.Writes.{AreSlots}
 use Rattle.ss_journal.specs.declared.put.Put.{Put}
 use Rattle.ss_journal.proofs.EntryLemmas.{AreWhole-puts_of, IsSoundEntry-good, is_good-again, is_good-some}
 use Rattle.ss_journal.proofs.HeaderLemmas.{has_magic-same, is_born-from, is_born-parts, is_born-unborn, is_unborn-born}
 use Rattle.ss_journal.proofs.MapLemmas.{SameMap-sym, SameMap-trans, changed-append}
 use Rattle.ss_journal.proofs.PrefixLemmas.{entries-long, entries-same, open_prefix-closed, open_prefix-long, open_prefix-open, other_entries}
-use Rattle.ss_journal.proofs.PutLemmas.{AreSlots-rise, extent_after-mono, slots_fit-append}
+use Rattle.ss_journal.proofs.PutLemmas.{AreSlots-rise, extent_after-again, extent_after-mono, slots_fit-append, with_puts-again}
 
 -- the same of what was redone
 Gives-same : (redone : Redone) (first second : SlotMap) → Gives redone first → Gives redone second → SameMap first second
@@ -29,14 +30,32 @@ StandsFor-same image first second is also = Gives-same (redo image) first second
 pub StandsFor-from : (image : List ℕ) (its found : SlotMap) → redo image ≡ stands its → SameMap its found → StandsFor image found
 StandsFor-from image its found is same = subst (λ (r : Redone). Gives r found) (sym is) same
 
+-- an image that stands for a map is redone to one that is the same
+Gives-parts : (redone : Redone) (found : SlotMap) → Gives redone found → (its : SlotMap) × (redone ≡ stands its) × SameMap its found
+Gives-parts not_a_store found is = absurd is
+Gives-parts (bad_entry n) found is = absurd is
+Gives-parts (stands its) found is = (its, refl, is)
+
+pub StandsFor-parts : (image : List ℕ) (found : SlotMap) → StandsFor image found → (its : SlotMap) × (redo image ≡ stands its) × SameMap its found
+StandsFor-parts image found is = Gives-parts (redo image) found is
+
+-- a map that is the same
+pub StandsFor-also : (image : List ℕ) (first second : SlotMap) → StandsFor image first → SameMap first second → StandsFor image second
+StandsFor-also image first second is same =
+    let parts = StandsFor-parts image first is in
+    StandsFor-from image parts.0 second parts.1 (SameMap-trans _ _ _ parts.2 same)
+
 -- what a formed file stands for
 pub redo-formed : (image : List ℕ) → IsTrue (is_born image) → redo image ≡ redo_entries 0 (open_prefix (entries image)) (file_map image)
 unfolding redo
 redo-formed image born = cond-true _ _ _ born
 
+pub entries_in_use-formed : (image : List ℕ) → IsTrue (is_born image) → entries_in_use image ≡ open_prefix (entries image)
+unfolding entries_in_use
+entries_in_use-formed image born = cond-true _ _ _ born
+
 pub puts_in_use-formed : (image : List ℕ) → IsTrue (is_born image) → puts_in_use image ≡ flat_map puts_of (open_prefix (entries image))
-unfolding puts_in_use
-puts_in_use-formed image born = cond-true _ _ _ born
+puts_in_use-formed image born = ap (flat_map puts_of) (entries_in_use-formed image born)
 
 pub redo-unborn : (image : List ℕ) → IsTrue (is_unborn image) → redo image ≡ stands (blank_map image)
 unfolding redo
@@ -44,9 +63,9 @@ redo-unborn image unborn =
     let other = is_unborn-born image in
     grind (arith, nat_tests, unborn, other)
 
-pub puts_in_use-unborn : (content : List ℕ) → IsTrue (is_unborn content) → puts_in_use content ≡ []
-unfolding puts_in_use
-puts_in_use-unborn content unborn = cond-false (is_born content) _ _ (is_born-unborn content unborn)
+pub entries_in_use-unborn : (content : List ℕ) → IsTrue (is_unborn content) → entries_in_use content ≡ []
+unfolding entries_in_use
+entries_in_use-unborn content unborn = cond-false (is_born content) _ _ (is_born-unborn content unborn)
 
 pub redo-neither : (content : List ℕ) → IsFalse (is_born content) → IsFalse (is_unborn content) → redo content ≡ not_a_store
 unfolding redo
@@ -121,13 +140,37 @@ redo_entries-again n (entry ∷ rest) old new its is le = elim (cases_Bool (is_g
   | inr bad ↦ let other : bad_entry n ≡ stands its = sym (cond-false _ _ _ bad) ∙ is in absurd (cc)
 ]
 
+-- one sound entry more
+pub redo_entries-more : (n : ℕ) (list : List (List ℕ)) (entry : List ℕ) (found its : SlotMap) → redo_entries n list found ≡ stands its
+    → IsTrue (is_good entry its.extent) → redo_entries n (list ++ entry ∷ []) found ≡ stands (changed its (puts_of entry))
+redo_entries-more n [] entry found its is good =
+    let same : found ≡ its = cc in
+    subst (λ (m : SlotMap). redo_entries n (entry ∷ []) m ≡ stands (changed its (puts_of entry))) (sym same) (cond-true (is_good entry its.extent) _ _ good)
+redo_entries-more n (first ∷ rest) entry found its is good =
+    let cases = redo_entries-cases n first rest found its is in
+    cond-true (is_good first found.extent) _ _ cases.0 ∙ redo_entries-more (n + 1) rest entry (changed found (puts_of first)) its cases.1 good
+
+-- redo is idempotent: over a map to which any of the puts came already, in whole or in part, it gives the same map
+pub redo_entries-idempotent : (n : ℕ) (list : List (List ℕ)) (old found new : SlotMap) → redo_entries n list old ≡ stands found
+    → CameInPart (flat_map puts_of list) old found new → Gives (redo_entries n list new) found
+redo_entries-idempotent n list old found new is part =
+    let puts = flat_map puts_of list in
+    let stood = redo_entries-stands n list old found is in
+    let most : new.extent ≤ extent_after puts old.extent = subst (λ (m : SlotMap). new.extent ≤ m.extent) stood.0 part.no_more in
+    let same : SameMap (changed new puts) (changed old puts) = record {
+      bytes = λ slot lt. with_puts-again puts old.bytes new.bytes part.beside slot;
+      extent = extent_after-again puts old.extent new.extent stood.1 part.no_less most;
+    } in
+    subst (λ (r : Redone). Gives r found) (sym (redo_entries-again n list old new found is part.no_less)) (subst (SameMap (changed new puts)) (sym stood.0) same)
+
 -- with the first gate closed a formed file stands for its slots, and no entry is in use
-pub redo-first_closed : (image : List ℕ) → IsTrue (is_born image) → FirstClosed image
-    → (redo image ≡ stands (file_map image)) × (puts_in_use image ≡ [])
+pub redo-first_closed : (image : List ℕ) → IsTrue (is_born image) → IsClosed 0 image
+    → (redo image ≡ stands (file_map image)) × (puts_in_use image ≡ []) × (entries_in_use image ≡ [])
 redo-first_closed image born closed =
     let none = open_prefix-closed image closed in (
       redo-formed image born ∙ ap (λ (list : List (List ℕ)). redo_entries 0 list (file_map image)) none,
       puts_in_use-formed image born ∙ ap (flat_map puts_of) none,
+      entries_in_use-formed image born ∙ none,
     )
 
 -- entries that stand for a map begin with a sound one
@@ -140,7 +183,7 @@ redo_entries-first entry rest found its is = elim (cases_Bool (is_good entry fou
 
 -- with no entry in use the first gate is closed, where the file stands for a map
 pub first_closed-none : (image : List ℕ) (its : SlotMap) → IsTrue (is_born image) → redo image ≡ stands its → puts_in_use image ≡ []
-    → FirstClosed image
+    → IsClosed 0 image
 first_closed-none image its born is none = elim (cases_Bool (opens (slice_index image 512))) [
   | inl opened ↦
       let prefix = open_prefix-open image opened in

@@ -1,9 +1,10 @@
--- Worked images. Where 36,864 bytes are too many for a computation, the rows are those of the parts.
-use Rattle.std.proofs.Common.{◌≡◌, ℕ, ◌+◌, true, false, List, [], ◌∷◌, ◌++◌, replicate, refl}
+-- Worked images, whole and in parts, and the numbers that are rules.
+use Rattle.std.proofs.Common.{◌≡◌, ℕ, ◌+◌, ◌^◌, true, false, List, [], ◌∷◌, ◌++◌, length, replicate, refl}
 use Rattle.ss_fields.specs.Fields as Fields
+use Rattle.ss_journal.specs.declared.format.TheConstants.{GATE_OPEN, MAGIC_END, ENTRIES, ENTRY_SIZE, FIRST_ENTRY, MOST_PUTS, PUT_SIZE, SLOT_SIZE, MOST_SLOTS, FIRST_SLOT, FILE_END}
 use Rattle.ss_journal.specs.Format.{magic, is_unborn, is_born, slots_in}
-use Rattle.ss_journal.specs.Entries.{puts_of, is_good, open_prefix, entry_body}
-use Rattle.ss_journal.specs.Redo.{SlotMap, stands, bad_entry, not_a_store, redo_entries, redo, changed, zeros}
+use Rattle.ss_journal.specs.Entries.{puts_of, is_good, open_prefix, entries, entry_body}
+use Rattle.ss_journal.specs.Redo.{SlotMap, Redone, stands, bad_entry, not_a_store, redo_entries, redo, changed, zeros, entries_in_use}
 
 -- a file of no byte, of any one byte, or that begins with 0 isn't formed
 pub is_unborn-none : is_unborn [] ≡ true
@@ -23,7 +24,7 @@ pub is_unborn-closed : is_unborn (164 ∷ magic) ≡ true
 unfolding is_unborn
 is_unborn-closed = refl
 
--- a short one with an open gate is no store, whatever stands behind the gate
+-- a short one with an open gate is no store, whatever stands after the gate
 pub redo-short : redo (165 ∷ magic) ≡ not_a_store
 unfolding redo is_born is_unborn
 redo-short = refl
@@ -59,7 +60,7 @@ pub is_good-beyond : is_good (one_put 2 7) 1 ≡ false
 unfolding is_good puts_of Fields.number_at
 is_good-beyond = refl
 
--- an entry without a put isn't sound, nor one with a byte behind its puts
+-- an entry without a put isn't sound, nor one with a byte after its puts
 pub is_good-none : is_good (165 ∷ 0 ∷ replicate 542 0) 5 ≡ false
 unfolding is_good puts_of Fields.number_at
 is_good-none = refl
@@ -103,3 +104,103 @@ redo_entries-bad = refl
 pub entry_body-one : entry_body (record { slot = 1; bytes = replicate 128 9 } ∷ []) ≡ 1 ∷ 0 ∷ 0 ∷ 0 ∷ 1 ∷ replicate 128 9 ++ replicate 410 0
 unfolding entry_body Fields.number_bytes
 entry_body-one = refl
+
+-- the numbers of the format
+pub the_gate : GATE_OPEN ≡ 0xA5
+the_gate = refl
+
+pub the_magic_end : MAGIC_END ≡ 9
+the_magic_end = refl
+
+pub the_entries : ENTRIES ≡ 64
+the_entries = refl
+
+pub the_entry_size : ENTRY_SIZE ≡ 544
+the_entry_size = refl
+
+pub the_first_entry : FIRST_ENTRY ≡ 512
+the_first_entry = refl
+
+pub the_most_puts : MOST_PUTS ≡ 4
+the_most_puts = refl
+
+pub the_put_size : PUT_SIZE ≡ 132
+the_put_size = refl
+
+pub the_slot_size : SLOT_SIZE ≡ 128
+the_slot_size = refl
+
+pub the_most_slots : MOST_SLOTS ≡ 2 ^ 20
+the_most_slots = refl
+
+pub the_first_slot : FIRST_SLOT ≡ 36864
+the_first_slot = refl
+
+pub the_file_end : FILE_END ≡ 134254592
+the_file_end = refl
+
+-- a whole formed image: its first two entries, and what stands from its first slot on
+abbrev pub image_of : List ℕ → List ℕ → List ℕ → List ℕ
+image_of first second slots = 165 ∷ magic ++ replicate 503 0 ++ first ++ second ++ replicate 35264 0 ++ slots
+
+abbrev pub no_entry : List ℕ
+no_entry = replicate 544 0
+
+abbrev pub slot_of : Redone → ℕ → List ℕ
+slot_of not_a_store slot = []
+slot_of (bad_entry n) slot = []
+slot_of (stands found) slot = found.bytes slot
+
+abbrev pub extent_of : Redone → ℕ
+extent_of not_a_store = 0
+extent_of (bad_entry n) = 0
+extent_of (stands found) = found.extent
+
+-- gate 0 is closed and gate 1 open: no entry is in use
+abbrev pub after_closed : List ℕ
+after_closed = image_of no_entry (one_put 0 5) (replicate 128 3)
+
+pub slot-after_closed : slot_of (redo after_closed) 0 ≡ replicate 128 3
+unfolding redo is_born entries
+slot-after_closed = refl
+
+pub extent-after_closed : extent_of (redo after_closed) ≡ 1
+unfolding redo is_born entries
+extent-after_closed = refl
+
+pub in_use-after_closed : length (entries_in_use after_closed) ≡ 0
+unfolding entries_in_use is_born entries
+in_use-after_closed = refl
+
+-- two entries put into one slot, which isn't in the file: the second counts, and the extent is one
+abbrev pub one_slot_twice : List ℕ
+one_slot_twice = image_of (one_put 0 4) (one_put 0 5) []
+
+pub slot-one_slot_twice : slot_of (redo one_slot_twice) 0 ≡ replicate 128 5
+unfolding redo is_born entries is_good puts_of Fields.number_at
+slot-one_slot_twice = refl
+
+pub extent-one_slot_twice : extent_of (redo one_slot_twice) ≡ 1
+unfolding redo is_born entries is_good puts_of Fields.number_at
+extent-one_slot_twice = refl
+
+pub in_use-one_slot_twice : length (entries_in_use one_slot_twice) ≡ 2
+unfolding entries_in_use is_born entries
+in_use-one_slot_twice = refl
+
+-- one slot lies in the file, and the entry's slot isn't the next
+pub redo-not_next : redo (image_of (one_put 2 3) no_entry (replicate 128 7)) ≡ bad_entry 0
+unfolding redo is_born entries is_good puts_of Fields.number_at
+redo-not_next = refl
+
+-- the file is cut inside its second slot, which then counts as zeros
+abbrev pub cut_inside : List ℕ
+cut_inside = image_of no_entry no_entry (replicate 128 3 ++ replicate 127 4)
+
+pub slot-cut_inside : slot_of (redo cut_inside) 1 ≡ replicate 128 0
+unfolding redo is_born entries
+slot-cut_inside = refl
+
+pub extent-cut_inside : extent_of (redo cut_inside) ≡ 1
+unfolding redo is_born entries
+extent-cut_inside = refl

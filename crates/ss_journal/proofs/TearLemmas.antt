@@ -1,11 +1,11 @@
 -- What a crash may leave of some calls in a row: of writes, and of the map.
-use Rattle.std.proofs.Common.{Err, List, Ok, Result, [], inl, subst, ℕ, ◌++◌, ◌∷◌, ◌⊎◌}
+use Rattle.std.proofs.Common.{Err, List, Ok, Result, [], inl, inr, subst, sym, ℕ, ◌++◌, ◌∷◌, ◌≡◌, ◌⊎◌}
 use Rattle.std.proofs.lemmas.Result.{on_ok_weaker}
 use Rattle.std.specs.Prelude.{IsErr, OnOk}
-use Rattle.ss_outside.proofs.CrashLemmas.{after_write, at_start, goes_on, joined, now, read_leaves, weaker}
+use Rattle.ss_outside.proofs.CrashLemmas.{after_write, at_start, goes_on, joined, now, of_content, read_leaves, weaker}
 use Rattle.ss_outside.specs.Crash.{Elapses, KnowsNow, LeavesOnly, OnlyReads}
 use Rattle.ss_outside.specs.Disk.{BecomesPending, NothingPending, StaysSame, Told}
-use Rattle.ss_journal.specs.Calls.{ChangesMap, KeepsMap}
+use Rattle.ss_journal.specs.Calls.{ChangesMap, KeepsMap, MakesDurable}
 use Rattle.ss_journal.specs.Redo.{SlotMap, StandsFor, changed}
 use Rattle.ss_journal.specs.Writes.{DiffersIn, IsTorn, Tears}
 use Rattle.ss_journal.specs.declared.put.Put.{Put}
@@ -37,17 +37,17 @@ module _ (old new : Told) where
       weaker old new (IsTorn ranges old) (DiffersIn ranges old.content) (λ image torn. subst (λ (was : List ℕ). DiffersIn ranges was image) (only torn.was torn.left) torn.differs) run
 
 module _ (old mid new : Told) where
-  -- a run behind a read
+  -- a run after a read
   pub tears-after_read : (ranges : List (ℕ × ℕ)) → KnowsNow old → OnlyReads old mid → Tears ranges mid new → Tears ranges old new
   tears-after_read ranges knows reads run = joined old mid new (IsTorn ranges old) (tears-read old mid ranges knows reads)
       (weaker mid new (IsTorn ranges mid) (IsTorn ranges old) (λ image torn. record { was = torn.was; left = (reads.same.images torn.was).1 torn.left; differs = torn.differs }) run)
 
   module _ (first : List (ℕ × ℕ)) (knows : KnowsNow mid) (so_far : Tears first old mid) where
-    -- a sync behind a run
+    -- a sync after a run
     pub tears-synced : Elapses mid new → ((image : List ℕ) → new.may_leave image → mid.may_leave image) → Tears first old new
     tears-synced time no_other = goes_on old mid new (IsTorn first old) so_far time (λ image left. now old mid (IsTorn first old) knows so_far image (no_other image left))
 
-    -- a run behind a run
+    -- a run after a run
     pub tears-joined : (second : List (ℕ × ℕ)) → Tears second mid new → Tears (first ++ second) old new
     tears-joined second run = joined old mid new (IsTorn (first ++ second) old)
         (weaker old mid (IsTorn first old) (IsTorn (first ++ second) old) (λ image torn. record {
@@ -107,3 +107,68 @@ module _ {T E : Type 0} (old mid new : Told) (result : Result T E) {S : Type 0} 
     any_moment = λ only found is. joined old mid new (λ image. StandsFor image found) (first.any_moment only found is) (second.any_moment (first.durable only) found (first.map found is));
     durable = λ only. second.durable (first.durable only);
   }
+
+-- the same of another result that is an error
+pub changes-err : {T E S : Type 0} (old new : Told) (puts : List Put) (result : Result T E) (step : Result S E) → IsErr result
+    → ChangesMap puts old new step → ChangesMap puts old new result
+changes-err old new puts result step failed changes = record {
+  map = λ found is. on_err result _ failed;
+  any_moment = changes.any_moment;
+  durable = on_err result _ failed;
+}
+
+-- a change after calls that keep the map
+pub changes-after : {T E S : Type 0} (old mid new : Told) (puts : List Put) (value : S) (result : Result T E) → KeepsMap {T = S} {E = E} old mid (Ok value)
+    → ChangesMap puts mid new result → ChangesMap puts old new result
+changes-after old mid new puts value result first second = record {
+  map = λ found is. second.map found (first.map found is);
+  any_moment = λ only found is.
+      let P : List ℕ → Type 0 = λ image. StandsFor image found ⊎ StandsFor image (changed found puts) in
+      joined old mid new P (weaker old mid (λ image. StandsFor image found) P (λ image stands. inl stands) (first.any_moment only found is)) (second.any_moment (first.durable only) found (first.map found is));
+  durable = second.durable;
+}
+
+-- a sync, and then calls that keep the map
+module _ (old mid : Told) (knows : KnowsNow old) (time : Elapses old mid) (no_other : (image : List ℕ) → mid.may_leave image → old.may_leave image) where
+  -- until the sync has answered a crash leaves an image from before
+  before_sync : LeavesOnly old mid old.may_leave
+  before_sync = goes_on old old mid old.may_leave (at_start old old.may_leave knows (λ image is. is)) time no_other
+
+  -- with nothing pending that is the content
+  kept_before : NothingPending old → (found : SlotMap) → StandsFor old.content found → LeavesOnly old mid (λ image. StandsFor image found)
+  kept_before only found is = weaker old mid old.may_leave (λ image. StandsFor image found) (of_content old (λ image. StandsFor image found) only is) before_sync
+
+  left_before : (found : SlotMap) → LeavesOnly old mid (λ image. old.may_leave image ⊎ StandsFor image found)
+  left_before found = weaker old mid old.may_leave (λ image. old.may_leave image ⊎ StandsFor image found) (λ image left. inl left) before_sync
+
+  module _ {T E : Type 0} (result : Result T E) where
+    -- a sync that failed
+    pub keeps-sync_failed : IsErr result → KeepsMap old mid result
+    keeps-sync_failed failed = record {
+      map = λ found is. on_err result _ failed;
+      any_moment = kept_before;
+      durable = λ only. on_err result _ failed;
+    }
+
+    pub durable-sync_failed : IsErr result → MakesDurable old mid result
+    durable-sync_failed failed = record { durable = on_err result _ failed; any_moment = λ born found is. left_before found }
+
+    -- one that answered
+    module _ (new : Told) (same : mid.content ≡ old.content) (only : NothingPending mid) (keeps : KeepsMap mid new result) where
+      stands : (found : SlotMap) → StandsFor old.content found → StandsFor mid.content found
+      stands found is = subst (λ (list : List ℕ). StandsFor list found) (sym same) is
+
+      pub keeps-synced : KeepsMap old new result
+      keeps-synced = record {
+        map = λ found is. keeps.map found (stands found is);
+        any_moment = λ none found is. joined old mid new (λ image. StandsFor image found) (kept_before none found is) (keeps.any_moment only found (stands found is));
+        durable = λ none. keeps.durable only;
+      }
+
+      pub durable-synced : MakesDurable old new result
+      durable-synced = record {
+        durable = keeps.durable only;
+        any_moment = λ born found is.
+            let P : List ℕ → Type 0 = λ image. old.may_leave image ⊎ StandsFor image found in
+            joined old mid new P (left_before found) (weaker mid new (λ image. StandsFor image found) P (λ image stood. inr stood) (keeps.any_moment only found (stands found is)));
+      }

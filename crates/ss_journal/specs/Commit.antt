@@ -1,13 +1,23 @@
--- When a transaction may be committed.
-use Rattle.std.specs.Prelude.{ℕ, ◌≤◌, List, length, IsTrue}
+-- When a transaction may be committed, and what an entry of it adds.
+use Rattle.std.specs.Prelude.{◌≡◌, ℕ, ◌+◌, List, ◌++◌, length, IsTrue}
 use Rattle.ss_journal.specs.declared.put.Put.{Put}
-use Rattle.ss_journal.specs.Format.{is_born, slots_in}
+use Rattle.ss_journal.specs.Gates.{ClosedFrom}
+use Rattle.ss_journal.specs.Format.{is_born}
 use Rattle.ss_journal.specs.Puts.{slots_fit}
-use Rattle.ss_journal.specs.Kept.{AllClosed}
+use Rattle.ss_journal.specs.Redo.{SlotMap, stands, redo, entries_in_use, puts_in_use}
 
--- a formed content without an open gate, into which these puts fit
-pub record IsReady (puts : List Put) (content : List ℕ) : Type 0 where
+-- a formed content with n entries in use, each later gate closed, that stands for a map into which these puts fit
+pub record IsReady (n : ℕ) (puts : List Put) (content : List ℕ) : Type 0 where
   pub born : IsTrue (is_born content)
-  pub long : 36864 ≤ length content
-  pub closed : AllClosed content
-  pub fit : IsTrue (slots_fit puts (slots_in (length content)))
+  pub closed : ClosedFrom n content
+  pub number : n ≡ length (entries_in_use content)
+  pub found : SlotMap
+  pub map : redo content ≡ stands found
+  pub fit : IsTrue (slots_fit puts found.extent)
+
+-- entry n, of these puts, is in use after those before it, and each later gate is closed
+pub record AddsEntry (n : ℕ) (puts : List Put) (old new : List ℕ) : Type 0 where
+  pub born : IsTrue (is_born new)
+  pub closed : ClosedFrom (n + 1) new
+  pub number : n + 1 ≡ length (entries_in_use new)
+  pub all : puts_in_use new ≡ puts_in_use old ++ puts

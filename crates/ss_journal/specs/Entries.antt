@@ -3,12 +3,10 @@ use Rattle.std.specs.Prelude.{ℕ, ◌+◌, ◌-◌, ◌*◌, Bool, ◌&&◌, �
 use Rattle.std.specs.List.{list_all, range_with_len}
 use Rattle.ss_fields.specs.Fields.{number_at, number_bytes}
 use Rattle.ss_journal.specs.declared.put.Put.{Put}
-use Rattle.ss_journal.specs.Format.{opens, entry_at}
+use Rattle.ss_journal.specs.declared.format.TheConstants.{ENTRIES, ENTRY_SIZE, MOST_PUTS, PUT_SIZE, SLOT_SIZE}
+use Rattle.ss_journal.specs.Gates.{is_open}
+use Rattle.ss_journal.specs.Format.{entry_at}
 use Rattle.ss_journal.specs.Puts.{slots_rise_from, slots_fit}
-
--- whether an entry's gate is open
-abbrev pub is_open : List ℕ → Bool
-is_open entry = opens (slice_index entry 0)
 
 -- how many puts an entry holds
 abbrev pub count_of : List ℕ → ℕ
@@ -16,7 +14,7 @@ count_of entry = slice_index entry 1
 
 -- its put number k
 abbrev pub put_at : List ℕ → ℕ → Put
-put_at entry k = record { slot = number_at 4 entry (2 + 132 * k); bytes = take 128 (drop (6 + 132 * k) entry) }
+put_at entry k = record { slot = number_at 4 entry (2 + PUT_SIZE * k); bytes = take SLOT_SIZE (drop (6 + PUT_SIZE * k) entry) }
 
 -- its puts, in order
 unfoldable pub puts_of : List ℕ → List Put
@@ -25,23 +23,23 @@ puts_of entry = map (put_at entry) (range_with_len 0 (count_of entry))
 -- whether an entry is sound over this extent
 unfoldable pub is_good : List ℕ → ℕ → Bool
 is_good entry extent =
-    nat_le 1 (count_of entry) && nat_le (count_of entry) 4
+    nat_le 1 (count_of entry) && nat_le (count_of entry) MOST_PUTS
     && slots_rise_from 0 (puts_of entry) && slots_fit (puts_of entry) extent
-    && list_all (λ byte. byte == 0) (drop (2 + 132 * count_of entry) entry)
+    && list_all (λ byte. byte == 0) (drop (2 + PUT_SIZE * count_of entry) entry)
 
 -- the longest prefix of open entries
 abbrev pub open_prefix : List (List ℕ) → List (List ℕ)
 open_prefix [] = []
 open_prefix (entry ∷ entries) = if is_open entry then entry ∷ open_prefix entries else []
 
--- the 64 entries of a file
+-- the entries of a file
 unfoldable pub entries : List ℕ → List (List ℕ)
-entries image = map (entry_at image) (range_with_len 0 64)
+entries image = map (entry_at image) (range_with_len 0 ENTRIES)
 
 -- a put in an entry: the number of its slot, then the bytes
 abbrev pub put_bytes : Put → List ℕ
 put_bytes put = number_bytes 4 put.slot ++ put.bytes
 
--- an entry of these puts behind its gate: their number, the puts, and zeros
+-- an entry of these puts after its gate: their number, the puts, and zeros
 unfoldable pub entry_body : List Put → List ℕ
-entry_body puts = length puts ∷ flat_map put_bytes puts ++ replicate (542 - 132 * length puts) 0
+entry_body puts = length puts ∷ flat_map put_bytes puts ++ replicate (ENTRY_SIZE - 2 - PUT_SIZE * length puts) 0

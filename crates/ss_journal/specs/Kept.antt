@@ -1,24 +1,29 @@
 -- A journal and the content of its disk.
-use Rattle.std.specs.Prelude.{◌≡◌, ◌≢◌, ℕ, ◌<◌, ◌≤◌, ◌^◌, List, [], slice_index, IsTrue, IsFalse, All, Result, Ok, Err, ⊤}
+use Rattle.std.specs.Prelude.{◌≡◌, ◌≢◌, ℕ, ◌*◌, ◌<◌, ◌≤◌, List, [], length, IsTrue, All, Result, Ok, Err, ⊤}
 use Rattle.ss_journal.specs.declared.put.Put.{Put}
+use Rattle.ss_journal.specs.declared.format.TheConstants.{ENTRIES, MOST_PUTS, MOST_SLOTS}
 use Rattle.ss_journal.specs.declared.phase.Phase.{Phase}
 use Rattle.ss_journal.specs.declared.phase.Phase.TheVariants.{Unborn, Born, Settled, Stopped}
 use Rattle.ss_journal.specs.declared.journal_error.JournalError.{JournalError}
 use Rattle.ss_journal.specs.declared.journal_error.JournalError.TheVariants.{Disk, NotAStore, BadEntry, OutOfMemory}
-use Rattle.ss_journal.specs.Format.{is_unborn, is_born, opens, entry_place}
-use Rattle.ss_journal.specs.Redo.{SlotMap, not_a_store, bad_entry, stands, redo, puts_in_use}
+use Rattle.ss_journal.specs.Gates.{ClosedFrom}
+use Rattle.ss_journal.specs.Format.{is_unborn, is_born}
+use Rattle.ss_journal.specs.Redo.{SlotMap, not_a_store, bad_entry, stands, redo, entries_in_use, puts_in_use}
 
--- a journal: its phase, its extent, and the puts of the entries in use
+-- a journal: its phase, its extent, the number of entries in use, and their puts
 pub record JournalState : Type 0 where
   pub phase : Phase
   pub extent : ℕ
+  pub in_use : ℕ
   pub waiting : List Put
 
 -- what is true of each journal, whatever the disk tells
-pub record IsSound (journal : JournalState) : Type 0 where
-  pub extent : journal.extent ≤ 2 ^ 20
+pub record IsBounded (journal : JournalState) : Type 0 where
+  pub extent : journal.extent ≤ MOST_SLOTS
   pub waiting : All (λ put. put.slot < journal.extent) journal.waiting
   pub unborn : journal.phase ≡ Unborn → journal.waiting ≡ []
+  pub in_use : journal.in_use ≤ ENTRIES
+  pub few : length journal.waiting ≤ MOST_PUTS * journal.in_use
 
 -- no call has failed
 abbrev pub IsRunning : JournalState → Type 0
@@ -28,24 +33,22 @@ IsRunning journal = journal.phase ≢ Stopped
 abbrev pub HasStopped : JournalState → Type 0
 HasStopped journal = journal.phase ≡ Stopped
 
--- the file is formed, and no gate is open
+-- the file is formed, and each gate after the entries in use is closed
 abbrev pub IsSettled : JournalState → Type 0
 IsSettled journal = journal.phase ≡ Settled
 
--- no gate is open
-abbrev pub AllClosed : List ℕ → Type 0
-AllClosed content = (n : ℕ) → n < 64 → IsFalse (opens (slice_index content (entry_place n)))
+-- the content is formed as the phase says, with so many entries in use
+abbrev pub IsInPhase : Phase → ℕ → List ℕ → Type 0
+IsInPhase Unborn in_use content = IsTrue (is_unborn content)
+IsInPhase Born in_use content = IsTrue (is_born content)
+IsInPhase Settled in_use content = IsTrue (is_born content) × ClosedFrom in_use content
+IsInPhase Stopped in_use content = ⊥
 
--- the content is formed as the phase says
-abbrev pub IsInPhase : Phase → List ℕ → Type 0
-IsInPhase Unborn content = IsTrue (is_unborn content)
-IsInPhase Born content = IsTrue (is_born content)
-IsInPhase Settled content = IsTrue (is_born content) × AllClosed content
-IsInPhase Stopped content = ⊥
-
--- One disk: the content is as the journal keeps it.
+-- One disk: the content is as the journal keeps it. Its entries in use are those that the journal keeps, and once settled
+-- each gate after them is closed.
 pub record IsKept (journal : JournalState) (content : List ℕ) : Type 0 where
-  pub phase : IsInPhase journal.phase content
+  pub phase : IsInPhase journal.phase journal.in_use content
+  pub number : journal.in_use ≡ length (entries_in_use content)
   pub waiting : journal.waiting ≡ puts_in_use content
   pub found : SlotMap
   pub map : redo content ≡ stands found

@@ -1,3 +1,4 @@
+pub mod Gates
 pub mod Format
 pub mod Puts
 pub mod Entries
@@ -7,5 +8,4 @@ pub mod Writes
 pub mod Birth
 pub mod Calls
 pub mod Opening
-pub mod Settling
 pub mod Commit

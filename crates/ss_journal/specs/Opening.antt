@@ -1,13 +1,14 @@
 -- What reading a file from its beginning answers.
 use Rattle.std.specs.Prelude.{◌≡◌, ℕ, List, length, Option, Some, None, Result, Ok, Err, IsTrue, IsFalse, ⊤}
-use Rattle.std.specs.Global.{Vec}
 use Rattle.arrayvec.specs.ArrayVec.{ArrayVec}
 use Rattle.ss_outside.specs.Disk.{IsReadFrom}
 use Rattle.ss_journal.specs.declared.put.Put.{Put}
 use Rattle.ss_journal.specs.declared.journal_error.JournalError.{JournalError}
 use Rattle.ss_journal.specs.declared.journal_error.JournalError.TheVariants.{Disk, NotAStore, BadEntry, OutOfMemory}
-use Rattle.ss_journal.specs.Entries.{is_open, is_good, puts_of}
-use Rattle.ss_journal.specs.Redo.{SlotMap, stands, bad_entry, redo, puts_in_use}
+use Rattle.ss_journal.specs.declared.opening.EntriesRead.{EntriesRead}
+use Rattle.ss_journal.specs.Gates.{is_open}
+use Rattle.ss_journal.specs.Entries.{is_good, puts_of}
+use Rattle.ss_journal.specs.Redo.{bad_entry, redo, entries_in_use, InUse}
 
 -- the length of an image and its first nine bytes, with zeros past its end
 pub record IsHead (size : ℕ) (first image : List ℕ) : Type 0 where
@@ -31,16 +32,15 @@ IfNext (Ok (Some puts)) P = P puts.items
 IfNext (Ok None) P = ⊤
 IfNext (Err error) P = ⊤
 
--- the entries in use of a content are all sound, and these are the extent after them and their puts
-pub record InUse (content : List ℕ) (extent : ℕ) (puts : List Put) : Type 0 where
-  pub in_use : puts ≡ puts_in_use content
-  pub found : SlotMap
-  pub map : redo content ≡ stands found
-  pub same_extent : found.extent ≡ extent
+-- so many entries of a content are in use, with these puts, and this is the extent after them
+pub record AreEntries (content : List ℕ) (count : ℕ) (puts : List Put) (last : ℕ) : Type 0 where
+  pub number : count ≡ length (entries_in_use content)
+  pub in_use : InUse puts content
+  pub extent : in_use.found.extent ≡ last
 
 -- what reading the entries of a content answers
-abbrev pub InUseAs : List ℕ → Result (ℕ × Vec Put) JournalError → Type 0
-InUseAs content (Ok read) = InUse content read.0 read.1.items
+abbrev pub InUseAs : List ℕ → Result EntriesRead JournalError → Type 0
+InUseAs content (Ok read) = AreEntries content read.in_use read.waiting read.extent
 InUseAs content (Err (BadEntry n)) = redo content ≡ bad_entry n
 InUseAs content (Err NotAStore) = ⊥
 InUseAs content (Err Disk) = ⊤

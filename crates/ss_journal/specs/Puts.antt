@@ -1,7 +1,8 @@
 -- What puts make of a map from slots to their bytes, and of its extent.
-use Rattle.std.specs.Prelude.{◌≡◌, ℕ, ◌+◌, ◌^◌, ◌<◌, ◌≤◌, Bool, true, ◌&&◌, nat_eq, nat_lt, nat_le, if◌then◌else◌, IsTrue, IsFalse, All, List, [], ◌∷◌, length}
+use Rattle.std.specs.Prelude.{◌≡◌, ℕ, ◌+◌, ◌<◌, ◌≤◌, Bool, true, ◌&&◌, nat_eq, nat_lt, nat_le, if◌then◌else◌, IsTrue, IsFalse, All, List, [], ◌∷◌, length}
 use Rattle.std.specs.List.{list_any}
 use Rattle.ss_journal.specs.declared.put.Put.{Put}
+use Rattle.ss_journal.specs.declared.format.TheConstants.{MOST_PUTS, SLOT_SIZE, MOST_SLOTS}
 
 -- the map with the put's bytes in its slot
 abbrev pub with_put : Put → (ℕ → List ℕ) → ℕ → List ℕ
@@ -17,25 +18,25 @@ abbrev pub extent_after : List Put → ℕ → ℕ
 extent_after [] extent = extent
 extent_after (put ∷ puts) extent = extent_after puts (if nat_eq put.slot extent then extent + 1 else extent)
 
--- whether the slots rise strictly, from `least` on, and lie below 2^20
+-- whether the slots rise strictly, from `least` on, and are slots that a file can have
 abbrev pub slots_rise_from : ℕ → List Put → Bool
 slots_rise_from least [] = true
-slots_rise_from least (put ∷ puts) = nat_le least put.slot && nat_lt put.slot (2 ^ 20) && slots_rise_from (put.slot + 1) puts
+slots_rise_from least (put ∷ puts) = nat_le least put.slot && nat_lt put.slot MOST_SLOTS && slots_rise_from (put.slot + 1) puts
 
 -- whether each slot in order is at most the extent so far
 abbrev pub slots_fit : List Put → ℕ → Bool
 slots_fit [] extent = true
 slots_fit (put ∷ puts) extent = nat_le put.slot extent && slots_fit puts (if nat_eq put.slot extent then extent + 1 else extent)
 
--- one to four puts, whose slots rise strictly and lie below 2^20
+-- one to four puts, whose slots rise strictly and are slots that a file can have
 pub record IsTxn (puts : List Put) : Type 0 where
   pub some : 0 < length puts
-  pub few : length puts ≤ 4
+  pub few : length puts ≤ MOST_PUTS
   pub rise : IsTrue (slots_rise_from 0 puts)
 
 -- each put fills its slot
 abbrev pub AreWhole : List Put → Type 0
-AreWhole puts = All (λ put. length put.bytes ≡ 128) puts
+AreWhole puts = All (λ put. length put.bytes ≡ SLOT_SIZE) puts
 
 -- whether one of the puts is for the slot
 abbrev pub is_put : List Put → ℕ → Bool

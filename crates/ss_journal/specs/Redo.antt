@@ -1,8 +1,9 @@
 -- What an image stands for: a fold over the entries of its open prefix.
-use Rattle.std.specs.Prelude.{◌≡◌, ℕ, ◌+◌, ◌^◌, ◌<◌, nat_lt, if◌then◌else◌, List, [], ◌∷◌, length, replicate, flat_map}
+use Rattle.std.specs.Prelude.{◌≡◌, ℕ, ◌+◌, ◌<◌, ◌≤◌, nat_lt, if◌then◌else◌, List, [], ◌∷◌, length, replicate, flat_map}
 use Rattle.ss_journal.specs.declared.put.Put.{Put}
 use Rattle.ss_journal.specs.Format.{is_unborn, is_born, slots_in, slot_at}
-use Rattle.ss_journal.specs.Puts.{with_puts, extent_after}
+use Rattle.ss_journal.specs.declared.format.TheConstants.{SLOT_SIZE, MOST_SLOTS}
+use Rattle.ss_journal.specs.Puts.{with_puts, extent_after, AgreeBeside}
 use Rattle.ss_journal.specs.Entries.{puts_of, is_good, open_prefix, entries}
 
 -- a map from slots to their 128 bytes, and its extent: slots from there on were never used
@@ -18,7 +19,7 @@ pub data Redone : Type 0 where
 
 -- a slot that isn't in the file
 abbrev pub zeros : List ℕ
-zeros = replicate 128 0
+zeros = replicate SLOT_SIZE 0
 
 -- the map after these puts
 abbrev pub changed : SlotMap → List Put → SlotMap
@@ -47,9 +48,9 @@ redo image =
     if is_born image then redo_entries 0 (open_prefix (entries image)) (file_map image)
     else (if is_unborn image then stands (blank_map image) else not_a_store)
 
--- the same bytes in each of the 2^20 slots, and the same extent
+-- the same bytes in each of the slots that a file can have, and the same extent
 pub record SameMap (first second : SlotMap) : Type 0 where
-  pub bytes : (slot : ℕ) → slot < 2 ^ 20 → first.bytes slot ≡ second.bytes slot
+  pub bytes : (slot : ℕ) → slot < MOST_SLOTS → first.bytes slot ≡ second.bytes slot
   pub extent : first.extent ≡ second.extent
 
 -- what was redone is this map
@@ -62,6 +63,23 @@ Gives (stands its) found = SameMap its found
 abbrev pub StandsFor : List ℕ → SlotMap → Type 0
 StandsFor image found = Gives (redo image) found
 
--- the puts of the entries in use, in order
-unfoldable pub puts_in_use : List ℕ → List Put
-puts_in_use image = if is_born image then flat_map puts_of (open_prefix (entries image)) else []
+-- the entries in use: those of the open prefix of a formed file
+unfoldable pub entries_in_use : List ℕ → List (List ℕ)
+entries_in_use image = if is_born image then open_prefix (entries image) else []
+
+-- their puts, in order
+abbrev pub puts_in_use : List ℕ → List Put
+puts_in_use image = flat_map puts_of (entries_in_use image)
+
+-- the content stands for a map, and these are the puts of its entries in use, in order
+pub record InUse (puts : List Put) (content : List ℕ) : Type 0 where
+  pub all : puts ≡ puts_in_use content
+  pub found : SlotMap
+  pub map : redo content ≡ stands found
+
+-- The puts came to a map already, in whole or in part, where `found` is the map after them: it differs from the old map in
+-- their slots alone, and its extent lies between the old one and the one after them.
+pub record CameInPart (puts : List Put) (old found new : SlotMap) : Type 0 where
+  pub beside : AgreeBeside puts old.bytes new.bytes
+  pub no_less : old.extent ≤ new.extent
+  pub no_more : new.extent ≤ found.extent

@@ -1,10 +1,10 @@
 -- What the journal's writes make of a content, and what a crash may make of it before they are synced.
-use Rattle.std.specs.Prelude.{◌≡◌, ℕ, ◌+◌, ◌<◌, ◌≤◌, ◌^◌, max, List, [], ◌∷◌, length, slice_index, EachIndex, All, IsTrue, IsFalse, map}
-use Rattle.std.specs.List.{range_with_len}
+use Rattle.std.specs.Prelude.{◌≡◌, ℕ, ◌+◌, ◌<◌, ◌≤◌, max, List, [], ◌∷◌, length, slice_index, EachIndex, All, IsTrue, map}
 use Rattle.ss_outside.specs.Crash.{LeavesOnly}
 use Rattle.ss_outside.specs.Disk.{Told, overwrite, IsOutsideAll}
 use Rattle.ss_journal.specs.declared.put.Put.{Put}
-use Rattle.ss_journal.specs.Format.{opens, entry_place, slot_place, slots_in}
+use Rattle.ss_journal.specs.declared.format.TheConstants.{FIRST_SLOT, SLOT_SIZE, MOST_SLOTS, FILE_END}
+use Rattle.ss_journal.specs.Format.{slot_place, slots_in}
 use Rattle.ss_journal.specs.Puts.{slots_fit}
 
 -- the greatest length with these ranges written
@@ -34,30 +34,22 @@ Tears ranges old new = LeavesOnly old new (IsTorn ranges old)
 
 -- the place of each put's slot
 abbrev pub slot_ranges : List Put → List (ℕ × ℕ)
-slot_ranges puts = map (λ put. (slot_place put.slot, 128)) puts
+slot_ranges puts = map (λ put. (slot_place put.slot, SLOT_SIZE)) puts
 
 -- the content with each put's bytes in its slot, written in order
 abbrev pub slots_written : List Put → List ℕ → List ℕ
 slots_written [] content = content
 slots_written (put ∷ puts) content = slots_written puts (overwrite content (slot_place put.slot) put.bytes)
 
--- the place of each gate but the first
-abbrev pub other_gates : List (ℕ × ℕ)
-other_gates = map (λ n. (entry_place n, 1)) (range_with_len 1 63)
-
--- the slots below 2^20
+-- the slots that a file can have
 abbrev pub AreSlots : List Put → Type 0
-AreSlots puts = All (λ put. put.slot < 2 ^ 20) puts
+AreSlots puts = All (λ put. put.slot < MOST_SLOTS) puts
 
 -- a formed file, into which these puts may be written in order
 pub record HasRoom (puts : List Put) (content : List ℕ) : Type 0 where
-  pub long : 36864 ≤ length content
+  pub long : FIRST_SLOT ≤ length content
   pub fit : IsTrue (slots_fit puts (slots_in (length content)))
 
--- the first gate is closed
-abbrev pub FirstClosed : List ℕ → Type 0
-FirstClosed content = IsFalse (opens (slice_index content 512))
-
--- each gate but the first is as before
-abbrev pub SameOthers : List ℕ → List ℕ → Type 0
-SameOthers old new = (n : ℕ) → 0 < n → n < 64 → slice_index new (entry_place n) ≡ slice_index old (entry_place n)
+-- each byte after the last slot that a file can have is as before
+abbrev pub SameRest : List ℕ → List ℕ → Type 0
+SameRest old new = (place : ℕ) → FILE_END ≤ place → slice_index new place ≡ slice_index old place

@@ -1,10 +1,10 @@
 // How an unborn file is formed. It stays unborn until the birth gate opens, and no other gate is open then.
 ghost use Rattle.std.specs.Prelude.{◌≡◌, [], ◌∷◌, length, IsTrue, OnOk};
 ghost use Rattle.ss_outside.specs.Causes.{HasCause};
-ghost use Rattle.ss_outside.specs.Disk.{overwrite};
+ghost use Rattle.ss_outside.specs.Disk.{overwrite, NothingPending};
 ghost use Rattle.ss_journal.specs.Format.{is_unborn, is_born};
-ghost use Rattle.ss_journal.specs.Kept.{AllClosed};
-ghost use Rattle.ss_journal.specs.Writes.{Tears};
+ghost use Rattle.ss_journal.specs.Gates.{ClosedFrom};
+ghost use Rattle.ss_journal.specs.Writes.{Tears, SameRest};
 ghost use Rattle.ss_journal.specs.Birth.{IsBegun, IsFormed, magic_bytes};
 ghost use Rattle.ss_journal.specs.Calls.{KeepsMap};
 
@@ -12,11 +12,12 @@ use crate::format::{FILE_END, FIRST_SLOT, GATE_OPEN, MAGIC, MAGIC_END};
 use crate::writing::{read_byte, write, write_through, write_zeros};
 use ss_outside::{Disk, Failed};
 
-// Makes a file of no byte, or of one byte, one 0.
+// Makes a file of at most one byte one 0.
 fn begin<D: Disk>(disk: &mut D) -> Result<(), Failed>
     requires unborn { IsTrue (D.tells disk.old) → IsTrue (is_unborn (D.told disk.old).content) }
     ensures keeps_map { IsTrue (D.tells disk.old) → KeepsMap (D.told disk.old) (D.told disk.new) result }
     ensures begun { IsTrue (D.tells disk.old) → OnOk result (IsBegun (D.told disk.new).content) }
+    ensures rest { IsTrue (D.tells disk.old) → OnOk result (SameRest (D.told disk.old).content (D.told disk.new).content) }
     ensures tells { D.tells disk.new ≡ D.tells disk.old }
     ensures cause { HasCause (D.faults disk.old) (D.faults disk.new) result }
 {
@@ -42,11 +43,12 @@ fn write_magic<D: Disk>(disk: &mut D) -> Result<(), Failed>
     Ok(())
 }
 
-// Writes the magic and zeros behind it, as far as anything is looked at.
+// Writes the magic and zeros after it, as far as anything is looked at.
 fn form<D: Disk>(disk: &mut D) -> Result<(), Failed>
     requires begun { IsTrue (D.tells disk.old) → IsBegun (D.told disk.old).content }
     ensures keeps_map { IsTrue (D.tells disk.old) → KeepsMap (D.told disk.old) (D.told disk.new) result }
     ensures formed { IsTrue (D.tells disk.old) → OnOk result (IsFormed (D.told disk.new).content) }
+    ensures rest { IsTrue (D.tells disk.old) → OnOk result (SameRest (D.told disk.old).content (D.told disk.new).content) }
     ensures tells { D.tells disk.new ≡ D.tells disk.old }
     ensures cause { HasCause (D.faults disk.old) (D.faults disk.new) result }
 {
@@ -61,19 +63,23 @@ fn open_gate<D: Disk>(disk: &mut D) -> Result<(), Failed>
     requires formed { IsTrue (D.tells disk.old) → IsFormed (D.told disk.old).content }
     ensures keeps_map { IsTrue (D.tells disk.old) → KeepsMap (D.told disk.old) (D.told disk.new) result }
     ensures born { IsTrue (D.tells disk.old)
-        → OnOk result (IsTrue (is_born (D.told disk.new).content) × AllClosed (D.told disk.new).content) }
+        → OnOk result (IsTrue (is_born (D.told disk.new).content) × ClosedFrom 0 (D.told disk.new).content) }
+    ensures durable { IsTrue (D.tells disk.old) → OnOk result (NothingPending (D.told disk.new)) }
+    ensures rest { IsTrue (D.tells disk.old) → OnOk result (SameRest (D.told disk.old).content (D.told disk.new).content) }
     ensures tells { D.tells disk.new ≡ D.tells disk.old }
     ensures cause { HasCause (D.faults disk.old) (D.faults disk.new) result }
 {
     write_through(disk, 0, &[GATE_OPEN])
 }
 
-// Forms an unborn file. Every slot is zeros before and after.
+// Forms an unborn file. Every slot is zeros before and after. What lies after the last slot that a file can have stays.
 pub fn give_birth<D: Disk>(disk: &mut D) -> Result<(), Failed>
     requires unborn { IsTrue (D.tells disk.old) → IsTrue (is_unborn (D.told disk.old).content) }
     ensures keeps_map { IsTrue (D.tells disk.old) → KeepsMap (D.told disk.old) (D.told disk.new) result }
     ensures born { IsTrue (D.tells disk.old)
-        → OnOk result (IsTrue (is_born (D.told disk.new).content) × AllClosed (D.told disk.new).content) }
+        → OnOk result (IsTrue (is_born (D.told disk.new).content) × ClosedFrom 0 (D.told disk.new).content) }
+    ensures durable { IsTrue (D.tells disk.old) → OnOk result (NothingPending (D.told disk.new)) }
+    ensures rest { IsTrue (D.tells disk.old) → OnOk result (SameRest (D.told disk.old).content (D.told disk.new).content) }
     ensures tells { D.tells disk.new ≡ D.tells disk.old }
     ensures cause { HasCause (D.faults disk.old) (D.faults disk.new) result }
 {

@@ -4,25 +4,25 @@ ghost use Rattle.std.specs.List.{list_all};
 ghost use Rattle.ss_journal.specs.Puts.{slots_rise_from, slots_fit, extent_after, AreWhole, IsTxn};
 ghost use Rattle.ss_journal.specs.Entries.{put_at, puts_of, is_good, count_of, put_bytes, entry_body};
 
-use crate::format::{ENTRY_SIZE, MOST_PUTS, MOST_SLOTS, PUT_SIZE};
+use crate::format::{ENTRY_SIZE, MOST_PUTS, MOST_SLOTS, PUT_SIZE, SLOT_SIZE};
 use crate::put::{Put, Txn};
 use ss_fields::{get_u32, put_u32};
 
-// Where the put begins in an entry, behind the gate and the count.
+// Where the put begins in an entry, after the gate and the count.
 fn put_place(k: usize) -> usize
-    requires { k < 4 }
-    ensures { result ≡ 2 + 132 * k }
+    requires { k < MOST_PUTS }
+    ensures { result ≡ 2 + PUT_SIZE * k }
 {
     2 + PUT_SIZE * k
 }
 
 // The entry's put number `k`.
 fn put_at(entry: &[u8; ENTRY_SIZE], k: usize) -> Put
-    requires { k < 4 }
+    requires { k < MOST_PUTS }
     ensures { result ≡ put_at entry.now k }
 {
     let place = put_place(k);
-    let mut bytes = [0; 128];
+    let mut bytes = [0; SLOT_SIZE];
     bytes.copy_from_slice(&entry[place + 4..place + PUT_SIZE]);
     Put {
         slot: get_u32(entry, place),
@@ -32,7 +32,7 @@ fn put_at(entry: &[u8; ENTRY_SIZE], k: usize) -> Put
 
 // The entry's puts.
 pub fn puts_of(entry: &[u8; ENTRY_SIZE]) -> Txn
-    requires { count_of entry.now ≤ 4 }
+    requires { count_of entry.now ≤ MOST_PUTS }
     ensures { result.items ≡ puts_of entry.now }
 {
     let mut puts = Txn::new();
@@ -94,19 +94,19 @@ fn are_zeros(bytes: &[u8]) -> bool
     bytes.iter().all(|byte| *byte == 0)
 }
 
-// Whether zeros stand behind the entry's puts.
+// Whether zeros stand after the entry's puts.
 fn rest_is_zeros(entry: &[u8; ENTRY_SIZE]) -> bool
-    requires { count_of entry.now ≤ 4 }
-    ensures { result ≡ list_all (λ byte. byte == 0) (drop (2 + 132 * count_of entry.now) entry.now) }
+    requires { count_of entry.now ≤ MOST_PUTS }
+    ensures { result ≡ list_all (λ byte. byte == 0) (drop (2 + PUT_SIZE * count_of entry.now) entry.now) }
 {
     are_zeros(&entry[2 + PUT_SIZE * usize::from(entry[1])..])
 }
 
 // Whether an entry is sound over this extent.
 pub fn is_good(entry: &[u8; ENTRY_SIZE], extent: u32) -> bool
-    requires { extent ≤ 2 ^ 20 }
+    requires { extent ≤ MOST_SLOTS }
     ensures value { result ≡ is_good entry.now extent }
-    ensures few { IsTrue result → count_of entry.now ≤ 4 }
+    ensures few { IsTrue result → count_of entry.now ≤ MOST_PUTS }
 {
     if entry[1] < 1 || entry[1] > MOST_PUTS {
         return false;
@@ -117,9 +117,9 @@ pub fn is_good(entry: &[u8; ENTRY_SIZE], extent: u32) -> bool
 
 // Writes put number `k` into an entry.
 fn write_put(entry: &mut [u8; ENTRY_SIZE], k: usize, put: &Put)
-    requires { k < 4 }
-    ensures whole { length put.now.bytes ≡ 128 }
-    ensures written { entry.new ≡ take (2 + 132 * k) entry.old ++ put_bytes put.now ++ drop (134 + 132 * k) entry.old }
+    requires { k < MOST_PUTS }
+    ensures whole { length put.now.bytes ≡ SLOT_SIZE }
+    ensures written { entry.new ≡ take (2 + PUT_SIZE * k) entry.old ++ put_bytes put.now ++ drop (2 + PUT_SIZE * (k + 1)) entry.old }
 {
     let place = put_place(k);
     put_u32(entry, place, put.slot);

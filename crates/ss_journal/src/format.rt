@@ -1,11 +1,12 @@
 // The places and sizes of the file, in bytes.
 ghost use Rattle.std.specs.Prelude.{◌≡◌, ◌<◌, ◌≤◌};
-ghost use Rattle.ss_journal.specs.Format.{entry_place, slot_place, slots_in};
+ghost use Rattle.ss_journal.specs.Gates.{entry_place};
+ghost use Rattle.ss_journal.specs.Format.{slot_place, slots_in};
 
 // A gate with this byte is open, and closed with any other.
 pub const GATE_OPEN: u8 = 0xA5;
 
-// It stands behind the birth gate, from byte 1 on.
+// It stands after the birth gate, from byte 1 on.
 pub const MAGIC: [u8; 8] = *b"SSTORE01";
 
 // Where the magic ends.
@@ -21,6 +22,9 @@ pub const FIRST_ENTRY: u64 = 512;
 pub const MOST_PUTS: u8 = 4;
 
 pub const PUT_SIZE: usize = 132;
+
+// How many puts all entries hold at most.
+pub const MOST_WAITING: usize = 256;
 
 pub const SLOT_SIZE: usize = 128;
 

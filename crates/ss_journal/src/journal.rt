@@ -1,14 +1,15 @@
 // The journal.
 use crate::JournalError;
 use crate::birth::give_birth;
+use crate::committing::add_entry;
 use crate::entry::extent_after;
-use crate::format::{MOST_SLOTS, SLOT_SIZE, slots_in};
+use crate::format::{ENTRIES, MOST_SLOTS, SLOT_SIZE, slots_in};
 use crate::opening::{read_entries, read_head};
 use crate::phase::Phase;
-use crate::put::{Put, Txn};
-use crate::reading::{last_put, read_slot};
-use crate::settling::{apply, settle_entries};
-use crate::txn::open_entry;
+use crate::put::Txn;
+use crate::reading::read_slot;
+use crate::settling::{settle_entries, settle_formed};
+use crate::waiting::Waiting;
 use ss_outside::{Disk, Failed};
 use std::alloc::Global;
 use std::marker::Model;
@@ -20,18 +21,19 @@ pub struct Journal {
     phase: Phase,
     // The slots from here on were never used.
     extent: u32,
-    // The puts of the entries in use, in order, which may not have come into their slots.
-    waiting: Vec<Put>,
+    // How many entries are in use, and their puts in order, which may not have come into their slots.
+    in_use: u32,
+    waiting: Waiting,
 }
 
 impl Model for Journal {
-    ghost use Rattle.ss_journal.specs.Kept.{JournalState, IsSound};
+    ghost use Rattle.ss_journal.specs.Kept.{JournalState, IsBounded};
 
     ghost Value = { JournalState };
 
-    ghost view = { λ s. record { phase = s.phase; extent = s.extent; waiting = s.waiting.items } };
+    ghost view = { λ s. record { phase = s.phase; extent = s.extent; in_use = s.in_use; waiting = s.waiting } };
 
-    ghost invariant = { λ s. IsSound (record { phase = s.phase; extent = s.extent; waiting = s.waiting.items }) };
+    ghost invariant = { λ s. IsBounded (record { phase = s.phase; extent = s.extent; in_use = s.in_use; waiting = s.waiting }) };
 }
 
 impl Journal {
@@ -41,7 +43,9 @@ impl Journal {
     ghost use Rattle.ss_journal.specs.Puts.{extent_after, slots_fit, IsTxn};
     ghost use Rattle.ss_journal.specs.Redo.{SlotMap, StandsFor, zeros};
     ghost use Rattle.ss_journal.specs.Kept.{IsKept, IsRunning, IsSettled, HasStopped, OpensAs};
-    ghost use Rattle.ss_journal.specs.Calls.{KeepsMap, ChangesMap, BlamesDisk};
+    ghost use Rattle.ss_journal.specs.Calls.{KeepsMap, MakesDurable, ChangesMap, BlamesDisk};
+    ghost use Rattle.ss_journal.specs.Format.{is_unborn};
+    ghost use Rattle.ss_journal.specs.Writes.{SameRest};
 
     /// Opens a disk, formed or not. It reads the entries in use and writes nothing.
     pub fn open<D: Disk>(alloc: Global, disk: &mut D) -> Result<Journal, JournalError>
@@ -60,17 +64,19 @@ impl Journal {
             return Ok(Journal {
                 phase: Phase::Unborn,
                 extent: slots,
-                waiting: Vec::new(alloc),
+                in_use: 0,
+                waiting: Waiting::new(alloc)?,
             });
         }
         if !head.is_born() {
             return Err(JournalError::NotAStore);
         }
-        let (extent, waiting) = read_entries(alloc, disk, slots)?;
+        let read = read_entries(alloc, disk, slots)?;
         Ok(Journal {
             phase: Phase::Born,
-            extent,
-            waiting,
+            extent: read.extent,
+            in_use: read.in_use,
+            waiting: read.waiting,
         })
     }
 
@@ -82,8 +88,8 @@ impl Journal {
         self.extent
     }
 
-    /// Forms a file that isn't formed, or brings the entries in use into their slots and closes their gates. It leaves
-    /// the map as it is, also in a crash.
+    /// Forms a file that isn't formed. Of a formed one it makes durable what is pending, by a sync, and then brings the
+    /// entries in use into their slots and closes their gates. It leaves the map as it is, also in a crash.
     pub fn settle<D: Disk>(&mut self, disk: &mut D) -> Result<(), Failed>
         requires running { IsRunning self.old }
         requires one_disk { IsTrue (D.tells disk.old) → IsKept self.old (D.told disk.old).content }
@@ -92,6 +98,11 @@ impl Journal {
         ensures extent { OnOk result (self.new.extent ≡ self.old.extent) }
         // The map stays, also in a crash at any moment of the call.
         ensures keeps_map { IsTrue (D.tells disk.old) → KeepsMap (D.told disk.old) (D.told disk.new) result }
+        // Whatever is pending at the call: nothing is at Ok, and from the first sync on each image has the map of the content.
+        ensures makes_durable { IsTrue (D.tells disk.old) → MakesDurable (D.told disk.old) (D.told disk.new) result }
+        // A birth leaves what lies after the last slot that a file can have.
+        ensures rest { IsTrue (D.tells disk.old) → IsTrue (is_unborn (D.told disk.old).content)
+            → OnOk result (SameRest (D.told disk.old).content (D.told disk.new).content) }
         ensures stopped { OnErr result (HasStopped self.new) }
         ensures tells { D.tells disk.new ≡ D.tells disk.old }
         ensures cause { HasCause (D.faults disk.old) (D.faults disk.new) result }
@@ -100,10 +111,13 @@ impl Journal {
         self.phase = Phase::Stopped;
         match phase {
             Phase::Unborn => give_birth(disk)?,
-            Phase::Born => settle_entries(disk, &self.waiting)?,
-            Phase::Settled | Phase::Stopped => {}
+            Phase::Born | Phase::Settled | Phase::Stopped => settle_formed(
+                disk,
+                self.waiting.as_slice(),
+            )?,
         }
         self.waiting.clear();
+        self.in_use = 0;
         self.phase = Phase::Settled;
         Ok(())
     }
@@ -126,7 +140,7 @@ impl Journal {
         if self.phase == Phase::Unborn || slot >= self.extent {
             return Ok([0; SLOT_SIZE]);
         }
-        if let Some(bytes) = last_put(&self.waiting, slot) {
+        if let Some(bytes) = self.waiting.newest(slot) {
             return Ok(bytes);
         }
         match read_slot(disk, slot) {
@@ -136,6 +150,30 @@ impl Journal {
                 Err(failed)
             }
         }
+    }
+
+    // Where every entry is in use, brings them into their slots and closes their gates.
+    fn make_room<D: Disk>(&mut self, disk: &mut D) -> Result<(), Failed>
+        requires settled { IsSettled self.old }
+        requires one_disk { IsTrue (D.tells disk.old) → IsKept self.old (D.told disk.old).content }
+        ensures one_disk { IsTrue (D.tells disk.old) → OnOk result (IsKept self.new (D.told disk.new).content) }
+        ensures settled { OnOk result (IsSettled self.new) }
+        ensures room { OnOk result (self.new.in_use < ENTRIES) }
+        ensures extent { OnOk result (self.new.extent ≡ self.old.extent) }
+        ensures keeps_map { IsTrue (D.tells disk.old) → KeepsMap (D.told disk.old) (D.told disk.new) result }
+        ensures stopped { OnErr result (HasStopped self.new) }
+        ensures tells { D.tells disk.new ≡ D.tells disk.old }
+        ensures cause { HasCause (D.faults disk.old) (D.faults disk.new) result }
+    {
+        if self.in_use < ENTRIES {
+            return Ok(());
+        }
+        self.phase = Phase::Stopped;
+        settle_entries(disk, self.waiting.as_slice())?;
+        self.waiting.clear();
+        self.in_use = 0;
+        self.phase = Phase::Settled;
+        Ok(())
     }
 
     /// Puts all of the transaction's bytes into their slots. A crash at any moment of the call leaves the map from
@@ -155,10 +193,12 @@ impl Journal {
         ensures tells { D.tells disk.new ≡ D.tells disk.old }
         ensures cause { HasCause (D.faults disk.old) (D.faults disk.new) result }
     {
+        self.make_room(disk)?;
         self.phase = Phase::Stopped;
-        open_entry(disk, txn)?;
-        apply(disk, txn)?;
+        add_entry(disk, self.in_use, txn)?;
         self.extent = extent_after(txn, self.extent);
+        self.waiting.append(txn);
+        self.in_use += 1;
         self.phase = Phase::Settled;
         Ok(())
     }

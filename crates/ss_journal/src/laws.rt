@@ -1,18 +1,11 @@
 // Laws, each the contract of a function that does nothing.
-ghost use Rattle.std.specs.Prelude.{◌≡◌, ◌≤◌, ℕ, List, IsTrue};
-ghost use Rattle.ss_journal.specs.declared.put.Put.{Put};
-ghost use Rattle.ss_journal.specs.Puts.{with_puts, extent_after, slots_fit, AgreeBeside};
+ghost use Rattle.std.specs.Prelude.{◌≡◌, ℕ, List, flat_map};
+ghost use Rattle.ss_journal.specs.Entries.{puts_of};
+ghost use Rattle.ss_journal.specs.Redo.{SlotMap, Redone, redo_entries, Gives, CameInPart};
 
-/// Puts give the same map again over a map to which any of them came already, in whole or in part: it may differ from
-/// the old one in their slots alone.
-pub fn puts_agree_again()
-    ensures { (puts : List Put) (old new : ℕ → List ℕ) → AgreeBeside puts old new
-        → (slot : ℕ) → with_puts puts new slot ≡ with_puts puts old slot }
-{}
-
-/// Puts that fit an extent also fit each extent up to the one after them, and give the same extent again.
-pub fn puts_extend_again()
-    ensures fit { (puts : List Put) (old new : ℕ) → IsTrue (slots_fit puts old) → old ≤ new → IsTrue (slots_fit puts new) }
-    ensures extent { (puts : List Put) (old new : ℕ) → IsTrue (slots_fit puts old)
-        → old ≤ new → new ≤ extent_after puts old → extent_after puts new ≡ extent_after puts old }
+/// Redo is idempotent. Where redoing the entries of an open prefix over a map gives a map, redoing them over one to which
+/// any of their puts came already, in whole or in part, gives the same map: so each entry is judged good again.
+pub fn redo_is_idempotent()
+    ensures { (n : ℕ) (entries : List (List ℕ)) (old found new : SlotMap) → redo_entries n entries old ≡ Redone.stands found
+        → CameInPart (flat_map puts_of entries) old found new → Gives (redo_entries n entries new) found }
 {}

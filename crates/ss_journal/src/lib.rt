@@ -2,6 +2,7 @@
 #![tactic(auto)]
 
 mod birth;
+mod committing;
 mod entry;
 mod format;
 mod journal;
@@ -12,13 +13,13 @@ mod phase;
 mod put;
 mod reading;
 mod settling;
-mod txn;
+mod waiting;
 mod writing;
 
 pub use format::MOST_SLOTS;
 pub use journal::Journal;
 pub use journal_error::JournalError;
-pub use laws::{puts_agree_again, puts_extend_again};
+pub use laws::redo_is_idempotent;
 pub use put::{Put, Txn};
 
 #[cfg(test)]

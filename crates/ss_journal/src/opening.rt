@@ -1,5 +1,5 @@
 // How a file is opened. Nothing is written.
-ghost use Rattle.std.specs.Prelude.{◌≡◌, ◌≤◌, ◌<◌, ◌^◌, ℕ, List, length, IsTrue, IfOk, All};
+ghost use Rattle.std.specs.Prelude.{◌≡◌, ◌≤◌, ◌<◌, ◌*◌, ℕ, List, length, IsTrue, IfOk, All};
 ghost use Rattle.ss_outside.specs.Causes.{HasCause};
 ghost use Rattle.ss_outside.specs.Crash.{OnlyReads};
 ghost use Rattle.ss_journal.specs.Format.{has_magic, is_unborn, is_born, entry_at, slots_in};
@@ -9,8 +9,11 @@ ghost use Rattle.ss_journal.specs.Opening.{IsHead, NextAs, IfNext, InUseAs};
 
 use crate::JournalError;
 use crate::entry::{extent_after, is_good, puts_of};
-use crate::format::{ENTRIES, ENTRY_SIZE, FIRST_SLOT, GATE_OPEN, MAGIC, entry_place};
-use crate::put::{Put, Txn};
+use crate::format::{
+    ENTRIES, ENTRY_SIZE, FIRST_SLOT, GATE_OPEN, MAGIC, MOST_PUTS, MOST_SLOTS, entry_place,
+};
+use crate::put::Txn;
+use crate::waiting::Waiting;
 use ss_outside::{Disk, Failed};
 use std::alloc::Global;
 
@@ -22,7 +25,7 @@ pub struct Head {
 }
 
 impl Head {
-    // Whether the magic stands behind the birth gate.
+    // Whether the magic stands after the birth gate.
     fn has_magic(&self) -> bool
         ensures { (image : List ℕ) → IsHead self.now.length self.now.bytes image → result ≡ has_magic image }
     {
@@ -60,8 +63,8 @@ pub fn read_head<D: Disk>(disk: &mut D) -> Result<Head, Failed>
 
 // Reads an entry of a formed file.
 pub fn read_entry<D: Disk>(disk: &mut D, n: u32) -> Result<[u8; ENTRY_SIZE], Failed>
-    requires { n < 64 }
-    ensures entry { IsTrue (D.tells disk.old) → 36864 ≤ length (D.told disk.old).content
+    requires { n < ENTRIES }
+    ensures entry { IsTrue (D.tells disk.old) → FIRST_SLOT ≤ length (D.told disk.old).content
         → IfOk result (λ entry. entry ≡ entry_at (D.told disk.old).content n) }
     ensures reads { IsTrue (D.tells disk.old) → OnlyReads (D.told disk.old) (D.told disk.new) }
     ensures tells { D.tells disk.new ≡ D.tells disk.old }
@@ -74,8 +77,8 @@ pub fn read_entry<D: Disk>(disk: &mut D, n: u32) -> Result<[u8; ENTRY_SIZE], Fai
 
 // The puts of the entry if its gate is open, or that it isn't sound over this extent.
 fn next_entry<D: Disk>(disk: &mut D, n: u32, extent: u32) -> Result<Option<Txn>, JournalError>
-    requires number { n < 64 }
-    requires extent { extent ≤ 2 ^ 20 }
+    requires number { n < ENTRIES }
+    requires extent { extent ≤ MOST_SLOTS }
     requires born { IsTrue (D.tells disk.old) → IsTrue (is_born (D.told disk.old).content) }
     ensures entry { IsTrue (D.tells disk.old) → NextAs (entry_at (D.told disk.old).content n) n extent result }
     ensures sound { IfNext result (λ puts. IsTxn puts × IsTrue (slots_fit puts extent)) }
@@ -93,32 +96,54 @@ fn next_entry<D: Disk>(disk: &mut D, n: u32, extent: u32) -> Result<Option<Txn>,
     Ok(Some(puts_of(&entry)))
 }
 
-// The extent of a formed file of so many slots, and the puts of its open prefix.
+// The entries in use of a formed file.
+#[derive(Drop)]
+pub struct EntriesRead {
+    // How many they are, and their puts in order.
+    pub in_use: u32,
+    pub waiting: Waiting,
+    // The extent after them.
+    pub extent: u32,
+}
+
+// Reads the entries in use of a formed file of so many slots.
 pub fn read_entries<D: Disk>(
     alloc: Global,
     disk: &mut D,
     slots: u32,
-) -> Result<(u32, Vec<Put>), JournalError>
-    requires slots { slots ≤ 2 ^ 20 }
+) -> Result<EntriesRead, JournalError>
+    requires slots { slots ≤ MOST_SLOTS }
     requires born { IsTrue (D.tells disk.old) → IsTrue (is_born (D.told disk.old).content) }
     requires counted { IsTrue (D.tells disk.old) → slots ≡ slots_in (length (D.told disk.old).content) }
     ensures entries { IsTrue (D.tells disk.old) → InUseAs (D.told disk.old).content result }
-    ensures extent { IfOk result (λ read. read.0 ≤ 2 ^ 20) }
-    ensures waiting { IfOk result (λ read. All (λ put. put.slot < read.0) read.1.items) }
+    ensures extent { IfOk result (λ read. read.extent ≤ MOST_SLOTS) }
+    ensures few { IfOk result (λ read. length read.waiting ≤ MOST_PUTS * read.in_use) }
+    ensures number { IfOk result (λ read. read.in_use ≤ ENTRIES) }
+    ensures waiting { IfOk result (λ read. All (λ put. put.slot < read.extent) read.waiting) }
     ensures reads { IsTrue (D.tells disk.old) → OnlyReads (D.told disk.old) (D.told disk.new) }
     ensures tells { D.tells disk.new ≡ D.tells disk.old }
     ensures cause { BlamesDisk (D.faults disk.old) (D.faults disk.new) result }
 {
     let mut extent = slots;
-    let mut waiting = Vec::new(alloc);
+    let mut waiting = Waiting::new(alloc)?;
     for n in 0..ENTRIES {
         match next_entry(disk, n, extent)? {
             Some(puts) => {
                 extent = extent_after(&puts, extent);
-                waiting.extend_from_slice(&puts)?;
+                waiting.append(&puts);
             }
-            None => return Ok((extent, waiting)),
+            None => {
+                return Ok(EntriesRead {
+                    in_use: n,
+                    waiting,
+                    extent,
+                });
+            }
         }
     }
-    Ok((extent, waiting))
+    Ok(EntriesRead {
+        in_use: ENTRIES,
+        waiting,
+        extent,
+    })
 }

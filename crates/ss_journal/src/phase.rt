@@ -7,7 +7,7 @@ pub enum Phase {
     Unborn,
     // The file is formed, and its gates may be open.
     Born,
-    // The file is formed, and no gate is open.
+    // The file is formed, and each gate after the entries in use is closed.
     Settled,
     // A call has failed. There is no further call.
     Stopped,

@@ -1,13 +1,14 @@
-// How the entries of a formed file come into their slots, and how gates close.
+// How the entries of a formed file come into their slots, and how their gates close.
 ghost use Rattle.std.specs.Prelude.{◌≡◌, ◌≤◌, ◌<◌, [], ◌∷◌, length, IsTrue, OnOk};
 ghost use Rattle.ss_outside.specs.Causes.{HasCause};
-ghost use Rattle.ss_journal.specs.Format.{is_born, entry_place};
-ghost use Rattle.ss_journal.specs.Kept.{AllClosed};
-ghost use Rattle.ss_journal.specs.Writes.{Tears, AreSlots, FirstClosed, SameOthers};
-ghost use Rattle.ss_journal.specs.Settling.{AreInUse, ClosesGate};
-ghost use Rattle.ss_journal.specs.Calls.{KeepsMap};
+ghost use Rattle.ss_outside.specs.Disk.{NothingPending};
+ghost use Rattle.ss_journal.specs.Gates.{entry_place, IsClosed, ClosedFrom, ClosesGate};
+ghost use Rattle.ss_journal.specs.Format.{is_born};
+ghost use Rattle.ss_journal.specs.Redo.{InUse};
+ghost use Rattle.ss_journal.specs.Writes.{Tears, AreSlots};
+ghost use Rattle.ss_journal.specs.Calls.{KeepsMap, MakesDurable};
 
-use crate::format::{ENTRIES, FIRST_ENTRY, GATE_OPEN, entry_place};
+use crate::format::{ENTRIES, FIRST_ENTRY, FIRST_SLOT, GATE_OPEN, entry_place};
 use crate::put::Put;
 use crate::writing::{read_byte, write, write_slots, write_through};
 use ss_outside::{Disk, Failed};
@@ -17,10 +18,11 @@ pub fn apply<D: Disk>(disk: &mut D, puts: &[Put]) -> Result<(), Failed>
     // A write to a closed gate may open it in a crash.
     requires some { 0 < length puts.now }
     requires slots { AreSlots puts.now }
-    requires in_use { IsTrue (D.tells disk.old) → AreInUse puts.now (D.told disk.old).content }
+    requires born { IsTrue (D.tells disk.old) → IsTrue (is_born (D.told disk.old).content) }
+    requires in_use { IsTrue (D.tells disk.old) → InUse puts.now (D.told disk.old).content }
     ensures keeps_map { IsTrue (D.tells disk.old) → KeepsMap (D.told disk.old) (D.told disk.new) result }
     ensures closed { IsTrue (D.tells disk.old) → OnOk result (IsTrue (is_born (D.told disk.new).content)
-        × FirstClosed (D.told disk.new).content × SameOthers (D.told disk.old).content (D.told disk.new).content) }
+        × IsClosed 0 (D.told disk.new).content) }
     ensures tells { D.tells disk.new ≡ D.tells disk.old }
     ensures cause { HasCause (D.faults disk.old) (D.faults disk.new) result }
 {
@@ -31,10 +33,11 @@ pub fn apply<D: Disk>(disk: &mut D, puts: &[Put]) -> Result<(), Failed>
 // The same where the open prefix may be empty.
 fn apply_any<D: Disk>(disk: &mut D, puts: &[Put]) -> Result<(), Failed>
     requires slots { AreSlots puts.now }
-    requires in_use { IsTrue (D.tells disk.old) → AreInUse puts.now (D.told disk.old).content }
+    requires born { IsTrue (D.tells disk.old) → IsTrue (is_born (D.told disk.old).content) }
+    requires in_use { IsTrue (D.tells disk.old) → InUse puts.now (D.told disk.old).content }
     ensures keeps_map { IsTrue (D.tells disk.old) → KeepsMap (D.told disk.old) (D.told disk.new) result }
     ensures closed { IsTrue (D.tells disk.old)
-        → OnOk result (IsTrue (is_born (D.told disk.new).content) × FirstClosed (D.told disk.new).content) }
+        → OnOk result (IsTrue (is_born (D.told disk.new).content) × IsClosed 0 (D.told disk.new).content) }
     ensures tells { D.tells disk.new ≡ D.tells disk.old }
     ensures cause { HasCause (D.faults disk.old) (D.faults disk.new) result }
 {
@@ -46,8 +49,8 @@ fn apply_any<D: Disk>(disk: &mut D, puts: &[Put]) -> Result<(), Failed>
 
 // Closes the gate of an entry if it is open, and doesn't sync. Tells whether it was.
 fn close_gate<D: Disk>(disk: &mut D, n: u32) -> Result<bool, Failed>
-    requires number { n < 64 }
-    requires long { IsTrue (D.tells disk.old) → 36864 ≤ length (D.told disk.old).content }
+    requires number { n < ENTRIES }
+    requires long { IsTrue (D.tells disk.old) → FIRST_SLOT ≤ length (D.told disk.old).content }
     ensures gate { IsTrue (D.tells disk.old) → ClosesGate n (D.told disk.old) (D.told disk.new) result }
     ensures tears { IsTrue (D.tells disk.old) → Tears ((entry_place n, 1) ∷ []) (D.told disk.old) (D.told disk.new) }
     ensures tells { D.tells disk.new ≡ D.tells disk.old }
@@ -61,13 +64,13 @@ fn close_gate<D: Disk>(disk: &mut D, n: u32) -> Result<bool, Failed>
     Ok(open)
 }
 
-// Closes every gate that is open behind the first, which is closed. So none of their entries is in use.
+// Closes every gate that is open after the first, which is closed. So none of their entries is in use.
 fn close_others<D: Disk>(disk: &mut D) -> Result<(), Failed>
     requires { IsTrue (D.tells disk.old)
-        → IsTrue (is_born (D.told disk.old).content) × FirstClosed (D.told disk.old).content }
+        → IsTrue (is_born (D.told disk.old).content) × IsClosed 0 (D.told disk.old).content }
     ensures keeps_map { IsTrue (D.tells disk.old) → KeepsMap (D.told disk.old) (D.told disk.new) result }
     ensures closed { IsTrue (D.tells disk.old)
-        → OnOk result (IsTrue (is_born (D.told disk.new).content) × AllClosed (D.told disk.new).content) }
+        → OnOk result (IsTrue (is_born (D.told disk.new).content) × ClosedFrom 0 (D.told disk.new).content) }
     ensures tells { D.tells disk.new ≡ D.tells disk.old }
     ensures cause { HasCause (D.faults disk.old) (D.faults disk.new) result }
 {
@@ -78,7 +81,7 @@ fn close_others<D: Disk>(disk: &mut D) -> Result<(), Failed>
         }
     }
     if any {
-        disk.sync()?;
+        return disk.sync();
     }
     Ok(())
 }
@@ -86,13 +89,30 @@ fn close_others<D: Disk>(disk: &mut D) -> Result<(), Failed>
 // Brings the entries of a formed file into their slots, and closes all gates.
 pub fn settle_entries<D: Disk>(disk: &mut D, puts: &[Put]) -> Result<(), Failed>
     requires slots { AreSlots puts.now }
-    requires in_use { IsTrue (D.tells disk.old) → AreInUse puts.now (D.told disk.old).content }
+    requires born { IsTrue (D.tells disk.old) → IsTrue (is_born (D.told disk.old).content) }
+    requires in_use { IsTrue (D.tells disk.old) → InUse puts.now (D.told disk.old).content }
     ensures keeps_map { IsTrue (D.tells disk.old) → KeepsMap (D.told disk.old) (D.told disk.new) result }
     ensures closed { IsTrue (D.tells disk.old)
-        → OnOk result (IsTrue (is_born (D.told disk.new).content) × AllClosed (D.told disk.new).content) }
+        → OnOk result (IsTrue (is_born (D.told disk.new).content) × ClosedFrom 0 (D.told disk.new).content) }
     ensures tells { D.tells disk.new ≡ D.tells disk.old }
     ensures cause { HasCause (D.faults disk.old) (D.faults disk.new) result }
 {
     apply_any(disk, puts)?;
     close_others(disk)
+}
+
+// Makes what is pending durable, brings the entries in use into their slots, and closes all gates.
+pub fn settle_formed<D: Disk>(disk: &mut D, puts: &[Put]) -> Result<(), Failed>
+    requires slots { AreSlots puts.now }
+    requires born { IsTrue (D.tells disk.old) → IsTrue (is_born (D.told disk.old).content) }
+    requires in_use { IsTrue (D.tells disk.old) → InUse puts.now (D.told disk.old).content }
+    ensures keeps_map { IsTrue (D.tells disk.old) → KeepsMap (D.told disk.old) (D.told disk.new) result }
+    ensures makes_durable { IsTrue (D.tells disk.old) → MakesDurable (D.told disk.old) (D.told disk.new) result }
+    ensures closed { IsTrue (D.tells disk.old)
+        → OnOk result (IsTrue (is_born (D.told disk.new).content) × ClosedFrom 0 (D.told disk.new).content) }
+    ensures tells { D.tells disk.new ≡ D.tells disk.old }
+    ensures cause { HasCause (D.faults disk.old) (D.faults disk.new) result }
+{
+    disk.sync()?;
+    settle_entries(disk, puts)
 }

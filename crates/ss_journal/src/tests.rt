@@ -1,3 +1,4 @@
+mod commits;
 mod files;
 mod opening;
 mod runs;

@@ -6,7 +6,7 @@ ghost use Rattle.ss_outside.specs.Disk.{overwrite, NothingPending};
 ghost use Rattle.ss_journal.specs.Format.{slot_place};
 ghost use Rattle.ss_journal.specs.Writes.{Tears, slot_ranges, slots_written, AreSlots, HasRoom};
 
-use crate::format::slot_place;
+use crate::format::{MOST_SLOTS, SLOT_SIZE, slot_place};
 use crate::put::Put;
 use ss_outside::{Disk, Failed, LONGEST_DISK};
 
@@ -55,11 +55,11 @@ pub fn write_through<D: Disk>(disk: &mut D, at: u64, bytes: &[u8]) -> Result<(),
 
 // Writes the put's bytes into its slot, and doesn't sync.
 fn write_slot<D: Disk>(disk: &mut D, put: &Put) -> Result<(), Failed>
-    requires slot { put.now.slot < 2 ^ 20 }
+    requires slot { put.now.slot < MOST_SLOTS }
     requires within { IsTrue (D.tells disk.old) → slot_place put.now.slot ≤ length (D.told disk.old).content }
-    ensures whole { length put.now.bytes ≡ 128 }
+    ensures whole { length put.now.bytes ≡ SLOT_SIZE }
     ensures tears { IsTrue (D.tells disk.old)
-        → Tears ((slot_place put.now.slot, 128) ∷ []) (D.told disk.old) (D.told disk.new) }
+        → Tears ((slot_place put.now.slot, SLOT_SIZE) ∷ []) (D.told disk.old) (D.told disk.new) }
     ensures written { IsTrue (D.tells disk.old)
         → OnOk result ((D.told disk.new).content ≡ overwrite (D.told disk.old).content (slot_place put.now.slot) put.now.bytes) }
     ensures tells { D.tells disk.new ≡ D.tells disk.old }

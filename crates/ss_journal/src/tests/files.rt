@@ -4,9 +4,10 @@ use ss_outside::{Disk, MemDisk};
 use std::alloc::{AllocError, Global};
 
 // The byte that fills each slot below the extent. The other slots are zeros.
-pub type Map = &'static [u8];
+pub type Map<'a> = &'a [u8];
 
 // An open entry of a single put.
+#[derive(Drop)]
 pub struct Entry {
     pub place: usize,
     pub slot: u8,
@@ -18,7 +19,7 @@ pub enum File {
     // What it begins with, and its length. The other bytes are a5.
     Begun(&'static [u8], usize),
     // Its entries, and its slots.
-    Formed(&'static [Entry], Map),
+    Formed(&'static [Entry], Map<'static>),
 }
 
 fn set(bytes: &mut [u8], place: usize, new: &[u8]) {
@@ -29,7 +30,7 @@ fn set(bytes: &mut [u8], place: usize, new: &[u8]) {
     }
 }
 
-fn set_entries(bytes: &mut [u8], entries: &[Entry]) {
+pub fn set_entries(bytes: &mut [u8], entries: &[Entry]) {
     for entry in entries {
         set(bytes, entry.place, &[0xA5, 1, 0, 0, 0, entry.slot]);
         set(bytes, entry.place.wrapping_add(6), &[entry.byte; 128]);
@@ -59,12 +60,12 @@ pub fn disk_of(alloc: Global, bytes: &[u8]) -> Result<MemDisk, AllocError> {
     MemDisk::new(alloc, bytes.to_vec(alloc)?)
 }
 
-fn byte_in(map: Map, slot: usize) -> u8 {
+fn byte_in(map: Map<'_>, slot: usize) -> u8 {
     map.get(slot).copied().unwrap_or(0)
 }
 
 // Whether the disk opens with this map, of at most two slots.
-pub fn holds<D: Disk>(alloc: Global, disk: &mut D, map: Map) -> Result<bool, JournalError> {
+pub fn holds<D: Disk>(alloc: Global, disk: &mut D, map: Map<'_>) -> Result<bool, JournalError> {
     let mut journal = Journal::open(alloc, disk)?;
     let first = journal.read(disk, 0)?;
     let second = journal.read(disk, 1)?;

@@ -15,8 +15,9 @@ fn mismatch(alloc: Global, row: &Row) -> Result<&'static str, JournalError> {
     if disk.content().len() != row.length {
         return Ok("length");
     }
-    for (place, gate) in [(0, 0xA5), (512, 0), (1056, 0)] {
-        if disk.content().get(place) != Some(&gate) {
+    for (n, place) in [512, 1056, 1600].iter().enumerate() {
+        let gate = if n < row.in_use { 0xA5 } else { 0 };
+        if disk.content().get(*place) != Some(&gate) {
             return Ok("gate");
         }
     }
@@ -35,7 +36,7 @@ fn a_run_gives_the_map_after_it(rt: HostRuntime) -> Result<(), JournalError> {
     Ok(())
 }
 
-const CRASHES: [Choice; 5] = [
+pub const CRASHES: [Choice; 5] = [
     Choice::Lost,
     Choice::Kept,
     Choice::Fill(0),
@@ -44,7 +45,7 @@ const CRASHES: [Choice; 5] = [
 ];
 
 // Whether the disk opens with one of the maps, and with the same one once it is settled.
-fn keeps_one<D: Disk>(alloc: Global, disk: &mut D, maps: &[Map]) -> Result<bool, JournalError> {
+fn keeps_one<D: Disk>(alloc: Global, disk: &mut D, maps: &[Map<'_>]) -> Result<bool, JournalError> {
     for map in maps {
         if holds(alloc, disk, map) == Ok(true) {
             run(alloc, disk, Commit::Nothing)?;
@@ -55,7 +56,7 @@ fn keeps_one<D: Disk>(alloc: Global, disk: &mut D, maps: &[Map]) -> Result<bool,
 }
 
 // Whether each crash leaves one of the maps.
-fn survives(alloc: Global, disk: &MemDisk, maps: &[Map]) -> Result<bool, JournalError> {
+pub fn survives(alloc: Global, disk: &MemDisk, maps: &[Map<'_>]) -> Result<bool, JournalError> {
     for choice in CRASHES {
         let mut left = disk.crash(choice)?;
         if !keeps_one(alloc, &mut left, maps)? {
@@ -127,19 +128,19 @@ fn a_second_stop_leaves_the_map_too(rt: HostRuntime) -> Result<(), JournalError>
 }
 
 // A file that isn't formed: what it begins with, its length, and its map.
-type Unborn = (&'static [u8], usize, Map);
+type Unborn = (&'static [u8], usize, Map<'static>);
 
 const UNBORN: [Unborn; 10] = [
     (b"", 0, &[]),
     // One byte, whatever it is.
     (b"\xA5", 1, &[]),
     (b"\x01", 1, &[]),
-    // Behind 0 may stand anything.
+    // After 0 may stand anything.
     (b"\0", 2, &[]),
     (b"\0TSTORE01", 36863, &[]),
     (b"\0", 37119, &[0]),
     (b"\0SSTORE01", 37120, &[0, 0]),
-    // Behind another closed gate the magic has to stand.
+    // After another closed gate the magic has to stand.
     (b"\x01SSTORE01", 9, &[]),
     (b"\x01SSTORE01", 36863, &[]),
     (b"\xFFSSTORE01", 37120, &[0, 0]),
@@ -153,6 +154,7 @@ fn birth_of(unborn: &Unborn) -> Row {
         before: unborn.2,
         after: unborn.2,
         length: unborn.1.max(36864),
+        in_use: 0,
     }
 }
 
@@ -168,8 +170,11 @@ fn a_birth_leaves_zeros_at_each_stop(rt: HostRuntime) -> Result<(), JournalError
     Ok(())
 }
 
-// The calls before the second sync of a commit: 3 of open, 63 of settle, a write, a sync and a write.
-const SECOND_SYNC: u64 = 69;
+// The calls before the second sync of a commit: 3 of open, 64 of settle, a write, a sync and a write.
+const SECOND_SYNC: u64 = 70;
+
+// The same before the first sync, where an entry is in use when the disk is opened: 4 of open, 68 of settle, a write.
+const NEXT_SYNC: u64 = 73;
 
 #[test]
 fn the_gate_alone_decides(rt: HostRuntime) -> Result<(), JournalError> {
@@ -181,5 +186,22 @@ fn the_gate_alone_decides(rt: HostRuntime) -> Result<(), JournalError> {
     assert!(rt; holds(rt.alloc(), &mut closed, ONE.before)?);
     let mut open = disk.crash(Choice::Fill(0xA5))?;
     assert!(rt; holds(rt.alloc(), &mut open, ONE.after)?);
+    Ok(())
+}
+
+// The last sync of a commit fails. The same disk is opened and settled again, without a crash, and the first sync of the
+// next commit fails: by then the first commit is durable.
+#[test]
+fn a_disk_is_used_again_after_a_failed_sync(rt: HostRuntime) -> Result<(), JournalError> {
+    let mut disk = disk_of(rt.alloc(), &bytes_of(rt.alloc(), &ONE.file)?)?;
+    disk.fail_at([SECOND_SYNC].to_vec(rt.alloc())?);
+    let first = run(rt.alloc(), &mut disk, ONE.commit);
+    assert_eq!(rt; first, Err(JournalError::Disk));
+    let calls = disk.calls();
+    disk.stop_from(calls.saturating_add(NEXT_SYNC));
+    let second = run(rt.alloc(), &mut disk, ONE.commit);
+    assert_eq!(rt; second, Err(JournalError::Disk));
+    assert_eq!(rt; disk.calls(), calls.saturating_add(NEXT_SYNC + 1));
+    assert!(rt; survives(rt.alloc(), &disk, &[ONE.after])?);
     Ok(())
 }

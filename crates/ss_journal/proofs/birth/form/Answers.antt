@@ -1,8 +1,8 @@
 use Rattle.std.proofs.Common.{◌≡◌, ℕ, ◌-◌, List, length, replicate, sym, ◌∙◌, ap, subst, arith}
 use Rattle.ss_outside.specs.Disk.{overwrite}
-use Rattle.ss_journal.specs.Birth.{IsFormed, magic_bytes, blank_end, form_ranges}
-use Rattle.ss_journal.specs.Writes.{DiffersIn}
-use Rattle.ss_journal.proofs.BirthLemmas.{StandsFor-form, keeps-marked, to_blank, DiffersIn-blank, IsFormed-blank}
+use Rattle.ss_journal.specs.Birth.{IsFormed, blank_end, form_ranges, magic_bytes}
+use Rattle.ss_journal.specs.Writes.{DiffersIn, SameRest}
+use Rattle.ss_journal.proofs.BirthLemmas.{StandsFor-form, keeps-marked, to_blank, DiffersIn-blank, IsFormed-blank, SameRest-blank}
 use Rattle.ss_journal.proofs.TearLemmas.{tears-synced, on_ok, keeps-torn, keeps-failed}
 use Rattle.ss_journal.proofs.birth.form.Goals as goal
 
@@ -21,7 +21,7 @@ returns-in_err-write_zeros-clause-keeps_map g c told =
     blank (g.met.D.Disk.knows_now c.write_magic.new.disk told_marked) c.max-end.result (omega (arith, c.max-end.ensures, c.min.ensures, c.in_ok-len.ensures.length told)) (c.write_zeros.ensures.tears told_marked))
     (λ found image is differs. StandsFor-form old.content image found (c.requires.begun told) is differs)
 
--- what stands there behind the sync
+-- what stands there after the sync
 content-synced : (old read marked blank synced : List ℕ) (end : ℕ) → read ≡ old → marked ≡ overwrite read 1 (magic_bytes read) → blank ≡ overwrite marked 9 (replicate (end - 9) 0) → synced ≡ blank
     → synced ≡ overwrite (overwrite old 1 (magic_bytes old)) 9 (replicate (end - 9) 0)
 content-synced old read marked blank synced end same marks wipes still =
@@ -59,3 +59,14 @@ returns-clause-formed g c told =
     let all = content-synced old.content (g.D.Disk.told c.len.new.self).content (g.D.Disk.told c.write_magic.new.disk).content (g.D.Disk.told c.write_zeros.new.disk).content (g.D.Disk.told c.sync.new.self).content end
     (c.len.ensures.reads told).same.content (c.in_ok-write_magic.ensures.written told_read) (c.in_ok-write_zeros.ensures.written told_marked) (c.sync.ensures.content (c.write_zeros.ensures.tells ∙ told_marked)) in
     on_ok c.sync.result (subst IsFormed (sym all) (IsFormed-blank old.content (c.requires.begun told) end is_end))
+
+pub returns-clause-rest : goal.returns-clause-rest
+returns-clause-rest g c told =
+    let old = g.D.Disk.told c.args.disk.now in
+    let told_read = c.len.ensures.tells ∙ told in
+    let told_marked = c.write_magic.ensures.tells ∙ told_read in
+    let end = c.max-end.result in
+    let is_end : end ≡ blank_end (length old.content) = omega (arith, c.max-end.ensures, c.min.ensures, c.in_ok-len.ensures.length told) in
+    let all = content-synced old.content (g.D.Disk.told c.len.new.self).content (g.D.Disk.told c.write_magic.new.disk).content (g.D.Disk.told c.write_zeros.new.disk).content (g.D.Disk.told c.sync.new.self).content end
+    (c.len.ensures.reads told).same.content (c.in_ok-write_magic.ensures.written told_read) (c.in_ok-write_zeros.ensures.written told_marked) (c.sync.ensures.content (c.write_zeros.ensures.tells ∙ told_marked)) in
+    on_ok c.sync.result (subst (SameRest old.content) (sym all) (SameRest-blank old.content (c.requires.begun told) end is_end))

@@ -1,7 +1,7 @@
 use Rattle.std.proofs.Common.{ℕ, List, [], ◌∷◌, IsTrue, sym, subst, arith}
 use Rattle.std.proofs.lemmas.Result.{on_ok_weaker}
 use Rattle.ss_journal.specs.Format.{is_born}
-use Rattle.ss_journal.specs.Kept.{AllClosed}
+use Rattle.ss_journal.specs.Gates.{ClosedFrom}
 use Rattle.ss_journal.specs.Writes.{DiffersAt}
 use Rattle.ss_journal.proofs.BirthLemmas.{StandsFor-birth_gate, birth-opened}
 use Rattle.ss_journal.proofs.RangeLemmas.{DiffersIn-overwrite}
@@ -18,5 +18,5 @@ returns-clause-keeps_map g c told =
 
 pub returns-clause-born : goal.returns-clause-born
 returns-clause-born g c told =
-    on_ok_weaker c.write_through.result (λ written. subst (λ (list : List ℕ). IsTrue (is_born list) × AllClosed list) (sym written) (birth-opened (g.D.Disk.told c.args.disk.now).content (c.requires.formed told)))
+    on_ok_weaker c.write_through.result (λ written. subst (λ (list : List ℕ). IsTrue (is_born list) × ClosedFrom 0 list) (sym written) (birth-opened (g.D.Disk.told c.args.disk.now).content (c.requires.formed told)))
     (c.write_through.ensures.written told)

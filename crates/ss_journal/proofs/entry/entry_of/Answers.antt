@@ -2,7 +2,7 @@ use Rattle.std.proofs.Common.{◌≡◌, ◌-◌, ◌*◌, ◌≤◌, ℕ, List,
 use Rattle.std.proofs.lemmas.List.Elements.{All-more}
 use Rattle.std.specs.Prelude.{flat_map}
 use Rattle.ss_journal.specs.declared.put.Put.{Put}
-use Rattle.ss_journal.specs.Entries.{put_bytes, entry_body}
+use Rattle.ss_journal.specs.Entries.{entry_body, put_bytes}
 use Rattle.ss_journal.proofs.EntryLemmas.{entry-more, entry-all}
 use Rattle.ss_journal.proofs.entry.entry_of.Goals as goal
 

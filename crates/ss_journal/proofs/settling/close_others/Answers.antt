@@ -1,12 +1,11 @@
 use Rattle.std.proofs.Common.{◌≡◌, ℕ, ◌<◌, ◌≤◌, Bool, true, false, Ok, List, length, IsTrue, sym, ◌∙◌, subst, arith}
 use Rattle.ss_outside.proofs.CrashLemmas.{same-joined, nothing_pending-same}
 use Rattle.ss_journal.specs.Format.{is_born}
-use Rattle.ss_journal.specs.Kept.{AllClosed}
-use Rattle.ss_journal.specs.Settling.{ClosesGate}
-use Rattle.ss_journal.specs.Writes.{DiffersIn, other_gates}
-use Rattle.ss_journal.proofs.GateLemmas.{Covers-gate, DiffersIn-gate, closed-more, born-others, AllClosed-others, StandsFor-other_gates}
+use Rattle.ss_journal.specs.Gates.{ClosedFrom, ClosesGate, other_gates}
+use Rattle.ss_journal.specs.Writes.{DiffersIn}
+use Rattle.ss_journal.proofs.GateLemmas.{Covers-gate, DiffersIn-gate, closed-more, born-others, ClosedFrom-others, StandsFor-other_gates}
 use Rattle.ss_journal.proofs.HeaderLemmas.{is_born-parts}
-use Rattle.ss_journal.proofs.TearLemmas.{tears-more, tears-synced, keeps-torn, keeps-failed}
+use Rattle.ss_journal.proofs.TearLemmas.{tears-more, tears-synced, on_ok, keeps-torn, keeps-failed}
 use Rattle.ss_journal.proofs.settling.close_others.Goals as goal
 use Rattle.ss_journal.proofs.settling.close_others.Goals.{then-branch, else-branch}
 
@@ -51,37 +50,28 @@ loop-n-preserved g c =
       tears = λ told. tears-more old mid new other_gates (g.met.D.Disk.knows_now c.loop-n.disk (before.tells ∙ told)) (before.tears told) _ 1 (Covers-gate n low high) (c.close_gate.ensures.tears (before.tells ∙ told));
     }
 
-pub returns-in_err-sync-clause-keeps_map : goal.returns-in_err-sync-clause-keeps_map
-returns-in_err-sync-clause-keeps_map g c told =
+pub returns-then-any-clause-keeps_map : goal.returns-then-any-clause-keeps_map
+returns-then-any-clause-keeps_map g c told =
     let old = g.D.Disk.told c.args.disk.now in
     let told_then = c.loop-n.invariant.tells ∙ told in
     let ready = c.requires told in
-    keeps-failed old (g.D.Disk.told c.sync.new.self) _ c.from_residual-in_err-sync.ensures.0 other_gates
+    keeps-torn old (g.D.Disk.told c.sync.new.self) c.sync.result other_gates
     (tears-synced old (g.D.Disk.told c.loop-n.disk) (g.D.Disk.told c.sync.new.self) other_gates (g.met.D.Disk.knows_now c.loop-n.disk told_then) (c.loop-n.invariant.tears told) (c.sync.ensures.time told_then) (c.sync.ensures.no_other told_then))
     (λ found image is differs. (StandsFor-other_gates old.content image found ready.0 ready.1 is differs).0)
+    (on_ok c.sync.result (subst (DiffersIn other_gates old.content) (sym (c.sync.ensures.content told_then)) (c.loop-n.invariant.differs told)))
+    (λ only. c.sync.ensures.durable told_then)
 
-pub returns-in_ok-sync-clause-keeps_map : goal.returns-in_ok-sync-clause-keeps_map
-returns-in_ok-sync-clause-keeps_map g c told =
-    let old = g.D.Disk.told c.args.disk.now in
-    let told_then = c.loop-n.invariant.tells ∙ told in
-    let ready = c.requires told in
-    keeps-torn old (g.D.Disk.told c.sync.new.self) _ other_gates
-    (tears-synced old (g.D.Disk.told c.loop-n.disk) (g.D.Disk.told c.sync.new.self) other_gates (g.met.D.Disk.knows_now c.loop-n.disk told_then) (c.loop-n.invariant.tears told) (c.sync.ensures.time told_then) (c.sync.ensures.no_other told_then))
-    (λ found image is differs. (StandsFor-other_gates old.content image found ready.0 ready.1 is differs).0)
-    (subst (DiffersIn other_gates old.content) (sym (c.sync.ensures.content told_then)) (c.loop-n.invariant.differs told))
-    (λ only. c.in_ok-sync.ensures.durable told_then)
-
-pub returns-in_ok-sync-clause-closed : goal.returns-in_ok-sync-clause-closed
-returns-in_ok-sync-clause-closed g c told =
+pub returns-then-any-clause-closed : goal.returns-then-any-clause-closed
+returns-then-any-clause-closed g c told =
     let old = g.D.Disk.told c.args.disk.now in
     let mid = g.D.Disk.told c.loop-n.disk in
     let ready = c.requires told in
     let formed = born-others old.content mid.content ready.0 ready.1 (c.loop-n.invariant.differs told) in
-    subst (λ (list : List ℕ). IsTrue (is_born list) × AllClosed list) (sym (c.sync.ensures.content (c.loop-n.invariant.tells ∙ told)))
-    (formed.0, AllClosed-others mid.content formed.1 (λ k low high. c.loop-n.invariant.closed told k low (omega (arith, high))))
+    on_ok c.sync.result (subst (λ (list : List ℕ). IsTrue (is_born list) × ClosedFrom 0 list) (sym (c.sync.ensures.content (c.loop-n.invariant.tells ∙ told)))
+    (formed.0, ClosedFrom-others mid.content formed.1 (λ k low high. c.loop-n.invariant.closed told k low (omega (arith, high)))))
 
-pub returns-else-any-clause-keeps_map : goal.returns-else-any-clause-keeps_map
-returns-else-any-clause-keeps_map g c told =
+pub returns-clause-keeps_map : goal.returns-clause-keeps_map
+returns-clause-keeps_map g c told =
     let old = g.D.Disk.told c.args.disk.now in
     let new = g.D.Disk.told c.loop-n.disk in
     let ready = c.requires told in

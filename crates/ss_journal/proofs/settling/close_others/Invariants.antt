@@ -1,8 +1,8 @@
 use Rattle.std.proofs.Common.{◌≡◌, ◌<◌, ℕ, IsTrue, IsFalse, false}
 use Rattle.std.specs.Prelude.{slice_index}
 use Rattle.ss_outside.specs.Disk.{StaysSame}
-use Rattle.ss_journal.specs.Format.{opens, entry_place}
-use Rattle.ss_journal.specs.Writes.{DiffersIn, Tears, other_gates}
+use Rattle.ss_journal.specs.Gates.{entry_place, opens, other_gates}
+use Rattle.ss_journal.specs.Writes.{DiffersIn, Tears}
 use Rattle.ss_journal.proofs.settling.close_others.Given as goal
 
 abbrev pub invariant-loop-n : goal.invariant-loop-n

@@ -1,5 +1,5 @@
 use Rattle.std.proofs.Common.{◌≡◌, drop, IsTrue}
-use Rattle.ss_journal.specs.Writes.{Tears, slot_ranges, slots_written, HasRoom}
+use Rattle.ss_journal.specs.Writes.{HasRoom, Tears, slot_ranges, slots_written}
 use Rattle.ss_journal.proofs.writing.write_slots.Given as goal
 
 abbrev pub invariant-loop-put : goal.invariant-loop-put
