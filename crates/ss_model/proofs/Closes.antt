@@ -24,7 +24,7 @@ pub taken-closed : (len : ℕ → ℕ) (n : ℕ) (ws : List Window) → taken (c
 taken-closed len n [] = refl
 taken-closed len n (w ∷ ws) = taken-closed_onto len n w ws
 
-newest_time-cons : (w : Window) (ws : List Window) → 0 < length ws → newest_time (w ∷ ws) ≡ newest_time ws
+pub newest_time-cons : (w : Window) (ws : List Window) → 0 < length ws → newest_time (w ∷ ws) ≡ newest_time ws
 newest_time-cons w [] some = absurd (omega arith)
 newest_time-cons w (v ∷ vs) some = refl
 
@@ -39,7 +39,7 @@ some-closed_onto len n w (v ∷ vs) =
     cond_both (fits len w.first (last_position v) n) (closed_onto len n (joined_window w v) vs) (w ∷ closed_onto len n v vs)
     (λ (us : List Window). 0 < length us) (λ fit. some-closed_onto len n (joined_window w v) vs) (λ unfit. omega arith)
 
-newest_time_joined : (w v : Window) (vs : List Window) → newest_time (joined_window w v ∷ vs) ≡ newest_time (v ∷ vs)
+pub newest_time_joined : (w v : Window) (vs : List Window) → newest_time (joined_window w v ∷ vs) ≡ newest_time (v ∷ vs)
 newest_time_joined w v [] = refl
 newest_time_joined w v (u ∷ us) = refl
 

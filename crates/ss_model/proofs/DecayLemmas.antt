@@ -6,14 +6,15 @@ use Rattle.std.proofs.lemmas.List.Elements.{All-nil, All-cons, All-head, All-tai
 use Rattle.std.specs.Prelude.{All}
 use Rattle.std.proofs.lemmas.Bool.{cases_lt, cond_both, eqb-true, eqb-false, ne_eqb}
 use Rattle.ss_windowing.specs.Exp.{exp_length}
-use Rattle.ss_windowing.specs.Windowing.{cut, index_of, ArePositive, fits}
+use Rattle.ss_windowing.specs.declared.decay.TheConstants.{MOST_VALUES}
+use Rattle.ss_windowing.specs.Windowing.{cut, index_of, ArePositive, NeverFall, fits}
 use Rattle.ss_windowing.proofs.WindowingLemmas.{cut-monotone, holds-index_of, index_of-monotone}
 use Rattle.ss_summary.specs.Summaries.{summary_of}
 use Rattle.ss_model.specs.Boundaries.{boundaries}
 use Rattle.ss_model.specs.Windows.{stretches, windows, taken}
 use Rattle.ss_model.specs.Closed.{last_position, joined_window, closed_onto, closed}
 use Rattle.ss_model.specs.Tiling.{StandFrom, AreWindows}
-use Rattle.ss_model.specs.Decay.{cover, NoneIsDue, NeverFall, IsWithinTarget}
+use Rattle.ss_model.specs.Decay.{cover, NoneIsDue, IsWithinTarget}
 use Rattle.ss_model.specs.declared.types.Window.{Window}
 use Rattle.ss_model.proofs.Rises.{Rises, Rises-low, Rises-boundaries}
 use Rattle.ss_model.proofs.Stretches.{count-summary_of, taken-cons, taken-windows, length-front, length-back}
@@ -35,12 +36,12 @@ cover_le len (suc age) k full enough = elim (cases_lt (index_of len age) k) [
       absurd (omega (arith, holds.start, cut-monotone len k (index_of len age) above)))
 ]
 
--- windows one behind the other from a position on, none of them empty
-abbrev TileFrom : ℕ → List Window → Type 0
+-- windows one after the other from a position on, none of them empty
+abbrev pub TileFrom : ℕ → List Window → Type 0
 TileFrom first [] = Unit
 TileFrom first (w ∷ ws) = (w.first ≡ first) × (1 ≤ w.summary.count) × TileFrom (first + w.summary.count) ws
 
-TileFrom-StandFrom : (first time : ℕ) (ws : List Window) → StandFrom first time ws → TileFrom first ws
+pub TileFrom-StandFrom : (first time : ℕ) (ws : List Window) → StandFrom first time ws → TileFrom first ws
 TileFrom-StandFrom first time [] stands = tt
 TileFrom-StandFrom first time (w ∷ ws) stands =
     let possible = stands.1 in
@@ -71,7 +72,7 @@ TileFrom_push first [] w tiles place some = (omega arith, some, tt)
 TileFrom_push first (u ∷ us) w tiles place some =
     (tiles.0, tiles.1, TileFrom_push (first + u.summary.count) us w tiles.2 (omega (arith, taken-cons u us)) some)
 
-TileFrom_joined : (first : ℕ) (w v : Window) (vs : List Window) → TileFrom first (w ∷ v ∷ vs) → TileFrom first (joined_window w v ∷ vs)
+pub TileFrom_joined : (first : ℕ) (w v : Window) (vs : List Window) → TileFrom first (w ∷ v ∷ vs) → TileFrom first (joined_window w v ∷ vs)
 TileFrom_joined first w v vs tiles =
     let some = tiles.1 in
     (tiles.0, omega arith, rw add_assoc at tiles.2.2)
@@ -175,7 +176,7 @@ by_pushes : (P : List (ℕ × ℤ) → Type 0) → ((us : List (ℕ × ℤ)) (p 
 by_pushes P step us [] given = rw append-nil given
 by_pushes P step us (p ∷ ps) given = rw (append_assoc us (p ∷ []) ps) at (by_pushes P step (us ++ p ∷ []) ps (step us p given))
 
-TileFrom-pushed : (len : ℕ → ℕ) (us : List (ℕ × ℤ)) (p : ℕ × ℤ) →
+pub TileFrom-pushed : (len : ℕ → ℕ) (us : List (ℕ × ℤ)) (p : ℕ × ℤ) →
     TileFrom 1 (windows len us ++ record { first = length us + 1; summary = summary_of (p ∷ []) } ∷ [])
 TileFrom-pushed len us p =
     TileFrom_push 1 (windows len us) (record { first = length us + 1; summary = summary_of (p ∷ []) }) (TileFrom-windows len us)
@@ -258,6 +259,6 @@ cut-doubling : (i : ℕ) → cut (exp_length 2 1 1) i + 1 ≡ 2 ^ i
 cut-doubling zero = refl
 cut-doubling (suc i) = rw (div-one, pow-suc) (omega (arith, cut-doubling i))
 
-pub cover-doubling : (n : ℕ) → n ≤ 2 ^ 40 → cover (exp_length 2 1 1) n ≤ 41
+pub cover-doubling : (n : ℕ) → n ≤ MOST_VALUES → cover (exp_length 2 1 1) n ≤ 41
 cover-doubling n few =
     cover_le (exp_length 2 1 1) n 41 (λ i. omega (arith, one-le-pow (i / 1) 2 (lit≤ tt))) (omega (arith, cut-doubling 41))

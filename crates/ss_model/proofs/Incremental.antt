@@ -20,7 +20,7 @@ chosen f s true x y left right same if_true if_false = rw same (if_true refl)
 chosen f s false x y left right same if_true if_false = rw same (if_false refl)
 
 -- an index stays the same between two ages that have one index
-index_of_between : (len : ℕ → ℕ) (a b c : ℕ) → a ≤ b → b ≤ c → index_of len c ≡ index_of len a → index_of len c ≡ index_of len b
+pub index_of_between : (len : ℕ → ℕ) (a b c : ℕ) → a ≤ b → b ≤ c → index_of len c ≡ index_of len a → index_of len c ≡ index_of len b
 index_of_between len a b c low high same = omega (arith, index_of-monotone len a b low, index_of-monotone len b c high)
 
 -- One test. The window from behind `a` to b lies in one target window or is one old window from behind `c`, and that

@@ -1,7 +1,16 @@
 mod Rows
+mod HistoryRows
 pub mod Rises
 pub mod Stretches
 pub mod Incremental
 pub mod Closes
 pub mod Tiles
 pub mod DecayLemmas
+pub mod EventLemmas
+pub mod NameLemmas
+pub mod StepLemmas
+pub mod FoundLemmas
+pub mod StandLemmas
+pub mod HistoryLemmas
+pub mod ReadLemmas
+pub mod JoinLemmas

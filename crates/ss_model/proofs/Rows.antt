@@ -1,10 +1,19 @@
 -- Worked rows, each computed.
-use Rattle.std.proofs.Common.{◌≡◌, ℕ, List, [], ◌∷◌, map, refl, ℤ, pos, negsuc}
+use Rattle.std.proofs.Common.{◌≡◌, ℕ, List, [], ◌∷◌, map, refl, ℤ, pos, negsuc, lit≤, arith}
+use Rattle.ss_windowing.specs.declared.decay.TheConstants.{MOST_VALUES}
 use Rattle.ss_windowing.specs.Exp.{exp_length}
 use Rattle.ss_windowing.specs.Windowing.{index_of}
 use Rattle.ss_model.specs.Boundaries.{boundaries}
-use Rattle.ss_model.specs.Windows.{windows}
-use Rattle.ss_model.specs.Decay.{cover}
+use Rattle.ss_model.specs.Windows.{stretches, windows}
+use Rattle.ss_model.specs.Closed.{closed}
+use Rattle.ss_model.specs.Joins.{JoinsDue}
+use Rattle.ss_model.specs.Decay.{cover, IsWithinTarget}
+use Rattle.ss_model.specs.declared.types.Window.{Window}
+use Rattle.ss_summary.specs.declared.summary.TheConstants.{GREATEST_COUNT}
+
+-- a stream takes as many values as one summary may be of
+most_values : MOST_VALUES ≡ GREATEST_COUNT
+most_values = refl
 
 -- the windows are one more than the boundaries: 1, 2, 2, 3, 3, 4, 3
 boundaries-1 : boundaries (exp_length 2 1 1) 1 ≡ []
@@ -50,3 +59,57 @@ windows-readings = refl
 cover-rows : map (cover (exp_length 2 1 1)) (0 ∷ 1 ∷ 2 ∷ 3 ∷ 7 ∷ 8 ∷ []) ≡ 0 ∷ 1 ∷ 2 ∷ 2 ∷ 3 ∷ 4 ∷ []
 unfolding index_of
 cover-rows = refl
+
+-- a window of two values, the first at a position
+pair_from : ℕ → Window
+pair_from first = record { first = first; summary = record { count = 2; sum = pos 3; min = pos 1; max = pos 2; t_first = 10; t_last = 20 } }
+
+-- of three values the last lies in a target window of 1, and those before it in one of 2
+IsWithinTarget-older : IsWithinTarget (exp_length 2 1 1) 3 (pair_from 1)
+unfolding index_of pair_from
+IsWithinTarget-older = lit≤ tt
+
+IsWithinTarget-newest : IsWithinTarget (exp_length 2 1 1) 3 (pair_from 2) → ⊥
+unfolding index_of pair_from
+IsWithinTarget-newest within = omega (arith, within)
+
+-- the windows of those readings, where they end after some positions
+ending : List ℕ → List Window
+ending bs = stretches 1 bs readings
+
+-- of the windows 1 to 2, 3 to 4, 5, 6 and 7 the first two are due at 7, and so are the next two
+closed-apart : closed (exp_length 2 1 1) 7 (ending (2 ∷ 4 ∷ 5 ∷ 6 ∷ [])) ≡ ending (4 ∷ 6 ∷ [])
+unfolding index_of ending readings
+closed-apart = refl
+
+closed-older_joined : closed (exp_length 2 1 1) 7 (ending (4 ∷ 5 ∷ 6 ∷ [])) ≡ ending (4 ∷ 6 ∷ [])
+unfolding index_of ending readings
+closed-older_joined = refl
+
+closed-newer_joined : closed (exp_length 2 1 1) 7 (ending (2 ∷ 4 ∷ 6 ∷ [])) ≡ ending (4 ∷ 6 ∷ [])
+unfolding index_of ending readings
+closed-newer_joined = refl
+
+reading : ℕ → ℕ → ℤ → Window
+reading position t v = record { first = position; summary = record { count = 1; sum = v; min = v; max = v; t_first = t; t_last = t } }
+
+older : Window
+older = record { first = 1; summary = record { count = 2; sum = pos 2; min = negsuc 2; max = pos 5; t_first = 10; t_last = 20 } }
+
+newer : Window
+newer = record { first = 3; summary = record { count = 2; sum = pos 9; min = pos 1; max = pos 8; t_first = 30; t_last = 40 } }
+
+pair : Window
+pair = record { first = 5; summary = record { count = 2; sum = pos 11; min = pos 2; max = pos 9; t_first = 50; t_last = 60 } }
+
+-- they are joined in either order
+JoinsDue-newer_first : JoinsDue (exp_length 2 1 1) 7 (ending (2 ∷ 4 ∷ 5 ∷ 6 ∷ [])) (ending (4 ∷ 6 ∷ []))
+unfolding index_of ending readings reading older newer pair
+JoinsDue-newer_first = (
+  2,
+  (
+    ending (2 ∷ 4 ∷ 6 ∷ []),
+    record { before = older ∷ newer ∷ []; window = reading 5 50 (pos 9); next = reading 6 60 (pos 2); rest = reading 7 70 (pos 7) ∷ []; was = refl; is = refl; due = refl },
+    (ending (4 ∷ 6 ∷ []), record { before = []; window = older; next = newer; rest = pair ∷ reading 7 70 (pos 7) ∷ []; was = refl; is = refl; due = refl }, refl),
+  ),
+)

@@ -2,7 +2,8 @@
 use Rattle.std.proofs.Common.{◌≡◌, ℕ, ◌+◌, ◌-◌, ◌<◌, ◌≤◌, ℤ, List, [], ◌∷◌, ◌++◌, length, take, drop, Some, refl, ap, sym, ◌∙◌, arith, length-drop, length-take}
 use Rattle.std.proofs.lemmas.List.{take-append-le, drop-append-le, take-append-drop, take_at, drop_at}
 use Rattle.std.proofs.lemmas.List.Sums.{sum_by-cons}
-use Rattle.ss_summary.specs.Summaries.{summary_of, last_time}
+use Rattle.ss_summary.specs.Summaries.{summary_of}
+use Rattle.ss_summary.proofs.SummaryLemmas.{last_time-append}
 use Rattle.ss_model.specs.Boundaries.{boundaries}
 use Rattle.ss_model.specs.Windows.{stretches, windows, taken, newest_time, time_of_last}
 use Rattle.ss_model.specs.declared.types.Window.{Window}
@@ -42,11 +43,6 @@ pub taken-windows : (len : ℕ → ℕ) (values : List (ℕ × ℤ)) → taken (
 taken-windows len [] = refl
 taken-windows len (p ∷ ps) = taken-stretches 0 (length (p ∷ ps)) (boundaries len (length (p ∷ ps))) (p ∷ ps) (omega arith)
     (Rises-boundaries len (length (p ∷ ps)) (omega arith))
-
-pub last_time-append : (t : ℕ) (xs : List (ℕ × ℤ)) (q : ℕ × ℤ) (qs : List (ℕ × ℤ)) →
-    last_time t (xs ++ q ∷ qs) ≡ last_time q.0 qs
-last_time-append t [] q qs = refl
-last_time-append t (p ∷ ps) q qs = last_time-append p.0 ps q qs
 
 time_of_last-append : (xs ys : List (ℕ × ℤ)) → 0 < length ys → time_of_last (xs ++ ys) ≡ time_of_last ys
 time_of_last-append xs [] some = absurd (omega arith)

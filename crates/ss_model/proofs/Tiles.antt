@@ -1,9 +1,10 @@
 -- Windows tile after an append and after a close, and what follows of two side by side.
-use Rattle.std.proofs.Common.{◌≡◌, ℕ, ◌+◌, ◌^◌, ◌<◌, ℤ, List, [], ◌∷◌, ◌++◌, length, Some, refl, arith, add_assoc, add-zero, ◌∙◌, sym, ap, subst, get_or, take, drop, append_assoc}
+use Rattle.std.proofs.Common.{◌≡◌, ℕ, ◌+◌, ◌<◌, ℤ, List, [], ◌∷◌, ◌++◌, length, Some, refl, arith, add_assoc, add-zero, ◌∙◌, sym, ap, subst, get_or, take, drop, append_assoc}
 use Rattle.std.proofs.lemmas.List.{take-append-drop, drop_more}
 use Rattle.std.proofs.lemmas.Bool.{cond_both}
 use Rattle.std.proofs.lemmas.List.Sums.{sum_by-append}
 use Rattle.ss_windowing.specs.Windowing.{fits}
+use Rattle.ss_windowing.specs.declared.decay.TheConstants.{MOST_VALUES}
 use Rattle.ss_summary.specs.Figures.{IsPossible}
 use Rattle.ss_summary.specs.Summaries.{summary_of, joined}
 use Rattle.ss_summary.proofs.SummaryLemmas.{IsPossible-joined}
@@ -34,7 +35,7 @@ stand_push : (ws : List Window) (w : Window) → StandFrom 1 0 ws → w.first �
 stand_push [] w stands place later possible = (place, possible, omega arith, tt)
 stand_push (u ∷ us) w stands place later possible = StandFrom_push 1 0 u us w stands (omega arith) later possible
 
-pub AreWindows_push : (ws : List Window) (t : ℕ) (v : ℤ) → AreWindows ws → taken ws < 2 ^ 40 →
+pub AreWindows_push : (ws : List Window) (t : ℕ) (v : ℤ) → AreWindows ws → taken ws < MOST_VALUES →
     ((old : ℕ) → newest_time ws ≡ Some old → old < t) → IsPossible (summary_of ((t, v) ∷ [])) →
     AreWindows (ws ++ record { first = taken ws + 1; summary = summary_of ((t, v) ∷ []) } ∷ [])
 AreWindows_push ws t v tiles room later possible =

@@ -15,10 +15,6 @@ NoneIsDue len n [] = Unit
 NoneIsDue len n (w ∷ []) = Unit
 NoneIsDue len n (w ∷ v ∷ vs) = (fits len w.first (last_position v) n ≡ false) × NoneIsDue len n (v ∷ vs)
 
--- no window is shorter than the one before it
-abbrev pub NeverFall : (ℕ → ℕ) → Type 0
-NeverFall len = (i : ℕ) → len i ≤ len (i + 1)
-
 -- at n a window is at most as long as the target window that holds its last value
 abbrev pub IsWithinTarget : (ℕ → ℕ) → ℕ → Window → Type 0
 IsWithinTarget len n w = w.summary.count ≤ len (index_of len (n - last_position w))

@@ -1,5 +1,12 @@
 pub mod Boundaries
 pub mod Windows
 pub mod Closed
+pub mod Joins
 pub mod Tiling
 pub mod Decay
+pub mod History
+pub mod State
+pub mod Refusals
+pub mod Standing
+pub mod Steps
+pub mod Shown

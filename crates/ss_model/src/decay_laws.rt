@@ -1,10 +1,10 @@
 // Laws on how many windows stand and how long each is, each the contract of a function that does nothing.
 ghost use Rattle.std.specs.Prelude.{◌≡◌, ◌+◌, ◌*◌, ◌<◌, ◌≤◌, ℕ, ℤ, List, length, All};
-ghost use Rattle.ss_windowing.specs.Windowing.{cut, ArePositive};
+ghost use Rattle.ss_windowing.specs.Windowing.{cut, ArePositive, NeverFall};
 ghost use Rattle.ss_model.specs.Windows.{windows, taken};
 ghost use Rattle.ss_model.specs.Closed.{closed};
 ghost use Rattle.ss_model.specs.Tiling.{AreWindows};
-ghost use Rattle.ss_model.specs.Decay.{cover, NoneIsDue, NeverFall, IsWithinTarget};
+ghost use Rattle.ss_model.specs.Decay.{cover, NoneIsDue, IsWithinTarget};
 ghost use Rattle.ss_model.specs.declared.types.Window.{Window};
 
 /// The cover is the least number of target windows that hold so many positions.

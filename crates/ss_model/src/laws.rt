@@ -1,11 +1,13 @@
 // Laws over the definitions, each the contract of a function that does nothing.
-ghost use Rattle.std.specs.Prelude.{◌≡◌, ◌+◌, ◌^◌, ◌<◌, ◌≤◌, ℕ, ℤ, List, [], ◌∷◌, ◌++◌, length, Some};
+ghost use Rattle.std.specs.Prelude.{◌≡◌, ◌+◌, ◌<◌, ◌≤◌, ℕ, ℤ, List, [], ◌∷◌, ◌++◌, length, Some};
 ghost use Rattle.ss_summary.specs.Figures.{IsPossible};
 ghost use Rattle.ss_summary.specs.Summaries.{summary_of, joined};
 ghost use Rattle.ss_model.specs.Windows.{windows, taken, newest_time, time_of_last};
 ghost use Rattle.ss_model.specs.Closed.{closed, joined_window, last_position};
 ghost use Rattle.ss_model.specs.Tiling.{AreWindows, AreNeighbours};
 ghost use Rattle.ss_model.specs.declared.types.Window.{Window};
+
+use ss_windowing::MOST_VALUES;
 
 /// Incremental equals from scratch: the windows of one more value are the windows before and the new value as a
 /// window of its own, where each run of neighbours in one target window is joined.
@@ -26,9 +28,9 @@ pub fn windows_end_last()
     ensures { (len : ℕ → ℕ) (values : List (ℕ × ℤ)) → newest_time (windows len values) ≡ time_of_last values }
 {}
 
-/// Windows stay windows when a later value is put behind them as a window of its own.
+/// Windows stay windows when a later value is put after them as a window of its own.
 pub fn append_keeps_windows()
-    ensures { (ws : List Window) (t : ℕ) (v : ℤ) → AreWindows ws → taken ws < 2 ^ 40 →
+    ensures { (ws : List Window) (t : ℕ) (v : ℤ) → AreWindows ws → taken ws < MOST_VALUES →
         ((old : ℕ) → newest_time ws ≡ Some old → old < t) → IsPossible (summary_of ((t, v) ∷ [])) →
         AreWindows (ws ++ record { first = taken ws + 1; summary = summary_of ((t, v) ∷ []) } ∷ []) }
 {}
@@ -54,7 +56,7 @@ pub fn closing_keeps_newest_time()
     ensures { (len : ℕ → ℕ) (n : ℕ) (ws : List Window) → newest_time (closed len n ws) ≡ newest_time ws }
 {}
 
-/// Each window begins behind the values before it, and its summary is possible.
+/// Each window begins after the values before it, and its summary is possible.
 pub fn windows_stand_in_place()
     ensures place { (us vs : List Window) (w : Window) → AreWindows (us ++ w ∷ vs) → w.first ≡ taken us + 1 }
     ensures possible { (us vs : List Window) (w : Window) → AreWindows (us ++ w ∷ vs) → IsPossible w.summary }

@@ -1,16 +1,26 @@
 //! The definitions that several crates speak of, and laws over them. There is no code here.
 #![tactic(auto)]
 
+mod closing_laws;
 mod decay_laws;
+mod history_laws;
 mod laws;
 mod types;
 
+pub use closing_laws::{
+    closing_again_changes_nothing, closing_is_confluent, closing_is_joining_what_is_due,
+    interrupted_joins_close_to_the_windows, joining_due_keeps_windows, joins_add_up,
+};
 pub use decay_laws::{
     closing_leaves_none_due, cover_is_least, decay_bound, no_window_outgrows_its_target,
+};
+pub use history_laws::{
+    histories_go_on, other_streams_stay, states_go_on_by_steps, states_keep_to_their_targets,
+    states_stay_states, streams_are_of_their_values,
 };
 pub use laws::{
     append_keeps_windows, closing_keeps_newest_time, closing_keeps_taken, closing_keeps_windows,
     incremental_is_from_scratch, joining_keeps_windows, windows_are_neighbours,
     windows_count_values, windows_end_last, windows_stand_in_place,
 };
-pub use types::{Ack, Window};
+pub use types::{Ack, MOST_RECORDS, Placed, StreamRow, Window};

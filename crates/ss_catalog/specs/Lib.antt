@@ -1,0 +1,6 @@
+pub mod Names
+pub mod NameLaws
+pub mod Params
+pub mod Refusal
+pub mod Events
+pub mod Catalog

@@ -1,0 +1,27 @@
+//! Names, parameters, events and refusals of streams, and the names in order of creation.
+#![tactic(auto)]
+
+mod catalog;
+mod event;
+mod name;
+mod params;
+mod refusal;
+mod stream_id;
+#[cfg(test)]
+mod tests;
+
+pub use catalog::{Catalog, CatalogError};
+pub use event::Event;
+pub use name::{LONGEST_NAME, Name};
+pub use params::{GREATEST_BASE, GREATEST_POWER, GREATEST_SCALE, GREATEST_WIDENING, Params};
+pub use refusal::Refusal;
+pub use stream_id::StreamId;
+
+/// A time is a whole number up to this one, in a unit of the caller's.
+pub const LAST_TIME: u64 = 1 << 62;
+
+/// At most this many streams stand.
+pub const MOST_STREAMS: u32 = 4096;
+
+/// The greatest number that a stream can have.
+pub const LAST_STREAM: u32 = u32::MAX;

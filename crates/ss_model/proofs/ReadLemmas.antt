@@ -1,0 +1,84 @@
+-- What is read off the state of a history.
+use Rattle.std.proofs.Common.{◌≡◌, ◌≢◌, ℕ, ◌+◌, ◌*◌, ◌<◌, ◌≤◌, ℤ, false, true, List, [], ◌∷◌, length, map, get_or, refl, sym, ◌∙◌, arith, None, Some, inl, inr}
+use Rattle.std.specs.Prelude.{All, Option}
+use Rattle.std.specs.Option.{option_or}
+use Rattle.std.proofs.lemmas.Bool.{cases_Bool}
+use Rattle.std.proofs.lemmas.List.Elements.{All-map, All-get_or}
+use Rattle.std.proofs.lemmas.List.Folds.{find-append}
+use Rattle.ss_catalog.specs.Events.{event_name}
+use Rattle.ss_catalog.specs.Names.{same_name}
+use Rattle.ss_catalog.specs.declared.event.Event.{Event}
+use Rattle.ss_catalog.specs.declared.event.Event.TheVariants.{Create, Value}
+use Rattle.ss_target.specs.Lengths.{has_target, lengths_of}
+use Rattle.ss_target.proofs.LengthLemmas.{lengths_of-positive, lengths_of-never_fall}
+use Rattle.ss_model.specs.Decay.{cover, IsWithinTarget}
+use Rattle.ss_model.specs.History.{values_of}
+use Rattle.ss_model.specs.Refusals.{IsHistory}
+use Rattle.ss_model.specs.Standing.{IsStream}
+use Rattle.ss_model.specs.State.{Created, Stream, state, standing, stream_after, stream_named, values_in}
+use Rattle.ss_model.specs.Steps.{stepped}
+use Rattle.ss_model.proofs.DecayLemmas.{length-windows, IsWithinTarget-windows}
+use Rattle.ss_model.proofs.HistoryLemmas.{IsState-state}
+use Rattle.ss_model.proofs.NameLemmas.{same_name-Decides}
+use Rattle.ss_model.proofs.StepLemmas.{valued}
+use Rattle.ss_model.proofs.Stretches.{taken-windows}
+
+-- what holds of each stream as a history leaves it holds in its state
+pub All-state : (P : Stream → Type 0) (history : List Event) → ((c : Created) → P (stream_after history c)) → All P (state history)
+unfolding state
+All-state P history each = All-map P (stream_after history) (standing history) (λ k d inside. each (get_or (standing history) k d))
+
+differs : (a b : List ℕ) → a ≢ b → same_name a b ≡ false
+differs a b apart = elim (cases_Bool (same_name a b)) [
+  | inl same ↦ absurd (apart ((same_name-Decides a b).0 same))
+  | inr other ↦ other
+]
+
+named-valued_other : (name other : List ℕ) (t : ℕ) (v : ℤ) (streams : List Stream) → name ≢ other →
+    stream_named name (map (valued other t v) streams) ≡ stream_named name streams
+named-valued_other name other t v [] apart = refl
+named-valued_other name other t v (s ∷ ss) apart =
+    let rest = named-valued_other name other t v ss apart in
+    elim (cases_Bool (same_name other s.name)) [
+      | inl same ↦
+          (let is : other ≡ s.name = (same_name-Decides other s.name).0 same in
+          let wrong : same_name name s.name ≡ false = differs name s.name (λ e. apart (e ∙ sym is)) in
+          rw (same, wrong, rest) refl)
+      | inr differ ↦ rw (differ, rest) refl
+    ]
+
+option_or-none : {X : Type 0} (o : Option X) → option_or o None ≡ o
+option_or-none None = refl
+option_or-none (Some x) = refl
+
+pub stream_named-stepped : (streams : List Stream) (event : Event) (name : List ℕ) → name ≢ event_name event →
+    stream_named name (stepped streams event) ≡ stream_named name streams
+unfolding stepped
+stream_named-stepped streams (Create other params) name apart =
+    let differ = differs name other apart in
+    rw (find-append (λ (s : Stream). same_name name s.name) streams _, differ) (option_or-none (stream_named name streams))
+stream_named-stepped streams (Value other t v) name apart = named-valued_other name other t v streams apart
+
+pub decay-state : (history : List Event) →
+    All (λ s. 0 < values_in s → length s.windows + 1 ≤ 2 * cover (lengths_of s.params) (values_in s)) (state history)
+decay-state history =
+    All-state (λ s. 0 < values_in s → length s.windows + 1 ≤ 2 * cover (lengths_of s.params) (values_in s)) history
+    (λ c some.
+    let len = lengths_of c.params in
+    let values = values_of history c.name in
+    let count = taken-windows len values in
+    rw count (length-windows len values (omega arith)))
+
+pub within-state : (history : List Event) → IsHistory history →
+    All (λ s. All (IsWithinTarget (lengths_of s.params) (values_in s)) s.windows) (state history)
+within-state history whole =
+    λ k d inside.
+    let s = get_or (state history) k d in
+    let has = All-get_or IsStream (state history) k d inside (IsState-state history whole).each in
+    All-get_or (λ s. has_target s.params ≡ true → All (IsWithinTarget (lengths_of s.params) (values_in s)) s.windows) (state history) k d inside
+    (All-state (λ s. has_target s.params ≡ true → All (IsWithinTarget (lengths_of s.params) (values_in s)) s.windows) history
+    (λ c target.
+    let len = lengths_of c.params in
+    let values = values_of history c.name in
+    rw (taken-windows len values) (IsWithinTarget-windows len values (lengths_of-positive c.params target) (lengths_of-never_fall c.params target))))
+    has.target

@@ -1,0 +1,8 @@
+use Rattle.ss_model.proofs.ReadLemmas.{decay-state, within-state}
+use Rattle.ss_model.proofs.history_laws.states_keep_to_their_targets.Goals as goal
+
+pub returns-clause-decay : goal.returns-clause-decay
+returns-clause-decay c = decay-state
+
+pub returns-clause-within : goal.returns-clause-within
+returns-clause-within c = within-state

@@ -1,0 +1,19 @@
+use Rattle.std.proofs.Common.{◌≡◌, length, refl}
+use Rattle.ss_target.specs.Lengths.{lengths_of}
+use Rattle.ss_model.specs.History.{values_of}
+use Rattle.ss_model.specs.State.{values_in, last_time}
+use Rattle.ss_model.specs.Windows.{windows, time_of_last}
+use Rattle.ss_model.proofs.ReadLemmas.{All-state}
+use Rattle.ss_model.proofs.Stretches.{taken-windows, newest_time-windows}
+use Rattle.ss_model.proofs.history_laws.streams_are_of_their_values.Goals as goal
+
+pub returns-clause-windows : goal.returns-clause-windows
+returns-clause-windows c history = All-state (λ s. s.windows ≡ windows (lengths_of s.params) (values_of history s.name)) history (λ s. refl)
+
+pub returns-clause-count : goal.returns-clause-count
+returns-clause-count c history =
+    All-state (λ s. values_in s ≡ length (values_of history s.name)) history (λ s. taken-windows (lengths_of s.params) (values_of history s.name))
+
+pub returns-clause-time : goal.returns-clause-time
+returns-clause-time c history =
+    All-state (λ s. last_time s ≡ time_of_last (values_of history s.name)) history (λ s. newest_time-windows (lengths_of s.params) (values_of history s.name))

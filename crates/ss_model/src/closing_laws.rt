@@ -1,0 +1,55 @@
+// Laws on joining the windows that are due, each the contract of a function that does nothing.
+ghost use Rattle.std.specs.Prelude.{◌≡◌, ◌+◌, ℕ, ℤ, List, [], ◌∷◌, ◌++◌, length};
+ghost use Rattle.ss_summary.specs.Summaries.{summary_of};
+ghost use Rattle.ss_model.specs.Windows.{newest_time, taken, windows};
+ghost use Rattle.ss_model.specs.Closed.{closed};
+ghost use Rattle.ss_model.specs.Decay.{NoneIsDue};
+ghost use Rattle.ss_model.specs.Joins.{JoinsDue, JoinsTwo};
+ghost use Rattle.ss_model.specs.Tiling.{AreWindows};
+ghost use Rattle.ss_model.specs.declared.types.Window.{Window};
+
+/// Closing is confluent: where some neighbours that are due at n were joined before, however many and in whatever order,
+/// closing gives the same. So windows that a crash left partly merged close to what they would have closed to.
+pub fn closing_is_confluent()
+    ensures { (len : ℕ → ℕ) (n : ℕ) (old new : List Window) → AreWindows old → JoinsDue len n old new →
+        closed len n new ≡ closed len n old }
+{}
+
+/// Closing joins neighbours that are due and does nothing else, and whatever joins them until none is due has closed the
+/// windows: the order has no effect.
+pub fn closing_is_joining_what_is_due()
+    ensures joins { (len : ℕ → ℕ) (n : ℕ) (ws : List Window) → JoinsDue len n ws (closed len n ws) }
+    ensures only_end { (len : ℕ → ℕ) (n : ℕ) (old new : List Window) → AreWindows old → JoinsDue len n old new →
+        NoneIsDue len n new → new ≡ closed len n old }
+{}
+
+/// One join of two neighbours that are due is joining what is due, and so are joins after joins.
+pub fn joins_add_up()
+    ensures one { (len : ℕ → ℕ) (n : ℕ) (old new : List Window) → JoinsTwo len n old new → JoinsDue len n old new }
+    ensures in_a_row { (len : ℕ → ℕ) (n : ℕ) (old between new : List Window) →
+        JoinsDue len n old between → JoinsDue len n between new → JoinsDue len n old new }
+{}
+
+/// Windows stay windows when some that are due are joined. They hold as many values and keep the newest time.
+pub fn joining_due_keeps_windows()
+    ensures windows { (len : ℕ → ℕ) (n : ℕ) (old new : List Window) → AreWindows old → JoinsDue len n old new → AreWindows new }
+    ensures taken { (len : ℕ → ℕ) (n : ℕ) (old new : List Window) → JoinsDue len n old new → taken new ≡ taken old }
+    ensures newest_time { (len : ℕ → ℕ) (n : ℕ) (old new : List Window) → JoinsDue len n old new → newest_time new ≡ newest_time old }
+{}
+
+/// Closing what is closed changes nothing: windows that were just closed stay, and so do those of some values.
+pub fn closing_again_changes_nothing()
+    ensures of_closed { (len : ℕ → ℕ) (n : ℕ) (ws : List Window) → AreWindows ws →
+        closed len n (closed len n ws) ≡ closed len n ws }
+    ensures of_values { (len : ℕ → ℕ) (values : List (ℕ × ℤ)) →
+        closed len (length values) (windows len values) ≡ windows len values }
+{}
+
+/// Where one more value was put after the windows of some values, and of the joins that were due then any were made, as a
+/// crash may leave them, closing gives the windows of all the values.
+pub fn interrupted_joins_close_to_the_windows()
+    ensures { (len : ℕ → ℕ) (values : List (ℕ × ℤ)) (p : ℕ × ℤ) (ws : List Window) →
+        JoinsDue len (length values + 1)
+        (windows len values ++ record { first = length values + 1; summary = summary_of (p ∷ []) } ∷ []) ws →
+        closed len (length values + 1) ws ≡ windows len (values ++ p ∷ []) }
+{}

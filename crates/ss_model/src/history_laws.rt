@@ -1,0 +1,58 @@
+// Laws of histories and their states, each the contract of a function that does nothing.
+ghost use Rattle.std.specs.Prelude.{◌≡◌, ◌≢◌, ◌+◌, ◌*◌, ◌<◌, ◌≤◌, ◌↔◌, ℕ, List, [], ◌∷◌, ◌++◌, length, All, None};
+ghost use Rattle.ss_catalog.specs.Events.{event_name};
+ghost use Rattle.ss_catalog.specs.declared.event.Event.{Event};
+ghost use Rattle.ss_target.specs.Lengths.{lengths_of};
+ghost use Rattle.ss_model.specs.Decay.{cover, IsWithinTarget};
+ghost use Rattle.ss_model.specs.History.{CanBeSaid, values_of};
+ghost use Rattle.ss_model.specs.Refusals.{IsHistory, refuses};
+ghost use Rattle.ss_model.specs.Standing.{IsState};
+ghost use Rattle.ss_model.specs.State.{last_time, state, Stream, stream_named, values_in};
+ghost use Rattle.ss_model.specs.Steps.{stepped};
+ghost use Rattle.ss_model.specs.Windows.{time_of_last, windows};
+
+/// Incremental equals from scratch: the state of a history with one more event, which isn't refused, comes from the state
+/// before it by one step.
+pub fn states_go_on_by_steps()
+    ensures start { state [] ≡ [] }
+    ensures step { (history : List Event) (event : Event) → refuses (state history) event ≡ None →
+        state (history ++ event ∷ []) ≡ stepped (state history) event }
+{}
+
+/// A history goes on by each event that can be said and isn't refused, and by no other.
+pub fn histories_go_on()
+    ensures start { IsHistory [] }
+    ensures step { (history : List Event) (event : Event) → IsHistory (history ++ event ∷ [])
+        ↔ IsHistory history × CanBeSaid event × (refuses (state history) event ≡ None) }
+{}
+
+/// What every state meets stays so under a step, and so it holds of the state of every history.
+pub fn states_stay_states()
+    ensures start { IsState [] }
+    ensures step { (streams : List Stream) (event : Event) → IsState streams → CanBeSaid event →
+        refuses streams event ≡ None → IsState (stepped streams event) }
+    ensures histories { (history : List Event) → IsHistory history → IsState (state history) }
+{}
+
+/// An event changes no stream but the one that it names.
+pub fn other_streams_stay()
+    ensures { (streams : List Stream) (event : Event) (name : List ℕ) → name ≢ event_name event →
+        stream_named name (stepped streams event) ≡ stream_named name streams }
+{}
+
+/// What is read off a stream of a state, by the values that the history has of it.
+pub fn streams_are_of_their_values()
+    ensures windows { (history : List Event) →
+        All (λ s. s.windows ≡ windows (lengths_of s.params) (values_of history s.name)) (state history) }
+    ensures count { (history : List Event) → All (λ s. values_in s ≡ length (values_of history s.name)) (state history) }
+    ensures time { (history : List Event) → All (λ s. last_time s ≡ time_of_last (values_of history s.name)) (state history) }
+{}
+
+/// In the state of a history each stream has at most 2K - 1 windows where K target windows cover its values, and no window
+/// is longer than the target window that holds its newest value.
+pub fn states_keep_to_their_targets()
+    ensures decay { (history : List Event) →
+        All (λ s. 0 < values_in s → length s.windows + 1 ≤ 2 * cover (lengths_of s.params) (values_in s)) (state history) }
+    ensures within { (history : List Event) → IsHistory history →
+        All (λ s. All (IsWithinTarget (lengths_of s.params) (values_in s)) s.windows) (state history) }
+{}

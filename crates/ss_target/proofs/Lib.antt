@@ -1,0 +1,3 @@
+mod Rows
+pub mod LengthLemmas
+pub mod FitLemmas

@@ -1,0 +1,78 @@
+// Targets of every family.
+ghost use Rattle.std.specs.Prelude.{◌≡◌, ◌≤◌, ◌↔◌, IsTrue, IsOk, IfOk};
+ghost use Rattle.ss_windowing.specs.Windowing.{fits};
+ghost use Rattle.ss_target.specs.Lengths.{has_target, lengths_of};
+
+use ss_catalog::Params;
+use ss_windowing::{Decay, Exp, MOST_VALUES, Param, Spot};
+
+/// A target of the power-law family: there is none yet.
+#[derive(Clone, Copy)]
+pub enum Power {}
+
+/// The window lengths that a stream's windows are merged towards, counted back from the newest value.
+/// docs/DEFINITIONS.md ("Targets") has the lengths of each family.
+#[derive(Clone, Copy)]
+pub enum Target {
+    Exp(Exp),
+    Power(Power),
+}
+
+impl Target {
+    ghost use Rattle.ss_target.specs.Targets.{params_of};
+
+    /// The target of these parameters. `Param` says that there is none; the power-law family isn't built yet.
+    pub fn of(params: Params) -> Result<Target, Param>
+        ensures exactly { IsOk result ↔ IsTrue (has_target params) }
+        ensures params { IfOk result (λ target. params_of target ≡ params) }
+    {
+        match params {
+            Params::Exp { b, r, s } => match Exp::new(b, r, s) {
+                Ok(exp) => Ok(Target::Exp(exp)),
+                Err(Param) => Err(Param),
+            },
+            Params::Power { .. } => Err(Param),
+        }
+    }
+
+    /// The parameters that it was made of.
+    pub fn params(&self) -> Params
+        ensures { result ≡ params_of self.now }
+    {
+        match *self {
+            Target::Exp(exp) => {
+                let (b, r, s) = exp.parameters();
+                Params::Exp { b, r, s }
+            }
+            Target::Power(power) => match power {},
+        }
+    }
+
+    /// Whether the positions l to r, counted from 1, lie in one target window when n values have been taken.
+    pub fn fits(&self, l: u64, r: u64, n: u64) -> bool
+        requires first { 1 ≤ l }
+        requires order { l ≤ r }
+        requires taken { r ≤ n }
+        requires few { n ≤ MOST_VALUES }
+        ensures { result ≡ fits (lengths_of (params_of self.now)) l r n }
+    {
+        self.window_at(n - l).start <= n - r
+    }
+}
+
+impl Decay for Target {
+    ghost use Rattle.ss_target.specs.Targets.{lengths-never_fall, lengths-positive, target_lengths};
+
+    ghost length_of = { target_lengths };
+
+    ghost positive = { lengths-positive };
+
+    ghost never_falls = { lengths-never_fall };
+
+    fn window_at(&self, age: u64) -> Spot {
+        match *self {
+            Target::Exp(exp) => exp.window_at(age),
+            Target::Power(power) => match power {},
+        }
+    }
+}
