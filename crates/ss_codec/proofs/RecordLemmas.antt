@@ -1,0 +1,324 @@
+-- Each valid record is what its spelling is read as.
+use Rattle.std.specs.Prelude.{◌≡◌, ◌↔◌, ℕ, ◌+◌, ◌-◌, ◌^◌, ◌<◌, ◌≤◌, Bool, true, false, cond, IsTrue, FitsSigned, List, [], ◌∷◌, length, replicate, slice_index, take, drop, Option, Some, None, IsSome, IfSome, IfNone}
+use Rattle.std.specs.Int.{cast_unsigned, w64, w128}
+use Rattle.std.specs.Str.{bytes_eq}
+use Rattle.std.proofs.Common.{arith, refl, sym, ap, ◌∙◌, lit≤, lit<}
+use Rattle.std.proofs.lemmas.List.{length-drop, length-replicate, length-take}
+use Rattle.std.proofs.lemmas.Int.{ints}
+use Rattle.std.proofs.lemmas.Bool.Decides.{nat_tests}
+use Rattle.std.proofs.lemmas.Slice.Eq.{bytes_eq-Decides}
+use Rattle.ss_fields.specs.Fields.{number_at, number_bytes}
+use Rattle.ss_fields.proofs.FieldLemmas.{length-number_bytes, number_at-take, i64_at-take, i128_at-take}
+use Rattle.ss_summary.specs.Figures.{Figures, IsPossible}
+use Rattle.ss_summary.specs.Possible.{is_possible}
+use Rattle.ss_summary.specs.declared.summary.TheConstants.{GREATEST_COUNT}
+use Rattle.ss_summary.proofs.SummaryLemmas.{IsPossible-sum}
+use Rattle.ss_summary.proofs.PossibleLemmas.{is_possible-tells}
+use Rattle.ss_catalog.specs.Names.{is_name}
+use Rattle.ss_catalog.specs.Params.{in_range}
+use Rattle.ss_catalog.specs.declared.params.Params.{Params}
+use Rattle.ss_catalog.specs.declared.params.Params.TheVariants.{Exp, Power}
+use Rattle.ss_codec.specs.declared.record.Record.{Record}
+use Rattle.ss_codec.specs.declared.record.Record.TheVariants.{Free, Stream, Window}
+use Rattle.ss_codec.specs.Record.{is_built, is_valid, family, parameters, fields, spelling, Spells}
+use Rattle.ss_codec.specs.Decoded.{checked, decoded, params_in, record_in, stream_in, window_in}
+use Rattle.ss_codec.proofs.FieldLemmas.{IsWithin, AreInOrder, HasFields, HasFields-with_fields, slice_index-part}
+
+not_true : (b : Bool) → (b ≡ true → ⊥) → b ≡ false
+not_true true never = absurd (never refl)
+not_true false never = refl
+
+-- what a valid stream says
+pub record IsStream (id : ℕ) (name : List ℕ) (params : Params) : Type 0 where
+  pub number : id < 2 ^ 32
+  pub named : is_name name ≡ true
+  pub short : length name ≤ 32
+  pub built : is_built params ≡ true
+  pub ranged : in_range params ≡ true
+
+pub IsStream-is_valid : (id : ℕ) (name : List ℕ) (params : Params) → is_valid (Stream id name params) ≡ true → IsStream id name params
+unfolding is_valid is_name
+IsStream-is_valid id name params valid = record {
+  number = grind (arith, nat_tests);
+  named = grind (arith, nat_tests);
+  short = grind (arith, nat_tests);
+  built = grind (arith, nat_tests);
+  ranged = grind (arith, nat_tests);
+}
+
+pub is_valid-IsStream : (id : ℕ) (name : List ℕ) (params : Params) → id < 2 ^ 32 → is_name name ≡ true → is_built params ≡ true
+    → in_range params ≡ true → is_valid (Stream id name params) ≡ true
+unfolding is_valid
+is_valid-IsStream id name params number named built ranged = grind (arith, nat_tests)
+
+-- what a valid window says
+pub record IsWindow (id first : ℕ) (f : Figures) : Type 0 where
+  pub number : id < 2 ^ 32
+  pub low : 1 ≤ first
+  pub high : first + f.count - 1 ≤ GREATEST_COUNT
+  pub possible : IsPossible f
+
+pub IsWindow-is_valid : (id first : ℕ) (f : Figures) → is_valid (Window id first f) ≡ true → IsWindow id first f
+unfolding is_valid
+IsWindow-is_valid id first f valid =
+    let test : is_possible f ≡ true = grind (arith, nat_tests) in
+    record {
+      number = grind (arith, nat_tests);
+      low = grind (arith, nat_tests);
+      high = grind (arith, nat_tests);
+      possible = (is_possible-tells f).0 test;
+    }
+
+pub is_valid-IsWindow : (id first : ℕ) (f : Figures) → id < 2 ^ 32 → 1 ≤ first → first + f.count - 1 ≤ GREATEST_COUNT → IsPossible f
+    → is_valid (Window id first f) ≡ true
+unfolding is_valid
+is_valid-IsWindow id first f number low high possible =
+    let test = (is_possible-tells f).1 possible in
+    grind (arith, nat_tests)
+
+-- a field of a number lies within a slot
+number-within : (n place value : ℕ) → place + n ≤ 128 → IsWithin 128 (record { place = place; size = n; bytes = number_bytes n value })
+number-within n place value inside = record { whole = length-number_bytes n value; inside = inside }
+
+byte-within : (place value : ℕ) → place + 1 ≤ 128 → IsWithin 128 (record { place = place; size = 1; bytes = value ∷ [] })
+byte-within place value inside = record { whole = refl; inside = inside }
+
+stream-in_order : (id : ℕ) (name : List ℕ) (params : Params) → length name ≤ 32 → AreInOrder 128 0 (fields (Stream id name params))
+stream-in_order id name params short =
+    let numbers = parameters params in (
+      lit≤ tt,
+      byte-within 0 1 (lit≤ tt),
+      (
+        lit≤ tt,
+        byte-within 1 (family params) (lit≤ tt),
+        (
+          lit≤ tt,
+          byte-within 2 (length name) (lit≤ tt),
+          (
+            lit≤ tt,
+            number-within 4 4 id (lit≤ tt),
+            (
+              lit≤ tt,
+              number-within 4 8 numbers.0 (lit≤ tt),
+              (
+                lit≤ tt,
+                number-within 4 12 numbers.1 (lit≤ tt),
+                (
+                  lit≤ tt,
+                  number-within 4 16 numbers.2 (lit≤ tt),
+                  (
+                    lit≤ tt,
+                    number-within 4 20 numbers.3 (lit≤ tt),
+                    (
+                      lit≤ tt,
+                      record { whole = refl; inside = omega arith },
+                      tt,
+                    ),
+                  ),
+                ),
+              ),
+            ),
+          ),
+        ),
+      ),
+    )
+
+window-in_order : (id first : ℕ) (f : Figures) → AreInOrder 128 0 (fields (Window id first f))
+window-in_order id first f = (
+  lit≤ tt,
+  byte-within 0 2 (lit≤ tt),
+  (
+    lit≤ tt,
+    number-within 4 4 id (lit≤ tt),
+    (
+      lit≤ tt,
+      number-within 8 8 first (lit≤ tt),
+      (
+        lit≤ tt,
+        number-within 8 16 f.count (lit≤ tt),
+        (
+          lit≤ tt,
+          number-within 16 24 (cast_unsigned w128 f.sum) (lit≤ tt),
+          (
+            lit≤ tt,
+            number-within 8 40 (cast_unsigned w64 f.min) (lit≤ tt),
+            (
+              lit≤ tt,
+              number-within 8 48 (cast_unsigned w64 f.max) (lit≤ tt),
+              (
+                lit≤ tt,
+                number-within 8 56 f.t_first (lit≤ tt),
+                (
+                  lit≤ tt,
+                  number-within 8 64 f.t_last (lit≤ tt),
+                  tt,
+                ),
+              ),
+            ),
+          ),
+        ),
+      ),
+    ),
+  ),
+)
+
+-- parameters in range fit their fields
+record AreSmall (params : Params) : Type 0 where
+  first : (parameters params).0 < 2 ^ 32
+  second : (parameters params).1 < 2 ^ 32
+  third : (parameters params).2 < 2 ^ 32
+  fourth : (parameters params).3 < 2 ^ 32
+
+AreSmall-in_range : (params : Params) → in_range params ≡ true → AreSmall params
+AreSmall-in_range (Exp b r s) ranged = record {
+  first = grind (arith, nat_tests);
+  second = grind (arith, nat_tests);
+  third = grind (arith, nat_tests);
+  fourth = lit< tt;
+}
+AreSmall-in_range (Power p q r s) ranged = record {
+  first = grind (arith, nat_tests);
+  second = grind (arith, nat_tests);
+  third = grind (arith, nat_tests);
+  fourth = grind (arith, nat_tests);
+}
+
+-- the parameters whose family and numbers stand in the bytes are read from there
+params_in-numbers : (params : Params) (bytes : List ℕ) → slice_index bytes 1 ≡ family params
+    → number_at 4 bytes 8 ≡ (parameters params).0 → number_at 4 bytes 12 ≡ (parameters params).1
+    → number_at 4 bytes 16 ≡ (parameters params).2 → number_at 4 bytes 20 ≡ (parameters params).3 → params_in bytes ≡ params
+unfolding params_in
+params_in-numbers (Exp b r s) bytes kind first second third fourth = rw (kind, first, second, third) refl
+params_in-numbers (Power p q r s) bytes kind first second third fourth = rw (kind, first, second, third, fourth) refl
+
+-- a stream whose fields stand in the bytes is read from there
+stream_in-fields : (id : ℕ) (name : List ℕ) (params : Params) (bytes : List ℕ) → IsStream id name params
+    → HasFields bytes (fields (Stream id name params)) → stream_in bytes ≡ Stream id name params
+unfolding stream_in
+stream_in-fields id name params bytes is has =
+    let small = AreSmall-in_range params is.ranged in
+    let kind = slice_index-part 1 (family params) bytes has.1.0 in
+    let size = slice_index-part 2 (length name) bytes has.1.1.0 in
+    let number = number_at-take 4 4 id bytes (omega (arith, is.number)) has.1.1.1.0 in
+    let first = number_at-take 4 8 (parameters params).0 bytes (omega (arith, small.first)) has.1.1.1.1.0 in
+    let second = number_at-take 4 12 (parameters params).1 bytes (omega (arith, small.second)) has.1.1.1.1.1.0 in
+    let third = number_at-take 4 16 (parameters params).2 bytes (omega (arith, small.third)) has.1.1.1.1.1.1.0 in
+    let fourth = number_at-take 4 20 (parameters params).3 bytes (omega (arith, small.fourth)) has.1.1.1.1.1.1.1.0 in
+    let target = params_in-numbers params bytes kind first second third fourth in
+    let named : take (slice_index bytes 2) (drop 24 bytes) ≡ name = rw size has.1.1.1.1.1.1.1.1.0 in
+    cc
+
+-- so is a window
+window_in-fields : (id first : ℕ) (f : Figures) (bytes : List ℕ) → IsWindow id first f
+    → HasFields bytes (fields (Window id first f)) → window_in bytes ≡ Window id first f
+unfolding window_in
+window_in-fields id first f bytes is has =
+    let possible = is.possible in
+    let few = possible.count_high in
+    let last = possible.last in
+    let times = possible.times in
+    let some = possible.count_low in
+    let high = is.high in
+    let sum_small = IsPossible-sum f possible in
+    let sum_fits : FitsSigned w128 f.sum = omega (arith, ints) in
+    let number = number_at-take 4 4 id bytes (omega (arith, is.number)) has.1.0 in
+    let first_is = number_at-take 8 8 first bytes (omega arith) has.1.1.0 in
+    let count = number_at-take 8 16 f.count bytes (omega arith) has.1.1.1.0 in
+    let sum = i128_at-take 24 f.sum bytes sum_fits has.1.1.1.1.0 in
+    let min = i64_at-take 40 f.min bytes possible.min_fits has.1.1.1.1.1.0 in
+    let max = i64_at-take 48 f.max bytes possible.max_fits has.1.1.1.1.1.1.0 in
+    let t_first = number_at-take 8 56 f.t_first bytes (omega arith) has.1.1.1.1.1.1.1.0 in
+    let t_last = number_at-take 8 64 f.t_last bytes (omega arith) has.1.1.1.1.1.1.1.1.0 in
+    λ i. Window (number i) (first_is i) (record {
+      count = count i;
+      sum = sum i;
+      min = min i;
+      max = max i;
+      t_first = t_first i;
+      t_last = t_last i;
+    })
+
+-- what a spelling has
+spelled : (r : Record) → AreInOrder 128 0 (fields r) → HasFields (spelling r) (fields r)
+unfolding spelling
+spelled r order = HasFields-with_fields 128 0 (fields r) (replicate 128 0) (length-replicate {A = ℕ} 128 0) order
+
+record_in-free : record_in (spelling Free) ≡ Free
+unfolding record_in spelling
+record_in-free = refl
+
+-- the record that is read from the spelling of a valid record is that record
+pub record_in-spelling : (r : Record) → IsTrue (is_valid r) → record_in (spelling r) ≡ r
+unfolding record_in
+record_in-spelling Free valid = record_in-free
+record_in-spelling (Stream id name params) valid =
+    let is = IsStream-is_valid id name params valid in
+    let has = spelled (Stream id name params) (stream-in_order id name params is.short) in
+    let kind = slice_index-part 0 1 (spelling (Stream id name params)) has.0 in
+    rw kind (stream_in-fields id name params (spelling (Stream id name params)) is has)
+record_in-spelling (Window id first f) valid =
+    let is = IsWindow-is_valid id first f valid in
+    let has = spelled (Window id first f) (window-in_order id first f) in
+    let kind = slice_index-part 0 2 (spelling (Window id first f)) has.0 in
+    rw kind (window_in-fields id first f (spelling (Window id first f)) is has)
+
+-- what an answer that was tested twice says
+tested : (b v : Bool) (x r : Record) → cond b (cond v (Some x) None) None ≡ Some r → (b ≡ true) × (v ≡ true) × (x ≡ r)
+tested true true x r found = (refl, refl, cc)
+tested true false x r found = absurd cc
+tested false v x r found = absurd cc
+
+pub Spells-decoded : (bytes : List ℕ) (r : Record) → decoded bytes ≡ Some r → Spells bytes r
+unfolding decoded
+Spells-decoded bytes r found =
+    let tests = tested (bytes_eq (spelling (record_in bytes)) bytes) (is_valid (record_in bytes)) (record_in bytes) r found in
+    let same = (bytes_eq-Decides (spelling (record_in bytes)) bytes).0 tests.0 in
+    record { valid = rw (← tests.2) tests.1; spelled = sym same ∙ ap spelling tests.2 }
+
+pub decoded-spelling : (r : Record) → IsTrue (is_valid r) → decoded (spelling r) ≡ Some r
+unfolding decoded
+decoded-spelling r valid =
+    let same = (bytes_eq-Decides (spelling r) (spelling r)).1 refl in
+    rw (record_in-spelling r valid, same, valid) refl
+
+pub decoded-Spells : (bytes : List ℕ) (r : Record) → Spells bytes r → decoded bytes ≡ Some r
+decoded-Spells bytes r spells = ap decoded spells.spelled ∙ decoded-spelling r spells.valid
+
+-- an answer that is what is decoded says what the bytes spell
+pub none-decoded : (found : Option Record) (bytes : List ℕ) → found ≡ decoded bytes → IfNone found ((r : Record) → ¬ Spells bytes r)
+none-decoded (Some r) bytes is = tt
+none-decoded None bytes is = λ r spells. cc (is, decoded-Spells bytes r spells)
+
+pub same-spelling : (r s : Record) → IsTrue (is_valid r) → IsTrue (is_valid s) → spelling r ≡ spelling s → r ≡ s
+same-spelling r s valid_r valid_s same =
+    sym (record_in-spelling r valid_r) ∙ ap record_in same ∙ record_in-spelling s valid_s
+
+-- an answer that is there exactly where the figures are possible is what the test of them gives
+pub tested_figures : (found : Option Figures) (f : Figures) → (IsSome found ↔ IsPossible f) → IfSome found (λ g. g ≡ f)
+    → found ≡ cond (is_possible f) (Some f) None
+tested_figures (Some g) f possible is =
+    let test = (is_possible-tells f).1 (possible.0 refl) in
+    rw (test, is) refl
+tested_figures None f possible is =
+    let no : is_possible f ≡ false = not_true (is_possible f) (λ test. absurd (cc (possible.1 ((is_possible-tells f).0 test)))) in
+    rw no refl
+
+-- a stream whose name would be too long is none
+pub checked-long : (bytes : List ℕ) → length bytes ≡ 128 → 32 < slice_index bytes 2 → checked (stream_in bytes) ≡ None
+unfolding stream_in
+checked-long bytes long more =
+    let word = take (slice_index bytes 2) (drop 24 bytes) in
+    let size = length-take (slice_index bytes 2) (drop 24 bytes) in
+    let rest = length-drop 24 bytes in
+    let no : is_valid (Stream (number_at 4 bytes 4) word (params_in bytes)) ≡ false = not_true _ (λ valid.
+    let short = (IsStream-is_valid (number_at 4 bytes 4) word (params_in bytes) valid).short in
+    omega arith) in
+    rw no refl
+
+pub spelling-free : spelling Free ≡ replicate 128 0
+unfolding spelling
+spelling-free = refl
+
+pub is_valid-free : is_valid Free ≡ true
+unfolding is_valid
+is_valid-free = refl

@@ -1,0 +1,50 @@
+-- The record that some bytes spell, computed: each field is read from its place, and what was read counts where it is a
+-- valid record and the bytes are its spelling.
+use Rattle.std.specs.Prelude.{ℕ, ◌==◌, if◌then◌else◌, List, Option, Some, None, take, drop, slice_index}
+use Rattle.std.specs.Int.{cast_signed, w64, w128}
+use Rattle.std.specs.Str.{bytes_eq}
+use Rattle.ss_fields.specs.Fields.{number_at}
+use Rattle.ss_summary.specs.Figures.{Figures}
+use Rattle.ss_catalog.specs.declared.params.Params.{Params}
+use Rattle.ss_catalog.specs.declared.params.Params.TheVariants.{Exp, Power}
+use Rattle.ss_codec.specs.declared.record.Record.{Record}
+use Rattle.ss_codec.specs.declared.record.Record.TheVariants.{Free, Stream, Window}
+use Rattle.ss_codec.specs.Record.{is_valid, spelling}
+
+-- the parameters in the bytes of a stream
+unfoldable pub params_in : List ℕ → Params
+params_in bytes =
+    if slice_index bytes 1 == 1
+    then Exp (number_at 4 bytes 8) (number_at 4 bytes 12) (number_at 4 bytes 16)
+    else Power (number_at 4 bytes 8) (number_at 4 bytes 12) (number_at 4 bytes 16) (number_at 4 bytes 20)
+
+-- the figures in the bytes of a window
+abbrev pub figures_in : List ℕ → Figures
+figures_in bytes = record {
+  count = number_at 8 bytes 16;
+  sum = cast_signed w128 (number_at 16 bytes 24);
+  min = cast_signed w64 (number_at 8 bytes 40);
+  max = cast_signed w64 (number_at 8 bytes 48);
+  t_first = number_at 8 bytes 56;
+  t_last = number_at 8 bytes 64;
+}
+
+-- what a stream's record has, and a window's, in the bytes of one
+unfoldable pub stream_in : List ℕ → Record
+stream_in bytes = Stream (number_at 4 bytes 4) (take (slice_index bytes 2) (drop 24 bytes)) (params_in bytes)
+
+unfoldable pub window_in : List ℕ → Record
+window_in bytes = Window (number_at 4 bytes 4) (number_at 8 bytes 8) (figures_in bytes)
+
+-- the one record whose spelling the bytes can be, by their kind
+unfoldable pub record_in : List ℕ → Record
+record_in bytes =
+    if slice_index bytes 0 == 1 then stream_in bytes else if slice_index bytes 0 == 2 then window_in bytes else Free
+
+-- the record, if it is valid
+abbrev pub checked : Record → Option Record
+checked r = if is_valid r then Some r else None
+
+-- the valid record whose spelling the bytes are, if they are that of one
+unfoldable pub decoded : List ℕ → Option Record
+decoded bytes = if bytes_eq (spelling (record_in bytes)) bytes then checked (record_in bytes) else None

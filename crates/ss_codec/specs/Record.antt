@@ -1,0 +1,67 @@
+-- Records: which there are, and how each is spelled in the 128 bytes of a slot.
+use Rattle.std.specs.Prelude.{◌≡◌, ℕ, ◌+◌, ◌-◌, ◌^◌, Bool, true, false, ◌&&◌, nat_le, nat_lt, IsTrue, List, [], ◌∷◌, length, replicate}
+use Rattle.ss_summary.specs.Possible.{is_possible}
+use Rattle.ss_summary.specs.declared.summary.TheConstants.{GREATEST_COUNT}
+use Rattle.ss_catalog.specs.Names.{is_name}
+use Rattle.ss_catalog.specs.Params.{in_range}
+use Rattle.ss_catalog.specs.declared.params.Params.{Params}
+use Rattle.ss_catalog.specs.declared.params.Params.TheVariants.{Exp, Power}
+use Rattle.ss_codec.specs.declared.record.Record.{Record}
+use Rattle.ss_codec.specs.declared.record.Record.TheVariants.{Free, Stream, Window}
+use Rattle.ss_codec.specs.Fields.{Field, u8, u32, u64, i64, i128, text, with_fields}
+
+-- the families of targets that streams may have today
+abbrev pub is_built : Params → Bool
+is_built (Exp b r s) = true
+is_built (Power p q r s) = false
+
+-- a record that a slot may hold. Streams have numbers of 32 bits, and values have positions from 1 on.
+unfoldable pub is_valid : Record → Bool
+is_valid Free = true
+is_valid (Stream id name params) = nat_lt id (2 ^ 32) && is_name name && is_built params && in_range params
+is_valid (Window id first summary) =
+    nat_lt id (2 ^ 32) && nat_le 1 first && nat_le (first + summary.count - 1) GREATEST_COUNT && is_possible summary
+
+-- the number of a family, and its four parameters; the exponential family has three, and a 0
+abbrev pub family : Params → ℕ
+family (Exp b r s) = 1
+family (Power p q r s) = 2
+
+abbrev pub parameters : Params → ℕ × ℕ × ℕ × ℕ
+parameters (Exp b r s) = (b, r, s, 0)
+parameters (Power p q r s) = (p, q, r, s)
+
+-- the fields of a record, each at its place. Byte 0 is the kind, and a free slot has no field.
+abbrev pub fields : Record → List Field
+fields Free = []
+fields (Stream id name params) =
+    u8 0 1
+    ∷ u8 1 (family params)
+    ∷ u8 2 (length name)
+    ∷ u32 4 id
+    ∷ u32 8 (parameters params).0
+    ∷ u32 12 (parameters params).1
+    ∷ u32 16 (parameters params).2
+    ∷ u32 20 (parameters params).3
+    ∷ text 24 name
+    ∷ []
+fields (Window id first summary) =
+    u8 0 2
+    ∷ u32 4 id
+    ∷ u64 8 first
+    ∷ u64 16 summary.count
+    ∷ i128 24 summary.sum
+    ∷ i64 40 summary.min
+    ∷ i64 48 summary.max
+    ∷ u64 56 summary.t_first
+    ∷ u64 64 summary.t_last
+    ∷ []
+
+-- the bytes of a record: its fields, and zeros wherever no field is
+unfoldable pub spelling : Record → List ℕ
+spelling r = with_fields (replicate 128 0) (fields r)
+
+-- the bytes are those of a valid record
+pub record Spells (bytes : List ℕ) (r : Record) : Type 0 where
+  pub valid : IsTrue (is_valid r)
+  pub spelled : bytes ≡ spelling r

@@ -1,0 +1,128 @@
+// Records, read.
+ghost use Rattle.std.specs.Prelude.{◌≡◌, ◌+◌, ◌-◌, ◌&&◌, ◌≤◌, nat_le, IfSome, IfNone, if◌then◌else◌};
+ghost use Rattle.ss_summary.specs.Possible.{is_possible};
+ghost use Rattle.ss_codec.specs.Record.{is_built, Spells};
+ghost use Rattle.ss_codec.specs.Decoded.{checked, decoded, figures_in, params_in, record_in, stream_in, window_in};
+
+use crate::encoding::encode;
+use crate::record::{EXPONENTIAL, NAME, Record, SLOT_SIZE, STREAM, WINDOW};
+use ss_catalog::{LONGEST_NAME, Name, Params};
+use ss_fields::{get_i64, get_i128, get_u32, get_u64};
+use ss_summary::{GREATEST_COUNT, Summary};
+
+// The parameters in the bytes of a stream.
+#[tactic(auto, unfolding(crate::specs::Decoded::params_in))]
+fn params_in(bytes: &[u8; SLOT_SIZE]) -> Params
+    ensures { result ≡ params_in bytes.now }
+{
+    let first = get_u32(bytes, 8);
+    let second = get_u32(bytes, 12);
+    let third = get_u32(bytes, 16);
+    if bytes[1] == EXPONENTIAL {
+        Params::Exp {
+            b: first,
+            r: second,
+            s: third,
+        }
+    } else {
+        Params::Power {
+            p: first,
+            q: second,
+            r: third,
+            s: get_u32(bytes, 20),
+        }
+    }
+}
+
+// Whether streams may have targets of this family today.
+fn is_built(params: &Params) -> bool
+    ensures { result ≡ is_built params.now }
+{
+    match *params {
+        Params::Exp { .. } => true,
+        Params::Power { .. } => false,
+    }
+}
+
+// The stream's record in the bytes, if it is a valid one.
+#[tactic(auto, using(std::proofs::lemmas::Bool::Decides::nat_tests), unfolding(crate::specs::Decoded::stream_in, crate::specs::Record::is_valid))]
+fn stream_in(bytes: &[u8; SLOT_SIZE]) -> Option<Record>
+    ensures { result ≡ checked (stream_in bytes.now) }
+{
+    let length = usize::from(bytes[2]);
+    if length > LONGEST_NAME {
+        return None;
+    }
+    let id = get_u32(bytes, 4);
+    let name = Name::of(&bytes[NAME..NAME + length])?;
+    let params = params_in(bytes);
+    if is_built(&params) && params.in_range() {
+        Some(Record::Stream { id, name, params })
+    } else {
+        None
+    }
+}
+
+// The summary in the bytes of a window, if its figures are possible.
+fn summary_in(bytes: &[u8; SLOT_SIZE]) -> Option<Summary>
+    ensures { result ≡ (if is_possible (figures_in bytes.now) then Some (figures_in bytes.now) else None) }
+{
+    let count = get_u64(bytes, 16);
+    let sum = get_i128(bytes, 24);
+    let min = get_i64(bytes, 40);
+    let max = get_i64(bytes, 48);
+    let t_first = get_u64(bytes, 56);
+    let t_last = get_u64(bytes, 64);
+    Summary::of(count, sum, min, max, t_first, t_last)
+}
+
+// Whether so many values may begin at this position.
+fn are_positions(first: u64, count: u64) -> bool
+    requires some { 1 ≤ count }
+    requires few { count ≤ GREATEST_COUNT }
+    ensures { result ≡ (nat_le 1 first && nat_le (first + count - 1) GREATEST_COUNT) }
+{
+    1 <= first && first <= GREATEST_COUNT && first + count - 1 <= GREATEST_COUNT
+}
+
+// The window's record in the bytes, if it is a valid one.
+#[tactic(auto, using(std::proofs::lemmas::Bool::Decides::nat_tests), unfolding(crate::specs::Decoded::window_in, crate::specs::Record::is_valid))]
+fn window_in(bytes: &[u8; SLOT_SIZE]) -> Option<Record>
+    ensures { result ≡ checked (window_in bytes.now) }
+{
+    let id = get_u32(bytes, 4);
+    let first = get_u64(bytes, 8);
+    let summary = summary_in(bytes)?;
+    if are_positions(first, summary.count) {
+        Some(Record::Window { id, first, summary })
+    } else {
+        None
+    }
+}
+
+// The one record whose spelling the bytes can be, if it is a valid one.
+#[tactic(auto, using(std::proofs::lemmas::Bool::Decides::nat_tests), unfolding(crate::specs::Decoded::record_in, crate::specs::Record::is_valid))]
+fn record_in(bytes: &[u8; SLOT_SIZE]) -> Option<Record>
+    ensures { result ≡ checked (record_in bytes.now) }
+{
+    match bytes[0] {
+        STREAM => stream_in(bytes),
+        WINDOW => window_in(bytes),
+        _ => Some(Record::Free),
+    }
+}
+
+/// The record that the bytes spell. None says that they are the spelling of no valid record.
+#[tactic(auto, unfolding(crate::specs::Decoded::decoded))]
+pub fn decode(bytes: &[u8; SLOT_SIZE]) -> Option<Record>
+    ensures some { IfSome result (λ r. Spells bytes.now r) }
+    ensures none { IfNone result ((r : Record) → ¬ Spells bytes.now r) }
+    ensures exact { result ≡ decoded bytes.now }
+{
+    let record = record_in(bytes)?;
+    if encode(&record) == *bytes {
+        Some(record)
+    } else {
+        None
+    }
+}

@@ -1,0 +1,79 @@
+// Records, spelled.
+ghost use Rattle.std.specs.Prelude.{◌≡◌, ◌≤◌, length, IsTrue};
+ghost use Rattle.ss_codec.specs.Fields.{with_fields};
+ghost use Rattle.ss_codec.specs.Record.{family, fields, is_valid, parameters, spelling};
+
+use crate::fields::{write_i64, write_i128, write_text, write_u8, write_u32, write_u64};
+use crate::record::{EXPONENTIAL, NAME, POWER_LAW, Record, SLOT_SIZE, STREAM, WINDOW};
+use ss_catalog::{LONGEST_NAME, Name, Params};
+use ss_summary::Summary;
+
+// The number of a target's family.
+fn family(params: &Params) -> u8
+    ensures { result ≡ family params.now }
+{
+    match *params {
+        Params::Exp { .. } => EXPONENTIAL,
+        Params::Power { .. } => POWER_LAW,
+    }
+}
+
+// The four parameters of a target. The exponential family has three, and a 0.
+fn parameters(params: &Params) -> (u32, u32, u32, u32)
+    ensures { result ≡ parameters params.now }
+{
+    match *params {
+        Params::Exp { b, r, s } => (b, r, s, 0),
+        Params::Power { p, q, r, s } => (p, q, r, s),
+    }
+}
+
+// Writes the fields of a stream.
+fn write_stream(bytes: &mut [u8], id: u32, name: &Name, params: &Params)
+    requires long { 128 ≤ length bytes.old }
+    requires short_name { length name.now ≤ LONGEST_NAME }
+    ensures { bytes.new ≡ with_fields bytes.old (fields (Record.Stream id name.now params.now)) }
+{
+    let word = name.as_bytes();
+    let numbers = parameters(params);
+    write_u8(bytes, 0, STREAM);
+    write_u8(bytes, 1, family(params));
+    write_u8(bytes, 2, word.len() as u8);
+    write_u32(bytes, 4, id);
+    write_u32(bytes, 8, numbers.0);
+    write_u32(bytes, 12, numbers.1);
+    write_u32(bytes, 16, numbers.2);
+    write_u32(bytes, 20, numbers.3);
+    write_text(bytes, NAME, word);
+}
+
+// Writes the fields of a window.
+fn write_window(bytes: &mut [u8], id: u32, first: u64, summary: Summary)
+    requires { 128 ≤ length bytes.old }
+    ensures { bytes.new ≡ with_fields bytes.old (fields (Record.Window id first summary)) }
+{
+    write_u8(bytes, 0, WINDOW);
+    write_u32(bytes, 4, id);
+    write_u64(bytes, 8, first);
+    write_u64(bytes, 16, summary.count);
+    write_i128(bytes, 24, summary.sum);
+    write_i64(bytes, 40, summary.min);
+    write_i64(bytes, 48, summary.max);
+    write_u64(bytes, 56, summary.t_first);
+    write_u64(bytes, 64, summary.t_last);
+}
+
+/// The bytes that spell a record.
+#[tactic(auto, unfolding(crate::specs::Record::spelling))]
+pub fn encode(r: &Record) -> [u8; SLOT_SIZE]
+    requires { IsTrue (is_valid r.now) }
+    ensures { result ≡ spelling r.now }
+{
+    let mut bytes = [0; SLOT_SIZE];
+    match r {
+        Record::Free => {}
+        Record::Stream { id, name, params } => write_stream(&mut bytes, *id, name, params),
+        Record::Window { id, first, summary } => write_window(&mut bytes, *id, *first, *summary),
+    }
+    bytes
+}

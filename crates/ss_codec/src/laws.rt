@@ -1,0 +1,43 @@
+// Laws over records and their spellings, each the contract of a function that does nothing.
+ghost use Rattle.std.specs.Prelude.{◌≡◌, ◌↔◌, ℕ, ◌+◌, ◌-◌, ◌^◌, ◌<◌, ◌≤◌, List, replicate, IsTrue, Some};
+ghost use Rattle.ss_summary.specs.Figures.{Figures, IsPossible};
+ghost use Rattle.ss_summary.specs.declared.summary.TheConstants.{GREATEST_COUNT};
+ghost use Rattle.ss_catalog.specs.Names.{is_name};
+ghost use Rattle.ss_catalog.specs.Params.{in_range};
+ghost use Rattle.ss_catalog.specs.declared.params.Params.{Params};
+ghost use Rattle.ss_codec.specs.declared.record.Record.{Record};
+ghost use Rattle.ss_codec.specs.declared.record.Record.TheVariants.{Free, Stream, Window};
+ghost use Rattle.ss_codec.specs.Record.{is_built, is_valid, spelling, Spells};
+ghost use Rattle.ss_codec.specs.Decoded.{decoded};
+
+/// What is decoded is the record that the bytes spell, and no bytes that spell a record are passed over.
+pub fn decoded_is_what_is_spelled()
+    ensures { (bytes : List ℕ) (r : Record) → (decoded bytes ≡ Some r) ↔ Spells bytes r }
+{}
+
+/// A valid record that was spelled is decoded again.
+pub fn spelling_reads_back()
+    ensures { (r : Record) → IsTrue (is_valid r) → decoded (spelling r) ≡ Some r }
+{}
+
+/// Valid records with one spelling are one record.
+pub fn one_spelling()
+    ensures { (r s : Record) → IsTrue (is_valid r) → IsTrue (is_valid s) → spelling r ≡ spelling s → r ≡ s }
+{}
+
+/// A slot is free exactly where it is zeros.
+pub fn free_slots_are_zeros()
+    ensures { (bytes : List ℕ) → (decoded bytes ≡ Some Free) ↔ (bytes ≡ replicate 128 0) }
+{}
+
+/// What a valid stream is.
+pub fn which_streams_are_valid()
+    ensures { (id : ℕ) (name : List ℕ) (params : Params) → IsTrue (is_valid (Stream id name params))
+        ↔ ((id < 2 ^ 32) × IsTrue (is_name name) × IsTrue (is_built params) × IsTrue (in_range params)) }
+{}
+
+/// What a valid window is.
+pub fn which_windows_are_valid()
+    ensures { (id first : ℕ) (f : Figures) → IsTrue (is_valid (Window id first f))
+        ↔ ((id < 2 ^ 32) × (1 ≤ first) × (first + f.count - 1 ≤ GREATEST_COUNT) × IsPossible f) }
+{}

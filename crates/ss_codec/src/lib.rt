@@ -1,0 +1,18 @@
+//! Records: what a slot's 128 bytes say, exactly, both ways.
+#![tactic(auto)]
+
+mod decoding;
+mod encoding;
+mod fields;
+mod laws;
+mod record;
+#[cfg(test)]
+mod tests;
+
+pub use decoding::decode;
+pub use encoding::encode;
+pub use laws::{
+    decoded_is_what_is_spelled, free_slots_are_zeros, one_spelling, spelling_reads_back,
+    which_streams_are_valid, which_windows_are_valid,
+};
+pub use record::{Record, SLOT_SIZE};

@@ -1,0 +1,126 @@
+// The worked records: each is spelled so and read again, and what differs from them in one byte is no record.
+ghost use Rattle.std.specs.Prelude.{◌≤◌, length};
+
+use super::{
+    Record, SLOT_SIZE, decode, decoded_is_what_is_spelled, encode, free_slots_are_zeros,
+    one_spelling, spelling_reads_back, which_streams_are_valid, which_windows_are_valid,
+};
+use ss_catalog::Params;
+
+// The stream `a` with the target `exp 2 1 1` and the number 0.
+const STREAM: [u8; 25] = [
+    1, 1, 1, 0, 0, 0, 0, 0, 0, 0, 0, 2, 0, 0, 0, 1, 0, 0, 0, 1, 0, 0, 0, 0, 97,
+];
+
+// The values 5, -3, 8 and 1 at the times 10, 20, 30 and 40, the first four of stream 0.
+const WINDOW: [u8; 72] = [
+    2, 0, 0, 0, 0, 0, 0, 0, 0, 0, 0, 0, 0, 0, 0, 1, 0, 0, 0, 0, 0, 0, 0, 4, 0, 0, 0, 0, 0, 0, 0, 0,
+    0, 0, 0, 0, 0, 0, 0, 11, 255, 255, 255, 255, 255, 255, 255, 253, 0, 0, 0, 0, 0, 0, 0, 8, 0, 0,
+    0, 0, 0, 0, 0, 10, 0, 0, 0, 0, 0, 0, 0, 40,
+];
+
+// The value -1 at the time 10, the first of stream 7.
+const ONE_VALUE: [u8; 72] = [
+    2, 0, 0, 0, 0, 0, 0, 7, 0, 0, 0, 0, 0, 0, 0, 1, 0, 0, 0, 0, 0, 0, 0, 1, 255, 255, 255, 255,
+    255, 255, 255, 255, 255, 255, 255, 255, 255, 255, 255, 255, 255, 255, 255, 255, 255, 255, 255,
+    255, 255, 255, 255, 255, 255, 255, 255, 255, 0, 0, 0, 0, 0, 0, 0, 10, 0, 0, 0, 0, 0, 0, 0, 10,
+];
+
+// A slot that begins with these bytes and has zeros after them.
+fn slot(bytes: &[u8]) -> [u8; SLOT_SIZE]
+    requires { length bytes.now ≤ SLOT_SIZE }
+{
+    let mut slot = [0; SLOT_SIZE];
+    slot[..bytes.len()].copy_from_slice(bytes);
+    slot
+}
+
+#[test]
+fn worked_records_are_read_and_spelled_again(rt: HostRuntime) {
+    let slots = [slot(&STREAM), slot(&WINDOW), slot(&ONE_VALUE), slot(&[])];
+    for bytes in slots {
+        match decode(&bytes) {
+            Some(record) => assert_eq!(rt; encode(&record), bytes),
+            None => assert!(rt; false, "no record in {bytes:?}"),
+        }
+    }
+}
+
+#[test]
+fn the_stream_has_its_fields(rt: HostRuntime) {
+    match &decode(&slot(&STREAM)) {
+        Some(Record::Stream { id, name, params }) => {
+            assert_eq!(rt; *id, 0);
+            assert_eq!(rt; name.as_bytes(), b"a".as_slice());
+            assert_eq!(rt; *params, Params::Exp { b: 2, r: 1, s: 1 });
+        }
+        _ => assert!(rt; false),
+    }
+}
+
+#[test]
+fn the_window_has_its_fields(rt: HostRuntime) {
+    match &decode(&slot(&WINDOW)) {
+        Some(Record::Window { id, first, summary }) => {
+            assert_eq!(rt; (*id, *first, summary.count, summary.sum), (0, 1, 4, 11));
+            assert_eq!(rt; (summary.min, summary.max), (-3, 8));
+            assert_eq!(rt; (summary.t_first, summary.t_last), (10, 40));
+        }
+        _ => assert!(rt; false),
+    }
+}
+
+#[test]
+fn what_is_no_record_in_one_byte(rt: HostRuntime) {
+    let rows: [(&[u8; SLOT_SIZE], u8, u8); 26] = [
+        // a kind that isn't there
+        (&slot(&STREAM), 0, 5),
+        (&slot(&STREAM), 0, 0),
+        (&slot(&WINDOW), 0, 1),
+        // a byte that isn't zero where no field is
+        (&slot(&STREAM), 3, 1),
+        (&slot(&STREAM), 127, 1),
+        (&slot(&WINDOW), 1, 1),
+        (&slot(&WINDOW), 72, 1),
+        (&slot(&[]), 1, 1),
+        (&slot(&[]), 127, 1),
+        // a family that isn't built, and no family
+        (&slot(&STREAM), 1, 2),
+        (&slot(&STREAM), 1, 0),
+        // a name of no bytes, with a byte after its length, of too many, of another letter
+        (&slot(&STREAM), 2, 0),
+        (&slot(&STREAM), 25, 98),
+        (&slot(&STREAM), 2, 33),
+        (&slot(&STREAM), 24, 32),
+        // a parameter out of range, and a fourth one
+        (&slot(&STREAM), 11, 17),
+        (&slot(&STREAM), 23, 1),
+        // a window of no values, of a sum that is too large, before the first position, after the last one
+        (&slot(&WINDOW), 23, 0),
+        (&slot(&WINDOW), 39, 22),
+        (&slot(&WINDOW), 15, 0),
+        (&slot(&WINDOW), 10, 1),
+        // one value at two times, with another sum, at a time that is too late
+        (&slot(&ONE_VALUE), 71, 11),
+        (&slot(&ONE_VALUE), 39, 254),
+        (&slot(&ONE_VALUE), 64, 128),
+        // a landmark that is neither open nor closed, and an open one with a closing time
+        (&slot(&[3, 0, 0, 0, 0, 0, 0, 0, 0, 0, 0, 1]), 23, 100),
+        (&slot(&[3, 1, 0, 0, 0, 0, 0, 0, 0, 0, 0, 1]), 31, 100),
+    ];
+    for (bytes, place, value) in rows {
+        let mut changed = *bytes;
+        changed[usize::from(place) % SLOT_SIZE] = value;
+        assert!(rt; decode(&changed).is_none(), "byte {place} is {value}");
+    }
+}
+
+#[test]
+fn laws_are_called() {
+    decoded_is_what_is_spelled();
+    spelling_reads_back();
+    one_spelling();
+    free_slots_are_zeros();
+    which_streams_are_valid();
+    which_windows_are_valid();
+}

@@ -1,0 +1,14 @@
+//! The windows of one stream in order, each at a place that stays good while others come and go.
+#![tactic(auto)]
+
+mod entry;
+mod laws;
+mod line;
+mod search;
+
+pub use entry::{At, Entry};
+pub use laws::{places_change, places_stay};
+pub use line::{Line, MOST_PLACES};
+
+#[cfg(test)]
+mod tests;

@@ -1,0 +1,5 @@
+pub mod BitLemmas
+pub mod TreeLemmas
+pub mod LiveLemmas
+pub mod RecordLemmas
+pub mod Rows

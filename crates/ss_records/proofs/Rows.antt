@@ -1,0 +1,42 @@
+-- Worked rows: four slots, of which the first and the third are live.
+use Rattle.std.proofs.Common.{◌≡◌, true, false, Bool, List, [], ◌∷◌, replicate, Some, None, refl}
+use Rattle.ss_records.specs.Bits.{is_set, is_full}
+use Rattle.ss_records.specs.Live.{are_zeros, is_live, live_count, lowest_free, live_after}
+
+abbrev live : List Bool
+live = true ∷ false ∷ true ∷ false ∷ []
+
+pub are_zeros-slot : are_zeros (replicate 128 0) ≡ true
+are_zeros-slot = refl
+
+pub are_zeros-last : are_zeros (0 ∷ 0 ∷ 1 ∷ []) ≡ false
+are_zeros-last = refl
+
+pub live_count-two : live_count live ≡ 2
+live_count-two = refl
+
+pub is_live-past : is_live live 4 ≡ false
+is_live-past = refl
+
+pub lowest_free-second : lowest_free live ≡ Some 1
+lowest_free-second = refl
+
+pub lowest_free-none : lowest_free (true ∷ true ∷ []) ≡ None
+lowest_free-none = refl
+
+-- the first is freed, and the fourth is taken
+pub live_after-both : live_after (record { slot = 0; bytes = 0 ∷ 0 ∷ [] } ∷ record { slot = 3; bytes = 0 ∷ 1 ∷ [] } ∷ []) live ≡ false ∷ false ∷ true ∷ true ∷ []
+live_after-both = refl
+
+-- bits 1 and 63 of a first word, and bit 0 of a second one
+pub is_set-bits : is_set (2 ∷ 1 ∷ []) 1 ≡ true
+is_set-bits = refl
+
+pub is_set-other : is_set (2 ∷ 1 ∷ []) 63 ≡ false
+is_set-other = refl
+
+pub is_set-second : is_set (2 ∷ 1 ∷ []) 64 ≡ true
+is_set-second = refl
+
+pub is_full-all : is_full 0xffff_ffff_ffff_ffff ≡ true
+is_full-all = refl

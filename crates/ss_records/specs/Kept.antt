@@ -1,0 +1,28 @@
+-- Records and the content of their disk.
+use Rattle.std.specs.Prelude.{◌≡◌, ℕ, ◌<◌, Bool, true, List, length, Result, Ok, Err}
+use Rattle.ss_journal.specs.declared.format.TheConstants.{MOST_SLOTS}
+use Rattle.ss_journal.specs.declared.journal_error.JournalError.{JournalError}
+use Rattle.ss_journal.specs.Kept.{JournalState, IsKept, IsRunning}
+use Rattle.ss_journal.specs.Redo.{SlotMap, StandsFor}
+use Rattle.ss_records.specs.Live.{is_live, AreLiveIn}
+
+-- records: their journal, and of each slot whether it is live
+pub record RecordsState : Type 0 where
+  pub journal : JournalState
+  pub live : List Bool
+
+-- One disk: what is said of a journal; and the free slots are those of the map.
+pub record AreKept (records : RecordsState) (content : List ℕ) : Type 0 where
+  pub journal : IsKept records.journal content
+  pub free : (found : SlotMap) → StandsFor content found → AreLiveIn records.live found.bytes
+
+-- What is true of records over every disk, whatever it tells.
+pub record AreSound (records : RecordsState) : Type 0 where
+  pub slots : length records.live ≡ MOST_SLOTS
+  -- while no call has failed, each live slot lies below the extent
+  pub below : IsRunning records.journal → (slot : ℕ) → is_live records.live slot ≡ true → slot < records.journal.extent
+
+-- the journal of what opening answers
+abbrev pub journal_of : Result RecordsState JournalError → Result JournalState JournalError
+journal_of (Ok records) = Ok records.journal
+journal_of (Err error) = Err error

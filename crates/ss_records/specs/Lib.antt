@@ -1,0 +1,4 @@
+pub mod Bits
+pub mod Tree
+pub mod Live
+pub mod Kept

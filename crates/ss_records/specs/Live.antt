@@ -1,0 +1,30 @@
+-- Which slots are live, that is, aren't zeros.
+use Rattle.std.specs.Prelude.{◌≡◌, ℕ, ◌<◌, Bool, false, not, ◌==◌, List, [], ◌∷◌, count_by, slice_set, Option}
+use Rattle.std.specs.List.{list_all, position, slice_index_or}
+use Rattle.ss_journal.specs.declared.format.TheConstants.{MOST_SLOTS}
+use Rattle.ss_journal.specs.declared.put.Put.{Put}
+
+-- whether the bytes of a slot are zeros
+abbrev pub are_zeros : List ℕ → Bool
+are_zeros bytes = list_all (λ byte. byte == 0) bytes
+
+-- whether the slot is live, by a list that tells it of each
+abbrev pub is_live : List Bool → ℕ → Bool
+is_live live slot = slice_index_or live slot false
+
+-- how many slots are live
+abbrev pub live_count : List Bool → ℕ
+live_count live = count_by (λ is. is) live
+
+-- the least slot that isn't live; none if all are
+abbrev pub lowest_free : List Bool → Option ℕ
+lowest_free live = position not live
+
+-- which slots are live after these puts, in their order
+abbrev pub live_after : List Put → List Bool → List Bool
+live_after [] live = live
+live_after (put ∷ puts) live = live_after puts (slice_set live put.slot (not (are_zeros put.bytes)))
+
+-- the live slots are those that aren't zeros in the map
+abbrev pub AreLiveIn : List Bool → (ℕ → List ℕ) → Type 0
+AreLiveIn live map = (slot : ℕ) → slot < MOST_SLOTS → is_live live slot ≡ not (are_zeros (map slot))

@@ -1,0 +1,14 @@
+//! A map from slots to their bytes on a disk, which knows the slots that are free.
+#![tactic(auto)]
+
+mod bits;
+mod laws;
+mod live;
+mod records;
+mod slot_set;
+
+pub use laws::zeros_alone_are_free;
+pub use records::Records;
+
+#[cfg(test)]
+mod tests;

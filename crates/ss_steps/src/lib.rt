@@ -1,0 +1,9 @@
+//! A counter of steps for contracts, which costs nothing when the program runs.
+#![tactic(auto)]
+
+mod steps;
+
+pub use steps::Steps;
+
+#[cfg(test)]
+mod tests;
