@@ -1,5 +1,10 @@
-pub mod FormLemmas
-pub mod GrammarLemmas
-pub mod LineLaws
 pub mod LineLemmas
+mod LineLaws
+pub mod ReaderLemmas
+pub mod GrammarLemmas
+pub mod NumberLemmas
+pub mod PutLemmas
+pub mod PrintLemmas
+pub mod SayLemmas
+pub mod WordLemmas
 mod Rows

@@ -1,11 +1,13 @@
 -- What the cut into lines keeps.
-use Rattle.std.proofs.Common.{◌≡◌, ℕ, false, List, [], ◌∷◌, ◌++◌, length, arith, refl, ⊎_elim}
+use Rattle.std.proofs.Common.{◌≡◌, ℕ, ◌-◌, ◌<◌, ◌≤◌, ◌==◌, false, List, [], ◌∷◌, ◌++◌, length, map, take, slice_index, arith, refl, ⊎_elim}
 use Rattle.std.proofs.lemmas.Bool.{cases_Bool, eqb-true}
+use Rattle.std.proofs.lemmas.List.{get_or-take, length-take-le}
 use Rattle.std.proofs.lemmas.List.Elements.{All-append, All-cons, All-head, All-nil, All-tail}
 use Rattle.std.proofs.lemmas.List.Splits.{slice_split-cons_no, slice_split-cons_yes}
+use Rattle.std.proofs.lemmas.List.Sums.{fails_before_first, position_or_len_is}
 use Rattle.std.specs.List.{All, flat_map, onto_first, position_or_len, slice_split}
-use Rattle.ss_command.specs.declared.TheConstants.{LINE_END}
-use Rattle.ss_command.specs.Lines.{all_but_last, ended_lines, is_line_end, last_of, lines, unended, unless_empty}
+use Rattle.ss_command.specs.declared.TheConstants.{LINE_END, CARRIAGE_RETURN}
+use Rattle.ss_command.specs.Lines.{all_but_last, ended_lines, is_line_end, last_of, lines, unended, unless_empty, without_return}
 use Rattle.ss_command.proofs.LineLemmas.{SomeParts, some_parts}
 
 -- lists, all but the last with a line end behind them
@@ -69,9 +71,29 @@ NoEnd-unless_empty : (line : List ℕ) → NoEnd line → All NoEnd (unless_empt
 NoEnd-unless_empty [] none = All-nil NoEnd
 NoEnd-unless_empty (b ∷ bs) none = All-cons NoEnd (b ∷ bs) [] none (All-nil NoEnd)
 
+-- nor has it without its carriage return
+NoEnd-take : (n : ℕ) (line : List ℕ) → n ≤ length line → NoEnd line → NoEnd (take n line)
+NoEnd-take n line inside none =
+    let long = length-take-le n line inside in
+    position_or_len_is is_line_end (take n line) (length (take n line)) 0 (omega arith)
+    (λ k below. let below_n : k < n = omega arith in rw (get_or-take n line k 0 below_n) (fails_before_first is_line_end line k 0 (omega arith)))
+    (λ past. absurd (omega arith))
+
+NoEnd-without_return : (line : List ℕ) → NoEnd line → NoEnd (without_return line)
+NoEnd-without_return line none =
+    ⊎_elim
+    (λ yes. rw yes (NoEnd-take (length line - 1) line (omega arith) none))
+    (λ no. rw no none)
+    (cases_Bool (slice_index line (length line - 1) == CARRIAGE_RETURN))
+
+NoEnd-lines : (parts : List (List ℕ)) → All NoEnd parts → All NoEnd (map without_return parts)
+NoEnd-lines [] none = All-nil NoEnd
+NoEnd-lines (part ∷ parts) none =
+    All-cons NoEnd (without_return part) (map without_return parts) (NoEnd-without_return part (All-head NoEnd part parts none)) (NoEnd-lines parts (All-tail NoEnd part parts none))
+
 -- no line has a line end
 pub lines-no_end : (xs : List ℕ) → All (λ line. position_or_len is_line_end line ≡ length line) (lines xs)
 unfolding ended_lines unended
 lines-no_end xs =
     let parts = NoEnd-slice_split xs in
-    All-append NoEnd (ended_lines xs) (unless_empty (unended xs)) (NoEnd-all_but_last _ parts) (NoEnd-unless_empty (unended xs) (NoEnd-last_of _ parts))
+    All-append NoEnd (map without_return (ended_lines xs)) (map without_return (unless_empty (unended xs))) (NoEnd-lines (ended_lines xs) (NoEnd-all_but_last _ parts)) (NoEnd-lines (unless_empty (unended xs)) (NoEnd-unless_empty (unended xs) (NoEnd-last_of _ parts)))

@@ -1,15 +1,15 @@
 -- How the lines of an input grow with it.
-use Rattle.std.proofs.Common.{◌≡◌, ℕ, suc, ◌+◌, ◌<◌, ◌≤◌, false, List, [], ◌∷◌, ◌++◌, length, take, arith, refl, ap, sym, ◌∙◌, ⊎_elim, append_assoc, nat_le}
-use Rattle.std.proofs.lemmas.Bool.{cases_Bool, eqb-true}
+use Rattle.std.proofs.Common.{◌≡◌, ℕ, suc, ◌+◌, ◌-◌, ◌<◌, ◌≤◌, ◌==◌, false, List, [], ◌∷◌, ◌++◌, length, take, arith, refl, ap, sym, ◌∙◌, ⊎_elim, append_assoc, nat_le, map, slice_index, Some, None}
+use Rattle.std.proofs.lemmas.Bool.{cases_Bool, cond-false, cond-true, eqb-true}
 use Rattle.std.proofs.lemmas.Bool.Decides.{nat_tests}
-use Rattle.std.proofs.lemmas.List.{append-nil, get_or-take, length-append, length-take-le, take_all, take_more}
+use Rattle.std.proofs.lemmas.List.{append-nil, get_or-take, length-append, length-take-le, map-append, take_all, take_more}
 use Rattle.std.proofs.lemmas.List.Elements.{All-from_get_or}
 use Rattle.std.proofs.lemmas.List.Splits.{slice_split-cons_no, slice_split-cons_yes, slice_split_at, slice_split_none}
 use Rattle.std.proofs.lemmas.List.Sums.{fails_before_first, passes_at_first, position_or_len_is, prefix_len-le-length}
 use Rattle.std.specs.List.{All, before_first, onto_first, position_or_len, slice_split}
-use Rattle.ss_command.specs.declared.TheConstants.{LINE_END}
-use Rattle.ss_command.specs.Lines.{all_but_last, ended_lines, is_line_end, last_of, lines, unended, unless_empty}
-use Rattle.ss_command.specs.LineState.{extended, kept}
+use Rattle.ss_command.specs.declared.TheConstants.{LINE_END, CARRIAGE_RETURN}
+use Rattle.ss_command.specs.Lines.{all_but_last, ended_lines, is_line_end, last_of, lines, lines_so_far, unended, unless_empty, without_return}
+use Rattle.ss_command.specs.LineState.{ended_line, extended, kept, unless_long}
 
 -- a list of lists that has one at least
 abbrev pub SomeParts : List (List ℕ) → Type 0
@@ -130,7 +130,31 @@ extended-kept xs ys =
     ⊎_elim
     (λ yes. rw yes refl)
     (λ no. let longer = length-append xs ys in grind (arith, nat_tests))
-    (cases_Bool (nat_le (length xs) 256))
+    (cases_Bool (nat_le (length xs) 257))
+
+-- without a carriage return a line has at most one byte less
+length-without_return : (line : List ℕ) → length line ≤ length (without_return line) + 1
+length-without_return line =
+    ⊎_elim
+    (λ yes. let long = length-take-le (length line - 1) line (omega arith) in rw yes (omega arith))
+    (λ no. rw no (omega arith))
+    (cases_Bool (slice_index line (length line - 1) == CARRIAGE_RETURN))
+
+-- what was kept of a line gives the line, unless it is too long
+pub ended_line-kept : (line : List ℕ) → ended_line (kept line) ≡ unless_long (without_return line)
+ended_line-kept line =
+    ⊎_elim
+    (λ yes. rw yes refl)
+    (λ no. let long = length-without_return line in let past : nat_le (length (without_return line)) 256 ≡ false = grind (arith, nat_tests) in let none : unless_long (without_return line) ≡ None = cond-false _ (Some (without_return line)) None past in let gone : kept line ≡ None = cond-false _ (Some line) None no in ap ended_line gone ∙ sym none)
+    (cases_Bool (nat_le (length line) 257))
+
+-- a line of which nothing is kept yet has no bytes
+pub nil-from_kept : (line : List ℕ) → kept line ≡ Some [] → line ≡ []
+nil-from_kept line none =
+    ⊎_elim
+    (λ yes. let same : Some line ≡ Some [] = sym (cond-true _ (Some line) None yes) ∙ none in cc)
+    (λ no. let gone : None ≡ Some [] = sym (cond-false _ (Some line) None no) ∙ none in cc)
+    (cases_Bool (nat_le (length line) 257))
 
 -- each ended line has its line end: a part more, or a byte more, in one byte more
 cons-length : (parts : List (List ℕ)) (n : ℕ) → length (all_but_last parts) + length (last_of parts) ≤ n → length (all_but_last ([] ∷ parts)) + length (last_of ([] ∷ parts)) ≤ suc n
@@ -153,13 +177,22 @@ length-ended_lines (x ∷ xs) =
     (cases_Bool (is_line_end x))
 
 -- more input ends more lines only behind those that have ended
-ended_lines-append : (xs ys : List ℕ) → (more : List (List ℕ)) × (ended_lines (xs ++ ys) ≡ ended_lines xs ++ more)
+pub ended_lines-append : (xs ys : List ℕ) → (more : List (List ℕ)) × (ended_lines (xs ++ ys) ≡ ended_lines xs ++ more)
 unfolding ended_lines unended
 ended_lines-append xs ys =
     let some = some_parts ys in
     (all_but_last ((unended xs ++ some.0) ∷ some.1), ap all_but_last (slice_split-append xs ys ∙ ap (joined (slice_split is_line_end xs)) some.2) ∙ all_but_last-append (ended_lines xs) (unended xs ++ some.0) some.1)
 
-pub ended_lines-front : (xs ys : List ℕ) → (more : List (List ℕ)) × (lines (xs ++ ys) ≡ ended_lines xs ++ more)
-ended_lines-front xs ys =
+pub lines-front : (xs ys : List ℕ) → (more : List (List ℕ)) × (lines (xs ++ ys) ≡ lines_so_far xs ++ more)
+lines-front xs ys =
     let ended = ended_lines-append xs ys in
-    (ended.0 ++ unless_empty (unended (xs ++ ys)), ap (λ ls. ls ++ unless_empty (unended (xs ++ ys))) ended.1 ∙ append_assoc (ended_lines xs) ended.0 (unless_empty (unended (xs ++ ys))))
+    let last = map without_return (unless_empty (unended (xs ++ ys))) in
+    (map without_return ended.0 ++ last, ap (λ ls. map without_return ls ++ last) ended.1 ∙ ap (λ ls. ls ++ last) (map-append without_return (ended_lines xs) ended.0) ∙ append_assoc (lines_so_far xs) (map without_return ended.0) last)
+
+-- the same of the lines without their carriage returns
+pub lines_so_far-no_end : (xs ys : List ℕ) → position_or_len is_line_end ys ≡ length ys → lines_so_far (xs ++ ys) ≡ lines_so_far xs
+lines_so_far-no_end xs ys none = ap (map without_return) (ended_lines-no_end xs ys none)
+
+pub lines_so_far-line_end : (xs ys : List ℕ) → position_or_len is_line_end ys ≡ length ys → lines_so_far (xs ++ ys ++ LINE_END ∷ []) ≡ lines_so_far xs ++ without_return (unended xs ++ ys) ∷ []
+lines_so_far-line_end xs ys none =
+    ap (map without_return) (ended_lines-line_end xs ys none) ∙ map-append without_return (ended_lines xs) ((unended xs ++ ys) ∷ [])

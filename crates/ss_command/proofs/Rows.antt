@@ -1,9 +1,36 @@
 -- Worked rows of the definitions.
-use Rattle.std.proofs.Common.{◌≡◌, [], ◌∷◌, ◌++◌, Ok, Err, refl}
-use Rattle.std.specs.Prelude.{codes, pos, negsuc}
-use Rattle.ss_fields.specs.Words.{is_number, number_of}
-use Rattle.ss_command.specs.Grammar.{means}
+use Rattle.std.proofs.Common.{◌≡◌, [], ◌∷◌, ◌++◌, map, Ok, Err, Some, None, Option, Result, refl}
+use Rattle.std.specs.Prelude.{codes, replicate, pos, negsuc}
+use Rattle.std.specs.Fmt.{digits}
+use Rattle.ss_fields.specs.Words.{is_number, number_of, number_up_to, signed_of}
+use Rattle.ss_catalog.specs.Names.{is_name}
+use Rattle.ss_catalog.specs.declared.event.Event.TheVariants.{Create, Value}
+use Rattle.ss_catalog.specs.declared.params.Params.TheVariants.{Exp, Power}
+use Rattle.ss_catalog.specs.declared.refusal.Refusal.{Refusal}
+use Rattle.ss_catalog.specs.declared.refusal.Refusal.TheVariants as refusals
+use Rattle.ss_command.specs.Grammar.{meaning}
 use Rattle.ss_command.specs.Lines.{ended_lines, lines, unended}
+use Rattle.ss_command.specs.Printed.{printed}
+use Rattle.ss_command.specs.Words.{words}
+use Rattle.ss_command.specs.declared.TheConstants.{LINE_END, CARRIAGE_RETURN, LONGEST_LINE, COMMENT}
+use Rattle.ss_command.specs.declared.line_reader.TheConstants.{MOST_KEPT}
+use Rattle.ss_command.specs.declared.command.Command.{Command}
+use Rattle.ss_command.specs.declared.command.Command.TheVariants as commands
+
+line_end : LINE_END ≡ 10
+line_end = refl
+
+carriage_return : CARRIAGE_RETURN ≡ 13
+carriage_return = refl
+
+longest_line : LONGEST_LINE ≡ 256
+longest_line = refl
+
+most_kept : MOST_KEPT ≡ 257
+most_kept = refl
+
+comment : COMMENT ≡ 35
+comment = refl
 
 lines-last_unended : lines (codes "ab" ++ 10 ∷ codes "cd") ≡ codes "ab" ∷ codes "cd" ∷ []
 unfolding ended_lines unended
@@ -21,62 +48,54 @@ lines-one_end : lines (10 ∷ []) ≡ [] ∷ []
 unfolding ended_lines unended
 lines-one_end = refl
 
-lines-one_byte : lines (codes "x") ≡ codes "x" ∷ []
+lines-returns : lines (codes "a" ++ 13 ∷ 10 ∷ codes "b" ++ 13 ∷ 13 ∷ 10 ∷ 13 ∷ []) ≡ codes "a" ∷ (98 ∷ 13 ∷ []) ∷ [] ∷ []
 unfolding ended_lines unended
-lines-one_byte = refl
+lines-returns = refl
 
-means-positive : means (codes "append s 10 5") ≡ Ok (record { t = 10; v = pos 5 })
-unfolding means is_number number_of
-means-positive = refl
+words-runs : words (codes " ab  c" ++ 9 ∷ codes "d ") ≡ codes "ab" ∷ codes "c" ∷ codes "d" ∷ []
+unfolding words
+words-runs = refl
 
-means-negative : means (codes "append s 10 -3") ≡ Ok (record { t = 10; v = negsuc 2 })
-unfolding means is_number number_of
-means-negative = refl
-
-means-zeros : means (codes "append s 007 -0") ≡ Ok (record { t = 7; v = pos 0 })
-unfolding means is_number number_of
-means-zeros = refl
-
-means-18_digits : means (codes "append s 999999999999999999 -999999999999999999") ≡ Ok (record { t = 999999999999999999; v = negsuc 999999999999999998 })
-unfolding means is_number number_of
-means-18_digits = refl
-
-means-other_stream : means (codes "append t 11 1") ≡ Err (record {})
-unfolding means
-means-other_stream = refl
-
-means-nothing : means [] ≡ Err (record {})
-unfolding means
+-- lines that are no commands
+means-nothing : map meaning ([] ∷ codes "  " ∷ codes "# note" ∷ codes "#" ∷ []) ≡ Ok None ∷ Ok None ∷ Ok None ∷ Ok None ∷ []
+unfolding meaning words
 means-nothing = refl
 
-means-no_value : means (codes "append s 1") ≡ Err (record {})
-unfolding means is_number
-means-no_value = refl
+-- the forms
+means-commands :
+    map meaning (codes "create a exp 2 1 1" ∷ codes "create p power 1 0 01 4294967295" ∷ codes "append a 10 5" ∷ codes "append a 007 -0" ∷ codes "append a 4611686018427387904 -9223372036854775808" ∷ codes "windows a" ∷ codes "list" ∷ [])
+    ≡ Ok (Some (commands.Do (Create (codes "a") (Exp 2 1 1))))
+    ∷ Ok (Some (commands.Do (Create (codes "p") (Power 1 0 1 4294967295))))
+    ∷ Ok (Some (commands.Do (Value (codes "a") 10 (pos 5))))
+    ∷ Ok (Some (commands.Do (Value (codes "a") 7 (pos 0))))
+    ∷ Ok (Some (commands.Do (Value (codes "a") 4611686018427387904 (negsuc 9223372036854775807))))
+    ∷ Ok (Some (commands.Windows (codes "a")))
+    ∷ Ok (Some commands.List)
+    ∷ []
+unfolding meaning words is_number number_of number_up_to signed_of is_name
+means-commands = refl
 
-means-two_spaces : means (codes "append s 1  2") ≡ Err (record {})
-unfolding means is_number
-means-two_spaces = refl
+abbrev refused : Refusal → Result (Option Command) Refusal
+refused refusal = Err refusal
 
-means-space_behind : means (codes "append s 1 2 ") ≡ Err (record {})
-unfolding means is_number
-means-space_behind = refl
+-- the order of the refusals
+means-refused :
+    map meaning (codes "windows" ∷ codes "LIST" ∷ codes "create a exp 2 1" ∷ codes "append x! y 1" ∷ codes "append a 4611686018427387905 1" ∷ codes "append a 80 9223372036854775808" ∷ codes "create a exp 4294967296 1 1" ∷ codes "append x! 1 1" ∷ codes " # note" ∷ [])
+    ≡ map refused (refusals.Syntax ∷ refusals.Syntax ∷ refusals.Syntax ∷ refusals.Number ∷ refusals.Number ∷ refusals.Number ∷ refusals.Number ∷ refusals.Name ∷ refusals.Syntax ∷ [])
+unfolding meaning words is_number number_of number_up_to signed_of is_name
+means-refused = refl
 
-means-plus : means (codes "append s +1 2") ≡ Err (record {})
-unfolding means is_number
-means-plus = refl
+-- `list` with blanks behind it, up to the longest line and one past it
+means-256_bytes : meaning (codes "list" ++ replicate 252 32) ≡ Ok (Some commands.List)
+unfolding meaning words
+means-256_bytes = refl
 
-means-two_signs : means (codes "append s 1 --2") ≡ Err (record {})
-unfolding means is_number
-means-two_signs = refl
+means-257_bytes : meaning (codes "list" ++ replicate 253 32) ≡ refused refusals.Line
+unfolding meaning
+means-257_bytes = refl
 
-means-return : means (codes "append s 1 2" ++ 13 ∷ []) ≡ Err (record {})
-unfolding means is_number
-means-return = refl
-
-means-19_digits : means (codes "append s 1000000000000000000 2") ≡ Err (record {})
-unfolding means is_number
-means-19_digits = refl
-
-means-19_digits_of_value : means (codes "append s 1 -0000000000000000002") ≡ Err (record {})
-unfolding means is_number
-means-19_digits_of_value = refl
+printed-commands :
+    map printed (commands.Do (Create (codes "a") (Exp 2 1 1)) ∷ commands.Do (Create (codes "p") (Power 1 0 1 4)) ∷ commands.Do (Value (codes "a") 7 (negsuc 2)) ∷ commands.Windows (codes "a") ∷ commands.List ∷ [])
+    ≡ codes "create a exp 2 1 1" ∷ codes "create p power 1 0 1 4" ∷ codes "append a 7 -3" ∷ codes "windows a" ∷ codes "list" ∷ []
+unfolding printed digits
+printed-commands = refl

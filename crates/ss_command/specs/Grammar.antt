@@ -1,40 +1,117 @@
 -- What a line means.
-use Rattle.std.specs.Prelude.{ℕ, Bool, ◌==◌, ◌&&◌, nat_le, nat_eq, if◌then◌else◌, List, length, drop, codes, Option, Some, None, Result, Ok, Err, ℤ, pos, neg_ℤ}
-use Rattle.std.specs.List.{starts_with, before_first, after_first}
-use Rattle.std.specs.Option.{option_map}
-use Rattle.std.specs.Str.Parse.{starts_with_minus}
-use Rattle.ss_fields.specs.Words.{is_number, number_of}
-use Rattle.ss_command.specs.declared.TheConstants.{MOST_DIGITS}
-use Rattle.ss_command.specs.declared.grammar.Append.{Append}
-use Rattle.ss_command.specs.declared.grammar.Syntax.{Syntax}
+use Rattle.std.specs.Prelude.{ℕ, ◌^◌, ◌-◌, Bool, ◌==◌, nat_lt, if◌then◌else◌, List, [], ◌∷◌, length, slice_index, codes, Option, Some, None, Result, Ok, Err, ℤ}
+use Rattle.ss_fields.specs.Words.{number_up_to, signed_of}
+use Rattle.ss_fields.specs.declared.number_error.NumberError.{NumberError}
+use Rattle.ss_catalog.specs.Names.{is_name}
+use Rattle.ss_catalog.specs.declared.TheConstants.{LAST_TIME}
+use Rattle.ss_catalog.specs.declared.event.Event.TheVariants.{Create, Value}
+use Rattle.ss_catalog.specs.declared.params.Params.TheVariants.{Exp, Power}
+use Rattle.ss_catalog.specs.declared.refusal.Refusal.{Refusal}
+use Rattle.ss_catalog.specs.declared.refusal.Refusal.TheVariants as refusals
+use Rattle.ss_command.specs.Words.{words, is_word}
+use Rattle.ss_command.specs.declared.TheConstants.{LONGEST_LINE, COMMENT}
+use Rattle.ss_command.specs.declared.command.Command.{Command}
+use Rattle.ss_command.specs.declared.command.Command.TheVariants as commands
 
--- the one byte that stands between words
-abbrev pub is_space : ℕ → Bool
-is_space b = b == 32
+-- a step that reads, and those after it; the first that is refused is the answer
+infixl 10 ◌>>=◌
+abbrev pub ◌>>=◌ : {A B : Type 0} → Result A Refusal → (A → Result B Refusal) → Result B Refusal
+Ok a >>= next = next a
+Err refusal >>= next = Err refusal
 
--- the number that a word of 1 to 18 digits spells
-abbrev pub time_of : List ℕ → Option ℕ
-time_of word = if is_number word && nat_le (length word) MOST_DIGITS then Some (number_of word) else None
+-- a number that was read, or else the refusal NUMBER
+abbrev pub or_number : {N : Type 0} → Result N NumberError → Result N Refusal
+or_number (Ok n) = Ok n
+or_number (Err e) = Err refusals.Number
 
--- a word without one '-' in front of it
-abbrev pub without_sign : List ℕ → List ℕ
-without_sign word = if starts_with_minus word then drop 1 word else word
+-- a time: digits up to the last time
+abbrev pub time_of : List ℕ → Result ℕ Refusal
+time_of word = or_number (number_up_to LAST_TIME word)
 
--- the number that 1 to 18 digits spell behind at most one '-'
-abbrev pub value_of : List ℕ → Option ℤ
-value_of word =
-    if starts_with_minus word then option_map (λ n. neg_ℤ (pos n)) (time_of (drop 1 word)) else option_map pos (time_of word)
+-- a value: digits that a `-` may precede, in 64 bits
+abbrev pub value_of : List ℕ → Result ℤ Refusal
+value_of word = or_number (signed_of word)
 
--- an append, where both its time and its value are there
-abbrev pub append_of : Option ℕ → Option ℤ → Result Append Syntax
-append_of None v = Err (record {})
-append_of (Some t) None = Err (record {})
-append_of (Some t) (Some v) = Ok (record { t = t; v = v })
+-- a parameter: digits in 32 bits
+abbrev pub parameter_of : List ℕ → Result ℕ Refusal
+parameter_of word = or_number (number_up_to (2 ^ 32 - 1) word)
 
--- what stands behind `append s `: a time, one space and a value
-abbrev pub words_mean : List ℕ → Result Append Syntax
-words_mean rest = append_of (time_of (before_first is_space rest)) (value_of (after_first is_space rest))
+-- a name, or else the refusal NAME
+abbrev pub name_of : List ℕ → Result (List ℕ) Refusal
+name_of word = if is_name word then Ok word else Err refusals.Name
 
--- what a line means: an append to the stream `s`, or else it is refused
-unfoldable pub means : List ℕ → Result Append Syntax
-means line = if starts_with nat_eq line (codes "append s ") then words_mean (drop 9 line) else Err (record {})
+-- `create NAME exp B R S`, from B on
+abbrev pub exp_of : List ℕ → List (List ℕ) → Result Command Refusal
+exp_of name (b ∷ r ∷ s ∷ []) = do
+  base ← parameter_of b
+  windows ← parameter_of r
+  scale ← parameter_of s
+  stream ← name_of name
+  Ok (commands.Do (Create stream (Exp base windows scale)))
+exp_of name _ = Err refusals.Syntax
+
+-- `create NAME power P Q R S`, from P on
+abbrev pub power_of : List ℕ → List (List ℕ) → Result Command Refusal
+power_of name (p ∷ q ∷ r ∷ s ∷ []) = do
+  power ← parameter_of p
+  widening ← parameter_of q
+  windows ← parameter_of r
+  scale ← parameter_of s
+  stream ← name_of name
+  Ok (commands.Do (Create stream (Power power widening windows scale)))
+power_of name _ = Err refusals.Syntax
+
+-- a `create`, from its name on
+abbrev pub create_of : List (List ℕ) → Result Command Refusal
+create_of (name ∷ family ∷ numbers) =
+    if is_word family (codes "exp") then exp_of name numbers
+    else (if is_word family (codes "power") then power_of name numbers
+    else Err refusals.Syntax)
+create_of _ = Err refusals.Syntax
+
+-- `append NAME T V`, from its name on
+abbrev pub append_of : List (List ℕ) → Result Command Refusal
+append_of (name ∷ time ∷ value ∷ []) = do
+  t ← time_of time
+  v ← value_of value
+  stream ← name_of name
+  Ok (commands.Do (Value stream t v))
+append_of _ = Err refusals.Syntax
+
+-- `windows NAME`, from its name on
+abbrev pub windows_of : List (List ℕ) → Result Command Refusal
+windows_of (name ∷ []) = do
+  stream ← name_of name
+  Ok (commands.Windows stream)
+windows_of _ = Err refusals.Syntax
+
+-- `list`, with nothing behind it
+abbrev pub list_of : List (List ℕ) → Result Command Refusal
+list_of [] = Ok commands.List
+list_of _ = Err refusals.Syntax
+
+-- the forms of a command: its first word says which one the words behind it are to have
+abbrev pub command_of : List ℕ → List (List ℕ) → Result Command Refusal
+command_of verb rest =
+    if is_word verb (codes "create") then create_of rest
+    else (if is_word verb (codes "append") then append_of rest
+    else (if is_word verb (codes "windows") then windows_of rest
+    else (if is_word verb (codes "list") then list_of rest
+    else Err refusals.Syntax)))
+
+-- what words mean: nothing, where there are none, or a command
+abbrev pub meaning_of_words : List (List ℕ) → Result (Option Command) Refusal
+meaning_of_words [] = Ok None
+meaning_of_words (verb ∷ rest) = do
+  command ← command_of verb rest
+  Ok (Some command)
+
+-- a line that is no command, as its first byte says
+abbrev pub is_comment : List ℕ → Bool
+is_comment line = slice_index line 0 == COMMENT
+
+-- what a line means: nothing, a command, or why it is refused
+unfoldable pub meaning : List ℕ → Result (Option Command) Refusal
+meaning line =
+    if nat_lt LONGEST_LINE (length line) then Err refusals.Line
+    else (if is_comment line then Ok None else meaning_of_words (words line))

@@ -1,7 +1,7 @@
 -- The lines of an input.
-use Rattle.std.specs.Prelude.{ℕ, List, [], ◌∷◌, ◌++◌, Bool, ◌==◌}
+use Rattle.std.specs.Prelude.{ℕ, ◌-◌, List, [], ◌∷◌, ◌++◌, Bool, ◌==◌, map, length, take, slice_index, if◌then◌else◌}
 use Rattle.std.specs.List.{slice_split}
-use Rattle.ss_command.specs.declared.TheConstants.{LINE_END}
+use Rattle.ss_command.specs.declared.TheConstants.{LINE_END, CARRIAGE_RETURN}
 
 -- a byte that ends a line
 abbrev pub is_line_end : ℕ → Bool
@@ -24,7 +24,7 @@ abbrev pub unless_empty : List ℕ → List (List ℕ)
 unless_empty [] = []
 unless_empty (b ∷ bs) = (b ∷ bs) ∷ []
 
--- the lines of an input that a line end ends, each without it
+-- what stands before each line end of an input, from the line end before it on
 unfoldable pub ended_lines : List ℕ → List (List ℕ)
 ended_lines input = all_but_last (slice_split is_line_end input)
 
@@ -32,7 +32,15 @@ ended_lines input = all_but_last (slice_split is_line_end input)
 unfoldable pub unended : List ℕ → List ℕ
 unended input = last_of (slice_split is_line_end input)
 
+-- a line without one carriage return at its end
+abbrev pub without_return : List ℕ → List ℕ
+without_return line = if slice_index line (length line - 1) == CARRIAGE_RETURN then take (length line - 1) line else line
+
+-- the lines of an input that a line end ends
+abbrev pub lines_so_far : List ℕ → List (List ℕ)
+lines_so_far input = map without_return (ended_lines input)
+
 -- The lines of an input. A line ends at a line end or at the end of the input; a line end at the very end begins no
--- further line.
+-- further line. One carriage return at the end of a line is dropped.
 abbrev pub lines : List ℕ → List (List ℕ)
-lines input = ended_lines input ++ unless_empty (unended input)
+lines input = lines_so_far input ++ map without_return (unless_empty (unended input))

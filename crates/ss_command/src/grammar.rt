@@ -1,83 +1,142 @@
 // What a line means.
-ghost use Rattle.std.specs.Prelude.{◌≡◌, ◌≤◌, ◌^◌, position, IfOk, IfSome};
-ghost use Rattle.ss_command.specs.Grammar.{is_space, means, time_of, value_of, without_sign, words_mean};
+ghost use Rattle.std.specs.Prelude.{◌≡◌, ◌≤◌, length, codes, IfOk, IfSome};
+ghost use Rattle.ss_command.specs.Grammar.{append_of, command_of, create_of, exp_of, is_comment, list_of, meaning, power_of, windows_of};
+ghost use Rattle.ss_command.specs.Printed.{IsCommandInTime, IsSayable};
 
-use crate::MOST_DIGITS;
-use ss_fields::{read_i64, read_u64};
+use crate::command::Command;
+use crate::numbers::{read_name, read_parameter, read_time, read_value};
+use crate::words::{Words, is_word};
+use crate::{COMMENT, LONGEST_LINE};
+use ss_catalog::{Event, Params, Refusal};
 
-const APPEND: &[u8] = b"append s ";
-
-/// A value of the stream `s` at a time.
-#[derive(Clone, Copy, Debug, PartialEq, Eq)]
-pub struct Append {
-    pub t: u64,
-    pub v: i64,
+// Reads `create NAME exp B R S`, from B on.
+fn exp(name: &[u8], mut words: Words) -> Result<Command, Refusal>
+    ensures meaning { result ≡ exp_of name.now words.entry }
+    ensures time { IfOk result IsCommandInTime }
+{
+    let base = words.word()?;
+    let repeat = words.word()?;
+    let scale = words.word()?;
+    words.end()?;
+    let b = read_parameter(base)?;
+    let r = read_parameter(repeat)?;
+    let s = read_parameter(scale)?;
+    let name = read_name(name)?;
+    let params = Params::Exp { b, r, s };
+    Ok(Command::Do(Event::Create { name, params }))
 }
 
-/// The one refusal of a line: it has no form that is known.
-#[derive(Clone, Copy, Debug, PartialEq, Eq)]
-pub struct Syntax;
-
-// Where the first space stands.
-fn first_space(bytes: &[u8]) -> Option<usize>
-    ensures { result ≡ position is_space bytes.now }
+// Reads `create NAME power P Q R S`, from P on.
+fn power(name: &[u8], mut words: Words) -> Result<Command, Refusal>
+    ensures meaning { result ≡ power_of name.now words.entry }
+    ensures time { IfOk result IsCommandInTime }
 {
-    bytes.iter().position(|b| *b == b' ')
+    let power = words.word()?;
+    let widening = words.word()?;
+    let repeat = words.word()?;
+    let scale = words.word()?;
+    words.end()?;
+    let p = read_parameter(power)?;
+    let q = read_parameter(widening)?;
+    let r = read_parameter(repeat)?;
+    let s = read_parameter(scale)?;
+    let name = read_name(name)?;
+    let params = Params::Power { p, q, r, s };
+    Ok(Command::Do(Event::Create { name, params }))
 }
 
-// A time of 1 to 18 digits.
-fn read_time(word: &[u8]) -> Option<u64>
-    ensures value { result ≡ time_of word.now }
-    ensures small { IfSome result (λ t. t ≤ 2 ^ 62) }
+// Reads a `create`, from its name on.
+fn create(mut words: Words) -> Result<Command, Refusal>
+    ensures meaning { result ≡ create_of words.entry }
+    ensures time { IfOk result IsCommandInTime }
 {
-    if word.len() > MOST_DIGITS {
-        return None;
-    }
-    read_u64(word).ok()
-}
-
-// A word without one '-' in front of it.
-fn without_sign(word: &[u8]) -> &[u8]
-    ensures { result.now ≡ without_sign word.now }
-{
-    match word {
-        [b'-', digits @ ..] => digits,
-        _ => word,
-    }
-}
-
-// A value of 1 to 18 digits behind at most one '-'.
-fn read_value(word: &[u8]) -> Option<i64>
-    ensures { result ≡ value_of word.now }
-{
-    if without_sign(word).len() > MOST_DIGITS {
-        return None;
-    }
-    read_i64(word).ok()
-}
-
-// Reads the words behind `append s `.
-fn read_words(rest: &[u8]) -> Result<Append, Syntax>
-    ensures meaning { result ≡ words_mean rest.now }
-    ensures time { IfOk result (λ a. a.t ≤ 2 ^ 62) }
-{
-    let Some(at) = first_space(rest) else {
-        return Err(Syntax);
-    };
-    match (read_time(&rest[..at]), read_value(&rest[at + 1..])) {
-        (Some(t), Some(v)) => Ok(Append { t, v }),
-        _ => Err(Syntax),
+    let name = words.word()?;
+    let family = words.word()?;
+    if is_word(family, "exp") {
+        exp(name, words)
+    } else if is_word(family, "power") {
+        power(name, words)
+    } else {
+        Err(Refusal::Syntax)
     }
 }
 
-/// Reads a line, given without its line end: exactly `append s T V`, with single spaces, T of 1 to 18 digits and V of 1
-/// to 18 digits behind at most one `-`. docs/GUIDE.md has the form.
-pub fn parse(line: &[u8]) -> Result<Append, Syntax>
-    ensures meaning { result ≡ means line.now }
-    ensures time { IfOk result (λ a. a.t ≤ 2 ^ 62) }
+// Reads `append NAME T V`, from its name on.
+fn append(mut words: Words) -> Result<Command, Refusal>
+    ensures meaning { result ≡ append_of words.entry }
+    ensures time { IfOk result IsCommandInTime }
 {
-    match line.strip_prefix(APPEND) {
-        Some(rest) => read_words(rest),
-        None => Err(Syntax),
+    let name = words.word()?;
+    let time = words.word()?;
+    let value = words.word()?;
+    words.end()?;
+    let t = read_time(time)?;
+    let v = read_value(value)?;
+    let name = read_name(name)?;
+    Ok(Command::Do(Event::Value { name, t, v }))
+}
+
+// Reads `windows NAME`, from its name on.
+fn windows(mut words: Words) -> Result<Command, Refusal>
+    ensures { result ≡ windows_of words.entry }
+{
+    let name = words.word()?;
+    words.end()?;
+    let name = read_name(name)?;
+    Ok(Command::Windows(name))
+}
+
+// Reads `list`, with nothing behind it.
+fn list(words: Words) -> Result<Command, Refusal>
+    ensures { result ≡ list_of words.entry }
+{
+    words.end()?;
+    Ok(Command::List)
+}
+
+// Reads a command from its first word and those behind it.
+fn command(verb: &[u8], words: Words) -> Result<Command, Refusal>
+    ensures meaning { result ≡ command_of verb.now words.entry }
+    ensures time { IfOk result IsCommandInTime }
+{
+    if is_word(verb, "create") {
+        create(words)
+    } else if is_word(verb, "append") {
+        append(words)
+    } else if is_word(verb, "windows") {
+        windows(words)
+    } else if is_word(verb, "list") {
+        list(words)
+    } else {
+        Err(Refusal::Syntax)
+    }
+}
+
+// Whether a line is no command, as its first byte says.
+fn is_comment(line: &[u8]) -> bool
+    ensures { result ≡ is_comment line.now }
+{
+    matches!(line, [COMMENT, ..])
+}
+
+/// Reads a line, given without its line end. `None` is a line that is no command: one without words, or with `#` as its
+/// first byte. Times are at most `LAST_TIME`; whether the parameters of a target are in their ranges isn't tested here.
+/// docs/GUIDE.md ("Commands") has the forms.
+pub fn parse(line: &[u8]) -> Result<Option<Command>, Refusal>
+    requires { length line.now ≤ LONGEST_LINE }
+    ensures meaning { result ≡ meaning line.now }
+    ensures time { IfOk result (λ found. IfSome found IsCommandInTime) }
+    ensures sayable { IfOk result (λ found. IfSome found IsSayable) }
+{
+    if is_comment(line) {
+        return Ok(None);
+    }
+    let mut words = Words::of(line);
+    match words.next() {
+        None => Ok(None),
+        Some(verb) => match command(verb, words) {
+            Ok(command) => Ok(Some(command)),
+            Err(refusal) => Err(refusal),
+        },
     }
 }

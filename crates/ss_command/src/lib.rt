@@ -1,24 +1,35 @@
-//! Lines: how an input is cut into them, and what a line means.
+//! Lines: how an input is cut into them, what a line means, and how a command is printed.
 #![tactic(auto)]
 
+mod command;
 mod grammar;
 mod laws;
 mod line_reader;
+mod numbers;
+mod printing;
+mod put;
 #[cfg(test)]
 mod tests;
+mod words;
 
-pub use grammar::{Append, Syntax, parse};
+pub use command::Command;
+pub use grammar::parse;
 pub use laws::{
-    appends_are_read, appends_have_the_form, lines_give_the_input_back, lines_have_no_line_end,
-    long_lines_are_refused,
+    lines_give_the_input_back, lines_have_no_line_end, long_lines_are_refused,
+    meant_commands_can_be_said, printed_commands_read_back, words_stand_between_blanks,
 };
 pub use line_reader::{Ended, LineReader};
+pub use printing::print;
+pub use put::{put_name, put_number, put_sum, put_target, put_value};
 
 /// The byte that ends a line.
 pub const LINE_END: u8 = b'\n';
 
-/// A line has at most this many bytes, without its line end.
+/// One of this byte at the end of a line is dropped.
+pub const CARRIAGE_RETURN: u8 = b'\r';
+
+/// A line has at most this many bytes, without its line end and the carriage return before it.
 pub const LONGEST_LINE: usize = 256;
 
-/// A number in a line has at most this many digits.
-pub const MOST_DIGITS: usize = 18;
+/// A line that begins with this byte is no command.
+pub const COMMENT: u8 = b'#';

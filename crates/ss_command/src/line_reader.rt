@@ -1,10 +1,13 @@
 // Cuts an input into lines, in whatever pieces it comes.
 ghost use Rattle.std.specs.Prelude.{◌≡◌, position};
-ghost use Rattle.ss_command.specs.Lines.{is_line_end};
+ghost use Rattle.ss_command.specs.Lines.{is_line_end, without_return};
 
-use crate::{LINE_END, LONGEST_LINE};
+use crate::{CARRIAGE_RETURN, LINE_END, LONGEST_LINE};
 use arrayvec::ArrayVec;
 use std::marker::Model;
+
+/// Of a line that is under way so many bytes are kept: one more than a line may have, for a carriage return at its end.
+pub const MOST_KEPT: usize = LONGEST_LINE + 1;
 
 /// How a line ended: with its bytes kept, or with more bytes than a line may have, none of which are kept.
 #[derive(Clone, Copy, Debug, PartialEq, Eq)]
@@ -13,10 +16,11 @@ pub enum Ended {
     TooLong,
 }
 
-/// Cuts an input into lines, in whatever pieces it comes. It keeps one line at a time.
+/// Cuts an input into lines, in whatever pieces it comes. It keeps one line at a time, and drops one carriage return at its
+/// end before it counts its bytes.
 #[derive(Drop)]
 pub struct LineReader {
-    line: ArrayVec<u8, LONGEST_LINE>,
+    line: ArrayVec<u8, MOST_KEPT>,
     long: bool,
     ended: bool,
 }
@@ -37,15 +41,25 @@ fn first_line_end(piece: &[u8]) -> Option<usize>
     piece.iter().position(|b| *b == LINE_END)
 }
 
+// Drops one carriage return at the end of a line.
+fn drop_return(line: &mut ArrayVec<u8, MOST_KEPT>)
+    ensures { line.new.items ≡ without_return line.old.items }
+{
+    if line.as_slice().last() == Some(&CARRIAGE_RETURN) {
+        line.pop();
+    }
+}
+
 impl LineReader {
-    ghost use Rattle.std.specs.Prelude.{◌≡◌, ◌+◌, ◌<◌, length, [], Some, None, true, false, ◌↔◌, IsSome, IfSome, is_some, if◌then◌else◌, MatchOption};
+    ghost use Rattle.std.specs.Prelude.{◌≡◌, ◌+◌, ◌<◌, ◌++◌, ℕ, List, length, take, [], Some, None, true, false, ◌↔◌, IsSome, IsTrue, IfSome, is_some, if◌then◌else◌, MatchOption};
     ghost use Rattle.std.specs.List.{before_first, position_or_len};
-    ghost use Rattle.ss_command.specs.Lines.{is_line_end};
-    ghost use Rattle.ss_command.specs.LineState.{under_way, extended};
+    ghost use Rattle.ss_command.specs.Lines.{is_line_end, lines, lines_so_far};
+    ghost use Rattle.ss_command.specs.LineState.{under_way, extended, ended_line, HasTaken, TellsLine};
 
     /// A reader at the front of an input.
     pub fn new() -> LineReader
-        ensures { result ≡ record { line = Some []; ended = false } }
+        ensures state { result ≡ record { line = Some []; ended = false } }
+        ensures taken { HasTaken [] result }
     {
         LineReader {
             line: ArrayVec::new(),
@@ -74,12 +88,23 @@ impl LineReader {
         }
     }
 
+    // Whether the line has no byte.
+    fn has_no_bytes(&self) -> bool
+        ensures { IsTrue result ↔ (self.now.line ≡ Some []) }
+    {
+        !self.long && self.line.is_empty()
+    }
+
     // Ends the line, and says how.
     fn end(&mut self) -> Ended
-        ensures line { self.new ≡ record self.old { ended = true } }
-        ensures whole { result ≡ Ended.Whole ↔ IsSome self.old.line }
+        ensures line { self.new ≡ record { line = ended_line self.old.line; ended = true } }
+        ensures whole { result ≡ Ended.Whole ↔ IsSome self.new.line }
     {
         self.ended = true;
+        drop_return(&mut self.line);
+        if self.line.len() > LONGEST_LINE {
+            self.long = true;
+        }
         if self.long {
             Ended::TooLong
         } else {
@@ -92,9 +117,15 @@ impl LineReader {
     pub fn feed(&mut self, piece: &[u8]) -> (usize, Option<Ended>)
         ensures ended { IsSome result.1 ↔ (position_or_len is_line_end piece.now < length piece.now) }
         ensures count { result.0 ≡ (if is_some result.1 then position_or_len is_line_end piece.now + 1 else length piece.now) }
-        ensures line { self.new.line ≡ extended (under_way self.old) (before_first is_line_end piece.now) }
+        ensures line { let line = extended (under_way self.old) (before_first is_line_end piece.now) in
+            self.new.line ≡ (if is_some result.1 then ended_line line else line) }
         ensures state { self.new.ended ≡ is_some result.1 }
         ensures whole { IfSome result.1 (λ e. e ≡ Ended.Whole ↔ IsSome self.new.line) }
+
+        // Whatever the pieces were, the lines are those of the input.
+        ensures taken { (input : List ℕ) → HasTaken input self.old → HasTaken (input ++ take result.0 piece.now) self.new }
+        ensures lines { (input : List ℕ) → HasTaken input self.old →
+            TellsLine (lines_so_far input) (lines_so_far (input ++ take result.0 piece.now)) result.1 self.new }
     {
         self.begin();
         match first_line_end(piece) {
@@ -112,18 +143,20 @@ impl LineReader {
     /// Ends the last line of the input, where bytes of one were fed.
     pub fn finish(&mut self) -> Option<Ended>
         ensures none { result ≡ None ↔ (under_way self.old ≡ Some []) }
-        ensures line { self.new.line ≡ under_way self.old }
+        ensures line { self.new.line ≡ (if is_some result then ended_line (under_way self.old) else under_way self.old) }
         ensures state { self.new.ended ≡ is_some result }
         ensures whole { IfSome result (λ e. e ≡ Ended.Whole ↔ IsSome self.new.line) }
+        ensures lines { (input : List ℕ) → HasTaken input self.old →
+            TellsLine (lines_so_far input) (lines input) result self.new }
     {
         self.begin();
-        if !self.long && self.line.is_empty() {
+        if self.has_no_bytes() {
             return None;
         }
         Some(self.end())
     }
 
-    /// The line that has ended, without its line end.
+    /// The line that has ended, without its line end and a carriage return before it.
     pub fn line(&self) -> &[u8]
         requires ended { self.now.ended ≡ true }
         requires whole { IsSome self.now.line }

@@ -1,37 +1,100 @@
 ghost use Rattle.std.specs.Prelude.{◌≡◌, ◌<◌, ◌↔◌, IfSome, IsSome, is_some};
 
 use super::*;
-use arrayvec::ArrayVec;
+use arrayvec::{ArrayString, ArrayVec};
+use ss_catalog::Refusal;
+use std::test::Fail;
 
 #[test]
-fn lines_are_read(rt: HostRuntime) {
-    let rows: [(&[u8], Result<Append, Syntax>); 16] = [
-        (b"append s 10 5", Ok(Append { t: 10, v: 5 })),
-        (b"append s 10 -3", Ok(Append { t: 10, v: -3 })),
-        (b"append s 007 -0", Ok(Append { t: 7, v: 0 })),
+fn lines_without_a_command(rt: HostRuntime) {
+    let rows: [(&[u8], Result<Option<Command>, Refusal>); 37] = [
+        (b"", Ok(None)),
+        (b" \t ", Ok(None)),
+        (b"# note", Ok(None)),
+        (b"#", Ok(None)),
+        (b" # note", Err(Refusal::Syntax)),
+        (b"LIST", Err(Refusal::Syntax)),
+        (b"list a", Err(Refusal::Syntax)),
+        (b"lists", Err(Refusal::Syntax)),
+        (b"list\r", Err(Refusal::Syntax)),
+        (b"\0\xff", Err(Refusal::Syntax)),
+        (b"windows", Err(Refusal::Syntax)),
+        (b"windows a b", Err(Refusal::Syntax)),
+        (b"append a 1", Err(Refusal::Syntax)),
+        (b"append a 1 2 3", Err(Refusal::Syntax)),
+        (b"create a", Err(Refusal::Syntax)),
+        (b"create a linear 1 1 1", Err(Refusal::Syntax)),
+        (b"create a exp 2 1", Err(Refusal::Syntax)),
+        (b"create a exp 2 1 1 1", Err(Refusal::Syntax)),
+        (b"create a power 1 0 1", Err(Refusal::Syntax)),
+        (b"create a power 1 0 1 1 1", Err(Refusal::Syntax)),
+        (b"append x! y 1", Err(Refusal::Number)),
+        (b"append a 1 +1", Err(Refusal::Number)),
+        (b"append a -1 1", Err(Refusal::Number)),
+        (b"append a 1 --1", Err(Refusal::Number)),
+        (b"append a 1 -", Err(Refusal::Number)),
+        (b"append a 4611686018427387905 1", Err(Refusal::Number)),
+        (b"append a 80 9223372036854775808", Err(Refusal::Number)),
+        (b"append a 80 -9223372036854775809", Err(Refusal::Number)),
+        (b"create a exp 4294967296 1 1", Err(Refusal::Number)),
+        (b"create a power 1 0 1 -1", Err(Refusal::Number)),
+        (b"create x! exp 2 1 y", Err(Refusal::Number)),
+        (b"append x! 1 1", Err(Refusal::Name)),
+        (b"windows a/b", Err(Refusal::Name)),
+        (b"windows a\0", Err(Refusal::Name)),
+        (b"windows \xc3\xa9", Err(Refusal::Name)),
         (
-            b"append s 999999999999999999 -999999999999999999",
-            Ok(Append {
-                t: 999_999_999_999_999_999,
-                v: -999_999_999_999_999_999,
-            }),
+            b"windows abcdefghijklmnopqrstuvwxyz0123456",
+            Err(Refusal::Name),
         ),
-        (b"append t 11 1", Err(Syntax)),
-        (b"", Err(Syntax)),
-        (b"append s 1", Err(Syntax)),
-        (b"append s 1 ", Err(Syntax)),
-        (b"append s 1  2", Err(Syntax)),
-        (b"append s 1 2 ", Err(Syntax)),
-        (b"append s +1 2", Err(Syntax)),
-        (b"append s 1 --2", Err(Syntax)),
-        (b"append s 1 -", Err(Syntax)),
-        (b"append s 1 2\r", Err(Syntax)),
-        (b"append s 1000000000000000000 2", Err(Syntax)),
-        (b"append s 1 -1000000000000000000", Err(Syntax)),
+        (b"create x! exp 2 1 1", Err(Refusal::Name)),
     ];
     for (line, want) in rows {
+        assert!(rt; line.len() <= LONGEST_LINE);
         assert_eq!(rt; parse(line), want);
     }
+}
+
+#[test]
+fn commands_are_printed(rt: HostRuntime) -> Result<(), Fail> {
+    let rows: [(&[u8], &str); 11] = [
+        (b"list", "list"),
+        (b"\t list \t\t", "list"),
+        (
+            b"windows abcdefghijklmnopqrstuvwxyz012345",
+            "windows abcdefghijklmnopqrstuvwxyz012345",
+        ),
+        (b"create  a\texp 2 1 1 ", "create a exp 2 1 1"),
+        (
+            b"create a exp 0 0 4294967295",
+            "create a exp 0 0 4294967295",
+        ),
+        (
+            b"create a power 01 000 4294967295 0",
+            "create a power 1 0 4294967295 0",
+        ),
+        (b"append a 10 5", "append a 10 5"),
+        (b"append a 007 -0", "append a 7 0"),
+        (
+            b"append a 0000000000000000000000000000000000000000001 -0000000000000000000000000000009",
+            "append a 1 -9",
+        ),
+        (
+            b"append a 4611686018427387904 -9223372036854775808",
+            "append a 4611686018427387904 -9223372036854775808",
+        ),
+        (
+            b"append a 0 9223372036854775807",
+            "append a 0 9223372036854775807",
+        ),
+    ];
+    for (line, want) in rows {
+        let command = parse(line).ok().ok_or("refused")?.ok_or("none")?;
+        let mut text = ArrayString::new();
+        print(&command, &mut text);
+        assert_eq!(rt; text.as_str(), want);
+    }
+    Ok(())
 }
 
 // Writes the line that has ended with a ';' behind, or '!' for one that was too long.
@@ -79,23 +142,22 @@ fn lines_of(input: &[u8], size: usize) -> ArrayVec<u8, 300>
 
 #[test]
 fn lines_come_in_any_pieces(rt: HostRuntime) {
-    let lines: &[u8] = b"ab;;cd;";
-    assert_eq!(rt; lines_of(b"ab\n\ncd", 1).as_slice(), lines);
-    assert_eq!(rt; lines_of(b"ab\n\ncd", 2).as_slice(), lines);
-    assert_eq!(rt; lines_of(b"ab\n\ncd", 3).as_slice(), lines);
-    assert_eq!(rt; lines_of(b"ab\n\ncd", 7).as_slice(), lines);
-}
-
-#[test]
-fn a_line_end_at_the_end_begins_no_line(rt: HostRuntime) {
-    let rows: [(&[u8], &[u8]); 4] = [
-        (b"ab\n", b"ab;"),
-        (b"\n", b";"),
-        (b"", b""),
-        (b"x\r\n\n", b"x\r;;"),
+    let rows: [(&[u8], usize, &[u8]); 12] = [
+        (b"ab\n\ncd", 1, b"ab;;cd;"),
+        (b"ab\n\ncd", 2, b"ab;;cd;"),
+        (b"ab\n\ncd", 3, b"ab;;cd;"),
+        (b"ab\n\ncd", 7, b"ab;;cd;"),
+        (b"ab\n", 2, b"ab;"),
+        (b"\n", 2, b";"),
+        (b"", 2, b""),
+        (b"x\r\n\n", 2, b"x;;"),
+        (b"x\r\r\n\r", 1, b"x\r;;"),
+        (b"x\r", 2, b"x;"),
+        (b"\rx\n\r\n", 1, b"\rx;;"),
+        (b"\r", 1, b";"),
     ];
-    for (input, lines) in rows {
-        assert_eq!(rt; lines_of(input, 2).as_slice(), lines);
+    for (input, size, lines) in rows {
+        assert_eq!(rt; lines_of(input, size).as_slice(), lines);
     }
 }
 
@@ -103,12 +165,15 @@ fn a_line_end_at_the_end_begins_no_line(rt: HostRuntime) {
 fn a_line_has_at_most_256_bytes(rt: HostRuntime) {
     let mut input = [b'a'; 260];
     input[256] = b'\n';
-    let lines = lines_of(&input, 100);
-    assert_eq!(rt; lines.len(), 261);
-    assert!(rt; lines.ends_with(b"a;aaa;"));
-
-    let mut input = [b'a'; 260];
+    assert!(rt; lines_of(&input, 100).ends_with(b"a;aaa;"));
+    input[256] = b'\r';
     input[257] = b'\n';
+    assert!(rt; lines_of(&input, 100).ends_with(b"a;aa;"));
+    input[256] = b'a';
     let lines: &[u8] = b"!aa;";
+    assert_eq!(rt; lines_of(&input, 100).as_slice(), lines);
+    input[257] = b'\r';
+    input[258] = b'\n';
+    let lines: &[u8] = b"!a;";
     assert_eq!(rt; lines_of(&input, 100).as_slice(), lines);
 }

@@ -1,12 +1,36 @@
 -- Worked rows, each computed.
-use Rattle.std.proofs.Common.{◌≡◌, refl}
-use Rattle.std.specs.Prelude.{codes, ◌++◌, ◌∷◌, []}
+use Rattle.std.proofs.Common.{◌≡◌, ℕ, List, [], ◌∷◌, ◌++◌, map, refl}
+use Rattle.std.specs.Prelude.{codes, pos, negsuc}
+use Rattle.std.specs.Fmt.{digits}
+use Rattle.ss_catalog.specs.declared.params.Params.TheVariants.{Exp}
+use Rattle.ss_catalog.specs.declared.refusal.Refusal.TheVariants as refusals
 use Rattle.ss_report.specs.Text.{reply_line}
-use Rattle.ss_report.specs.declared.reply.Refusal.TheVariants.{Syntax, Time}
-use Rattle.ss_report.specs.declared.reply.Reply.TheVariants.{Refused}
+use Rattle.ss_report.specs.declared.reply.Reply.TheVariants.{Done, Refused, WindowsHead, Window, ListHead, Stream}
 
-reply_line-syntax : reply_line (Refused Syntax) ≡ codes "refused SYNTAX" ++ 10 ∷ []
-reply_line-syntax = refl
+-- a text as a line
+abbrev ended : List ℕ → List ℕ
+ended text = text ++ 10 ∷ []
 
-reply_line-time : reply_line (Refused Time) ≡ codes "refused TIME" ++ 10 ∷ []
-reply_line-time = refl
+replies-events :
+    map reply_line (Done (record { n = 7; k = 3 }) ∷ Refused refusals.NotOpen ∷ Refused refusals.StoreFull ∷ [])
+    ≡ map ended (codes "ok 7 3" ∷ codes "refused NOT_OPEN" ∷ codes "refused STORE_FULL" ∷ [])
+unfolding digits
+replies-events = refl
+
+replies-windows :
+    map reply_line
+    (WindowsHead 3
+    ∷ Window (record { first = 1; last = 4; summary = record { count = 4; sum = pos 11; min = negsuc 2; max = pos 8; t_first = 10; t_last = 40 } })
+    ∷ [])
+    ≡ map ended (codes "windows 3" ∷ codes "1 4 4 11 -3 8 10 40" ∷ [])
+unfolding digits
+replies-windows = refl
+
+replies-streams :
+    map reply_line
+    (ListHead 1
+    ∷ Stream (record { id = record { 0 = 0 }; name = codes "a"; params = Exp 2 1 1; n = 7; k = 3; landmarks = 0; values = 0 })
+    ∷ [])
+    ≡ map ended (codes "list 1" ∷ codes "a exp 2 1 1 7 3 0 0" ∷ [])
+unfolding digits
+replies-streams = refl

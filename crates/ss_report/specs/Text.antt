@@ -1,17 +1,23 @@
 -- The text of a reply.
 use Rattle.std.specs.Prelude.{ℕ, List, [], ◌∷◌, ◌++◌, codes}
-use Rattle.std.specs.Fmt.{decimal}
-use Rattle.ss_report.specs.declared.reply.Refusal.{Refusal}
-use Rattle.ss_report.specs.declared.reply.Refusal.TheVariants.{Syntax, Time}
+use Rattle.std.specs.Fmt.{decimal, signed_decimal}
+use Rattle.ss_catalog.specs.Refusal.{refusal_name}
+use Rattle.ss_command.specs.Printed.{spaced, target_words}
+use Rattle.ss_command.specs.declared.TheConstants.{LINE_END}
 use Rattle.ss_report.specs.declared.reply.Reply.{Reply}
-use Rattle.ss_report.specs.declared.reply.Reply.TheVariants.{Done, Refused}
+use Rattle.ss_report.specs.declared.reply.Reply.TheVariants.{Done, Refused, WindowsHead, Window, ListHead, Stream}
 
--- the name of a refusal
-abbrev pub refusal_name : Refusal → List ℕ
-refusal_name Syntax = codes "SYNTAX"
-refusal_name Time = codes "TIME"
+-- a line of words with one space between them, with its line end
+abbrev pub line_of : List ℕ → List (List ℕ) → List ℕ
+line_of first rest = spaced first rest ++ LINE_END ∷ []
 
 -- the line of a reply, with its line end
 abbrev pub reply_line : Reply → List ℕ
-reply_line (Done ack) = codes "ok " ++ decimal ack.n ++ codes " " ++ decimal ack.k ++ 10 ∷ []
-reply_line (Refused refusal) = codes "refused " ++ refusal_name refusal ++ 10 ∷ []
+reply_line (Done ack) = line_of (codes "ok") (decimal ack.n ∷ decimal ack.k ∷ [])
+reply_line (Refused refusal) = line_of (codes "refused") (refusal_name refusal ∷ [])
+reply_line (WindowsHead count) = line_of (codes "windows") (decimal count ∷ [])
+reply_line (Window w) =
+    line_of (decimal w.first) (decimal w.last ∷ decimal w.summary.count ∷ signed_decimal w.summary.sum ∷ signed_decimal w.summary.min ∷ signed_decimal w.summary.max ∷ decimal w.summary.t_first ∷ decimal w.summary.t_last ∷ [])
+reply_line (ListHead count) = line_of (codes "list") (decimal count ∷ [])
+reply_line (Stream row) =
+    line_of row.name (target_words row.params ++ decimal row.n ∷ decimal row.k ∷ decimal row.landmarks ∷ decimal row.values ∷ [])

@@ -2,10 +2,9 @@
 #![tactic(auto)]
 
 mod reply;
-mod text;
-
-pub use reply::{Refusal, Reply};
-pub use text::reply_text;
-
 #[cfg(test)]
 mod tests;
+mod text;
+
+pub use reply::Reply;
+pub use text::reply_text;

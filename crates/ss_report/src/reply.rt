@@ -1,18 +1,21 @@
 // What is replied to a line.
-use ss_model::Ack;
+use ss_catalog::Refusal;
+use ss_model::{Ack, Placed, StreamRow};
 
-/// Why a line was refused. It then changed nothing.
-#[derive(Clone, Copy, Debug, PartialEq, Eq)]
-pub enum Refusal {
-    /// The line has no form that is known.
-    Syntax,
-    /// The time isn't later than the last one.
-    Time,
-}
-
-/// What is replied to a line.
-#[derive(Clone, Copy, Debug, PartialEq, Eq)]
+/// One line of a reply: the whole reply, or a head or a row of one that has rows. docs/GUIDE.md ("Replies") says which
+/// comes when.
+#[derive(Clone, Copy, Debug)]
 pub enum Reply {
+    /// An event was accepted.
     Done(Ack),
+    /// A command was refused.
     Refused(Refusal),
+    /// So many windows follow.
+    WindowsHead(u32),
+    /// A window.
+    Window(Placed),
+    /// So many streams follow.
+    ListHead(u32),
+    /// A stream.
+    Stream(StreamRow),
 }

@@ -1,56 +1,116 @@
 // The text of a reply.
-ghost use Rattle.std.specs.Prelude.{◌≡◌, ◌≤◌, ◌+◌, ◌++◌, length, []};
+ghost use Rattle.std.specs.Prelude.{◌≡◌, ◌≤◌, [], length};
 ghost use Rattle.std.specs.Fmt.{decimal};
-ghost use Rattle.ss_report.specs.Text.{reply_line, refusal_name};
-ghost use Rattle.ss_report.specs.declared.reply.Reply.TheVariants.{Done};
+ghost use Rattle.ss_report.specs.Text.{reply_line};
+ghost use Rattle.ss_report.specs.declared.reply.Reply.TheVariants.{Done, Refused, WindowsHead, Window, ListHead, Stream};
 
-use crate::{Refusal, Reply};
+use crate::Reply;
 use arrayvec::ArrayString;
+use ss_catalog::{LONGEST_NAME, Name, Refusal};
+use ss_command::{put_number, put_sum, put_target, put_value};
 use ss_fields::print_u64;
-use ss_model::Ack;
+use ss_model::{Ack, Placed, StreamRow};
 
-// The name of a refusal.
-fn refusal_text(refusal: Refusal) -> &'static str
-    ensures { result.now ≡ refusal_name refusal }
+// Writes a number into an empty text.
+fn begin_with_number(number: u64, out: &mut ArrayString<256>)
+    requires { out.old.bytes ≡ [] }
+    ensures bytes { out.new.bytes ≡ decimal number }
+    ensures short { length out.new.bytes ≤ 20 }
 {
-    match refusal {
-        Refusal::Syntax => "SYNTAX",
-        Refusal::Time => "TIME",
-    }
+    print_u64(number, out);
 }
 
-// Appends a number, which has at most 20 digits.
-fn number_text(value: u64, out: &mut ArrayString<256>)
-    requires { length out.old.bytes + 40 ≤ 256 }
-    ensures bytes { out.new.bytes ≡ out.old.bytes ++ decimal value }
-    ensures short { length out.new.bytes ≤ length out.old.bytes + 20 }
+// Writes a name into an empty text.
+fn begin_with_name(name: &Name, out: &mut ArrayString<256>)
+    requires { out.old.bytes ≡ [] }
+    ensures bytes { out.new.bytes ≡ name.now }
+    ensures short { length out.new.bytes ≤ LONGEST_NAME }
 {
-    print_u64(value, out);
+    out.push_str(name.as_str());
 }
 
-// Writes the line of an accepted append into an empty text.
+// Writes the line of an accepted event into an empty text.
 fn done_text(ack: &Ack, out: &mut ArrayString<256>)
     requires { out.old.bytes ≡ [] }
     ensures { out.new.bytes ≡ reply_line (Done ack.now) }
 {
-    out.push_str("ok ");
-    number_text(ack.n, out);
-    out.push_str(" ");
-    number_text(u64::from(ack.k), out);
+    out.push_str("ok");
+    put_number(ack.n, out);
+    put_number(u64::from(ack.k), out);
     out.push_str("\n");
 }
 
-/// Writes the line of a reply, with its line end, into an empty text. docs/GUIDE.md lists the replies.
+// Writes the line of a refusal into an empty text.
+fn refused_text(refusal: Refusal, out: &mut ArrayString<256>)
+    requires { out.old.bytes ≡ [] }
+    ensures { out.new.bytes ≡ reply_line (Refused refusal) }
+{
+    out.push_str("refused ");
+    out.push_str(refusal.text());
+    out.push_str("\n");
+}
+
+// Writes the line that stands above windows into an empty text.
+fn windows_text(count: u32, out: &mut ArrayString<256>)
+    requires { out.old.bytes ≡ [] }
+    ensures { out.new.bytes ≡ reply_line (WindowsHead count) }
+{
+    out.push_str("windows");
+    put_number(u64::from(count), out);
+    out.push_str("\n");
+}
+
+// Writes the line of a window into an empty text.
+fn window_text(window: &Placed, out: &mut ArrayString<256>)
+    requires { out.old.bytes ≡ [] }
+    ensures { out.new.bytes ≡ reply_line (Window window.now) }
+{
+    begin_with_number(window.first, out);
+    put_number(window.last, out);
+    put_number(window.summary.count, out);
+    put_sum(window.summary.sum, out);
+    put_value(window.summary.min, out);
+    put_value(window.summary.max, out);
+    put_number(window.summary.t_first, out);
+    put_number(window.summary.t_last, out);
+    out.push_str("\n");
+}
+
+// Writes the line that stands above streams into an empty text.
+fn list_text(count: u32, out: &mut ArrayString<256>)
+    requires { out.old.bytes ≡ [] }
+    ensures { out.new.bytes ≡ reply_line (ListHead count) }
+{
+    out.push_str("list");
+    put_number(u64::from(count), out);
+    out.push_str("\n");
+}
+
+// Writes the line of a stream into an empty text.
+fn stream_text(row: &StreamRow, out: &mut ArrayString<256>)
+    requires { out.old.bytes ≡ [] }
+    ensures { out.new.bytes ≡ reply_line (Stream row.now) }
+{
+    begin_with_name(&row.name, out);
+    put_target(&row.params, out);
+    put_number(row.n, out);
+    put_number(u64::from(row.k), out);
+    put_number(u64::from(row.landmarks), out);
+    put_number(u64::from(row.values), out);
+    out.push_str("\n");
+}
+
+/// Writes the line of a reply, with its line end, into an empty text. docs/GUIDE.md ("Replies") lists the replies.
 pub fn reply_text(reply: &Reply, out: &mut ArrayString<256>)
     requires { out.old.bytes ≡ [] }
     ensures { out.new.bytes ≡ reply_line reply.now }
 {
     match reply {
         Reply::Done(ack) => done_text(ack, out),
-        Reply::Refused(refusal) => {
-            out.push_str("refused ");
-            out.push_str(refusal_text(*refusal));
-            out.push_str("\n");
-        }
+        Reply::Refused(refusal) => refused_text(*refusal, out),
+        Reply::WindowsHead(count) => windows_text(*count, out),
+        Reply::Window(window) => window_text(window, out),
+        Reply::ListHead(count) => list_text(*count, out),
+        Reply::Stream(row) => stream_text(row, out),
     }
 }

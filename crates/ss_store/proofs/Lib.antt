@@ -1,2 +1,4 @@
 pub mod Merges
 pub mod Lists
+pub mod PlaceLemmas
+pub mod StoreLemmas

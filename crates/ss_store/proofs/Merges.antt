@@ -1,14 +1,12 @@
 -- What the merge rule's code needs of target windows, and of lists of windows.
-use Rattle.std.proofs.Common.{◌≡◌, ℕ, ◌+◌, ◌-◌, ◌<◌, ◌≤◌, true, List, [], ◌∷◌, ◌++◌, length, take, drop, get_or, leb, refl, sym, ap, ◌∙◌, subst, inl, inr, arith}
+use Rattle.std.proofs.Common.{◌≡◌, ℕ, ◌+◌, ◌-◌, ◌<◌, ◌≤◌, true, List, [], ◌∷◌, ◌++◌, length, take, drop, get_or, refl, sym, ap, ◌∙◌, subst, arith}
 use Rattle.std.specs.List.{remove}
 use Rattle.std.proofs.Math.ListN.{set}
-use Rattle.std.proofs.lemmas.Bool.{cases_lt, cond-true}
-use Rattle.std.proofs.lemmas.Bool.Decides.{nat_tests}
+use Rattle.std.proofs.lemmas.Bool.{cond-true}
 use Rattle.std.proofs.lemmas.Grind.{common_steps}
 use Rattle.std.proofs.lemmas.List.{take-append-drop, length-append, length-drop, length-take, set_at}
 use Rattle.std.proofs.lemmas.List.Edits.{remove-append_right}
-use Rattle.ss_windowing.specs.Windowing.{cut, Holds, ArePositive, fits}
-use Rattle.ss_windowing.proofs.WindowingLemmas.{index_of-holds, holds-index_of}
+use Rattle.ss_windowing.specs.Windowing.{fits}
 use Rattle.ss_summary.specs.Figures.{IsPossible}
 use Rattle.ss_summary.specs.Summaries.{joined}
 use Rattle.ss_model.specs.declared.types.Window.{Window}
@@ -18,24 +16,12 @@ use Rattle.ss_model.specs.Windows.{taken}
 use Rattle.ss_model.proofs.Stretches.{taken-cons}
 use Rattle.ss_model.proofs.Tiles.{taken-append, first-from_AreWindows, AreNeighbours-from_AreWindows, AreWindows_joined}
 
--- positions lie in one target window where the newest isn't too young for that of the oldest
-pub leb-cut : (len : ℕ → ℕ) (i l r n : ℕ) → ArePositive len → l ≤ r → Holds len i (n - l) →
-    leb (cut len i) (n - r) ≡ fits len l r n
-leb-cut len i l r n positive order holds =
-    let old = index_of-holds len i (n - l) positive holds in
-    let young = holds-index_of len (n - r) positive in
-    elim (cases_lt (n - r) (cut len i)) [
-      | inl apart ↦ grind (arith, nat_tests)
-      | inr together ↦
-          (let same = index_of-holds len i (n - r) positive (record { start = together; end = omega arith }) in
-          grind (arith, nat_tests))
-    ]
-
 -- two windows that were read side by side at a place
 pub record AreRead (ws : List Window) (at : ℕ) (w v : Window) : Type 0 where
   pub behind : drop at ws ≡ w ∷ v ∷ drop (at + 1 + 1) ws
   pub cut : ws ≡ take at ws ++ w ∷ v ∷ drop (at + 1 + 1) ws
   pub place : length (take at ws) ≡ at
+  pub first : 1 ≤ w.first
   pub pair : AreNeighbours w v
   pub end : last_position v ≤ taken ws
 
@@ -53,6 +39,7 @@ AreRead-from_get_or ws at w v tiles inside first second =
       behind = behind;
       cut = cut;
       place = length-take at ws ∙ omega arith;
+      first = omega (arith, first-from_AreWindows us (v ∷ vs) w stands);
       pair = pair;
       end = omega (arith, ap (λ zs. taken zs) cut, taken-append us (w ∷ v ∷ vs), taken-cons w (v ∷ vs), taken-cons v vs, first-from_AreWindows us (v ∷ vs) w stands);
     }

@@ -1,12 +1,14 @@
-//! The store: one stream, kept as windows that are merged towards the target as values arrive.
+//! The store: named streams, kept as windows that are merged towards their targets as values arrive.
 #![tactic(auto)]
 
 mod error;
 mod list;
 mod merge;
+mod place;
 mod store;
+mod stream;
 
-pub use error::AppendError;
+pub use error::ApplyError;
 pub use store::Store;
 
 #[cfg(test)]

@@ -1,17 +1,19 @@
-// Reading a list of windows, and putting a value behind it.
-ghost use Rattle.std.specs.Prelude.{◌≡◌, ◌+◌, ◌^◌, ◌<◌, ◌≤◌, ◌∷◌, ◌++◌, [], false, IfOk, OnOk, OnErr};
+// Reading a list of windows, and putting a value after it.
+ghost use Rattle.std.specs.Prelude.{◌≡◌, ◌+◌, ◌<◌, ◌≤◌, ◌∷◌, ◌++◌, [], false, IfOk, OnOk, OnErr};
 ghost use Rattle.ss_model.specs.Closed.{last_position};
 ghost use Rattle.ss_model.specs.Tiling.{AreWindows};
 ghost use Rattle.ss_model.specs.Windows.{taken, newest_time};
-ghost use Rattle.ss_store.specs.Stream.{is_past, single_window};
+ghost use Rattle.ss_model.specs.Refusals.{is_past};
+ghost use Rattle.ss_model.specs.Steps.{single_window};
 
 use ss_model::Window;
-use ss_summary::Summary;
+use ss_summary::{LATEST_TIME, Summary};
+use ss_windowing::MOST_VALUES;
 use std::alloc::AllocError;
 
 // The position of a window's last value.
 pub fn last_position_of(window: &Window) -> u64
-    requires { last_position window.now ≤ 2 ^ 40 }
+    requires { last_position window.now ≤ MOST_VALUES }
     ensures { result ≡ last_position window.now }
 {
     window.first + window.summary.count - 1
@@ -41,13 +43,13 @@ pub fn is_past(windows: &[Window], t: u64) -> bool
     }
 }
 
-// Puts a value behind the windows, as a window of its own, and answers how many values they hold then. An error leaves
+// Puts a value after the windows, as a window of its own, and answers how many values they hold then. An error leaves
 // them as they were.
 pub fn push_value(windows: &mut Vec<Window>, t: u64, v: i64) -> Result<u64, AllocError>
     requires tiles { AreWindows windows.old.items }
-    requires room { taken windows.old.items < 2 ^ 40 }
+    requires room { taken windows.old.items < MOST_VALUES }
     requires later { is_past (newest_time windows.old.items) t ≡ false }
-    requires time_in_range { t ≤ 2 ^ 62 }
+    requires time_in_range { t ≤ LATEST_TIME }
     ensures count { IfOk result (λ n. n ≡ taken windows.old.items + 1) }
     ensures all { IfOk result (λ n. taken windows.new.items ≡ n) }
     ensures pushed { OnOk result (windows.new.items

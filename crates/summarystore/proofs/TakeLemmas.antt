@@ -1,130 +1,93 @@
 -- What taking bytes up to a line end does to a session.
-use Rattle.std.proofs.Common.{◌≡◌, ℕ, ◌+◌, ◌<◌, ◌≤◌, ◌++◌, List, [], ◌∷◌, length, take, drop, true, false, Option, Some, None, refl, sym, ap, ◌∙◌, subst, append_assoc, ◌-◌, IsSome, is_some, ◌↔◌, if◌then◌else◌, inl, inr}
-use Rattle.std.specs.List.{position_or_len, before_first}
-use Rattle.std.proofs.lemmas.Bool.{cond-true, cond-false, cases_lt}
+use Rattle.std.proofs.Common.{◌≡◌, ℕ, ◌+◌, ◌++◌, ◌-◌, ◌≤◌, List, [], ◌∷◌, length, map, take, drop, Option, Some, None, IfSome, sym, ap, ◌∙◌, subst, append_assoc, inl, inr}
 use Rattle.std.proofs.Math.Seq.{take-add}
-use Rattle.std.proofs.lemmas.List.{take-append-drop}
-use Rattle.ss_command.specs.Lines.{is_line_end, ended_lines, unended}
-use Rattle.ss_command.specs.LineState.{LineState, kept, extended, under_way}
-use Rattle.ss_command.specs.declared.TheConstants.{LINE_END}
-use Rattle.ss_command.proofs.LineLemmas.{ended_lines-no_end, unended-no_end, ended_lines-line_end, unended-line_end, piece-at_line_end, before_first-no_end, before_first-whole, extended-kept}
-use Rattle.ss_command.specs.declared.line_reader.Ended.{Ended}
-use Rattle.ss_model.specs.Windows.{windows}
-use Rattle.ss_model.specs.declared.types.Window.{Window}
-use Rattle.ss_report.specs.Text.{reply_line}
-use Rattle.ss_store.specs.Stream.{stream_length}
-use Rattle.summarystore.specs.Session.{accepted, reply_to, values_after, text_of, report, report_so_far}
-use Rattle.summarystore.specs.Progress.{appended, AppendsFront, IsAt}
+use Rattle.std.proofs.lemmas.Bool.{cond-true, cond-false, cases_lt, le-leb, lt-leb}
+use Rattle.std.specs.Prelude.{nat_le}
+use Rattle.std.proofs.lemmas.List.{map-append, take-append-drop}
+use Rattle.ss_command.specs.Lines.{lines_so_far, unended, without_return}
+use Rattle.ss_command.specs.LineState.{Kept, ended_line, kept, unless_long}
+use Rattle.ss_command.specs.declared.TheConstants.{LONGEST_LINE}
+use Rattle.ss_command.proofs.LineLemmas.{ended_lines-append}
+use Rattle.ss_model.specs.State.{Stream, state}
+use Rattle.summarystore.specs.Line.{History, StandsFor, brings, line_text}
+use Rattle.summarystore.specs.Progress.{HasReplied, HasTaken, StopsAt, StopsWith}
+use Rattle.summarystore.specs.Sent.{appended}
+use Rattle.summarystore.specs.Session.{after_line, after_lines, text_of}
+use Rattle.summarystore.specs.declared.status.Status.{Status}
 use Rattle.summarystore.proofs.SendLemmas.{appended-appended, rest-slice}
-use Rattle.summarystore.proofs.SessionLemmas.{accepted_push, text_of_push, AppendsFront-behind, front-report}
+use Rattle.summarystore.proofs.SessionLemmas.{after_lines-append, text_of-push, StopsAt-more, StopsAt-next}
 
--- a line under way with the front of a piece behind it
-line-fed : {ws : List Window} {reader : LineState} {before held : Option (List ℕ)} {input : List ℕ} (piece : List ℕ) (line : Option (List ℕ)) →
-    IsAt ws reader before held input → line ≡ extended (under_way reader) (before_first is_line_end piece) →
-    line ≡ kept (unended input ++ before_first is_line_end piece)
-line-fed {input = input} piece line at is =
-    is ∙ ap (λ k. extended k (before_first is_line_end piece)) at.line ∙ extended-kept (unended input) (before_first is_line_end piece)
-
--- a piece without a line end
-pub IsAt-no_end : {ws : List Window} {reader : LineState} {before held : Option (List ℕ)} {input : List ℕ} (piece : List ℕ) (next : LineState) →
-    IsAt ws reader before held input → length piece ≤ position_or_len is_line_end piece →
-    next.line ≡ extended (under_way reader) (before_first is_line_end piece) → next.ended ≡ false →
-    IsAt ws next before held (input ++ piece)
-IsAt-no_end {before = before} {input = input} piece next at none fed going =
-    let whole = before_first-whole piece none in
-    let no_end : position_or_len is_line_end piece ≡ length piece =
-    ap (λ bs. position_or_len is_line_end bs) (sym whole) ∙ before_first-no_end piece ∙ ap (λ (bs : List ℕ). length bs) whole in
-    record {
-      store = at.store ∙ ap (λ ls. windows stream_length (accepted [] ls)) (sym (ended_lines-no_end input piece no_end));
-      line = cond-false next.ended (Some []) next.line going ∙ line-fed piece next.line at fed
-          ∙ ap (λ bs. kept (unended input ++ bs)) whole ∙ ap (λ bs. kept bs) (sym (unended-no_end input piece no_end));
-      held = at.held ∙ ap (λ ls. appended before (text_of ls)) (sym (ended_lines-no_end input piece no_end));
-    }
-
--- the line that a piece ends
-abbrev pub ended_line : List ℕ → List ℕ → List ℕ
-ended_line input piece = unended input ++ before_first is_line_end piece
-
--- the bytes of a piece up to and with its first line end
-abbrev pub through_end : List ℕ → List ℕ
-through_end piece = take (position_or_len is_line_end piece + 1) piece
-
-lines-through_end : (input piece : List ℕ) → position_or_len is_line_end piece < length piece →
-    ended_lines (input ++ through_end piece) ≡ ended_lines input ++ ended_line input piece ∷ []
-lines-through_end input piece some =
-    let front = before_first is_line_end piece in
-    ap (λ bs. ended_lines (input ++ bs)) (piece-at_line_end piece some)
-    ∙ ap (λ bs. ended_lines bs) (sym (append_assoc input front (LINE_END ∷ [])))
-    ∙ ended_lines-line_end input front (before_first-no_end piece)
-
-rest-through_end : (input piece : List ℕ) → position_or_len is_line_end piece < length piece → unended (input ++ through_end piece) ≡ []
-rest-through_end input piece some =
-    let front = before_first is_line_end piece in
-    ap (λ bs. unended (input ++ bs)) (piece-at_line_end piece some)
-    ∙ ap (λ bs. unended bs) (sym (append_assoc input front (LINE_END ∷ [])))
-    ∙ unended-line_end input front (before_first-no_end piece)
-
-text-through_end : (input piece : List ℕ) → position_or_len is_line_end piece < length piece →
-    report_so_far (input ++ through_end piece)
-    ≡ report_so_far input ++ reply_line (reply_to (accepted [] (ended_lines input)) (ended_line input piece))
-text-through_end input piece some =
-    ap (λ ls. text_of ls) (lines-through_end input piece some) ∙ text_of_push (ended_lines input) (ended_line input piece)
-
--- a line that was answered
-pub IsAt-line_end : {ws : List Window} {reader : LineState} {before held : Option (List ℕ)} {input : List ℕ} (piece : List ℕ)
-    (grown : List Window) (next : LineState) (after : Option (List ℕ)) →
-    IsAt ws reader before held input → position_or_len is_line_end piece < length piece → next.ended ≡ true →
-    grown ≡ windows stream_length (values_after (accepted [] (ended_lines input)) (ended_line input piece)) →
-    after ≡ appended held (reply_line (reply_to (accepted [] (ended_lines input)) (ended_line input piece))) →
-    IsAt grown next before after (input ++ through_end piece)
-IsAt-line_end {before = before} {held = held} {input = input} piece grown next after at some ended store sent =
-    let reply = reply_line (reply_to (accepted [] (ended_lines input)) (ended_line input piece)) in
-    record {
-      store = store ∙ ap (λ vs. windows stream_length vs) (sym (accepted_push [] (ended_lines input) (ended_line input piece)))
-          ∙ ap (λ ls. windows stream_length (accepted [] ls)) (sym (lines-through_end input piece some));
-      line = cond-true next.ended (Some []) next.line ended ∙ ap (λ bs. kept bs) (sym (rest-through_end input piece some));
-      held = sent ∙ ap (λ o. appended o reply) at.held ∙ appended-appended before (report_so_far input) reply
-          ∙ ap (λ bs. appended before bs) (sym (text-through_end input piece some));
-    }
-
--- a line whose answer was cut short
-pub front-line_end : {ws : List Window} {reader : LineState} {before held : Option (List ℕ)} {input : List ℕ} (piece rest : List ℕ)
-    (after : Option (List ℕ)) → IsAt ws reader before held input → position_or_len is_line_end piece < length piece →
-    AppendsFront held after (reply_line (reply_to (accepted [] (ended_lines input)) (ended_line input piece))) →
-    AppendsFront before after (report (input ++ (piece ++ rest)))
-front-line_end {before = before} {held = held} {input = input} piece rest after at some part =
-    let end = position_or_len is_line_end piece + 1 in
-    let whole : (input ++ through_end piece) ++ (drop end piece ++ rest) ≡ input ++ (piece ++ rest) =
-    append_assoc input (through_end piece) (drop end piece ++ rest)
-    ∙ ap (λ bs. input ++ bs) (sym (append_assoc (through_end piece) (drop end piece) rest) ∙ ap (λ bs. bs ++ rest) (take-append-drop end piece)) in
-    subst (λ bs. AppendsFront before after (report bs)) whole
-    (front-report before after (input ++ through_end piece) (drop end piece ++ rest)
-    (subst (λ text. AppendsFront before after text) (sym (text-through_end input piece some))
-    (AppendsFront-behind before held after (report_so_far input) (reply_line (reply_to (accepted [] (ended_lines input)) (ended_line input piece))) at.held part)))
-
--- the line that was fed, as it is kept
-pub line-kept : {ws : List Window} {reader : LineState} {before held : Option (List ℕ)} {input : List ℕ} (piece : List ℕ) (line : Option (List ℕ)) →
-    IsAt ws reader before held input → line ≡ extended (under_way reader) (before_first is_line_end piece) → line ≡ kept (ended_line input piece)
-line-kept piece line at is = line-fed piece line at is
-
--- what a reader that was fed a piece answers, where no line ended
-pub fed-none : (piece : List ℕ) (count : ℕ) (ended : Option Ended) → ended ≡ None →
-    (IsSome ended ↔ (position_or_len is_line_end piece < length piece)) →
-    count ≡ (if is_some ended then position_or_len is_line_end piece + 1 else length piece) →
-    (length piece ≤ position_or_len is_line_end piece) × (count ≡ length piece)
-fed-none piece count None is found counted = elim (cases_lt (position_or_len is_line_end piece) (length piece)) [
-  | inl inside ↦ (let wrong = found.1 inside in cc)
-  | inr past ↦ (past, counted)
+-- a line that has ended and is kept isn't too long
+unless_long-short : (line : List ℕ) → IfSome (unless_long line) (λ bytes. length bytes ≤ LONGEST_LINE)
+unless_long-short line = elim (cases_lt LONGEST_LINE (length line)) [
+  | inl long ↦ (let none = cond-false (nat_le (length line) LONGEST_LINE) (Some line) None (lt-leb (length line) LONGEST_LINE long) in
+      subst (λ (o : Option (List ℕ)). IfSome o (λ bytes. length bytes ≤ LONGEST_LINE)) (sym none) tt)
+  | inr fits ↦ (let some = cond-true (nat_le (length line) LONGEST_LINE) (Some line) None (le-leb (length line) LONGEST_LINE fits) in
+      subst (λ (o : Option (List ℕ)). IfSome o (λ bytes. length bytes ≤ LONGEST_LINE)) (sym some) fits)
 ]
-fed-none piece count (Some e) is found counted = cc
 
--- and where one did
-pub fed-some : (piece : List ℕ) (count : ℕ) (ended : Option Ended) (e : Ended) → ended ≡ Some e →
-    (IsSome ended ↔ (position_or_len is_line_end piece < length piece)) →
-    count ≡ (if is_some ended then position_or_len is_line_end piece + 1 else length piece) →
-    (position_or_len is_line_end piece < length piece) × (count ≡ position_or_len is_line_end piece + 1)
-fed-some piece count None e is found counted = cc
-fed-some piece count (Some other) e is found counted = (found.0 refl, counted)
+pub ended_line-short : (line : Kept) → IfSome (ended_line line) (λ bytes. length bytes ≤ LONGEST_LINE)
+ended_line-short None = tt
+ended_line-short (Some bytes) = unless_long-short (without_return bytes)
+
+-- the history after one more line
+after_lines-push : (history : History) (ls : List (List ℕ)) (line : List ℕ) →
+    after_lines history (ls ++ line ∷ []) ≡ after_line (after_lines history ls) line
+after_lines-push history ls line = after_lines-append history ls (line ∷ [])
+
+-- a session that took more bytes, of which no line end ended a line
+pub HasTaken-same : (history : History) (store : List Stream) (line : Option (List ℕ)) (input more : List ℕ) →
+    lines_so_far more ≡ lines_so_far input → line ≡ kept (unended more) → StandsFor store (after_lines history (lines_so_far input)) →
+    HasTaken history (record { store = store; line = line }) more
+HasTaken-same history store line input more same going stands = record {
+  store = stands ∙ ap (λ ls. state (after_lines history ls)) (sym same);
+  line = going;
+}
+
+pub HasReplied-same : (history : History) (before held : Option (List ℕ)) (input more : List ℕ) → lines_so_far more ≡ lines_so_far input →
+    HasReplied history before held input → HasReplied history before held more
+HasReplied-same history before held input more same replied = replied ∙ ap (λ ls. appended before (text_of history ls)) (sym same)
+
+-- and of which one did, that was answered
+pub HasTaken-line : (history : History) (store : List Stream) (under_way : Option (List ℕ)) (input more line : List ℕ) →
+    lines_so_far more ≡ lines_so_far input ++ line ∷ [] → under_way ≡ kept (unended more) →
+    StandsFor store (after_line (after_lines history (lines_so_far input)) line) →
+    HasTaken history (record { store = store; line = under_way }) more
+HasTaken-line history store under_way input more line one going stands = record {
+  store = stands ∙ ap (λ h. state h) (sym (ap (λ ls. after_lines history ls) one ∙ after_lines-push history (lines_so_far input) line));
+  line = going;
+}
+
+-- the sink got the replies to the lines before, and to one more
+pub replied-line : (history : History) (before held after : Option (List ℕ)) (ls : List (List ℕ)) (line : List ℕ) →
+    held ≡ appended before (text_of history ls) → after ≡ appended held (line_text (after_lines history ls) line) →
+    after ≡ appended before (text_of history (ls ++ line ∷ []))
+replied-line history before held after ls line is sent =
+    let reply = line_text (after_lines history ls) line in
+    sent ∙ ap (λ o. appended o reply) is ∙ appended-appended before (text_of history ls) reply
+    ∙ ap (λ bs. appended before bs) (sym (text_of-push history ls line))
+
+pub HasReplied-line : (history : History) (before held after : Option (List ℕ)) (input more line : List ℕ) →
+    lines_so_far more ≡ lines_so_far input ++ line ∷ [] → HasReplied history before held input →
+    after ≡ appended held (line_text (after_lines history (lines_so_far input)) line) → HasReplied history before after more
+HasReplied-line history before held after input more line one replied sent =
+    replied-line history before held after (lines_so_far input) line replied sent ∙ ap (λ ls. appended before (text_of history ls)) (sym one)
+
+-- a line of a piece at which the run stopped
+pub StopsAt-piece : (history : History) (before held after : Option (List ℕ)) (status : Status) (input piece line : List ℕ) (count : ℕ) →
+    lines_so_far (input ++ take count piece) ≡ lines_so_far input ++ line ∷ [] → HasReplied history before held input →
+    StopsWith (brings (after_lines history (lines_so_far input)) line) held after status →
+    StopsAt history (lines_so_far (input ++ piece)) before after status
+StopsAt-piece history before held after status input piece line count one replied stop =
+    let at = StopsAt-next history (lines_so_far input) line before held after status replied stop in
+    let more = ended_lines-append (input ++ take count piece) (drop count piece) in
+    let whole : (input ++ take count piece) ++ drop count piece ≡ input ++ piece =
+    append_assoc input (take count piece) (drop count piece) ∙ ap (λ bs. input ++ bs) (take-append-drop count piece) in
+    subst (λ ls. StopsAt history ls before after status)
+    (ap (λ ls. ls ++ map without_return more.0) (sym one)
+    ∙ sym (ap (λ ls. map without_return ls) more.1 ∙ map-append without_return _ more.0)
+    ∙ ap (λ bs. lines_so_far bs) whole)
+    (StopsAt-more (map without_return more.0) at)
 
 -- a piece that was taken in part, and more of the rest of it
 pub taken_more : (input piece : List ℕ) (done k : ℕ) →
@@ -135,9 +98,9 @@ taken_more input piece done k =
     ∙ ap (λ bs. input ++ bs) (sym (take-add done k piece))
 
 -- and the whole rest of it
-pub taken_rest : (input piece rest : List ℕ) (done : ℕ) →
-    (input ++ take done piece) ++ (take (length piece - done) (drop done piece) ++ rest) ≡ input ++ (piece ++ rest)
-taken_rest input piece rest done =
-    ap (λ bs. (input ++ take done piece) ++ (bs ++ rest)) (rest-slice piece done)
-    ∙ append_assoc input (take done piece) (drop done piece ++ rest)
-    ∙ ap (λ bs. input ++ bs) (sym (append_assoc (take done piece) (drop done piece) rest) ∙ ap (λ bs. bs ++ rest) (take-append-drop done piece))
+pub taken_rest : (input piece : List ℕ) (done : ℕ) →
+    (input ++ take done piece) ++ take (length piece - done) (drop done piece) ≡ input ++ piece
+taken_rest input piece done =
+    ap (λ bs. (input ++ take done piece) ++ bs) (rest-slice piece done)
+    ∙ append_assoc input (take done piece) (drop done piece)
+    ∙ ap (λ bs. input ++ bs) (take-append-drop done piece)

@@ -1,54 +1,38 @@
--- What is replied to an input, line by line.
-use Rattle.std.specs.Prelude.{ℕ, ◌+◌, List, [], ◌∷◌, ◌++◌, length, flat_map, if◌then◌else◌, ℤ, Result, Ok, Err}
-use Rattle.ss_command.specs.Lines.{lines, ended_lines}
-use Rattle.ss_command.specs.Grammar.{means}
-use Rattle.ss_command.specs.declared.grammar.Append.{Append}
-use Rattle.ss_command.specs.declared.grammar.Syntax.{Syntax}
-use Rattle.ss_model.specs.Windows.{windows, time_of_last}
+-- A session: what is replied to an input after a history, and which events are accepted of it.
+use Rattle.std.specs.Prelude.{ℕ, List, [], ◌∷◌, ◌++◌, flat_map}
+use Rattle.ss_catalog.specs.declared.event.Event.{Event}
+use Rattle.ss_command.specs.Lines.{lines, lines_so_far}
 use Rattle.ss_report.specs.Text.{reply_line}
 use Rattle.ss_report.specs.declared.reply.Reply.{Reply}
-use Rattle.ss_report.specs.declared.reply.Reply.TheVariants.{Done, Refused}
-use Rattle.ss_report.specs.declared.reply.Refusal.TheVariants as refusals
-use Rattle.ss_store.specs.Stream.{stream_length, is_past}
+use Rattle.summarystore.specs.Line.{History, brings, history_after, the_event}
 
--- the accepted values after a line that means this
-abbrev pub values_after_meaning : List (ℕ × ℤ) → Result Append Syntax → List (ℕ × ℤ)
-values_after_meaning values (Err e) = values
-values_after_meaning values (Ok a) = if is_past (time_of_last values) a.t then values else values ++ (a.t, a.v) ∷ []
+-- the history after a line
+abbrev pub after_line : History → List ℕ → History
+after_line history line = history_after history (brings history line)
 
--- the accepted values after a line
-abbrev pub values_after : List (ℕ × ℤ) → List ℕ → List (ℕ × ℤ)
-values_after values line = values_after_meaning values (means line)
+-- the history after some lines
+abbrev pub after_lines : History → List (List ℕ) → History
+after_lines history [] = history
+after_lines history (line ∷ ls) = after_lines (after_line history line) ls
 
--- the reply to a line that means this, by the values accepted before it
-abbrev pub reply_to_meaning : List (ℕ × ℤ) → Result Append Syntax → Reply
-reply_to_meaning values (Err e) = Refused refusals.Syntax
-reply_to_meaning values (Ok a) =
-    if is_past (time_of_last values) a.t then Refused refusals.Time
-    else Done (record { n = length values + 1; k = length (windows stream_length (values ++ (a.t, a.v) ∷ [])) })
-
--- the reply to a line, by the values accepted before it
-abbrev pub reply_to : List (ℕ × ℤ) → List ℕ → Reply
-reply_to values line = reply_to_meaning values (means line)
-
--- the values accepted after some lines
-abbrev pub accepted : List (ℕ × ℤ) → List (List ℕ) → List (ℕ × ℤ)
-accepted values [] = values
-accepted values (line ∷ ls) = accepted (values_after values line) ls
+-- the events that are accepted of some lines
+abbrev pub accepted : History → List (List ℕ) → List Event
+accepted history [] = []
+accepted history (line ∷ ls) = the_event (brings history line).event ++ accepted (after_line history line) ls
 
 -- the replies to some lines
-abbrev pub replies : List (ℕ × ℤ) → List (List ℕ) → List Reply
-replies values [] = []
-replies values (line ∷ ls) = reply_to values line ∷ replies (values_after values line) ls
+abbrev pub replies : History → List (List ℕ) → List Reply
+replies history [] = []
+replies history (line ∷ ls) = (brings history line).replies ++ replies (after_line history line) ls
 
 -- the text of the replies to some lines
-abbrev pub text_of : List (List ℕ) → List ℕ
-text_of ls = flat_map reply_line (replies [] ls)
+abbrev pub text_of : History → List (List ℕ) → List ℕ
+text_of history ls = flat_map reply_line (replies history ls)
 
 -- the report of an input
-abbrev pub report : List ℕ → List ℕ
-report input = text_of (lines input)
+abbrev pub report : History → List ℕ → List ℕ
+report history input = text_of history (lines input)
 
 -- the report of the lines that a line end ends
-abbrev pub report_so_far : List ℕ → List ℕ
-report_so_far input = text_of (ended_lines input)
+abbrev pub report_so_far : History → List ℕ → List ℕ
+report_so_far history input = text_of history (lines_so_far input)

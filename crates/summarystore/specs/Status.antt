@@ -13,29 +13,18 @@ number_of SinkFault = 6
 number_of OutOfMemory = 7
 number_of InputLimit = 8
 
--- what ends a reply: the sink failed, or memory is short
+-- what ends a run at a line: the sink failed, or memory ran out
 abbrev pub IsStop : Status → Type 0
 IsStop status = (status ≡ SinkFault) ⊎ (status ≡ OutOfMemory)
 
--- The source's count of faults rose where a fault of the source is the status, and is as it was at every other.
-abbrev pub CountsSource : ℕ → ℕ → Status → Type 0
-CountsSource before now SourceFault = Rose before now
-CountsSource before now Done = now ≡ before
-CountsSource before now Usage = now ≡ before
-CountsSource before now SinkFault = now ≡ before
-CountsSource before now OutOfMemory = now ≡ before
-CountsSource before now InputLimit = now ≡ before
-
--- the same of the sink's count
-abbrev pub CountsSink : ℕ → ℕ → Status → Type 0
-CountsSink before now SinkFault = Rose before now
-CountsSink before now Done = now ≡ before
-CountsSink before now Usage = now ≡ before
-CountsSink before now SourceFault = now ≡ before
-CountsSink before now OutOfMemory = now ≡ before
-CountsSink before now InputLimit = now ≡ before
+-- A device's count of faults, by the status that a fault of the device has: the count rose where that is the status, and
+-- is as it was at every other.
+abbrev pub Counts : Status → ℕ → ℕ → Status → Type 0
+Counts SourceFault before now SourceFault = Rose before now
+Counts SinkFault before now SinkFault = Rose before now
+Counts device before now status = now ≡ before
 
 -- and of what goes on at Ok, where the count is as it was
-abbrev pub GoesOnOr : {T : Type 0} → (ℕ → ℕ → Status → Type 0) → ℕ → ℕ → Result T Status → Type 0
-GoesOnOr counts before now (Ok value) = now ≡ before
-GoesOnOr counts before now (Err status) = counts before now status
+abbrev pub CountsIfEnded : {T : Type 0} → Status → ℕ → ℕ → Result T Status → Type 0
+CountsIfEnded device before now (Ok value) = now ≡ before
+CountsIfEnded device before now (Err status) = Counts device before now status

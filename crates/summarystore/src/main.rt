@@ -4,6 +4,8 @@
 #[cfg(test)]
 mod adapter_tests;
 mod adapters;
+mod answer;
+mod notice;
 mod run;
 mod send;
 mod session;
@@ -12,8 +14,10 @@ mod status;
 mod tests;
 
 use adapters::{StdSink, StdSource};
+use notice::notice;
 use run::run;
-use status::{Status, complaint};
+use send::send;
+use status::{Status, complaint, exit_code};
 use std::io::ErrorKind;
 use std::process::ExitCode;
 use std::rt::Env;
@@ -24,22 +28,33 @@ fn read_words<R: Env + AllocGlobal>(rt: &R) -> io::Result<Vec<String>> {
     env::args(rt)?.collect(rt.alloc()).map_err(io::Error::from)
 }
 
-// The exit status of a run over standard input and output. Words that can't be read as text count as none.
-fn answer<R: Env + AllocGlobal + Input + Print>(rt: &R) -> u8 {
+// Prints a notice, and answers the exit status.
+fn print_notice<R: Print>(rt: &R, text: &str) -> u8 {
+    match send(&mut StdSink::new(rt), text.as_bytes()) {
+        Ok(()) => Status::Done.number(),
+        Err(_) => Status::SinkFault.number(),
+    }
+}
+
+// The exit status of a run over standard input and output, or of a notice. Words that can't be read as text count as none.
+fn run_program<R: Env + AllocGlobal + Input + Print>(rt: &R) -> u8 {
     let words = match read_words(rt) {
         Ok(words) => words,
         Err(error) if error.kind() == ErrorKind::OutOfMemory => return Status::OutOfMemory.number(),
         Err(_) => Vec::new(rt.alloc()),
     };
+    if let Some(text) = notice(&words) {
+        return print_notice(rt, text);
+    }
     let mut source = StdSource::new(rt);
     let mut sink = StdSink::new(rt);
     run(rt.alloc(), &words, &mut source, &mut sink)
 }
 
 fn main(rt: HostRuntime) -> ExitCode {
-    let number = answer(&rt);
+    let number = run_program(&rt);
     if let Some(text) = complaint(number) {
         let _ = rt.eprintln(text);
     }
-    ExitCode::from(number)
+    exit_code(number)
 }

@@ -1,11 +1,11 @@
 // The top call.
 ghost use Rattle.std.specs.Prelude.{◌≡◌, ◌≢◌, ◌↔◌, ◌⊎◌, ◌+◌, ◌-◌, ◌<◌, ◌≤◌, ◌++◌, ℕ, List, [], Option, Some, map, length, take, drop, true, false, IsTrue, IfOk, IfErr, OnErr, IsErrOf, string_bytes, codes};
-ghost use Rattle.ss_model.specs.Windows.{taken};
+ghost use Rattle.ss_command.specs.Lines.{lines_so_far};
 ghost use Rattle.ss_outside.specs.Causes.{Rose, HasCause};
 ghost use Rattle.summarystore.specs.Outcome.{Reports, Reads, SaysUsage};
-ghost use Rattle.summarystore.specs.Progress.{AppendsFront, IsAt};
-ghost use Rattle.summarystore.specs.Session.{report};
-ghost use Rattle.summarystore.specs.Status.{number_of, IsStop, CountsSource, CountsSink, GoesOnOr};
+ghost use Rattle.summarystore.specs.Line.{History};
+ghost use Rattle.summarystore.specs.Progress.{HasTaken, HasReplied, StopsAt};
+ghost use Rattle.summarystore.specs.Status.{number_of, IsStop, Counts, CountsIfEnded};
 ghost use Rattle.summarystore.specs.Words.{ArePlain};
 
 use crate::send::send;
@@ -47,30 +47,30 @@ fn say_usage<K: Sink>(sink: &mut K)
     let _ = send(sink, USAGE.as_bytes());
 }
 
-// Reads at most `room` bytes, replies to each line that ends in them, and answers how many there were: 0 at the end of
-// the input.
+// Reads at most `room` bytes, answers each line that ends in them, and says how many there were: 0 at the end of the input.
 fn read_piece<S: Source, K: Sink>(
     session: &mut Session,
     room: u64,
     source: &mut S,
     sink: &mut K,
 ) -> Result<u64, Status>
-    requires some { 0 < room }
-    requires few { taken session.old.store + room ≤ LONGEST_INPUT }
-    ensures ok { IfOk result (λ count. (before : Option (List ℕ)) (input left : List ℕ) → S.left source.old ≡ Some left →
-        IsAt session.old.store session.old.reader before (K.held sink.old) input →
-        (count ≤ length left) × (count ≡ 0 → left ≡ []) × (S.left source.new ≡ Some (drop count left))
-        × IsAt session.new.store session.new.reader before (K.held sink.new) (input ++ take count left)) }
+    requires { 0 < room }
+    ensures ok { IfOk result (λ count. (history : History) (before : Option (List ℕ)) (input left : List ℕ) →
+        S.left source.old ≡ Some left → HasTaken history session.old input →
+        HasReplied history before (K.held sink.old) input → (count ≤ length left) × (count ≡ 0 → left ≡ [])
+        × (S.left source.new ≡ Some (drop count left)) × HasTaken history session.new (input ++ take count left)
+        × HasReplied history before (K.held sink.new) (input ++ take count left)) }
     ensures count { IfOk result (λ count. count ≤ room) }
     ensures fault { IsErrOf result Status.SourceFault → (S.left source.new ≡ S.left source.old)
         × (session.new ≡ session.old) × (K.held sink.new ≡ K.held sink.old) }
-    ensures stop { IfErr result (λ status. IsStop status → (before : Option (List ℕ)) (input left : List ℕ) →
-        S.left source.old ≡ Some left → IsAt session.old.store session.old.reader before (K.held sink.old) input →
-        AppendsFront before (K.held sink.new) (report (input ++ left))) }
+    ensures stops { IfErr result (λ status. IsStop status → (history : History) (before : Option (List ℕ))
+        (input left : List ℕ) → S.left source.old ≡ Some left → HasTaken history session.old input →
+        HasReplied history before (K.held sink.old) input → (count : ℕ) × (count ≤ room) × (count ≤ length left)
+        × (S.left source.new ≡ Some (drop count left))
+        × StopsAt history (lines_so_far (input ++ take count left)) before (K.held sink.new) status) }
     ensures status { IfErr result (λ status. (status ≡ Status.SourceFault) ⊎ IsStop status) }
-    ensures few { IfOk result (λ count. taken session.new.store ≤ taken session.old.store + count) }
-    ensures source_cause { GoesOnOr CountsSource (S.faults source.old) (S.faults source.new) result }
-    ensures sink_cause { GoesOnOr CountsSink (K.faults sink.old) (K.faults sink.new) result }
+    ensures source_cause { CountsIfEnded Status.SourceFault (S.faults source.old) (S.faults source.new) result }
+    ensures sink_cause { CountsIfEnded Status.SinkFault (K.faults sink.old) (K.faults sink.new) result }
 {
     let mut buffer = [0u8; BUFFER];
     let want = room.min(BUFFER as u64) as usize;
@@ -100,14 +100,14 @@ fn is_at_end<S: Source>(source: &mut S) -> Result<bool, Failed>
     }
 }
 
-// Reads the source to its end, and replies to each of its lines.
+// Reads the source to its end, and answers each of its lines.
 fn serve<S: Source, K: Sink>(alloc: Global, source: &mut S, sink: &mut K) -> Status
     ensures known { result ≢ Status.Usage }
-    ensures source_cause { CountsSource (S.faults source.old) (S.faults source.new) result }
-    ensures sink_cause { CountsSink (K.faults sink.old) (K.faults sink.new) result }
+    ensures source_cause { Counts Status.SourceFault (S.faults source.old) (S.faults source.new) result }
+    ensures sink_cause { Counts Status.SinkFault (K.faults sink.old) (K.faults sink.new) result }
     ensures reads { (input : List ℕ) → S.left source.old ≡ Some input → Reads input (S.left source.new) (number_of result) }
     ensures reports { (input : List ℕ) → S.left source.old ≡ Some input →
-        Reports input (S.left source.new) (K.held sink.old) (K.held sink.new) (number_of result) }
+        Reports [] input (S.left source.new) (K.held sink.old) (K.held sink.new) (number_of result) }
 {
     let mut session = Session::start(alloc);
     let mut done = 0;
@@ -149,9 +149,9 @@ pub fn run<S: Source, K: Sink>(alloc: Global, words: &[String], source: &mut S, 
     ensures reads { (result ≡ 2 → ⊥) → (input : List ℕ) → S.left source.old ≡ Some input →
         Reads input (S.left source.new) result }
     ensures report { (result ≡ 2 → ⊥) → (input : List ℕ) → S.left source.old ≡ Some input →
-        Reports input (S.left source.new) (K.held sink.old) (K.held sink.new) result }
+        Reports [] input (S.left source.new) (K.held sink.old) (K.held sink.new) result }
 
-    // With known words, an input within its limit and no fault, the answer is 0 or want of memory.
+    // With known words, an input within its limit and no fault, the answer is 0, or 7: out of memory.
     ensures completes { ArePlain (map (λ w. string_bytes w) words.now) → (input : List ℕ) →
         S.left source.old ≡ Some input → length input ≤ LONGEST_INPUT →
         (Rose (S.faults source.old) (S.faults source.new) → ⊥) → (Rose (K.faults sink.old) (K.faults sink.new) → ⊥) →

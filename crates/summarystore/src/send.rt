@@ -1,6 +1,6 @@
 // Hands text to a sink.
 ghost use Rattle.ss_outside.specs.Causes.{HasCause};
-ghost use Rattle.summarystore.specs.Progress.{Sends};
+ghost use Rattle.summarystore.specs.Sent.{Sends};
 
 use ss_outside::{Failed, Sink};
 

@@ -1,5 +1,8 @@
 // How a run ends.
 ghost use Rattle.std.specs.Prelude.{◌≡◌};
+ghost use Rattle.std.specs.Process.{exit_status};
+
+use std::process::ExitCode;
 
 /// How a run ends. docs/GUIDE.md lists the statuses with their causes.
 #[derive(Clone, Copy, Debug, PartialEq, Eq)]
@@ -39,4 +42,11 @@ pub fn complaint(number: u8) -> Option<&'static str> {
         8 => Some("summarystore: input too long"),
         _ => None,
     }
+}
+
+/// The exit code of a number.
+pub fn exit_code(number: u8) -> ExitCode
+    ensures { exit_status result ≡ number }
+{
+    ExitCode::from(number)
 }

@@ -1,25 +1,98 @@
 // The program's rows over devices in memory, and its real devices over made-up streams.
 ghost use Rattle.std.specs.Prelude.{◌<◌, Some};
 
+use crate::notice::notice;
 use crate::run::run;
 use crate::status::complaint;
 use ss_outside::{Failed, MemSink, MemSource, Sink, Source};
 use std::alloc::{AllocError, Global};
 use std::test::Fail;
 
-// The worked row: seven readings, 99 bytes.
+// The worked row, 118 bytes: a stream and seven readings, each reply 7 bytes long.
 const READINGS: &str =
-    "append s 10 5\nappend s 20 -3\nappend s 30 8\nappend s 40 1\nappend s 50 9\nappend s 60 2\nappend s 70 7\n";
+    "create a exp 2 1 1\nappend a 10 5\nappend a 20 -3\nappend a 30 8\nappend a 40 1\n\
+    append a 50 9\nappend a 60 2\nappend a 70 7\n";
 
-const REPORT: &str = "ok 1 1\nok 2 2\nok 3 2\nok 4 3\nok 5 3\nok 6 4\nok 7 3\n";
+const REPORT: &str = "ok 0 0\nok 1 1\nok 2 2\nok 3 2\nok 4 3\nok 5 3\nok 6 4\nok 7 3\n";
 
-// The front of the report that has so many replies, of 7 bytes each.
+// The front of its report that has so many replies.
 fn front(replies: usize) -> &'static [u8] {
     let end = replies.saturating_mul(7).min(REPORT.len());
     &REPORT.as_bytes()[..end]
 }
 
+// Four streams, two values and what is shown of them: each line of the report is a piece of its own.
+const SHOWN: &str =
+    "create d exp 2 1 1\ncreate b exp 2 1 1\ncreate a exp 3 2 1\ncreate c exp 16 65536 65536\n\
+    append b 1 -7\nappend b 2 3\nwindows b\nlist\n";
+
+const SHOWN_LINES: [&str; 14] = [
+    "ok 0 0\n",
+    "ok 0 0\n",
+    "ok 0 0\n",
+    "ok 0 0\n",
+    "ok 1 1\n",
+    "ok 2 2\n",
+    "windows 2\n",
+    "1 1 1 -7 -7 -7 1 1\n",
+    "2 2 1 3 3 3 2 2\n",
+    "list 4\n",
+    "d exp 2 1 1 0 0 0 0\n",
+    "b exp 2 1 1 2 2 0 0\n",
+    "a exp 3 2 1 0 0 0 0\n",
+    "c exp 16 65536 65536 0 0 0 0\n",
+];
+
+// After the worked row: each refusal, in the order in which they are tested.
+const ORDER: &str =
+    "create a exp 2 1 1\nappend a 70 7\ncreate a exp 2 1 1\ncreate a exp 1 1 1\nappend x 1 1\n\
+    append x y 1\nappend x! y 1\nappend x! 1 1\nappend \u{e9} 1 1\nappend a 70 1\nwindows\nwindows x\n\
+    create p power 1 1 1 1\nlist\n";
+
+const ORDER_REPORT: &str = "ok 0 0\nok 1 1\nrefused EXISTS\nrefused PARAM\nrefused UNKNOWN\n\
+    refused NUMBER\nrefused NUMBER\nrefused NAME\nrefused NAME\nrefused TIME\nrefused SYNTAX\nrefused UNKNOWN\n\
+    refused PARAM\nlist 1\na exp 2 1 1 1 1 0 0\n";
+
+// The edges of numbers.
+const EDGES: &str =
+    "create a exp 2 1 1\nappend a 4611686018427387905 1\nappend a 0080 9223372036854775808\n\
+    append a 80 -9223372036854775809\nappend a 80 9223372036854775807\n\
+    append a 4611686018427387904 -9223372036854775808\nappend a 4611686018427387904 -0\nwindows a\n\
+    create b exp 4294967296 1 1\ncreate b exp 4294967295 1 1\n";
+
+const EDGES_REPORT: &str =
+    "ok 0 0\nrefused NUMBER\nrefused NUMBER\nrefused NUMBER\nok 1 1\nok 2 2\n\
+    refused TIME\nwindows 2\n\
+    1 1 1 9223372036854775807 9223372036854775807 9223372036854775807 80 80\n\
+    2 2 1 -9223372036854775808 -9223372036854775808 -9223372036854775808 4611686018427387904 4611686018427387904\n\
+    refused NUMBER\nrefused PARAM\n";
+
+// Lines that are no command, a line in other letters, tabs and blanks, a NUL, returns, and a last line without a line end.
+const LINES: &str = "\r\n \t \n# note\n #\nLIST\nlist\0\n\tlist  \nlist\r\nlist\r\r\nlist";
+
+const LINES_REPORT: &str =
+    "refused SYNTAX\nrefused SYNTAX\nrefused SYNTAX\nlist 0\nlist 0\nrefused SYNTAX\nlist 0\n";
+
 const USAGE: &str = "usage: summarystore STORE [run | check | gen SEED COUNT]\n";
+
+// A text with so many blanks behind it, and then an end.
+fn padded(alloc: Global, text: &str, blanks: usize, end: &str) -> Result<String, AllocError> {
+    let mut line = String::from_str(alloc, text)?;
+    for _ in 0..blanks {
+        line.push(' ')?;
+    }
+    line.push_str(end)?;
+    Ok(line)
+}
+
+// So many lines `create sN exp 2 1 1`.
+fn creates(alloc: Global, count: usize) -> Result<String, AllocError> {
+    let mut lines = String::new(alloc);
+    for stream in 0..count {
+        write!(lines, "create s{stream} exp 2 1 1\n")?;
+    }
+    Ok(lines)
+}
 
 fn words_of(alloc: Global, words: &[&str]) -> Result<Vec<String>, AllocError> {
     let mut owned = Vec::new(alloc);
@@ -49,18 +122,10 @@ fn run_over<K: Sink>(
 fn rows_are_reported_in_whatever_pieces(rt: HostRuntime) -> Result<(), Fail> {
     for (input, report) in [
         (READINGS, REPORT),
-        (
-            "append s 10 1\nappend s 10 2\nappend t 11 1\n\nappend s 11 -2\n",
-            "ok 1 1\nrefused TIME\nrefused SYNTAX\nrefused SYNTAX\nok 2 2\n",
-        ),
+        (ORDER, ORDER_REPORT),
+        (EDGES, EDGES_REPORT),
+        (LINES, LINES_REPORT),
         ("", ""),
-        ("\n", "refused SYNTAX\n"),
-        ("append s 1 1", "ok 1 1\n"),
-        ("append s 1 1\n\n", "ok 1 1\nrefused SYNTAX\n"),
-        (
-            "append s 1 1\r\nappend s 1 \0\nappend s 007 -0",
-            "refused SYNTAX\nrefused SYNTAX\nok 1 1\n",
-        ),
     ] {
         for piece in [1, 3, 4096] {
             let mut sink = MemSink::new(rt.alloc());
@@ -73,10 +138,46 @@ fn rows_are_reported_in_whatever_pieces(rt: HostRuntime) -> Result<(), Fail> {
 }
 
 #[test]
+fn a_line_is_measured_without_its_return(rt: HostRuntime) -> Result<(), Fail> {
+    for (blanks, end, report) in [
+        (252, "", "list 0\n"),
+        (252, "\r\nlist", "list 0\nlist 0\n"),
+        (253, "", "refused LINE\n"),
+        (253, "\r\nlist", "refused LINE\nlist 0\n"),
+        (5000, "\nlist", "refused LINE\nlist 0\n"),
+    ] {
+        let input = padded(rt.alloc(), "list", blanks, end)?;
+        let mut sink = MemSink::new(rt.alloc());
+        assert_eq!(rt;
+            run_over(rt.alloc(), &input, 100, &[], &mut sink)?,
+            0,
+            "{blanks}"
+        );
+        assert_eq!(rt; sink.held(), report.as_bytes(), "{blanks}");
+    }
+    Ok(())
+}
+
+#[test]
+fn so_many_streams_stand_and_no_more(rt: HostRuntime) -> Result<(), Fail> {
+    let mut input = creates(rt.alloc(), 4097)?;
+    input.push_str("append s4095 1 1\nappend s4096 1 1\n")?;
+    let mut report = String::new(rt.alloc());
+    for _ in 0..4096 {
+        report.push_str("ok 0 0\n")?;
+    }
+    report.push_str("refused STREAMS\nok 1 1\nrefused UNKNOWN\n")?;
+    let mut sink = MemSink::new(rt.alloc());
+    assert_eq!(rt; run_over(rt.alloc(), &input, 4096, &[], &mut sink)?, 0);
+    assert_eq!(rt; sink.held(), report.as_bytes());
+    Ok(())
+}
+
+#[test]
 fn each_failing_read_ends_the_run(rt: HostRuntime) -> Result<(), Fail> {
-    // How many replies are out before each read: a read gives 9 bytes, and the lines end behind 14, 29, 43, 57, 71, 85
-    // and 99.
-    let rows = [0, 0, 1, 1, 2, 3, 3, 4, 5, 5, 6, 7];
+    // How many replies are out before each read: a read gives 9 bytes, and the lines end after 19, 33, 48, 62, 76, 90,
+    // 104 and 118.
+    let rows = [0, 0, 0, 1, 2, 2, 3, 4, 4, 5, 6, 6, 7, 7, 8];
     for (call, replies) in rows.into_iter().enumerate() {
         let mut sink = MemSink::new(rt.alloc());
         let status = run_over(rt.alloc(), READINGS, 9, &[call as u64], &mut sink)?;
@@ -88,13 +189,19 @@ fn each_failing_read_ends_the_run(rt: HostRuntime) -> Result<(), Fail> {
 
 #[test]
 fn each_failing_put_ends_the_run(rt: HostRuntime) -> Result<(), Fail> {
-    for call in 0..7 {
+    // Also between the rows of a report with rows.
+    let mut front = String::new(rt.alloc());
+    for (call, line) in SHOWN_LINES.into_iter().enumerate() {
         let mut sink = MemSink::new(rt.alloc());
         sink.fail_at([call as u64].to_vec(rt.alloc())?);
-        let status = run_over(rt.alloc(), READINGS, 9, &[], &mut sink)?;
+        let status = run_over(rt.alloc(), SHOWN, 9, &[], &mut sink)?;
         assert_eq!(rt; status, 6, "put {call}");
-        assert_eq!(rt; sink.held(), front(call), "put {call}");
+        assert_eq!(rt; sink.held(), front.as_bytes(), "put {call}");
+        front.push_str(line)?;
     }
+    let mut sink = MemSink::new(rt.alloc());
+    assert_eq!(rt; run_over(rt.alloc(), SHOWN, 9, &[], &mut sink)?, 0);
+    assert_eq!(rt; sink.held(), front.as_bytes());
     Ok(())
 }
 
@@ -127,7 +234,7 @@ fn a_slow_sink_gets_all(rt: HostRuntime) -> Result<(), Fail> {
 #[test]
 fn words_are_known_or_the_usage_is_said(rt: HostRuntime) -> Result<(), Fail> {
     let rows: [(&[&str], u8, &str); 6] = [
-        (&["summarystore", "readings.store", "run"], 0, "ok 1 1\n"),
+        (&["summarystore", "readings.store", "run"], 0, "ok 0 0\n"),
         (&["summarystore"], 2, USAGE),
         (&["summarystore", "readings.store", "Run"], 2, USAGE),
         (&["summarystore", "readings.store", "check"], 2, USAGE),
@@ -136,11 +243,33 @@ fn words_are_known_or_the_usage_is_said(rt: HostRuntime) -> Result<(), Fail> {
     ];
     for (words, status, written) in rows {
         let words = words_of(rt.alloc(), words)?;
-        let input = "append s 1 1".as_bytes().to_vec(rt.alloc())?;
+        let input = "create s exp 2 1 1".as_bytes().to_vec(rt.alloc())?;
         let mut source = MemSource::new(rt.alloc(), input, 4096);
         let mut sink = MemSink::new(rt.alloc());
         assert_eq!(rt; run(rt.alloc(), &words, &mut source, &mut sink), status);
         assert_eq!(rt; sink.held(), written.as_bytes());
+    }
+    Ok(())
+}
+
+#[test]
+fn a_notice_is_printed_where_it_is_the_only_argument(rt: HostRuntime) -> Result<(), Fail> {
+    let rows: [(&[&str], Option<&str>); 8] = [
+        (&["summarystore", "--help"], Some("usage: ")),
+        (&["summarystore", "-h"], Some("usage: ")),
+        (&["summarystore", "--version"], Some("summarystore ")),
+        (&["summarystore", "./--help"], None),
+        (&["summarystore", "--Help"], None),
+        (&["summarystore", "--help", "run"], None),
+        (&["--help"], None),
+        (&[], None),
+    ];
+    for (words, front) in rows {
+        let words = words_of(rt.alloc(), words)?;
+        match (notice(&words), front) {
+            (Some(text), Some(front)) => assert!(rt; text.starts_with(front)),
+            (found, _) => assert!(rt; found.is_none() && front.is_none()),
+        }
     }
     Ok(())
 }

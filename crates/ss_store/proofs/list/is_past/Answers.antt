@@ -1,6 +1,6 @@
 use Rattle.std.proofs.Common.{leb, ap, ◌∙◌, sym}
 use Rattle.ss_summary.specs.Figures.{Figures}
-use Rattle.ss_store.specs.Stream.{is_past}
+use Rattle.ss_model.specs.Refusals.{is_past}
 use Rattle.ss_store.proofs.Lists.{newest_time-last}
 use Rattle.ss_store.proofs.list.is_past.Goals as goal
 

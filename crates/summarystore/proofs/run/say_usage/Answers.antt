@@ -1,5 +1,5 @@
 use Rattle.std.proofs.Common.{ℕ, List, subst}
-use Rattle.summarystore.specs.Progress.{Sends}
+use Rattle.summarystore.specs.Sent.{Sends}
 use Rattle.summarystore.proofs.RunLemmas.{SaysUsage-sent}
 use Rattle.summarystore.proofs.run.say_usage.Goals as goal
 

@@ -1,5 +1,5 @@
 use Rattle.std.proofs.Common.{◌≡◌, ◌-◌, ◌≤◌, length, take}
-use Rattle.summarystore.specs.Progress.{appended}
+use Rattle.summarystore.specs.Sent.{appended}
 use Rattle.summarystore.proofs.send.send.Given as goal
 
 -- the sink got so many bytes from the front

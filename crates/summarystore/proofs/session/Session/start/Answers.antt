@@ -1,8 +1,7 @@
-use Rattle.std.proofs.Common.{refl, ap}
-use Rattle.ss_command.specs.Lines.{ended_lines, unended}
-use Rattle.ss_command.specs.LineState.{under_way}
+use Rattle.ss_command.specs.Lines.{ended_lines}
+use Rattle.ss_model.specs.State.{state}
 use Rattle.summarystore.proofs.session.Session.start.Goals as goal
 
-pub returns-clause-start : goal.returns-clause-start
-unfolding ended_lines unended
-returns-clause-start c before = record { store = c.start.ensures; line = ap (λ r. under_way r) c.new.ensures; held = refl }
+pub returns : goal.returns
+unfolding ended_lines state
+returns c = record { store = c.empty.ensures; line = c.new.ensures.taken }

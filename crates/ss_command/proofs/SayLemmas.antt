@@ -1,0 +1,157 @@
+-- A command that a line means is one that a line can say.
+use Rattle.std.proofs.Common.{◌≡◌, ℕ, suc, zero, ◌-◌, ◌^◌, ◌<◌, ◌≤◌, true, false, Bool, List, [], ◌∷◌, length, Ok, Err, Some, Result, subst, refl, arith, codes, nat_lt, if◌then◌else◌}
+use Rattle.std.proofs.lemmas.Bool.Decides.{nat_tests}
+use Rattle.std.specs.Prelude.{ℤ, pos, negsuc, FitsSigned}
+use Rattle.std.specs.Int.{w64}
+use Rattle.ss_fields.specs.Words.{as_negative, as_positive, number_up_to, signed_of}
+use Rattle.ss_fields.specs.declared.number_error.NumberError.{NumberError}
+use Rattle.ss_catalog.specs.Names.{is_name}
+use Rattle.ss_catalog.specs.declared.TheConstants.{LAST_TIME}
+use Rattle.ss_catalog.specs.declared.event.Event.TheVariants.{Create, Value}
+use Rattle.ss_catalog.specs.declared.params.Params.TheVariants.{Exp, Power}
+use Rattle.ss_catalog.specs.declared.refusal.Refusal.{Refusal}
+use Rattle.ss_command.specs.declared.TheConstants.{LONGEST_LINE}
+use Rattle.ss_command.specs.Grammar.{◌>>=◌, append_of, command_of, create_of, exp_of, is_comment, list_of, meaning, meaning_of_words, name_of, or_number, parameter_of, power_of, time_of, value_of, windows_of}
+use Rattle.ss_command.specs.Printed.{IsSayable}
+use Rattle.ss_command.specs.Words.{is_word, words}
+use Rattle.ss_command.specs.declared.command.Command.{Command}
+use Rattle.ss_command.specs.declared.command.Command.TheVariants as commands
+
+-- where steps give something, the first gave something to the others
+bind-Ok : {A B : Type 0} (r : Result A Refusal) (next : A → Result B Refusal) (b : B) → (r >>= next) ≡ Ok b → (a : A) × (r ≡ Ok a) × (next a ≡ Ok b)
+bind-Ok (Ok a) next b same = (a, refl, same)
+bind-Ok (Err e) next b same = cc
+
+-- a number that was read is within its limit
+or_number-Ok : {N : Type 0} (r : Result N NumberError) (n : N) → or_number r ≡ Ok n → r ≡ Ok n
+or_number-Ok (Ok m) n same = cc
+or_number-Ok (Err e) n same = cc
+
+number_up_to-le : (most n : ℕ) (word : List ℕ) → number_up_to most word ≡ Ok n → n ≤ most
+unfolding number_up_to
+number_up_to-le most n word same = grind (arith, nat_tests)
+
+time-le : (word : List ℕ) (t : ℕ) → time_of word ≡ Ok t → t ≤ LAST_TIME
+time-le word t same = number_up_to-le LAST_TIME t word (or_number-Ok (number_up_to LAST_TIME word) t same)
+
+parameter-lt : (word : List ℕ) (n : ℕ) → parameter_of word ≡ Ok n → n < 2 ^ 32
+parameter-lt word n same =
+    let small = number_up_to-le (2 ^ 32 - 1) n word (or_number-Ok (number_up_to (2 ^ 32 - 1) word) n same) in
+    omega arith
+
+positive-fits : (r : Result ℕ NumberError) (v : ℤ) → ((n : ℕ) → r ≡ Ok n → n ≤ 2 ^ 63 - 1) → as_positive r ≡ Ok v → FitsSigned w64 v
+positive-fits (Ok n) v small same =
+    let is : pos n ≡ v = cc in
+    let low = small n refl in
+    subst (FitsSigned w64) is (record { sfits = omega arith })
+positive-fits (Err e) v small same = cc
+
+negative-fits : (r : Result ℕ NumberError) (v : ℤ) → ((n : ℕ) → r ≡ Ok n → n ≤ 2 ^ 63) → as_negative r ≡ Ok v → FitsSigned w64 v
+negative-fits (Ok zero) v small same =
+    let is : pos 0 ≡ v = cc in
+    subst (FitsSigned w64) is (record { sfits = omega arith })
+negative-fits (Ok (suc n)) v small same =
+    let is : negsuc n ≡ v = cc in
+    let low = small (suc n) refl in
+    subst (FitsSigned w64) is (record { sfits = omega arith })
+negative-fits (Err e) v small same = cc
+
+-- what holds of either of two results holds of the one that a test picks
+choice : {A E : Type 0} (P : Type 0) (b : Bool) (x y : Result A E) (a : A) → (x ≡ Ok a → P) → (y ≡ Ok a → P) → (if b then x else y) ≡ Ok a → P
+choice P true x y a here there same = here same
+choice P false x y a here there same = there same
+
+value-fits : (word : List ℕ) (v : ℤ) → value_of word ≡ Ok v → FitsSigned w64 v
+unfolding signed_of
+value-fits word v same =
+    choice (FitsSigned w64 v) _ _ _ v
+    (negative-fits _ v (λ n. number_up_to-le (2 ^ 63) n _))
+    (positive-fits _ v (λ n. number_up_to-le (2 ^ 63 - 1) n _))
+    (or_number-Ok (signed_of word) v same)
+
+-- a name that was read is one
+name-is : (word name : List ℕ) → name_of word ≡ Ok name → is_name name ≡ true
+name-is word name same = grind arith
+
+exp-sayable : (name : List ℕ) (ws : List (List ℕ)) (c : Command) → exp_of name ws ≡ Ok c → IsSayable c
+exp-sayable name [] c same = cc
+exp-sayable name (b ∷ []) c same = cc
+exp-sayable name (b ∷ r ∷ []) c same = cc
+exp-sayable name (b ∷ r ∷ s ∷ []) c same =
+    let base = bind-Ok (parameter_of b) _ c same in
+    let windows = bind-Ok (parameter_of r) _ c base.2 in
+    let scale = bind-Ok (parameter_of s) _ c windows.2 in
+    let stream = bind-Ok (name_of name) _ c scale.2 in
+    let is : commands.Do (Create stream.0 (Exp base.0 windows.0 scale.0)) ≡ c = cc (stream.2) in
+    subst IsSayable is (name-is name stream.0 stream.1, (parameter-lt b base.0 base.1, parameter-lt r windows.0 windows.1, parameter-lt s scale.0 scale.1))
+exp-sayable name (b ∷ r ∷ s ∷ more ∷ rest) c same = cc
+
+power-sayable : (name : List ℕ) (ws : List (List ℕ)) (c : Command) → power_of name ws ≡ Ok c → IsSayable c
+power-sayable name [] c same = cc
+power-sayable name (p ∷ []) c same = cc
+power-sayable name (p ∷ q ∷ []) c same = cc
+power-sayable name (p ∷ q ∷ r ∷ []) c same = cc
+power-sayable name (p ∷ q ∷ r ∷ s ∷ []) c same =
+    let power = bind-Ok (parameter_of p) _ c same in
+    let widening = bind-Ok (parameter_of q) _ c power.2 in
+    let windows = bind-Ok (parameter_of r) _ c widening.2 in
+    let scale = bind-Ok (parameter_of s) _ c windows.2 in
+    let stream = bind-Ok (name_of name) _ c scale.2 in
+    let is : commands.Do (Create stream.0 (Power power.0 widening.0 windows.0 scale.0)) ≡ c = cc (stream.2) in
+    subst IsSayable is (name-is name stream.0 stream.1, (parameter-lt p power.0 power.1, parameter-lt q widening.0 widening.1, parameter-lt r windows.0 windows.1, parameter-lt s scale.0 scale.1))
+power-sayable name (p ∷ q ∷ r ∷ s ∷ more ∷ rest) c same = cc
+
+create-sayable : (ws : List (List ℕ)) (c : Command) → create_of ws ≡ Ok c → IsSayable c
+create-sayable [] c same = cc
+create-sayable (name ∷ []) c same = cc
+create-sayable (name ∷ family ∷ numbers) c same =
+    choice (IsSayable c) (is_word family (codes "exp")) _ _ c (exp-sayable name numbers c)
+    (choice (IsSayable c) (is_word family (codes "power")) _ _ c (power-sayable name numbers c) (λ wrong. cc (wrong)))
+    same
+
+append-sayable : (ws : List (List ℕ)) (c : Command) → append_of ws ≡ Ok c → IsSayable c
+append-sayable [] c same = cc
+append-sayable (name ∷ []) c same = cc
+append-sayable (name ∷ time ∷ []) c same = cc
+append-sayable (name ∷ time ∷ value ∷ []) c same =
+    let t = bind-Ok (time_of time) _ c same in
+    let v = bind-Ok (value_of value) _ c t.2 in
+    let stream = bind-Ok (name_of name) _ c v.2 in
+    let is : commands.Do (Value stream.0 t.0 v.0) ≡ c = cc (stream.2) in
+    subst IsSayable is (name-is name stream.0 stream.1, time-le time t.0 t.1, value-fits value v.0 v.1)
+append-sayable (name ∷ time ∷ value ∷ more ∷ rest) c same = cc
+
+windows-sayable : (ws : List (List ℕ)) (c : Command) → windows_of ws ≡ Ok c → IsSayable c
+windows-sayable [] c same = cc
+windows-sayable (name ∷ []) c same =
+    let stream = bind-Ok (name_of name) _ c same in
+    let is : commands.Windows stream.0 ≡ c = cc (stream.2) in
+    subst IsSayable is (name-is name stream.0 stream.1)
+windows-sayable (name ∷ more ∷ rest) c same = cc
+
+list-sayable : (ws : List (List ℕ)) (c : Command) → list_of ws ≡ Ok c → IsSayable c
+list-sayable [] c same = let is : commands.List ≡ c = cc in subst IsSayable is tt
+list-sayable (more ∷ rest) c same = cc
+
+command-sayable : (verb : List ℕ) (rest : List (List ℕ)) (c : Command) → command_of verb rest ≡ Ok c → IsSayable c
+command-sayable verb rest c same =
+    choice (IsSayable c) (is_word verb (codes "create")) _ _ c (create-sayable rest c)
+    (choice (IsSayable c) (is_word verb (codes "append")) _ _ c (append-sayable rest c)
+    (choice (IsSayable c) (is_word verb (codes "windows")) _ _ c (windows-sayable rest c)
+    (choice (IsSayable c) (is_word verb (codes "list")) _ _ c (list-sayable rest c) (λ wrong. cc (wrong)))))
+    same
+
+words-sayable : (ws : List (List ℕ)) (c : Command) → meaning_of_words ws ≡ Ok (Some c) → IsSayable c
+words-sayable [] c same = cc
+words-sayable (verb ∷ rest) c same =
+    let command = bind-Ok (command_of verb rest) _ (Some c) same in
+    let is : command.0 ≡ c = cc (command.2) in
+    subst IsSayable is (command-sayable verb rest command.0 command.1)
+
+-- a command that a line means is one that a line can say
+pub meant-sayable : (line : List ℕ) (c : Command) → meaning line ≡ Ok (Some c) → IsSayable c
+unfolding meaning
+meant-sayable line c same =
+    choice (IsSayable c) (nat_lt LONGEST_LINE (length line)) _ _ (Some c) (λ wrong. cc (wrong))
+    (choice (IsSayable c) (is_comment line) _ _ (Some c) (λ wrong. cc (wrong)) (words-sayable (words line) c))
+    same

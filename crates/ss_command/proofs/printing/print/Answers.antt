@@ -1,0 +1,28 @@
+use Rattle.std.proofs.Common.{rules, ap, sym, ◌∙◌, Ok, Some}
+use Rattle.ss_command.specs.Grammar.{meaning}
+use Rattle.ss_command.specs.Printed.{IsSayable, printed}
+use Rattle.ss_command.specs.declared.command.Command.TheVariants as commands
+use Rattle.ss_command.proofs.PrintLemmas.{meaning-printed}
+use Rattle.ss_command.proofs.printing.print.Goals as goal
+
+pub returns-in-Do-clause-reads_back : goal.returns-in-Do-clause-reads_back
+returns-in-Do-clause-reads_back c =
+    ap meaning c.print_event.ensures.text ∙ meaning-printed (commands.Do c.in-Do.event) c.print_event.ensures.sayable ∙ ap (λ command. Ok (Some command)) (sym c.in-Do.is)
+
+pub returns-in-Windows-clause-text : goal.returns-in-Windows-clause-text
+unfolding printed
+returns-in-Windows-clause-text c = search rules
+
+pub returns-in-Windows-clause-reads_back : goal.returns-in-Windows-clause-reads_back
+returns-in-Windows-clause-reads_back c =
+    let sayable : IsSayable c.args.command.now = rw c.in-Windows.is c.put_name.ensures.name in
+    ap meaning (returns-in-Windows-clause-text c) ∙ meaning-printed c.args.command.now sayable
+
+pub returns-in-List-clause-text : goal.returns-in-List-clause-text
+unfolding printed
+returns-in-List-clause-text c = search rules
+
+pub returns-in-List-clause-reads_back : goal.returns-in-List-clause-reads_back
+returns-in-List-clause-reads_back c =
+    let sayable : IsSayable c.args.command.now = rw c.in-List.is tt in
+    ap meaning (returns-in-List-clause-text c) ∙ meaning-printed c.args.command.now sayable

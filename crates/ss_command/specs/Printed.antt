@@ -1,0 +1,50 @@
+-- How a command is printed.
+use Rattle.std.specs.Prelude.{◌≡◌, ℕ, ◌≤◌, ◌<◌, ◌^◌, List, [], ◌∷◌, ◌++◌, fold, codes, true, FitsSigned}
+use Rattle.std.specs.Fmt.{decimal, signed_decimal}
+use Rattle.std.specs.Int.{w64}
+use Rattle.ss_catalog.specs.Events.{IsInTime}
+use Rattle.ss_catalog.specs.Names.{is_name}
+use Rattle.ss_catalog.specs.declared.TheConstants.{LAST_TIME}
+use Rattle.ss_catalog.specs.declared.event.Event.TheVariants.{Create, Value}
+use Rattle.ss_catalog.specs.declared.params.Params.{Params}
+use Rattle.ss_catalog.specs.declared.params.Params.TheVariants.{Exp, Power}
+use Rattle.ss_command.specs.declared.command.Command.{Command}
+use Rattle.ss_command.specs.declared.command.Command.TheVariants as commands
+
+-- a text with one more word, behind one space
+abbrev pub with_word : List ℕ → List ℕ → List ℕ
+with_word text word = text ++ 32 ∷ word
+
+-- the words of a target, as `create` takes them
+abbrev pub target_words : Params → List (List ℕ)
+target_words (Exp b r s) = codes "exp" ∷ decimal b ∷ decimal r ∷ decimal s ∷ []
+target_words (Power p q r s) = codes "power" ∷ decimal p ∷ decimal q ∷ decimal r ∷ decimal s ∷ []
+
+-- words with one space between them
+abbrev pub spaced : List ℕ → List (List ℕ) → List ℕ
+spaced first rest = fold with_word first rest
+
+-- a command as it is printed: its words with one space between them, numbers without leading zeros
+unfoldable pub printed : Command → List ℕ
+printed (commands.Do (Create name params)) = spaced (codes "create") (name ∷ target_words params)
+printed (commands.Do (Value name t v)) = spaced (codes "append") (name ∷ decimal t ∷ signed_decimal v ∷ [])
+printed (commands.Windows name) = spaced (codes "windows") (name ∷ [])
+printed commands.List = codes "list"
+
+-- the parameters fit 32 bits
+abbrev pub HasParameters : Params → Type 0
+HasParameters (Exp b r s) = (b < 2 ^ 32) × (r < 2 ^ 32) × (s < 2 ^ 32)
+HasParameters (Power p q r s) = (p < 2 ^ 32) × (q < 2 ^ 32) × (r < 2 ^ 32) × (s < 2 ^ 32)
+
+-- a command that a line can say: its name is one, its numbers are in their ranges
+abbrev pub IsSayable : Command → Type 0
+IsSayable (commands.Do (Create name params)) = (is_name name ≡ true) × HasParameters params
+IsSayable (commands.Do (Value name t v)) = (is_name name ≡ true) × (t ≤ LAST_TIME) × FitsSigned w64 v
+IsSayable (commands.Windows name) = is_name name ≡ true
+IsSayable commands.List = Unit {0}
+
+-- a command has no time above the greatest one
+abbrev pub IsCommandInTime : Command → Type 0
+IsCommandInTime (commands.Do event) = IsInTime event
+IsCommandInTime (commands.Windows name) = Unit {0}
+IsCommandInTime commands.List = Unit {0}

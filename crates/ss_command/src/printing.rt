@@ -1,0 +1,52 @@
+// How a command is printed.
+ghost use Rattle.std.specs.Prelude.{◌≡◌, [], Ok, Some};
+ghost use Rattle.ss_catalog.specs.Events.{IsInTime};
+ghost use Rattle.ss_command.specs.Grammar.{meaning};
+ghost use Rattle.ss_command.specs.Printed.{IsCommandInTime, IsSayable, printed};
+ghost use Rattle.ss_command.specs.declared.command.Command.TheVariants as commands;
+
+use crate::command::Command;
+use crate::put::{put_name, put_number, put_target, put_value};
+use arrayvec::ArrayString;
+use ss_catalog::Event;
+
+// Writes an event into an empty text.
+fn print_event(event: &Event, out: &mut ArrayString<256>)
+    requires empty { out.old.bytes ≡ [] }
+    requires time { IsInTime event.now }
+    ensures text { out.new.bytes ≡ printed (commands.Do event.now) }
+    ensures sayable { IsSayable (commands.Do event.now) }
+{
+    match event {
+        Event::Create { name, params } => {
+            out.push_str("create");
+            put_name(name, out);
+            put_target(params, out);
+        }
+        Event::Value { name, t, v } => {
+            out.push_str("append");
+            put_name(name, out);
+            put_number(*t, out);
+            put_value(*v, out);
+        }
+    }
+}
+
+/// Writes a command into an empty text: its words with one space between them, numbers without leading zeros. `parse`
+/// reads it as the same command.
+pub fn print(command: &Command, out: &mut ArrayString<256>)
+    requires empty { out.old.bytes ≡ [] }
+    requires time { IsCommandInTime command.now }
+    ensures text { out.new.bytes ≡ printed command.now }
+    ensures sayable { IsSayable command.now }
+    ensures reads_back { meaning out.new.bytes ≡ Ok (Some command.now) }
+{
+    match command {
+        Command::Do(event) => print_event(event, out),
+        Command::Windows(name) => {
+            out.push_str("windows");
+            put_name(name, out);
+        }
+        Command::List => out.push_str("list"),
+    }
+}

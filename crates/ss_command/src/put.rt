@@ -1,0 +1,74 @@
+// Words put behind a text.
+ghost use Rattle.std.specs.Prelude.{◌≡◌, ◌≤◌, ◌+◌, length, true};
+ghost use Rattle.std.specs.Fmt.{decimal, signed_decimal};
+ghost use Rattle.ss_catalog.specs.Names.{is_name};
+ghost use Rattle.ss_command.specs.Printed.{HasParameters, spaced, target_words, with_word};
+
+use arrayvec::ArrayString;
+use ss_catalog::{Name, Params};
+use ss_fields::{print_i64, print_i128, print_u64};
+
+/// Adds a space and a name.
+pub fn put_name(name: &Name, out: &mut ArrayString<256>)
+    requires { length out.old.bytes + 33 ≤ 256 }
+    ensures bytes { out.new.bytes ≡ with_word out.old.bytes name.now }
+    ensures short { length out.new.bytes ≤ length out.old.bytes + 33 }
+    ensures name { is_name name.now ≡ true }
+{
+    out.push_str(" ");
+    out.push_str(name.as_str());
+}
+
+/// Adds a space and a number.
+pub fn put_number(number: u64, out: &mut ArrayString<256>)
+    requires { length out.old.bytes + 41 ≤ 256 }
+    ensures bytes { out.new.bytes ≡ with_word out.old.bytes (decimal number) }
+    ensures short { length out.new.bytes ≤ length out.old.bytes + 21 }
+{
+    out.push_str(" ");
+    print_u64(number, out);
+}
+
+/// Adds a space and a value.
+pub fn put_value(value: i64, out: &mut ArrayString<256>)
+    requires { length out.old.bytes + 41 ≤ 256 }
+    ensures bytes { out.new.bytes ≡ with_word out.old.bytes (signed_decimal value) }
+    ensures short { length out.new.bytes ≤ length out.old.bytes + 21 }
+{
+    out.push_str(" ");
+    print_i64(value, out);
+}
+
+/// Adds a space and a sum.
+pub fn put_sum(sum: i128, out: &mut ArrayString<256>)
+    requires { length out.old.bytes + 41 ≤ 256 }
+    ensures bytes { out.new.bytes ≡ with_word out.old.bytes (signed_decimal sum) }
+    ensures short { length out.new.bytes ≤ length out.old.bytes + 41 }
+{
+    out.push_str(" ");
+    print_i128(sum, out);
+}
+
+/// Adds a target as `create` takes it, with a space before each of its words.
+pub fn put_target(params: &Params, out: &mut ArrayString<256>)
+    requires { length out.old.bytes + 110 ≤ 256 }
+    ensures bytes { out.new.bytes ≡ spaced out.old.bytes (target_words params.now) }
+    ensures short { length out.new.bytes ≤ length out.old.bytes + 90 }
+    ensures parameters { HasParameters params.now }
+{
+    match *params {
+        Params::Exp { b, r, s } => {
+            out.push_str(" exp");
+            put_number(u64::from(b), out);
+            put_number(u64::from(r), out);
+            put_number(u64::from(s), out);
+        }
+        Params::Power { p, q, r, s } => {
+            out.push_str(" power");
+            put_number(u64::from(p), out);
+            put_number(u64::from(q), out);
+            put_number(u64::from(r), out);
+            put_number(u64::from(s), out);
+        }
+    }
+}

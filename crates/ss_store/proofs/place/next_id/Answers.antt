@@ -1,0 +1,24 @@
+use Rattle.std.proofs.Common.{◌≡◌, ◌∙◌, true, false, length, refl, arith}
+use Rattle.std.specs.Prelude.{nat_le, ◌==◌}
+use Rattle.std.proofs.lemmas.Bool.{ne_eqb}
+use Rattle.std.proofs.lemmas.Bool.Decides.{nat_tests}
+use Rattle.ss_catalog.specs.declared.TheConstants.{MOST_STREAMS, LAST_STREAM}
+use Rattle.ss_model.specs.Refusals.{has_all_streams}
+use Rattle.ss_store.proofs.PlaceLemmas.{TellsNext-last}
+use Rattle.ss_store.proofs.place.next_id.Goals as goal
+
+pub returns-else-number-clause-none : goal.returns-else-number-clause-none
+returns-else-number-clause-none c =
+    let item = c.in-Some.ensures.item in
+    let w = c.in-Some.last.now in
+    let tells = TellsNext-last c.args.streams.now w c.requires item.3.0 item.1 (omega arith) in
+    let room : nat_le MOST_STREAMS (length c.args.streams.now) ≡ false = grind (arith, nat_tests) in
+    let free : (w.number == LAST_STREAM) ≡ false = ne_eqb _ _ (λ same. c.if-number.false (c.number-number.ensures ∙ same)) in
+    let none : has_all_streams c.args.streams.now ≡ false = rw (room, tells.taken, free) refl in
+    ((λ wrong. cc), (λ yes. let wrong : false ≡ true = rw none at yes in cc))
+
+pub returns-else-number-clause-value : goal.returns-else-number-clause-value
+returns-else-number-clause-value c =
+    let item = c.in-Some.ensures.item in
+    let tells = TellsNext-last c.args.streams.now c.in-Some.last.now c.requires item.3.0 item.1 (omega arith) in
+    omega (arith, tells.next, c.number-number.ensures)

@@ -1,0 +1,76 @@
+-- Worked rows of the session, and the numbers of its rules.
+use Rattle.std.proofs.Common.{◌≡◌, ◌^◌, ◌++◌, [], ◌∷◌, refl}
+use Rattle.std.specs.Prelude.{ℕ, List, codes, pos, negsuc, flat_map}
+use Rattle.std.specs.Fmt.{digits}
+use Rattle.ss_catalog.specs.Names.{is_name}
+use Rattle.ss_catalog.specs.declared.event.Event.{Event}
+use Rattle.ss_catalog.specs.declared.event.Event.TheVariants.{Create, Value}
+use Rattle.ss_catalog.specs.declared.params.Params.TheVariants.{Exp}
+use Rattle.ss_command.specs.Grammar.{meaning}
+use Rattle.ss_command.specs.Lines.{ended_lines, lines, unended}
+use Rattle.ss_command.specs.Words.{words}
+use Rattle.ss_fields.specs.Words.{is_number, number_of, number_up_to, signed_of}
+use Rattle.ss_model.specs.Refusals.{refuses, refuses_reading}
+use Rattle.ss_model.specs.State.{state}
+use Rattle.ss_windowing.specs.Windowing.{index_of}
+use Rattle.summarystore.specs.Outcome.{lines_within}
+use Rattle.summarystore.specs.Session.{accepted, after_lines, report}
+use Rattle.summarystore.specs.declared.run.TheConstants.{BUFFER, LONGEST_INPUT}
+
+longest_input : LONGEST_INPUT ≡ 2 ^ 36
+longest_input = refl
+
+buffer : BUFFER ≡ 4096
+buffer = refl
+
+-- lines, each with its line end
+abbrev text : List (List ℕ) → List ℕ
+text ls = flat_map (λ line. line ++ 10 ∷ []) ls
+
+-- a stream and seven readings, and what is shown of them
+abbrev readings : List ℕ
+readings =
+    text (codes "create a exp 2 1 1" ∷ codes "append a 10 5" ∷ codes "append a 20 -3" ∷ codes "append a 30 8" ∷ codes "append a 40 1"
+    ∷ codes "append a 50 9" ∷ codes "append a 60 2" ∷ codes "append a 70 7" ∷ codes "windows a" ∷ codes "list" ∷ [])
+
+report-readings : report [] readings
+    ≡ text (codes "ok 0 0" ∷ codes "ok 1 1" ∷ codes "ok 2 2" ∷ codes "ok 3 2" ∷ codes "ok 4 3" ∷ codes "ok 5 3" ∷ codes "ok 6 4" ∷ codes "ok 7 3"
+    ∷ codes "windows 3" ∷ codes "1 4 4 11 -3 8 10 40" ∷ codes "5 6 2 11 2 9 50 60" ∷ codes "7 7 1 7 7 7 70 70"
+    ∷ codes "list 1" ∷ codes "a exp 2 1 1 7 3 0 0" ∷ [])
+unfolding ended_lines unended meaning words is_number number_of number_up_to signed_of is_name state refuses refuses_reading index_of digits
+report-readings = refl
+
+-- their events
+abbrev history : List Event
+history =
+    Create (codes "a") (Exp 2 1 1) ∷ Value (codes "a") 10 (pos 5) ∷ Value (codes "a") 20 (negsuc 2) ∷ Value (codes "a") 30 (pos 8)
+    ∷ Value (codes "a") 40 (pos 1) ∷ Value (codes "a") 50 (pos 9) ∷ Value (codes "a") 60 (pos 2) ∷ Value (codes "a") 70 (pos 7) ∷ []
+
+accepted-readings : accepted [] (lines readings) ≡ history
+unfolding ended_lines unended meaning words is_number number_of number_up_to signed_of is_name state refuses refuses_reading index_of
+accepted-readings = refl
+
+-- after that history: each refusal, lines that are no command, and two lines that are taken, the last one without a line end
+abbrev mistakes : List ℕ
+mistakes =
+    text (codes "create a exp 2 1 1" ∷ codes "create a exp 1 1 1" ∷ codes "append x 1 1" ∷ codes "append x y 1" ∷ codes "append x! 1 1"
+    ∷ codes "append a 70 1" ∷ codes "windows" ∷ codes "windows x" ∷ [] ∷ codes "# note" ∷ codes "create b exp 2 1 4" ∷ []) ++ codes "append a 80 -1"
+
+report-mistakes : report history mistakes
+    ≡ text (codes "refused EXISTS" ∷ codes "refused PARAM" ∷ codes "refused UNKNOWN" ∷ codes "refused NUMBER" ∷ codes "refused NAME"
+    ∷ codes "refused TIME" ∷ codes "refused SYNTAX" ∷ codes "refused UNKNOWN" ∷ codes "ok 0 0" ∷ codes "ok 8 4" ∷ [])
+unfolding ended_lines unended meaning words is_number number_of number_up_to signed_of is_name state refuses refuses_reading index_of digits
+report-mistakes = refl
+
+after_lines-mistakes : after_lines history (lines mistakes) ≡ history ++ Create (codes "b") (Exp 2 1 4) ∷ Value (codes "a") 80 (negsuc 0) ∷ []
+unfolding ended_lines unended meaning words is_number number_of number_up_to signed_of is_name state refuses refuses_reading index_of
+after_lines-mistakes = refl
+
+-- the last line has ended where nothing is left
+lines_within-rest : lines_within (codes "ab" ++ 10 ∷ codes "c") (codes "d") ≡ codes "ab" ∷ []
+unfolding ended_lines unended
+lines_within-rest = refl
+
+lines_within-end : lines_within (codes "ab" ++ 10 ∷ codes "c") [] ≡ codes "ab" ∷ codes "c" ∷ []
+unfolding ended_lines unended
+lines_within-end = refl

@@ -1,0 +1,99 @@
+-- What one line brings: the one place that says what a line does to the history before it.
+use Rattle.std.specs.Prelude.{◌≡◌, ℕ, List, [], ◌∷◌, ◌++◌, length, map, flat_map, Option, Some, None, Result, Ok, Err}
+use Rattle.ss_catalog.specs.Events.{event_name}
+use Rattle.ss_catalog.specs.declared.event.Event.{Event}
+use Rattle.ss_catalog.specs.declared.refusal.Refusal.{Refusal}
+use Rattle.ss_command.specs.Grammar.{meaning}
+use Rattle.ss_command.specs.declared.command.Command.{Command}
+use Rattle.ss_command.specs.declared.command.Command.TheVariants.{Do, Windows, List as ListAll}
+use Rattle.ss_model.specs.Refusals.{refuses, refuses_reading}
+use Rattle.ss_model.specs.Shown.{placed_of, row_of}
+use Rattle.ss_model.specs.State.{Stream, state, stream_named}
+use Rattle.ss_model.specs.Steps.{ack_of}
+use Rattle.ss_report.specs.Text.{reply_line}
+use Rattle.ss_report.specs.declared.reply.Reply.{Reply}
+use Rattle.ss_report.specs.declared.reply.Reply.TheVariants.{Done, Refused, WindowsHead, Window, ListHead, Stream as StreamRow}
+
+-- a history: the events that were accepted, oldest first
+abbrev pub History : Type 0
+History = List Event
+
+-- what a line brings: the replies to it, in order, and the event that it adds, or none
+pub record Brought : Type 0 where
+  pub replies : List Reply
+  pub event : Option Event
+
+-- a line that is no command: no reply, and no event
+abbrev pub nothing : Brought
+nothing = record { replies = []; event = None }
+
+-- a command that only reads
+abbrev pub shown : List Reply → Brought
+shown replies = record { replies = replies; event = None }
+
+-- a line that is refused
+abbrev pub refused : Refusal → Brought
+refused refusal = shown (Refused refusal ∷ [])
+
+-- what is brought, unless there is a refusal
+abbrev pub unless_refused : Option Refusal → Brought → Brought
+unless_refused None brought = brought
+unless_refused (Some refusal) brought = refused refusal
+
+-- an event that is accepted: the reply says what its stream has then
+abbrev pub accepted_event : History → Event → Brought
+accepted_event history event = record {
+  replies = Done (ack_of (event_name event) (state (history ++ event ∷ []))) ∷ [];
+  event = Some event;
+}
+
+-- the rows of a stream's windows, oldest first
+abbrev pub window_rows : Stream → List Reply
+window_rows s = map (λ w. Window (placed_of w)) s.windows
+
+-- a stream's windows, with their head; nothing of one that doesn't stand
+abbrev pub windows_shown : Option Stream → List Reply
+windows_shown None = []
+windows_shown (Some s) = WindowsHead (length s.windows) ∷ window_rows s
+
+-- the rows of all streams, in order of creation
+abbrev pub stream_rows : List Stream → List Reply
+stream_rows streams = map (λ s. StreamRow (row_of s)) streams
+
+-- what a command brings
+abbrev pub command_brings : History → Command → Brought
+command_brings history (Do event) = unless_refused (refuses (state history) event) (accepted_event history event)
+command_brings history (Windows name) =
+    unless_refused (refuses_reading (state history) name) (shown (windows_shown (stream_named name (state history))))
+command_brings history ListAll = shown (ListHead (length (state history)) ∷ stream_rows (state history))
+
+-- what a line brings that means this
+abbrev pub meaning_brings : History → Result (Option Command) Refusal → Brought
+meaning_brings history (Err refusal) = refused refusal
+meaning_brings history (Ok None) = nothing
+meaning_brings history (Ok (Some command)) = command_brings history command
+
+-- what a line brings after a history
+abbrev pub brings : History → List ℕ → Brought
+brings history line = meaning_brings history (meaning line)
+
+-- the text of what a line brings
+abbrev pub text_brought : Brought → List ℕ
+text_brought brought = flat_map reply_line brought.replies
+
+-- the text of the replies to a line
+abbrev pub line_text : History → List ℕ → List ℕ
+line_text history line = text_brought (brings history line)
+
+-- an event by itself, where there is one
+abbrev pub the_event : Option Event → List Event
+the_event None = []
+the_event (Some event) = event ∷ []
+
+-- the history after what a line brings
+abbrev pub history_after : History → Brought → History
+history_after history brought = history ++ the_event brought.event
+
+-- the store of a history
+abbrev pub StandsFor : List Stream → History → Type 0
+StandsFor store history = store ≡ state history

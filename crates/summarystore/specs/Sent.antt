@@ -1,0 +1,20 @@
+-- What is sent to a sink.
+use Rattle.std.specs.Prelude.{◌≡◌, ℕ, ◌<◌, ◌++◌, List, take, length, Option, option_map, Result, Ok, Err}
+use Rattle.ss_outside.specs.declared.source.Failed.{Failed}
+
+-- what a sink holds with a text at its end, where it tells what it holds
+abbrev pub appended : Option (List ℕ) → List ℕ → Option (List ℕ)
+appended held text = option_map (λ bytes. bytes ++ text) held
+
+-- the text was appended, or only some bytes of its front
+abbrev pub AppendsFront : Option (List ℕ) → Option (List ℕ) → List ℕ → Type 0
+AppendsFront before after text = (k : ℕ) × (after ≡ appended before (take k text))
+
+-- less than the whole text was appended
+abbrev pub AppendsLess : Option (List ℕ) → Option (List ℕ) → List ℕ → Type 0
+AppendsLess before after text = (k : ℕ) × (k < length text) × (after ≡ appended before (take k text))
+
+-- what sending a text leaves: the text at the end, or at a failure less than all of it
+abbrev pub Sends : Option (List ℕ) → Option (List ℕ) → List ℕ → Result Unit Failed → Type 0
+Sends before after text (Ok u) = after ≡ appended before text
+Sends before after text (Err e) = AppendsLess before after text

@@ -1,0 +1,57 @@
+// What is printed where it is the only argument that asks for it.
+ghost use Rattle.std.specs.Prelude.{◌≡◌, ◌⊎◌, ◌↔◌, IsSome, codes};
+
+const HELP: &str = "\
+usage: summarystore STORE [run | check | gen SEED COUNT]
+
+Reads commands from standard input, one a line, and replies to each on standard
+output. STORE is the path of the store. This version keeps its streams in
+memory: nothing is kept in STORE yet, and check and gen are not there yet.
+
+  create NAME exp B R S  a new stream: R windows of each of the lengths S, S*B,
+                         S*B*B and so on, the longer ones for older values
+  append NAME T V        the value V at the time T, later than the last: ok N K
+                         says that the stream has N values in K windows
+  windows NAME           the windows of a stream, oldest first
+  list                   all streams, in order of creation
+
+NAME has up to 32 letters, digits, _, - and . in it. B is 2 to 16, R and S are 1
+to 65536, times are 0 to 2^62, and values have 64 bits. An empty line is no
+command, and a line that begins with # isn't either. Any other line gets refused
+and a word that says why.
+
+Exit statuses:
+  0  done                       6  a write of standard output failed
+  2  unknown arguments          7  out of memory
+  5  a read of standard input   8  the input has more than 2^36 bytes
+     failed
+
+  summarystore --help, -h       prints this text
+  summarystore --version        prints the version
+A store with such a name is ./--help. Documents: README.md, docs/GUIDE.md.
+";
+
+const VERSION: &str = "summarystore 0.1.0\n";
+
+// What this word asks for as the only argument.
+fn asked_for(word: &str) -> Option<&'static str>
+    ensures { IsSome result
+        ↔ (word.now ≡ codes "--help") ⊎ (word.now ≡ codes "-h") ⊎ (word.now ≡ codes "--version") }
+{
+    if word == "--help" || word == "-h" {
+        return Some(HELP);
+    }
+    if word == "--version" {
+        return Some(VERSION);
+    }
+    None
+}
+
+/// What is printed in the place of a run, where the words of the command line are the program's name and one that asks for
+/// it.
+pub fn notice(words: &[String]) -> Option<&'static str> {
+    match words {
+        [_, word] => asked_for(word.as_str()),
+        _ => None,
+    }
+}
