@@ -1,24 +1,28 @@
-# Needs the toolchain's `rt` on the PATH (rt version: rattle-kit-13b). `bench` also needs awk and python3.
+# Needs the toolchain's `rt` on the PATH. `make help` lists the targets.
 PROGRAM = crates/summarystore/out/summarystore
 BENCH = crates/journal_bench/out/journal_bench
+PREFIX = /usr/local
 
-.PHONY: build demo test bench
+.PHONY: build demo test install bench help
 
-# Proves every crate below the program and the program, builds it, and runs it once on an empty input.
-build:
-	cd crates/summarystore && rt run -- any.store < /dev/null
+build: ## proves and builds the program
+	@tools/build summarystore any.store
 
-# Builds the program, runs it on each command file of examples/, and compares the reports with those that lie beside.
-demo: build
+demo: build ## builds the program, and runs it on each file of examples/
 	@examples/demo $(PROGRAM)
 
-# The whole gate.
-test:
+test: ## runs the whole gate: proofs, tests, must-fail edits, program runs
 	.ci/run
 
-# Times the programs that were built last: bench/README.md.
-bench:
+install: ## installs the program that was built last: make install PREFIX=/usr/local
 	@test -x $(PROGRAM) || $(MAKE) build
-	@test -x $(BENCH) || (cd crates/journal_bench && rt run < /dev/null)
+	install -D -m 755 $(PROGRAM) $(DESTDIR)$(PREFIX)/bin/summarystore
+
+bench: ## times the programs that were built last: bench/README.md
+	@test -x $(PROGRAM) || $(MAKE) build
+	@test -x $(BENCH) || tools/build journal_bench
 	@bench/appends $(PROGRAM)
 	@bench/commits $(BENCH)
+
+help: ## lists the targets
+	@awk -F ':.*## ' '/^[a-z]+:.*## / { printf "make %-8s  %s\n", $$1, $$2 }' Makefile
