@@ -2,12 +2,13 @@
 ghost use Rattle.std.specs.Prelude.{◌≡◌, ◌+◌, ◌<◌, ◌≤◌, ◌%◌, ◌^◌, ℕ, min, Err, IsTrue, IfOk, OnOk};
 ghost use Rattle.ss_outside.specs.Causes.{HasCause};
 ghost use Rattle.ss_journal.specs.Calls.{BlamesDisk, ChangesMap};
-ghost use Rattle.ss_journal.specs.Kept.{IsKept, IsSettled, OpensAs};
+ghost use Rattle.ss_outside.specs.MemDisk.{now};
+ghost use Rattle.ss_journal.specs.Kept.{IsKept, IsRunning, IsSettled, OpensAs};
 ghost use Rattle.ss_journal.specs.Puts.{IsTxn, slots_fit};
 ghost use Rattle.journal_bench.specs.Puts.{puts_from};
 
 use ss_journal::{Journal, JournalError, Put, Txn};
-use ss_outside::{Disk, Failed};
+use ss_outside::{Disk, Failed, MemDisk};
 use std::alloc::Global;
 
 /// The commits go round this many slots.
@@ -61,4 +62,42 @@ pub fn commit<D: Disk>(journal: &mut Journal, disk: &mut D, k: u32, puts: u32) -
 {
     let first = (k % SLOTS).min(journal.extent());
     journal.commit(disk, &txn_of(first, puts, (k % 256) as u8))
+}
+
+/// Makes commits number 0 up to `count`, of one put each.
+pub fn commit_many(journal: &mut Journal, disk: &mut MemDisk, count: u32) -> Result<(), Failed>
+    requires settled { IsSettled journal.old }
+    requires one_disk { IsKept journal.old (now disk.old).content }
+    ensures settled { OnOk result (IsSettled journal.new) }
+    ensures one_disk { OnOk result (IsKept journal.new (now disk.new).content) }
+{
+    for k in 0..count {
+        commit(journal, disk, k, 1)?;
+    }
+    Ok(())
+}
+
+/// A journal whose file has all slots, with so many entries in use.
+pub fn with_in_use(alloc: Global, disk: &mut MemDisk, in_use: u32) -> Result<Journal, JournalError>
+    ensures running { IfOk result (λ journal. IsRunning journal) }
+    ensures one_disk { IfOk result (λ journal. IsKept journal (now disk.new).content) }
+{
+    let mut journal = start(alloc, disk)?;
+    commit_many(&mut journal, disk, SLOTS)?;
+    journal.settle(disk)?;
+    commit_many(&mut journal, disk, in_use)?;
+    Ok(journal)
+}
+
+/// Reads so many times, round the slots, and answers the sum of the first bytes.
+pub fn read_many(journal: &mut Journal, disk: &mut MemDisk, count: u32) -> Result<u64, Failed>
+    requires running { IsRunning journal.old }
+    requires one_disk { IsKept journal.old (now disk.old).content }
+{
+    let mut sum = 0u64;
+    for k in 0..count {
+        let bytes = journal.read(disk, k % SLOTS)?;
+        sum = sum.saturating_add(u64::from(bytes[0]));
+    }
+    Ok(sum)
 }

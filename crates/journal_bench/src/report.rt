@@ -2,7 +2,7 @@
 ghost use Rattle.std.specs.Prelude.{◌<◌, ◌≤◌};
 
 use crate::calls::Calls;
-use crate::commits::{SLOTS, commit, start};
+use crate::commits::{commit, read_many, start, with_in_use};
 use crate::counted::Counted;
 use anyhow::{Result, ensure};
 use ss_journal::JournalError;
@@ -93,25 +93,12 @@ pub fn print_time<R: Print + AllocGlobal + Clock>(rt: &R, commits: u32) -> Resul
 // How many reads are timed, round all slots.
 const READS: u32 = 100_000;
 
-// The microseconds that those reads take with so many entries in use, over a file that has all slots.
+// The microseconds that those reads take with so many entries in use.
 fn read_time_of<R: AllocGlobal + Clock>(rt: &R, in_use: u32) -> Result<f64> {
     let mut disk = MemDisk::new(rt.alloc(), Vec::new(rt.alloc()))?;
-    let mut journal = start(rt.alloc(), &mut disk)?;
-    for k in 0..SLOTS {
-        commit(&mut journal, &mut disk, k, 1).map_err(JournalError::from)?;
-    }
-    journal.settle(&mut disk).map_err(JournalError::from)?;
-    for k in 0..in_use {
-        commit(&mut journal, &mut disk, k, 1).map_err(JournalError::from)?;
-    }
+    let mut journal = with_in_use(rt.alloc(), &mut disk, in_use)?;
     let begin = Instant::now(rt)?;
-    let mut sum = 0u64;
-    for k in 0..READS {
-        let bytes = journal
-            .read(&mut disk, k % SLOTS)
-            .map_err(JournalError::from)?;
-        sum = sum.saturating_add(u64::from(bytes[0]));
-    }
+    let sum = read_many(&mut journal, &mut disk, READS).map_err(JournalError::from)?;
     let micros = begin.elapsed(rt)?.as_secs_f64() * 1e6;
     ensure!(sum > 0, "every slot reads as zeros");
     Ok(micros)
