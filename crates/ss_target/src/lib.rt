@@ -5,7 +5,7 @@ mod laws;
 mod target;
 
 pub use laws::lengths_of_a_target_never_fall;
-pub use target::{Power, Target};
+pub use target::Target;
 
 #[cfg(test)]
 mod tests;

@@ -1,11 +1,14 @@
 -- The starts of an exponential target's windows, group by group.
-use Rattle.std.proofs.Common.{ℕ, zero, suc, ◌≡◌, ◌+◌, ◌-◌, ◌*◌, ◌/◌, ◌^◌, ◌<◌, ◌≤◌, sym, ap, ◌∙◌, add-one, arith}
+use Rattle.std.proofs.Common.{ℕ, zero, suc, ◌≡◌, ◌+◌, ◌-◌, ◌*◌, ◌/◌, ◌^◌, ◌<◌, ◌≤◌, inl, inr, sym, ap, ◌∙◌, add-one, arith}
 use Rattle.std.proofs.Math.Nat.{mul_comm, mul-pos, mul-le-mul, mul-le-mul_right, div-mul-le_self, lt-div-mul-add, pow-suc}
+use Rattle.std.proofs.lemmas.Bool.{cases_lt}
 use Rattle.std.proofs.lemmas.Nat.{div-mul-add, div_below}
 use Rattle.ss_windowing.specs.Exp.{exp_length, IsExp}
 use Rattle.ss_windowing.specs.ExpLaws.{exp_length-positive}
+use Rattle.ss_windowing.specs.FirstFit.{FindsOfLength, NoneOfLength}
 use Rattle.ss_windowing.specs.Windowing.{cut, Holds}
-use Rattle.ss_windowing.proofs.WindowingLemmas.{index_le_cut}
+use Rattle.ss_windowing.specs.declared.decay.TheConstants.{MOST_VALUES}
+use Rattle.ss_windowing.proofs.WindowingLemmas.{cut-monotone, index_le_cut}
 
 -- a window's length by its group and its place in the group
 exp_length-group : (b r s g k : ℕ) → k < r → exp_length b r s (r * g + k) ≡ s * b ^ g
@@ -37,13 +40,18 @@ module _ {b r s g start len age : ℕ} (in_range : IsExp b r s) (at : InGroup b 
   pub group_le_age : g ≤ r * g × r * g ≤ age
   group_le_age = (omega (arith, mul-le-mul_right g in_range.repeat_low), omega (arith, index_le_cut (exp_length b r s) (r * g) (exp_length-positive in_range)))
 
+  -- where the next group starts
+  cut-next : cut (exp_length b r s) (r * (g + 1)) ≡ start + r * len
+  cut-next =
+      let next : r * (g + 1) ≡ r * g + r = omega arith in
+      rw (next, at.len_is) (omega (arith, cut-group b r s g r (omega arith), at.start_is))
+
   pub InGroup-next : age ≤ 2 ^ 40 → r * len ≤ age - start → InGroup b r s (g + 1) (start + r * len) (len * b) age
   InGroup-next recent past =
       let before : len ≤ 2 ^ 40 = omega (arith, mul-le-mul_right len in_range.repeat_low) in
-      let next : r * (g + 1) ≡ r * g + r = omega arith in
       record {
         len_is = rw (add-one, pow-suc, at.len_is) (omega arith);
-        start_is = rw (next, at.len_is) (omega (arith, cut-group b r s g r (omega arith)));
+        start_is = sym cut-next;
         begun = omega arith;
         short = mul-le-mul before in_range.base_high;
       }
@@ -69,3 +77,34 @@ module _ {b r s g start len age : ℕ} (in_range : IsExp b r s) (at : InGroup b 
 
     pub place_le_age : r * g + (age - start) / len ≤ age
     place_le_age = omega (arith, holds-place.start, index_le_cut (exp_length b r s) (r * g + (age - start) / len) (exp_length-positive in_range))
+
+  -- where the windows of the newer groups and of this one are shorter than a length
+  module _ {wanted : ℕ} (before : (j : ℕ) → j < r * g → exp_length b r s j < wanted) (short : len < wanted) where
+    pub short-next : (j : ℕ) → j < r * (g + 1) → exp_length b r s j < wanted
+    short-next j inside = elim (cases_lt j (r * g)) [
+      | inl newer ↦ before j newer
+      | inr here ↦
+          (let place : j ≡ r * g + (j - r * g) = omega arith in
+          rw place (omega (arith, exp_length-group b r s g (j - r * g) (omega arith), at.len_is)))
+    ]
+
+    pub NoneOfLength-next : age ≡ MOST_VALUES → age - start < r * len → NoneOfLength (exp_length b r s) 0 wanted
+    NoneOfLength-next most past j from enough = elim (cases_lt j (r * (g + 1))) [
+      | inl inside ↦ absurd (omega (arith, short-next j inside))
+      | inr after ↦ omega (arith, cut-next, at.begun, cut-monotone (exp_length b r s) (r * (g + 1)) j after)
+    ]
+
+  pub FindsOfLength-group : {wanted : ℕ} → ((j : ℕ) → j < r * g → exp_length b r s j < wanted) → wanted ≤ len → age ≡ MOST_VALUES →
+      FindsOfLength (exp_length b r s) 0 wanted (record { index = r * g; start = start; len = len })
+  FindsOfLength-group before long most =
+      let first : len ≡ exp_length b r s (r * g + 0) = at.len_is ∙ sym (exp_length-group b r s g 0 in_range.repeat_low) in
+      let same : r * g + 0 ≡ r * g = omega arith in
+      record {
+        window = record { start = at.start_is; len = rw same at first };
+        first = record {
+          reached = omega arith;
+          long = omega (arith, rw same at first);
+          least = λ j from enough. elim (cases_lt j (r * g)) [ inl newer ↦ absurd (omega (arith, before j newer)) | inr here ↦ here ];
+        };
+        early = omega (arith, at.begun);
+      }

@@ -1,5 +1,6 @@
 // What every family of target windows offers.
-ghost use Rattle.std.specs.Prelude.{◌≡◌, ◌≤◌, ℕ};
+ghost use Rattle.std.specs.Prelude.{◌≡◌, ◌+◌, ◌≤◌, ℕ, IfSome, IfNone};
+ghost use Rattle.ss_windowing.specs.FirstFit.{FindsOfLength, IsWindow, NoneOfLength};
 ghost use Rattle.ss_windowing.specs.Windowing.{cut, Holds, ArePositive, NeverFall};
 
 /// The greatest age: a stream takes at most this many values outside landmarks.
@@ -28,6 +29,30 @@ pub trait Decay {
         ensures holds { Holds (length_of self.now) result.index age }
         ensures start { result.start ≡ cut (length_of self.now) result.index }
         ensures len { result.len ≡ length_of self.now result.index };
+
+    /// The first window of all that has at least a length. None says that each such window begins past the greatest age.
+    fn first_at_least(&self, len: u64) -> Option<Spot>
+        ensures some { IfSome result (FindsOfLength (length_of self.now) 0 len) }
+        ensures none { IfNone result (NoneOfLength (length_of self.now) 0 len) };
+
+    /// The first window behind `spot`, which is a target window, that has at least a length. None says that each such
+    /// window begins past the greatest age.
+    fn next_at_least(&self, spot: Spot, len: u64) -> Option<Spot>
+        requires window { IsWindow (length_of self.now) spot }
+        requires early { spot.start ≤ MOST_VALUES }
+        ensures some { IfSome result (FindsOfLength (length_of self.now) (spot.index + 1) len) }
+        ensures none { IfNone result (NoneOfLength (length_of self.now) (spot.index + 1) len) }
+    {
+        if MOST_VALUES - spot.start < spot.len {
+            return None;
+        }
+        let next = self.window_at(spot.start + spot.len);
+        if len <= next.len {
+            Some(next)
+        } else {
+            self.first_at_least(len)
+        }
+    }
 
     /// No window is empty.
     ghost positive: { (target : Self) → ArePositive (length_of target) };

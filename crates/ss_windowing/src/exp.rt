@@ -1,6 +1,7 @@
 // The exponential family of targets.
-ghost use Rattle.std.specs.Prelude.{◌≡◌, ◌≤◌, ◌↔◌, ℕ, IsOk, IfOk};
+ghost use Rattle.std.specs.Prelude.{◌≡◌, ◌≤◌, ◌↔◌, ℕ, IsOk, IfOk, IfSome, IfNone};
 ghost use Rattle.ss_windowing.specs.Exp.{exp_length, IsExp};
+ghost use Rattle.ss_windowing.specs.FirstFit.{FindsOfLength, NoneOfLength};
 ghost use Rattle.ss_windowing.specs.Windowing.{cut, Holds};
 
 use crate::{Decay, MOST_VALUES, Param, Spot};
@@ -75,6 +76,15 @@ impl Decay for Exp {
             age,
         )
     }
+
+    fn first_at_least(&self, len: u64) -> Option<Spot> {
+        first_long(
+            u64::from(self.base),
+            u64::from(self.repeat),
+            u64::from(self.scale),
+            len,
+        )
+    }
 }
 
 // The window of an age. The parameters come as wide as the age is.
@@ -99,4 +109,29 @@ fn spot(base: u64, repeat: u64, scale: u64, age: u64) -> Spot
         start: start + place * len,
         len,
     }
+}
+
+// The first window of the first group whose windows have at least a length.
+fn first_long(base: u64, repeat: u64, scale: u64, wanted: u64) -> Option<Spot>
+    requires { IsExp base repeat scale }
+    ensures some { IfSome result (FindsOfLength (exp_length base repeat scale) 0 wanted) }
+    ensures none { IfNone result (NoneOfLength (exp_length base repeat scale) 0 wanted) }
+{
+    let mut group = 0u64;
+    let mut start = 0u64;
+    let mut length = scale;
+    while length < wanted {
+        let span = repeat * length;
+        if MOST_VALUES - start < span {
+            return None;
+        }
+        start += span;
+        length *= base;
+        group += 1;
+    }
+    Some(Spot {
+        index: repeat * group,
+        start,
+        len: length,
+    })
 }

@@ -1,5 +1,9 @@
 // Worked rows: tables of windows, and the edges of the parameters.
-use crate::{Decay, Exp, MOST_VALUES, Param, Spot};
+use crate::{
+    Decay, Exp, MOST_VALUES, Param, Spot, exp_lengths_never_fall,
+    first_fit_is_now_or_behind_a_longer_window, fits_is_one_window, groups_follow_one_another,
+    index_is_of_the_window_that_holds,
+};
 use std::test::Fail;
 
 // Calls through the bound.
@@ -42,6 +46,43 @@ fn tripling_windows(rt: HostRuntime) -> Result<(), Fail> {
     Ok(())
 }
 
+// The window behind that of an age, of at least a length.
+fn next<D: Decay>(target: &D, age: u64, len: u64) -> Option<Spot> {
+    let spot = target.window_at(age.min(MOST_VALUES));
+    if spot.start <= MOST_VALUES {
+        target.next_at_least(spot, len)
+    } else {
+        None
+    }
+}
+
+#[test]
+fn next_windows_of_a_length(rt: HostRuntime) -> Result<(), Fail> {
+    let found = [
+        (2, 1, 1, 0, 1, 1, 1, 2),
+        (2, 1, 1, 0, 3, 2, 3, 4),
+        (2, 1, 1, 3, 4, 3, 7, 8),
+        (3, 2, 1, 0, 1, 1, 1, 1),
+        (3, 2, 1, 1, 3, 2, 2, 3),
+        (3, 2, 1, 2, 4, 4, 8, 9),
+        (2, 1, 1, 0, 1 << 40, 40, (1 << 40) - 1, 1 << 40),
+        (16, 65536, 65536, 0, 65537, 65536, 1 << 32, 1 << 20),
+    ];
+    for (b, r, s, age, wanted, index, start, len) in found {
+        let target = Exp::new(b, r, s)?;
+        let expected = Some(Spot { index, start, len });
+        assert_eq!(rt;
+            next(&target, age, wanted),
+            expected,
+            "{b} {r} {s} behind {age}, {wanted}"
+        );
+    }
+    let doubling = Exp::new(2, 1, 1)?;
+    assert!(rt; next(&doubling, 0, (1 << 40) + 1).is_none());
+    assert!(rt; next(&Exp::new(16, 65536, 65536)?, MOST_VALUES, 1).is_none());
+    Ok(())
+}
+
 #[test]
 fn oldest_age(rt: HostRuntime) -> Result<(), Fail> {
     let rows = [
@@ -70,4 +111,13 @@ fn parameters_in_range(rt: HostRuntime) {
     for (b, r, s) in [(2, 1, 1), (16, 65536, 65536)] {
         assert!(rt; Exp::new(b, r, s).is_ok(), "{b} {r} {s}");
     }
+}
+
+#[test]
+fn laws_are_called() {
+    index_is_of_the_window_that_holds();
+    fits_is_one_window();
+    exp_lengths_never_fall();
+    first_fit_is_now_or_behind_a_longer_window();
+    groups_follow_one_another();
 }

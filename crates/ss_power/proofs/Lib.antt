@@ -1,0 +1,3 @@
+mod Rows
+pub mod PowerLemmas
+pub mod SumLemmas

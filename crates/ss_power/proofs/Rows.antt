@@ -1,0 +1,83 @@
+-- Worked rows, each computed.
+use Rattle.std.proofs.Common.{◌≡◌, ◌^◌, ℕ, false, true, Bool, [], ◌∷◌, List, map, refl}
+use Rattle.ss_windowing.specs.Windowing.{cut, fits, index_of}
+use Rattle.ss_power.specs.Power.{group_size, group_length, power_length}
+use Rattle.ss_power.specs.PowerSum.{cap, power_sum}
+use Rattle.ss_power.specs.declared.power.TheConstants.{LEAST_POWER, GREATEST_POWER, GREATEST_WIDENING}
+use Rattle.ss_power.specs.declared.power_sum.TheConstants.{GREATEST_EXPONENT}
+
+powers : LEAST_POWER ∷ GREATEST_POWER ∷ GREATEST_WIDENING ∷ [] ≡ 1 ∷ 4 ∷ 3 ∷ []
+powers = refl
+
+greatest_exponent : GREATEST_EXPONENT ≡ 6
+greatest_exponent = refl
+
+-- the first lengths of a target, and the first starts
+lengths : (ℕ → ℕ) → List ℕ
+lengths len = map len (0 ∷ 1 ∷ 2 ∷ 3 ∷ 4 ∷ [])
+
+starts : (ℕ → ℕ) → List ℕ
+starts len = map (cut len) (0 ∷ 1 ∷ 2 ∷ 3 ∷ 4 ∷ 5 ∷ [])
+
+lengths-1-1-1-1 : lengths (power_length 1 1 1 1) ≡ 1 ∷ 2 ∷ 3 ∷ 4 ∷ 5 ∷ []
+unfolding lengths power_length index_of
+lengths-1-1-1-1 = refl
+
+starts-1-1-1-1 : starts (power_length 1 1 1 1) ≡ 0 ∷ 1 ∷ 3 ∷ 6 ∷ 10 ∷ 15 ∷ []
+unfolding starts power_length index_of
+starts-1-1-1-1 = refl
+
+lengths-2-1-1-1 : lengths (power_length 2 1 1 1) ≡ 1 ∷ 2 ∷ 2 ∷ 3 ∷ 3 ∷ []
+unfolding lengths power_length index_of
+lengths-2-1-1-1 = refl
+
+starts-2-1-1-1 : starts (power_length 2 1 1 1) ≡ 0 ∷ 1 ∷ 3 ∷ 5 ∷ 8 ∷ 11 ∷ []
+unfolding starts power_length index_of
+starts-2-1-1-1 = refl
+
+lengths-1-0-1-2 : lengths (power_length 1 0 1 2) ≡ 2 ∷ 2 ∷ 2 ∷ 2 ∷ 2 ∷ []
+unfolding lengths power_length index_of
+lengths-1-0-1-2 = refl
+
+starts-1-0-1-2 : starts (power_length 1 0 1 2) ≡ 0 ∷ 2 ∷ 4 ∷ 6 ∷ 8 ∷ 10 ∷ []
+unfolding starts power_length index_of
+starts-1-0-1-2 = refl
+
+-- the groups of the target with the greatest parameters
+groups-greatest : map (group_size 4 65536) (0 ∷ 1 ∷ 2 ∷ []) ≡ 65536 ∷ 524288 ∷ 1769472 ∷ []
+groups-greatest = refl
+
+group_lengths-greatest : map (group_length 3 65536) (0 ∷ 1 ∷ 2 ∷ []) ≡ 65536 ∷ 524288 ∷ 1769472 ∷ []
+group_lengths-greatest = refl
+
+exponents : List ℕ
+exponents = 0 ∷ 1 ∷ 2 ∷ 3 ∷ 4 ∷ 5 ∷ 6 ∷ []
+
+sums-none : map (λ e. power_sum e 0) exponents ≡ 0 ∷ 0 ∷ 0 ∷ 0 ∷ 0 ∷ 0 ∷ 0 ∷ []
+unfolding exponents
+sums-none = refl
+
+sums-ten : map (λ e. power_sum e 10) exponents ≡ 10 ∷ 55 ∷ 385 ∷ 3025 ∷ 25333 ∷ 220825 ∷ 1978405 ∷ []
+unfolding exponents
+sums-ten = refl
+
+caps : map cap exponents ≡ 2 ^ 42 ∷ 2 ^ 22 ∷ 2 ^ 15 ∷ 2 ^ 12 ∷ 2 ^ 10 ∷ 2 ^ 8 ∷ 2 ^ 7 ∷ []
+unfolding exponents
+caps = refl
+
+-- whether the positions l to r lie in one target window, at each of some counts
+fit_at : (ℕ → ℕ) → ℕ → ℕ → List ℕ → List Bool
+fit_at len l r = map (fits len l r)
+
+-- the first fit of 1..2 seen at 2 is 3, that of 1..4 seen at 5 is 10, and four positions never fit into two
+fit-1-2 : fit_at (power_length 1 1 1 1) 1 2 (2 ∷ 3 ∷ []) ≡ false ∷ true ∷ []
+unfolding fit_at power_length index_of
+fit-1-2 = refl
+
+fit-1-4 : fit_at (power_length 1 1 1 1) 1 4 (5 ∷ 6 ∷ 7 ∷ 8 ∷ 9 ∷ 10 ∷ []) ≡ false ∷ false ∷ false ∷ false ∷ false ∷ true ∷ []
+unfolding fit_at power_length index_of
+fit-1-4 = refl
+
+fit-never : fit_at (power_length 1 0 1 2) 1 4 (4 ∷ 5 ∷ 6 ∷ 7 ∷ 8 ∷ []) ≡ false ∷ false ∷ false ∷ false ∷ false ∷ []
+unfolding fit_at power_length index_of
+fit-never = refl

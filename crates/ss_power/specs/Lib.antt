@@ -1,0 +1,5 @@
+pub mod PowerSum
+pub mod Power
+pub mod PowerLaws
+pub mod Family
+pub mod Group
