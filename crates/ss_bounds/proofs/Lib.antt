@@ -1,0 +1,11 @@
+pub mod Numbers
+pub mod Held
+pub mod LineLemmas
+pub mod LeastLemmas
+pub mod EitherLemmas
+pub mod TimeLemmas
+pub mod TruthLemmas
+pub mod ChoiceLemmas
+pub mod ExtremeLemmas
+pub mod RangeLemmas
+pub mod Rows

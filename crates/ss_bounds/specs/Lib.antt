@@ -1,0 +1,6 @@
+pub mod Split
+pub mod Lines
+pub mod Times
+pub mod Extremes
+pub mod Either
+pub mod Truth
