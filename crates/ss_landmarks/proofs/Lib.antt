@@ -1,0 +1,9 @@
+pub mod Rows
+pub mod Counting
+pub mod ValueLemmas
+pub mod StoredLemmas
+pub mod OrderLemmas
+pub mod HeldLemmas
+pub mod StepLemmas
+pub mod TimeLemmas
+pub mod OpenLemmas

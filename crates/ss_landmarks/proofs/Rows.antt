@@ -1,0 +1,129 @@
+-- Worked rows, each computed.
+use Rattle.std.proofs.Common.{◌≡◌, ℕ, ◌-◌, ◌^◌, ℤ, pos, negsuc, List, [], ◌∷◌, ◌++◌, Some, None, refl, arith}
+use Rattle.ss_landmarks.specs.Landmark.{Landmark, opened_at, with_value, closed_at, change_last}
+use Rattle.ss_landmarks.specs.Landmarks.{opened}
+use Rattle.ss_landmarks.specs.Free.{free}
+use Rattle.ss_landmarks.specs.Order.{CanOpen, CanTake, CanClose}
+use Rattle.ss_landmarks.specs.ValuesIn.{values_in, tally_of}
+use Rattle.ss_landmarks.specs.declared.landmarks.TheConstants.{LATEST_TIME, MOST_KEPT}
+
+pub LATEST_TIME-is : LATEST_TIME ≡ 2 ^ 62
+LATEST_TIME-is = refl
+
+pub MOST_KEPT-is : MOST_KEPT ≡ 2 ^ 24
+MOST_KEPT-is = refl
+
+abbrev open_at : ℕ → List Landmark → List Landmark
+open_at t landmarks = landmarks ++ opened_at t ∷ []
+
+abbrev add_at : ℕ → ℤ → List Landmark → List Landmark
+add_at t v landmarks = change_last (with_value (record { t = t; v = v })) landmarks
+
+abbrev close_at : ℕ → List Landmark → List Landmark
+close_at t landmarks = change_last (closed_at t) landmarks
+
+-- ---- a landmark of one time, 100, with the value 7
+
+abbrev single : List Landmark
+single = close_at 100 (add_at 100 (pos 7) (open_at 100 []))
+
+pub single-is : single ≡ record { start = 100; finish = Some 100; values = record { t = 100; v = pos 7 } ∷ [] } ∷ []
+single-is = refl
+
+pub free-single : free single 99 101 ≡ 2
+free-single = refl
+
+pub free-single-inside : free single 100 100 ≡ 0
+free-single-inside = refl
+
+pub values_in-single : tally_of (values_in single 100 100) ≡ record { count = 1; sum = pos 7; least = Some (pos 7); greatest = Some (pos 7) }
+values_in-single = refl
+
+pub values_in-after : tally_of (values_in single 101 200) ≡ record { count = 0; sum = pos 0; least = None; greatest = None }
+values_in-after = refl
+
+-- ---- one from 20 to 40, with the values 100 and 200 at 20 and 30
+
+abbrev one : List Landmark
+one = close_at 40 (add_at 30 (pos 200) (add_at 20 (pos 100) (open_at 20 [])))
+
+-- a closed landmark covers both its ends and all between, also after its last value
+pub free-around : free one 11 49 ≡ 18
+free-around = refl
+
+pub free-within : free one 20 40 ≡ 0
+free-within = refl
+
+pub free-ends : free one 19 41 ≡ 2
+free-ends = refl
+
+-- there are none from a time to an earlier one
+pub free-backwards : free one 50 11 ≡ 0
+free-backwards = refl
+
+pub values_in-whole : tally_of (values_in one 20 40) ≡ record { count = 2; sum = pos 300; least = Some (pos 100); greatest = Some (pos 200) }
+values_in-whole = refl
+
+pub values_in-part : tally_of (values_in one 21 30) ≡ record { count = 1; sum = pos 200; least = Some (pos 200); greatest = Some (pos 200) }
+values_in-part = refl
+
+-- ---- a second one that is open, from 80 on, with the value -3 at 90
+
+abbrev two : List Landmark
+two = add_at 90 (negsuc 2) (open_at 80 one)
+
+-- an open landmark covers all times from its opening on
+pub free-open : free two 70 1000 ≡ 10
+free-open = refl
+
+pub free-both : free two 11 81 ≡ 48
+free-both = refl
+
+pub values_in-both : tally_of (values_in two 30 90) ≡ record { count = 2; sum = pos 197; least = Some (negsuc 2); greatest = Some (pos 200) }
+values_in-both = refl
+
+pub opened-two : opened (record { landmarks = two; slots = 5 ∷ 8 ∷ []; value_slots = 6 ∷ 7 ∷ 9 ∷ []; room = 0; value_room = 3 }) ≡ Some (80, 8, 1)
+opened-two = refl
+
+pub opened-one : opened (record { landmarks = one; slots = 5 ∷ []; value_slots = 6 ∷ 7 ∷ []; room = 1; value_room = 1 }) ≡ None
+opened-one = refl
+
+-- ---- at the greatest times
+
+abbrev late : List Landmark
+late = add_at (2 ^ 62) (pos 5) (open_at (2 ^ 62 - 1) (close_at 1099511627777 (add_at 1099511627777 (pos 0) (open_at 1099511627777 []))))
+
+pub free-late : free late (2 ^ 62 - 3) (2 ^ 62) ≡ 2
+free-late = refl
+
+pub free-late-between : free late 1099511627776 1099511627779 ≡ 3
+free-late-between = refl
+
+pub values_in-late : tally_of (values_in late (2 ^ 62) (2 ^ 64 - 1)) ≡ record { count = 1; sum = pos 5; least = Some (pos 5); greatest = Some (pos 5) }
+values_in-late = refl
+
+-- ---- when a landmark may be opened, take a value and be closed
+
+-- the first value may have the time of the opening, and the second may not
+pub CanTake-first : CanTake (open_at 100 []) 100
+CanTake-first = (omega arith, λ k d below. absurd (omega arith))
+
+pub CanTake-again : CanTake (add_at 100 (pos 7) (open_at 100 [])) 100 → ⊥
+CanTake-again can = let after = can.1 0 (record { t = 0; v = pos 0 }) (omega arith) in omega (arith, after)
+
+-- the closing may have the time of the opening, and the next opening may not
+pub CanClose-same : CanClose (open_at 100 []) 100
+CanClose-same = (omega arith, λ k d below. absurd (omega arith))
+
+pub CanOpen-same : CanOpen single 100 → ⊥
+CanOpen-same can = let after = can 0 (opened_at 0) (omega arith) in omega (arith, after)
+
+-- none may be opened while one is open, nor take a value or be closed where none is
+pub CanOpen-open : CanOpen two 100 → ⊥
+CanOpen-open can = can 1 (opened_at 0) (omega arith)
+
+pub CanTake-closed : CanTake one 100 → ⊥
+CanTake-closed can = can
+
+pub CanClose-closed : CanClose one 100 → ⊥
+CanClose-closed can = can

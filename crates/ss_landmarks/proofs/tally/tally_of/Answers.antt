@@ -1,0 +1,44 @@
+use Rattle.std.proofs.Common.{arith, ◌≡◌, ◌∙◌, ap, sym, subst, ◌*◌, ◌^◌, neg_ℤ, ◌≤ℤ◌, ℤ, ◌<◌, length, ◌+◌, ◌+ℤ◌, ◌++◌, ◌∷◌, [], Some, get_or, take, map, pos}
+use Rattle.std.specs.Prelude.{FitsSigned}
+use Rattle.std.specs.Int.{w64, w128}
+use Rattle.std.proofs.lemmas.Int.{ints, to_z-of_z}
+use Rattle.std.proofs.lemmas.List.{map_more}
+use Rattle.std.proofs.lemmas.List.Elements.{All-get_or}
+use mir.Val.{to_z, of_z}
+use Rattle.ss_landmarks.specs.Stored.{value_of}
+use Rattle.ss_landmarks.specs.ValuesIn.{total, least, greatest, lesser, greater}
+use Rattle.ss_landmarks.specs.declared.stored.StoredValue.{StoredValue}
+use Rattle.ss_landmarks.proofs.ValueLemmas.{total_push, least_push, greatest_push, sum_low, sum_high, sum_fits}
+use Rattle.ss_landmarks.proofs.tally.tally_of.Goals as goal
+
+pub loop-value-preserved : goal.loop-value-preserved
+loop-value-preserved c =
+    let values = c.args.values.now in
+    let i = c.loop-value.value-index in
+    let d : StoredValue = record { t = 0; v = pos 0; slot = 0 } in
+    let below : i < length values = c.loop-value-test.true in
+    let v = (get_or values i d).v in
+    let fits : FitsSigned w64 v = All-get_or (λ (value : StoredValue). FitsSigned w64 value.v) values i d below c.requires in
+    let same : to_z w64 (of_z w64 v) ≡ v = to_z-of_z w64 v fits in
+    let more : map value_of (take (i + 1) values) ≡ map value_of (take i values) ++ value_of (get_or values i d) ∷ [] = map_more value_of values i d below in
+    let done = map value_of (take i values) in
+    let sum : total (map value_of (take (i + 1) values)) ≡ total done +ℤ v = ap total more ∙ total_push done (value_of (get_or values i d)) in
+    let least_more : least (map value_of (take (i + 1) values)) ≡ Some (lesser v (least done)) = ap least more ∙ least_push done (value_of (get_or values i d)) in
+    let greatest_more : greatest (map value_of (take (i + 1) values)) ≡ Some (greater v (greatest done)) = ap greatest more ∙ greatest_push done (value_of (get_or values i d)) in
+    let taken : c.from-sum.result ≡ v = c.from-sum.ensures ∙ same in
+    let taken_fits : to_z w128 (of_z w128 c.from-sum.result) ≡ c.from-sum.result = to_z-of_z w128 c.from-sum.result (omega (arith, ints)) in
+    let before : ℤ = to_z w128 c.loop-value.sum-bits in
+    let added : before +ℤ to_z w128 (of_z w128 c.from-sum.result) ≡ before +ℤ v = ap (λ (x : ℤ). before +ℤ x) (taken_fits ∙ taken) in
+    let whole : to_z w128 (of_z w128 (before +ℤ to_z w128 (of_z w128 c.from-sum.result))) ≡ before +ℤ v =
+    ap (λ (x : ℤ). to_z w128 (of_z w128 x)) added
+    ∙ to_z-of_z w128 (before +ℤ v) (sum_fits i before v c.loop-value.invariant.low c.loop-value.invariant.high fits (omega (arith, below, c.well_formed.0.1))) in
+    let lesser_is : c.lesser.result ≡ lesser v (least done) = c.lesser.ensures ∙ ap (λ (x : ℤ). lesser x c.loop-value.least) same ∙ ap (lesser v) c.loop-value.invariant.least in
+    let greater_is : c.greater.result ≡ greater v (greatest done) = c.greater.ensures ∙ ap (λ (x : ℤ). greater x c.loop-value.greatest) same ∙ ap (greater v) c.loop-value.invariant.greatest in
+    record {
+      count = omega arith;
+      sum = whole ∙ ap (λ (x : ℤ). x +ℤ v) c.loop-value.invariant.sum ∙ sym sum;
+      low = subst (λ (x : ℤ). neg_ℤ (pos (2 ^ 63 * (i + 1))) ≤ℤ x) (sym whole) (sum_low i before v c.loop-value.invariant.low c.loop-value.invariant.high fits);
+      high = subst (λ (x : ℤ). x ≤ℤ pos (2 ^ 63 * (i + 1))) (sym whole) (sum_high i before v c.loop-value.invariant.low c.loop-value.invariant.high fits);
+      least = ap Some (to_z-of_z w64 c.lesser.result (omega (arith, ints)) ∙ lesser_is) ∙ sym least_more;
+      greatest = ap Some (to_z-of_z w64 c.greater.result (omega (arith, ints)) ∙ greater_is) ∙ sym greatest_more;
+    }

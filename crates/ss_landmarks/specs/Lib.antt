@@ -1,0 +1,6 @@
+pub mod Landmark
+pub mod Free
+pub mod Order
+pub mod ValuesIn
+pub mod Landmarks
+pub mod Stored

@@ -1,0 +1,43 @@
+-- The landmark values of a range of time, and what they add up to.
+use Rattle.std.specs.Prelude.{ℕ, ℤ, pos, ◌+ℤ◌, Bool, ◌&&◌, nat_le, List, [], ◌∷◌, length, Option, Some, None}
+use Rattle.std.specs.List.{filter}
+use Rattle.std.specs.Int.{int_min, int_max}
+use Rattle.ss_landmarks.specs.Landmark.{Landmark, LandmarkValue, all_values}
+use Rattle.ss_landmarks.specs.declared.tally.Tally.{Tally}
+
+-- the value's time is in a..=b
+abbrev pub lies_in : ℕ → ℕ → LandmarkValue → Bool
+lies_in a b value = nat_le a value.t && nat_le value.t b
+
+-- the landmark values with time in a..=b
+abbrev pub values_in : List Landmark → ℕ → ℕ → List LandmarkValue
+values_in landmarks a b = filter (lies_in a b) (all_values landmarks)
+
+-- the lesser of a value and of another, if there is one
+abbrev pub lesser : ℤ → Option ℤ → ℤ
+lesser v None = v
+lesser v (Some other) = int_min v other
+
+-- the greater of a value and of another, if there is one
+abbrev pub greater : ℤ → Option ℤ → ℤ
+greater v None = v
+greater v (Some other) = int_max v other
+
+-- the sum of the values
+abbrev pub total : List LandmarkValue → ℤ
+total [] = pos 0
+total (value ∷ values) = value.v +ℤ total values
+
+-- the least of the values; none of no values
+abbrev pub least : List LandmarkValue → Option ℤ
+least [] = None
+least (value ∷ values) = Some (lesser value.v (least values))
+
+-- the greatest of the values; none of no values
+abbrev pub greatest : List LandmarkValue → Option ℤ
+greatest [] = None
+greatest (value ∷ values) = Some (greater value.v (greatest values))
+
+-- the tally of some values: their count, sum, least and greatest
+abbrev pub tally_of : List LandmarkValue → Tally
+tally_of values = record { count = length values; sum = total values; least = least values; greatest = greatest values }

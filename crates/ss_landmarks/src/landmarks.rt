@@ -1,0 +1,210 @@
+// The landmarks of one stream.
+ghost use Rattle.std.specs.Prelude.{◌≡◌};
+ghost use Rattle.ss_landmarks.specs.Stored.{one_open};
+
+use crate::Tally;
+use crate::search::{free_before, values_in};
+use crate::stored::{Closed, Opened, StoredValue};
+use crate::tally::tally_of;
+use std::alloc::{AllocError, Global};
+use std::marker::Model;
+
+/// The latest time that a landmark or a value of one may have, a whole number in the caller's unit.
+pub const LATEST_TIME: u64 = 1 << 62;
+
+/// The most landmarks, and the most values, that are kept, with those that there is room for.
+pub const MOST_KEPT: u32 = 1 << 24;
+
+/// The landmarks of one stream in order of time, with their values, and the slot of the record of each. At most the last is
+/// open. What is asked of a range of time is looked up by halves.
+#[derive(Drop)]
+pub struct Landmarks {
+    // The landmarks that are closed, in order.
+    closed: Vec<Closed>,
+    // The one that is open, after them.
+    current: Option<Opened>,
+    // The values of all of them, in order.
+    values: Vec<StoredValue>,
+    // How many more landmarks and values there is room for.
+    room: u32,
+    value_room: u32,
+}
+
+impl Model for Landmarks {
+    ghost use Rattle.std.specs.Prelude.{◌+◌, map, vec_len};
+    ghost use Rattle.std.specs.Vec.{vec_capacity};
+    ghost use Rattle.ss_landmarks.specs.Landmarks.{LandmarksState};
+    ghost use Rattle.ss_landmarks.specs.Stored.{value_of, landmarks_of, slots_of, one_open, AreStored, HasRoom};
+
+    ghost Value = { LandmarksState };
+
+    ghost view = { λ s. record {
+      landmarks = landmarks_of s.closed.items s.current (map value_of s.values.items);
+      slots = slots_of s.closed.items s.current;
+      value_slots = map (λ value. value.slot) s.values.items;
+      room = s.room;
+      value_room = s.value_room;
+    } };
+
+    ghost invariant = { λ s. AreStored s.closed.items s.current (map value_of s.values.items)
+        × HasRoom (vec_len s.closed + one_open s.current) s.room (vec_capacity s.closed)
+        × HasRoom (vec_len s.values) s.value_room (vec_capacity s.values) };
+}
+
+// How many landmarks are open.
+fn one_open(current: &Option<Opened>) -> usize
+    ensures { result ≡ one_open current.now }
+{
+    if current.is_some() { 1 } else { 0 }
+}
+
+impl Landmarks {
+    ghost use Rattle.std.specs.Prelude.{◌≡◌, ◌+◌, ◌<◌, ◌≤◌, ◌↔◌, [], ◌∷◌, ◌++◌, length, IsNone, OnOk};
+    ghost use Rattle.ss_landmarks.specs.Free.{free};
+    ghost use Rattle.ss_landmarks.specs.Landmark.{LandmarkValue, opened_at, with_value, closed_at, change_last, open_landmark, all_values};
+    ghost use Rattle.ss_landmarks.specs.Landmarks.{IsState, opened};
+    ghost use Rattle.ss_landmarks.specs.Order.{CanOpen, CanTake, CanClose};
+    ghost use Rattle.ss_landmarks.specs.ValuesIn.{values_in, tally_of};
+
+    /// No landmarks, and room for none.
+    pub fn new(alloc: Global) -> Landmarks
+        ensures { result ≡ record { landmarks = []; slots = []; value_slots = []; room = 0; value_room = 0 } }
+    {
+        Landmarks {
+            closed: Vec::new(alloc),
+            current: None,
+            values: Vec::new(alloc),
+            room: 0,
+            value_room: 0,
+        }
+    }
+
+    /// Makes room for a landmark and for a value, where there is none. An error leaves what is kept, and no room falls.
+    pub fn reserve(&mut self) -> Result<(), AllocError>
+        requires landmarks { length self.old.landmarks < MOST_KEPT }
+        requires values { length (all_values self.old.landmarks) < MOST_KEPT }
+        ensures ok { OnOk result ((1 ≤ self.new.room) × (1 ≤ self.new.value_room)) }
+        ensures grows { (self.old.room ≤ self.new.room) × (self.old.value_room ≤ self.new.value_room) }
+        ensures landmarks { self.new.landmarks ≡ self.old.landmarks }
+        ensures slots { self.new.slots ≡ self.old.slots }
+        ensures value_slots { self.new.value_slots ≡ self.old.value_slots }
+    {
+        let room = self.room.max(1);
+        let value_room = self.value_room.max(1);
+        self.closed
+            .reserve(one_open(&self.current) + room as usize)?;
+        self.values.reserve(value_room as usize)?;
+        self.room = room;
+        self.value_room = value_room;
+        Ok(())
+    }
+
+    /// Opens a landmark at the time `t`, whose record is in `slot`.
+    pub fn start(&mut self, t: u64, slot: u32)
+        requires room { 1 ≤ self.old.room }
+        requires time { t ≤ LATEST_TIME }
+        requires after { CanOpen self.old.landmarks t }
+        ensures landmarks { self.new.landmarks ≡ self.old.landmarks ++ opened_at t ∷ [] }
+        ensures slots { self.new.slots ≡ self.old.slots ++ slot ∷ [] }
+        ensures value_slots { self.new.value_slots ≡ self.old.value_slots }
+        ensures room { self.new.room + 1 ≡ self.old.room }
+        ensures value_room { self.new.value_room ≡ self.old.value_room }
+    {
+        let free_before = free_before(&self.closed, &self.current, t);
+        self.current = Some(Opened {
+            start: t,
+            slot,
+            values_before: self.values.len(),
+            free_before,
+        });
+        self.room -= 1;
+    }
+
+    /// Closes the open landmark at the time `t`.
+    pub fn finish(&mut self, t: u64)
+        requires time { t ≤ LATEST_TIME }
+        requires after { CanClose self.old.landmarks t }
+        ensures landmarks { self.new.landmarks ≡ change_last (closed_at t) self.old.landmarks }
+        ensures slots { self.new.slots ≡ self.old.slots }
+        ensures value_slots { self.new.value_slots ≡ self.old.value_slots }
+        ensures room { self.new.room ≡ self.old.room }
+        ensures value_room { self.new.value_room ≡ self.old.value_room }
+    {
+        if let Some(opened) = self.current {
+            let closed = Closed {
+                start: opened.start,
+                finish: t,
+                slot: opened.slot,
+                values: self.values.len() - opened.values_before,
+                free_before: opened.free_before,
+            };
+            self.closed.push(closed).unwrap();
+            self.current = None;
+        }
+    }
+
+    /// Adds to the open landmark the value `v` at the time `t`, whose record is in `slot`.
+    pub fn add(&mut self, t: u64, v: i64, slot: u32)
+        requires room { 1 ≤ self.old.value_room }
+        requires time { t ≤ LATEST_TIME }
+        requires after { CanTake self.old.landmarks t }
+        ensures landmarks { self.new.landmarks ≡ change_last (with_value (record { t = t; v = v })) self.old.landmarks }
+        ensures slots { self.new.slots ≡ self.old.slots }
+        ensures value_slots { self.new.value_slots ≡ self.old.value_slots ++ slot ∷ [] }
+        ensures room { self.new.room ≡ self.old.room }
+        ensures value_room { self.new.value_room + 1 ≡ self.old.value_room }
+    {
+        self.values.push(StoredValue { t, v, slot }).unwrap();
+        self.value_room -= 1;
+    }
+
+    /// The opening time of the open landmark, the slot of its record, and how many values it has; none if none is open.
+    pub fn opened(&self) -> Option<(u64, u32, u32)>
+        ensures value { result ≡ opened self.now }
+        ensures none { IsNone result ↔ IsNone (open_landmark self.now.landmarks) }
+    {
+        match &self.current {
+            None => None,
+            Some(opened) => {
+                let values = self.values.len() - opened.values_before;
+                Some((opened.start, opened.slot, values as u32))
+            }
+        }
+    }
+
+    /// How many landmarks there are, with the open one.
+    pub fn count(&self) -> u32
+        ensures value { result ≡ length self.now.landmarks }
+        ensures state { IsState self.now }
+    {
+        (self.closed.len() + one_open(&self.current)) as u32
+    }
+
+    /// How many values the landmarks have together.
+    pub fn values(&self) -> u32
+        ensures value { result ≡ length (all_values self.now.landmarks) }
+        ensures state { IsState self.now }
+    {
+        self.values.len() as u32
+    }
+
+    /// How many of the times `p..=q` no landmark covers. It takes the logarithm of the number of landmarks.
+    pub fn free(&self, p: u64, q: u64) -> u64
+        requires { q ≤ LATEST_TIME }
+        ensures { result ≡ free self.now.landmarks p q }
+    {
+        if p > q {
+            return 0;
+        }
+        free_before(&self.closed, &self.current, q + 1)
+            - free_before(&self.closed, &self.current, p)
+    }
+
+    /// What the values with time in `a..=b` add up to. It takes the logarithm of the number of values to find them, and
+    /// looks at each of them once, and at no other.
+    pub fn values_in(&self, a: u64, b: u64) -> Tally
+        ensures { result ≡ tally_of (values_in self.now.landmarks a b) }
+    {
+        tally_of(values_in(&self.values, a, b))
+    }
+}

@@ -1,0 +1,39 @@
+// What is looked up among landmarks and values whose times rise, by halves.
+ghost use Rattle.std.specs.Prelude.{◌≡◌, [], map, FitsSigned};
+ghost use Rattle.std.specs.Int.{w64};
+ghost use Rattle.std.specs.List.{filter, All};
+ghost use Rattle.ss_landmarks.specs.Order.{RiseFrom};
+ghost use Rattle.ss_landmarks.specs.Stored.{value_of, landmarks_of, free_before, KnowFree};
+ghost use Rattle.ss_landmarks.specs.ValuesIn.{lies_in};
+
+use crate::stored::{Closed, Opened, StoredValue};
+
+// How many times before this one are free. A landmark knows how many are before it, and the one that opens last before
+// this time says what comes after.
+pub fn free_before(closed: &[Closed], current: &Option<Opened>, t: u64) -> u64
+    requires { KnowFree closed.now current.now }
+    ensures { result ≡ free_before (landmarks_of closed.now current.now []) t }
+{
+    if let Some(opened) = current {
+        if opened.start <= t {
+            return opened.free_before;
+        }
+    }
+    let begun = closed.partition_point(|c| c.start < t);
+    if begun == 0 {
+        return t;
+    }
+    let last = closed[begun - 1];
+    last.free_before + t.saturating_sub(last.finish + 1)
+}
+
+// The values with time in a..=b.
+pub fn values_in(values: &[StoredValue], a: u64, b: u64) -> &[StoredValue]
+    requires { RiseFrom 0 (map value_of values.now) }
+    ensures values { map value_of result.now ≡ filter (lies_in a b) (map value_of values.now) }
+    ensures fit { All (λ value. FitsSigned w64 value.v) result.now }
+{
+    let from = values.partition_point(|value| value.t < a);
+    let to = values.partition_point(|value| value.t <= b);
+    &values[from..to.max(from)]
+}
