@@ -63,7 +63,7 @@ why : Event → Option Refusal
 why = refuses (state readings)
 
 refusals-readings : map why
-    (Create a (Exp 2 1 1) ∷ Create a (Exp 1 1 1) ∷ Create (codes "b") (Power 1 1 1 1) ∷ Create (codes "b") (Exp 2 1 1)
+    (Create a (Exp 2 1 1) ∷ Create a (Exp 1 1 1) ∷ Create (codes "b") (Power 5 1 1 1) ∷ Create (codes "b") (Power 4 1 1 1)
     ∷ Value (codes "x") 1 (pos 1) ∷ Value a 70 (pos 1) ∷ Value a 71 (pos 1) ∷ []) ≡
     Some Exists ∷ Some Param ∷ Some Param ∷ None ∷ Some Unknown ∷ Some Time ∷ None ∷ []
 unfolding why refuses state index_of readings a

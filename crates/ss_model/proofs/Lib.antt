@@ -1,5 +1,6 @@
 mod Rows
 mod HistoryRows
+mod QueryRows
 pub mod Rises
 pub mod Stretches
 pub mod Incremental
@@ -13,4 +14,10 @@ pub mod FoundLemmas
 pub mod StandLemmas
 pub mod HistoryLemmas
 pub mod ReadLemmas
+pub mod WithinLemmas
 pub mod JoinLemmas
+pub mod OutlineLemmas
+pub mod AskedLemmas
+pub mod IntervalLemmas
+pub mod PieceLemmas
+pub mod RisingLemmas

@@ -3,6 +3,7 @@ use Rattle.std.proofs.Common.{◌≡◌, ℕ, List, [], ◌∷◌, map, refl, �
 use Rattle.ss_windowing.specs.declared.decay.TheConstants.{MOST_VALUES}
 use Rattle.ss_windowing.specs.Exp.{exp_length}
 use Rattle.ss_windowing.specs.Windowing.{index_of}
+use Rattle.ss_power.specs.Power.{power_length}
 use Rattle.ss_model.specs.Boundaries.{boundaries}
 use Rattle.ss_model.specs.Windows.{stretches, windows}
 use Rattle.ss_model.specs.Closed.{closed}
@@ -43,6 +44,23 @@ boundaries-6 = refl
 boundaries-7 : boundaries (exp_length 2 1 1) 7 ≡ 4 ∷ 6 ∷ []
 unfolding index_of
 boundaries-7 = refl
+
+-- the same for power-law targets: 1, 2, 2, 3, 3, 4, 4, then windows of 2 for ever, and with windows of 1 one for each value
+boundary_rows : (ℕ → ℕ) → List ℕ → List (List ℕ)
+boundary_rows len = map (boundaries len)
+
+boundaries-growing : boundary_rows (power_length 1 1 1 1) (1 ∷ 2 ∷ 3 ∷ 4 ∷ 5 ∷ 6 ∷ 7 ∷ []) ≡
+    [] ∷ (1 ∷ []) ∷ (2 ∷ []) ∷ (2 ∷ 3 ∷ []) ∷ (2 ∷ 4 ∷ []) ∷ (2 ∷ 4 ∷ 5 ∷ []) ∷ (2 ∷ 4 ∷ 6 ∷ []) ∷ []
+unfolding boundary_rows power_length index_of
+boundaries-growing = refl
+
+boundaries-of_two : boundary_rows (power_length 1 0 1 2) (1 ∷ 2 ∷ 3 ∷ 4 ∷ 5 ∷ []) ≡ [] ∷ [] ∷ (2 ∷ []) ∷ (2 ∷ []) ∷ (2 ∷ 4 ∷ []) ∷ []
+unfolding boundary_rows power_length index_of
+boundaries-of_two = refl
+
+boundaries-of_one : boundary_rows (power_length 1 0 1 1) (4 ∷ []) ≡ (1 ∷ 2 ∷ 3 ∷ []) ∷ []
+unfolding boundary_rows power_length index_of
+boundaries-of_one = refl
 
 readings : List (ℕ × ℤ)
 readings = (10, pos 5) ∷ (20, negsuc 2) ∷ (30, pos 8) ∷ (40, pos 1) ∷ (50, pos 9) ∷ (60, pos 2) ∷ (70, pos 7) ∷ []

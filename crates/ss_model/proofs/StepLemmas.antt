@@ -1,5 +1,5 @@
 -- The state of a history with one more event.
-use Rattle.std.proofs.Common.{◌≡◌, ℕ, ℤ, true, false, List, [], ◌∷◌, ◌++◌, map, refl, ap, sym, ◌∙◌, arith, None, inl, inr}
+use Rattle.std.proofs.Common.{◌≡◌, ℕ, ℤ, Bool, not, true, false, List, [], ◌∷◌, ◌++◌, map, refl, ap, sym, ◌∙◌, arith, None, inl, inr}
 use Rattle.std.specs.Prelude.{if◌then◌else◌, option_and_then}
 use Rattle.std.proofs.lemmas.Bool.{cases_Bool}
 use Rattle.std.proofs.lemmas.List.{map-append}
@@ -9,10 +9,11 @@ use Rattle.ss_catalog.specs.Names.{same_name}
 use Rattle.ss_catalog.specs.declared.event.Event.{Event}
 use Rattle.ss_catalog.specs.declared.event.Event.TheVariants.{Create, Value}
 use Rattle.ss_catalog.specs.declared.params.Params.{Params}
+use Rattle.ss_catalog.specs.declared.refusal.Refusal.{Refusal}
 use Rattle.ss_target.specs.Lengths.{has_target, lengths_of}
 use Rattle.ss_model.specs.History.{values_of}
 use Rattle.ss_model.specs.State.{Created, Stream, next_number, standing_after, standing, stream_after, state, stream_named, last_time}
-use Rattle.ss_model.specs.Refusals.{stands, has_all_streams, has_all_records, is_past, is_full, refuses}
+use Rattle.ss_model.specs.Refusals.{stands, has_all_streams, has_all_records, is_past, is_full, first_that_applies, refuses}
 use Rattle.ss_model.specs.Steps.{with_value, stepped}
 use Rattle.ss_model.proofs.EventLemmas.{values_of-created, values_of-valued, values_of-other}
 use Rattle.ss_model.proofs.NameLemmas.{same_name-same, same_name-swap}
@@ -101,10 +102,17 @@ pub record CanAppend (streams : List Stream) (name : List ℕ) (t : ℕ) : Type 
   pub few : is_full name streams ≡ false
   pub records : has_all_records streams ≡ false
 
+-- the first test is passed where its value is true, and the others where theirs is false
+none-applies : (a b c d : Bool) (p q r s : Refusal) → first_that_applies ((not a, p) ∷ (b, q) ∷ (c, r) ∷ (d, s) ∷ []) ≡ None →
+    (a ≡ true) × (b ≡ false) × (c ≡ false) × (d ≡ false)
+none-applies a b c d p q r s none = grind (arith, common_steps)
+
 pub CanCreate-refuses : (streams : List Stream) (name : List ℕ) (params : Params) →
     refuses streams (Create name params) ≡ None → CanCreate streams name params
 unfolding refuses
-CanCreate-refuses streams name params none = grind (arith, common_steps)
+CanCreate-refuses streams name params none =
+    let passed = none-applies (has_target params) (stands name streams) (has_all_streams streams) (has_all_records streams) _ _ _ _ none in
+    record { target = passed.0; new = passed.1; room = passed.2; records = passed.3 }
 
 pub CanAppend-refuses : (streams : List Stream) (name : List ℕ) (t : ℕ) (v : ℤ) →
     refuses streams (Value name t v) ≡ None → CanAppend streams name t

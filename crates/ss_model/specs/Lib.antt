@@ -1,6 +1,7 @@
 pub mod Boundaries
 pub mod Windows
 pub mod Closed
+pub mod ClosedState
 pub mod Joins
 pub mod Tiling
 pub mod Decay
@@ -10,3 +11,6 @@ pub mod Refusals
 pub mod Standing
 pub mod Steps
 pub mod Shown
+pub mod Outline
+pub mod Truth
+pub mod Interval

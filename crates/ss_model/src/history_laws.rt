@@ -1,15 +1,17 @@
 // Laws of histories and their states, each the contract of a function that does nothing.
-ghost use Rattle.std.specs.Prelude.{◌≡◌, ◌≢◌, ◌+◌, ◌*◌, ◌<◌, ◌≤◌, ◌↔◌, ℕ, List, [], ◌∷◌, ◌++◌, length, All, None};
+ghost use Rattle.std.specs.Prelude.{◌≡◌, ◌≢◌, ◌+◌, ◌*◌, ◌<◌, ◌≤◌, ◌↔◌, ℕ, List, [], ◌∷◌, ◌++◌, length, map, slice_get, All, IfSome, None, Some};
 ghost use Rattle.ss_catalog.specs.Events.{event_name};
 ghost use Rattle.ss_catalog.specs.declared.event.Event.{Event};
 ghost use Rattle.ss_target.specs.Lengths.{lengths_of};
-ghost use Rattle.ss_model.specs.Decay.{cover, IsWithinTarget};
+ghost use Rattle.ss_model.specs.Decay.{cover, IsReadWithinTarget, IsWithinTarget};
 ghost use Rattle.ss_model.specs.History.{CanBeSaid, values_of};
 ghost use Rattle.ss_model.specs.Refusals.{IsHistory, refuses};
+ghost use Rattle.ss_model.specs.Shown.{placed_of};
 ghost use Rattle.ss_model.specs.Standing.{IsState};
-ghost use Rattle.ss_model.specs.State.{last_time, state, Stream, stream_named, values_in};
+ghost use Rattle.ss_model.specs.State.{last_time, state, Stream, stream_named, stream_numbered, values_in};
 ghost use Rattle.ss_model.specs.Steps.{stepped};
 ghost use Rattle.ss_model.specs.Windows.{time_of_last, windows};
+ghost use Rattle.ss_model.specs.declared.types.Placed.{Placed};
 
 /// Incremental equals from scratch: the state of a history with one more event, which isn't refused, comes from the state
 /// before it by one step.
@@ -55,4 +57,7 @@ pub fn states_keep_to_their_targets()
         All (λ s. 0 < values_in s → length s.windows + 1 ≤ 2 * cover (lengths_of s.params) (values_in s)) (state history) }
     ensures within { (history : List Event) → IsHistory history →
         All (λ s. All (IsWithinTarget (lengths_of s.params) (values_in s)) s.windows) (state history) }
+    ensures read { (history : List Event) (streams : List Stream) (number place : ℕ) (p : Placed) → IsHistory history →
+        streams ≡ state history → IfSome (stream_numbered number streams) (λ s. slice_get (map placed_of s.windows) place ≡ Some p) →
+        IfSome (stream_numbered number streams) (λ s. IsReadWithinTarget (lengths_of s.params) (values_in s) p) }
 {}

@@ -5,6 +5,8 @@ mod closing_laws;
 mod decay_laws;
 mod history_laws;
 mod laws;
+mod outline_laws;
+mod query_laws;
 mod types;
 
 pub use closing_laws::{
@@ -22,5 +24,9 @@ pub use laws::{
     append_keeps_windows, closing_keeps_newest_time, closing_keeps_taken, closing_keeps_windows,
     incremental_is_from_scratch, joining_keeps_windows, windows_are_neighbours,
     windows_count_values, windows_end_last, windows_stand_in_place,
+};
+pub use outline_laws::refusals_read_outlines;
+pub use query_laws::{
+    answers_hold_the_truth, answers_hold_the_truth_of_histories, unsplit_answers_are_exact,
 };
 pub use types::{Ack, MOST_RECORDS, Placed, StreamRow, Window};

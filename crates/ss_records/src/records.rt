@@ -34,7 +34,7 @@ impl Records {
     ghost use Rattle.ss_journal.specs.Redo.{SlotMap, StandsFor, zeros};
     ghost use Rattle.ss_journal.specs.Kept.{IsRunning, IsSettled, HasStopped, OpensAs};
     ghost use Rattle.ss_journal.specs.Calls.{KeepsMap, MakesDurable, ChangesMap, BlamesDisk};
-    ghost use Rattle.ss_records.specs.Live.{live_count, lowest_free, live_after};
+    ghost use Rattle.ss_records.specs.Live.{is_live, live_count, lowest_free, live_after};
     ghost use Rattle.ss_records.specs.Kept.{AreKept, AreSound, journal_of};
 
     /// Opens a disk, formed or not. It reads the entries in use, and each slot below the extent once, and writes nothing.
@@ -70,6 +70,15 @@ impl Records {
         ensures sound { AreSound self.now }
     {
         self.live.len()
+    }
+
+    /// Whether a slot is live, that is, isn't zeros.
+    pub fn is_live(&self, slot: u32) -> bool
+        requires { slot < MOST_SLOTS }
+        ensures value { result ≡ is_live self.now.live slot }
+        ensures sound { AreSound self.now }
+    {
+        self.live.contains(slot as usize)
     }
 
     /// The least slot that is free, that is, zeros. A transaction may put it.

@@ -1,0 +1,102 @@
+-- Worked rows of queries, each computed from the whole list of values.
+use Rattle.std.specs.Prelude.{◌≡◌, ℕ, Bool, true, not, ℤ, pos, negsuc, List, [], ◌∷◌, map}
+use Rattle.std.proofs.Common.{refl}
+use Rattle.ss_windowing.specs.Exp.{exp_length}
+use Rattle.ss_windowing.specs.Windowing.{index_of}
+use Rattle.ss_bounds.specs.declared.extreme.Extreme.{Extreme}
+use Rattle.ss_bounds.specs.declared.extreme.Extreme.TheVariants.{Nothing, Sure, Maybe}
+use Rattle.ss_bounds.specs.Split.{sum_interval}
+use Rattle.ss_bounds.specs.Times.{lies_in}
+use Rattle.ss_model.specs.Interval.{interval_of_count, interval_of_sum, interval_of_least, interval_of_greatest}
+use Rattle.ss_model.specs.Truth.{true_count, true_sum}
+use Rattle.ss_model.specs.Windows.{windows}
+use Rattle.ss_model.specs.declared.types.Window.{Window}
+
+-- all times are free, and no landmark stands
+abbrev free : ℕ → Bool
+free t = true
+
+-- seven values, whose windows under `exp 2 1 1` are those of positions 1 to 4, 5 to 6, and 7
+abbrev seven : List (ℕ × ℤ)
+seven = (10, pos 5) ∷ (20, negsuc 2) ∷ (30, pos 8) ∷ (40, pos 1) ∷ (50, pos 9) ∷ (60, pos 2) ∷ (70, pos 7) ∷ []
+
+abbrev count_in : ℕ × ℕ → ℕ × ℕ
+count_in range = interval_of_count free range.0 range.1 (windows (exp_length 2 1 1) seven) []
+
+abbrev sum_in : ℕ × ℕ → ℤ × ℤ
+sum_in range = interval_of_sum free range.0 range.1 (windows (exp_length 2 1 1) seven) []
+
+abbrev least_in : ℕ × ℕ → Extreme
+least_in range = interval_of_least free range.0 range.1 (windows (exp_length 2 1 1) seven) []
+
+abbrev greatest_in : ℕ × ℕ → Extreme
+greatest_in range = interval_of_greatest free range.0 range.1 (windows (exp_length 2 1 1) seven) []
+
+counts-seven : map count_in ((10, 40) ∷ (10, 25) ∷ (15, 25) ∷ (25, 55) ∷ []) ≡ (4, 4) ∷ (1, 3) ∷ (0, 2) ∷ (2, 4) ∷ []
+unfolding index_of
+counts-seven = refl
+
+sums-seven : map sum_in ((0, 100) ∷ (10, 25) ∷ (25, 55) ∷ []) ≡ (pos 29, pos 29) ∷ (negsuc 4, pos 16) ∷ (negsuc 2, pos 25) ∷ []
+unfolding index_of sum_interval
+sums-seven = refl
+
+least-seven : map least_in ((71, 80) ∷ (10, 25) ∷ (15, 25) ∷ (25, 55) ∷ [])
+    ≡ Nothing ∷ Sure (negsuc 2) (pos 8) ∷ Maybe (negsuc 2) (pos 8) ∷ Sure (negsuc 2) (pos 8) ∷ []
+unfolding index_of
+least-seven = refl
+
+greatest-seven : map greatest_in ((45, 65) ∷ (25, 55) ∷ []) ≡ Sure (pos 9) (pos 9) ∷ Sure (pos 2) (pos 9) ∷ []
+unfolding index_of
+greatest-seven = refl
+
+-- the truth from 10 to 25 is 2 values of the sum 2, and from 25 to 55 3 of the sum 18
+truth-counts : map (λ (range : ℕ × ℕ). true_count range.0 range.1 seven []) ((10, 25) ∷ (25, 55) ∷ []) ≡ 2 ∷ 3 ∷ []
+truth-counts = refl
+
+truth-sums : map (λ (range : ℕ × ℕ). true_sum range.0 range.1 seven []) ((10, 25) ∷ (25, 55) ∷ []) ≡ pos 2 ∷ pos 18 ∷ []
+truth-sums = refl
+
+-- four values at four times in one window of four: the free times are used up
+crowded : interval_of_count free 10 11 (windows (λ i. 4) ((10, pos 4) ∷ (11, pos 4) ∷ (12, pos 6) ∷ (13, pos 6) ∷ [])) [] ≡ (2, 2)
+unfolding index_of
+crowded = refl
+
+crowded-sum : interval_of_sum free 10 11 (windows (λ i. 4) ((10, pos 4) ∷ (11, pos 4) ∷ (12, pos 6) ∷ (13, pos 6) ∷ [])) []
+    ≡ (pos 8, pos 12)
+unfolding index_of sum_interval
+crowded-sum = refl
+
+-- one value in a landmark at 100, and one after it
+marked_before : interval_of_sum (λ t. not (lies_in 100 100 t)) 100 100 (windows (exp_length 2 1 1) ((101, pos 8) ∷ [])) ((100, pos 7) ∷ [])
+    ≡ (pos 7, pos 7)
+unfolding index_of sum_interval
+marked_before = refl
+
+-- a window that spans a landmark from 20 to 40 with two values
+abbrev spanned : {A : Type 0} → ((ℕ → Bool) → ℕ → ℕ → List Window → List (ℕ × ℤ) → A) → A
+spanned answer = answer (λ t. not (lies_in 20 40 t)) 20 40 (windows (λ i. 2) ((10, pos 1) ∷ (50, pos 3) ∷ [])) ((20, pos 100) ∷ (30, pos 200) ∷ [])
+
+spanned-count : spanned interval_of_count ≡ (2, 2)
+unfolding index_of
+spanned-count = refl
+
+spanned-sum : spanned interval_of_sum ≡ (pos 300, pos 300)
+unfolding index_of sum_interval
+spanned-sum = refl
+
+spanned-least : spanned interval_of_least ≡ Sure (pos 100) (pos 100)
+unfolding index_of
+spanned-least = refl
+
+-- two values at both ends of 64 bits
+edges : map (λ (v : ℤ). interval_of_sum free 10 15 (windows (λ i. 2) ((10, v) ∷ (20, pos 9223372036854775807) ∷ [])) [])
+    (pos 9223372036854775807 ∷ negsuc 9223372036854775807 ∷ [])
+    ≡ (pos 9223372036854775807, pos 9223372036854775807) ∷ (negsuc 9223372036854775807, pos 9223372036854775807) ∷ []
+unfolding index_of sum_interval
+edges = refl
+
+edges-whole : map (λ (v : ℤ). interval_of_sum free 0 30 (windows (λ i. 2) ((10, v) ∷ (20, pos 9223372036854775807) ∷ [])) [])
+    (pos 9223372036854775807 ∷ negsuc 9223372036854775807 ∷ [])
+    ≡ (pos 18446744073709551614, pos 18446744073709551614) ∷ (negsuc 0, negsuc 0) ∷ []
+unfolding index_of sum_interval
+edges-whole = refl

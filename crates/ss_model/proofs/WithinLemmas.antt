@@ -1,0 +1,45 @@
+-- A window that is read from the state of a history is within its target.
+use Rattle.std.proofs.Common.{◌≡◌, ℕ, zero, suc, ◌==◌, Bool, List, [], ◌∷◌, map, find, Option, None, Some, IfSome, slice_get, sym, subst, inl, inr}
+use Rattle.std.specs.Prelude.{All}
+use Rattle.std.proofs.lemmas.Bool.{cases_Bool}
+use Rattle.std.proofs.lemmas.List.Elements.{All-head, All-tail}
+use Rattle.ss_catalog.specs.declared.event.Event.{Event}
+use Rattle.ss_target.specs.Lengths.{lengths_of}
+use Rattle.ss_model.specs.Decay.{IsWithinTarget, IsReadWithinTarget}
+use Rattle.ss_model.specs.Refusals.{IsHistory}
+use Rattle.ss_model.specs.Shown.{placed_of}
+use Rattle.ss_model.specs.State.{Stream, state, stream_numbered, values_in}
+use Rattle.ss_model.specs.declared.types.Placed.{Placed}
+use Rattle.ss_model.specs.declared.types.Window.{Window}
+use Rattle.ss_model.proofs.ReadLemmas.{within-state}
+
+-- what holds of each element holds of the one that is found
+IfSome-find : {X : Type 0} (P : X → Type 0) (test : X → Bool) (xs : List X) → All P xs → IfSome (find test xs) P
+IfSome-find P test [] all = tt
+IfSome-find P test (x ∷ xs) all = elim (cases_Bool (test x)) [
+  | inl found ↦ rw found (All-head P x xs all)
+  | inr other ↦ rw other (IfSome-find P test xs (All-tail P x xs all))
+]
+
+IfSome-both : {X : Type 0} (P Q R : X → Type 0) (found : Option X) → ((x : X) → P x → Q x → R x) → IfSome found P → IfSome found Q → IfSome found R
+IfSome-both P Q R None both p q = tt
+IfSome-both P Q R (Some x) both p q = both x p q
+
+IsReadWithinTarget-windows : (len : ℕ → ℕ) (n : ℕ) (ws : List Window) (place : ℕ) (p : Placed) → All (IsWithinTarget len n) ws →
+    slice_get (map placed_of ws) place ≡ Some p → IsReadWithinTarget len n p
+IsReadWithinTarget-windows len n [] place p all read = (let wrong : None ≡ Some p = read in cc)
+IsReadWithinTarget-windows len n (w ∷ ws) zero p all read =
+    let is : placed_of w ≡ p = cc read in
+    subst (IsReadWithinTarget len n) is (All-head (IsWithinTarget len n) w ws all)
+IsReadWithinTarget-windows len n (w ∷ ws) (suc place) p all read =
+    IsReadWithinTarget-windows len n ws place p (All-tail (IsWithinTarget len n) w ws all) read
+
+pub IsReadWithinTarget-read : (history : List Event) (streams : List Stream) (number place : ℕ) (p : Placed) → IsHistory history → streams ≡ state history →
+    IfSome (stream_numbered number streams) (λ s. slice_get (map placed_of s.windows) place ≡ Some p) →
+    IfSome (stream_numbered number streams) (λ s. IsReadWithinTarget (lengths_of s.params) (values_in s) p)
+IsReadWithinTarget-read history streams number place p whole stand read =
+    let Within : Stream → Type 0 = λ s. All (IsWithinTarget (lengths_of s.params) (values_in s)) s.windows in
+    let all : All Within streams = subst (All Within) (sym stand) (within-state history whole) in
+    IfSome-both Within (λ s. slice_get (map placed_of s.windows) place ≡ Some p) (λ s. IsReadWithinTarget (lengths_of s.params) (values_in s) p)
+    (stream_numbered number streams) (λ s within got. IsReadWithinTarget-windows (lengths_of s.params) (values_in s) s.windows place p within got)
+    (IfSome-find Within (λ s. number == s.number) streams all) read

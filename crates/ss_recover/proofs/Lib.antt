@@ -1,0 +1,25 @@
+pub mod OrderLemmas
+pub mod Lists
+pub mod Permutations
+pub mod InOrder
+pub mod Occupied
+pub mod PutLemmas
+pub mod WholeSlots
+pub mod HeldRecords
+pub mod StreamRecords
+pub mod SoundStreams
+pub mod WalkLemmas
+pub mod SoundInOrder
+pub mod WalkOrder
+pub mod WalkSteps
+pub mod Refusals
+pub mod Built
+pub mod Usable
+pub mod GatherLemmas
+pub mod Unordered
+pub mod RebuiltParts
+pub mod HeldLemmas
+pub mod ValidRecords
+pub mod RecordCounts
+pub mod CarriedStates
+mod Rows

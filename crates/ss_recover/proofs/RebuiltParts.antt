@@ -1,0 +1,234 @@
+-- What rebuilding answers, from what was read and what the walk over it answers.
+use Rattle.std.proofs.Common.{◌≡◌, ◌∙◌, ◌+◌, ◌-◌, ◌<◌, ◌≤◌, ℕ, zero, suc, Bool, false, not, ◌&&◌, All, List, [], ◌∷◌, ◌++◌, map, filter, flat_map, length, Option, Some, None, Result, Ok, Err, IfOk, Vec, Global, refl, sym, ap, ap₂, subst, arith, IsPermutation}
+use Rattle.std.specs.Prelude.{zip, is_none, ◌≢◌}
+use Rattle.std.specs.List.{AllByRecursion, filter_map, list_any, range_with_len, IsDistinct}
+use Rattle.std.specs.List.Sorted.{IsStrictlyIncreasing}
+use Rattle.std.proofs.lemmas.Bool.{or_from}
+use Rattle.std.proofs.lemmas.List.{length-map, map-append}
+use Rattle.std.proofs.lemmas.List.Elements.{All-from_recursion, recursion_from_All}
+use Rattle.std.proofs.lemmas.List.Sorted.{IsPermutation-map, IsPermutation-sym}
+use Rattle.std.proofs.lemmas.List.Sums.{sum_by-cons}
+use Rattle.ss_journal.specs.Redo.{SlotMap}
+use Rattle.ss_records.specs.Live.{is_live}
+use Rattle.ss_catalog.specs.Names.{same_name}
+use Rattle.ss_codec.specs.Decoded.{decoded}
+use Rattle.ss_codec.specs.declared.record.Record.{Record}
+use Rattle.ss_codec.specs.declared.record.Record.TheVariants.{Free}
+use Rattle.ss_line.specs.declared.entry.Entry.{Entry}
+use Rattle.ss_windowing.specs.declared.decay.TheConstants.{MOST_VALUES}
+use Rattle.ss_model.specs.Standing.{IsStream}
+use Rattle.ss_model.specs.State.{Stream, names_of, numbers_of}
+use Rattle.ss_model.specs.Tiling.{StandFrom}
+use Rattle.ss_model.specs.Windows.{taken}
+use Rattle.ss_model.specs.declared.types.Window.{Window}
+use Rattle.ss_recover.specs.Carried.{created_by, in_order, number_of, spelled, streams_created, window_of, windows_carried}
+use Rattle.ss_recover.specs.Conditions.{has_new_name, has_one_record, has_place, is_sound, tile, times_rise}
+use Rattle.ss_recover.specs.Gathered.{AreFound, GathersAs}
+use Rattle.ss_recover.specs.Held.{Agrees, AllAgree, AreHeld, AreWhole, HasWholeSlots, TileFrom, entries_of, occupied, records_held, slots_held, span_held, span_of, window_record}
+use Rattle.ss_recover.specs.Order.{found_key, key_of}
+use Rattle.ss_recover.specs.Parts.{bad_slot, bad_stream, carried, judged, least, lowest_bad_slot, lowest_bad_stream, records_in, streams_carried}
+use Rattle.ss_recover.specs.Rebuilt.{BlamesDisk, NotDisk, OnDisk, RebuildsAs}
+use Rattle.ss_recover.specs.Walk.{IsLowestUnsound, IsUsable, WalksAs, in_slot, records_of}
+use Rattle.ss_recover.specs.declared.found.Found.{Found}
+use Rattle.ss_recover.specs.declared.parts.Parts.{Parts}
+use Rattle.ss_recover.specs.declared.parts.StreamParts.{StreamParts}
+use Rattle.ss_recover.specs.declared.recover_error.RecoverError.{RecoverError}
+use Rattle.ss_recover.specs.declared.recover_error.RecoverError.TheVariants.{BadSlot, BadStream, Disk, OutOfMemory}
+use Rattle.ss_recover.proofs.HeldLemmas.{carried-AreHeld}
+use Rattle.ss_recover.proofs.HeldRecords.{filter_map-filled, zeros_are_free}
+use Rattle.ss_recover.proofs.Lists.{position-none}
+use Rattle.ss_recover.proofs.OrderLemmas.{map-in_order}
+use Rattle.ss_recover.proofs.Unordered.{lowest-bad}
+
+-- what is made of the records of a map is made of those that were found
+records_in-found : (all : List Found) → records_in (map (λ (e : ℕ × Option Record). e.1) (map in_slot all)) ≡ records_of all
+records_in-found [] = refl
+records_in-found (f ∷ fs) = ap (λ l. f.holds ∷ l) (records_in-found fs)
+
+made-found : {Y : Type 0} (f : Record → Option Y) → f Free ≡ None → (found : SlotMap) (all : List Found) → HasWholeSlots found → AreFound all found →
+    filter_map f (records_in (spelled found)) ≡ filter_map f (records_of all)
+unfolding spelled
+made-found f free found all whole are =
+    filter_map-filled f free found.bytes (range_with_len 0 found.extent) (zeros_are_free found whole)
+    ∙ ap (λ (es : List (ℕ × Option Record)). filter_map f (records_in (map (λ e. e.1) es))) (sym are.occupied_by)
+    ∙ ap (filter_map f) (records_in-found all)
+
+is_sound-made : (rs us : List Record) (n : ℕ) → streams_created rs ≡ streams_created us → filter_map (window_of n) rs ≡ filter_map (window_of n) us → is_sound rs n ≡ is_sound us n
+unfolding is_sound
+is_sound-made rs us n created windows =
+    let ordered : windows_carried n rs ≡ windows_carried n us = ap (in_order (λ (w : Window). w.first)) windows in
+    λ i. has_one_record n (created i) && has_place n (created i) && has_new_name n (created i) && tile (ordered i) && times_rise (ordered i)
+
+lowest-made : (found : SlotMap) (all : List Found) → HasWholeSlots found → AreFound all found → lowest_bad_stream (records_in (spelled found)) ≡ lowest_bad_stream (records_of all)
+lowest-made found all whole are =
+    let rs = records_in (spelled found) in
+    let us = records_of all in
+    let sound : (n : ℕ) → is_sound rs n ≡ is_sound us n = λ n. is_sound-made rs us n (made-found created_by refl found all whole are) (made-found (window_of n) refl found all whole are) in
+    let numbers : filter_map number_of rs ≡ filter_map number_of us = made-found number_of refl found all whole are in
+    λ i. least (filter (λ m. not (sound m i)) (numbers i))
+
+-- every slot spells a record
+no-none : (os : ℕ → Option Record) (a n : ℕ) → ((k : ℕ) → a ≤ k → k < a + n → os k ≢ None) → list_any is_none (map os (range_with_len a n)) ≡ false
+no-none os a zero some = refl
+no-none os a (suc n) some = or_from (is_none (os a)) _ (go (os a) (some a (omega arith) (omega arith))) (no-none os (a + 1) n (λ k ge lt. some k (omega arith) (omega arith)))
+  where
+    go : (o : Option Record) → o ≢ None → is_none o ≡ false
+    go None other = absurd (other refl)
+    go (Some r) other = refl
+
+no-bad-slot : (found : SlotMap) → ((slot : ℕ) → slot < found.extent → decoded (found.bytes slot) ≢ None) → lowest_bad_slot (spelled found) ≡ None
+unfolding spelled
+no-bad-slot found some =
+    position-none is_none (map (λ slot. decoded (found.bytes slot)) (range_with_len 0 found.extent)) (no-none (λ slot. decoded (found.bytes slot)) 0 found.extent (λ k ge lt. some k (omega (arith, lt))))
+
+carried-bad_stream : (found : SlotMap) (n : ℕ) → lowest_bad_slot (spelled found) ≡ None → lowest_bad_stream (records_in (spelled found)) ≡ Some n → carried found ≡ bad_stream n
+unfolding carried
+carried-bad_stream found n slot stream = λ i. judged (slot i) (stream i) (streams_carried (records_in (spelled found)))
+
+pub carried-bad_slot : (found : SlotMap) (n : ℕ) → lowest_bad_slot (spelled found) ≡ Some n → carried found ≡ bad_slot n
+unfolding carried
+carried-bad_slot found n slot = λ i. judged (slot i) (lowest_bad_stream (records_in (spelled found))) (streams_carried (records_in (spelled found)))
+
+usable-records : (all : List Found) → AllByRecursion (λ (f : Found). IsUsable f.holds) all → AllByRecursion IsUsable (records_of all)
+usable-records [] usable = tt
+usable-records (f ∷ fs) usable = (usable.0, usable-records fs usable.1)
+
+-- what is rebuilt is what the map carries
+pub rebuilds : (found : SlotMap) (all sorted : List Found) (result : Result Parts RecoverError) → HasWholeSlots found → AreFound all found →
+    All (λ (f : Found). IsUsable f.holds) all → sorted ≡ in_order found_key all → IsPermutation all sorted → WalksAs sorted result → RebuildsAs found result
+rebuilds found all sorted (Ok parts) whole are usable order moved walks =
+    let held : AreHeld parts.streams.items walks.0 found = record {
+      each = walks.1.each;
+      records =
+          subst (λ l. IsPermutation l (occupied found)) (sym walks.1.records)
+          (subst (IsPermutation (map in_slot sorted)) are.occupied_by (IsPermutation-map in_slot sorted all (IsPermutation-sym all sorted moved)));
+      state = walks.1.state;
+    } in
+    (walks.0, carried-AreHeld parts.streams.items walks.0 found whole held, held)
+rebuilds found all sorted (Err (BadStream n)) whole are usable order moved walks =
+    let rs = records_of all in
+    let in_records : records_of sorted ≡ in_order key_of rs = ap records_of order ∙ map-in_order key_of (λ (f : Found). f.holds) all in
+    carried-bad_stream found n (no-bad-slot found are.spelled_all)
+    (lowest-made found all whole are
+    ∙ lowest-bad rs n (usable-records all (recursion_from_All (λ (f : Found). IsUsable f.holds) all usable)) (subst (IsLowestUnsound n) in_records walks))
+rebuilds found all sorted (Err (BadSlot n)) whole are usable order moved walks = absurd walks
+rebuilds found all sorted (Err Disk) whole are usable order moved walks = tt
+rebuilds found all sorted (Err OutOfMemory) whole are usable order moved walks = tt
+
+-- what is true over every disk
+numbers-agree : (parts : List StreamParts) (ss : List Stream) → AllAgree parts ss → map (λ (part : StreamParts). part.id.0) parts ≡ numbers_of ss
+numbers-agree [] [] each = refl
+numbers-agree [] (s ∷ ss) each = absurd each
+numbers-agree (p ∷ ps) [] each = absurd each
+numbers-agree (p ∷ ps) (s ∷ ss) each = ap₂ (λ (a : ℕ) (l : List ℕ). a ∷ l) each.0.number (numbers-agree ps ss each.1)
+
+names-agree : (parts : List StreamParts) (ss : List Stream) → AllAgree parts ss → map (λ (part : StreamParts). part.name) parts ≡ names_of ss
+names-agree [] [] each = refl
+names-agree [] (s ∷ ss) each = absurd each
+names-agree (p ∷ ps) [] each = absurd each
+names-agree (p ∷ ps) (s ∷ ss) each = ap₂ (λ (a : List ℕ) (l : List (List ℕ)). a ∷ l) each.0.name (names-agree ps ss each.1)
+
+tile-agree : (first time : ℕ) (es : List Entry) (ws : List Window) → StandFrom first time ws → 1 ≤ first → first + taken ws ≤ MOST_VALUES + 1 → map span_held es ≡ map span_of ws → TileFrom first es
+tile-agree first time [] ws stand low few spans = tt
+tile-agree first time (e ∷ es) [] stand low few spans = cc
+tile-agree first time (e ∷ es) (w ∷ ws) stand low few spans =
+    let both : span_held e ≡ span_of w = cc in
+    let begins : e.first ≡ w.first = ap (λ (p : ℕ × ℕ). p.0) both in
+    let ends : e.last ≡ w.first + w.summary.count - 1 = ap (λ (p : ℕ × ℕ). p.1) both in
+    let rest : map span_held es ≡ map span_of ws = cc in
+    let sum = sum_by-cons (λ (v : Window). v.summary.count) w ws in
+    let possible = stand.1 in
+    let some = possible.count_low in
+    let next : e.last + 1 ≡ first + w.summary.count = omega (arith, ends, stand.0, some, low) in (
+      begins ∙ stand.0,
+      omega (arith, begins, ends, some),
+      omega (arith, next, sum, few),
+      subst (λ (n : ℕ). TileFrom n es) (sym next) (tile-agree (first + w.summary.count) (w.summary.t_last + 1) es ws stand.3 (omega arith) (omega (arith, sum, few)) rest),
+    )
+
+tiles-agree : (parts : List StreamParts) (ss : List Stream) → AllAgree parts ss → AllByRecursion IsStream ss → AllByRecursion (λ (part : StreamParts). TileFrom 1 (entries_of part)) parts
+tiles-agree [] ss each sound = tt
+tiles-agree (p ∷ ps) [] each sound = absurd each
+tiles-agree (p ∷ ps) (s ∷ ss) each sound =
+    let few = sound.0.windows.few in
+    (tile-agree 1 0 (entries_of p) s.windows sound.0.windows.stand (omega arith) (omega (arith, few)) each.0.positions, tiles-agree ps ss each.1 sound.1)
+
+map-first-zip : {X Y : Type 0} (xs : List X) (ys : List Y) → length xs ≡ length ys → map (λ (e : X × Y). e.0) (zip xs ys) ≡ xs
+map-first-zip [] ys same = refl
+map-first-zip (x ∷ xs) [] same = absurd (omega arith)
+map-first-zip (x ∷ xs) (y ∷ ys) same = ap (λ l. x ∷ l) (map-first-zip xs ys (omega arith))
+
+slots-one : (part : StreamParts) (s : Stream) → Agrees part s → map (λ (e : ℕ × Option Record). e.0) (records_held (part, s)) ≡ slots_held part
+slots-one part s agrees =
+    let spans = ap (λ (ps : List (ℕ × ℕ)). length ps) agrees.positions in
+    let one = length-map (entries_of part) span_held in
+    let two = length-map s.windows span_of in
+    let three = length-map (entries_of part) (λ (e : Entry). e.slot) in
+    let four = length-map s.windows (λ w. Some (window_record s.number w)) in
+    ap (λ l. part.slot ∷ l) (map-first-zip (map (λ (e : Entry). e.slot) (entries_of part)) (map (λ w. Some (window_record s.number w)) s.windows) (omega arith))
+
+slots-agree : (parts : List StreamParts) (ss : List Stream) → AllAgree parts ss → map (λ (e : ℕ × Option Record). e.0) (flat_map records_held (zip parts ss)) ≡ flat_map slots_held parts
+slots-agree [] [] each = refl
+slots-agree [] (s ∷ ss) each = absurd each
+slots-agree (p ∷ ps) [] each = absurd each
+slots-agree (p ∷ ps) (s ∷ ss) each =
+    map-append (λ (e : ℕ × Option Record). e.0) (records_held (p, s)) (flat_map records_held (zip ps ss)) ∙ ap₂ ◌++◌ (slots-one p s each.0) (slots-agree ps ss each.1)
+
+first-in_slot : (all : List Found) → map (λ (e : ℕ × Option Record). e.0) (map in_slot all) ≡ map (λ (f : Found). f.slot) all
+first-in_slot [] = refl
+first-in_slot (f ∷ fs) = ap (λ l. f.slot ∷ l) (first-in_slot fs)
+
+pub whole-from_walk : (live : List Bool) (all sorted : List Found) (result : Result Parts RecoverError) →
+    map (λ (f : Found). f.slot) all ≡ filter (is_live live) (range_with_len 0 (length live)) → IsPermutation all sorted → WalksAs sorted result →
+    IfOk result (λ parts. AreWhole parts.streams.items live)
+whole-from_walk live all sorted (Err error) slots moved walks = tt
+whole-from_walk live all sorted (Ok parts) slots moved walks =
+    let ps = parts.streams.items in
+    let ss = walks.0 in
+    let built = walks.1 in
+    let numbers = numbers-agree ps ss built.each in
+    let held : flat_map slots_held ps ≡ map (λ (f : Found). f.slot) sorted =
+    sym (slots-agree ps ss built.each) ∙ ap (map (λ (e : ℕ × Option Record). e.0)) built.records ∙ first-in_slot sorted in
+    let few = built.state.few in
+    record {
+      few = omega (arith, few, length-map ps (λ (part : StreamParts). part.id.0), length-map ss (λ (s : Stream). s.number), ap (λ (ns : List ℕ). length ns) numbers);
+      numbers = subst IsStrictlyIncreasing (sym numbers) built.state.numbers;
+      names = subst (IsDistinct same_name) (sym (names-agree ps ss built.each)) built.state.names;
+      tiles = All-from_recursion (λ (part : StreamParts). TileFrom 1 (entries_of part)) ps (tiles-agree ps ss built.each (recursion_from_All IsStream ss built.state.each));
+      slots =
+          subst (λ l. IsPermutation l (filter (is_live live) (range_with_len 0 (length live)))) (sym held)
+          (subst (IsPermutation (map (λ (f : Found). f.slot) sorted)) slots (IsPermutation-map (λ (f : Found). f.slot) sorted all (IsPermutation-sym all sorted moved)));
+    }
+
+-- a walk doesn't blame the disk
+pub not-disk : (all : List Found) (result : Result Parts RecoverError) (P : Type 0) → WalksAs all result → P → NotDisk result P
+not-disk all (Ok parts) P walks holds = holds
+not-disk all (Err (BadSlot n)) P walks holds = holds
+not-disk all (Err (BadStream n)) P walks holds = holds
+not-disk all (Err Disk) P walks holds = tt
+not-disk all (Err OutOfMemory) P walks holds = holds
+
+pub on-disk : (all : List Found) (result : Result Parts RecoverError) (P : Type 0) → WalksAs all result → OnDisk result P
+on-disk all (Ok parts) P walks = tt
+on-disk all (Err (BadSlot n)) P walks = tt
+on-disk all (Err (BadStream n)) P walks = tt
+on-disk all (Err Disk) P walks = absurd walks
+on-disk all (Err OutOfMemory) P walks = tt
+
+pub no-blame : (all : List Found) (result : Result Parts RecoverError) (before now : ℕ) → WalksAs all result → now ≡ before → BlamesDisk before now result
+no-blame all (Ok parts) before now walks same = same
+no-blame all (Err (BadSlot n)) before now walks same = same
+no-blame all (Err (BadStream n)) before now walks same = same
+no-blame all (Err Disk) before now walks same = absurd walks
+no-blame all (Err OutOfMemory) before now walks same = same
+
+-- what reading refuses is what the map carries
+pub refuses-found : (found : SlotMap) (answer : Result (Vec Found Global) RecoverError) (result : Result Parts RecoverError) (e : RecoverError) → GathersAs found answer → answer ≡ Err e →
+    result ≡ Err e → RebuildsAs found result
+refuses-found found answer result e gathers is gives = subst (RebuildsAs found) (sym gives) (go e (subst (GathersAs found) is gathers))
+  where
+    go : (d : RecoverError) → GathersAs found (Err d) → RebuildsAs found (Err d)
+    go (BadSlot n) refused = carried-bad_slot found n refused
+    go (BadStream n) refused = absurd refused
+    go Disk refused = tt
+    go OutOfMemory refused = tt

@@ -1,0 +1,302 @@
+-- Records in order: those of lower numbers are sound, and why those of a number aren't.
+use Rattle.std.proofs.Common.{◌≡◌, ◌∙◌, ℕ, ◌+◌, ◌<◌, ◌≤◌, Bool, true, false, not, ◌&&◌, cond, List, [], ◌∷◌, ◌++◌, map, length, refl, sym, ap, ap₂, subst, inl, inr, arith, append-nil}
+use Rattle.std.specs.Prelude.{◌==◌, nat_lt, count_by, sum_by}
+use Rattle.std.specs.List.{AllByRecursion, IsDistinct, filter_map, list_any}
+use Rattle.std.proofs.lemmas.Bool.{and_from, and_left, and_right, and_parts, cases_Bool, eq-eqb, eqb-true, ne_eqb, or_cases, or_from, or_left, or_right, ltb-true, lt-ltb, le-ltb, true≢false}
+use Rattle.std.proofs.lemmas.List.{length-map}
+use Rattle.std.proofs.lemmas.List.Elements.{filter_map-append}
+use Rattle.std.proofs.lemmas.List.Folds.{list_any-append}
+use Rattle.std.proofs.lemmas.List.Sums.{sum_by-cons, sum_by-append}
+use Rattle.ss_catalog.specs.Names.{same_name}
+use Rattle.ss_catalog.specs.declared.TheConstants.{MOST_STREAMS}
+use Rattle.ss_catalog.specs.declared.params.Params.{Params}
+use Rattle.ss_codec.specs.declared.record.Record.{Record}
+use Rattle.ss_codec.specs.declared.record.Record.TheVariants as records
+use Rattle.ss_model.proofs.NameLemmas.{same_name-swap}
+use Rattle.ss_model.specs.Standing.{IsStream}
+use Rattle.ss_model.specs.State.{Created, Stream, names_of}
+use Rattle.ss_model.specs.Windows.{taken, newest_time}
+use Rattle.ss_model.specs.declared.types.Window.{Window}
+use Rattle.ss_recover.specs.Carried.{created_by, streams_created, window_of}
+use Rattle.ss_recover.specs.Conditions.{has_new_name, has_one_record, has_place, is_named_before, tile, tile_from, times_rise}
+use Rattle.ss_recover.specs.Held.{window_record}
+use Rattle.ss_recover.specs.Order.{place_of, stream_of}
+use Rattle.ss_recover.specs.Walk.{IsAfter, is_sound_in_order}
+use Rattle.ss_recover.proofs.HeldRecords.{records_of_streams}
+use Rattle.ss_recover.proofs.InOrder.{Rise}
+use Rattle.ss_recover.proofs.Lists.{all_weaker}
+use Rattle.ss_recover.proofs.SoundStreams.{IsOnce-each, IsNew-each, tile-AreWindows, times_rise-AreWindows}
+use Rattle.ss_recover.proofs.StreamRecords.{created, filter_map-created_by, HasWindows-each}
+
+-- what each condition of a sound number makes of all
+pub unsound-one : (rs : List Record) (n : ℕ) → has_one_record n (streams_created rs) ≡ false → is_sound_in_order rs n ≡ false
+unsound-one rs n is =
+    and_left (has_one_record n (streams_created rs) && has_place n (streams_created rs) && has_new_name n (streams_created rs) && tile (filter_map (window_of n) rs)) (times_rise (filter_map (window_of n) rs)) (and_left (has_one_record n (streams_created rs) && has_place n (streams_created rs) && has_new_name n (streams_created rs)) (tile (filter_map (window_of n) rs)) (and_left (has_one_record n (streams_created rs) && has_place n (streams_created rs)) (has_new_name n (streams_created rs)) (and_left (has_one_record n (streams_created rs)) (has_place n (streams_created rs)) is)))
+
+pub unsound-place : (rs : List Record) (n : ℕ) → has_place n (streams_created rs) ≡ false → is_sound_in_order rs n ≡ false
+unsound-place rs n is =
+    and_left (has_one_record n (streams_created rs) && has_place n (streams_created rs) && has_new_name n (streams_created rs) && tile (filter_map (window_of n) rs)) (times_rise (filter_map (window_of n) rs)) (and_left (has_one_record n (streams_created rs) && has_place n (streams_created rs) && has_new_name n (streams_created rs)) (tile (filter_map (window_of n) rs)) (and_left (has_one_record n (streams_created rs) && has_place n (streams_created rs)) (has_new_name n (streams_created rs)) (and_right (has_one_record n (streams_created rs)) (has_place n (streams_created rs)) is)))
+
+pub unsound-name : (rs : List Record) (n : ℕ) → has_new_name n (streams_created rs) ≡ false → is_sound_in_order rs n ≡ false
+unsound-name rs n is =
+    and_left (has_one_record n (streams_created rs) && has_place n (streams_created rs) && has_new_name n (streams_created rs) && tile (filter_map (window_of n) rs)) (times_rise (filter_map (window_of n) rs)) (and_left (has_one_record n (streams_created rs) && has_place n (streams_created rs) && has_new_name n (streams_created rs)) (tile (filter_map (window_of n) rs)) (and_right (has_one_record n (streams_created rs) && has_place n (streams_created rs)) (has_new_name n (streams_created rs)) is))
+
+pub unsound-tile : (rs : List Record) (n : ℕ) → tile (filter_map (window_of n) rs) ≡ false → is_sound_in_order rs n ≡ false
+unsound-tile rs n is =
+    and_left (has_one_record n (streams_created rs) && has_place n (streams_created rs) && has_new_name n (streams_created rs) && tile (filter_map (window_of n) rs)) (times_rise (filter_map (window_of n) rs)) (and_right (has_one_record n (streams_created rs) && has_place n (streams_created rs) && has_new_name n (streams_created rs)) (tile (filter_map (window_of n) rs)) is)
+
+pub unsound-times : (rs : List Record) (n : ℕ) → times_rise (filter_map (window_of n) rs) ≡ false → is_sound_in_order rs n ≡ false
+unsound-times rs n is =
+    and_right (has_one_record n (streams_created rs) && has_place n (streams_created rs) && has_new_name n (streams_created rs) && tile (filter_map (window_of n) rs)) (times_rise (filter_map (window_of n) rs)) is
+
+sound-all : (a b c d e : Bool) → a ≡ true → b ≡ true → c ≡ true → d ≡ true → e ≡ true → (a && b && c && d && e) ≡ true
+sound-all a b c d e is_a is_b is_c is_d is_e =
+    and_from (a && b && c && d) e (and_from (a && b && c) d (and_from (a && b) c (and_from a b is_a is_b) is_c) is_d) is_e
+
+abbrev digit : Bool → ℕ
+digit b = cond b 1 0
+
+-- numbers that a test for one doesn't pass
+count-apart : (m : ℕ) (cs : List Created) → AllByRecursion (λ c. c.number ≡ m → ⊥) cs → count_by (λ c. c.number == m) cs ≡ 0
+count-apart m [] apart = refl
+count-apart m (c ∷ cs) apart =
+    let none : (c.number == m) ≡ false = ne_eqb c.number m apart.0 in
+    omega (arith, sum_by-cons (λ (x : Created). cond (x.number == m) 1 0) c cs, ap digit none, count-apart m cs apart.1)
+
+count-lower-none : (m : ℕ) (cs : List Created) → AllByRecursion (λ c. m ≤ c.number) cs → count_by (λ c. nat_lt c.number m) cs ≡ 0
+count-lower-none m [] above = refl
+count-lower-none m (c ∷ cs) above =
+    let none : nat_lt c.number m ≡ false = le-ltb c.number m above.0 in
+    omega (arith, sum_by-cons (λ (x : Created). cond (nat_lt x.number m) 1 0) c cs, ap digit none, count-lower-none m cs above.1)
+
+count-lower-all : (m : ℕ) (cs : List Created) → AllByRecursion (λ c. c.number < m) cs → count_by (λ c. nat_lt c.number m) cs ≡ length cs
+count-lower-all m [] below = refl
+count-lower-all m (c ∷ cs) below =
+    let all : nat_lt c.number m ≡ true = lt-ltb c.number m below.0 in
+    omega (arith, sum_by-cons (λ (x : Created). cond (nat_lt x.number m) 1 0) c cs, ap digit all, count-lower-all m cs below.1)
+
+-- of a number and of lower ones there aren't more than all
+count-both : (m : ℕ) (cs : List Created) → count_by (λ c. c.number == m) cs + count_by (λ c. nat_lt c.number m) cs ≤ length cs
+count-both m [] = omega arith
+count-both m (c ∷ cs) =
+    omega (arith, sum_by-cons (λ (x : Created). cond (x.number == m) 1 0) c cs, sum_by-cons (λ (x : Created). cond (nat_lt x.number m) 1 0) c cs, one c.number, count-both m cs)
+  where
+    one : (k : ℕ) → cond (k == m) 1 0 + cond (nat_lt k m) 1 0 ≤ 1
+    one k = elim (cases_Bool (k == m)) [
+      | inl same ↦
+          let equal = eqb-true k m same in
+          rw (same, le-ltb k m (omega (arith, equal))) (omega arith)
+      | inr other ↦ rw other (elim (cases_Bool (nat_lt k m)) [ inl less ↦ rw less (omega arith) | inr more ↦ rw more (omega arith) ])
+    ]
+
+-- a test that no element passes
+none-passes : {X : Type 0} (p : X → Bool) (xs : List X) → AllByRecursion (λ x. p x ≡ false) xs → list_any p xs ≡ false
+none-passes p [] all = refl
+none-passes p (x ∷ xs) all = or_from (p x) (list_any p xs) all.0 (none-passes p xs all.1)
+
+-- what the records of greater numbers create
+created-back : (P : ℕ → Type 0) (rs : List Record) → AllByRecursion (λ r. P (stream_of r)) rs → AllByRecursion (λ c. P c.number) (filter_map created_by rs)
+created-back P [] all = tt
+created-back P (records.Free ∷ rs) all = created-back P rs all.1
+created-back P (records.Stream id name params ∷ rs) all = (all.0, created-back P rs all.1)
+created-back P (records.Window id first summary ∷ rs) all = created-back P rs all.1
+
+pub windows-apart : (m : ℕ) (rs : List Record) → AllByRecursion (λ r. stream_of r ≡ m → ⊥) rs → filter_map (window_of m) rs ≡ []
+windows-apart m [] apart = refl
+windows-apart m (records.Free ∷ rs) apart = windows-apart m rs apart.1
+windows-apart m (records.Stream id name params ∷ rs) apart = windows-apart m rs apart.1
+windows-apart m (records.Window id first summary ∷ rs) apart = rw (ne_eqb id m apart.0) (windows-apart m rs apart.1)
+
+map-all : {X Y : Type 0} (P : Y → Type 0) (f : X → Y) (xs : List X) → AllByRecursion (λ x. P (f x)) xs → AllByRecursion P (map f xs)
+map-all P f [] all = tt
+map-all P f (x ∷ xs) all = (all.0, map-all P f xs all.1)
+
+pub all-append : {X : Type 0} (P : X → Type 0) (xs ys : List X) → AllByRecursion P xs → AllByRecursion P ys → AllByRecursion P (xs ++ ys)
+all-append P [] ys left right = right
+all-append P (x ∷ xs) ys left right = (left.0, all-append P xs ys left.1 right)
+
+-- the records of streams, each of the number of its stream
+pub all-records : (P : ℕ → Type 0) (ss : List Stream) → AllByRecursion (λ s. P s.number) ss → AllByRecursion (λ r. P (stream_of r)) (records_of_streams ss)
+all-records P [] all = tt
+all-records P (s ∷ ss) all = (all.0, all-append (λ r. P (stream_of r)) (map (window_record s.number) s.windows) (records_of_streams ss) (go s.windows) (all-records P ss all.1))
+  where
+    go : (ws : List Window) → AllByRecursion (λ r. P (stream_of r)) (map (window_record s.number) ws)
+    go [] = tt
+    go (w ∷ ws) = (all.0, go ws)
+
+all-from_map : {X Y : Type 0} (P : Y → Type 0) (f : X → Y) (xs : List X) → AllByRecursion P (map f xs) → AllByRecursion (λ x. P (f x)) xs
+all-from_map P f [] all = tt
+all-from_map P f (x ∷ xs) all = (all.0, all-from_map P f xs all.1)
+
+map-Rise : (ss : List Stream) → Rise (λ s. s.number) ss → Rise (λ c. c.number) (map created ss)
+map-Rise [] rise = tt
+map-Rise (s ∷ ss) rise = (map-all (λ c. s.number < c.number) created ss rise.0, map-Rise ss rise.1)
+
+names-created : (ss : List Stream) → names_of ss ≡ map (λ c. c.name) (map created ss)
+names-created [] = refl
+names-created (s ∷ ss) = ap (λ l. s.name ∷ l) (names-created ss)
+
+-- records of the number that have places behind the first create no stream of it
+no-stream : (n : ℕ) (rs : List Record) → AllByRecursion (λ r. stream_of r ≡ n → 1 ≤ place_of r) rs → AllByRecursion (λ c. c.number ≡ n → ⊥) (filter_map created_by rs)
+no-stream n [] all = tt
+no-stream n (records.Free ∷ rs) all = no-stream n rs all.1
+no-stream n (records.Stream id name params ∷ rs) all = ((λ same. let first = all.0 same in absurd (omega arith)), no-stream n rs all.1)
+no-stream n (records.Window id first summary ∷ rs) all = no-stream n rs all.1
+
+-- a name that a stream of a lower number has
+named-created : (n : ℕ) (name : List ℕ) (ss : List Stream) → AllByRecursion (λ s. s.number < n) ss → list_any (same_name name) (names_of ss) ≡ true →
+    list_any (λ (o : Created). nat_lt o.number n && same_name o.name name) (map created ss) ≡ true
+named-created n name [] below taken = absurd (true≢false (sym taken))
+named-created n name (s ∷ ss) below taken =
+    elim (or_cases (same_name name s.name) (list_any (same_name name) (names_of ss)) taken) [
+      | inl here ↦ or_left _ _ (and_from _ _ (lt-ltb s.number n below.0) (same_name-swap s.name name ∙ here))
+      | inr there ↦ or_right _ _ (named-created n name ss below.1 there)
+    ]
+
+-- windows that tile: each begins where those before it end
+tile-next : (first : ℕ) (ws : List Window) (w : Window) (rest : List Window) → tile_from first (ws ++ w ∷ rest) ≡ true → w.first ≡ first + taken ws
+tile-next first [] w rest tiles = omega (arith, eqb-true w.first first (and_parts _ _ tiles).0)
+tile-next first (v ∷ vs) w rest tiles =
+    let next = tile-next (first + v.summary.count) vs w rest (and_parts (v.first == first) _ tiles).1 in
+    omega (arith, next, sum_by-cons (λ (x : Window). x.summary.count) v vs)
+
+times-next : (ws : List Window) (w : Window) (rest : List Window) → times_rise (ws ++ w ∷ rest) ≡ true → IsAfter (newest_time ws) w.summary.t_first
+times-next [] w rest rise = tt
+times-next (v ∷ []) w rest rise = ltb-true v.summary.t_last w.summary.t_first (and_parts (nat_lt v.summary.t_last w.summary.t_first) _ rise).0
+times-next (v ∷ u ∷ us) w rest rise = times-next (u ∷ us) w rest (and_parts (nat_lt v.summary.t_last u.summary.t_first) _ rise).1
+
+pub own-windows : (number : ℕ) (ws : List Window) → filter_map (window_of number) (map (window_record number) ws) ≡ ws
+own-windows number [] = refl
+own-windows number (w ∷ ws) = rw (eq-eqb number number refl) (ap (λ l. w ∷ l) (own-windows number ws))
+
+-- Streams of numbers below n, and records behind them of numbers from n on.
+module _ (ss : List Stream) (back : List Record) (n : ℕ) (below : AllByRecursion (λ s. s.number < n) ss) (above : AllByRecursion (λ r. n ≤ stream_of r) back) where
+  abbrev all : List Record
+  all = records_of_streams ss ++ back
+
+  abbrev cs : List Created
+  cs = map created ss
+
+  abbrev later : List Created
+  later = filter_map created_by back
+
+  created-all : streams_created all ≡ cs ++ later
+  created-all = filter_map-append created_by (records_of_streams ss) back ∙ ap (λ l. l ++ later) (filter_map-created_by ss)
+
+  cs-below : AllByRecursion (λ c. c.number < n) cs
+  cs-below = map-all (λ c. c.number < n) created ss below
+
+  later-above : AllByRecursion (λ c. n ≤ c.number) later
+  later-above = created-back (λ k. n ≤ k) back above
+
+  windows-all : (m : ℕ) → filter_map (window_of m) all ≡ filter_map (window_of m) (records_of_streams ss) ++ filter_map (window_of m) back
+  windows-all m = filter_map-append (window_of m) (records_of_streams ss) back
+
+  -- no stream is of a number and named before, if each of the first is new among the first
+  none-named : (m : ℕ) → m < n → (us : List Created) → AllByRecursion (λ c. c.number < n) us → AllByRecursion (λ c. is_named_before cs c ≡ false) us →
+      list_any (λ c. c.number == m && is_named_before (cs ++ later) c) us ≡ false
+  none-named m lt [] low new = refl
+  none-named m lt (u ∷ us) low new =
+      let here : is_named_before (cs ++ later) u ≡ false =
+      list_any-append (λ (o : Created). nat_lt o.number u.number && same_name o.name u.name) cs later
+      ∙ or_from _ _ new.0 (none-passes (λ (o : Created). nat_lt o.number u.number && same_name o.name u.name) later
+      (all_weaker (λ c. n ≤ c.number) (λ o. (nat_lt o.number u.number && same_name o.name u.name) ≡ false)
+      (λ o le. let low = low.0 in and_left _ _ (le-ltb o.number u.number (omega arith))) later later-above)) in
+      or_from _ _ (and_right (u.number == m) _ here) (none-named m lt us low.1 new.1)
+
+  one-below : (m : ℕ) → m < n → sum_by (λ (c : Created). cond (c.number == m) 1 0) cs ≡ 1 → length ss ≤ MOST_STREAMS → AllByRecursion (λ c. is_named_before cs c ≡ false) cs →
+      (ws : List Window) → filter_map (window_of m) (records_of_streams ss) ≡ ws → tile ws ≡ true → times_rise ws ≡ true → is_sound_in_order all m ≡ true
+  one-below m lt once few new ws windows tiles rise =
+      let apart : AllByRecursion (λ c. c.number ≡ m → ⊥) later = all_weaker (λ c. n ≤ c.number) (λ c. c.number ≡ m → ⊥) (λ c le same. absurd (omega arith)) later later-above in
+      let higher : AllByRecursion (λ c. m ≤ c.number) later = all_weaker (λ c. n ≤ c.number) (λ c. m ≤ c.number) (λ c le. omega arith) later later-above in
+      let count : count_by (λ c. c.number == m) (cs ++ later) ≡ 1 =
+      omega (arith, sum_by-append (λ (c : Created). cond (c.number == m) 1 0) cs later, count-apart m later apart, once) in
+      let lower : count_by (λ c. nat_lt c.number m) (cs ++ later) < MOST_STREAMS =
+      omega (arith, sum_by-append (λ (c : Created). cond (nat_lt c.number m) 1 0) cs later, count-lower-none m later higher, once, count-both m cs, length-map ss created, few) in
+      let names : list_any (λ c. c.number == m && is_named_before (cs ++ later) c) (cs ++ later) ≡ false =
+      list_any-append (λ (c : Created). c.number == m && is_named_before (cs ++ later) c) cs later
+      ∙ or_from _ _ (none-named m lt cs cs-below new)
+      (none-passes (λ (c : Created). c.number == m && is_named_before (cs ++ later) c) later
+      (all_weaker (λ c. c.number ≡ m → ⊥) (λ c. (c.number == m && is_named_before (cs ++ later) c) ≡ false) (λ c no. and_left _ _ (ne_eqb c.number m no)) later apart)) in
+      let windows' : filter_map (window_of m) all ≡ ws =
+      windows-all m ∙ ap₂ ◌++◌ windows (windows-apart m back (all_weaker (λ r. n ≤ stream_of r) (λ r. stream_of r ≡ m → ⊥) (λ r le same. absurd (omega arith)) back above)) ∙ append-nil ws in
+      sound-all _ _ _ _ _
+      (ap (has_one_record m) created-all ∙ eq-eqb _ _ count)
+      (ap (has_place m) created-all ∙ lt-ltb _ _ lower)
+      (ap (has_new_name m) created-all ∙ ap not names)
+      (ap tile windows' ∙ tiles)
+      (ap times_rise windows' ∙ rise)
+
+  -- the first streams are sound
+  sounds : (us : List Stream) → AllByRecursion (λ s. s.number < n) us → AllByRecursion (λ s. sum_by (λ (c : Created). cond (c.number == s.number) 1 0) cs ≡ 1) us →
+      AllByRecursion (λ s. filter_map (window_of s.number) (records_of_streams ss) ≡ s.windows) us → AllByRecursion IsStream us →
+      length ss ≤ MOST_STREAMS → AllByRecursion (λ c. is_named_before cs c ≡ false) cs → AllByRecursion (λ s. is_sound_in_order all s.number ≡ true) us
+  sounds [] low once windows streams few new = tt
+  sounds (u ∷ us) low once windows streams few new = (
+    one-below u.number low.0 once.0 few new u.windows windows.0 (tile-AreWindows u.windows streams.0.windows) (times_rise-AreWindows u.windows streams.0.windows),
+    sounds us low.1 once.1 windows.1 streams.1 few new,
+  )
+
+  pub sound-below : Rise (λ s. s.number) ss → IsDistinct same_name (names_of ss) → AllByRecursion IsStream ss → length ss ≤ MOST_STREAMS →
+      AllByRecursion (λ r. stream_of r < n → is_sound_in_order all (stream_of r) ≡ true) all
+  sound-below rise distinct streams few =
+      let rise_cs = map-Rise ss rise in
+      let names : IsDistinct same_name (map (λ c. c.name) cs) = subst (IsDistinct same_name) (names-created ss) distinct in
+      let each = sounds ss below (all-from_map (λ c. sum_by (λ (o : Created). cond (o.number == c.number) 1 0) cs ≡ 1) created ss (IsOnce-each cs rise_cs))
+      (HasWindows-each ss rise) streams few (IsNew-each cs rise_cs names) in
+      all-append (λ r. stream_of r < n → is_sound_in_order all (stream_of r) ≡ true) (records_of_streams ss) back
+      (all-records (λ k. k < n → is_sound_in_order all k ≡ true) ss (all_weaker (λ s. is_sound_in_order all s.number ≡ true) (λ s. s.number < n → is_sound_in_order all s.number ≡ true) (λ s is _. is) ss each))
+      (all_weaker (λ r. n ≤ stream_of r) (λ r. stream_of r < n → is_sound_in_order all (stream_of r) ≡ true) (λ r le lt. absurd (omega arith)) back above)
+
+  cs-apart : AllByRecursion (λ c. c.number ≡ n → ⊥) cs
+  cs-apart = all_weaker (λ c. c.number < n) (λ c. c.number ≡ n → ⊥) (λ c lt same. absurd (omega arith)) cs cs-below
+
+  count-all : count_by (λ c. c.number == n) (streams_created all) ≡ count_by (λ c. c.number == n) later
+  count-all =
+      ap (count_by (λ c. c.number == n)) created-all
+      ∙ omega (arith, sum_by-append (λ (c : Created). cond (c.number == n) 1 0) cs later, count-apart n cs cs-apart)
+
+  -- no stream has the number
+  pub unsound-without_stream : AllByRecursion (λ r. stream_of r ≡ n → 1 ≤ place_of r) back → is_sound_in_order all n ≡ false
+  unsound-without_stream behind =
+      unsound-one all n (ne_eqb (count_by (λ c. c.number == n) (streams_created all)) 1 (λ e. absurd (omega (arith, e, count-all, count-apart n later (no-stream n back behind)))))
+
+  -- two streams have the number
+  pub unsound-two_streams : 2 ≤ count_by (λ c. c.number == n) later → is_sound_in_order all n ≡ false
+  unsound-two_streams two = unsound-one all n (ne_eqb (count_by (λ c. c.number == n) (streams_created all)) 1 (λ e. absurd (omega (arith, e, count-all, two))))
+
+  -- as many streams stand as can
+  pub unsound-full : length ss ≡ MOST_STREAMS → is_sound_in_order all n ≡ false
+  unsound-full full =
+      unsound-place all n (ap (has_place n) created-all
+      ∙ le-ltb _ MOST_STREAMS (omega (arith, full, sum_by-append (λ (c : Created). cond (nat_lt c.number n) 1 0) cs later, count-lower-all n cs cs-below, length-map ss created)))
+
+  -- the name is taken
+  pub unsound-named : (name : List ℕ) (params : Params) (rest : List Record) → back ≡ records.Stream n name params ∷ rest → list_any (same_name name) (names_of ss) ≡ true →
+      is_sound_in_order all n ≡ false
+  unsound-named name params rest is taken =
+      let c : Created = record { number = n; name = name; params = params } in
+      let later' : later ≡ c ∷ filter_map created_by rest = ap (filter_map created_by) is in
+      let named : is_named_before (cs ++ later) c ≡ true =
+      list_any-append (λ (o : Created). nat_lt o.number n && same_name o.name name) cs later
+      ∙ or_left _ _ (named-created n name ss below taken) in
+      let any : list_any (λ (o : Created). o.number == n && is_named_before (cs ++ later) o) (cs ++ later) ≡ true =
+      list_any-append (λ (o : Created). o.number == n && is_named_before (cs ++ later) o) cs later
+      ∙ or_right _ _ (ap (list_any (λ (o : Created). o.number == n && is_named_before (cs ++ later) o)) later'
+      ∙ or_left _ _ (and_from (n == n) _ (eq-eqb n n refl) named)) in
+      unsound-name all n (ap (has_new_name n) created-all ∙ ap not any)
+
+  -- a window isn't the next one
+  pub unsound-window : (ws : List Window) (w : Window) (rest : List Window) → filter_map (window_of n) back ≡ ws ++ w ∷ rest →
+      (w.first ≡ taken ws + 1 → IsAfter (newest_time ws) w.summary.t_first → ⊥) → is_sound_in_order all n ≡ false
+  unsound-window ws w rest windows refused =
+      let have : filter_map (window_of n) all ≡ ws ++ w ∷ rest =
+      windows-all n
+      ∙ ap₂ ◌++◌ (windows-apart n (records_of_streams ss) (all-records (λ k. k ≡ n → ⊥) ss (all_weaker (λ s. s.number < n) (λ s. s.number ≡ n → ⊥) (λ s lt same. absurd (omega arith)) ss below))) windows in
+      elim (cases_Bool (tile (ws ++ w ∷ rest))) [
+        | inl tiles ↦ elim (cases_Bool (times_rise (ws ++ w ∷ rest))) [
+          | inl rise ↦ absurd (refused (omega (arith, tile-next 1 ws w rest (and_parts _ _ tiles).0)) (times-next ws w rest rise))
+          | inr falls ↦ unsound-times all n (ap times_rise have ∙ falls)
+        ]
+        | inr fails ↦ unsound-tile all n (ap tile have ∙ fails)
+      ]

@@ -1,0 +1,184 @@
+-- Which numbers are sound doesn't hang on the order of the records.
+use Rattle.std.proofs.Common.{◌≡◌, ◌⊎◌, ◌∙◌, ℕ, ◌+◌, ◌*◌, ◌^◌, ◌<◌, ◌≤◌, Bool, true, false, not, ◌&&◌, cond, leb, List, [], ◌∷◌, filter, fold, min, Option, Some, None, refl, sym, ap, ap₂, inl, inr, arith, IsPermutation}
+use Rattle.std.specs.Prelude.{◌==◌, nat_lt}
+use Rattle.std.specs.List.{AllByRecursion, cons_option, filter_map, list_any}
+use Rattle.std.proofs.lemmas.Bool.{cases_Bool, cases_lt, cond-true, cond-false, cond_both, eq-eqb, eqb-true, leb-true, leb-false, le-leb, lt-leb, or_cases, or_left, or_right, true≢false}
+use Rattle.std.proofs.lemmas.List.Elements.{All-from_recursion, recursion_from_All}
+use Rattle.std.proofs.lemmas.List.Sorted.{All-permutation, IsPermutation-sym, list_any-IsPermutation, sum_by-IsPermutation}
+use Rattle.ss_catalog.specs.Names.{same_name}
+use Rattle.ss_codec.specs.declared.record.Record.{Record}
+use Rattle.ss_codec.specs.declared.record.Record.TheVariants as records
+use Rattle.ss_model.specs.State.{Created}
+use Rattle.ss_model.specs.declared.types.Window.{Window}
+use Rattle.ss_recover.specs.Carried.{created_by, in_order, number_of, put_in_order, streams_created, window_of, windows_carried}
+use Rattle.ss_recover.specs.Conditions.{has_new_name, has_one_record, has_place, is_named_before, is_sound, tile, times_rise}
+use Rattle.ss_recover.specs.Order.{Rises, key_of, stream_of}
+use Rattle.ss_recover.specs.Parts.{least, lowest_bad_stream}
+use Rattle.ss_recover.specs.Walk.{IsLowestUnsound, IsUsable, is_sound_in_order}
+use Rattle.ss_recover.proofs.InOrder.{IsPermutation-in_order}
+use Rattle.ss_catalog.specs.declared.TheConstants.{MOST_STREAMS}
+use Rattle.ss_recover.proofs.Lists.{all_weaker}
+use Rattle.ss_recover.proofs.Permutations.{IsPermutation-filter_map}
+use Rattle.ss_recover.proofs.OrderLemmas.{Rises-in_order, put-less, put-more}
+use Rattle.ss_recover.proofs.Permutations.{IsPermutation-filter_map}
+
+-- elements that give something are put in order as what they give is
+module _ {X Y : Type 0} (key : X → ℕ) (key' : Y → ℕ) (h : X → Option Y)
+    (same : (x y : X) (z w : Y) → h x ≡ Some z → h y ≡ Some w → leb (key x) (key y) ≡ leb (key' z) (key' w)) where
+  first-put : (x : X) (z : Y) → h x ≡ Some z → (us : List X) → AllByRecursion (λ u. key x ≤ key u) us → put_in_order key' z (filter_map h us) ≡ z ∷ filter_map h us
+  first-put x z is [] above = refl
+  first-put x z is (u ∷ us) above = go (h u) refl (first-put x z is us above.1)
+    where
+      go : (o : Option Y) → h u ≡ o → put_in_order key' z (filter_map h us) ≡ z ∷ filter_map h us → put_in_order key' z (cons_option o (filter_map h us)) ≡ z ∷ cons_option o (filter_map h us)
+      go None none rest = rest
+      go (Some w) some rest = cond-true _ _ _ (sym (same x u z w is some) ∙ le-leb (key x) (key u) above.0)
+
+  put-none : (x : X) → h x ≡ None → (ys : List X) → filter_map h (put_in_order key x ys) ≡ filter_map h ys
+  put-none x none [] = ap (λ o. cons_option o []) none
+  put-none x none (y ∷ ys) =
+      cond_both (leb (key x) (key y)) (x ∷ y ∷ ys) (y ∷ put_in_order key x ys) (λ l. filter_map h l ≡ filter_map h (y ∷ ys))
+      (λ _. ap (λ o. cons_option o (filter_map h (y ∷ ys))) none)
+      (λ _. ap (cons_option (h y)) (put-none x none ys))
+
+  put-some : (x : X) (z : Y) → h x ≡ Some z → (ys : List X) → Rises key ys → filter_map h (put_in_order key x ys) ≡ put_in_order key' z (filter_map h ys)
+  put-some x z is [] rises = ap (λ o. cons_option o []) is
+  put-some x z is (y ∷ ys) rises =
+      elim (cases_Bool (leb (key x) (key y))) [
+        | inl le ↦
+            ap (filter_map h) (put-less key x y ys le) ∙ ap (λ o. cons_option o (filter_map h (y ∷ ys))) is
+            ∙ sym (first-put x z is (y ∷ ys) (leb-true _ _ le, weaken ys (leb-true _ _ le) rises.0))
+        | inr more ↦ ap (filter_map h) (put-more key x y ys more) ∙ ap (cons_option (h y)) (put-some x z is ys rises.1) ∙ go more (h y) refl
+      ]
+    where
+      weaken : (us : List X) → key x ≤ key y → AllByRecursion (λ u. key y ≤ key u) us → AllByRecursion (λ u. key x ≤ key u) us
+      weaken [] le all = tt
+      weaken (u ∷ us) le all = let first = all.0 in (omega arith, weaken us le all.1)
+
+      go : leb (key x) (key y) ≡ false → (o : Option Y) → h y ≡ o → cons_option o (put_in_order key' z (filter_map h ys)) ≡ put_in_order key' z (cons_option o (filter_map h ys))
+      go more None none = refl
+      go more (Some w) some = sym (cond-false _ _ _ (sym (same x y z w is some) ∙ more))
+
+  pub filter_map-in_order : (xs : List X) → filter_map h (in_order key xs) ≡ in_order key' (filter_map h xs)
+  filter_map-in_order [] = refl
+  filter_map-in_order (x ∷ xs) = go (h x) refl (filter_map-in_order xs)
+    where
+      go : (o : Option Y) → h x ≡ o → filter_map h (in_order key xs) ≡ in_order key' (filter_map h xs) →
+          filter_map h (put_in_order key x (in_order key xs)) ≡ in_order key' (cons_option o (filter_map h xs))
+      go None none rest = put-none x none (in_order key xs) ∙ rest
+      go (Some z) some rest = put-some x z some (in_order key xs) (Rises-in_order key xs) ∙ ap (put_in_order key' z) rest
+
+-- the key of a window of a number
+window-key : (n : ℕ) (r : Record) (z : Window) → window_of n r ≡ Some z → key_of r ≡ n * 2 ^ 64 + z.first
+window-key n records.Free z is = cc
+window-key n (records.Stream id name params) z is = cc
+window-key n (records.Window id first summary) z is =
+    elim (cases_Bool (id == n)) [
+      | inl same ↦
+          let some : Some (record { first = first; summary = summary }) ≡ Some z = sym (cond-true (id == n) _ _ same) ∙ is in
+          let w : record { first = first; summary = summary } ≡ z = cc in
+          ap₂ (λ (a b : ℕ). a * 2 ^ 64 + b) (eqb-true id n same) (ap (λ (v : Window). v.first) w)
+      | inr other ↦ let none : None ≡ Some z = sym (cond-false (id == n) _ _ other) ∙ is in cc
+    ]
+
+leb-shift : (c a b : ℕ) → leb (c + a) (c + b) ≡ leb a b
+leb-shift c a b = elim (cases_Bool (leb a b)) [
+  | inl le ↦ le-leb (c + a) (c + b) (omega (arith, leb-true a b le)) ∙ sym le
+  | inr more ↦ lt-leb (c + a) (c + b) (omega (arith, leb-false a b more)) ∙ sym more
+]
+
+window-order : (n : ℕ) (x y : Record) (z w : Window) → window_of n x ≡ Some z → window_of n y ≡ Some w → leb (key_of x) (key_of y) ≡ leb z.first w.first
+window-order n x y z w is also = ap₂ leb (window-key n x z is) (window-key n y w also) ∙ leb-shift (n * 2 ^ 64) z.first w.first
+
+windows-in_order : (n : ℕ) (rs : List Record) → windows_carried n rs ≡ filter_map (window_of n) (in_order key_of rs)
+windows-in_order n rs = sym (filter_map-in_order key_of (λ (w : Window). w.first) (window_of n) (window-order n) rs)
+
+-- the records of a number are sound in any order, where they are sound in order
+pub is_sound-in_order : (rs : List Record) (n : ℕ) → is_sound rs n ≡ is_sound_in_order (in_order key_of rs) n
+unfolding is_sound
+is_sound-in_order rs n =
+    let qs : List Record = in_order key_of rs in
+    let moved : IsPermutation (streams_created rs) (streams_created qs) = IsPermutation-filter_map created_by rs qs (IsPermutation-in_order key_of rs) in
+    let one : has_one_record n (streams_created rs) ≡ has_one_record n (streams_created qs) =
+    ap (λ (k : ℕ). k == 1) (sym (sum_by-IsPermutation (λ (c : Created). cond (c.number == n) 1 0) (streams_created rs) (streams_created qs) moved)) in
+    let place : has_place n (streams_created rs) ≡ has_place n (streams_created qs) =
+    ap (λ (k : ℕ). nat_lt k MOST_STREAMS) (sym (sum_by-IsPermutation (λ (c : Created). cond (nat_lt c.number n) 1 0) (streams_created rs) (streams_created qs) moved)) in
+    let named : (s : Created) → is_named_before (streams_created rs) s ≡ is_named_before (streams_created qs) s =
+    λ s. list_any-IsPermutation (λ (o : Created). nat_lt o.number s.number && same_name o.name s.name) (streams_created rs) (streams_created qs) moved in
+    let new : has_new_name n (streams_created rs) ≡ has_new_name n (streams_created qs) =
+    ap not ((λ i. list_any (λ (s : Created). s.number == n && named s i) (streams_created rs))
+    ∙ list_any-IsPermutation (λ (s : Created). s.number == n && is_named_before (streams_created qs) s) (streams_created rs) (streams_created qs) moved) in
+    let windows = windows-in_order n rs in
+    λ i. one i && place i && new i && tile (windows i) && times_rise (windows i)
+
+-- the least of some numbers
+fold-least : (n a : ℕ) (xs : List ℕ) → n ≤ a → AllByRecursion (λ x. n ≤ x) xs → (a ≡ n) ⊎ (list_any (λ x. x == n) xs ≡ true) → fold min a xs ≡ n
+fold-least n a [] le all (inl is) = is
+fold-least n a [] le all (inr has) = absurd (true≢false (sym has))
+fold-least n a (x ∷ xs) le all (inl is) = let first = all.0 in fold-least n (min a x) xs (omega arith) all.1 (inl (omega (arith, is)))
+fold-least n a (x ∷ xs) le all (inr has) =
+    let first = all.0 in
+    elim (or_cases (x == n) (list_any (λ y. y == n) xs) has) [
+      | inl here ↦ let is = eqb-true x n here in fold-least n (min a x) xs (omega arith) all.1 (inl (omega (arith, is)))
+      | inr there ↦ fold-least n (min a x) xs (omega arith) all.1 (inr there)
+    ]
+
+least-is : (n : ℕ) (xs : List ℕ) → AllByRecursion (λ x. n ≤ x) xs → list_any (λ x. x == n) xs ≡ true → least xs ≡ Some n
+least-is n [] all has = absurd (true≢false (sym has))
+least-is n (x ∷ xs) all has = ap Some (fold-least n x xs all.0 all.1 (go (or_cases (x == n) (list_any (λ y. y == n) xs) has)))
+  where
+    go : ((x == n) ≡ true) ⊎ (list_any (λ y. y == n) xs ≡ true) → (x ≡ n) ⊎ (list_any (λ y. y == n) xs ≡ true)
+    go (inl here) = inl (eqb-true x n here)
+    go (inr there) = inr there
+
+module _ (sound : ℕ → Bool) (n : ℕ) where
+  abbrev bad : List ℕ → List ℕ
+  bad ms = filter (λ m. not (sound m)) ms
+
+  bad-has : sound n ≡ false → (m : ℕ) (ms : List ℕ) → (m ≡ n) ⊎ (list_any (λ k. k == n) (bad ms) ≡ true) → list_any (λ k. k == n) (bad (m ∷ ms)) ≡ true
+  bad-has fails m ms (inl is) =
+      ap (list_any (λ k. k == n)) (cond-true (not (sound m)) _ _ (ap not (ap sound is ∙ fails))) ∙ or_left (m == n) _ (eq-eqb m n is)
+  bad-has fails m ms (inr rest) =
+      cond_both (not (sound m)) (m ∷ bad ms) (bad ms) (λ l. list_any (λ k. k == n) l ≡ true) (λ _. or_right (m == n) _ rest) (λ _. rest)
+
+  bad-least : (m : ℕ) (ms : List ℕ) → (m < n → sound m ≡ true) → AllByRecursion (λ k. n ≤ k) (bad ms) → AllByRecursion (λ k. n ≤ k) (bad (m ∷ ms))
+  bad-least m ms fine all =
+      cond_both (not (sound m)) (m ∷ bad ms) (bad ms) (AllByRecursion (λ k. n ≤ k))
+      (λ fails. (not-less fails, all)) (λ _. all)
+    where
+      not-less : not (sound m) ≡ true → n ≤ m
+      not-less fails = elim (cases_lt m n) [ inl lt ↦ absurd (true≢false (sym fails ∙ ap not (fine lt))) | inr le ↦ le ]
+
+  numbers-has : sound n ≡ false → (us : List Record) → AllByRecursion IsUsable us → list_any (λ r. stream_of r == n) us ≡ true → list_any (λ k. k == n) (bad (filter_map number_of us)) ≡ true
+  numbers-has fails [] usable has = absurd (true≢false (sym has))
+  numbers-has fails (records.Free ∷ us) usable has = absurd usable.0
+  numbers-has fails (records.Stream id name params ∷ us) usable has =
+      elim (or_cases (id == n) (list_any (λ r. stream_of r == n) us) has) [
+        | inl here ↦ bad-has fails id (filter_map number_of us) (inl (eqb-true id n here))
+        | inr there ↦ bad-has fails id (filter_map number_of us) (inr (numbers-has fails us usable.1 there))
+      ]
+  numbers-has fails (records.Window id first summary ∷ us) usable has =
+      elim (or_cases (id == n) (list_any (λ r. stream_of r == n) us) has) [
+        | inl here ↦ bad-has fails id (filter_map number_of us) (inl (eqb-true id n here))
+        | inr there ↦ bad-has fails id (filter_map number_of us) (inr (numbers-has fails us usable.1 there))
+      ]
+
+  numbers-least : (us : List Record) → AllByRecursion (λ r. stream_of r < n → sound (stream_of r) ≡ true) us → AllByRecursion (λ k. n ≤ k) (bad (filter_map number_of us))
+  numbers-least [] fine = tt
+  numbers-least (records.Free ∷ us) fine = numbers-least us fine.1
+  numbers-least (records.Stream id name params ∷ us) fine = bad-least id (filter_map number_of us) fine.0 (numbers-least us fine.1)
+  numbers-least (records.Window id first summary ∷ us) fine = bad-least id (filter_map number_of us) fine.0 (numbers-least us fine.1)
+
+-- the number that a walk tells is the lowest bad one
+pub lowest-bad : (rs : List Record) (n : ℕ) → AllByRecursion IsUsable rs → IsLowestUnsound n (in_order key_of rs) → lowest_bad_stream rs ≡ Some n
+lowest-bad rs n usable lowest =
+    let qs : List Record = in_order key_of rs in
+    let moved = IsPermutation-in_order key_of rs in
+    let lower : AllByRecursion (λ r. stream_of r < n → is_sound rs (stream_of r) ≡ true) rs =
+    recursion_from_All (λ r. stream_of r < n → is_sound rs (stream_of r) ≡ true) rs
+    (All-permutation (λ r. stream_of r < n → is_sound rs (stream_of r) ≡ true) qs rs (IsPermutation-sym rs qs moved)
+    (All-from_recursion (λ r. stream_of r < n → is_sound rs (stream_of r) ≡ true) qs
+    (all_weaker (λ r. stream_of r < n → is_sound_in_order qs (stream_of r) ≡ true) (λ r. stream_of r < n → is_sound rs (stream_of r) ≡ true)
+    (λ r fine lt. is_sound-in_order rs (stream_of r) ∙ fine lt) qs lowest.lower))) in
+    least-is n (filter (λ m. not (is_sound rs m)) (filter_map number_of rs)) (numbers-least (is_sound rs) n rs lower)
+    (numbers-has (is_sound rs) n (is_sound-in_order rs n ∙ lowest.unsound) rs usable
+    (list_any-IsPermutation (λ r. stream_of r == n) rs qs moved ∙ lowest.has))

@@ -1,0 +1,16 @@
+use Rattle.std.proofs.Common.{◌≡◌, sym, inl, inr}
+use Rattle.ss_codec.specs.declared.record.Record.TheVariants.{Free}
+use Rattle.ss_recover.proofs.Usable.{IsUsable-valid}
+use Rattle.ss_recover.proofs.gathering.record_in.Goals as goal
+
+pub returns-in-Stream : goal.returns-in-Stream
+returns-in-Stream c =
+    let other : c.in_ok-record.record ≡ Free → ⊥ = λ free. elim c.in-Stream.is [
+      | inl stream ↦ let is = stream.3 in cc
+      | inr window ↦ let is = window.3 in cc
+    ] in
+    record {
+      some = sym c.in_ok-record.ensures.exact;
+      usable = IsUsable-valid c.in_ok-record.record c.in_ok-record.ensures.some.valid other;
+      none = tt;
+    }

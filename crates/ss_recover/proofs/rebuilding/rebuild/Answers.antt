@@ -1,0 +1,57 @@
+use Rattle.std.proofs.Common.{Err, ◌∙◌, All, List, length, refl, sym, ap, subst, arith}
+use Rattle.std.proofs.lemmas.Result.{err_from_is_err_and}
+use Rattle.std.proofs.lemmas.List.Sorted.{All-permutation, length_permutation}
+use Rattle.ss_recover.specs.Order.{Rises, found_key}
+use Rattle.ss_recover.specs.Walk.{IsUsable, WalksAs}
+use Rattle.ss_recover.specs.declared.found.Found.{Found}
+use Rattle.ss_recover.proofs.OrderLemmas.{Rises-in_order}
+use Rattle.ss_recover.proofs.RebuiltParts.{no-blame, refuses-found, not-disk, on-disk, rebuilds, whole-from_walk}
+use Rattle.ss_recover.proofs.WholeSlots.{HasWholeSlots-StandsFor}
+use Rattle.ss_recover.proofs.rebuilding.rebuild.Goals as goal
+
+pub returns : goal.returns
+returns g c =
+    let all = c.in_ok-found.found.items in
+    let sorted = c.sort.new.all.items in
+    let read = c.in_ok-found.ensures in
+    let result = c.streams_of.result in
+    let walks : WalksAs sorted result = subst (λ (fs : List Found). WalksAs fs result) c.deref.ensures.value c.streams_of.ensures in
+    let content = (g.D.Disk.told c.args.disk.now).content in
+    record {
+      carried = λ told found stands.
+          rebuilds found all sorted result (HasWholeSlots-StandsFor content found stands) (read.found told found stands) read.usable c.in_ok-sort.ensures.order c.sort.ensures.permutation walks;
+      whole = whole-from_walk c.args.records.now.live all sorted result read.slots c.sort.ensures.permutation walks;
+      one_disk = λ told. not-disk sorted result _ walks (read.one_disk told);
+      journal = not-disk sorted result _ walks read.journal;
+      live = read.live;
+      stopped = on-disk sorted result _ walks;
+      reads = read.reads;
+      tells = read.tells;
+      cause = no-blame sorted result _ _ walks read.cause;
+    }
+
+pub returns-in_err-found-clause-carried : goal.returns-in_err-found-clause-carried
+returns-in_err-found-clause-carried g c told found stands =
+    let gives = err_from_is_err_and c.from_residual.result c.from_residual.ensures.1 in
+    refuses-found found c.gather.result c.from_residual.result c.in_err-found.field-0.0 (c.gather.ensures.found told found stands) c.in_err-found.was (gives.1 ∙ ap Err gives.2)
+
+pub streams_of-requires-clause-usable : goal.streams_of-requires-clause-usable
+streams_of-requires-clause-usable g c =
+    subst (All (λ (f : Found). IsUsable f.holds)) (sym c.deref.ensures.value)
+    (All-permutation (λ (f : Found). IsUsable f.holds) c.in_ok-found.found.items c.sort.new.all.items c.sort.ensures.permutation c.in_ok-found.ensures.usable)
+
+pub streams_of-requires-clause-order : goal.streams_of-requires-clause-order
+streams_of-requires-clause-order g c =
+    subst (Rises found_key) (sym (c.deref.ensures.value ∙ c.in_ok-sort.ensures.order)) (Rises-in_order found_key c.in_ok-found.found.items)
+
+pub streams_of-requires-clause-few : goal.streams_of-requires-clause-few
+streams_of-requires-clause-few g c =
+    omega (
+      arith,
+      ap (λ (fs : List Found). length fs) c.deref.ensures.value,
+      length_permutation c.in_ok-found.found.items c.sort.new.all.items c.sort.ensures.permutation,
+      c.in_ok-found.ensures.few,
+    )
+
+pub streams_of-requires-clause-blank : goal.streams_of-requires-clause-blank
+streams_of-requires-clause-blank g c = record { same_name = refl; same_parts = refl; some = omega (arith, c.new.ensures) }

@@ -1,0 +1,6 @@
+use Rattle.std.proofs.Common.{take}
+use Rattle.ss_recover.proofs.WalkSteps.{Holds}
+use Rattle.ss_recover.proofs.walking.streams_of.Given as goal
+
+abbrev pub invariant-loop-found : goal.invariant-loop-found
+invariant-loop-found g l = Holds l.walk (take l.found-index l.all)

@@ -1,0 +1,49 @@
+-- What the slots of a map carry, by the number of the stream that each record is of.
+use Rattle.std.specs.Prelude.{ℕ, ◌==◌, nat_le, if◌then◌else◌, List, [], ◌∷◌, map, Option, Some, None}
+use Rattle.std.specs.List.{filter_map, range_with_len}
+use Rattle.ss_journal.specs.Redo.{SlotMap}
+use Rattle.ss_codec.specs.Decoded.{decoded}
+use Rattle.ss_codec.specs.declared.record.Record.{Record}
+use Rattle.ss_codec.specs.declared.record.Record.TheVariants.{Free, Stream, Window}
+use Rattle.ss_model.specs.State as State
+use Rattle.ss_model.specs.declared.types.Window as Model
+
+-- what each slot below the extent spells, in order: a valid record, or none. From the extent on every slot is free.
+unfoldable pub spelled : SlotMap → List (Option Record)
+spelled found = map (λ slot. decoded (found.bytes slot)) (range_with_len 0 found.extent)
+
+-- the number of the stream that a record is of; a free slot is of none
+abbrev pub number_of : Record → Option ℕ
+number_of Free = None
+number_of (Stream id name params) = Some id
+number_of (Window id first summary) = Some id
+
+-- the stream that a record creates, if it is a stream's record
+abbrev pub created_by : Record → Option State.Created
+created_by Free = None
+created_by (Stream id name params) = Some (record { number = id; name = name; params = params })
+created_by (Window id first summary) = None
+
+-- the window of a record, if it is one of the stream of this number
+abbrev pub window_of : ℕ → Record → Option Model.Window
+window_of number Free = None
+window_of number (Stream id name params) = None
+window_of number (Window id first summary) = if id == number then Some (record { first = first; summary = summary }) else None
+
+-- an element before the first one whose key isn't less
+abbrev pub put_in_order : {X : Type 0} → (X → ℕ) → X → List X → List X
+put_in_order key x [] = x ∷ []
+put_in_order key x (y ∷ ys) = if nat_le (key x) (key y) then x ∷ y ∷ ys else y ∷ put_in_order key x ys
+
+-- the elements in the order of their keys
+abbrev pub in_order : {X : Type 0} → (X → ℕ) → List X → List X
+in_order key [] = []
+in_order key (x ∷ xs) = put_in_order key x (in_order key xs)
+
+-- the streams that records create, in the order of the records
+abbrev pub streams_created : List Record → List State.Created
+streams_created records = filter_map created_by records
+
+-- the windows that records have of the stream of a number, in the order of their positions
+abbrev pub windows_carried : ℕ → List Record → List Model.Window
+windows_carried number records = in_order (λ w. w.first) (filter_map (window_of number) records)

@@ -1,0 +1,51 @@
+-- What the records of one stream number have to meet, one condition after another.
+use Rattle.std.specs.Prelude.{ℕ, ◌+◌, Bool, true, not, ◌==◌, ◌&&◌, nat_le, nat_lt, List, [], ◌∷◌, count_by}
+use Rattle.std.specs.List.{list_any}
+use Rattle.ss_catalog.specs.Names.{same_name}
+use Rattle.ss_catalog.specs.declared.TheConstants.{MOST_STREAMS}
+use Rattle.ss_codec.specs.declared.record.Record.{Record}
+use Rattle.ss_windowing.specs.declared.decay.TheConstants.{MOST_VALUES}
+use Rattle.ss_model.specs.State.{Created}
+use Rattle.ss_model.specs.Windows.{taken}
+use Rattle.ss_model.specs.declared.types.Window.{Window}
+use Rattle.ss_recover.specs.Carried.{streams_created, windows_carried}
+
+-- exactly one stream record has the number
+abbrev pub has_one_record : ℕ → List Created → Bool
+has_one_record number streams = count_by (λ s. s.number == number) streams == 1
+
+-- fewer stream records than streams can stand have lower numbers
+abbrev pub has_place : ℕ → List Created → Bool
+has_place number streams = nat_lt (count_by (λ s. nat_lt s.number number) streams) MOST_STREAMS
+
+-- whether a stream record of a lower number has the name of a stream
+abbrev pub is_named_before : List Created → Created → Bool
+is_named_before streams s = list_any (λ other. nat_lt other.number s.number && same_name other.name s.name) streams
+
+-- no stream record of a lower number has its name
+abbrev pub has_new_name : ℕ → List Created → Bool
+has_new_name number streams = not (list_any (λ s. s.number == number && is_named_before streams s) streams)
+
+-- each window begins where the one before it ended, and the first at this position
+abbrev pub tile_from : ℕ → List Window → Bool
+tile_from first [] = true
+tile_from first (w ∷ ws) = w.first == first && tile_from (first + w.summary.count) ws
+
+-- they hold each position from 1 on, and no more than a stream can take
+abbrev pub tile : List Window → Bool
+tile ws = tile_from 1 ws && nat_le (taken ws) MOST_VALUES
+
+-- the last time of each window is before the first time of the next
+abbrev pub times_rise : List Window → Bool
+times_rise [] = true
+times_rise (w ∷ []) = true
+times_rise (w ∷ v ∷ ws) = nat_lt w.summary.t_last v.summary.t_first && times_rise (v ∷ ws)
+
+-- the records of the number meet all conditions
+unfoldable pub is_sound : List Record → ℕ → Bool
+is_sound records number =
+    has_one_record number (streams_created records)
+    && has_place number (streams_created records)
+    && has_new_name number (streams_created records)
+    && tile (windows_carried number records)
+    && times_rise (windows_carried number records)

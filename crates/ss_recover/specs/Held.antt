@@ -1,0 +1,103 @@
+-- Streams as they are held in memory, with the slot of each record.
+use Rattle.std.specs.Prelude.{◌≡◌, ◌≢◌, ℕ, ◌+◌, ◌<◌, ◌≤◌, Bool, not, List, [], ◌∷◌, length, map, filter, flat_map, zip, All, Option, Some, ⊤}
+use Rattle.std.specs.List.{range_with_len, IsDistinct}
+use Rattle.std.specs.List.Sorted.{IsPermutation, IsStrictlyIncreasing}
+use Rattle.ss_journal.specs.Redo.{SlotMap}
+use Rattle.ss_journal.specs.declared.format.TheConstants.{MOST_SLOTS, SLOT_SIZE}
+use Rattle.ss_journal.specs.declared.put.Put.{Put}
+use Rattle.ss_records.specs.Live.{is_live, are_zeros}
+use Rattle.ss_catalog.specs.Names.{same_name}
+use Rattle.ss_catalog.specs.declared.TheConstants.{MOST_STREAMS}
+use Rattle.ss_codec.specs.Decoded.{decoded}
+use Rattle.ss_codec.specs.Record.{Spells}
+use Rattle.ss_codec.specs.declared.record.Record.{Record}
+use Rattle.ss_codec.specs.declared.record.Record.TheVariants as records
+use Rattle.ss_line.specs.declared.entry.Entry.{Entry}
+use Rattle.ss_target.specs.Targets.{params_of}
+use Rattle.ss_windowing.specs.declared.decay.TheConstants.{MOST_VALUES}
+use Rattle.ss_model.specs.Closed.{last_position}
+use Rattle.ss_model.specs.Standing.{IsState}
+use Rattle.ss_model.specs.State.{Stream, last_time}
+use Rattle.ss_model.specs.declared.types.Window.{Window}
+use Rattle.ss_recover.specs.declared.parts.StreamParts.{StreamParts}
+
+-- the entries of a stream's line, oldest first
+abbrev pub entries_of : StreamParts → List Entry
+entries_of part = map (λ e. e.1) part.line.entries
+
+-- the positions of the first and the last value, of an entry and of a window
+abbrev pub span_held : Entry → ℕ × ℕ
+span_held e = (e.first, e.last)
+
+abbrev pub span_of : Window → ℕ × ℕ
+span_of w = (w.first, last_position w)
+
+-- What is held agrees with a stream: its number, name and parameters, the positions of each of its windows, and its last
+-- time. The other figures of the windows are in their records alone.
+pub record Agrees (part : StreamParts) (s : Stream) : Type 0 where
+  pub number : part.id.0 ≡ s.number
+  pub name : part.name ≡ s.name
+  pub params : params_of part.target ≡ s.params
+  pub positions : map span_held (entries_of part) ≡ map span_of s.windows
+  pub last_time : part.last_time ≡ last_time s
+
+-- the same of each, in order
+abbrev pub AllAgree : List StreamParts → List Stream → Type 0
+AllAgree [] [] = ⊤
+AllAgree [] (s ∷ ss) = ⊥
+AllAgree (part ∷ parts) [] = ⊥
+AllAgree (part ∷ parts) (s ∷ ss) = Agrees part s × AllAgree parts ss
+
+-- the record of a stream, and of a window of the stream with a number
+abbrev pub stream_record : Stream → Record
+stream_record s = records.Stream s.number s.name s.params
+
+abbrev pub window_record : ℕ → Window → Record
+window_record number w = records.Window number w.first w.summary
+
+-- the records of a stream, each with the slot where it is held: its own, and those of its windows
+abbrev pub records_held : StreamParts × Stream → List (ℕ × Option Record)
+records_held p =
+    (p.0.slot, Some (stream_record p.1))
+    ∷ zip (map (λ (e : Entry). e.slot) (entries_of p.0)) (map (λ w. Some (window_record p.1.number w)) p.1.windows)
+
+-- the slots of a map that aren't zeros, in order, each with the record that it spells, if it spells one
+abbrev pub occupied : SlotMap → List (ℕ × Option Record)
+occupied found =
+    map (λ slot. (slot, decoded (found.bytes slot)))
+    (filter (λ slot. not (are_zeros (found.bytes slot))) (range_with_len 0 found.extent))
+
+-- a map as an image has it: no more slots than a file can have, and each of as many bytes as a slot has
+pub record HasWholeSlots (found : SlotMap) : Type 0 where
+  pub few : found.extent ≤ MOST_SLOTS
+  pub whole : (slot : ℕ) → slot < MOST_SLOTS → length (found.bytes slot) ≡ SLOT_SIZE
+
+-- a put of a record
+pub record IsRecord (put : Put) (r : Record) : Type 0 where
+  pub spelled : Spells put.bytes r
+  pub some : r ≢ records.Free
+
+-- What is held stands for the streams of a map: it agrees with each of them, in order, and the slots that aren't zeros are
+-- those of their records, each in the slot where it is held.
+pub record AreHeld (parts : List StreamParts) (streams : List Stream) (found : SlotMap) : Type 0 where
+  pub each : AllAgree parts streams
+  pub records : IsPermutation (flat_map records_held (zip parts streams)) (occupied found)
+  pub state : IsState streams
+
+-- entries hold each position from this one on, and none past the last that a stream can have
+abbrev pub TileFrom : ℕ → List Entry → Type 0
+TileFrom first [] = ⊤
+TileFrom first (e ∷ es) = (e.first ≡ first) × (e.first ≤ e.last) × (e.last ≤ MOST_VALUES) × TileFrom (e.last + 1) es
+
+-- the slots of a stream's records
+abbrev pub slots_held : StreamParts → List ℕ
+slots_held part = part.slot ∷ map (λ (e : Entry). e.slot) (entries_of part)
+
+-- What is true of what is held over every disk, whatever it tells: numbers rise, names differ, the windows of each stream
+-- hold its positions, and the slots are those that are live, each once.
+pub record AreWhole (parts : List StreamParts) (live : List Bool) : Type 0 where
+  pub few : length parts ≤ MOST_STREAMS
+  pub numbers : IsStrictlyIncreasing (map (λ (part : StreamParts). part.id.0) parts)
+  pub names : IsDistinct same_name (map (λ (part : StreamParts). part.name) parts)
+  pub tiles : All (λ part. TileFrom 1 (entries_of part)) parts
+  pub slots : IsPermutation (flat_map slots_held parts) (filter (is_live live) (range_with_len 0 (length live)))

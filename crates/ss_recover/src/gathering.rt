@@ -1,0 +1,100 @@
+// Reading each live slot.
+ghost use Rattle.std.specs.Prelude.{◌≡◌, ◌<◌, ◌≤◌, All, IsTrue, IfOk, IfSome, IfNone, Some, length, map, filter, true};
+ghost use Rattle.std.specs.List.{range_with_len};
+ghost use Rattle.ss_outside.specs.Crash.{OnlyReads};
+ghost use Rattle.ss_journal.specs.Kept.{IsRunning, HasStopped};
+ghost use Rattle.ss_journal.specs.Redo.{SlotMap, StandsFor};
+ghost use Rattle.ss_journal.specs.declared.format.TheConstants.{MOST_SLOTS};
+ghost use Rattle.ss_records.specs.Kept.{AreKept};
+ghost use Rattle.ss_records.specs.Live.{is_live};
+ghost use Rattle.ss_codec.specs.Decoded.{decoded};
+ghost use Rattle.ss_recover.specs.Gathered.{SpellsNone, ReadsAs, GathersAs};
+ghost use Rattle.ss_recover.specs.Rebuilt.{BlamesDisk, NotDisk, OnDisk};
+ghost use Rattle.ss_recover.specs.Walk.{IsUsable};
+
+use crate::RecoverError;
+use crate::found::Found;
+use ss_codec::{Record, SLOT_SIZE, decode};
+use ss_outside::{Disk, Failed};
+use ss_records::Records;
+use std::alloc::Global;
+
+// The record that the bytes of a live slot spell.
+fn record_in(bytes: &[u8; SLOT_SIZE]) -> Option<Record>
+    ensures some { IfSome result (λ r. decoded bytes.now ≡ Some r) }
+    ensures usable { IfSome result IsUsable }
+    ensures none { IfNone result (SpellsNone bytes.now) }
+{
+    let record = decode(bytes)?;
+    match record {
+        Record::Free => None,
+        Record::Stream { .. } | Record::Window { .. } => Some(record),
+    }
+}
+
+// The record in a live slot.
+fn read_record<D: Disk>(
+    records: &mut Records,
+    disk: &mut D,
+    slot: u32,
+) -> Result<Found, RecoverError>
+    requires running { IsRunning records.old.journal }
+    requires slot { slot < MOST_SLOTS }
+    requires one_disk { IsTrue (D.tells disk.old) → AreKept records.old (D.told disk.old).content }
+    ensures found { IsTrue (D.tells disk.old) → (found : SlotMap) → StandsFor (D.told disk.old).content found
+        → ReadsAs (found.bytes slot) slot result }
+    ensures usable { IfOk result (λ f. IsUsable f.holds) }
+    ensures slot { IfOk result (λ f. f.slot ≡ slot) }
+    ensures one_disk { IsTrue (D.tells disk.old) → NotDisk result (AreKept records.new (D.told disk.new).content) }
+    ensures journal { NotDisk result (records.new.journal ≡ records.old.journal) }
+    ensures live { records.new.live ≡ records.old.live }
+    ensures stopped { OnDisk result (HasStopped records.new.journal) }
+    ensures reads { IsTrue (D.tells disk.old) → OnlyReads (D.told disk.old) (D.told disk.new) }
+    ensures tells { D.tells disk.new ≡ D.tells disk.old }
+    ensures cause { BlamesDisk (D.faults disk.old) (D.faults disk.new) result }
+{
+    match records.read(disk, slot) {
+        Ok(bytes) => match record_in(&bytes) {
+            Some(record) => Ok(Found {
+                slot,
+                holds: record,
+            }),
+            None => Err(RecoverError::BadSlot { n: slot }),
+        },
+        Err(Failed) => Err(RecoverError::Disk),
+    }
+}
+
+// The record in each live slot, in the order of the slots.
+pub fn gather<D: Disk>(
+    alloc: Global,
+    records: &mut Records,
+    disk: &mut D,
+) -> Result<Vec<Found>, RecoverError>
+    requires running { IsRunning records.old.journal }
+    requires one_disk { IsTrue (D.tells disk.old) → AreKept records.old (D.told disk.old).content }
+    ensures found { IsTrue (D.tells disk.old) → (found : SlotMap) → StandsFor (D.told disk.old).content found
+        → GathersAs found result }
+    ensures usable { IfOk result (λ all. All (λ f. IsUsable f.holds) all.items) }
+    ensures few { IfOk result (λ all. length all.items ≤ MOST_SLOTS) }
+    ensures slots { IfOk result (λ all. map (λ f. f.slot) all.items
+        ≡ filter (is_live records.old.live) (range_with_len 0 (length records.old.live))) }
+    ensures one_disk { IsTrue (D.tells disk.old) → NotDisk result (AreKept records.new (D.told disk.new).content) }
+    ensures journal { NotDisk result (records.new.journal ≡ records.old.journal) }
+    ensures live { records.new.live ≡ records.old.live }
+    ensures stopped { OnDisk result (HasStopped records.new.journal) }
+    ensures reads { IsTrue (D.tells disk.old) → OnlyReads (D.told disk.old) (D.told disk.new) }
+    ensures tells { D.tells disk.new ≡ D.tells disk.old }
+    ensures cause { BlamesDisk (D.faults disk.old) (D.faults disk.new) result }
+{
+    let mut all = Vec::with_capacity(alloc, records.live() as usize)?;
+    for slot in 0..records.extent() {
+        if records.is_live(slot) {
+            let found = read_record(records, disk, slot)?;
+            if all.push(found).is_err() {
+                return Err(RecoverError::OutOfMemory);
+            }
+        }
+    }
+    Ok(all)
+}

@@ -1,0 +1,22 @@
+//! The streams that the records of a map carry, with the slot of each record.
+#![tactic(auto)]
+
+mod found;
+mod gathering;
+mod laws;
+mod parts;
+mod rebuilding;
+mod recover_error;
+mod sorting;
+#[cfg(test)]
+mod tests;
+mod walking;
+
+pub use laws::{
+    a_record_in_a_free_slot, a_record_in_place_of_another, a_slot_that_is_freed,
+    images_have_whole_slots, same_maps_carry_the_same, what_is_carried_is_a_state,
+    what_is_held_is_carried,
+};
+pub use parts::{Parts, StreamParts};
+pub use rebuilding::rebuild;
+pub use recover_error::RecoverError;

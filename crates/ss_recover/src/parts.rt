@@ -1,0 +1,22 @@
+// Streams as they are held in memory.
+use ss_catalog::{Name, StreamId};
+use ss_line::Line;
+use ss_target::Target;
+
+/// A stream as a store holds it: what its record says and in which slot it lies, the greatest time that it has, and its
+/// windows in order, each as its positions and the slot of its record.
+#[derive(Drop)]
+pub struct StreamParts {
+    pub id: StreamId,
+    pub name: Name,
+    pub target: Target,
+    pub slot: u32,
+    pub last_time: Option<u64>,
+    pub line: Line,
+}
+
+/// Streams, in the order of their numbers.
+#[derive(Drop)]
+pub struct Parts {
+    pub streams: Vec<StreamParts>,
+}
