@@ -1,6 +1,9 @@
 # Needs the toolchain's `rt` on the PATH. `make help` lists the targets.
 PROGRAM = crates/summarystore/out/summarystore
 BENCH = crates/journal_bench/out/journal_bench
+RECORDS_BENCH = crates/records_bench/out/records_bench
+TARGET_BENCH = crates/target_bench/out/target_bench
+LANDMARKS = crates/landmarks_bench/out/landmarks_bench
 PREFIX = /usr/local
 
 .PHONY: build demo test install bench help
@@ -21,8 +24,14 @@ install: ## installs the program that was built last: make install PREFIX=/usr/l
 bench: ## times the programs that were built last: bench/README.md
 	@test -x $(PROGRAM) || $(MAKE) build
 	@test -x $(BENCH) || tools/build journal_bench
+	@test -x $(RECORDS_BENCH) || tools/build records_bench
+	@test -x $(TARGET_BENCH) || tools/build target_bench
+	@test -x $(LANDMARKS) || tools/build landmarks_bench
 	@bench/appends $(PROGRAM)
 	@bench/commits $(BENCH)
+	@bench/records $(RECORDS_BENCH)
+	@bench/targets $(TARGET_BENCH)
+	@bench/landmarks $(LANDMARKS)
 
 help: ## lists the targets
 	@awk -F ':.*## ' '/^[a-z]+:.*## / { printf "make %-8s  %s\n", $$1, $$2 }' Makefile

@@ -5,8 +5,6 @@ mod calls;
 mod commits;
 mod counted;
 mod report;
-#[cfg(test)]
-mod tests;
 
 ghost use Rattle.std.specs.Prelude.{◌<◌, ◌≤◌, IfSome};
 

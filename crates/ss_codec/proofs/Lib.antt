@@ -1,3 +1,3 @@
 mod FieldLemmas
-mod RecordLemmas
+pub mod RecordLemmas
 mod Rows

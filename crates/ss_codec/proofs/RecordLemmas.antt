@@ -20,7 +20,7 @@ use Rattle.ss_catalog.specs.declared.params.Params.{Params}
 use Rattle.ss_catalog.specs.declared.params.Params.TheVariants.{Exp, Power}
 use Rattle.ss_codec.specs.declared.record.Record.{Record}
 use Rattle.ss_codec.specs.declared.record.Record.TheVariants.{Free, Stream, Window}
-use Rattle.ss_codec.specs.Record.{is_built, is_valid, family, parameters, fields, spelling, Spells}
+use Rattle.ss_codec.specs.Record.{is_valid, family, parameters, fields, spelling, Spells}
 use Rattle.ss_codec.specs.Decoded.{checked, decoded, params_in, record_in, stream_in, window_in}
 use Rattle.ss_codec.proofs.FieldLemmas.{IsWithin, AreInOrder, HasFields, HasFields-with_fields, slice_index-part}
 
@@ -33,7 +33,6 @@ pub record IsStream (id : ℕ) (name : List ℕ) (params : Params) : Type 0 wher
   pub number : id < 2 ^ 32
   pub named : is_name name ≡ true
   pub short : length name ≤ 32
-  pub built : is_built params ≡ true
   pub ranged : in_range params ≡ true
 
 pub IsStream-is_valid : (id : ℕ) (name : List ℕ) (params : Params) → is_valid (Stream id name params) ≡ true → IsStream id name params
@@ -42,14 +41,13 @@ IsStream-is_valid id name params valid = record {
   number = grind (arith, nat_tests);
   named = grind (arith, nat_tests);
   short = grind (arith, nat_tests);
-  built = grind (arith, nat_tests);
   ranged = grind (arith, nat_tests);
 }
 
-pub is_valid-IsStream : (id : ℕ) (name : List ℕ) (params : Params) → id < 2 ^ 32 → is_name name ≡ true → is_built params ≡ true
+pub is_valid-IsStream : (id : ℕ) (name : List ℕ) (params : Params) → id < 2 ^ 32 → is_name name ≡ true
     → in_range params ≡ true → is_valid (Stream id name params) ≡ true
 unfolding is_valid
-is_valid-IsStream id name params number named built ranged = grind (arith, nat_tests)
+is_valid-IsStream id name params number named ranged = grind (arith, nat_tests)
 
 -- what a valid window says
 pub record IsWindow (id first : ℕ) (f : Figures) : Type 0 where

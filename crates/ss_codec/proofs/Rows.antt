@@ -4,12 +4,38 @@ use Rattle.std.proofs.Common.{refl}
 use Rattle.ss_fields.specs.Fields as Numbers
 use Rattle.ss_summary.specs.Possible as Possible
 use Rattle.ss_catalog.specs.Names as Names
+use Rattle.ss_summary.specs.declared.summary.TheConstants.{LATEST_TIME}
+use Rattle.ss_catalog.specs.declared.TheConstants.{LAST_TIME}
 use Rattle.ss_catalog.specs.declared.params.Params.TheVariants.{Exp, Power}
+use Rattle.ss_codec.specs.declared.record.TheConstants.{SLOT_SIZE, STREAM, WINDOW, EXPONENTIAL, POWER_LAW, NAME}
 use Rattle.ss_codec.specs.declared.record.Record.{Record}
 use Rattle.ss_codec.specs.declared.record.Record.TheVariants.{Free, Stream, Window}
 use Rattle.ss_codec.specs.Fields as Fields
 use Rattle.ss_codec.specs.Record.{spelling, is_valid}
 use Rattle.ss_codec.specs.Decoded.{decoded, params_in, record_in, stream_in, window_in}
+
+-- the numbers of the format
+slot_size : SLOT_SIZE ≡ 128
+slot_size = refl
+
+kind_of_streams : STREAM ≡ 1
+kind_of_streams = refl
+
+kind_of_windows : WINDOW ≡ 2
+kind_of_windows = refl
+
+family_of_exponentials : EXPONENTIAL ≡ 1
+family_of_exponentials = refl
+
+family_of_power_laws : POWER_LAW ≡ 2
+family_of_power_laws = refl
+
+place_of_name : NAME ≡ 24
+place_of_name = refl
+
+-- the last time of an event is the latest of a window
+last_time : LAST_TIME ≡ LATEST_TIME
+last_time = refl
 
 -- a number below 256 in 8 bytes
 abbrev eight : ℕ → List ℕ
@@ -89,10 +115,25 @@ decoded-stream_with_a_letter : decoded (slice_set stream_bytes 25 97) ≡ None
 unfolding decoded record_in stream_in params_in is_valid spelling Names.is_name Fields.with_field Numbers.number_at Numbers.number_bytes
 decoded-stream_with_a_letter = refl
 
--- a stream of a family that isn't built
-decoded-stream_power : decoded (spelling (Stream 0 (97 ∷ []) (Power 1 1 4 1))) ≡ None
+-- the stream `p` with the target `power 1 1 4 2` and the number 1, and with P = 5
+abbrev power_bytes : ℕ → List ℕ
+power_bytes p =
+    1 ∷ 2 ∷ 1 ∷ 0 ∷ 0 ∷ 0 ∷ 0 ∷ 1 ∷ []
+    ++ 0 ∷ 0 ∷ 0 ∷ p ∷ 0 ∷ 0 ∷ 0 ∷ 1 ∷ 0 ∷ 0 ∷ 0 ∷ 4 ∷ 0 ∷ 0 ∷ 0 ∷ 2 ∷ []
+    ++ 112 ∷ replicate 31 0
+    ++ replicate 72 0
+
+spelling-stream_power : spelling (Stream 1 (112 ∷ []) (Power 1 1 4 2)) ≡ power_bytes 1
+unfolding spelling Fields.with_field Numbers.number_bytes
+spelling-stream_power = refl
+
+decoded-stream_power : decoded (power_bytes 1) ≡ Some (Stream 1 (112 ∷ []) (Power 1 1 4 2))
 unfolding decoded record_in stream_in params_in is_valid spelling Names.is_name Fields.with_field Numbers.number_at Numbers.number_bytes
 decoded-stream_power = refl
+
+decoded-stream_power_5 : decoded (power_bytes 5) ≡ None
+unfolding decoded record_in stream_in params_in is_valid spelling Names.is_name Fields.with_field Numbers.number_at Numbers.number_bytes
+decoded-stream_power_5 = refl
 
 -- a window of no values, of one value at two times, and of a sum that is one too large
 decoded-window_empty : decoded (slice_set window_bytes 23 0) ≡ None

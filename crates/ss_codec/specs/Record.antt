@@ -1,5 +1,5 @@
 -- Records: which there are, and how each is spelled in the 128 bytes of a slot.
-use Rattle.std.specs.Prelude.{◌≡◌, ℕ, ◌+◌, ◌-◌, ◌^◌, Bool, true, false, ◌&&◌, nat_le, nat_lt, IsTrue, List, [], ◌∷◌, length, replicate}
+use Rattle.std.specs.Prelude.{◌≡◌, ℕ, ◌+◌, ◌-◌, ◌^◌, Bool, true, ◌&&◌, nat_le, nat_lt, IsTrue, List, [], ◌∷◌, length, replicate}
 use Rattle.ss_summary.specs.Possible.{is_possible}
 use Rattle.ss_summary.specs.declared.summary.TheConstants.{GREATEST_COUNT}
 use Rattle.ss_catalog.specs.Names.{is_name}
@@ -10,15 +10,10 @@ use Rattle.ss_codec.specs.declared.record.Record.{Record}
 use Rattle.ss_codec.specs.declared.record.Record.TheVariants.{Free, Stream, Window}
 use Rattle.ss_codec.specs.Fields.{Field, u8, u32, u64, i64, i128, text, with_fields}
 
--- the families of targets that streams may have today
-abbrev pub is_built : Params → Bool
-is_built (Exp b r s) = true
-is_built (Power p q r s) = false
-
 -- a record that a slot may hold. Streams have numbers of 32 bits, and values have positions from 1 on.
 unfoldable pub is_valid : Record → Bool
 is_valid Free = true
-is_valid (Stream id name params) = nat_lt id (2 ^ 32) && is_name name && is_built params && in_range params
+is_valid (Stream id name params) = nat_lt id (2 ^ 32) && is_name name && in_range params
 is_valid (Window id first summary) =
     nat_lt id (2 ^ 32) && nat_le 1 first && nat_le (first + summary.count - 1) GREATEST_COUNT && is_possible summary
 

@@ -1,7 +1,7 @@
 // Records, read.
 ghost use Rattle.std.specs.Prelude.{◌≡◌, ◌+◌, ◌-◌, ◌&&◌, ◌≤◌, nat_le, IfSome, IfNone, if◌then◌else◌};
 ghost use Rattle.ss_summary.specs.Possible.{is_possible};
-ghost use Rattle.ss_codec.specs.Record.{is_built, Spells};
+ghost use Rattle.ss_codec.specs.Record.{Spells};
 ghost use Rattle.ss_codec.specs.Decoded.{checked, decoded, figures_in, params_in, record_in, stream_in, window_in};
 
 use crate::encoding::encode;
@@ -34,16 +34,6 @@ fn params_in(bytes: &[u8; SLOT_SIZE]) -> Params
     }
 }
 
-// Whether streams may have targets of this family today.
-fn is_built(params: &Params) -> bool
-    ensures { result ≡ is_built params.now }
-{
-    match *params {
-        Params::Exp { .. } => true,
-        Params::Power { .. } => false,
-    }
-}
-
 // The stream's record in the bytes, if it is a valid one.
 #[tactic(auto, using(std::proofs::lemmas::Bool::Decides::nat_tests), unfolding(crate::specs::Decoded::stream_in, crate::specs::Record::is_valid))]
 fn stream_in(bytes: &[u8; SLOT_SIZE]) -> Option<Record>
@@ -56,7 +46,7 @@ fn stream_in(bytes: &[u8; SLOT_SIZE]) -> Option<Record>
     let id = get_u32(bytes, 4);
     let name = Name::of(&bytes[NAME..NAME + length])?;
     let params = params_in(bytes);
-    if is_built(&params) && params.in_range() {
+    if params.in_range() {
         Some(Record::Stream { id, name, params })
     } else {
         None

@@ -7,7 +7,7 @@ ghost use Rattle.ss_catalog.specs.Params.{in_range};
 ghost use Rattle.ss_catalog.specs.declared.params.Params.{Params};
 ghost use Rattle.ss_codec.specs.declared.record.Record.{Record};
 ghost use Rattle.ss_codec.specs.declared.record.Record.TheVariants.{Free, Stream, Window};
-ghost use Rattle.ss_codec.specs.Record.{is_built, is_valid, spelling, Spells};
+ghost use Rattle.ss_codec.specs.Record.{is_valid, spelling, Spells};
 ghost use Rattle.ss_codec.specs.Decoded.{decoded};
 
 /// What is decoded is the record that the bytes spell, and no bytes that spell a record are passed over.
@@ -33,7 +33,7 @@ pub fn free_slots_are_zeros()
 /// What a valid stream is.
 pub fn which_streams_are_valid()
     ensures { (id : ℕ) (name : List ℕ) (params : Params) → IsTrue (is_valid (Stream id name params))
-        ↔ ((id < 2 ^ 32) × IsTrue (is_name name) × IsTrue (is_built params) × IsTrue (in_range params)) }
+        ↔ ((id < 2 ^ 32) × IsTrue (is_name name) × IsTrue (in_range params)) }
 {}
 
 /// What a valid window is.

@@ -12,6 +12,11 @@ const STREAM: [u8; 25] = [
     1, 1, 1, 0, 0, 0, 0, 0, 0, 0, 0, 2, 0, 0, 0, 1, 0, 0, 0, 1, 0, 0, 0, 0, 97,
 ];
 
+// The stream `p` with the target `power 1 1 4 2` and the number 1.
+const POWER_STREAM: [u8; 25] = [
+    1, 2, 1, 0, 0, 0, 0, 1, 0, 0, 0, 1, 0, 0, 0, 1, 0, 0, 0, 4, 0, 0, 0, 2, 112,
+];
+
 // The values 5, -3, 8 and 1 at the times 10, 20, 30 and 40, the first four of stream 0.
 const WINDOW: [u8; 72] = [
     2, 0, 0, 0, 0, 0, 0, 0, 0, 0, 0, 0, 0, 0, 0, 1, 0, 0, 0, 0, 0, 0, 0, 4, 0, 0, 0, 0, 0, 0, 0, 0,
@@ -37,7 +42,13 @@ fn slot(bytes: &[u8]) -> [u8; SLOT_SIZE]
 
 #[test]
 fn worked_records_are_read_and_spelled_again(rt: HostRuntime) {
-    let slots = [slot(&STREAM), slot(&WINDOW), slot(&ONE_VALUE), slot(&[])];
+    let slots = [
+        slot(&STREAM),
+        slot(&POWER_STREAM),
+        slot(&WINDOW),
+        slot(&ONE_VALUE),
+        slot(&[]),
+    ];
     for bytes in slots {
         match decode(&bytes) {
             Some(record) => assert_eq!(rt; encode(&record), bytes),
@@ -72,7 +83,7 @@ fn the_window_has_its_fields(rt: HostRuntime) {
 
 #[test]
 fn what_is_no_record_in_one_byte(rt: HostRuntime) {
-    let rows: [(&[u8; SLOT_SIZE], u8, u8); 26] = [
+    let rows: [(&[u8; SLOT_SIZE], u8, u8); 27] = [
         // a kind that isn't there
         (&slot(&STREAM), 0, 5),
         (&slot(&STREAM), 0, 0),
@@ -84,7 +95,7 @@ fn what_is_no_record_in_one_byte(rt: HostRuntime) {
         (&slot(&WINDOW), 72, 1),
         (&slot(&[]), 1, 1),
         (&slot(&[]), 127, 1),
-        // a family that isn't built, and no family
+        // a family whose fourth parameter isn't 0, and no family
         (&slot(&STREAM), 1, 2),
         (&slot(&STREAM), 1, 0),
         // a name of no bytes, with a byte after its length, of too many, of another letter
@@ -94,6 +105,7 @@ fn what_is_no_record_in_one_byte(rt: HostRuntime) {
         (&slot(&STREAM), 24, 32),
         // a parameter out of range, and a fourth one
         (&slot(&STREAM), 11, 17),
+        (&slot(&POWER_STREAM), 11, 5),
         (&slot(&STREAM), 23, 1),
         // a window of no values, of a sum that is too large, before the first position, after the last one
         (&slot(&WINDOW), 23, 0),

@@ -8,8 +8,6 @@ mod line_reader;
 mod numbers;
 mod printing;
 mod put;
-#[cfg(test)]
-mod tests;
 mod words;
 
 pub use command::Command;

@@ -7,8 +7,6 @@ mod laws;
 mod number_error;
 mod print;
 mod read;
-#[cfg(test)]
-mod tests;
 
 pub use bytes::{get_i64, get_i128, get_u32, get_u64, put_i64, put_i128, put_u32, put_u64};
 pub use laws::{

@@ -1,8 +1,10 @@
 -- Worked images, whole and in parts, and the numbers that are rules.
-use Rattle.std.proofs.Common.{◌≡◌, ℕ, ◌+◌, ◌^◌, true, false, List, [], ◌∷◌, ◌++◌, length, replicate, refl}
+use Rattle.std.proofs.Common.{◌≡◌, ℕ, ◌+◌, ◌-◌, ◌*◌, ◌^◌, true, false, List, [], ◌∷◌, ◌++◌, length, map, replicate, refl}
+use Rattle.std.specs.List.{range_with_len}
 use Rattle.ss_fields.specs.Fields as Fields
-use Rattle.ss_journal.specs.declared.format.TheConstants.{GATE_OPEN, MAGIC_END, ENTRIES, ENTRY_SIZE, FIRST_ENTRY, MOST_PUTS, PUT_SIZE, SLOT_SIZE, MOST_SLOTS, FIRST_SLOT, FILE_END}
+use Rattle.ss_journal.specs.declared.format.TheConstants.{GATE_OPEN, MAGIC_END, ENTRIES, ENTRY_SIZE, FIRST_ENTRY, MOST_PUTS, PUT_SIZE, MOST_WAITING, SLOT_SIZE, MOST_SLOTS, FIRST_SLOT, FILE_END}
 use Rattle.ss_journal.specs.Format.{magic, is_unborn, is_born, slots_in}
+use Rattle.ss_journal.specs.Gates.{entry_place, other_gates}
 use Rattle.ss_journal.specs.Entries.{puts_of, is_good, open_prefix, entries, entry_body}
 use Rattle.ss_journal.specs.Redo.{SlotMap, Redone, stands, bad_entry, not_a_store, redo_entries, redo, changed, zeros, entries_in_use}
 
@@ -74,6 +76,30 @@ pub is_good-twice : is_good (165 ∷ 2 ∷ replicate 542 0) 5 ≡ false
 unfolding is_good puts_of Fields.number_at
 is_good-twice = refl
 
+-- one of four puts into slots that rise is, and one of five isn't
+abbrev pub put_into : ℕ → List ℕ
+put_into slot = 0 ∷ 0 ∷ 0 ∷ slot ∷ replicate 128 7
+
+abbrev pub four_puts : List ℕ
+four_puts = put_into 0 ++ put_into 1 ++ put_into 2 ++ put_into 3
+
+pub is_good-four : is_good (165 ∷ 4 ∷ four_puts ++ replicate 14 0) 0 ≡ true
+unfolding is_good puts_of Fields.number_at
+is_good-four = refl
+
+pub is_good-five : is_good (165 ∷ 5 ∷ four_puts ++ put_into 4) 0 ≡ false
+unfolding is_good puts_of Fields.number_at
+is_good-five = refl
+
+-- the last slot that a file can have, and the one after it
+pub is_good-last : is_good (165 ∷ 1 ∷ 0 ∷ 15 ∷ 255 ∷ 255 ∷ replicate 538 0) 1048575 ≡ true
+unfolding is_good puts_of Fields.number_at
+is_good-last = refl
+
+pub is_good-past : is_good (165 ∷ 1 ∷ 0 ∷ 16 ∷ 0 ∷ 0 ∷ replicate 538 0) 1048576 ≡ false
+unfolding is_good puts_of Fields.number_at
+is_good-past = refl
+
 -- a closed gate ends the open prefix
 pub open_prefix-closed : open_prefix ((0 ∷ []) ∷ (165 ∷ []) ∷ []) ≡ []
 open_prefix-closed = refl
@@ -126,6 +152,13 @@ the_most_puts = refl
 
 pub the_put_size : PUT_SIZE ≡ 132
 the_put_size = refl
+
+pub the_most_waiting : MOST_WAITING ≡ ENTRIES * MOST_PUTS
+the_most_waiting = refl
+
+-- the gates of all entries but the first
+pub the_other_gates : other_gates ≡ map (λ n. (entry_place n, 1)) (range_with_len 1 (ENTRIES - 1))
+the_other_gates = refl
 
 pub the_slot_size : SLOT_SIZE ≡ 128
 the_slot_size = refl

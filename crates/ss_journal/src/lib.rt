@@ -21,6 +21,3 @@ pub use journal::Journal;
 pub use journal_error::JournalError;
 pub use laws::redo_is_idempotent;
 pub use put::{Put, Txn};
-
-#[cfg(test)]
-mod tests;

@@ -1,9 +1,10 @@
 -- A line: entries in order, each at a place of its own.
-use Rattle.std.specs.Prelude.{ℕ, zero, suc, ◌+◌, ◌<◌, ◌≤◌, ◌^◌, Bool, nat_eq, List, length, count_by, slice_get, find, All, Option, None}
+use Rattle.std.specs.Prelude.{ℕ, zero, suc, ◌+◌, ◌<◌, ◌≤◌, Bool, nat_eq, List, length, count_by, slice_get, find, All, Option, None}
 use Rattle.std.specs.List.{position_or_len}
 use Rattle.std.specs.Option.{option_map}
 use Rattle.ss_line.specs.declared.entry.At.{At}
 use Rattle.ss_line.specs.declared.entry.Entry.{Entry}
+use Rattle.ss_line.specs.declared.line.TheConstants.{MOST_PLACES}
 
 -- a line: its entries in order, each with its place, and how many more fit
 pub record LineState : Type 0 where
@@ -37,8 +38,7 @@ place_before entries (suc index) = place_at entries index
 
 -- What is true of each line.
 pub record IsLine (line : LineState) : Type 0 where
-  -- at most 2^24 places
-  pub most : length line.entries + line.spare ≤ 2 ^ 24
+  pub most : length line.entries + line.spare ≤ MOST_PLACES
   -- each place is below the length and the spare together
   pub below : All (λ entry. entry.0.0 < length line.entries + line.spare) line.entries
   -- no two entries stand at one place

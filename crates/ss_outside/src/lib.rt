@@ -16,6 +16,3 @@ pub use mem_sink::MemSink;
 pub use mem_source::MemSource;
 pub use sink::Sink;
 pub use source::{Failed, Source};
-
-#[cfg(test)]
-mod tests;

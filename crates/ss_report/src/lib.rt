@@ -2,8 +2,6 @@
 #![tactic(auto)]
 
 mod reply;
-#[cfg(test)]
-mod tests;
 mod text;
 
 pub use reply::Reply;

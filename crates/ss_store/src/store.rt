@@ -65,11 +65,11 @@ impl Store {
     ghost use Rattle.ss_target.specs.Targets.{params_of};
     ghost use Rattle.ss_store.specs.Kept.{IsPlace};
     ghost use Rattle.ss_store.specs.Why.{IsWhy};
-    ghost use Rattle.ss_model.specs.Decay.{cover};
-    ghost use Rattle.ss_model.specs.Refusals.{refuses};
+    ghost use Rattle.ss_model.specs.Decay.{cover, IsReadWithinTarget};
+    ghost use Rattle.ss_model.specs.Refusals.{IsHistory, refuses};
     ghost use Rattle.ss_model.specs.Shown.{placed_of, row_of};
     ghost use Rattle.ss_model.specs.Standing.{IsState};
-    ghost use Rattle.ss_model.specs.State.{next_number, numbers_of, state, Stream, stream_named, stream_numbered};
+    ghost use Rattle.ss_model.specs.State.{next_number, numbers_of, state, Stream, stream_named, stream_numbered, values_in};
     ghost use Rattle.ss_model.specs.Steps.{ack_of, stepped};
 
     /// A store without streams. It takes no memory.
@@ -232,7 +232,10 @@ impl Store {
     pub fn window(&self, id: StreamId, place: u32) -> Placed
         requires stands { IsSome (stream_numbered id.0 self.now) }
         requires inside { IfSome (stream_numbered id.0 self.now) (λ s. place < length s.windows) }
-        ensures { IfSome (stream_numbered id.0 self.now) (λ s. slice_get (map placed_of s.windows) place ≡ Some result) }
+        ensures window { IfSome (stream_numbered id.0 self.now) (λ s. slice_get (map placed_of s.windows) place ≡ Some result) }
+        // It is at most as long as the target window that holds its newest value.
+        ensures within { (history : List Event) → IsHistory history → self.now ≡ state history →
+            IfSome (stream_numbered id.0 self.now) (λ s. IsReadWithinTarget (lengths_of s.params) (values_in s) result) }
     {
         self.streams[place_of(&self.streams, id)].window(place)
     }

@@ -1,7 +1,7 @@
 // Worked rows: what events answer, one after another, what is read then, and the edges of times and values.
 use crate::{ApplyError, Store};
 use ss_catalog::{Event, LAST_TIME, MOST_STREAMS, Name, Params, Refusal, StreamId};
-use ss_model::Ack;
+use ss_model::{Ack, Placed};
 use std::process::Abort;
 
 const DOUBLING: Params = Params::Exp { b: 2, r: 1, s: 1 };
@@ -47,7 +47,7 @@ fn worked_rows(rt: HostRuntime) {
             create(
                 x,
                 Params::Power {
-                    p: 1,
+                    p: 5,
                     q: 1,
                     r: 1,
                     s: 1,
@@ -96,67 +96,134 @@ fn worked_rows(rt: HostRuntime) {
     }
 }
 
+// Seven values of a stream, as times and values.
+const VALUES: [(u8, i8); 7] = [
+    (10, 5),
+    (20, -3),
+    (30, 8),
+    (40, 1),
+    (50, 9),
+    (60, 2),
+    (70, 7),
+];
+
+// What is read of a window.
+type Read = (u64, u64, u64, i128, i64, i64, u64, u64);
+
+// Its windows: the positions, the count, the sum, the least and the greatest value, the times.
+const WINDOWS: [Read; 3] = [
+    (1, 4, 4, 11, -3, 8, 10, 40),
+    (5, 6, 2, 11, 2, 9, 50, 60),
+    (7, 7, 1, 7, 7, 7, 70, 70),
+];
+
+// Creates both streams and gives the second its values, and answers whether all was done.
+fn fill(store: &mut Store, first: Name, second: Name) -> bool {
+    let mut is_done = true;
+    for name in [first, second] {
+        is_done &= store.apply(&Event::Create {
+            name,
+            params: DOUBLING,
+        }) == done(0, 0);
+    }
+    for (t, v) in VALUES {
+        is_done &= store
+            .apply(&Event::Value {
+                name: second,
+                t: u64::from(t),
+                v: i64::from(v),
+            })
+            .is_ok();
+    }
+    is_done
+}
+
+fn read_of(window: &Placed) -> Read {
+    let s = window.summary;
+    (
+        window.first,
+        window.last,
+        s.count,
+        s.sum,
+        s.min,
+        s.max,
+        s.t_first,
+        s.t_last,
+    )
+}
+
+// How many windows the stream has, and how many of them are those of the table.
+fn windows_that_agree(store: &Store, name: &Name) -> (u32, u32) {
+    let Some(id) = store.find(name) else {
+        return (0, 0);
+    };
+    let count = store.windows(id);
+    let mut agree = 0u32;
+    for place in 0..count {
+        if WINDOWS.get(place as usize) == Some(&read_of(&store.window(id, place))) {
+            agree = agree.saturating_add(1);
+        }
+    }
+    (count, agree)
+}
+
+// What the list says of the stream at a place: its number, whether it has the name, the counts of its values, windows,
+// landmarks and values in landmarks.
+fn listed_at(store: &Store, place: u32, name: &Name) -> Option<(u32, bool, u64, u32, u32, u32)> {
+    if place >= store.streams() {
+        return None;
+    }
+    let row = store.stream(place);
+    Some((
+        row.id.0,
+        row.name == *name && row.params == DOUBLING,
+        row.n,
+        row.k,
+        row.landmarks,
+        row.values,
+    ))
+}
+
+// After how many values how many windows stand, for targets whose windows grow, and for windows of two and of one for ever.
+#[test]
+fn power_law_windows(rt: HostRuntime) {
+    let power = |q, s| Params::Power { p: 1, q, r: 1, s };
+    let rows = [
+        (power(1, 1), [1, 2, 2, 3, 3, 4, 4]),
+        (power(0, 2), [1, 1, 2, 2, 3, 3, 4]),
+        (power(0, 1), [1, 2, 3, 4, 5, 6, 7]),
+    ];
+    let a = name(&rt, b"a");
+    for (params, counts) in rows {
+        let mut store = Store::empty(rt.alloc());
+        assert_eq!(rt; store.apply(&Event::Create { name: a, params }), done(0, 0));
+        for (n, k) in (1u8..).zip(counts) {
+            let t = u64::from(n);
+            assert_eq!(rt;
+                store.apply(&Event::Value { name: a, t, v: 0 }),
+                done(t, k),
+                "{n}"
+            );
+        }
+    }
+}
+
 #[test]
 fn what_is_read(rt: HostRuntime) {
     let mut store = Store::empty(rt.alloc());
     let a = name(&rt, b"a");
     let b = name(&rt, b"b.2");
-    assert_eq!(rt;
-        store.apply(&Event::Create {
-            name: b,
-            params: DOUBLING
-        }),
-        done(0, 0)
-    );
-    assert_eq!(rt;
-        store.apply(&Event::Create {
-            name: a,
-            params: DOUBLING
-        }),
-        done(0, 0)
-    );
-    for (t, v) in [
-        (10u8, 5i8),
-        (20, -3),
-        (30, 8),
-        (40, 1),
-        (50, 9),
-        (60, 2),
-        (70, 7),
-    ] {
-        let event = Event::Value {
-            name: a,
-            t: u64::from(t),
-            v: i64::from(v),
-        };
-        assert!(rt; store.apply(&event).is_ok());
-    }
+    assert!(rt; fill(&mut store, b, a));
     assert_eq!(rt; store.streams(), 2);
-    assert_eq!(rt; store.find(&b), Some(StreamId(0)));
-    assert_eq!(rt; store.find(&a), Some(StreamId(1)));
-    assert_eq!(rt; store.find(&name(&rt, b"A")), None);
-    let listed = store.stream(1);
-    assert!(rt; listed.id == StreamId(1) && listed.name == a && listed.params == DOUBLING);
-    assert_eq!(rt;
-        (listed.n, listed.k, listed.landmarks, listed.values),
-        (7, 3, 0, 0)
-    );
-    let id = store.find(&a).expect(&rt, "a stream");
-    let count = store.windows(id);
-    assert_eq!(rt; count, 3);
-    let windows = [
-        (1, 4, 4, 11, -3, 8, 10, 40),
-        (5, 6, 2, 11, 2, 9, 50, 60),
-        (7, 7, 1, 7, 7, 7, 70, 70),
-    ];
-    for place in 0..count {
-        let read = store.window(id, place);
-        let s = read.summary;
-        let found = (
-            read.first, read.last, s.count, s.sum, s.min, s.max, s.t_first, s.t_last,
-        );
-        assert_eq!(rt; Some(found), windows.get(place as usize).copied());
+    for (word, place) in [
+        (b"b.2".as_slice(), Some(StreamId(0))),
+        (b"a", Some(StreamId(1))),
+        (b"A", None),
+    ] {
+        assert_eq!(rt; store.find(&name(&rt, word)), place);
     }
+    assert_eq!(rt; listed_at(&store, 1, &a), Some((1, true, 7, 3, 0, 0)));
+    assert_eq!(rt; windows_that_agree(&store, &a), (3, 3));
 }
 
 // The name n and a number below 10000.

@@ -10,15 +10,18 @@ memory: nothing is kept in STORE yet, and check and gen are not there yet.
 
   create NAME exp B R S  a new stream: R windows of each of the lengths S, S*B,
                          S*B*B and so on, the longer ones for older values
+  create NAME power P Q R S
+                         the same with R*g^(P-1) windows of the length S*g^Q,
+                         for g = 1, 2, 3 and so on
   append NAME T V        the value V at the time T, later than the last: ok N K
                          says that the stream has N values in K windows
   windows NAME           the windows of a stream, oldest first
   list                   all streams, in order of creation
 
-NAME has up to 32 letters, digits, _, - and . in it. B is 2 to 16, R and S are 1
-to 65536, times are 0 to 2^62, and values have 64 bits. An empty line is no
-command, and a line that begins with # isn't either. Any other line gets refused
-and a word that says why.
+NAME has up to 32 letters, digits, _, - and . in it. B is 2 to 16, P 1 to 4, Q 0
+to 3, R and S are 1 to 65536, times are 0 to 2^62, and values have 64 bits. An
+empty line is no command, and a line that begins with # isn't either. Any other
+line gets refused and a word that says why.
 
 Exit statuses:
   0  done                       6  a write of standard output failed

@@ -47,7 +47,7 @@ const SHOWN_LINES: [&str; 14] = [
 const ORDER: &str =
     "create a exp 2 1 1\nappend a 70 7\ncreate a exp 2 1 1\ncreate a exp 1 1 1\nappend x 1 1\n\
     append x y 1\nappend x! y 1\nappend x! 1 1\nappend \u{e9} 1 1\nappend a 70 1\nwindows\nwindows x\n\
-    create p power 1 1 1 1\nlist\n";
+    create p power 5 1 1 1\nlist\n";
 
 const ORDER_REPORT: &str = "ok 0 0\nok 1 1\nrefused EXISTS\nrefused PARAM\nrefused UNKNOWN\n\
     refused NUMBER\nrefused NUMBER\nrefused NAME\nrefused NAME\nrefused TIME\nrefused SYNTAX\nrefused UNKNOWN\n\

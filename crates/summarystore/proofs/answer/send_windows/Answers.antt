@@ -16,7 +16,7 @@ window-requires-clause-inside g c =
 
 pub returns-in_err-send_reply-clause-sends : goal.returns-in_err-send_reply-clause-sends
 returns-in_err-send_reply-clause-sends g c s is =
-    let found = subst (λ o. IfSome o (λ (s : Stream). slice_get (map placed_of s.windows) c.loop-place.place ≡ Some c.window.result)) is c.window.ensures in
+    let found = subst (λ o. IfSome o (λ (s : Stream). slice_get (map placed_of s.windows) c.loop-place.place ≡ Some c.window.result)) is c.window.ensures.window in
     let at = row-reply placed_of (λ w. Window w) s.windows c.loop-place.place c.window.result found in
     let same : c.from_residual.result ≡ Err c.in_err-send_reply.field-0.0 = search rules in
     subst (λ r. SendsRows (g.K.Sink.held c.args.sink.now) (g.K.Sink.held c.send_reply.new.sink) (window_rows s) r) (sym same)
@@ -26,7 +26,7 @@ returns-in_err-send_reply-clause-sends g c s is =
 pub loop-place-preserved : goal.loop-place-preserved
 loop-place-preserved g c = record {
   held = λ s is.
-      let found = subst (λ o. IfSome o (λ (s : Stream). slice_get (map placed_of s.windows) c.loop-place.place ≡ Some c.window.result)) is c.window.ensures in
+      let found = subst (λ o. IfSome o (λ (s : Stream). slice_get (map placed_of s.windows) c.loop-place.place ≡ Some c.window.result)) is c.window.ensures.window in
       let at = row-reply placed_of (λ w. Window w) s.windows c.loop-place.place c.window.result found in
       rows-more (g.K.Sink.held c.args.sink.now) (g.K.Sink.held c.loop-place.sink) (g.K.Sink.held c.send_reply.new.sink) (window_rows s)
       c.loop-place.place (Window c.window.result) at (c.loop-place.invariant.held s is) c.in_ok-send_reply.ensures.sends;

@@ -1,0 +1,153 @@
+// The disk in memory: what its calls leave, and what a crash leaves of that.
+ghost use Rattle.std.specs.Prelude.{◌≤◌, length};
+
+use ss_outside::{Choice, Disk, Failed, LONGEST_DISK, MemDisk};
+use std::alloc::{AllocError, Global};
+use std::test::Fail;
+
+// What stands on a disk of 1, 2, 3, 4 after two bytes over 2 and 3, a sync, two bytes past the end and one byte over 1,
+// where these calls are listed, and which of them failed.
+struct Row {
+    failing: &'static [u64],
+    stop: Option<u64>,
+    failed: [bool; 4],
+    content: &'static [u8],
+    lost: &'static [u8],
+    zeros: &'static [u8],
+    filled: &'static [u8],
+}
+
+const ROWS: [Row; 4] = [
+    Row {
+        failing: &[],
+        stop: None,
+        failed: [false, false, false, false],
+        content: &[30, 10, 11, 4, 20, 21],
+        lost: &[1, 10, 11, 4],
+        zeros: &[0, 10, 11, 4, 0, 0],
+        filled: &[0xA5, 10, 11, 4, 0xA5, 0xA5],
+    },
+    // The first write is listed: it writes nothing, and the sync settles that.
+    Row {
+        failing: &[0],
+        stop: None,
+        failed: [true, false, false, false],
+        content: &[30, 2, 3, 4, 20, 21],
+        lost: &[1, 2, 3, 4],
+        zeros: &[0, 2, 3, 4, 0, 0],
+        filled: &[0xA5, 2, 3, 4, 0xA5, 0xA5],
+    },
+    // The sync is listed: all stays pending.
+    Row {
+        failing: &[1],
+        stop: None,
+        failed: [false, true, false, false],
+        content: &[30, 10, 11, 4, 20, 21],
+        lost: &[1, 2, 3, 4],
+        zeros: &[0, 0, 0, 4, 0, 0],
+        filled: &[0xA5, 0xA5, 0xA5, 4, 0xA5, 0xA5],
+    },
+    // Both writes since the sync are listed: they write nothing, but their ranges are pending.
+    Row {
+        failing: &[],
+        stop: Some(2),
+        failed: [false, false, true, true],
+        content: &[1, 10, 11, 4],
+        lost: &[1, 10, 11, 4],
+        zeros: &[0, 10, 11, 4, 0, 0],
+        filled: &[0xA5, 10, 11, 4, 0xA5, 0xA5],
+    },
+];
+
+// Whether a write fails that begins within the content.
+fn write_fails(disk: &mut MemDisk, at: u8, bytes: &[u8; 2]) -> bool {
+    usize::from(at) > disk.content().len() || disk.write_at(u64::from(at), bytes).is_err()
+}
+
+fn run(disk: &mut MemDisk) -> [bool; 4] {
+    let over = write_fails(disk, 1, &[10, 11]);
+    let synced = disk.sync().is_err();
+    let past = write_fails(disk, 4, &[20, 21]);
+    [over, synced, past, disk.write_at(0, &[30]).is_err()]
+}
+
+fn disk_of(alloc: Global, row: &Row) -> Result<MemDisk, AllocError> {
+    let mut disk = MemDisk::new(alloc, [1, 2, 3, 4].to_vec(alloc)?)?;
+    disk.fail_at(row.failing.to_vec(alloc)?);
+    if let Some(first) = row.stop {
+        disk.stop_from(first);
+    }
+    Ok(disk)
+}
+
+// Which part of the row is not what stands on the disk, or "" where all is.
+fn mismatch(alloc: Global, row: &Row) -> Result<&'static str, AllocError> {
+    let mut disk = disk_of(alloc, row)?;
+    if run(&mut disk) != row.failed || disk.calls() != 4 {
+        return Ok("calls");
+    }
+    if disk.syncs() != u64::from(!row.failed[1]) {
+        return Ok("syncs");
+    }
+    for (part, choice, image) in [
+        ("lost", Choice::Lost, row.lost),
+        ("kept", Choice::Kept, row.content),
+        ("zeros", Choice::Fill(0), row.zeros),
+        ("filled", Choice::Fill(0xA5), row.filled),
+    ] {
+        if disk.crash(choice)?.content() != image {
+            return Ok(part);
+        }
+    }
+    Ok(if disk.content() == row.content {
+        ""
+    } else {
+        "content"
+    })
+}
+
+#[test]
+fn a_crash_leaves_the_chosen_image(rt: HostRuntime) -> Result<(), Fail> {
+    for (k, row) in ROWS.iter().enumerate() {
+        assert_eq!(rt; mismatch(rt.alloc(), row)?, "", "row {k}");
+    }
+    Ok(())
+}
+
+// Replaces what a disk begins with, and reads on from there.
+fn replace<D: Disk>(disk: &mut D, bytes: &[u8], rest: &mut [u8]) -> Result<u64, Failed>
+    requires { length bytes.now ≤ LONGEST_DISK }
+{
+    disk.write_at(0, bytes)?;
+    disk.sync()?;
+    disk.read_at(2, rest)?;
+    disk.len()
+}
+
+#[test]
+fn a_read_past_the_end_gives_zeros(rt: HostRuntime) -> Result<(), Fail> {
+    let mut disk = MemDisk::new(rt.alloc(), [1, 2, 3, 4].to_vec(rt.alloc())?)?;
+    let mut rest = [9; 5];
+    assert_eq!(rt; replace(&mut disk, &[7], &mut rest), Ok(4));
+    assert_eq!(rt; rest, [3, 4, 0, 0, 0]);
+    disk.stop_from(4);
+    assert_eq!(rt; replace(&mut disk, &[7], &mut rest), Err(Failed));
+    assert_eq!(rt; disk.read_at(1 << 40, &mut rest), Err(Failed));
+    assert_eq!(rt; disk.len(), Err(Failed));
+    Ok(())
+}
+
+// Passes with and without memory: run it with each allocation failing in turn.
+#[test]
+fn a_call_without_memory_leaves_the_disk(rt: HostRuntime) {
+    let Ok(bytes) = [1, 2].to_vec(rt.alloc()) else {
+        return;
+    };
+    let Ok(mut disk) = MemDisk::new(rt.alloc(), bytes) else {
+        return;
+    };
+    let wrote = disk.write_at(0, &[7; 64]).is_ok();
+    let synced = disk.sync().is_ok();
+    assert_eq!(rt; disk.content().len(), if wrote { 64 } else { 2 });
+    assert_eq!(rt; disk.short(), u64::from(!wrote) + u64::from(!synced));
+}

@@ -1,6 +1,0 @@
-use Rattle.std.proofs.Common.{IsTrue}
-use Rattle.ss_journal.specs.Kept.{IsKept, IsSettled}
-use Rattle.ss_journal.proofs.tests.commits.commits_before_failure.Given as goal
-
-abbrev pub invariant-loop-k : goal.invariant-loop-k
-invariant-loop-k g l = IsSettled l.journal × (IsTrue (g.D.Disk.tells l.disk) → IsKept l.journal (g.D.Disk.told l.disk).content)
