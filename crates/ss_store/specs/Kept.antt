@@ -1,30 +1,115 @@
--- What a store keeps beside its streams.
-use Rattle.std.specs.Prelude.{◌≡◌, ℕ, ◌<◌, false, List, length, map, slice_get, Some}
+-- A store: what it holds in memory, and what it says of its disk.
+use Rattle.std.specs.Prelude.{◌≡◌, ◌≤◌, ℕ, Bool, false, not, ◌==◌, ◌||◌, nat_le, List, [], ◌∷◌, length, map, find, flat_map, zip, Option, Some, None, is_some, option_and_then, ⊤}
+use Rattle.std.specs.List.{AllZip, list_any}
+use Rattle.std.specs.Option.{option_map_or}
+use Rattle.std.specs.List.Sorted.{IsStrictlyIncreasing}
+use Rattle.ss_catalog.specs.Names.{same_name}
+use Rattle.ss_catalog.specs.declared.TheConstants.{MOST_STREAMS, LAST_STREAM}
+use Rattle.ss_catalog.specs.declared.event.Event.{Event}
+use Rattle.ss_catalog.specs.declared.event.Event.TheVariants.{Create, Value}
+use Rattle.ss_catalog.specs.declared.refusal.Refusal.{Refusal}
+use Rattle.ss_catalog.specs.declared.refusal.Refusal.TheVariants.{Param, Exists, Streams, Unknown, Time, StreamFull, StoreFull}
 use Rattle.ss_catalog.specs.declared.stream_id.StreamId.{StreamId}
-use Rattle.ss_model.specs.Standing.{IsState}
-use Rattle.ss_model.specs.State.{Stream, live, stream_named, values_in, last_time}
-use Rattle.ss_model.specs.Refusals.{is_past}
-use Rattle.ss_model.specs.declared.types.TheConstants.{MOST_RECORDS}
+use Rattle.ss_target.specs.Lengths.{has_target}
+use Rattle.ss_target.specs.Targets.{params_of}
 use Rattle.ss_windowing.specs.declared.decay.TheConstants.{MOST_VALUES}
+use Rattle.ss_journal.specs.Kept.{IsSettled}
+use Rattle.ss_records.specs.Kept.{RecordsState, AreKept}
+use Rattle.ss_model.specs.ClosedState.{closed_state}
+use Rattle.ss_model.specs.Refusals.{first_that_applies, is_past}
+use Rattle.ss_model.specs.Standing.{IsState}
+use Rattle.ss_model.specs.State.{Stream}
+use Rattle.ss_model.specs.declared.types.TheConstants.{MOST_RECORDS}
+use Rattle.ss_model.specs.declared.types.StreamRow.{StreamRow}
+use Rattle.ss_recover.specs.Held.{AllAgree, AreWhole, Agrees, entries_of, records_held, slots_held}
+use Rattle.ss_recover.specs.declared.parts.StreamParts.{StreamParts}
+use Rattle.ss_store.specs.Held.{values_held}
+use Rattle.ss_store.specs.Slots.{HasRecords}
+
+-- a store: its streams as it holds them, in order of creation, the records, and whether a call has failed
+pub record StoreState : Type 0 where
+  pub streams : List StreamParts
+  pub records : RecordsState
+  pub stopped : Bool
 
 -- a stream's entry in the catalog
-abbrev pub entry_of : Stream → List ℕ × StreamId
-entry_of s = (s.name, record { 0 = s.number })
+abbrev pub entry_of : StreamParts → List ℕ × StreamId
+entry_of part = (part.name, part.id)
 
--- the catalog has the name and number of each stream, and the records are counted
-pub record IsKept (streams : List Stream) (catalog : List (List ℕ × StreamId)) (records : ℕ) : Type 0 where
+-- What is true of a store over every disk, whatever it tells.
+pub record IsSound (store : StoreState) (catalog : List (List ℕ × StreamId)) : Type 0 where
+  pub listed : catalog ≡ map entry_of store.streams
+  pub numbers : IsStrictlyIncreasing (map (λ (part : StreamParts). part.id.0) store.streams)
+  pub settled : store.stopped ≡ false → IsSettled store.records.journal
+  pub whole : store.stopped ≡ false → AreWhole store.streams store.records.live
+
+-- One disk: the content has the records of these streams, each in the slot where the store holds it, and no merge is due.
+pub record IsKept (store : StoreState) (content : List ℕ) : Type 0 where
+  pub records : AreKept store.records content
+  pub streams : List Stream
   pub state : IsState streams
-  pub listed : catalog ≡ map entry_of streams
-  pub counted : records ≡ live streams
+  pub agree : AllAgree store.streams streams
+  pub held : HasRecords (flat_map records_held (zip store.streams streams)) content
+  pub closed : closed_state streams ≡ streams
 
--- the stream of a name stands at a place, from 0
-pub record IsPlace (name : List ℕ) (place : ℕ) (streams : List Stream) : Type 0 where
-  pub stream : Stream
-  pub named : stream_named name streams ≡ Some stream
-  pub at : slice_get streams place ≡ Some stream
+-- the stream of a name and of a number, as it is held
+abbrev pub part_named : List ℕ → List StreamParts → Option StreamParts
+part_named name parts = find (λ part. same_name name part.name) parts
 
--- a stream can take a value at a time
-pub record CanTake (s : Stream) (t : ℕ) : Type 0 where
-  pub later : is_past (last_time s) t ≡ false
-  pub few : values_in s < MOST_VALUES
-  pub short : length s.windows < MOST_RECORDS
+abbrev pub part_numbered : ℕ → List StreamParts → Option StreamParts
+part_numbered number parts = find (λ part. number == part.id.0) parts
+
+-- what is held of a stream, if it stands, agrees with it
+abbrev pub SomeAgree : Option StreamParts → Option Stream → Type 0
+SomeAgree None None = ⊤
+SomeAgree None (Some s) = ⊥
+SomeAgree (Some part) None = ⊥
+SomeAgree (Some part) (Some s) = Agrees part s
+
+-- a stream as it is held, but for the room that its line has to spare
+abbrev pub without_spare : StreamParts → StreamParts
+without_spare part = record part { line = record { entries = part.line.entries; spare = 0 } }
+
+-- stores are the same but for the room to spare, which never falls
+pub record SameButSpare (old new : StoreState) : Type 0 where
+  pub streams : map without_spare new.streams ≡ map without_spare old.streams
+  pub spares : AllZip (λ (was is : StreamParts). was.line.spare ≤ is.line.spare) old.streams new.streams
+  pub records : new.records ≡ old.records
+  pub stopped : new.stopped ≡ old.stopped
+
+-- the numbers of streams as they are held
+abbrev pub numbers_held : List StreamParts → List ℕ
+numbers_held parts = map (λ (part : StreamParts). part.id.0) parts
+
+-- whether no further stream has a place or a number
+abbrev pub has_all_numbers : List ℕ → Bool
+has_all_numbers numbers = nat_le MOST_STREAMS (length numbers) || list_any (λ number. number == LAST_STREAM) numbers
+
+-- the refusals of an event by what is held of the streams, in the order of their numbers, each with whether it applies
+abbrev pub refusals_held : List StreamParts → Event → List (Bool × Refusal)
+refusals_held parts (Create name params) =
+    (not (has_target params), Param)
+    ∷ (is_some (part_named name parts), Exists)
+    ∷ (has_all_numbers (numbers_held parts), Streams)
+    ∷ (nat_le MOST_RECORDS (length (flat_map slots_held parts)), StoreFull) ∷ []
+refusals_held parts (Value name t v) =
+    (not (is_some (part_named name parts)), Unknown)
+    ∷ (is_past (option_and_then (λ (part : StreamParts). part.last_time) (part_named name parts)) t, Time)
+    ∷ (nat_le MOST_VALUES (option_map_or (λ part. values_held (entries_of part)) (part_named name parts) 0), StreamFull)
+    ∷ (nat_le MOST_RECORDS (length (flat_map slots_held parts)), StoreFull) ∷ []
+
+-- why an event is refused by what is held of the streams, where it is
+unfoldable pub refuses_held : List StreamParts → Event → Option Refusal
+refuses_held parts event = first_that_applies (refusals_held parts event)
+
+-- a stream as it is listed, by what is held of it. No landmarks are kept yet.
+abbrev pub row_of_held : StreamParts → StreamRow
+row_of_held part = record {
+  id = part.id;
+  name = part.name;
+  params = params_of part.target;
+  n = values_held (entries_of part);
+  k = length part.line.entries;
+  landmarks = 0;
+  values = 0;
+}

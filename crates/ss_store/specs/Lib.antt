@@ -1,2 +1,9 @@
+pub mod Recover
+pub mod Calls
+pub mod Slots
+pub mod Held
+pub mod Joining
 pub mod Kept
-pub mod Why
+pub mod Errors
+pub mod Causes
+pub mod Admitted

@@ -1,15 +1,21 @@
-//! The store: named streams, kept as windows that are merged towards their targets as values arrive.
+//! The store: named streams on a disk, kept as windows that are merged towards their targets as values arrive.
 #![tactic(auto)]
 
+mod appending;
+mod closing;
 mod error;
-mod list;
-mod merge;
+mod laws;
+mod opening;
 mod place;
+mod reading;
 mod store;
-mod stream;
-
-pub use error::ApplyError;
-pub use store::Store;
-
 #[cfg(test)]
 mod tests;
+mod writing;
+
+pub use error::{ApplyError, AskError, OpenError};
+pub use laws::{
+    few_windows_stand, refusals_of_what_is_held, unformatted_files_stand_for_nothing,
+    what_is_held_counts_alike, what_is_held_is_found_alike, what_is_kept_is_the_state,
+};
+pub use store::Store;

@@ -1,43 +1,58 @@
 // The store of all streams.
-ghost use Rattle.std.specs.Prelude.{◌≡◌, ◌∷◌, ◌++◌, [], OnOk, OnErr};
+ghost use Rattle.std.specs.Prelude.{◌≡◌, ◌∷◌, ◌++◌, [], IsTrue, OnOk, OnErr};
+ghost use Rattle.ss_codec.specs.Record.{is_valid};
+ghost use Rattle.ss_codec.specs.declared.record.Record.TheVariants as record_kinds;
+ghost use Rattle.ss_target.specs.Lengths.{has_target};
+ghost use Rattle.ss_model.specs.Refusals.{is_past};
+ghost use Rattle.ss_recover.specs.declared.parts.StreamParts.{StreamParts};
 
-use crate::ApplyError;
+use crate::appending::append;
+use crate::closing::values_held;
+use crate::opening::{catalog_of, close_all};
 use crate::place::{next_id, place_of};
-use crate::stream::StoredStream;
+use crate::reading::{Fault, read_window};
+use crate::writing::add_record;
+use crate::{ApplyError, AskError, OpenError};
 use ss_catalog::{Catalog, Event, LAST_TIME, Name, Params, Refusal, StreamId};
-use ss_model::{Ack, MOST_RECORDS, Placed, StreamRow};
+use ss_codec::Record;
+use ss_line::{At, Entry, Line};
+use ss_model::{Ack, Placed, StreamRow};
+use ss_outside::{Disk, Failed};
+use ss_records::Records;
+use ss_recover::{Parts, StreamParts, rebuild};
+use ss_steps::Steps;
 use ss_target::Target;
 use ss_windowing::MOST_VALUES;
 use std::alloc::{AllocError, Global};
-use std::marker::Model;
+use std::marker::{Brand, Model};
+use std::sync::ledger::{Blank, Ledger};
 
-/// Named streams, seen as the state of a history: the streams that stand, in order of creation, each with its windows.
-/// docs/DEFINITIONS.md has what a state is and which events are refused in it. A stream is found by its name through the
-/// catalog and by its number by halves, so an append costs the same whatever other streams stand.
+/// Named streams on a disk that the store doesn't hold: each call takes the disk, as the last such call left it. In memory it
+/// keeps of each stream what its record says, and of each window the positions and the slot. docs/DEFINITIONS.md has what a
+/// content stands for, and which events are refused. After a call that answers `Disk` or `Changed` the store has stopped.
 #[derive(Drop)]
 pub struct Store {
-    streams: Vec<StoredStream>,
+    streams: Vec<StreamParts>,
     catalog: Catalog,
-    records: u32,
+    records: Records,
+    stopped: bool,
 }
 
 impl Model for Store {
-    ghost use Rattle.std.specs.Prelude.{List};
-    ghost use Rattle.ss_model.specs.State.{Stream};
-    ghost use Rattle.ss_store.specs.Kept.{IsKept};
+    ghost use Rattle.ss_store.specs.Kept.{IsSound, StoreState};
 
-    ghost Value = { List Stream };
+    ghost Value = { StoreState };
 
-    ghost view = { λ s. s.streams.items };
+    ghost view = { λ s. record { streams = s.streams.items; records = s.records; stopped = s.stopped } };
 
-    ghost invariant = { λ s. IsKept s.streams.items s.catalog s.records };
+    ghost invariant = { λ s. IsSound (record { streams = s.streams.items; records = s.records; stopped = s.stopped }) s.catalog };
 }
 
 // Puts a stream last, and its name into the catalog, which is the last to grow. An error leaves both as they were.
 fn grow(
-    streams: &mut Vec<StoredStream>,
+    streams: &mut Vec<StreamParts>,
     catalog: &mut Catalog,
-    stream: StoredStream,
+    stream: StreamParts,
     name: Name,
     id: StreamId,
 ) -> Result<(), AllocError>
@@ -55,62 +70,166 @@ fn grow(
     Ok(())
 }
 
+// Whether a time isn't later than the last one.
+fn is_past(last_time: Option<u64>, t: u64) -> bool
+    ensures { result ≡ is_past last_time t }
+{
+    match last_time {
+        None => false,
+        Some(last) => t <= last,
+    }
+}
+
+// The record of a new stream.
+fn record_of(id: u32, name: &Name, params: Params) -> Record
+    requires { IsTrue (has_target params) }
+    ensures value { result ≡ record_kinds.Stream id name.now params }
+    ensures valid { IsTrue (is_valid result) }
+{
+    let _word = name.as_bytes();
+    Record::Stream {
+        id,
+        name: *name,
+        params,
+    }
+}
+
 impl Store {
-    ghost use Rattle.std.specs.Prelude.{◌≡◌, ◌+◌, ◌*◌, ◌<◌, ◌≤◌, ◌↔◌, ◌∷◌, ◌++◌, [], List, ℕ, length, map, slice_get, option_map, Some, IsSome, IfOk, IfSome, OnOk, OnErr, IfErr, Err, None, ℤ};
+    ghost use Rattle.std.specs.Prelude.{◌≡◌, ◌≢◌, ◌+◌, ◌*◌, ◌<◌, ◌≤◌, ◌↔◌, ◌∷◌, ◌++◌, [], List, ℕ, true, false, max, nat_le, length, map, flat_map, slice_get, option_map, Some, IsTrue, IsNone, IsSome, IfOk, IfSome, OnOk, OnErr, IfErr, Err, None, ℤ};
+    ghost use Rattle.std.specs.List.{IsDistinct};
+    ghost use Rattle.ss_outside.specs.Crash.{OnlyReads};
     ghost use Rattle.ss_catalog.specs.Events.{event_name, IsInTime};
     ghost use Rattle.ss_catalog.specs.declared.event.Event.{Event};
     ghost use Rattle.ss_catalog.specs.declared.event.Event.TheVariants.{Create, Value};
     ghost use Rattle.ss_catalog.specs.declared.refusal.Refusal.{Refusal};
+    ghost use Rattle.ss_line.specs.Line.{StandsIn, entry_at, index_of, place_at};
+    ghost use Rattle.ss_journal.specs.declared.format.TheConstants.{MOST_SLOTS};
+    ghost use Rattle.ss_records.specs.Live.{lowest_free};
+    ghost use Rattle.ss_model.specs.declared.types.TheConstants.{MOST_RECORDS};
     ghost use Rattle.ss_target.specs.Lengths.{lengths_of};
     ghost use Rattle.ss_target.specs.Targets.{params_of};
-    ghost use Rattle.ss_store.specs.Kept.{IsPlace};
-    ghost use Rattle.ss_store.specs.Why.{IsWhy};
     ghost use Rattle.ss_model.specs.Decay.{cover, IsReadWithinTarget};
-    ghost use Rattle.ss_model.specs.Refusals.{IsHistory, refuses};
+    ghost use Rattle.ss_model.specs.Refusals.{IsHistory};
     ghost use Rattle.ss_model.specs.Shown.{placed_of, row_of};
     ghost use Rattle.ss_model.specs.Standing.{IsState};
-    ghost use Rattle.ss_model.specs.State.{next_number, numbers_of, state, Stream, stream_named, stream_numbered, values_in};
-    ghost use Rattle.ss_model.specs.Steps.{ack_of, stepped};
+    ghost use Rattle.ss_model.specs.State.{state, Stream, stream_named, stream_numbered, values_in};
+    ghost use Rattle.ss_recover.specs.Held.{AllAgree, slots_held};
+    ghost use Rattle.ss_store.specs.Calls.{AddsEvent, KeepsHistory, KeepsState, StepsState};
+    ghost use Rattle.ss_store.specs.Causes.{ApplyCause, AskCause, IfRefused, IfUncalled, IfUnwritten, IsApplyFirm, IsAskFirm, OpenCause, OpensAs, said_of_held, stopped_by_apply, stopped_by_ask};
+    ghost use Rattle.ss_store.specs.Kept.{IsKept, SameButSpare, part_named, part_numbered, refuses_held, row_of_held};
+    ghost use Rattle.ss_store.specs.Recover.{Recovers, Stands};
+    ghost use Rattle.ss_store.specs.Admitted.{IsNew, IsTaker};
+    ghost use Rattle.ss_steps.specs.Steps.{IsFresh};
 
-    /// A store without streams. It takes no memory.
-    pub fn empty(alloc: Global) -> Store
-        ensures { result ≡ [] }
+    /// Opens the store on a disk: it reads and judges all of it before it writes, settles the entries in use, and makes the
+    /// merges that are due. At an error there is no store, and at all but `Disk` and `Changed` nothing was written.
+    pub fn open<D: Disk>(alloc: Global, disk: &mut D) -> Result<Store, OpenError>
+        // The streams that the content recovers to, or why it recovers to none.
+        ensures opens { IsTrue (D.tells disk.old) → OpensAs (D.told disk.old).content result }
+        ensures one_disk { IsTrue (D.tells disk.old) → IfOk result (λ store. IsKept store (D.told disk.new).content) }
+        ensures runs { IfOk result (λ store. store.stopped ≡ false) }
+        // What the content stands for stays, also in a crash at any moment of the call.
+        ensures state { IsTrue (D.tells disk.old) → KeepsState (D.told disk.old) (D.told disk.new) result }
+        ensures history { IsTrue (D.tells disk.old) → KeepsHistory (D.told disk.old) (D.told disk.new) result }
+        // The content and the images are those from before.
+        ensures unwritten { IsTrue (D.tells disk.old) → IfUnwritten result (OnlyReads (D.told disk.old) (D.told disk.new)) }
+        ensures tells { D.tells disk.new ≡ D.tells disk.old }
+        ensures cause { OpenCause (D.faults disk.old) (D.faults disk.new) result }
     {
-        Store {
-            streams: Vec::new(alloc),
-            catalog: Catalog::new(alloc),
-            records: 0,
-        }
+        Store::open_in::<D, Brand>(alloc, disk, Blank::new(1))
     }
 
-    /// Applies an event, and answers what is replied to it. Where the store was the state of a history, it is then that of
-    /// the history with the event at its end. A refusal is the first that applies, and memory is asked for after all
-    /// refusals; either error leaves the store as it was.
-    pub fn apply(&mut self, event: &Event) -> Result<Ack, ApplyError>
+    // The same, with a counter.
+    fn open_in<D: Disk, L: Ledger>(
+        alloc: Global,
+        disk: &mut D,
+        blank: Blank,
+    ) -> Result<Store, OpenError>
+        requires { IsFresh L.name L.parts blank }
+        ensures opens { IsTrue (D.tells disk.old) → OpensAs (D.told disk.old).content result }
+        ensures one_disk { IsTrue (D.tells disk.old) → IfOk result (λ store. IsKept store (D.told disk.new).content) }
+        ensures runs { IfOk result (λ store. store.stopped ≡ false) }
+        ensures state { IsTrue (D.tells disk.old) → KeepsState (D.told disk.old) (D.told disk.new) result }
+        ensures unwritten { IsTrue (D.tells disk.old) → IfUnwritten result (OnlyReads (D.told disk.old) (D.told disk.new)) }
+        ensures tells { D.tells disk.new ≡ D.tells disk.old }
+        ensures cause { OpenCause (D.faults disk.old) (D.faults disk.new) result }
+    {
+        let mut records = Records::open(alloc, disk)?;
+        let Parts { mut streams } = rebuild(alloc, &mut records, disk)?;
+        let catalog = catalog_of(alloc, &streams)?;
+        records.settle(disk)?;
+        let mut steps = Steps::<L>::new(blank);
+        close_all(&mut records, disk, &mut streams, &mut steps)?;
+        Ok(Store {
+            streams,
+            catalog,
+            records,
+            stopped: false,
+        })
+    }
+
+    /// Applies an event, and answers what is replied to it. A crash at any moment of the call leaves the history from before
+    /// or the history with the event, and after `Ok` the history with the event. A refusal is the first that applies, and
+    /// memory is asked for after all refusals and before the first write; either leaves the store and the disk as they were.
+    pub fn apply<D: Disk>(&mut self, disk: &mut D, event: &Event) -> Result<Ack, ApplyError>
         requires in_time { IsInTime event.now }
-        ensures history { OnOk result ((history : List Event) → self.old ≡ state history →
-            self.new ≡ state (history ++ event.now ∷ [])) }
-        ensures step { OnOk result (self.new ≡ stepped self.old event.now) }
-        ensures ack { IfOk result (λ ack. ack ≡ ack_of (event_name event.now) self.new) }
-        // At most 2K - 1 windows stand where K target windows cover the values.
-        ensures decay { IfOk result (λ ack. (s : Stream) → stream_named (event_name event.now) self.new ≡ Some s →
-            0 < ack.n → ack.k + 1 ≤ 2 * cover (lengths_of s.params) ack.n) }
-        ensures accepted { OnOk result (refuses self.old event.now ≡ None) }
-        ensures refused { (r : Refusal) → (result ≡ Err (ApplyError.Refused r)) ↔ (refuses self.old event.now ≡ Some r) }
-        ensures err { OnErr result (self.new ≡ self.old) }
+        requires one_disk { IsTrue (D.tells disk.old) → self.old.stopped ≡ false → IsKept self.old (D.told disk.old).content }
+        // The state that the disk stands for makes a step, wholly or not at all, also in a crash.
+        ensures step { IsTrue (D.tells disk.old) → self.old.stopped ≡ false →
+            StepsState event.now (D.told disk.old) (D.told disk.new) result }
+        // The event is added to the history that the disk stands for, wholly or not at all, also in a crash.
+        ensures history { IsTrue (D.tells disk.old) → self.old.stopped ≡ false →
+            AddsEvent event.now (D.told disk.old) (D.told disk.new) result }
+        ensures one_disk { IsTrue (D.tells disk.old) → self.new.stopped ≡ false → IsKept self.new (D.told disk.new).content }
+        // The reply is read off the stream as it is held then.
+        ensures ack { IfOk result (λ ack. ack ≡ said_of_held (part_named (event_name event.now) self.new.streams)) }
+        // At most 2K - 1 windows stand where K target windows cover the values: over every disk, and whatever was opened.
+        ensures decay { IfOk result (λ ack. IfSome (part_named (event_name event.now) self.new.streams) (λ part.
+            0 < ack.n → ack.k + 1 ≤ 2 * cover (lengths_of (params_of part.target)) ack.n)) }
+        // Stopped comes first, exactly where the store had stopped, and then each refusal exactly where it applies.
+        ensures stopped { (result ≡ Err ApplyError.Stopped) ↔ (self.old.stopped ≡ true) }
+        ensures refused { self.old.stopped ≡ false → (r : Refusal) →
+            (result ≡ Err (ApplyError.Refused r)) ↔ (refuses_held self.old.streams event.now ≡ Some r) }
+        ensures uncalled { IfUncalled result (disk.new ≡ disk.old) }
+        ensures same { IfRefused result (self.new ≡ self.old) }
+        ensures starved { (result ≡ Err ApplyError.OutOfMemory) → SameButSpare self.old self.new }
+        ensures stops { self.new.stopped ≡ stopped_by_apply self.old.stopped result }
+        ensures firm { IsTrue (D.tells disk.old) → IsApplyFirm result }
+        // No more slots are used than the records need.
+        ensures extent { OnOk result (self.new.records.journal.extent
+            ≤ max self.old.records.journal.extent (length (flat_map slots_held self.old.streams) + 1)) }
+        ensures tells { D.tells disk.new ≡ D.tells disk.old }
+        ensures cause { ApplyCause (D.faults disk.old) (D.faults disk.new) result }
     {
+        if self.stopped {
+            return Err(ApplyError::Stopped);
+        }
         match *event {
-            Event::Create { name, params } => self.create(name, params),
-            Event::Value { name, t, v } => self.append(&name, t, v),
+            Event::Create { name, params } => self.create(disk, name, params),
+            Event::Value { name, t, v } => {
+                self.append::<D, Brand>(disk, &name, t, v, Blank::new(1))
+            }
         }
     }
 
-    // The target and the number of a stream that is created, or why it isn't.
-    fn admit(&self, name: &Name, params: Params) -> Result<(Target, StreamId), Refusal>
-        ensures refused { IfErr result (λ r. refuses self.now (Create name.now params) ≡ Some r) }
-        ensures accepted { OnOk result (refuses self.now (Create name.now params) ≡ None) }
+    // The slot for one more record, if there is one.
+    fn free_slot(&self) -> Option<u32>
+        requires { self.now.stopped ≡ false }
+        ensures least { result ≡ lowest_free self.now.records.live }
+        ensures full { IsNone result ↔ IsTrue (nat_le MOST_RECORDS (length (flat_map slots_held self.now.streams))) }
+        ensures low { IfSome result (λ slot. slot ≤ length (flat_map slots_held self.now.streams)) }
+    {
+        let _live = self.records.live();
+        self.records.lowest_free()
+    }
+
+    // The target, the number and the slot of a stream that is created, or why it isn't.
+    fn admit(&self, name: &Name, params: Params) -> Result<(Target, StreamId, u32), Refusal>
+        requires { self.now.stopped ≡ false }
+        ensures refused { IfErr result (λ r. refuses_held self.now.streams (Create name.now params) ≡ Some r) }
+        ensures accepted { OnOk result (refuses_held self.now.streams (Create name.now params) ≡ None) }
         ensures target { IfOk result (λ new. params_of new.0 ≡ params) }
-        ensures number { IfOk result (λ new. new.1.0 ≡ next_number (numbers_of self.now)) }
+        ensures new { IfOk result (λ new. IsNew self.now name.now params new.1.0 new.2) }
     {
         let Ok(target) = Target::of(params) else {
             return Err(Refusal::Param);
@@ -121,122 +240,351 @@ impl Store {
         let Some(id) = next_id(&self.streams) else {
             return Err(Refusal::Streams);
         };
-        if self.records >= MOST_RECORDS {
-            return Err(Refusal::StoreFull);
+        match self.free_slot() {
+            Some(slot) => Ok((target, id, slot)),
+            None => Err(Refusal::StoreFull),
         }
-        Ok((target, id))
     }
 
-    // Applies the creation of a stream. The catalog is the last to grow.
-    fn create(&mut self, name: Name, params: Params) -> Result<Ack, ApplyError>
-        ensures step { OnOk result (self.new ≡ stepped self.old (Create name params)) }
-        ensures ack { IfOk result (λ ack. ack ≡ record { n = 0; k = 0 }) }
-        ensures accepted { OnOk result (refuses self.old (Create name params) ≡ None) }
-        ensures refused { IfErr result (IsWhy (refuses self.old (Create name params))) }
-        ensures err { OnErr result (self.new ≡ self.old) }
+    // Applies the creation of a stream.
+    fn create<D: Disk>(
+        &mut self,
+        disk: &mut D,
+        name: Name,
+        params: Params,
+    ) -> Result<Ack, ApplyError>
+        requires runs { self.old.stopped ≡ false }
+        requires one_disk { IsTrue (D.tells disk.old) → IsKept self.old (D.told disk.old).content }
+        ensures step { IsTrue (D.tells disk.old) → StepsState (Create name params) (D.told disk.old) (D.told disk.new) result }
+        ensures one_disk { IsTrue (D.tells disk.old) → self.new.stopped ≡ false → IsKept self.new (D.told disk.new).content }
+        ensures ack { IfOk result (λ ack. ack ≡ said_of_held (part_named name self.new.streams)) }
+        ensures decay { IfOk result (λ ack. IfSome (part_named name self.new.streams) (λ part.
+            0 < ack.n → ack.k + 1 ≤ 2 * cover (lengths_of (params_of part.target)) ack.n)) }
+        ensures running { result ≢ Err ApplyError.Stopped }
+        ensures refused { (r : Refusal) →
+            (result ≡ Err (ApplyError.Refused r)) ↔ (refuses_held self.old.streams (Create name params) ≡ Some r) }
+        ensures uncalled { IfUncalled result (disk.new ≡ disk.old) }
+        ensures same { IfRefused result (self.new ≡ self.old) }
+        ensures starved { (result ≡ Err ApplyError.OutOfMemory) → SameButSpare self.old self.new }
+        ensures stops { self.new.stopped ≡ stopped_by_apply self.old.stopped result }
+        ensures firm { IsTrue (D.tells disk.old) → IsApplyFirm result }
+        ensures extent { OnOk result (self.new.records.journal.extent
+            ≤ max self.old.records.journal.extent (length (flat_map slots_held self.old.streams) + 1)) }
+        ensures tells { D.tells disk.new ≡ D.tells disk.old }
+        ensures cause { ApplyCause (D.faults disk.old) (D.faults disk.new) result }
     {
-        let (target, id) = match self.admit(&name, params) {
+        let (target, id, slot) = match self.admit(&name, params) {
             Ok(new) => new,
             Err(refusal) => return Err(ApplyError::Refused(refusal)),
         };
-        let stream = StoredStream::new(*self.streams.allocator(), id, name, target);
+        let alloc = *self.streams.allocator();
+        let stream = StreamParts {
+            id,
+            name,
+            target,
+            slot,
+            last_time: None,
+            line: Line::new(alloc),
+        };
         match grow(&mut self.streams, &mut self.catalog, stream, name, id) {
             Ok(()) => {}
             Err(_) => return Err(ApplyError::OutOfMemory),
         }
-        self.records += 1;
-        Ok(Ack { n: 0, k: 0 })
+        match add_record(
+            &mut self.records,
+            disk,
+            slot,
+            &record_of(id.0, &name, params),
+        ) {
+            Ok(()) => Ok(Ack { n: 0, k: 0 }),
+            Err(Failed) => {
+                self.stopped = true;
+                Err(ApplyError::Disk)
+            }
+        }
     }
 
-    // The place of the stream that takes a value at a time, or why it doesn't take it.
-    fn taker(&self, name: &Name, t: u64) -> Result<usize, Refusal>
-        ensures refused { IfErr result (λ r. (v : ℤ) → refuses self.now (Value name.now t v) ≡ Some r) }
-        ensures accepted { OnOk result ((v : ℤ) → refuses self.now (Value name.now t v) ≡ None) }
-        ensures place { IfOk result (λ place. IsPlace name.now place self.now) }
+    // The place of the stream that takes a value at a time, and the slot of its window, or why it doesn't take it.
+    fn taker<L: Ledger>(
+        &self,
+        name: &Name,
+        t: u64,
+        steps: &mut Steps<L>,
+    ) -> Result<(usize, u32), Refusal>
+        requires { self.now.stopped ≡ false }
+        ensures refused { (v : ℤ) → IfErr result (λ r. refuses_held self.now.streams (Value name.now t v) ≡ Some r) }
+        ensures accepted { (v : ℤ) → OnOk result (refuses_held self.now.streams (Value name.now t v) ≡ None) }
+        ensures taker { IfOk result (λ taker. IsTaker self.now name.now t taker.0 taker.1) }
     {
         let Some(id) = self.catalog.find(name) else {
             return Err(Refusal::Unknown);
         };
         let place = place_of(&self.streams, id);
         let stream = &self.streams[place];
-        if stream.is_past(t) {
+        if is_past(stream.last_time, t) {
             return Err(Refusal::Time);
         }
-        if stream.taken() >= MOST_VALUES {
+        if values_held(stream, steps) >= MOST_VALUES {
             return Err(Refusal::StreamFull);
         }
-        if self.records >= MOST_RECORDS {
-            return Err(Refusal::StoreFull);
+        match self.free_slot() {
+            Some(slot) => Ok((place, slot)),
+            None => Err(Refusal::StoreFull),
         }
-        Ok(place)
     }
 
     // Applies a value.
-    fn append(&mut self, name: &Name, t: u64, v: i64) -> Result<Ack, ApplyError>
+    fn append<D: Disk, L: Ledger>(
+        &mut self,
+        disk: &mut D,
+        name: &Name,
+        t: u64,
+        v: i64,
+        blank: Blank,
+    ) -> Result<Ack, ApplyError>
+        requires fresh { IsFresh L.name L.parts blank }
         requires in_time { t ≤ LAST_TIME }
-        ensures step { OnOk result (self.new ≡ stepped self.old (Value name.now t v)) }
-        ensures ack { IfOk result (λ ack. ack ≡ ack_of name.now self.new) }
-        ensures decay { IfOk result (λ ack. (s : Stream) → stream_named name.now self.new ≡ Some s →
-            ack.k + 1 ≤ 2 * cover (lengths_of s.params) ack.n) }
-        ensures accepted { OnOk result (refuses self.old (Value name.now t v) ≡ None) }
-        ensures refused { IfErr result (IsWhy (refuses self.old (Value name.now t v))) }
-        ensures err { OnErr result (self.new ≡ self.old) }
+        requires runs { self.old.stopped ≡ false }
+        requires one_disk { IsTrue (D.tells disk.old) → IsKept self.old (D.told disk.old).content }
+        ensures step { IsTrue (D.tells disk.old) → StepsState (Value name.now t v) (D.told disk.old) (D.told disk.new) result }
+        ensures one_disk { IsTrue (D.tells disk.old) → self.new.stopped ≡ false → IsKept self.new (D.told disk.new).content }
+        ensures ack { IfOk result (λ ack. ack ≡ said_of_held (part_named name.now self.new.streams)) }
+        ensures decay { IfOk result (λ ack. IfSome (part_named name.now self.new.streams) (λ part.
+            0 < ack.n → ack.k + 1 ≤ 2 * cover (lengths_of (params_of part.target)) ack.n)) }
+        ensures running { result ≢ Err ApplyError.Stopped }
+        ensures refused { (r : Refusal) →
+            (result ≡ Err (ApplyError.Refused r)) ↔ (refuses_held self.old.streams (Value name.now t v) ≡ Some r) }
+        ensures uncalled { IfUncalled result (disk.new ≡ disk.old) }
+        ensures same { IfRefused result (self.new ≡ self.old) }
+        ensures starved { (result ≡ Err ApplyError.OutOfMemory) → SameButSpare self.old self.new }
+        ensures stops { self.new.stopped ≡ stopped_by_apply self.old.stopped result }
+        ensures firm { IsTrue (D.tells disk.old) → IsApplyFirm result }
+        ensures extent { OnOk result (self.new.records.journal.extent
+            ≤ max self.old.records.journal.extent (length (flat_map slots_held self.old.streams) + 1)) }
+        ensures tells { D.tells disk.new ≡ D.tells disk.old }
+        ensures cause { ApplyCause (D.faults disk.old) (D.faults disk.new) result }
     {
-        let place = match self.taker(name, t) {
-            Ok(place) => place,
+        let mut steps = Steps::<L>::new(blank);
+        let (place, slot) = match self.taker(name, t, &mut steps) {
+            Ok(taker) => taker,
             Err(refusal) => return Err(ApplyError::Refused(refusal)),
         };
         let stream = &mut self.streams[place];
-        let (before, ack) = match stream.append(t, v) {
-            Ok(answer) => answer,
+        match stream.line.reserve(1) {
+            Ok(()) => {}
             Err(_) => return Err(ApplyError::OutOfMemory),
-        };
-        self.records = self.records - before + ack.k;
-        Ok(ack)
+        }
+        match append(&mut self.records, disk, stream, slot, t, v, &mut steps) {
+            Ok(()) => Ok(Ack {
+                n: values_held(stream, &mut steps),
+                k: stream.line.len(),
+            }),
+            Err(fault) => {
+                self.stopped = true;
+                Err(ApplyError::from(fault))
+            }
+        }
+    }
+
+    // The stream of a number, as it is held.
+    fn part(&self, id: StreamId) -> &StreamParts
+        requires { IsSome (part_numbered id.0 self.now.streams) }
+        ensures { part_numbered id.0 self.now.streams ≡ Some result.now }
+    {
+        &self.streams[place_of(&self.streams, id)]
     }
 
     /// How many streams stand.
     pub fn streams(&self) -> u32
-        ensures count { result ≡ length self.now }
-        ensures state { IsState self.now }
+        ensures { result ≡ length self.now.streams }
     {
-        self.streams.len() as u32
+        self.catalog.len()
     }
 
     /// The number of the stream of a name, if it stands.
     pub fn find(&self, name: &Name) -> Option<StreamId>
-        ensures number { result ≡ option_map (λ s. record { 0 = s.number }) (stream_named name.now self.now) }
-        ensures same { IfSome result (λ id. stream_numbered id.0 self.now ≡ stream_named name.now self.now) }
-        ensures stands { IfSome result (λ id. IsSome (stream_numbered id.0 self.now)) }
+        ensures number { result ≡ option_map (λ part. part.id) (part_named name.now self.now.streams) }
+        ensures same { IfSome result (λ id. part_numbered id.0 self.now.streams ≡ part_named name.now self.now.streams) }
+        ensures stands { IfSome result (λ id. IsSome (part_numbered id.0 self.now.streams)) }
     {
         self.catalog.find(name)
     }
 
     /// The stream at a place, from 0 in order of creation, as it is listed.
     pub fn stream(&self, place: u32) -> StreamRow
-        requires { place < length self.now }
-        ensures { slice_get (map row_of self.now) place ≡ Some result }
+        requires { place < length self.now.streams }
+        ensures held { option_map row_of_held (slice_get self.now.streams place) ≡ Some result }
+        ensures row { (streams : List Stream) → IsState streams → AllAgree self.now.streams streams →
+            slice_get (map row_of streams) place ≡ Some result }
     {
-        self.streams[place as usize].row()
+        self.stream_in::<Brand>(place, Blank::new(1))
+    }
+
+    // The same, with a counter.
+    fn stream_in<L: Ledger>(&self, place: u32, blank: Blank) -> StreamRow
+        requires fresh { IsFresh L.name L.parts blank }
+        requires place { place < length self.now.streams }
+        ensures held { option_map row_of_held (slice_get self.now.streams place) ≡ Some result }
+        ensures row { (streams : List Stream) → IsState streams → AllAgree self.now.streams streams →
+            slice_get (map row_of streams) place ≡ Some result }
+    {
+        let stream = &self.streams[place as usize];
+        StreamRow {
+            id: stream.id,
+            name: stream.name,
+            params: stream.target.params(),
+            n: values_held(stream, &mut Steps::<L>::new(blank)),
+            k: stream.line.len(),
+            landmarks: 0,
+            values: 0,
+        }
     }
 
     /// How many windows the stream of a number has.
     pub fn windows(&self, id: StreamId) -> u32
-        requires { IsSome (stream_numbered id.0 self.now) }
-        ensures { IfSome (stream_numbered id.0 self.now) (λ s. result ≡ length s.windows) }
+        requires { IsSome (part_numbered id.0 self.now.streams) }
+        ensures { IfSome (part_numbered id.0 self.now.streams) (λ part. result ≡ length part.line.entries) }
     {
-        self.streams[place_of(&self.streams, id)].window_count()
+        self.part(id).line.len()
     }
 
-    /// The window at a place, from 0 and oldest first, of the stream of a number.
-    pub fn window(&self, id: StreamId, place: u32) -> Placed
-        requires stands { IsSome (stream_numbered id.0 self.now) }
-        requires inside { IfSome (stream_numbered id.0 self.now) (λ s. place < length s.windows) }
-        ensures window { IfSome (stream_numbered id.0 self.now) (λ s. slice_get (map placed_of s.windows) place ≡ Some result) }
-        // It is at most as long as the target window that holds its newest value.
-        ensures within { (history : List Event) → IsHistory history → self.now ≡ state history →
-            IfSome (stream_numbered id.0 self.now) (λ s. IsReadWithinTarget (lengths_of s.params) (values_in s) result) }
+    /// The oldest window of the stream of a number, if it has one.
+    pub fn window_first(&self, id: StreamId) -> Option<At>
+        requires { IsSome (part_numbered id.0 self.now.streams) }
+        ensures at { IfSome (part_numbered id.0 self.now.streams) (λ part. result ≡ place_at part.line.entries 0) }
+        ensures stands { IfSome (part_numbered id.0 self.now.streams) (λ part. IfSome result (StandsIn part.line.entries)) }
+        ensures index { IfSome (part_numbered id.0 self.now.streams) (λ part.
+            IfSome result (λ at. index_of part.line.entries at ≡ 0)) }
     {
-        self.streams[place_of(&self.streams, id)].window(place)
+        self.part(id).line.first()
+    }
+
+    /// The window after one of the stream of a number, if there is one.
+    pub fn window_after(&self, id: StreamId, at: At) -> Option<At>
+        requires stands { IsSome (part_numbered id.0 self.now.streams) }
+        requires at { IfSome (part_numbered id.0 self.now.streams) (λ part. StandsIn part.line.entries at) }
+        ensures at { IfSome (part_numbered id.0 self.now.streams) (λ part.
+            result ≡ place_at part.line.entries (index_of part.line.entries at + 1)) }
+        ensures stands { IfSome (part_numbered id.0 self.now.streams) (λ part. IfSome result (StandsIn part.line.entries)) }
+        ensures index { IfSome (part_numbered id.0 self.now.streams) (λ part.
+            IfSome result (λ after. index_of part.line.entries after ≡ index_of part.line.entries at + 1)) }
+    {
+        self.after_in::<Brand>(id, at, Blank::new(1))
+    }
+
+    // The same, with a counter.
+    fn after_in<L: Ledger>(&self, id: StreamId, at: At, blank: Blank) -> Option<At>
+        requires fresh { IsFresh L.name L.parts blank }
+        requires stands { IsSome (part_numbered id.0 self.now.streams) }
+        requires at { IfSome (part_numbered id.0 self.now.streams) (λ part. StandsIn part.line.entries at) }
+        ensures at { IfSome (part_numbered id.0 self.now.streams) (λ part.
+            result ≡ place_at part.line.entries (index_of part.line.entries at + 1)) }
+        ensures stands { IfSome (part_numbered id.0 self.now.streams) (λ part. IfSome result (StandsIn part.line.entries)) }
+        ensures index { IfSome (part_numbered id.0 self.now.streams) (λ part.
+            IfSome result (λ after. index_of part.line.entries after ≡ index_of part.line.entries at + 1)) }
+    {
+        let line = &self.part(id).line;
+        let _len = line.len();
+        line.neighbours(at, &mut Steps::<L>::new(blank)).1
+    }
+
+    /// Reads a window of the stream of a number.
+    pub fn window_read<D: Disk>(
+        &mut self,
+        disk: &mut D,
+        id: StreamId,
+        at: At,
+    ) -> Result<Placed, AskError>
+        requires stands { IsSome (part_numbered id.0 self.old.streams) }
+        requires at { IfSome (part_numbered id.0 self.old.streams) (λ part. StandsIn part.line.entries at) }
+        requires one_disk { IsTrue (D.tells disk.old) → self.old.stopped ≡ false → IsKept self.old (D.told disk.old).content }
+        // The window of the state that the content recovers to.
+        ensures window { IsTrue (D.tells disk.old) → (streams : List Stream) → Recovers streams (D.told disk.old).content →
+            IfOk result (λ placed. IfSome (part_numbered id.0 self.old.streams) (λ part. IfSome (stream_numbered id.0 streams) (λ s.
+            slice_get (map placed_of s.windows) (index_of part.line.entries at) ≡ Some placed))) }
+        // It is at most as long as the target window that holds its newest value.
+        ensures within { IsTrue (D.tells disk.old) → (history : List Event) → Stands history (D.told disk.old).content →
+            IfOk result (λ placed. IfSome (stream_numbered id.0 (state history)) (λ s.
+            IsReadWithinTarget (lengths_of s.params) (values_in s) placed)) }
+        // Over every disk it has the positions that are held, and as many values as they say.
+        ensures positions { IfSome (part_numbered id.0 self.old.streams) (λ part. IfSome (entry_at part.line.entries at) (λ entry.
+            IfOk result (λ placed. (placed.first ≡ entry.first) × (placed.last ≡ entry.last)
+            × (placed.first + placed.summary.count ≡ placed.last + 1)))) }
+        ensures one_disk { IsTrue (D.tells disk.old) → self.new.stopped ≡ false → IsKept self.new (D.told disk.new).content }
+        ensures streams { self.new.streams ≡ self.old.streams }
+        ensures live { self.new.records.live ≡ self.old.records.live }
+        ensures journal { OnOk result (self.new.records.journal ≡ self.old.records.journal) }
+        ensures stopped { (result ≡ Err AskError.Stopped) ↔ (self.old.stopped ≡ true) }
+        ensures uncalled { self.old.stopped ≡ true → disk.new ≡ disk.old }
+        ensures same { self.old.stopped ≡ true → self.new ≡ self.old }
+        ensures stops { self.new.stopped ≡ stopped_by_ask self.old.stopped result }
+        ensures firm { IsTrue (D.tells disk.old) → IsAskFirm result }
+        // The content and the images are those from before.
+        ensures reads { IsTrue (D.tells disk.old) → OnlyReads (D.told disk.old) (D.told disk.new) }
+        ensures tells { D.tells disk.new ≡ D.tells disk.old }
+        ensures cause { AskCause (D.faults disk.old) (D.faults disk.new) result }
+    {
+        if self.stopped {
+            return Err(AskError::Stopped);
+        }
+        self.read_in::<D, Brand>(disk, id, at, Blank::new(1))
+    }
+
+    // The positions and the slot of a window.
+    fn entry<L: Ledger>(&self, id: StreamId, at: At, steps: &mut Steps<L>) -> Entry
+        requires runs { self.now.stopped ≡ false }
+        requires stands { IsSome (part_numbered id.0 self.now.streams) }
+        requires at { IfSome (part_numbered id.0 self.now.streams) (λ part. StandsIn part.line.entries at) }
+        ensures entry { IfSome (part_numbered id.0 self.now.streams) (λ part. entry_at part.line.entries at ≡ Some result) }
+        ensures slot { result.slot < MOST_SLOTS }
+        ensures some { result.first ≤ result.last }
+        ensures most { result.last ≤ MOST_VALUES }
+    {
+        let _live = self.records.live();
+        self.part(id).line.get(at, steps)
+    }
+
+    // Reads a window, where the store hasn't stopped.
+    fn read_in<D: Disk, L: Ledger>(
+        &mut self,
+        disk: &mut D,
+        id: StreamId,
+        at: At,
+        blank: Blank,
+    ) -> Result<Placed, AskError>
+        requires fresh { IsFresh L.name L.parts blank }
+        requires stands { IsSome (part_numbered id.0 self.old.streams) }
+        requires at { IfSome (part_numbered id.0 self.old.streams) (λ part. StandsIn part.line.entries at) }
+        requires runs { self.old.stopped ≡ false }
+        requires one_disk { IsTrue (D.tells disk.old) → IsKept self.old (D.told disk.old).content }
+        ensures window { IsTrue (D.tells disk.old) → (streams : List Stream) → Recovers streams (D.told disk.old).content →
+            IfOk result (λ placed. IfSome (part_numbered id.0 self.old.streams) (λ part. IfSome (stream_numbered id.0 streams) (λ s.
+            slice_get (map placed_of s.windows) (index_of part.line.entries at) ≡ Some placed))) }
+        ensures positions { IfSome (part_numbered id.0 self.old.streams) (λ part. IfSome (entry_at part.line.entries at) (λ entry.
+            IfOk result (λ placed. (placed.first ≡ entry.first) × (placed.last ≡ entry.last)
+            × (placed.first + placed.summary.count ≡ placed.last + 1)))) }
+        ensures one_disk { IsTrue (D.tells disk.old) → self.new.stopped ≡ false → IsKept self.new (D.told disk.new).content }
+        ensures streams { self.new.streams ≡ self.old.streams }
+        ensures live { self.new.records.live ≡ self.old.records.live }
+        ensures journal { OnOk result (self.new.records.journal ≡ self.old.records.journal) }
+        ensures running { result ≢ Err AskError.Stopped }
+        ensures stops { self.new.stopped ≡ stopped_by_ask self.old.stopped result }
+        ensures firm { IsTrue (D.tells disk.old) → IsAskFirm result }
+        ensures reads { IsTrue (D.tells disk.old) → OnlyReads (D.told disk.old) (D.told disk.new) }
+        ensures tells { D.tells disk.new ≡ D.tells disk.old }
+        ensures cause { AskCause (D.faults disk.old) (D.faults disk.new) result }
+    {
+        let entry = self.entry(id, at, &mut Steps::<L>::new(blank));
+        match read_window(&mut self.records, disk, id, entry) {
+            Ok(summary) => Ok(Placed {
+                first: entry.first,
+                last: entry.last,
+                summary,
+            }),
+            Err(fault) => {
+                self.stopped = true;
+                Err(AskError::from(fault))
+            }
+        }
     }
 }

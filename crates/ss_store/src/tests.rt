@@ -1,266 +1,313 @@
-// Worked rows: what events answer, one after another, what is read then, and the edges of times and values.
-use crate::{ApplyError, Store};
-use ss_catalog::{Event, LAST_TIME, MOST_STREAMS, Name, Params, Refusal, StreamId};
-use ss_model::{Ack, Placed};
-use std::process::Abort;
+// Worked rows over a disk in memory: what events answer, what each stop leaves of them, and what opening makes of an image.
+ghost use Rattle.std.specs.Prelude.{◌≡◌, IfSome, IfOk, false};
+ghost use Rattle.ss_catalog.specs.Events.{IsInTime};
+ghost use Rattle.ss_outside.specs.MemDisk.{told_by};
+ghost use Rattle.ss_store.specs.Kept.{IsKept};
+
+use crate::{ApplyError, OpenError, Store};
+use ss_catalog::{Event, LAST_TIME, Name, Params, Refusal};
+use ss_outside::{Choice, MemDisk};
+use std::alloc::{AllocError, Global};
+use std::test::Fail;
+
+// What a stream is asked to take.
+#[derive(Clone, Copy)]
+enum Asked {
+    Create(Params),
+    Value(u64, i64),
+}
+
+use Asked::{Create, Value};
+
+// The numbers of values and windows, or why not. `None` is for another error.
+type Answer = Result<(u64, u32), Option<Refusal>>;
+
+// An event, of the stream whose name is a letter, and its answer.
+type Row = (u8, Asked, Answer);
 
 const DOUBLING: Params = Params::Exp { b: 2, r: 1, s: 1 };
 
-fn name(rt: &impl Abort, word: &[u8]) -> Name {
-    Name::of(word).expect(rt, "a name")
+const POWER: Params = Params::Power {
+    p: 1,
+    q: 1,
+    r: 1,
+    s: 1,
+};
+
+const OUT_OF_RANGE: Params = Params::Exp { b: 1, r: 1, s: 1 };
+
+const READINGS: [Row; 8] = [
+    (b'a', Create(DOUBLING), Ok((0, 0))),
+    (b'a', Value(10, 5), Ok((1, 1))),
+    (b'a', Value(20, -3), Ok((2, 2))),
+    (b'a', Value(30, 8), Ok((3, 2))),
+    (b'a', Value(40, 1), Ok((4, 3))),
+    (b'a', Value(50, 9), Ok((5, 3))),
+    (b'a', Value(60, 2), Ok((6, 4))),
+    (b'a', Value(70, 7), Ok((7, 3))),
+];
+
+const OTHERS: [Row; 9] = [
+    (b'p', Create(POWER), Ok((0, 0))),
+    (b'p', Value(1, 0), Ok((1, 1))),
+    (b'p', Value(2, 0), Ok((2, 2))),
+    (b'p', Value(3, 0), Ok((3, 2))),
+    (b'p', Value(4, 0), Ok((4, 3))),
+    (b'p', Value(5, 0), Ok((5, 3))),
+    (b'p', Value(6, 0), Ok((6, 4))),
+    (b'p', Value(7, 0), Ok((7, 4))),
+    (b'a', Value(LAST_TIME, i64::MIN), Ok((8, 4))),
+];
+
+// A refused event makes no call of the disk.
+const REFUSED: [Row; 5] = [
+    (b'a', Create(DOUBLING), Err(Some(Refusal::Exists))),
+    (b'a', Create(OUT_OF_RANGE), Err(Some(Refusal::Param))),
+    (b'x', Value(1, 1), Err(Some(Refusal::Unknown))),
+    (b'p', Value(7, 1), Err(Some(Refusal::Time))),
+    (b'p', Value(6, 1), Err(Some(Refusal::Time))),
+];
+
+fn event_of(letter: u8, asked: Asked) -> Option<Event>
+    ensures { IfSome result IsInTime }
+{
+    let name = Name::of(&[letter])?;
+    match asked {
+        Create(params) => Some(Event::Create { name, params }),
+        Value(t, v) if t <= LAST_TIME => Some(Event::Value { name, t, v }),
+        Value(_, _) => None,
+    }
 }
 
-fn done(n: u64, k: u32) -> Result<Ack, ApplyError> {
-    Ok(Ack { n, k })
+// A store with its disk.
+#[derive(Drop)]
+struct Running {
+    store: Store,
+    disk: MemDisk,
 }
 
-fn refused(refusal: Refusal) -> Result<Ack, ApplyError> {
-    Err(ApplyError::Refused(refusal))
+fn opened(alloc: Global, disk: MemDisk) -> Result<Running, OpenError>
+    ensures { IfOk result (λ running. running.store.stopped ≡ false → IsKept running.store (told_by running.disk).content) }
+{
+    let mut disk = disk;
+    let store = Store::open(alloc, &mut disk)?;
+    Ok(Running { store, disk })
+}
+
+fn answered(running: &mut Running, letter: u8, asked: Asked) -> Answer
+    requires { running.old.store.stopped ≡ false → IsKept running.old.store (told_by running.old.disk).content }
+    ensures { running.new.store.stopped ≡ false → IsKept running.new.store (told_by running.new.disk).content }
+{
+    match event_of(letter, asked) {
+        None => Err(None),
+        Some(event) => match running.store.apply(&mut running.disk, &event) {
+            Ok(ack) => Ok((ack.n, ack.k)),
+            Err(ApplyError::Refused(refusal)) => Err(Some(refusal)),
+            Err(_) => Err(None),
+        },
+    }
+}
+
+// How many rows are answered so, up to the first that isn't.
+fn play(running: &mut Running, rows: &[Row]) -> usize
+    requires { running.old.store.stopped ≡ false → IsKept running.old.store (told_by running.old.disk).content }
+    ensures { running.new.store.stopped ≡ false → IsKept running.new.store (told_by running.new.disk).content }
+{
+    for (row, (letter, asked, answer)) in rows.iter().enumerate() {
+        if answered(running, *letter, *asked) != *answer {
+            return row;
+        }
+    }
+    rows.len()
+}
+
+// A disk that holds nothing.
+fn empty(alloc: Global) -> Result<MemDisk, AllocError> {
+    MemDisk::new(alloc, Vec::new(alloc))
 }
 
 #[test]
-fn worked_rows(rt: HostRuntime) {
-    let mut store = Store::empty(rt.alloc());
-    let a = name(&rt, b"a");
-    let x = name(&rt, b"x");
-    let value = |t: u8, v: i8| Event::Value {
-        name: a,
-        t: u64::from(t),
-        v: i64::from(v),
-    };
-    let create = |name, params| Event::Create { name, params };
-    let rows = [
-        (create(a, DOUBLING), done(0, 0)),
-        (value(10, 5), done(1, 1)),
-        (value(20, -3), done(2, 2)),
-        (value(30, 8), done(3, 2)),
-        (value(40, 1), done(4, 3)),
-        (value(50, 9), done(5, 3)),
-        (value(60, 2), done(6, 4)),
-        (value(70, 7), done(7, 3)),
-        (create(a, DOUBLING), refused(Refusal::Exists)),
-        (
-            create(a, Params::Exp { b: 1, r: 1, s: 1 }),
-            refused(Refusal::Param),
-        ),
-        (
-            create(
-                x,
-                Params::Power {
-                    p: 5,
-                    q: 1,
-                    r: 1,
-                    s: 1,
-                },
-            ),
-            refused(Refusal::Param),
-        ),
-        (
-            Event::Value {
-                name: x,
-                t: 1,
-                v: 1,
-            },
-            refused(Refusal::Unknown),
-        ),
-        (value(70, 1), refused(Refusal::Time)),
-        (
-            Event::Value {
-                name: a,
-                t: LAST_TIME,
-                v: i64::MIN,
-            },
-            done(8, 4),
-        ),
-        (value(71, 1), refused(Refusal::Time)),
-        (
-            Event::Value {
-                name: a,
-                t: LAST_TIME,
-                v: 0,
-            },
-            refused(Refusal::Time),
-        ),
-        (create(x, Params::Exp { b: 3, r: 2, s: 1 }), done(0, 0)),
-        (
-            Event::Value {
-                name: x,
-                t: 0,
-                v: i64::MAX,
-            },
-            done(1, 1),
-        ),
-    ];
-    for (at, (event, answer)) in rows.iter().enumerate() {
-        assert_eq!(rt; store.apply(event), *answer, "row {at}");
-    }
+fn worked_rows(rt: HostRuntime) -> Result<(), Fail> {
+    let mut running = opened(rt.alloc(), empty(rt.alloc())?)?;
+    assert_eq!(rt; play(&mut running, &READINGS), READINGS.len());
+    assert_eq!(rt; play(&mut running, &OTHERS), OTHERS.len());
+    let calls = running.disk.calls();
+    assert_eq!(rt; play(&mut running, &REFUSED), REFUSED.len());
+    assert_eq!(rt; running.disk.calls(), calls);
+    Ok(())
 }
 
-// Seven values of a stream, as times and values.
-const VALUES: [(u8, i8); 7] = [
-    (10, 5),
-    (20, -3),
-    (30, 8),
-    (40, 1),
-    (50, 9),
-    (60, 2),
-    (70, 7),
-];
-
-// What is read of a window.
-type Read = (u64, u64, u64, i128, i64, i64, u64, u64);
-
-// Its windows: the positions, the count, the sum, the least and the greatest value, the times.
-const WINDOWS: [Read; 3] = [
-    (1, 4, 4, 11, -3, 8, 10, 40),
-    (5, 6, 2, 11, 2, 9, 50, 60),
-    (7, 7, 1, 7, 7, 7, 70, 70),
-];
-
-// Creates both streams and gives the second its values, and answers whether all was done.
-fn fill(store: &mut Store, first: Name, second: Name) -> bool {
-    let mut is_done = true;
-    for name in [first, second] {
-        is_done &= store.apply(&Event::Create {
-            name,
-            params: DOUBLING,
-        }) == done(0, 0);
-    }
-    for (t, v) in VALUES {
-        is_done &= store
-            .apply(&Event::Value {
-                name: second,
-                t: u64::from(t),
-                v: i64::from(v),
-            })
-            .is_ok();
-    }
-    is_done
-}
-
-fn read_of(window: &Placed) -> Read {
-    let s = window.summary;
-    (
-        window.first,
-        window.last,
-        s.count,
-        s.sum,
-        s.min,
-        s.max,
-        s.t_first,
-        s.t_last,
-    )
-}
-
-// How many windows the stream has, and how many of them are those of the table.
-fn windows_that_agree(store: &Store, name: &Name) -> (u32, u32) {
-    let Some(id) = store.find(name) else {
-        return (0, 0);
-    };
-    let count = store.windows(id);
-    let mut agree = 0u32;
-    for place in 0..count {
-        if WINDOWS.get(place as usize) == Some(&read_of(&store.window(id, place))) {
-            agree = agree.saturating_add(1);
-        }
-    }
-    (count, agree)
-}
-
-// What the list says of the stream at a place: its number, whether it has the name, the counts of its values, windows,
-// landmarks and values in landmarks.
-fn listed_at(store: &Store, place: u32, name: &Name) -> Option<(u32, bool, u64, u32, u32, u32)> {
-    if place >= store.streams() {
+// The numbers of values and windows of the one stream. There is none before its creation.
+fn held(store: &Store) -> Option<(u64, u32)> {
+    if store.streams() != 1 {
         return None;
     }
-    let row = store.stream(place);
-    Some((
-        row.id.0,
-        row.name == *name && row.params == DOUBLING,
-        row.n,
-        row.k,
-        row.landmarks,
-        row.values,
+    let row = store.stream(0);
+    Some((row.n, row.k))
+}
+
+// The same after so many readings.
+fn held_after(readings: usize) -> Option<(u64, u32)> {
+    let (_, _, answer) = READINGS.get(readings.checked_sub(1)?)?;
+    answer.ok()
+}
+
+const CRASHES: [Choice; 4] = [
+    Choice::Lost,
+    Choice::Kept,
+    Choice::Fill(0),
+    Choice::Fill(0xA5),
+];
+
+// Whether each crash leaves a store of this, or of that.
+fn survives(
+    alloc: Global,
+    disk: &MemDisk,
+    this: Option<(u64, u32)>,
+    that: Option<(u64, u32)>,
+) -> Result<bool, OpenError> {
+    for choice in CRASHES {
+        let found = held(&opened(alloc, disk.crash(choice)?)?.store);
+        if found != this && found != that {
+            return Ok(false);
+        }
+    }
+    Ok(true)
+}
+
+// Whether a store that has stopped makes no call.
+fn is_quiet(running: &mut Running) -> bool
+    requires { running.old.store.stopped ≡ false → IsKept running.old.store (told_by running.old.disk).content }
+{
+    let calls = running.disk.calls();
+    answered(running, b'a', Value(99, 0)).is_err() && running.disk.calls() == calls
+}
+
+// Opens and plays on a disk that stops at this call: how many readings were acknowledged, and whether each crash leaves them,
+// or one more where that was under way.
+fn stopped_at(alloc: Global, stop: u64) -> Result<(usize, bool), OpenError> {
+    let mut disk = empty(alloc)?;
+    disk.stop_from(stop);
+    let store = match Store::open(alloc, &mut disk) {
+        Ok(store) => store,
+        Err(_) => return Ok((0, survives(alloc, &disk, None, None)?)),
+    };
+    let mut running = Running { store, disk };
+    let count = play(&mut running, &READINGS);
+    let left = held_after(count);
+    let next = held_after(count.saturating_add(1)).or(left);
+    let is_quiet = count == READINGS.len() || is_quiet(&mut running);
+    Ok((
+        count,
+        is_quiet && survives(alloc, &running.disk, left, next)?,
     ))
 }
 
-// After how many values how many windows stand, for targets whose windows grow, and for windows of two and of one for ever.
 #[test]
-fn power_law_windows(rt: HostRuntime) {
-    let power = |q, s| Params::Power { p: 1, q, r: 1, s };
-    let rows = [
-        (power(1, 1), [1, 2, 2, 3, 3, 4, 4]),
-        (power(0, 2), [1, 1, 2, 2, 3, 3, 4]),
-        (power(0, 1), [1, 2, 3, 4, 5, 6, 7]),
-    ];
-    let a = name(&rt, b"a");
-    for (params, counts) in rows {
-        let mut store = Store::empty(rt.alloc());
-        assert_eq!(rt; store.apply(&Event::Create { name: a, params }), done(0, 0));
-        for (n, k) in (1u8..).zip(counts) {
-            let t = u64::from(n);
-            assert_eq!(rt;
-                store.apply(&Event::Value { name: a, t, v: 0 }),
-                done(t, k),
-                "{n}"
-            );
+fn each_stop_leaves_the_first_events(rt: HostRuntime) -> Result<(), Fail> {
+    let mut count = 0;
+    for stop in 0..300 {
+        let answer = stopped_at(rt.alloc(), stop)?;
+        assert!(rt; answer.1, "stop {stop}");
+        count = answer.0;
+    }
+    assert_eq!(rt; count, 8);
+    Ok(())
+}
+
+// What a slot has.
+#[derive(Clone, Copy)]
+enum Slot {
+    // The stream 0, of the name a and the target `exp 2 1 1`.
+    Stream,
+    // A window of one value 0: the stream's number, and the position, which is the time too.
+    Window(u32, u64),
+    // No record.
+    Bad,
+}
+
+use Slot::{Bad, Stream, Window};
+
+fn spelled(slot: Slot) -> [u8; 128] {
+    let mut bytes = [0; 128];
+    match slot {
+        Slot::Stream => {
+            bytes[..3].copy_from_slice(&[1, 1, 1]);
+            bytes[8..20].copy_from_slice(&[0, 0, 0, 2, 0, 0, 0, 1, 0, 0, 0, 1]);
+            bytes[24] = b'a';
         }
+        Slot::Window(id, position) => {
+            bytes[0] = 2;
+            bytes[4..8].copy_from_slice(&id.to_be_bytes());
+            bytes[8..16].copy_from_slice(&position.to_be_bytes());
+            bytes[23] = 1;
+            bytes[56..64].copy_from_slice(&position.to_be_bytes());
+            bytes[64..72].copy_from_slice(&position.to_be_bytes());
+        }
+        Slot::Bad => bytes[0] = 9,
     }
+    bytes
 }
 
+// A file that begins so and has these slots.
+fn image(alloc: Global, begin: &[u8], slots: &[Slot]) -> Result<MemDisk, AllocError> {
+    let mut bytes = begin.to_vec(alloc)?;
+    if !slots.is_empty() {
+        bytes.resize(36864, 0)?;
+    }
+    for slot in slots {
+        bytes.extend_from_slice(&spelled(*slot))?;
+    }
+    MemDisk::new(alloc, bytes)
+}
+
+const FORMED: &[u8] = b"\xA5SSTORE01";
+
+// Of three windows of one value two wait for a merge. Whenever its opening stops, the next one makes it.
 #[test]
-fn what_is_read(rt: HostRuntime) {
-    let mut store = Store::empty(rt.alloc());
-    let a = name(&rt, b"a");
-    let b = name(&rt, b"b.2");
-    assert!(rt; fill(&mut store, b, a));
-    assert_eq!(rt; store.streams(), 2);
-    for (word, place) in [
-        (b"b.2".as_slice(), Some(StreamId(0))),
-        (b"a", Some(StreamId(1))),
-        (b"A", None),
-    ] {
-        assert_eq!(rt; store.find(&name(&rt, word)), place);
+fn opening_makes_the_merges_that_are_due(rt: HostRuntime) -> Result<(), Fail> {
+    let waiting = [Stream, Window(0, 1), Window(0, 2), Window(0, 3)];
+    for stop in 0..200 {
+        let mut disk = image(rt.alloc(), FORMED, &waiting)?;
+        disk.stop_from(stop);
+        let _ = Store::open(rt.alloc(), &mut disk);
+        let merged = Some((3, 2));
+        assert!(rt; survives(rt.alloc(), &disk, merged, merged)?, "stop {stop}");
     }
-    assert_eq!(rt; listed_at(&store, 1, &a), Some((1, true, 7, 3, 0, 0)));
-    assert_eq!(rt; windows_that_agree(&store, &a), (3, 3));
+    Ok(())
 }
 
-// The name n and a number below 10000.
-fn numbered(rt: &impl Abort, number: u32) -> Name {
-    let digit = |n: u32| b'0' + (n % 10) as u8;
-    name(
-        rt,
-        &[
-            b'n',
-            digit(number / 1000),
-            digit(number / 100),
-            digit(number / 10),
-            digit(number),
-        ],
-    )
-}
-
+// What is refused is left as it was.
 #[test]
-fn as_many_streams_as_can_stand(rt: HostRuntime) {
-    let mut store = Store::empty(rt.alloc());
-    for number in 0..MOST_STREAMS {
-        let event = Event::Create {
-            name: numbered(&rt, number),
-            params: DOUBLING,
-        };
-        assert_eq!(rt; store.apply(&event), done(0, 0));
+fn damage_is_named(rt: HostRuntime) -> Result<(), Fail> {
+    let open_entry = |count: u8| {
+        let mut bytes = [0; 514];
+        bytes[..9].copy_from_slice(FORMED);
+        bytes[512..].copy_from_slice(&[0xA5, count]);
+        bytes
+    };
+    let rows: [(&[u8], &[Slot], OpenError); 6] = [
+        (b"hello", &[], OpenError::NotAStore),
+        (b"\xA5SSTORE02", &[Stream], OpenError::NotAStore),
+        (&open_entry(5), &[Stream], OpenError::BadEntry { n: 0 }),
+        (FORMED, &[Stream, Bad, Bad], OpenError::BadSlot { n: 1 }),
+        (
+            FORMED,
+            &[Stream, Window(6, 1)],
+            OpenError::BadStream { id: 6 },
+        ),
+        (
+            FORMED,
+            &[Stream, Window(0, 1), Window(0, 3)],
+            OpenError::BadStream { id: 0 },
+        ),
+    ];
+    for (begin, slots, error) in rows {
+        let mut disk = image(rt.alloc(), begin, slots)?;
+        assert_eq!(rt; Store::open(rt.alloc(), &mut disk).err(), Some(error));
+        assert_eq!(rt; disk.syncs(), 0, "{error}");
+        let before = image(rt.alloc(), begin, slots)?;
+        assert_eq!(rt; disk.content(), before.content(), "{error}");
     }
-    let event = Event::Create {
-        name: name(&rt, b"x"),
-        params: DOUBLING,
-    };
-    assert_eq!(rt; store.apply(&event), refused(Refusal::Streams));
-    let event = Event::Value {
-        name: numbered(&rt, 2900),
-        t: 1,
-        v: 1,
-    };
-    assert_eq!(rt; store.apply(&event), done(1, 1));
-    assert_eq!(rt; store.find(&numbered(&rt, 2900)), Some(StreamId(2900)));
+    Ok(())
 }

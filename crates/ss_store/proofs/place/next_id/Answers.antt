@@ -2,8 +2,10 @@ use Rattle.std.proofs.Common.{◌≡◌, ◌∙◌, true, false, length, refl, a
 use Rattle.std.specs.Prelude.{nat_le, ◌==◌}
 use Rattle.std.proofs.lemmas.Bool.{ne_eqb}
 use Rattle.std.proofs.lemmas.Bool.Decides.{nat_tests}
+use Rattle.std.proofs.lemmas.List.{length-map}
 use Rattle.ss_catalog.specs.declared.TheConstants.{MOST_STREAMS, LAST_STREAM}
-use Rattle.ss_model.specs.Refusals.{has_all_streams}
+use Rattle.ss_recover.specs.declared.parts.StreamParts.{StreamParts}
+use Rattle.ss_store.specs.Kept.{has_all_numbers, numbers_held}
 use Rattle.ss_store.proofs.PlaceLemmas.{TellsNext-last}
 use Rattle.ss_store.proofs.place.next_id.Goals as goal
 
@@ -12,13 +14,14 @@ returns-else-number-clause-none c =
     let item = c.in-Some.ensures.item in
     let w = c.in-Some.last.now in
     let tells = TellsNext-last c.args.streams.now w c.requires item.3.0 item.1 (omega arith) in
-    let room : nat_le MOST_STREAMS (length c.args.streams.now) ≡ false = grind (arith, nat_tests) in
-    let free : (w.number == LAST_STREAM) ≡ false = ne_eqb _ _ (λ same. c.if-number.false (c.number-number.ensures ∙ same)) in
-    let none : has_all_streams c.args.streams.now ≡ false = rw (room, tells.taken, free) refl in
+    let all = length-map c.args.streams.now (λ (s : StreamParts). s.id.0) in
+    let room : nat_le MOST_STREAMS (length (numbers_held c.args.streams.now)) ≡ false = grind (arith, nat_tests) in
+    let free : (w.id.0 == LAST_STREAM) ≡ false = ne_eqb _ _ (λ same. c.if-number.false (c.number_of-number.ensures ∙ same)) in
+    let none : has_all_numbers (numbers_held c.args.streams.now) ≡ false = rw (room, tells.taken, free) refl in
     ((λ wrong. cc), (λ yes. let wrong : false ≡ true = rw none at yes in cc))
 
 pub returns-else-number-clause-value : goal.returns-else-number-clause-value
 returns-else-number-clause-value c =
     let item = c.in-Some.ensures.item in
     let tells = TellsNext-last c.args.streams.now c.in-Some.last.now c.requires item.3.0 item.1 (omega arith) in
-    omega (arith, tells.next, c.number-number.ensures)
+    omega (arith, tells.next, c.number_of-number.ensures)

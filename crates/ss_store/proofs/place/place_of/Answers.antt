@@ -1,7 +1,7 @@
 use Rattle.std.proofs.Common.{◌≡◌, ◌+◌, ◌-◌, ◌/◌, ap, sym, ◌∙◌, arith}
 use Rattle.std.specs.Prelude.{slice_get, ◌==◌}
 use Rattle.std.proofs.lemmas.List.Folds.{find_at}
-use Rattle.ss_model.specs.State.{Stream}
+use Rattle.ss_recover.specs.declared.parts.StreamParts.{StreamParts}
 use Rattle.ss_store.proofs.PlaceLemmas.{place_in, place_in-inside, place_in-after, place_in-before}
 use Rattle.ss_store.proofs.place.place_of.Goals as goal
 
@@ -12,35 +12,35 @@ loop-high-init c = record {
   inside = omega arith;
 }
 
-pub loop-high-preserved-then-number-id : goal.loop-high-preserved-then-number-id
-loop-high-preserved-then-number-id c =
-    let streams = c.args.streams.now in
+pub loop-high-preserved-then-number_of-id : goal.loop-high-preserved-then-number_of-id
+loop-high-preserved-then-number_of-id c =
+    let parts = c.args.streams.now in
     let before = c.loop-high.invariant in
     let read = c.index-streams-middle.result in
-    let here = ap (λ (s : Stream). s.number) c.index-streams-middle.is in
+    let here = ap (λ (s : StreamParts). s.id.0) c.index-streams-middle.is in
     record {
-      low = place_in-after c.args.id.0 streams (c.loop-high.low + (c.loop-high.high - c.loop-high.low) / 2) read c.requires.rising
-          (place_in-inside c.args.id.0 streams c.requires.stands) (omega arith) (omega arith);
+      low = place_in-after c.args.id.0 parts (c.loop-high.low + (c.loop-high.high - c.loop-high.low) / 2) read c.requires.rising
+          (place_in-inside c.args.id.0 parts c.requires.stands) (omega arith) (omega arith);
       high = before.high;
       inside = before.inside;
     }
 
 pub loop-high-preserved : goal.loop-high-preserved
 loop-high-preserved c =
-    let streams = c.args.streams.now in
+    let parts = c.args.streams.now in
     let before = c.loop-high.invariant in
     let read = c.index-streams-middle.result in
-    let here = ap (λ (s : Stream). s.number) c.index-streams-middle.is in
+    let here = ap (λ (s : StreamParts). s.id.0) c.index-streams-middle.is in
     record {
       low = before.low;
-      high = place_in-before c.args.id.0 streams (c.loop-high.low + (c.loop-high.high - c.loop-high.low) / 2) read c.requires.rising
-          (place_in-inside c.args.id.0 streams c.requires.stands) (omega arith) (omega arith);
+      high = place_in-before c.args.id.0 parts (c.loop-high.low + (c.loop-high.high - c.loop-high.low) / 2) read c.requires.rising
+          (place_in-inside c.args.id.0 parts c.requires.stands) (omega arith) (omega arith);
       inside = omega arith;
     }
 
 pub returns-clause-at : goal.returns-clause-at
 returns-clause-at c =
-    let streams = c.args.streams.now in
+    let parts = c.args.streams.now in
     let before = c.loop-high.invariant in
-    let place : c.loop-high.low ≡ place_in c.args.id.0 streams = omega arith in
-    ap (λ k. slice_get streams k) place ∙ sym (find_at (λ (s : Stream). c.args.id.0 == s.number) streams)
+    let place : c.loop-high.low ≡ place_in c.args.id.0 parts = omega arith in
+    ap (λ k. slice_get parts k) place ∙ sym (find_at (λ (s : StreamParts). c.args.id.0 == s.id.0) parts)

@@ -1,50 +1,80 @@
-use Rattle.std.proofs.Common.{◌≡◌, true, false, refl, arith}
-use Rattle.std.proofs.lemmas.Bool.Decides.{nat_tests}
+use Rattle.std.proofs.Common.{◌≡◌, None, Some, true, false, refl, ap, sym, ◌∙◌, subst, length, flat_map}
+use Rattle.std.specs.Prelude.{is_some, nat_le}
+use Rattle.ss_catalog.specs.declared.event.Event.TheVariants.{Create}
+use Rattle.ss_catalog.specs.declared.refusal.Refusal.TheVariants.{Exists, Streams, StoreFull}
 use Rattle.ss_target.specs.Lengths.{has_target}
-use Rattle.ss_model.specs.Refusals.{stands, has_all_streams, has_all_records}
-use Rattle.ss_store.proofs.StoreLemmas.{not-true, refuses-create, stands-listed}
+use Rattle.ss_model.specs.State.{next_number}
+use Rattle.ss_model.specs.declared.types.TheConstants.{MOST_RECORDS}
+use Rattle.ss_recover.specs.Held.{slots_held}
+use Rattle.ss_store.specs.Kept.{StoreState, has_all_numbers, numbers_held, part_named, refuses_held}
+use Rattle.ss_store.proofs.Named.{is_some-listed}
+use Rattle.ss_store.proofs.Refusals.{not-true, none_is_some, refuses_held-create}
 use Rattle.ss_store.proofs.store.Store.admit.Goals as goal
 
 pub returns-in_default-clause-refused : goal.returns-in_default-clause-refused
 returns-in_default-clause-refused c =
     let target : has_target c.args.params ≡ false = not-true _ (λ yes. let wrong : false ≡ true = c.in_default.ensures.exactly.1 yes in cc) in
-    refuses-create c.args.self.now c.args.name.now c.args.params false _ _ _ target refl refl refl
+    refuses_held-create c.args.self.now.streams c.args.name.now c.args.params false _ _ _ target refl refl refl
 
 pub returns-then-is_some-clause-refused : goal.returns-then-is_some-clause-refused
 returns-then-is_some-clause-refused c =
-    let streams = c.self.inside.streams.items in
+    let parts = c.self.inside.streams.items in
     let target : has_target c.args.params ≡ true = c.in-Ok.ensures.exactly.0 refl in
-    let listed = stands-listed c.args.name.now streams c.self.inside.catalog c.self.invariant.listed in
-    let known : stands c.args.name.now streams ≡ true = cc in
-    rw (← c.self.view_is) (refuses-create streams c.args.name.now c.args.params true true _ _ target known refl refl)
+    let listed = is_some-listed c.args.name.now parts c.self.inside.catalog c.self.invariant.listed in
+    let known : is_some (part_named c.args.name.now parts) ≡ true = cc in
+    subst (λ (s : StoreState). refuses_held s.streams (Create c.args.name.now c.args.params) ≡ Some Exists) c.self.view_is
+    (refuses_held-create parts c.args.name.now c.args.params true true _ _ target known refl refl)
 
 pub returns-in_default-next_id-clause-refused : goal.returns-in_default-next_id-clause-refused
 returns-in_default-next_id-clause-refused c =
-    let streams = c.self.inside.streams.items in
+    let parts = c.self.inside.streams.items in
     let target : has_target c.args.params ≡ true = c.in-Ok.ensures.exactly.0 refl in
-    let listed = stands-listed c.args.name.now streams c.self.inside.catalog c.self.invariant.listed in
-    let new : stands c.args.name.now streams ≡ false = cc in
-    let full : has_all_streams streams ≡ true = rw (← c.deref.ensures.value) (c.in_default-next_id.ensures.none.0 refl) in
-    rw (← c.self.view_is) (refuses-create streams c.args.name.now c.args.params true false true _ target new full refl)
+    let listed = is_some-listed c.args.name.now parts c.self.inside.catalog c.self.invariant.listed in
+    let new : is_some (part_named c.args.name.now parts) ≡ false = cc in
+    let full : has_all_numbers (numbers_held parts) ≡ true = rw (← c.deref.ensures.value) (c.in_default-next_id.ensures.none.0 refl) in
+    subst (λ (s : StoreState). refuses_held s.streams (Create c.args.name.now c.args.params) ≡ Some Streams) c.self.view_is
+    (refuses_held-create parts c.args.name.now c.args.params true false true _ target new full refl)
 
-pub returns-then-self-ge-MOST_RECORDS-clause-refused : goal.returns-then-self-ge-MOST_RECORDS-clause-refused
-returns-then-self-ge-MOST_RECORDS-clause-refused c =
-    let streams = c.self.inside.streams.items in
+pub returns-in-Some-free_slot-clause-accepted : goal.returns-in-Some-free_slot-clause-accepted
+returns-in-Some-free_slot-clause-accepted c =
+    let parts = c.self.inside.streams.items in
     let target : has_target c.args.params ≡ true = c.in-Ok.ensures.exactly.0 refl in
-    let listed = stands-listed c.args.name.now streams c.self.inside.catalog c.self.invariant.listed in
-    let new : stands c.args.name.now streams ≡ false = cc in
-    let free : has_all_streams streams ≡ false =
+    let listed = is_some-listed c.args.name.now parts c.self.inside.catalog c.self.invariant.listed in
+    let new : is_some (part_named c.args.name.now parts) ≡ false = cc in
+    let free : has_all_numbers (numbers_held parts) ≡ false =
     rw (← c.deref.ensures.value) (not-true _ (λ yes. let wrong : true ≡ false = c.in-Some.ensures.none.1 yes in cc)) in
-    let stored : has_all_records streams ≡ true = rw (← c.self.invariant.counted) (grind (arith, nat_tests)) in
-    rw (← c.self.view_is) (refuses-create streams c.args.name.now c.args.params true false false true target new free stored)
+    let stored : nat_le MOST_RECORDS (length (flat_map slots_held parts)) ≡ false =
+    ap (λ (s : StoreState). nat_le MOST_RECORDS (length (flat_map slots_held s.streams))) c.self.view_is
+    ∙ not-true _ (λ full. let wrong : true ≡ false = c.in-Some-free_slot.ensures.full.1 full in cc) in
+    subst (λ (s : StoreState). refuses_held s.streams (Create c.args.name.now c.args.params) ≡ None) c.self.view_is
+    (refuses_held-create parts c.args.name.now c.args.params true false false false target new free stored)
 
-pub returns-clause-accepted : goal.returns-clause-accepted
-returns-clause-accepted c =
-    let streams = c.self.inside.streams.items in
+pub returns-in-None-clause-refused : goal.returns-in-None-clause-refused
+returns-in-None-clause-refused c =
+    let parts = c.self.inside.streams.items in
     let target : has_target c.args.params ≡ true = c.in-Ok.ensures.exactly.0 refl in
-    let listed = stands-listed c.args.name.now streams c.self.inside.catalog c.self.invariant.listed in
-    let new : stands c.args.name.now streams ≡ false = cc in
-    let free : has_all_streams streams ≡ false =
+    let listed = is_some-listed c.args.name.now parts c.self.inside.catalog c.self.invariant.listed in
+    let new : is_some (part_named c.args.name.now parts) ≡ false = cc in
+    let free : has_all_numbers (numbers_held parts) ≡ false =
     rw (← c.deref.ensures.value) (not-true _ (λ yes. let wrong : true ≡ false = c.in-Some.ensures.none.1 yes in cc)) in
-    let stored : has_all_records streams ≡ false = rw (← c.self.invariant.counted) (grind (arith, nat_tests)) in
-    rw (← c.self.view_is) (refuses-create streams c.args.name.now c.args.params true false false false target new free stored)
+    let stored : nat_le MOST_RECORDS (length (flat_map slots_held parts)) ≡ true =
+    ap (λ (s : StoreState). nat_le MOST_RECORDS (length (flat_map slots_held s.streams))) c.self.view_is ∙ c.in-None.ensures.full.0 refl in
+    subst (λ (s : StoreState). refuses_held s.streams (Create c.args.name.now c.args.params) ≡ Some StoreFull) c.self.view_is
+    (refuses_held-create parts c.args.name.now c.args.params true false false true target new free stored)
+
+pub returns-in-Some-free_slot-clause-new : goal.returns-in-Some-free_slot-clause-new
+returns-in-Some-free_slot-clause-new c =
+    let parts = c.self.inside.streams.items in
+    let listed = is_some-listed c.args.name.now parts c.self.inside.catalog c.self.invariant.listed in
+    let unknown : is_some (part_named c.args.name.now parts) ≡ false = cc in
+    let numbers : has_all_numbers (numbers_held parts) ≡ false =
+    rw (← c.deref.ensures.value) (not-true _ (λ yes. let wrong : true ≡ false = c.in-Some.ensures.none.1 yes in cc)) in
+    let next : c.in-Some.id.0 ≡ next_number (numbers_held parts) = rw (← c.deref.ensures.value) c.in-Some.ensures.value in
+    record {
+      target = c.in-Ok.ensures.exactly.0 refl;
+      named = ap (λ (s : StoreState). part_named c.args.name.now s.streams) (sym c.self.view_is) ∙ none_is_some (part_named c.args.name.now parts) unknown;
+      next = next ∙ ap (λ (s : StoreState). next_number (numbers_held s.streams)) c.self.view_is;
+      room = ap (λ (s : StoreState). has_all_numbers (numbers_held s.streams)) (sym c.self.view_is) ∙ numbers;
+      free = sym c.in-Some-free_slot.ensures.least;
+      low = c.in-Some-free_slot.ensures.low;
+    }

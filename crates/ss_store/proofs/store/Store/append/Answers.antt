@@ -1,96 +1,410 @@
-use Rattle.std.proofs.Common.{◌≡◌, ◌∙◌, ◌+◌, ◌*◌, ◌≤◌, ap, sym, subst, None, Some, arith, w64, length}
+use Rattle.std.proofs.Common.{◌≡◌, ◌∙◌, ◌<◌, None, true, false, refl, ap, sym, subst, w64}
 use Rattle.std.proofs.lemmas.Int.{to_z-of_z}
-use Rattle.std.proofs.Math.ListN.{set}
 use Rattle.ss_catalog.specs.declared.event.Event.TheVariants.{Value}
-use Rattle.ss_model.specs.Refusals.{refuses}
-use Rattle.ss_model.specs.State.{Stream, stream_named, values_in}
-use Rattle.ss_target.specs.Lengths.{lengths_of}
-use Rattle.ss_model.specs.Decay.{cover}
-use Rattle.ss_model.specs.Steps.{with_value, said_of, ack_of, stepped}
+use Rattle.ss_windowing.specs.declared.decay.TheConstants.{MOST_VALUES}
+use Rattle.ss_model.specs.Refusals.{is_past}
 use Rattle.ss_model.specs.declared.types.Ack.{Ack}
-use Rattle.ss_store.proofs.StoreLemmas.{IsAtPlace-place, appends}
+use Rattle.ss_recover.specs.Held.{entries_of}
+use Rattle.ss_recover.specs.declared.parts.StreamParts.{StreamParts}
+use Rattle.ss_store.specs.Admitted.{IsTaker}
+use Rattle.ss_store.specs.Held.{IsSameStream, values_held}
+use Rattle.ss_store.specs.Kept.{IsKept, StoreState, refuses_held}
+use Rattle.ss_store.proofs.Appended.{AreWhole-IsSpared, IsApplyFirm-fault, IsKept-IsSpared, IsKept-appended, IsSound-set, IsSpared, SameButSpare-IsSpared, StepsState-appended, held-before, live-IsSpared, others, pair, part-read, said_of_taker, same-spared, tiles-IsSpared, whole-appended}
+use Rattle.ss_store.proofs.Decays.{KeepsToTarget-taken}
+use Rattle.ss_store.proofs.Stepping.{StepsState-answers, StepsState-failed}
 use Rattle.ss_store.proofs.store.Store.append.Goals as goal
 
-pub append-requires-clause-may : goal.append-requires-clause-may
-append-requires-clause-may c =
-    let streams = c.self.inside.streams.items in
-    let s = c.index_mut-stream.result.now in
-    let none = subst (λ ss. refuses ss (Value c.args.name.now c.args.t c.args.v) ≡ None) (sym c.self.view_is) (c.in-Ok.ensures.accepted c.args.v) in
-    let at = IsAtPlace-place c.args.name.now c.in-Ok.place streams c.args.self.now s c.self.view_is c.in-Ok.ensures.place c.index_mut-stream.ensures.value in
-    let all = appends streams c.self.inside.catalog c.self.inside.records c.args.name.now c.args.t c.args.v c.in-Ok.place s c.self.invariant at none
-    (c.requires.in_time, c.ranges.v) in
-    all.may
+pub invariant_of-self : goal.invariant_of-self
+invariant_of-self g c =
+    let store : StoreState = record { streams = c.self.inside.streams.items; records = c.self.inside.records; stopped = c.self.inside.stopped } in
+    let taker : IsTaker store c.args.name.now c.args.t c.in-Ok.taker.0 c.in-Ok.taker.1 =
+    subst (λ (s : StoreState). IsTaker s c.args.name.now c.args.t c.in-Ok.taker.0 c.in-Ok.taker.1) (sym c.self.view_is) c.in-Ok.ensures.taker in
+    let runs : store.stopped ≡ false = ap (λ (s : StoreState). s.stopped) c.self.view_is ∙ c.requires.runs in
+    let was = c.index_mut-stream.result.now in
+    let is : taker.part ≡ was = part-read store.streams c.in-Ok.taker.0 taker.part was taker.at c.index_mut-stream.ensures.value in
+    let spared : StreamParts = record {
+      id = was.id;
+      name = was.name;
+      target = was.target;
+      slot = was.slot;
+      last_time = was.last_time;
+      line = c.reserve.new.self;
+    } in
+    let entries : spared.line.entries ≡ was.line.entries = c.reserve.ensures.entries in
+    let room : IsSpared taker.part spared =
+    subst (λ (p : StreamParts). IsSpared p spared) (sym is)
+    (record { same = record { id = refl; name = refl; target = refl; slot = refl }; last_time = refl; entries = entries; spare = c.reserve.ensures.grows }) in
+    let at = taker.at in
+    let whole = c.self.invariant.whole runs in
+    IsSound-set store c.self.inside.catalog c.self.invariant c.in-Ok.taker.0 taker.part spared at room.same store.records store.stopped
+    (λ run. (c.self.invariant.settled runs, AreWhole-IsSpared store c.in-Ok.taker.0 taker.part spared at room whole))
 
-pub overflow_sub-self : goal.overflow_sub-self
-overflow_sub-self c =
-    let streams = c.self.inside.streams.items in
-    let s = c.index_mut-stream.result.now in
-    let none = subst (λ ss. refuses ss (Value c.args.name.now c.args.t c.args.v) ≡ None) (sym c.self.view_is) (c.in-Ok.ensures.accepted c.args.v) in
-    let at = IsAtPlace-place c.args.name.now c.in-Ok.place streams c.args.self.now s c.self.view_is c.in-Ok.ensures.place c.index_mut-stream.ensures.value in
-    let all = appends streams c.self.inside.catalog c.self.inside.records c.args.name.now c.args.t c.args.v c.in-Ok.place s c.self.invariant at none
-    (c.requires.in_time, c.ranges.v) in
-    omega (arith, all.before, c.in-Ok-append.ensures.before)
+pub returns-in-Err-reserve-clause-one_disk : goal.returns-in-Err-reserve-clause-one_disk
+returns-in-Err-reserve-clause-one_disk g c told run =
+    let store : StoreState = record { streams = c.self.inside.streams.items; records = c.self.inside.records; stopped = c.self.inside.stopped } in
+    let taker : IsTaker store c.args.name.now c.args.t c.in-Ok.taker.0 c.in-Ok.taker.1 =
+    subst (λ (s : StoreState). IsTaker s c.args.name.now c.args.t c.in-Ok.taker.0 c.in-Ok.taker.1) (sym c.self.view_is) c.in-Ok.ensures.taker in
+    let runs : store.stopped ≡ false = ap (λ (s : StoreState). s.stopped) c.self.view_is ∙ c.requires.runs in
+    let was = c.index_mut-stream.result.now in
+    let is : taker.part ≡ was = part-read store.streams c.in-Ok.taker.0 taker.part was taker.at c.index_mut-stream.ensures.value in
+    let spared : StreamParts = record {
+      id = was.id;
+      name = was.name;
+      target = was.target;
+      slot = was.slot;
+      last_time = was.last_time;
+      line = c.reserve.new.self;
+    } in
+    let entries : spared.line.entries ≡ was.line.entries = c.reserve.ensures.entries in
+    let room : IsSpared taker.part spared =
+    subst (λ (p : StreamParts). IsSpared p spared) (sym is)
+    (record { same = record { id = refl; name = refl; target = refl; slot = refl }; last_time = refl; entries = entries; spare = c.reserve.ensures.grows }) in
+    let at = taker.at in
+    let kept : IsKept store (g.D.Disk.told c.args.disk.now).content =
+    subst (λ (s : StoreState). IsKept s (g.D.Disk.told c.args.disk.now).content) (sym c.self.view_is) (c.requires.one_disk told) in
+    IsKept-IsSpared store c.in-Ok.taker.0 taker.part spared at room (g.D.Disk.told c.args.disk.now).content kept
 
-pub overflow_add-self : goal.overflow_add-self
-overflow_add-self c =
-    let streams = c.self.inside.streams.items in
-    let s = c.index_mut-stream.result.now in
-    let none = subst (λ ss. refuses ss (Value c.args.name.now c.args.t c.args.v) ≡ None) (sym c.self.view_is) (c.in-Ok.ensures.accepted c.args.v) in
-    let at = IsAtPlace-place c.args.name.now c.in-Ok.place streams c.args.self.now s c.self.view_is c.in-Ok.ensures.place c.index_mut-stream.ensures.value in
-    let all = appends streams c.self.inside.catalog c.self.inside.records c.args.name.now c.args.t c.args.v c.in-Ok.place s c.self.invariant at none
-    (c.requires.in_time, c.ranges.v) in
-    let new : c.append.new.self ≡ with_value s c.args.t c.args.v = rw (to_z-of_z w64 c.args.v c.ranges.v) at c.in-Ok-append.ensures.ok in
-    let ack : c.in-Ok-append.answer.1 ≡ said_of (Some (with_value s c.args.t c.args.v)) = c.in-Ok-append.ensures.ack ∙ ap (λ (x : Stream). said_of (Some x)) new in
-    let count = ap (λ (a : Ack). a.k) ack in
-    omega (arith, all.few, count, c.in-Ok-append.ensures.before)
+pub returns-in-Err-reserve-clause-starved : goal.returns-in-Err-reserve-clause-starved
+returns-in-Err-reserve-clause-starved g c starved =
+    let store : StoreState = record { streams = c.self.inside.streams.items; records = c.self.inside.records; stopped = c.self.inside.stopped } in
+    let taker : IsTaker store c.args.name.now c.args.t c.in-Ok.taker.0 c.in-Ok.taker.1 =
+    subst (λ (s : StoreState). IsTaker s c.args.name.now c.args.t c.in-Ok.taker.0 c.in-Ok.taker.1) (sym c.self.view_is) c.in-Ok.ensures.taker in
+    let runs : store.stopped ≡ false = ap (λ (s : StoreState). s.stopped) c.self.view_is ∙ c.requires.runs in
+    let was = c.index_mut-stream.result.now in
+    let is : taker.part ≡ was = part-read store.streams c.in-Ok.taker.0 taker.part was taker.at c.index_mut-stream.ensures.value in
+    let spared : StreamParts = record {
+      id = was.id;
+      name = was.name;
+      target = was.target;
+      slot = was.slot;
+      last_time = was.last_time;
+      line = c.reserve.new.self;
+    } in
+    let entries : spared.line.entries ≡ was.line.entries = c.reserve.ensures.entries in
+    let room : IsSpared taker.part spared =
+    subst (λ (p : StreamParts). IsSpared p spared) (sym is)
+    (record { same = record { id = refl; name = refl; target = refl; slot = refl }; last_time = refl; entries = entries; spare = c.reserve.ensures.grows }) in
+    let at = taker.at in
+    rw (← c.self.view_is) (SameButSpare-IsSpared store c.in-Ok.taker.0 taker.part spared at room)
 
-pub invariant_of-self-2 : goal.invariant_of-self-2
-invariant_of-self-2 c =
-    let streams = c.self.inside.streams.items in
-    let s = c.index_mut-stream.result.now in
-    let none = subst (λ ss. refuses ss (Value c.args.name.now c.args.t c.args.v) ≡ None) (sym c.self.view_is) (c.in-Ok.ensures.accepted c.args.v) in
-    let at = IsAtPlace-place c.args.name.now c.in-Ok.place streams c.args.self.now s c.self.view_is c.in-Ok.ensures.place c.index_mut-stream.ensures.value in
-    let all = appends streams c.self.inside.catalog c.self.inside.records c.args.name.now c.args.t c.args.v c.in-Ok.place s c.self.invariant at none
-    (c.requires.in_time, c.ranges.v) in
-    let new : c.append.new.self ≡ with_value s c.args.t c.args.v = rw (to_z-of_z w64 c.args.v c.ranges.v) at c.in-Ok-append.ensures.ok in
-    let ack : c.in-Ok-append.answer.1 ≡ said_of (Some (with_value s c.args.t c.args.v)) = c.in-Ok-append.ensures.ack ∙ ap (λ (x : Stream). said_of (Some x)) new in
-    let count = ap (λ (a : Ack). a.k) ack in
-    rw (new, c.in-Ok-append.ensures.before, count) all.kept
+pub append-requires-clause-room : goal.append-requires-clause-room
+append-requires-clause-room g c =
+    let store : StoreState = record { streams = c.self.inside.streams.items; records = c.self.inside.records; stopped = c.self.inside.stopped } in
+    let taker : IsTaker store c.args.name.now c.args.t c.in-Ok.taker.0 c.in-Ok.taker.1 =
+    subst (λ (s : StoreState). IsTaker s c.args.name.now c.args.t c.in-Ok.taker.0 c.in-Ok.taker.1) (sym c.self.view_is) c.in-Ok.ensures.taker in
+    let runs : store.stopped ≡ false = ap (λ (s : StoreState). s.stopped) c.self.view_is ∙ c.requires.runs in
+    let was = c.index_mut-stream.result.now in
+    let is : taker.part ≡ was = part-read store.streams c.in-Ok.taker.0 taker.part was taker.at c.index_mut-stream.ensures.value in
+    let spared : StreamParts = record {
+      id = was.id;
+      name = was.name;
+      target = was.target;
+      slot = was.slot;
+      last_time = was.last_time;
+      line = c.reserve.new.self;
+    } in
+    let entries : spared.line.entries ≡ was.line.entries = c.reserve.ensures.entries in
+    let room : IsSpared taker.part spared =
+    subst (λ (p : StreamParts). IsSpared p spared) (sym is)
+    (record { same = record { id = refl; name = refl; target = refl; slot = refl }; last_time = refl; entries = entries; spare = c.reserve.ensures.grows }) in
+    let at = taker.at in
+    let before : values_held (entries_of was) < MOST_VALUES = subst (λ (p : StreamParts). values_held (entries_of p) < MOST_VALUES) is taker.room in
+    rw entries before
+
+pub append-requires-clause-later : goal.append-requires-clause-later
+append-requires-clause-later g c =
+    let store : StoreState = record { streams = c.self.inside.streams.items; records = c.self.inside.records; stopped = c.self.inside.stopped } in
+    let taker : IsTaker store c.args.name.now c.args.t c.in-Ok.taker.0 c.in-Ok.taker.1 =
+    subst (λ (s : StoreState). IsTaker s c.args.name.now c.args.t c.in-Ok.taker.0 c.in-Ok.taker.1) (sym c.self.view_is) c.in-Ok.ensures.taker in
+    let runs : store.stopped ≡ false = ap (λ (s : StoreState). s.stopped) c.self.view_is ∙ c.requires.runs in
+    let was = c.index_mut-stream.result.now in
+    let is : taker.part ≡ was = part-read store.streams c.in-Ok.taker.0 taker.part was taker.at c.index_mut-stream.ensures.value in
+    let spared : StreamParts = record {
+      id = was.id;
+      name = was.name;
+      target = was.target;
+      slot = was.slot;
+      last_time = was.last_time;
+      line = c.reserve.new.self;
+    } in
+    let entries : spared.line.entries ≡ was.line.entries = c.reserve.ensures.entries in
+    let room : IsSpared taker.part spared =
+    subst (λ (p : StreamParts). IsSpared p spared) (sym is)
+    (record { same = record { id = refl; name = refl; target = refl; slot = refl }; last_time = refl; entries = entries; spare = c.reserve.ensures.grows }) in
+    let at = taker.at in
+    ap (λ (p : StreamParts). is_past p.last_time c.args.t) (sym is) ∙ taker.later
+
+pub append-requires-clause-tiles : goal.append-requires-clause-tiles
+append-requires-clause-tiles g c =
+    let store : StoreState = record { streams = c.self.inside.streams.items; records = c.self.inside.records; stopped = c.self.inside.stopped } in
+    let taker : IsTaker store c.args.name.now c.args.t c.in-Ok.taker.0 c.in-Ok.taker.1 =
+    subst (λ (s : StoreState). IsTaker s c.args.name.now c.args.t c.in-Ok.taker.0 c.in-Ok.taker.1) (sym c.self.view_is) c.in-Ok.ensures.taker in
+    let runs : store.stopped ≡ false = ap (λ (s : StoreState). s.stopped) c.self.view_is ∙ c.requires.runs in
+    let was = c.index_mut-stream.result.now in
+    let is : taker.part ≡ was = part-read store.streams c.in-Ok.taker.0 taker.part was taker.at c.index_mut-stream.ensures.value in
+    let spared : StreamParts = record {
+      id = was.id;
+      name = was.name;
+      target = was.target;
+      slot = was.slot;
+      last_time = was.last_time;
+      line = c.reserve.new.self;
+    } in
+    let entries : spared.line.entries ≡ was.line.entries = c.reserve.ensures.entries in
+    let room : IsSpared taker.part spared =
+    subst (λ (p : StreamParts). IsSpared p spared) (sym is)
+    (record { same = record { id = refl; name = refl; target = refl; slot = refl }; last_time = refl; entries = entries; spare = c.reserve.ensures.grows }) in
+    let at = taker.at in
+    let whole = c.self.invariant.whole runs in
+    tiles-IsSpared store c.in-Ok.taker.0 taker.part spared at room whole
+
+pub append-requires-clause-live : goal.append-requires-clause-live
+append-requires-clause-live g c =
+    let store : StoreState = record { streams = c.self.inside.streams.items; records = c.self.inside.records; stopped = c.self.inside.stopped } in
+    let taker : IsTaker store c.args.name.now c.args.t c.in-Ok.taker.0 c.in-Ok.taker.1 =
+    subst (λ (s : StoreState). IsTaker s c.args.name.now c.args.t c.in-Ok.taker.0 c.in-Ok.taker.1) (sym c.self.view_is) c.in-Ok.ensures.taker in
+    let runs : store.stopped ≡ false = ap (λ (s : StoreState). s.stopped) c.self.view_is ∙ c.requires.runs in
+    let was = c.index_mut-stream.result.now in
+    let is : taker.part ≡ was = part-read store.streams c.in-Ok.taker.0 taker.part was taker.at c.index_mut-stream.ensures.value in
+    let spared : StreamParts = record {
+      id = was.id;
+      name = was.name;
+      target = was.target;
+      slot = was.slot;
+      last_time = was.last_time;
+      line = c.reserve.new.self;
+    } in
+    let entries : spared.line.entries ≡ was.line.entries = c.reserve.ensures.entries in
+    let room : IsSpared taker.part spared =
+    subst (λ (p : StreamParts). IsSpared p spared) (sym is)
+    (record { same = record { id = refl; name = refl; target = refl; slot = refl }; last_time = refl; entries = entries; spare = c.reserve.ensures.grows }) in
+    let at = taker.at in
+    let whole = c.self.invariant.whole runs in
+    live-IsSpared store c.in-Ok.taker.0 taker.part spared at room whole
+
+pub invariant_of-self-in-Ok-append : goal.invariant_of-self-in-Ok-append
+invariant_of-self-in-Ok-append g c =
+    let store : StoreState = record { streams = c.self.inside.streams.items; records = c.self.inside.records; stopped = c.self.inside.stopped } in
+    let taker : IsTaker store c.args.name.now c.args.t c.in-Ok.taker.0 c.in-Ok.taker.1 =
+    subst (λ (s : StoreState). IsTaker s c.args.name.now c.args.t c.in-Ok.taker.0 c.in-Ok.taker.1) (sym c.self.view_is) c.in-Ok.ensures.taker in
+    let runs : store.stopped ≡ false = ap (λ (s : StoreState). s.stopped) c.self.view_is ∙ c.requires.runs in
+    let was = c.index_mut-stream.result.now in
+    let is : taker.part ≡ was = part-read store.streams c.in-Ok.taker.0 taker.part was taker.at c.index_mut-stream.ensures.value in
+    let spared : StreamParts = record {
+      id = was.id;
+      name = was.name;
+      target = was.target;
+      slot = was.slot;
+      last_time = was.last_time;
+      line = c.reserve.new.self;
+    } in
+    let entries : spared.line.entries ≡ was.line.entries = c.reserve.ensures.entries in
+    let room : IsSpared taker.part spared =
+    subst (λ (p : StreamParts). IsSpared p spared) (sym is)
+    (record { same = record { id = refl; name = refl; target = refl; slot = refl }; last_time = refl; entries = entries; spare = c.reserve.ensures.grows }) in
+    let at = taker.at in
+    let whole = c.self.invariant.whole runs in
+    let same : IsSameStream taker.part c.append.new.part = same-spared taker.part spared c.append.new.part room c.append.ensures.same in
+    IsSound-set store c.self.inside.catalog c.self.invariant c.in-Ok.taker.0 taker.part c.append.new.part at same c.append.new.records store.stopped
+    (λ run. (
+      c.in-Ok-append.ensures.settled,
+      whole-appended store c.in-Ok.taker.0 taker.part spared c.append.new.part c.append.new.records at room whole same c.in-Ok-append.ensures.tiles c.in-Ok-append.ensures.live,
+    ))
+
+pub invariant_of-self-in-Err-append : goal.invariant_of-self-in-Err-append
+invariant_of-self-in-Err-append g c =
+    let store : StoreState = record { streams = c.self.inside.streams.items; records = c.self.inside.records; stopped = c.self.inside.stopped } in
+    let taker : IsTaker store c.args.name.now c.args.t c.in-Ok.taker.0 c.in-Ok.taker.1 =
+    subst (λ (s : StoreState). IsTaker s c.args.name.now c.args.t c.in-Ok.taker.0 c.in-Ok.taker.1) (sym c.self.view_is) c.in-Ok.ensures.taker in
+    let runs : store.stopped ≡ false = ap (λ (s : StoreState). s.stopped) c.self.view_is ∙ c.requires.runs in
+    let was = c.index_mut-stream.result.now in
+    let is : taker.part ≡ was = part-read store.streams c.in-Ok.taker.0 taker.part was taker.at c.index_mut-stream.ensures.value in
+    let spared : StreamParts = record {
+      id = was.id;
+      name = was.name;
+      target = was.target;
+      slot = was.slot;
+      last_time = was.last_time;
+      line = c.reserve.new.self;
+    } in
+    let entries : spared.line.entries ≡ was.line.entries = c.reserve.ensures.entries in
+    let room : IsSpared taker.part spared =
+    subst (λ (p : StreamParts). IsSpared p spared) (sym is)
+    (record { same = record { id = refl; name = refl; target = refl; slot = refl }; last_time = refl; entries = entries; spare = c.reserve.ensures.grows }) in
+    let at = taker.at in
+    let same : IsSameStream taker.part c.append.new.part = same-spared taker.part spared c.append.new.part room c.append.ensures.same in
+    IsSound-set store c.self.inside.catalog c.self.invariant c.in-Ok.taker.0 taker.part c.append.new.part at same c.append.new.records true
+    (λ run. let wrong : true ≡ false = run in cc)
+
+pub returns-in-Ok-append-clause-step : goal.returns-in-Ok-append-clause-step
+returns-in-Ok-append-clause-step g c told =
+    let store : StoreState = record { streams = c.self.inside.streams.items; records = c.self.inside.records; stopped = c.self.inside.stopped } in
+    let taker : IsTaker store c.args.name.now c.args.t c.in-Ok.taker.0 c.in-Ok.taker.1 =
+    subst (λ (s : StoreState). IsTaker s c.args.name.now c.args.t c.in-Ok.taker.0 c.in-Ok.taker.1) (sym c.self.view_is) c.in-Ok.ensures.taker in
+    let runs : store.stopped ≡ false = ap (λ (s : StoreState). s.stopped) c.self.view_is ∙ c.requires.runs in
+    let was = c.index_mut-stream.result.now in
+    let is : taker.part ≡ was = part-read store.streams c.in-Ok.taker.0 taker.part was taker.at c.index_mut-stream.ensures.value in
+    let spared : StreamParts = record {
+      id = was.id;
+      name = was.name;
+      target = was.target;
+      slot = was.slot;
+      last_time = was.last_time;
+      line = c.reserve.new.self;
+    } in
+    let entries : spared.line.entries ≡ was.line.entries = c.reserve.ensures.entries in
+    let room : IsSpared taker.part spared =
+    subst (λ (p : StreamParts). IsSpared p spared) (sym is)
+    (record { same = record { id = refl; name = refl; target = refl; slot = refl }; last_time = refl; entries = entries; spare = c.reserve.ensures.grows }) in
+    let at = taker.at in
+    let kept : IsKept store (g.D.Disk.told c.args.disk.now).content =
+    subst (λ (s : StoreState). IsKept s (g.D.Disk.told c.args.disk.now).content) (sym c.self.view_is) (c.requires.one_disk told) in
+    let none : refuses_held store.streams (Value c.args.name.now c.args.t c.args.v) ≡ None =
+    ap (λ (s : StoreState). refuses_held s.streams (Value c.args.name.now c.args.t c.args.v)) c.self.view_is ∙ c.in-Ok.ensures.accepted c.args.v in
+    let others_now = others store (g.D.Disk.told c.args.disk.now).content kept c.args.name.now c.args.t c.args.v c.in-Ok.taker.0 c.in-Ok.taker.1 taker none (c.requires.in_time, c.ranges.v) in
+    let s = (pair store (g.D.Disk.told c.args.disk.now).content kept c.args.name.now c.args.t c.args.v c.in-Ok.taker.0 c.in-Ok.taker.1 taker none (c.requires.in_time, c.ranges.v)).stream in
+    let steps = StepsState-appended store (g.D.Disk.told c.args.disk.now).content kept c.args.name.now c.args.t c.args.v c.in-Ok.taker.0 c.in-Ok.taker.1 taker none (c.requires.in_time, c.ranges.v) spared c.append.new.part room (g.D.Disk.told c.args.disk.now) (g.D.Disk.told c.append.new.disk) _ refl
+    (rw (to_z-of_z w64 c.args.v c.ranges.v) at (c.in-Ok-append.ensures.appends told others_now s)) in
+    StepsState-answers (Value c.args.name.now c.args.t c.args.v) (g.D.Disk.told c.args.disk.now) (g.D.Disk.told c.append.new.disk) _ _ steps
 
 pub returns-clause-step : goal.returns-clause-step
-returns-clause-step c =
-    let streams = c.self.inside.streams.items in
-    let s = c.index_mut-stream.result.now in
-    let none = subst (λ ss. refuses ss (Value c.args.name.now c.args.t c.args.v) ≡ None) (sym c.self.view_is) (c.in-Ok.ensures.accepted c.args.v) in
-    let at = IsAtPlace-place c.args.name.now c.in-Ok.place streams c.args.self.now s c.self.view_is c.in-Ok.ensures.place c.index_mut-stream.ensures.value in
-    let all = appends streams c.self.inside.catalog c.self.inside.records c.args.name.now c.args.t c.args.v c.in-Ok.place s c.self.invariant at none
-    (c.requires.in_time, c.ranges.v) in
-    let new : c.append.new.self ≡ with_value s c.args.t c.args.v = rw (to_z-of_z w64 c.args.v c.ranges.v) at c.in-Ok-append.ensures.ok in
-    ap (λ u. set streams c.in-Ok.place u) new ∙ all.step ∙ ap (λ ss. stepped ss (Value c.args.name.now c.args.t c.args.v)) c.self.view_is
+returns-clause-step g c told =
+    let store : StoreState = record { streams = c.self.inside.streams.items; records = c.self.inside.records; stopped = c.self.inside.stopped } in
+    let taker : IsTaker store c.args.name.now c.args.t c.in-Ok.taker.0 c.in-Ok.taker.1 =
+    subst (λ (s : StoreState). IsTaker s c.args.name.now c.args.t c.in-Ok.taker.0 c.in-Ok.taker.1) (sym c.self.view_is) c.in-Ok.ensures.taker in
+    let runs : store.stopped ≡ false = ap (λ (s : StoreState). s.stopped) c.self.view_is ∙ c.requires.runs in
+    let was = c.index_mut-stream.result.now in
+    let is : taker.part ≡ was = part-read store.streams c.in-Ok.taker.0 taker.part was taker.at c.index_mut-stream.ensures.value in
+    let spared : StreamParts = record {
+      id = was.id;
+      name = was.name;
+      target = was.target;
+      slot = was.slot;
+      last_time = was.last_time;
+      line = c.reserve.new.self;
+    } in
+    let entries : spared.line.entries ≡ was.line.entries = c.reserve.ensures.entries in
+    let room : IsSpared taker.part spared =
+    subst (λ (p : StreamParts). IsSpared p spared) (sym is)
+    (record { same = record { id = refl; name = refl; target = refl; slot = refl }; last_time = refl; entries = entries; spare = c.reserve.ensures.grows }) in
+    let at = taker.at in
+    let kept : IsKept store (g.D.Disk.told c.args.disk.now).content =
+    subst (λ (s : StoreState). IsKept s (g.D.Disk.told c.args.disk.now).content) (sym c.self.view_is) (c.requires.one_disk told) in
+    let none : refuses_held store.streams (Value c.args.name.now c.args.t c.args.v) ≡ None =
+    ap (λ (s : StoreState). refuses_held s.streams (Value c.args.name.now c.args.t c.args.v)) c.self.view_is ∙ c.in-Ok.ensures.accepted c.args.v in
+    let others_now = others store (g.D.Disk.told c.args.disk.now).content kept c.args.name.now c.args.t c.args.v c.in-Ok.taker.0 c.in-Ok.taker.1 taker none (c.requires.in_time, c.ranges.v) in
+    let s = (pair store (g.D.Disk.told c.args.disk.now).content kept c.args.name.now c.args.t c.args.v c.in-Ok.taker.0 c.in-Ok.taker.1 taker none (c.requires.in_time, c.ranges.v)).stream in
+    let steps = StepsState-appended store (g.D.Disk.told c.args.disk.now).content kept c.args.name.now c.args.t c.args.v c.in-Ok.taker.0 c.in-Ok.taker.1 taker none (c.requires.in_time, c.ranges.v) spared c.append.new.part room (g.D.Disk.told c.args.disk.now) (g.D.Disk.told c.append.new.disk) _ refl
+    (rw (to_z-of_z w64 c.args.v c.ranges.v) at (c.in-Err-append.ensures.appends told others_now s)) in
+    StepsState-failed (Value c.args.name.now c.args.t c.args.v) (g.D.Disk.told c.args.disk.now) (g.D.Disk.told c.append.new.disk) _ c.from.result steps
 
-pub returns-clause-ack : goal.returns-clause-ack
-returns-clause-ack c =
-    let streams = c.self.inside.streams.items in
-    let s = c.index_mut-stream.result.now in
-    let none = subst (λ ss. refuses ss (Value c.args.name.now c.args.t c.args.v) ≡ None) (sym c.self.view_is) (c.in-Ok.ensures.accepted c.args.v) in
-    let at = IsAtPlace-place c.args.name.now c.in-Ok.place streams c.args.self.now s c.self.view_is c.in-Ok.ensures.place c.index_mut-stream.ensures.value in
-    let all = appends streams c.self.inside.catalog c.self.inside.records c.args.name.now c.args.t c.args.v c.in-Ok.place s c.self.invariant at none
-    (c.requires.in_time, c.ranges.v) in
-    let new : c.append.new.self ≡ with_value s c.args.t c.args.v = rw (to_z-of_z w64 c.args.v c.ranges.v) at c.in-Ok-append.ensures.ok in
-    let ack : c.in-Ok-append.answer.1 ≡ said_of (Some (with_value s c.args.t c.args.v)) = c.in-Ok-append.ensures.ack ∙ ap (λ (x : Stream). said_of (Some x)) new in
-    let count = ap (λ (a : Ack). a.k) ack in
-    ack ∙ ap (λ o. said_of o) (sym all.named) ∙ ap (λ u. ack_of c.args.name.now (set streams c.in-Ok.place u)) (sym new)
+pub returns-in-Ok-append-clause-one_disk : goal.returns-in-Ok-append-clause-one_disk
+returns-in-Ok-append-clause-one_disk g c told run =
+    let store : StoreState = record { streams = c.self.inside.streams.items; records = c.self.inside.records; stopped = c.self.inside.stopped } in
+    let taker : IsTaker store c.args.name.now c.args.t c.in-Ok.taker.0 c.in-Ok.taker.1 =
+    subst (λ (s : StoreState). IsTaker s c.args.name.now c.args.t c.in-Ok.taker.0 c.in-Ok.taker.1) (sym c.self.view_is) c.in-Ok.ensures.taker in
+    let runs : store.stopped ≡ false = ap (λ (s : StoreState). s.stopped) c.self.view_is ∙ c.requires.runs in
+    let was = c.index_mut-stream.result.now in
+    let is : taker.part ≡ was = part-read store.streams c.in-Ok.taker.0 taker.part was taker.at c.index_mut-stream.ensures.value in
+    let spared : StreamParts = record {
+      id = was.id;
+      name = was.name;
+      target = was.target;
+      slot = was.slot;
+      last_time = was.last_time;
+      line = c.reserve.new.self;
+    } in
+    let entries : spared.line.entries ≡ was.line.entries = c.reserve.ensures.entries in
+    let room : IsSpared taker.part spared =
+    subst (λ (p : StreamParts). IsSpared p spared) (sym is)
+    (record { same = record { id = refl; name = refl; target = refl; slot = refl }; last_time = refl; entries = entries; spare = c.reserve.ensures.grows }) in
+    let at = taker.at in
+    let kept : IsKept store (g.D.Disk.told c.args.disk.now).content =
+    subst (λ (s : StoreState). IsKept s (g.D.Disk.told c.args.disk.now).content) (sym c.self.view_is) (c.requires.one_disk told) in
+    let none : refuses_held store.streams (Value c.args.name.now c.args.t c.args.v) ≡ None =
+    ap (λ (s : StoreState). refuses_held s.streams (Value c.args.name.now c.args.t c.args.v)) c.self.view_is ∙ c.in-Ok.ensures.accepted c.args.v in
+    let others_now = others store (g.D.Disk.told c.args.disk.now).content kept c.args.name.now c.args.t c.args.v c.in-Ok.taker.0 c.in-Ok.taker.1 taker none (c.requires.in_time, c.ranges.v) in
+    let s = (pair store (g.D.Disk.told c.args.disk.now).content kept c.args.name.now c.args.t c.args.v c.in-Ok.taker.0 c.in-Ok.taker.1 taker none (c.requires.in_time, c.ranges.v)).stream in
+    IsKept-appended store (g.D.Disk.told c.args.disk.now).content kept c.args.name.now c.args.t c.args.v c.in-Ok.taker.0 c.in-Ok.taker.1 taker none (c.requires.in_time, c.ranges.v) spared c.append.new.part room c.append.new.records store.stopped (g.D.Disk.told c.append.new.disk).content
+    (c.in-Ok-append.ensures.one_disk told)
+    ((rw (to_z-of_z w64 c.args.v c.ranges.v) at (c.in-Ok-append.ensures.appends told others_now s)).content (held-before store (g.D.Disk.told c.args.disk.now).content kept c.args.name.now c.args.t c.args.v c.in-Ok.taker.0 c.in-Ok.taker.1 taker none (c.requires.in_time, c.ranges.v) spared c.append.new.part room))
 
-pub returns-clause-decay : goal.returns-clause-decay
-returns-clause-decay c u named =
-    let streams = c.self.inside.streams.items in
-    let s = c.index_mut-stream.result.now in
-    let none = subst (λ ss. refuses ss (Value c.args.name.now c.args.t c.args.v) ≡ None) (sym c.self.view_is) (c.in-Ok.ensures.accepted c.args.v) in
-    let at = IsAtPlace-place c.args.name.now c.in-Ok.place streams c.args.self.now s c.self.view_is c.in-Ok.ensures.place c.index_mut-stream.ensures.value in
-    let all = appends streams c.self.inside.catalog c.self.inside.records c.args.name.now c.args.t c.args.v c.in-Ok.place s c.self.invariant at none
-    (c.requires.in_time, c.ranges.v) in
-    let new : c.append.new.self ≡ with_value s c.args.t c.args.v = rw (to_z-of_z w64 c.args.v c.ranges.v) at c.in-Ok-append.ensures.ok in
-    let same : Some (with_value s c.args.t c.args.v) ≡ Some u = sym all.named ∙ ap (λ x. stream_named c.args.name.now (set streams c.in-Ok.place x)) (sym new) ∙ named in
-    let is : c.append.new.self ≡ u = new ∙ (let e : with_value s c.args.t c.args.v ≡ u = cc in e) in
-    let said : c.in-Ok-append.answer.1 ≡ said_of (Some u) = c.in-Ok-append.ensures.ack ∙ ap (λ (x : Stream). said_of (Some x)) is in
-    rw said (subst (λ (x : Stream). length x.windows + 1 ≤ 2 * cover (lengths_of x.params) (values_in x)) is c.in-Ok-append.ensures.decay)
+pub returns-in-Ok-append-clause-ack : goal.returns-in-Ok-append-clause-ack
+returns-in-Ok-append-clause-ack g c =
+    let store : StoreState = record { streams = c.self.inside.streams.items; records = c.self.inside.records; stopped = c.self.inside.stopped } in
+    let taker : IsTaker store c.args.name.now c.args.t c.in-Ok.taker.0 c.in-Ok.taker.1 =
+    subst (λ (s : StoreState). IsTaker s c.args.name.now c.args.t c.in-Ok.taker.0 c.in-Ok.taker.1) (sym c.self.view_is) c.in-Ok.ensures.taker in
+    let runs : store.stopped ≡ false = ap (λ (s : StoreState). s.stopped) c.self.view_is ∙ c.requires.runs in
+    let was = c.index_mut-stream.result.now in
+    let is : taker.part ≡ was = part-read store.streams c.in-Ok.taker.0 taker.part was taker.at c.index_mut-stream.ensures.value in
+    let spared : StreamParts = record {
+      id = was.id;
+      name = was.name;
+      target = was.target;
+      slot = was.slot;
+      last_time = was.last_time;
+      line = c.reserve.new.self;
+    } in
+    let entries : spared.line.entries ≡ was.line.entries = c.reserve.ensures.entries in
+    let room : IsSpared taker.part spared =
+    subst (λ (p : StreamParts). IsSpared p spared) (sym is)
+    (record { same = record { id = refl; name = refl; target = refl; slot = refl }; last_time = refl; entries = entries; spare = c.reserve.ensures.grows }) in
+    let at = taker.at in
+    let same : IsSameStream taker.part c.append.new.part = same-spared taker.part spared c.append.new.part room c.append.ensures.same in
+    said_of_taker store c.self.inside.catalog c.args.name.now c.args.t c.in-Ok.taker.0 c.in-Ok.taker.1 c.append.new.part c.values_held.result c.len.result
+    c.self.invariant taker same.name c.values_held.ensures c.len.ensures.value
+
+pub returns-in-Ok-append-clause-decay : goal.returns-in-Ok-append-clause-decay
+returns-in-Ok-append-clause-decay g c =
+    let store : StoreState = record { streams = c.self.inside.streams.items; records = c.self.inside.records; stopped = c.self.inside.stopped } in
+    let taker : IsTaker store c.args.name.now c.args.t c.in-Ok.taker.0 c.in-Ok.taker.1 =
+    subst (λ (s : StoreState). IsTaker s c.args.name.now c.args.t c.in-Ok.taker.0 c.in-Ok.taker.1) (sym c.self.view_is) c.in-Ok.ensures.taker in
+    let runs : store.stopped ≡ false = ap (λ (s : StoreState). s.stopped) c.self.view_is ∙ c.requires.runs in
+    let was = c.index_mut-stream.result.now in
+    let is : taker.part ≡ was = part-read store.streams c.in-Ok.taker.0 taker.part was taker.at c.index_mut-stream.ensures.value in
+    let spared : StreamParts = record {
+      id = was.id;
+      name = was.name;
+      target = was.target;
+      slot = was.slot;
+      last_time = was.last_time;
+      line = c.reserve.new.self;
+    } in
+    let entries : spared.line.entries ≡ was.line.entries = c.reserve.ensures.entries in
+    let room : IsSpared taker.part spared =
+    subst (λ (p : StreamParts). IsSpared p spared) (sym is)
+    (record { same = record { id = refl; name = refl; target = refl; slot = refl }; last_time = refl; entries = entries; spare = c.reserve.ensures.grows }) in
+    let at = taker.at in
+    let same : IsSameStream taker.part c.append.new.part = same-spared taker.part spared c.append.new.part room c.append.ensures.same in
+    KeepsToTarget-taken store c.self.inside.catalog c.args.name.now c.args.t c.in-Ok.taker.0 c.in-Ok.taker.1 c.append.new.part c.values_held.result c.len.result
+    c.self.invariant taker same.name c.values_held.ensures c.len.ensures.value c.in-Ok-append.ensures.tiles c.in-Ok-append.ensures.none_due
+
+pub returns-clause-firm : goal.returns-clause-firm
+returns-clause-firm g c told =
+    let store : StoreState = record { streams = c.self.inside.streams.items; records = c.self.inside.records; stopped = c.self.inside.stopped } in
+    let taker : IsTaker store c.args.name.now c.args.t c.in-Ok.taker.0 c.in-Ok.taker.1 =
+    subst (λ (s : StoreState). IsTaker s c.args.name.now c.args.t c.in-Ok.taker.0 c.in-Ok.taker.1) (sym c.self.view_is) c.in-Ok.ensures.taker in
+    let runs : store.stopped ≡ false = ap (λ (s : StoreState). s.stopped) c.self.view_is ∙ c.requires.runs in
+    let was = c.index_mut-stream.result.now in
+    let is : taker.part ≡ was = part-read store.streams c.in-Ok.taker.0 taker.part was taker.at c.index_mut-stream.ensures.value in
+    let spared : StreamParts = record {
+      id = was.id;
+      name = was.name;
+      target = was.target;
+      slot = was.slot;
+      last_time = was.last_time;
+      line = c.reserve.new.self;
+    } in
+    let entries : spared.line.entries ≡ was.line.entries = c.reserve.ensures.entries in
+    let room : IsSpared taker.part spared =
+    subst (λ (p : StreamParts). IsSpared p spared) (sym is)
+    (record { same = record { id = refl; name = refl; target = refl; slot = refl }; last_time = refl; entries = entries; spare = c.reserve.ensures.grows }) in
+    let at = taker.at in
+    let kept : IsKept store (g.D.Disk.told c.args.disk.now).content =
+    subst (λ (s : StoreState). IsKept s (g.D.Disk.told c.args.disk.now).content) (sym c.self.view_is) (c.requires.one_disk told) in
+    let none : refuses_held store.streams (Value c.args.name.now c.args.t c.args.v) ≡ None =
+    ap (λ (s : StoreState). refuses_held s.streams (Value c.args.name.now c.args.t c.args.v)) c.self.view_is ∙ c.in-Ok.ensures.accepted c.args.v in
+    let others_now = others store (g.D.Disk.told c.args.disk.now).content kept c.args.name.now c.args.t c.args.v c.in-Ok.taker.0 c.in-Ok.taker.1 taker none (c.requires.in_time, c.ranges.v) in
+    let s = (pair store (g.D.Disk.told c.args.disk.now).content kept c.args.name.now c.args.t c.args.v c.in-Ok.taker.0 c.in-Ok.taker.1 taker none (c.requires.in_time, c.ranges.v)).stream in
+    IsApplyFirm-fault (Unit {0}) Ack c.in-Err-append.fault c.from.result
+    (c.in-Err-append.ensures.firm told others_now s (held-before store (g.D.Disk.told c.args.disk.now).content kept c.args.name.now c.args.t c.args.v c.in-Ok.taker.0 c.in-Ok.taker.1 taker none (c.requires.in_time, c.ranges.v) spared c.append.new.part room)) c.from.ensures

@@ -1,80 +1,111 @@
-use Rattle.std.proofs.Common.{◌≡◌, ◌∙◌, true, false, refl, sym, ap, arith}
-use Rattle.std.specs.Prelude.{nat_le, is_some}
+use Rattle.std.proofs.Common.{◌≡◌, ◌∙◌, None, Some, true, false, refl, ap, sym, subst, arith, length, flat_map}
+use Rattle.std.specs.Prelude.{is_some, nat_le, slice_get}
 use Rattle.std.proofs.lemmas.Bool.Decides.{nat_tests}
+use Rattle.ss_catalog.specs.declared.event.Event.TheVariants.{Value}
+use Rattle.ss_catalog.specs.declared.refusal.Refusal.TheVariants.{Unknown, Time, StreamFull, StoreFull}
 use Rattle.ss_windowing.specs.declared.decay.TheConstants.{MOST_VALUES}
-use Rattle.ss_model.specs.Refusals.{stands, is_past, has_all_records}
-use Rattle.ss_model.specs.State.{stream_named, last_time, values_in}
-use Rattle.ss_store.proofs.StoreLemmas.{none_is_some, refuses-unknown, refuses-value, stands-listed, IsListed-catalog, IsAtPlace, IsAtPlace-listed}
+use Rattle.ss_model.specs.Refusals.{is_past}
+use Rattle.ss_model.specs.declared.types.TheConstants.{MOST_RECORDS}
+use Rattle.ss_recover.specs.Held.{entries_of, slots_held}
+use Rattle.ss_store.specs.Held.{values_held}
+use Rattle.ss_store.specs.Kept.{StoreState, part_named, refuses_held}
+use Rattle.ss_store.proofs.LiveCounts.{few-entries}
+use Rattle.ss_store.proofs.Named.{IsAtPlace, IsAtPlace-listed, IsListed-catalog, is_some-listed}
+use Rattle.ss_store.proofs.Refusals.{none_is_some, not-true, refuses_held-unknown, refuses_held-value}
 use Rattle.ss_store.proofs.store.Store.taker.Goals as goal
 
 pub returns-in_default-clause-refused : goal.returns-in_default-clause-refused
-returns-in_default-clause-refused c v =
-    let streams = c.self.inside.streams.items in
-    let listed = stands-listed c.args.name.now streams c.self.inside.catalog c.self.invariant.listed in
-    let none : stands c.args.name.now streams ≡ false = sym listed ∙ ap is_some (sym c.in_default.ensures) in
-    rw (← c.self.view_is) (refuses-unknown streams c.args.name.now c.args.t v (none_is_some (stream_named c.args.name.now streams) none))
+returns-in_default-clause-refused g c v =
+    let parts = c.self.inside.streams.items in
+    let listed = is_some-listed c.args.name.now parts c.self.inside.catalog c.self.invariant.listed in
+    let none : is_some (part_named c.args.name.now parts) ≡ false = sym listed ∙ ap is_some (sym c.in_default.ensures) in
+    subst (λ (s : StoreState). refuses_held s.streams (Value c.args.name.now c.args.t v) ≡ Some Unknown) c.self.view_is
+    (refuses_held-unknown parts c.args.name.now c.args.t v (none_is_some (part_named c.args.name.now parts) none))
+
+pub place_of-place-requires-clause-rising : goal.place_of-place-requires-clause-rising
+place_of-place-requires-clause-rising g c = rw c.deref.ensures.value c.self.invariant.numbers
 
 pub place_of-place-requires-clause-stands : goal.place_of-place-requires-clause-stands
-place_of-place-requires-clause-stands c =
-    let streams = c.self.inside.streams.items in
-    let found = IsListed-catalog c.args.name.now c.in-Some.id streams c.self.inside.catalog c.self.invariant.state.numbers c.self.invariant.listed cc in
+place_of-place-requires-clause-stands g c =
+    let parts = c.self.inside.streams.items in
+    let found = IsListed-catalog c.args.name.now c.in-Some.id parts c.self.inside.catalog c.self.invariant.numbers c.self.invariant.listed cc in
     rw (c.deref.ensures.value, found.numbered) refl
 
 pub returns-then-is_past-clause-refused : goal.returns-then-is_past-clause-refused
-returns-then-is_past-clause-refused c v =
-    let streams = c.self.inside.streams.items in
-    let s = c.index-stream.result.now in
-    let found = IsListed-catalog c.args.name.now c.in-Some.id streams c.self.inside.catalog c.self.invariant.state.numbers c.self.invariant.listed cc in
-    let at : IsAtPlace c.args.name.now c.place_of-place.result streams s =
-    IsAtPlace-listed c.args.name.now c.in-Some.id streams c.place_of-place.result s found (rw (← c.deref.ensures.value) c.place_of-place.ensures.at)
+returns-then-is_past-clause-refused g c v =
+    let parts = c.self.inside.streams.items in
+    let part = c.index-stream.result.now in
+    let found = IsListed-catalog c.args.name.now c.in-Some.id parts c.self.inside.catalog c.self.invariant.numbers c.self.invariant.listed cc in
+    let at : IsAtPlace c.args.name.now c.place_of-place.result parts part =
+    IsAtPlace-listed c.args.name.now c.in-Some.id parts c.place_of-place.result part found (rw (← c.deref.ensures.value) c.place_of-place.ensures.at)
     (rw (← c.deref.ensures.value) c.place_of-place.ensures.inside) c.index-stream.ensures in
-    let past : is_past (last_time s) c.args.t ≡ true = cc in
-    rw (← c.self.view_is) (refuses-value streams c.args.name.now c.args.t v s true _ _ at.named past refl refl)
+    let past : is_past part.last_time c.args.t ≡ true = cc in
+    subst (λ (s : StoreState). refuses_held s.streams (Value c.args.name.now c.args.t v) ≡ Some Time) c.self.view_is
+    (refuses_held-value parts c.args.name.now c.args.t v part true _ _ at.named past refl refl)
 
-pub returns-then-taken-ge-MOST_VALUES-clause-refused : goal.returns-then-taken-ge-MOST_VALUES-clause-refused
-returns-then-taken-ge-MOST_VALUES-clause-refused c v =
-    let streams = c.self.inside.streams.items in
-    let s = c.index-stream.result.now in
-    let found = IsListed-catalog c.args.name.now c.in-Some.id streams c.self.inside.catalog c.self.invariant.state.numbers c.self.invariant.listed cc in
-    let at : IsAtPlace c.args.name.now c.place_of-place.result streams s =
-    IsAtPlace-listed c.args.name.now c.in-Some.id streams c.place_of-place.result s found (rw (← c.deref.ensures.value) c.place_of-place.ensures.at)
+pub returns-then-values_held-ge-MOST_VALUES-clause-refused : goal.returns-then-values_held-ge-MOST_VALUES-clause-refused
+returns-then-values_held-ge-MOST_VALUES-clause-refused g c v =
+    let parts = c.self.inside.streams.items in
+    let part = c.index-stream.result.now in
+    let found = IsListed-catalog c.args.name.now c.in-Some.id parts c.self.inside.catalog c.self.invariant.numbers c.self.invariant.listed cc in
+    let at : IsAtPlace c.args.name.now c.place_of-place.result parts part =
+    IsAtPlace-listed c.args.name.now c.in-Some.id parts c.place_of-place.result part found (rw (← c.deref.ensures.value) c.place_of-place.ensures.at)
     (rw (← c.deref.ensures.value) c.place_of-place.ensures.inside) c.index-stream.ensures in
-    let later : is_past (last_time s) c.args.t ≡ false = cc in
-    let full : nat_le MOST_VALUES (values_in s) ≡ true = rw (← c.taken.ensures) (grind (arith, nat_tests)) in
-    rw (← c.self.view_is) (refuses-value streams c.args.name.now c.args.t v s false true _ at.named later full refl)
+    let later : is_past part.last_time c.args.t ≡ false = cc in
+    let full : nat_le MOST_VALUES (values_held (entries_of part)) ≡ true = rw (← c.values_held.ensures) (grind (arith, nat_tests)) in
+    subst (λ (s : StoreState). refuses_held s.streams (Value c.args.name.now c.args.t v) ≡ Some StreamFull) c.self.view_is
+    (refuses_held-value parts c.args.name.now c.args.t v part false true _ at.named later full refl)
 
-pub returns-then-self-ge-MOST_RECORDS-clause-refused : goal.returns-then-self-ge-MOST_RECORDS-clause-refused
-returns-then-self-ge-MOST_RECORDS-clause-refused c v =
-    let streams = c.self.inside.streams.items in
-    let s = c.index-stream.result.now in
-    let found = IsListed-catalog c.args.name.now c.in-Some.id streams c.self.inside.catalog c.self.invariant.state.numbers c.self.invariant.listed cc in
-    let at : IsAtPlace c.args.name.now c.place_of-place.result streams s =
-    IsAtPlace-listed c.args.name.now c.in-Some.id streams c.place_of-place.result s found (rw (← c.deref.ensures.value) c.place_of-place.ensures.at)
+pub returns-in-Some-free_slot-clause-accepted : goal.returns-in-Some-free_slot-clause-accepted
+returns-in-Some-free_slot-clause-accepted g c v =
+    let parts = c.self.inside.streams.items in
+    let part = c.index-stream.result.now in
+    let found = IsListed-catalog c.args.name.now c.in-Some.id parts c.self.inside.catalog c.self.invariant.numbers c.self.invariant.listed cc in
+    let at : IsAtPlace c.args.name.now c.place_of-place.result parts part =
+    IsAtPlace-listed c.args.name.now c.in-Some.id parts c.place_of-place.result part found (rw (← c.deref.ensures.value) c.place_of-place.ensures.at)
     (rw (← c.deref.ensures.value) c.place_of-place.ensures.inside) c.index-stream.ensures in
-    let later : is_past (last_time s) c.args.t ≡ false = cc in
-    let few : nat_le MOST_VALUES (values_in s) ≡ false = rw (← c.taken.ensures) (grind (arith, nat_tests)) in
-    let stored : has_all_records streams ≡ true = rw (← c.self.invariant.counted) (grind (arith, nat_tests)) in
-    rw (← c.self.view_is) (refuses-value streams c.args.name.now c.args.t v s false false true at.named later few stored)
+    let later : is_past part.last_time c.args.t ≡ false = cc in
+    let few : nat_le MOST_VALUES (values_held (entries_of part)) ≡ false = rw (← c.values_held.ensures) (grind (arith, nat_tests)) in
+    let stored : nat_le MOST_RECORDS (length (flat_map slots_held parts)) ≡ false =
+    ap (λ (s : StoreState). nat_le MOST_RECORDS (length (flat_map slots_held s.streams))) c.self.view_is
+    ∙ not-true _ (λ full. let wrong : true ≡ false = c.in-Some-free_slot.ensures.full.1 full in cc) in
+    subst (λ (s : StoreState). refuses_held s.streams (Value c.args.name.now c.args.t v) ≡ None) c.self.view_is
+    (refuses_held-value parts c.args.name.now c.args.t v part false false false at.named later few stored)
 
-pub returns-clause-accepted : goal.returns-clause-accepted
-returns-clause-accepted c v =
-    let streams = c.self.inside.streams.items in
-    let s = c.index-stream.result.now in
-    let found = IsListed-catalog c.args.name.now c.in-Some.id streams c.self.inside.catalog c.self.invariant.state.numbers c.self.invariant.listed cc in
-    let at : IsAtPlace c.args.name.now c.place_of-place.result streams s =
-    IsAtPlace-listed c.args.name.now c.in-Some.id streams c.place_of-place.result s found (rw (← c.deref.ensures.value) c.place_of-place.ensures.at)
+pub returns-in-None-clause-refused : goal.returns-in-None-clause-refused
+returns-in-None-clause-refused g c v =
+    let parts = c.self.inside.streams.items in
+    let part = c.index-stream.result.now in
+    let found = IsListed-catalog c.args.name.now c.in-Some.id parts c.self.inside.catalog c.self.invariant.numbers c.self.invariant.listed cc in
+    let at : IsAtPlace c.args.name.now c.place_of-place.result parts part =
+    IsAtPlace-listed c.args.name.now c.in-Some.id parts c.place_of-place.result part found (rw (← c.deref.ensures.value) c.place_of-place.ensures.at)
     (rw (← c.deref.ensures.value) c.place_of-place.ensures.inside) c.index-stream.ensures in
-    let later : is_past (last_time s) c.args.t ≡ false = cc in
-    let few : nat_le MOST_VALUES (values_in s) ≡ false = rw (← c.taken.ensures) (grind (arith, nat_tests)) in
-    let stored : has_all_records streams ≡ false = rw (← c.self.invariant.counted) (grind (arith, nat_tests)) in
-    rw (← c.self.view_is) (refuses-value streams c.args.name.now c.args.t v s false false false at.named later few stored)
+    let later : is_past part.last_time c.args.t ≡ false = cc in
+    let few : nat_le MOST_VALUES (values_held (entries_of part)) ≡ false = rw (← c.values_held.ensures) (grind (arith, nat_tests)) in
+    let stored : nat_le MOST_RECORDS (length (flat_map slots_held parts)) ≡ true =
+    ap (λ (s : StoreState). nat_le MOST_RECORDS (length (flat_map slots_held s.streams))) c.self.view_is ∙ c.in-None.ensures.full.0 refl in
+    subst (λ (s : StoreState). refuses_held s.streams (Value c.args.name.now c.args.t v) ≡ Some StoreFull) c.self.view_is
+    (refuses_held-value parts c.args.name.now c.args.t v part false false true at.named later few stored)
 
-pub returns-clause-place : goal.returns-clause-place
-returns-clause-place c =
-    let streams = c.self.inside.streams.items in
-    let s = c.index-stream.result.now in
-    let found = IsListed-catalog c.args.name.now c.in-Some.id streams c.self.inside.catalog c.self.invariant.state.numbers c.self.invariant.listed cc in
-    let at : IsAtPlace c.args.name.now c.place_of-place.result streams s =
-    IsAtPlace-listed c.args.name.now c.in-Some.id streams c.place_of-place.result s found (rw (← c.deref.ensures.value) c.place_of-place.ensures.at)
+pub returns-in-Some-free_slot-clause-taker : goal.returns-in-Some-free_slot-clause-taker
+returns-in-Some-free_slot-clause-taker g c =
+    let parts = c.self.inside.streams.items in
+    let part = c.index-stream.result.now in
+    let found = IsListed-catalog c.args.name.now c.in-Some.id parts c.self.inside.catalog c.self.invariant.numbers c.self.invariant.listed cc in
+    let at : IsAtPlace c.args.name.now c.place_of-place.result parts part =
+    IsAtPlace-listed c.args.name.now c.in-Some.id parts c.place_of-place.result part found (rw (← c.deref.ensures.value) c.place_of-place.ensures.at)
     (rw (← c.deref.ensures.value) c.place_of-place.ensures.inside) c.index-stream.ensures in
-    rw (← c.self.view_is) (record { stream = s; named = at.named; at = at.at })
+    let later : is_past part.last_time c.args.t ≡ false = cc in
+    let stored : nat_le MOST_RECORDS (length (flat_map slots_held parts)) ≡ false =
+    ap (λ (s : StoreState). nat_le MOST_RECORDS (length (flat_map slots_held s.streams))) c.self.view_is
+    ∙ not-true _ (λ full. let wrong : true ≡ false = c.in-Some-free_slot.ensures.full.1 full in cc) in
+    record {
+      part = part;
+      named = ap (λ (s : StoreState). part_named c.args.name.now s.streams) (sym c.self.view_is) ∙ at.named;
+      at = ap (λ (s : StoreState). slice_get s.streams c.place_of-place.result) (sym c.self.view_is) ∙ at.at;
+      later = later;
+      room = omega (arith, c.values_held.ensures);
+      free = sym c.in-Some-free_slot.ensures.least;
+      low = c.in-Some-free_slot.ensures.low;
+      few = few-entries parts c.place_of-place.result part at.at stored;
+    }

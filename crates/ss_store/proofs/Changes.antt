@@ -1,0 +1,179 @@
+-- What a transaction of puts makes of the records in the slots of an image, and of the slots that are live.
+use Rattle.std.proofs.Common.{Bool, IsPermutation, IsTrue, List, Option, Result, Some, [], ap, arith, cond, false, inl, inr, length, not, refl, set, subst, sym, true, ◌+◌, ◌∷◌, ◌<◌, ◌≡◌, ◌≢◌, ◌≤◌, ◌⊎◌, ◌∙◌, ℕ}
+use borrow.Author.Tests.{ltb-true, ltb-false}
+use Rattle.std.proofs.lemmas.Bool.{cases_Bool, cases_eq, cond-false, cond-true, cond_both, not-false}
+use Rattle.std.proofs.lemmas.Bool.Decides.{nat_tests}
+use Rattle.std.proofs.lemmas.List.Sorted.{IsPermutation-cons, IsPermutation-trans}
+use Rattle.std.proofs.lemmas.Result.{on_ok_weaker}
+use Rattle.std.specs.Prelude.{nat_eq, nat_le, nat_lt}
+use Rattle.ss_outside.proofs.CrashLemmas.{weaker}
+use Rattle.ss_outside.specs.Disk.{Told}
+use Rattle.ss_journal.specs.Calls.{ChangesMap}
+use Rattle.ss_journal.specs.Puts.{IsTxn, extent_after, slots_fit}
+use Rattle.ss_journal.specs.Redo.{SlotMap, StandsFor, changed}
+use Rattle.ss_journal.specs.declared.format.TheConstants.{MOST_SLOTS}
+use Rattle.ss_journal.specs.declared.put.Put.{Put}
+use Rattle.ss_journal.proofs.RedoLemmas.{StandsFor-from, StandsFor-same}
+use Rattle.ss_journal.proofs.MapLemmas.{SameMap-refl}
+use Rattle.ss_records.specs.Kept.{AreKept, RecordsState}
+use Rattle.ss_records.specs.Live.{are_zeros, is_live, live_after}
+use Rattle.ss_codec.specs.Record.{is_valid}
+use Rattle.ss_codec.specs.declared.record.Record.{Record}
+use Rattle.ss_codec.specs.declared.record.Record.TheVariants.{Free}
+use Rattle.ss_recover.specs.Held.{IsRecord, occupied}
+use Rattle.ss_recover.proofs.Permutations.{IsPermutation-turn}
+use Rattle.ss_recover.proofs.PutLemmas.{live-IsRecord, occupied-free, occupied-freed, occupied-replaced}
+use Rattle.ss_store.specs.Calls.{Turns}
+use Rattle.ss_store.specs.Slots.{AddsRecord, Either, HasRecords, LiveSlotsGo, ReplacesTwo, live_slots, pair_put, record_put, zeros_put}
+use Rattle.ss_store.proofs.LiveSlots.{AreTwoLive, LiveSlotsGo-freed, LiveSlotsGo-taken, live_slots-freed_first, live_slots-kept_first}
+
+-- a put of a record that isn't free
+IsRecord-put : (slot : ℕ) (r : Record) → IsTrue (is_valid r) → r ≢ Free → IsRecord (record_put slot r) r
+IsRecord-put slot r valid some = record { spelled = record { valid = valid; spelled = refl }; some = some }
+
+-- a call that changes the map turns the records of one map into those of the other, wholly or not at all
+Turns-changes : {T E : Type 0} (before after : List (ℕ × Option Record)) (puts : List Put) (old new : Told) (result : Result T E) →
+    ((found : SlotMap) → StandsFor old.content found → IsPermutation before (occupied found) → IsPermutation after (occupied (changed found puts))) →
+    ChangesMap puts old new result →
+    Turns (HasRecords before) (Either (HasRecords before) (HasRecords after)) (HasRecords after) old new result
+Turns-changes before after puts old new result moves changes = record {
+  content = λ has.
+      on_ok_weaker result (λ is. record { found = changed has.found puts; map = is; occupied = moves has.found has.map has.occupied })
+      (changes.map has.found has.map);
+  any_moment = λ none has.
+      weaker old new (λ image. StandsFor image has.found ⊎ StandsFor image (changed has.found puts)) (Either (HasRecords before) (HasRecords after))
+      (λ image either. elim either [
+        | inl is ↦ inl (record { found = has.found; map = is; occupied = has.occupied })
+        | inr is ↦ inr (record { found = changed has.found puts; map = is; occupied = moves has.found has.map has.occupied })
+      ])
+      (changes.any_moment none has.found has.map);
+  durable = λ none. changes.durable;
+}
+
+-- the map of records that are kept: its extent is theirs, and a slot that isn't live is zeros
+extent-kept : (records : RecordsState) (content : List ℕ) (found : SlotMap) → AreKept records content → StandsFor content found →
+    found.extent ≡ records.journal.extent
+extent-kept records content found kept is =
+    let its = kept.journal.found in
+    let same = StandsFor-same content found its is (StandsFor-from content its its kept.journal.map (SameMap-refl its)) in
+    same.extent ∙ kept.journal.extent
+
+zeros-kept : (records : RecordsState) (content : List ℕ) (found : SlotMap) (slot : ℕ) → AreKept records content → StandsFor content found →
+    slot < MOST_SLOTS → is_live records.live slot ≡ false → are_zeros (found.bytes slot) ≡ true
+zeros-kept records content found slot kept is below free =
+    not-false (are_zeros (found.bytes slot)) (sym (kept.free found is slot below) ∙ free)
+
+module _ (slot : ℕ) (r : Record) (valid : IsTrue (is_valid r)) (some : r ≢ Free) where
+  -- a record in a free slot
+  pub AddsRecord-changes : {T E : Type 0} (records : RecordsState) (old new : Told) (result : Result T E) → AreKept records old.content → slot < MOST_SLOTS →
+      slot ≤ records.journal.extent → is_live records.live slot ≡ false → ChangesMap (record_put slot r ∷ []) old new result →
+      AddsRecord slot r old new result
+  AddsRecord-changes records old new result kept below within free changes others =
+      Turns-changes others ((slot, Some r) ∷ others) (record_put slot r ∷ []) old new result
+      (λ found is moved.
+      let extent = extent-kept records old.content found kept is in
+      let inside : slot ≤ found.extent = omega arith in
+      IsPermutation-trans ((slot, Some r) ∷ others) ((slot, Some r) ∷ occupied found) (occupied (changed found (record_put slot r ∷ [])))
+      (IsPermutation-cons (slot, Some r) others (occupied found) moved)
+      (occupied-free found (record_put slot r) r (IsRecord-put slot r valid some) inside (zeros-kept records old.content found slot kept is below free)))
+      changes
+
+  -- a record's bytes make its slot live
+  live-put : not (are_zeros (record_put slot r).bytes) ≡ true
+  live-put = ap not (live-IsRecord (record_put slot r) r (IsRecord-put slot r valid some))
+
+  pub LiveSlotsGo-added : (live : List Bool) → slot < length live → is_live live slot ≡ false → LiveSlotsGo [] (slot ∷ []) live (live_after (record_put slot r ∷ []) live)
+  LiveSlotsGo-added live below free =
+      subst (λ (b : Bool). LiveSlotsGo [] (slot ∷ []) live (set live slot b)) (sym live-put) (LiveSlotsGo-taken live slot below free)
+
+module _ (kept freed : ℕ) (r : Record) (valid : IsTrue (is_valid r)) (some : r ≢ Free) where
+  -- the two orders of the puts
+  orders : Bool → List Put
+  orders first = cond first (record_put kept r ∷ zeros_put freed ∷ []) (zeros_put freed ∷ record_put kept r ∷ [])
+
+  moves : (first : Bool) (found : SlotMap) (was gone : Option Record) (others : List (ℕ × Option Record)) →
+      IsPermutation ((kept, was) ∷ (freed, gone) ∷ others) (occupied found) → IsPermutation ((kept, Some r) ∷ others) (occupied (changed found (orders first)))
+  unfolding orders
+  moves true found was gone others moved =
+      let one = occupied-replaced found (record_put kept r) was ((freed, gone) ∷ others) moved r (IsRecord-put kept r valid some) in
+      let mid = changed found (record_put kept r ∷ []) in
+      occupied-freed mid (zeros_put freed) gone ((kept, Some r) ∷ others)
+      (IsPermutation-trans ((freed, gone) ∷ (kept, Some r) ∷ others) ((kept, Some r) ∷ (freed, gone) ∷ others) (occupied mid)
+      (IsPermutation-turn (freed, gone) (kept, Some r) others) one) refl
+  moves false found was gone others moved =
+      let mid = changed found (zeros_put freed ∷ []) in
+      let one = occupied-freed found (zeros_put freed) gone ((kept, was) ∷ others)
+      (IsPermutation-trans ((freed, gone) ∷ (kept, was) ∷ others) ((kept, was) ∷ (freed, gone) ∷ others) (occupied found)
+      (IsPermutation-turn (freed, gone) (kept, was) others) moved) refl in
+      occupied-replaced mid (record_put kept r) was others one r (IsRecord-put kept r valid some)
+
+  -- a record in place of that of one slot, and zeros in another
+  pub ReplacesTwo-changes : {T E : Type 0} (old new : Told) (result : Result T E) → ChangesMap (pair_put kept freed r) old new result →
+      ReplacesTwo kept freed r old new result
+  unfolding orders
+  ReplacesTwo-changes old new result changes was gone others =
+      Turns-changes ((kept, was) ∷ (freed, gone) ∷ others) ((kept, Some r) ∷ others) (pair_put kept freed r) old new result
+      (λ found is moved. moves (nat_lt kept freed) found was gone others moved) changes
+
+  live_orders : (first : Bool) (live : List Bool) → AreTwoLive live kept freed → live_slots (live_after (orders first) live) ≡ live_slots (set live freed false)
+  unfolding orders
+  live_orders true live two =
+      subst (λ (b : Bool). live_slots (set (set live kept b) freed false) ≡ live_slots (set live freed false))
+      (sym (live-put kept r valid some)) (live_slots-kept_first live kept freed two)
+  live_orders false live two =
+      subst (λ (b : Bool). live_slots (set (set live freed false) kept b) ≡ live_slots (set live freed false))
+      (sym (live-put kept r valid some)) (live_slots-freed_first live kept freed two)
+
+  pub LiveSlotsGo-paired : (live : List Bool) → AreTwoLive live kept freed →
+      LiveSlotsGo (kept ∷ freed ∷ []) (kept ∷ []) live (live_after (pair_put kept freed r) live)
+  unfolding orders
+  LiveSlotsGo-paired live two others is =
+      subst (λ (l : List ℕ). IsPermutation (kept ∷ others) l) (sym (live_orders (nat_lt kept freed) live two)) (LiveSlotsGo-freed live kept freed two others is)
+
+-- two puts whose slots rise, and that lie below the extent
+IsTxn-two : (a b : Put) → a.slot < b.slot → b.slot < MOST_SLOTS → IsTxn (a ∷ b ∷ [])
+IsTxn-two a b rise below =
+    let least : nat_le 0 a.slot ≡ true = grind (arith, nat_tests) in
+    let within : nat_lt a.slot MOST_SLOTS ≡ true = grind (arith, nat_tests) in
+    let above : nat_le (a.slot + 1) b.slot ≡ true = grind (arith, nat_tests) in
+    let also : nat_lt b.slot MOST_SLOTS ≡ true = grind (arith, nat_tests) in
+    record { some = omega arith; few = omega arith; rise = rw (least, within, above, also) refl }
+
+slots_fit-two : (a b : Put) (extent : ℕ) → a.slot < extent → b.slot < extent → IsTrue (slots_fit (a ∷ b ∷ []) extent)
+slots_fit-two a b extent first second =
+    let other : nat_eq a.slot extent ≡ false = grind (arith, nat_tests) in
+    let within : nat_le a.slot extent ≡ true = grind (arith, nat_tests) in
+    let also : nat_le b.slot extent ≡ true = grind (arith, nat_tests) in
+    rw (within, other, also) refl
+
+extent_after-two : (a b : Put) (extent : ℕ) → a.slot < extent → b.slot < extent → extent_after (a ∷ b ∷ []) extent ≡ extent
+extent_after-two a b extent first second =
+    let other : nat_eq a.slot extent ≡ false = grind (arith, nat_tests) in
+    let also : nat_eq b.slot extent ≡ false = grind (arith, nat_tests) in
+    rw (other, also) refl
+
+-- the puts of two slots that are apart
+module _ (kept freed : ℕ) (r : Record) where
+  pub IsTxn-pair : kept ≢ freed → kept < MOST_SLOTS → freed < MOST_SLOTS → IsTxn (pair_put kept freed r)
+  IsTxn-pair apart kept_below freed_below = elim (cases_Bool (nat_lt kept freed)) [
+    | inl rise ↦
+        subst IsTxn (sym (cond-true (nat_lt kept freed) (record_put kept r ∷ zeros_put freed ∷ []) (zeros_put freed ∷ record_put kept r ∷ []) rise))
+        (IsTxn-two (record_put kept r) (zeros_put freed) (ltb-true kept freed rise) freed_below)
+    | inr fall ↦
+        let order : freed ≤ kept = ltb-false kept freed fall in
+        let less : freed < kept = elim (cases_eq kept freed) [ inl same ↦ absurd (apart same) | inr other ↦ omega arith ] in
+        subst IsTxn (sym (cond-false (nat_lt kept freed) (record_put kept r ∷ zeros_put freed ∷ []) (zeros_put freed ∷ record_put kept r ∷ []) fall))
+        (IsTxn-two (zeros_put freed) (record_put kept r) less kept_below)
+  ]
+
+  pub slots_fit-pair : (extent : ℕ) → kept < extent → freed < extent → IsTrue (slots_fit (pair_put kept freed r) extent)
+  slots_fit-pair extent kept_below freed_below =
+      cond_both (nat_lt kept freed) (record_put kept r ∷ zeros_put freed ∷ []) (zeros_put freed ∷ record_put kept r ∷ []) (λ l. IsTrue (slots_fit l extent))
+      (λ rise. slots_fit-two (record_put kept r) (zeros_put freed) extent kept_below freed_below)
+      (λ fall. slots_fit-two (zeros_put freed) (record_put kept r) extent freed_below kept_below)
+
+  pub extent_after-pair : (extent : ℕ) → kept < extent → freed < extent → extent_after (pair_put kept freed r) extent ≡ extent
+  extent_after-pair extent kept_below freed_below =
+      cond_both (nat_lt kept freed) (record_put kept r ∷ zeros_put freed ∷ []) (zeros_put freed ∷ record_put kept r ∷ []) (λ l. extent_after l extent ≡ extent)
+      (λ rise. extent_after-two (record_put kept r) (zeros_put freed) extent kept_below freed_below)
+      (λ fall. extent_after-two (zeros_put freed) (record_put kept r) extent freed_below kept_below)

@@ -1,0 +1,113 @@
+-- Joins of a stream one after another, until none is due.
+use Rattle.std.proofs.Common.{◌≡◌, ◌∙◌, ℕ, Bool, List, map, subst, Option, Ok, Result, IsTrue}
+use Rattle.std.proofs.lemmas.Result.{on_ok_weaker}
+use Rattle.ss_outside.specs.Crash.{KnowsNow}
+use Rattle.ss_outside.specs.Disk.{Told}
+use Rattle.ss_outside.proofs.CrashLemmas.{joined as run_joined, weaker}
+use Rattle.ss_journal.specs.Kept.{IsSettled}
+use Rattle.ss_records.specs.Kept.{AreKept, RecordsState}
+use Rattle.ss_codec.specs.declared.record.Record.{Record}
+use Rattle.ss_target.specs.Lengths.{lengths_of}
+use Rattle.ss_target.specs.Targets.{params_of}
+use Rattle.ss_model.specs.Closed.{closed}
+use Rattle.ss_model.specs.ClosedState.{closed_stream}
+use Rattle.ss_model.specs.Joins.{JoinsDue}
+use Rattle.ss_model.specs.Standing.{IsStream}
+use Rattle.ss_model.specs.State.{Stream, values_in}
+use Rattle.ss_model.specs.declared.types.Window.{Window}
+use Rattle.ss_model.proofs.JoinLemmas.{JoinsDue-append, closed-only_end, taken-JoinsDue}
+use Rattle.ss_recover.specs.Held.{TileFrom, entries_of, slots_held, span_held, span_of}
+use Rattle.ss_recover.specs.declared.parts.StreamParts.{StreamParts}
+use Rattle.ss_store.specs.Calls.{Turns}
+use Rattle.ss_store.specs.Held.{IsHeldIn, IsPartlyJoined, IsSameStream, values_held, with_windows}
+use Rattle.ss_store.specs.Joining.{IsJoinedIn, NoSpansAreDue}
+use Rattle.ss_store.specs.Slots.{LiveSlotsGo}
+use Rattle.ss_store.specs.declared.reading.Fault.{Fault}
+use Rattle.ss_store.proofs.Calls.{Turns-same, Turns-weaker}
+use Rattle.ss_store.proofs.Joinings.{IsJoinedIn-none, IsPartlyJoined-none}
+use Rattle.ss_store.proofs.Spans.{NoneIsDue-spans, values_held-windows}
+
+-- joins after joins, of windows that hold as many values
+joins_more : (s : Stream) (between new : List Window) → JoinsDue (lengths_of s.params) (values_in s) s.windows between →
+    JoinsDue (lengths_of s.params) (values_in (with_windows s between)) between new → JoinsDue (lengths_of s.params) (values_in s) s.windows new
+joins_more s between new first second =
+    JoinsDue-append (lengths_of s.params) (values_in s) s.windows between new first
+    (subst (λ n. JoinsDue (lengths_of s.params) n between new) (taken-JoinsDue (lengths_of s.params) (values_in s) s.windows between first) second)
+
+module _ (others : List (ℕ × Option Record)) (s : Stream) (between : List Window) (first : JoinsDue (lengths_of s.params) (values_in s) s.windows between) where
+  IsJoinedIn-more : (part : StreamParts) (image : List ℕ) → IsJoinedIn others part (with_windows s between) image → IsJoinedIn others part s image
+  IsJoinedIn-more part image is = record { windows = is.windows; joins = joins_more s between is.windows first is.joins; held = is.held }
+
+  IsPartlyJoined-more : (image : List ℕ) → IsPartlyJoined others (with_windows s between) image → IsPartlyJoined others s image
+  IsPartlyJoined-more image is = record { part = is.part; windows = is.windows; joins = joins_more s between is.windows first is.joins; held = is.held }
+
+-- what a join makes of a stream, whichever it is and whatever lies beside it
+abbrev pub JoinsEach : {E : Type 0} → StreamParts → StreamParts → Told → Told → Result (Unit {0}) E → Type 0
+JoinsEach part new old after result =
+    (others : List (ℕ × Option Record)) (s : Stream) → Turns (IsHeldIn others part s) (IsPartlyJoined others s) (IsJoinedIn others new s) old after result
+
+pub JoinsEach-none : {E : Type 0} (part : StreamParts) (disk : Told) → KnowsNow disk → JoinsEach {E = E} part part disk disk (Ok tt)
+JoinsEach-none part disk knows others s =
+    Turns-weaker (IsHeldIn others part s) (IsHeldIn others part s) (IsPartlyJoined others s) (IsPartlyJoined others s) (IsHeldIn others part s) (IsJoinedIn others part s)
+    disk disk (Ok tt) (λ held. held) (λ held image left. left) (λ held image is. IsJoinedIn-none others part s image is)
+    (Turns-same (IsHeldIn others part s) (IsPartlyJoined others s) disk (Ok tt) knows (IsPartlyJoined-none others part s disk.content))
+
+pub JoinsEach-more : {E F : Type 0} (part mid_part new : StreamParts) (old mid after : Told) (result : Result (Unit {0}) F) → JoinsEach {E = E} part mid_part old mid (Ok tt) →
+    JoinsEach mid_part new mid after result → JoinsEach part new old after result
+JoinsEach-more part mid_part new old mid after result first second others s = record {
+  content = λ held.
+      let is = (first others s).content held in
+      on_ok_weaker result (IsJoinedIn-more others s is.windows is.joins new after.content) ((second others (with_windows s is.windows)).content is.held);
+  any_moment = λ none held.
+      let is = (first others s).content held in
+      run_joined old mid after (IsPartlyJoined others s) ((first others s).any_moment none held)
+      (weaker mid after (IsPartlyJoined others (with_windows s is.windows)) (IsPartlyJoined others s) (IsPartlyJoined-more others s is.windows is.joins)
+      ((second others (with_windows s is.windows)).any_moment ((first others s).durable none) is.held));
+  durable = λ none. (second others s).durable ((first others s).durable none);
+}
+
+-- where none is due the windows are closed
+closes : (others : List (ℕ × Option Record)) (part : StreamParts) (s : Stream) (n : ℕ) (image : List ℕ) → IsStream s → n ≡ values_held (entries_of part) →
+    NoSpansAreDue (lengths_of (params_of part.target)) n (map span_held (entries_of part)) → IsJoinedIn others part s image → IsHeldIn others part (closed_stream s) image
+closes others part s n image stream all none is =
+    let len = lengths_of s.params in
+    let params : params_of part.target ≡ s.params = is.held.agrees.params in
+    let held : values_held (entries_of part) ≡ values_in (with_windows s is.windows) =
+    values_held-windows is.windows (entries_of part) is.held.stream.windows is.held.agrees.positions in
+    let count : n ≡ values_in s = all ∙ held ∙ taken-JoinsDue len (values_in s) s.windows is.windows is.joins in
+    let spans : NoSpansAreDue len (values_in s) (map span_of is.windows) =
+    subst (λ l. NoSpansAreDue len (values_in s) l) is.held.agrees.positions
+    (subst (λ k. NoSpansAreDue len k (map span_held (entries_of part))) count
+    (subst (λ p. NoSpansAreDue (lengths_of p) n (map span_held (entries_of part))) params none)) in
+    let end : is.windows ≡ closed len (values_in s) s.windows =
+    closed-only_end len (values_in s) s.windows is.windows stream.windows is.joins (NoneIsDue-spans len (values_in s) is.windows spans) in
+    subst (λ ws. IsHeldIn others part (with_windows s ws) image) end is.held
+
+pub Turns-closes : {E : Type 0} (others : List (ℕ × Option Record)) (part now : StreamParts) (s : Stream) (n : ℕ) (old new : Told) → n ≡ values_held (entries_of now) →
+    NoSpansAreDue (lengths_of (params_of now.target)) n (map span_held (entries_of now)) → JoinsEach {E = E} part now old new (Ok tt) →
+    Turns {T = Unit {0}} {E = E} (IsHeldIn others part s) (IsPartlyJoined others s) (IsHeldIn others now (closed_stream s)) old new (Ok tt)
+Turns-closes others part now s n old new all none joins =
+    Turns-weaker (IsHeldIn others part s) (IsHeldIn others part s) (IsPartlyJoined others s) (IsPartlyJoined others s) (IsJoinedIn others now s) (IsHeldIn others now (closed_stream s))
+    old new (Ok tt) (λ held. held) (λ held image left. left) (λ held image is. closes others now s n image held.stream all none is) (joins others s)
+
+-- Joins from one moment to another: what they leave as it was, and what they make of each stream that may be held.
+pub record IsClosing (tells tells_now : Bool) (old now : Told) (faults faults_now : ℕ) (records records_now : RecordsState) (part part_now : StreamParts) : Type 0 where
+  pub joins : IsTrue tells → JoinsEach {E = Fault} part part_now old now (Ok tt)
+  pub one_disk : IsTrue tells → AreKept records_now now.content
+  pub same : IsSameStream part part_now
+  pub last_time : part_now.last_time ≡ part.last_time
+  pub values : values_held (entries_of part_now) ≡ values_held (entries_of part)
+  pub tiles : TileFrom 1 (entries_of part_now)
+  pub live : LiveSlotsGo (slots_held part) (slots_held part_now) records.live records_now.live
+  pub settled : IsSettled records_now.journal
+  pub extent : records_now.journal.extent ≡ records.journal.extent
+  pub same_tells : tells_now ≡ tells
+  pub cause : faults_now ≡ faults
+
+pub IsSameStream-more : (part mid new : StreamParts) → IsSameStream part mid → IsSameStream mid new → IsSameStream part new
+IsSameStream-more part mid new first second = record {
+  id = second.id ∙ first.id;
+  name = second.name ∙ first.name;
+  target = second.target ∙ first.target;
+  slot = second.slot ∙ first.slot;
+}

@@ -1,0 +1,224 @@
+-- A stream that is created: what is held then, and the records.
+use Rattle.std.proofs.Common.{◌≡◌, ℕ, ◌<◌, Bool, true, false, List, [], ◌∷◌, ◌++◌, length, map, flat_map, zip, refl, ap, sym, ◌∙◌, subst, arith, None, Some, Option, inl, inr, Result, IsPermutation}
+use Rattle.std.specs.Prelude.{nat_le, ◌==◌}
+use Rattle.std.specs.List.{list_any}
+use Rattle.std.specs.List.Sorted.{IsStrictlyIncreasing}
+use Rattle.std.proofs.lemmas.Bool.{or_parts, cases_Bool}
+use Rattle.std.proofs.lemmas.Bool.Decides.{nat_tests}
+use Rattle.std.proofs.lemmas.Grind.{flat_map-append}
+use Rattle.std.proofs.lemmas.List.{append-nil, length_push, length-map, map-append}
+use Rattle.std.proofs.lemmas.List.Elements.{All-push}
+use Rattle.std.specs.Cmp.{IsEquivalence}
+use Rattle.std.proofs.lemmas.List.Folds.{find-append}
+use Rattle.std.proofs.lemmas.Map.Keys.{IsDistinct-push}
+use Rattle.std.proofs.lemmas.List.Sorted.{IsPermutation-append_comm, IsPermutation-trans}
+use Rattle.ss_outside.specs.Disk.{Told}
+use Rattle.ss_catalog.specs.Names.{same_name}
+use Rattle.ss_catalog.specs.declared.TheConstants.{MOST_STREAMS, LAST_STREAM}
+use Rattle.ss_catalog.specs.declared.event.Event.TheVariants.{Create}
+use Rattle.ss_catalog.specs.declared.params.Params.{Params}
+use Rattle.ss_catalog.specs.declared.stream_id.StreamId.{StreamId}
+use Rattle.ss_codec.specs.declared.record.Record.{Record}
+use Rattle.ss_codec.specs.declared.record.Record.TheVariants as records
+use Rattle.ss_target.specs.Targets.{params_of}
+use Rattle.ss_model.specs.ClosedState.{closed_state, closed_stream}
+use Rattle.ss_model.specs.Refusals.{refuses}
+use Rattle.ss_model.specs.Standing.{IsState}
+use Rattle.ss_model.specs.State.{Stream, next_number, numbers_of}
+use Rattle.ss_model.specs.Steps.{stepped}
+use Rattle.ss_model.specs.declared.types.Ack.{Ack}
+use Rattle.ss_model.proofs.FoundLemmas.{below_next, IsStrictlyIncreasing_push}
+use Rattle.ss_model.proofs.NameLemmas.{same_name-Decides, same_name-same, same_name-swap}
+use Rattle.ss_model.proofs.StandLemmas.{IsState-stepped}
+use Rattle.ss_recover.specs.Held.{AllAgree, AreWhole, Agrees, TileFrom, entries_of, records_held, slots_held}
+use Rattle.ss_recover.specs.declared.parts.StreamParts.{StreamParts}
+use Rattle.ss_records.specs.Kept.{RecordsState, AreKept}
+use Rattle.ss_journal.specs.Kept.{IsSettled}
+use Rattle.ss_store.specs.Admitted.{IsNew}
+use Rattle.ss_store.specs.Calls.{StepsState}
+use Rattle.ss_store.specs.Causes.{said_of_held}
+use Rattle.ss_store.specs.Kept.{IsKept, IsSound, StoreState, entry_of, has_all_numbers, numbers_held, part_named}
+use Rattle.ss_store.specs.Recover.{Recovers}
+use Rattle.ss_store.specs.Slots.{AddsRecord, Either, HasRecords, LiveSlotsGo, live_slots}
+use Rattle.ss_store.proofs.Among.{Recovers-held, length-AllAgree}
+use Rattle.ss_store.proofs.KeptStates.{Recovers-IsKept}
+use Rattle.ss_store.proofs.Named.{numbers-AllAgree}
+use Rattle.ss_store.proofs.Slots.{HasRecords-permutation}
+use Rattle.ss_store.proofs.Stepping.{StepsState-turns}
+
+-- what is held of a stream that was just created
+pub record IsFreshPart (part : StreamParts) (name : List ℕ) (params : Params) : Type 0 where
+  pub name_is : part.name ≡ name
+  pub params_are : params_of part.target ≡ params
+  pub last_time : part.last_time ≡ None
+  pub entries : part.line.entries ≡ []
+
+abbrev pub created_in : List Stream → List ℕ → Params → Stream
+created_in streams name params = record { number = next_number (numbers_of streams); name = name; params = params; windows = [] }
+
+stepped-create : (streams : List Stream) (name : List ℕ) (params : Params) →
+    stepped streams (Create name params) ≡ streams ++ created_in streams name params ∷ []
+unfolding stepped
+stepped-create streams name params = refl
+
+Agrees-created : (part : StreamParts) (streams : List Stream) (name : List ℕ) (params : Params) → IsFreshPart part name params →
+    part.id.0 ≡ next_number (numbers_of streams) → Agrees part (created_in streams name params)
+Agrees-created part streams name params fresh number =
+    record { number = number; name = fresh.name_is; params = fresh.params_are; positions = rw fresh.entries refl; last_time = fresh.last_time }
+
+AllAgree-push : (parts : List StreamParts) (streams : List Stream) (part : StreamParts) (s : Stream) → AllAgree parts streams → Agrees part s →
+    AllAgree (parts ++ part ∷ []) (streams ++ s ∷ [])
+AllAgree-push [] [] part s each agrees = (agrees, tt)
+AllAgree-push [] (u ∷ us) part s each agrees = absurd each
+AllAgree-push (p ∷ ps) [] part s each agrees = absurd each
+AllAgree-push (p ∷ ps) (u ∷ us) part s each agrees = (each.0, AllAgree-push ps us part s each.1 agrees)
+
+zip-push : {X Y : Type 0} (xs : List X) (ys : List Y) (x : X) (y : Y) → length xs ≡ length ys → zip (xs ++ x ∷ []) (ys ++ y ∷ []) ≡ zip xs ys ++ (x, y) ∷ []
+zip-push [] [] x y same = refl
+zip-push [] (v ∷ vs) x y same = absurd (omega arith)
+zip-push (u ∷ us) [] x y same = absurd (omega arith)
+zip-push (u ∷ us) (v ∷ vs) x y same = ap (λ l. (u, v) ∷ l) (zip-push us vs x y (omega arith))
+
+-- the records with that of the new stream
+all-pushed : (parts : List StreamParts) (streams : List Stream) (part : StreamParts) (name : List ℕ) (params : Params) → AllAgree parts streams →
+    IsFreshPart part name params → part.id.0 ≡ next_number (numbers_of streams) →
+    IsPermutation ((part.slot, Some (records.Stream part.id.0 name params)) ∷ flat_map records_held (zip parts streams))
+    (flat_map records_held (zip (parts ++ part ∷ []) (stepped streams (Create name params))))
+all-pushed parts streams part name params each fresh number =
+    let s = created_in streams name params in
+    let first : ℕ × Option Record = (part.slot, Some (records.Stream part.id.0 name params)) in
+    let all = flat_map records_held (zip parts streams) in
+    let one : records_held (part, s) ≡ first ∷ [] = rw (fresh.entries, number) refl in
+    let is : flat_map records_held (zip (parts ++ part ∷ []) (stepped streams (Create name params))) ≡ all ++ first ∷ [] =
+    ap (λ ss. flat_map records_held (zip (parts ++ part ∷ []) ss)) (stepped-create streams name params)
+    ∙ ap (flat_map records_held) (zip-push parts streams part s (length-AllAgree parts streams each))
+    ∙ flat_map-append records_held (zip parts streams) ((part, s) ∷ [])
+    ∙ ap (λ l. all ++ l) (append-nil (records_held (part, s)) ∙ one) in
+    subst (λ l. IsPermutation (first ∷ all) l) (sym is) (IsPermutation-append_comm (first ∷ []) all)
+
+-- no merge is due in a state with a new stream, where none was before
+closed-created : (streams : List Stream) (name : List ℕ) (params : Params) → closed_state streams ≡ streams →
+    closed_state (stepped streams (Create name params)) ≡ stepped streams (Create name params)
+closed-created streams name params closed =
+    let s = created_in streams name params in
+    ap closed_state (stepped-create streams name params) ∙ map-append closed_stream streams (s ∷ []) ∙ ap (λ l. l ++ s ∷ []) closed
+    ∙ sym (stepped-create streams name params)
+
+module _ (parts : List StreamParts) (streams : List Stream) (part : StreamParts) (name : List ℕ) (params : Params) (each : AllAgree parts streams)
+    (fresh : IsFreshPart part name params) (number : part.id.0 ≡ next_number (numbers_held parts)) where
+  number-of : part.id.0 ≡ next_number (numbers_of streams)
+  number-of = number ∙ ap next_number (numbers-AllAgree parts streams each)
+
+  pub AllAgree-created : AllAgree (parts ++ part ∷ []) (stepped streams (Create name params))
+  AllAgree-created =
+      subst (λ ss. AllAgree (parts ++ part ∷ []) ss) (sym (stepped-create streams name params))
+      (AllAgree-push parts streams part (created_in streams name params) each (Agrees-created part streams name params fresh number-of))
+
+  pub HasRecords-created : (image : List ℕ) →
+      HasRecords ((part.slot, Some (records.Stream part.id.0 name params)) ∷ flat_map records_held (zip parts streams)) image →
+      HasRecords (flat_map records_held (zip (parts ++ part ∷ []) (stepped streams (Create name params)))) image
+  HasRecords-created image has =
+      HasRecords-permutation ((part.slot, Some (records.Stream part.id.0 name params)) ∷ flat_map records_held (zip parts streams))
+      (flat_map records_held (zip (parts ++ part ∷ []) (stepped streams (Create name params)))) image
+      (all-pushed parts streams part name params each fresh number-of) has
+
+  pub Recovers-created : (image : List ℕ) → IsState streams → refuses streams (Create name params) ≡ None → closed_state streams ≡ streams →
+      HasRecords ((part.slot, Some (records.Stream part.id.0 name params)) ∷ flat_map records_held (zip parts streams)) image →
+      Recovers (stepped streams (Create name params)) image
+  Recovers-created image state none closed has =
+      let now = IsState-stepped streams (Create name params) state tt none in
+      subst (λ l. Recovers l image) (closed-created streams name params closed)
+      (Recovers-held (parts ++ part ∷ []) (stepped streams (Create name params)) image AllAgree-created now (HasRecords-created image has))
+
+-- what is kept after a create, and the step that it makes
+module _ (store : StoreState) (content : List ℕ) (kept : IsKept store content) (part : StreamParts) (name : List ℕ) (params : Params)
+    (fresh : IsFreshPart part name params) (number : part.id.0 ≡ next_number (numbers_held store.streams))
+    (none : refuses kept.streams (Create name params) ≡ None) where
+  pub IsKept-created : (records_now : RecordsState) (stopped : Bool) (now : List ℕ) → AreKept records_now now →
+      HasRecords ((part.slot, Some (records.Stream part.id.0 name params)) ∷ flat_map records_held (zip store.streams kept.streams)) now →
+      IsKept (record { streams = store.streams ++ part ∷ []; records = records_now; stopped = stopped }) now
+  IsKept-created records_now stopped now are has = record {
+    records = are;
+    streams = stepped kept.streams (Create name params);
+    state = IsState-stepped kept.streams (Create name params) kept.state tt none;
+    agree = AllAgree-created store.streams kept.streams part name params kept.agree fresh number;
+    held = HasRecords-created store.streams kept.streams part name params kept.agree fresh number now has;
+    closed = closed-created kept.streams name params kept.closed;
+  }
+
+  pub StepsState-created : {T E : Type 0} (old new : Told) (call : Result T E) → old.content ≡ content →
+      AddsRecord part.slot (records.Stream part.id.0 name params) old new call → StepsState (Create name params) old new call
+  StepsState-created old new call same adds =
+      let others = flat_map records_held (zip store.streams kept.streams) in
+      let pushed = (part.slot, Some (records.Stream part.id.0 name params)) ∷ others in
+      let after : (image : List ℕ) → HasRecords pushed image → Recovers (stepped kept.streams (Create name params)) image =
+      λ image has. Recovers-created store.streams kept.streams part name params kept.agree fresh number image kept.state none kept.closed has in
+      let before : (image : List ℕ) → HasRecords others image → Recovers kept.streams image =
+      λ image has. subst (λ l. Recovers l image) kept.closed (Recovers-held store.streams kept.streams image kept.agree kept.state has) in
+      StepsState-turns (Create name params) old new call kept.streams (HasRecords others) (Either (HasRecords others) (HasRecords pushed)) (HasRecords pushed)
+      (subst (λ c. Recovers kept.streams c) (sym same) (Recovers-IsKept store content kept)) (subst (λ c. HasRecords others c) (sym same) kept.held)
+      (λ image left. elim left [ inl was ↦ inl (before image was) | inr is ↦ inr (after image is) ]) after (adds others)
+
+-- over every disk
+none-named : (name : List ℕ) (parts : List StreamParts) → part_named name parts ≡ None → list_any (same_name name) (map (λ (p : StreamParts). p.name) parts) ≡ false
+none-named name [] none = refl
+none-named name (p ∷ ps) none = elim (cases_Bool (same_name name p.name)) [
+  | inl same ↦ (let wrong : Some p ≡ None = rw same at none in cc)
+  | inr other ↦ rw (other, none-named name ps (rw other at none)) refl
+]
+
+same_name-laws : IsEquivalence same_name
+same_name-laws = record {
+  refl = same_name-same;
+  symm = same_name-swap;
+  congr = λ x y z same. ap (λ n. same_name n z) ((same_name-Decides x y).0 same);
+}
+
+pub AreWhole-created : (parts : List StreamParts) (live live_now : List Bool) (part : StreamParts) (name : List ℕ) (params : Params) → AreWhole parts live →
+    IsFreshPart part name params → part.id.0 ≡ next_number (numbers_held parts) → has_all_numbers (numbers_held parts) ≡ false →
+    part_named name parts ≡ None → LiveSlotsGo [] (part.slot ∷ []) live live_now → AreWhole (parts ++ part ∷ []) live_now
+AreWhole-created parts live live_now part name params whole fresh number room none go =
+    let numbers = numbers_held parts in
+    let limits = or_parts (nat_le MOST_STREAMS (length numbers)) (list_any (λ n. n == LAST_STREAM) numbers) room in
+    let short = limits.0 in
+    let less : length numbers < MOST_STREAMS = grind (arith, nat_tests) in
+    let rising : IsStrictlyIncreasing (numbers ++ next_number numbers ∷ []) = IsStrictlyIncreasing_push numbers (next_number numbers) whole.numbers (below_next numbers) in
+    let apart : list_any (same_name part.name) (map (λ (p : StreamParts). p.name) parts) ≡ false = rw fresh.name_is (none-named name parts none) in
+    let slots : slots_held part ≡ part.slot ∷ [] = rw fresh.entries refl in
+    let all = flat_map slots_held parts in
+    let is : flat_map slots_held (parts ++ part ∷ []) ≡ all ++ part.slot ∷ [] =
+    flat_map-append slots_held parts (part ∷ []) ∙ ap (λ l. all ++ l) (append-nil (slots_held part) ∙ slots) in
+    record {
+      few = omega (arith, less, length_push parts part, length-map parts (λ (p : StreamParts). p.id.0));
+      numbers = rw (map-append (λ (p : StreamParts). p.id.0) parts (part ∷ []), number) rising;
+      names = rw (map-append (λ (p : StreamParts). p.name) parts (part ∷ []))
+          (IsDistinct-push same_name-laws (map (λ (p : StreamParts). p.name) parts) part.name whole.names apart);
+      tiles = All-push (λ (p : StreamParts). TileFrom 1 (entries_of p)) parts part whole.tiles (rw fresh.entries tt);
+      slots = subst (λ l. IsPermutation l (live_slots live_now)) (sym is)
+          (IsPermutation-trans (all ++ part.slot ∷ []) (part.slot ∷ all) (live_slots live_now) (IsPermutation-append_comm all (part.slot ∷ [])) (go all whole.slots));
+    }
+
+-- a store with a new stream is sound, while its record is written and if it isn't
+pub IsSound-created : (store : StoreState) (catalog : List (List ℕ × StreamId)) (records_now : RecordsState) (part : StreamParts) (name : List ℕ) (params : Params)
+    (slot : ℕ) (stopped : Bool) → IsSound store catalog → store.stopped ≡ false → IsFreshPart part name params → IsNew store name params part.id.0 slot →
+    (stopped ≡ false → IsSettled records_now.journal × LiveSlotsGo [] (part.slot ∷ []) store.records.live records_now.live) →
+    IsSound (record { streams = store.streams ++ part ∷ []; records = records_now; stopped = stopped }) (catalog ++ (name, part.id) ∷ [])
+IsSound-created store catalog records_now part name params slot stopped sound runs fresh new goes =
+    let parts = store.streams in
+    let rising : IsStrictlyIncreasing (numbers_held parts ++ next_number (numbers_held parts) ∷ []) =
+    IsStrictlyIncreasing_push (numbers_held parts) (next_number (numbers_held parts)) sound.numbers (below_next (numbers_held parts)) in
+    record {
+      listed = rw (map-append entry_of parts (part ∷ []), sound.listed, fresh.name_is) refl;
+      numbers = rw (map-append (λ (p : StreamParts). p.id.0) parts (part ∷ []), new.next) rising;
+      settled = λ run. (goes run).0;
+      whole = λ run. AreWhole-created parts store.records.live records_now.live part name params (sound.whole runs) fresh new.next new.room new.named (goes run).1;
+    }
+
+-- what is replied
+pub said_of_created : (parts : List StreamParts) (part : StreamParts) (name : List ℕ) (params : Params) → IsFreshPart part name params →
+    part_named name parts ≡ None → (let zeros : Ack = record { n = 0; k = 0 } in zeros) ≡ said_of_held (part_named name (parts ++ part ∷ []))
+said_of_created parts part name params fresh none =
+    let same : same_name name part.name ≡ true = rw fresh.name_is (same_name-same name) in
+    let is : part_named name (parts ++ part ∷ []) ≡ Some part =
+    rw (find-append (λ (p : StreamParts). same_name name p.name) parts (part ∷ []), none, same) refl in
+    rw (is, fresh.entries) refl

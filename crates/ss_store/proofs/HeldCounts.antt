@@ -1,0 +1,81 @@
+-- Streams that are held are found, and counted, as the streams that they agree with.
+use Rattle.std.proofs.Common.{◌≡◌, ℕ, ◌+◌, ◌<◌, List, [], ◌∷◌, length, map, drop, get_or, refl, ap, sym, arith, inl, inr}
+use Rattle.std.specs.Prelude.{◌==◌}
+use Rattle.std.proofs.lemmas.Bool.{cases_Bool}
+use Rattle.std.proofs.lemmas.List.{length-map}
+use Rattle.std.proofs.lemmas.List.Sums.{sum_by-cons}
+use Rattle.ss_catalog.specs.Names.{same_name}
+use Rattle.ss_line.specs.declared.entry.Entry.{Entry}
+use Rattle.ss_model.specs.Closed.{last_position}
+use Rattle.ss_model.specs.Standing.{IsStream}
+use Rattle.ss_model.specs.State.{Stream, stream_named, stream_numbered, values_in}
+use Rattle.ss_model.specs.Tiling.{StandFrom}
+use Rattle.ss_model.specs.Windows.{taken}
+use Rattle.ss_model.specs.declared.types.Window.{Window}
+use Rattle.ss_recover.specs.Held.{Agrees, AllAgree, entries_of, span_held, span_of}
+use Rattle.ss_recover.specs.declared.parts.StreamParts.{StreamParts}
+use Rattle.ss_store.specs.Held.{values_held}
+use Rattle.ss_store.specs.Kept.{SomeAgree, part_named, part_numbered}
+
+-- the spans of the first, and of the rest
+first_span : (e : Entry) (es : List Entry) (w : Window) (ws : List Window) → map span_held (e ∷ es) ≡ map span_of (w ∷ ws) → e.last ≡ last_position w
+first_span e es w ws same = ap (λ (l : List (ℕ × ℕ)). (get_or l 0 (0, 0)).1) same
+
+rest_spans : (e : Entry) (es : List Entry) (w : Window) (ws : List Window) → map span_held (e ∷ es) ≡ map span_of (w ∷ ws) →
+    map span_held es ≡ map span_of ws
+rest_spans e es w ws same = ap (drop 1) same
+
+length_spans : (es : List Entry) (ws : List Window) → map span_held es ≡ map span_of ws → length es ≡ length ws
+length_spans es ws same = omega (arith, length-map es span_held, length-map ws span_of, ap length same)
+
+-- windows that stand from a position on end where they hold their last value
+values_held-from : (es : List Entry) (ws : List Window) (first time : ℕ) → map span_held es ≡ map span_of ws → StandFrom first time ws →
+    0 < length ws → values_held es + 1 ≡ first + taken ws
+values_held-from [] [] first time same stand some = absurd (omega arith)
+values_held-from [] (w ∷ ws) first time same stand some = absurd (omega (arith, length_spans [] (w ∷ ws) same))
+values_held-from (e ∷ es) [] first time same stand some = absurd (omega arith)
+values_held-from (e ∷ []) (w ∷ []) first time same stand some =
+    let possible = stand.1 in
+    omega (arith, first_span e [] w [] same, stand.0, possible.count_low, sum_by-cons (λ (v : Window). v.summary.count) w [])
+values_held-from (e ∷ []) (w ∷ v ∷ vs) first time same stand some = absurd (omega (arith, length_spans (e ∷ []) (w ∷ v ∷ vs) same))
+values_held-from (e ∷ f ∷ fs) (w ∷ []) first time same stand some = absurd (omega (arith, length_spans (e ∷ f ∷ fs) (w ∷ []) same))
+values_held-from (e ∷ f ∷ fs) (w ∷ v ∷ vs) first time same stand some =
+    let rest = values_held-from (f ∷ fs) (v ∷ vs) (first + w.summary.count) (w.summary.t_last + 1) (rest_spans e (f ∷ fs) w (v ∷ vs) same)
+    stand.3 (omega arith) in
+    omega (arith, rest, sum_by-cons (λ (u : Window). u.summary.count) w (v ∷ vs))
+
+values_held-spans : (es : List Entry) (ws : List Window) → map span_held es ≡ map span_of ws → StandFrom 1 0 ws → values_held es ≡ taken ws
+values_held-spans [] [] same stand = refl
+values_held-spans (e ∷ es) [] same stand = absurd (omega (arith, length_spans (e ∷ es) [] same))
+values_held-spans es (w ∷ ws) same stand = omega (arith, values_held-from es (w ∷ ws) 1 0 same stand (omega arith))
+
+pub values_held-Agrees : (part : StreamParts) (s : Stream) → IsStream s → Agrees part s → values_held (entries_of part) ≡ values_in s
+values_held-Agrees part s is agrees = values_held-spans (entries_of part) s.windows agrees.positions is.windows.stand
+
+pub length-Agrees : (part : StreamParts) (s : Stream) → Agrees part s → length part.line.entries ≡ length s.windows
+length-Agrees part s agrees =
+    omega (arith, length_spans (entries_of part) s.windows agrees.positions, length-map part.line.entries (λ e. e.1))
+
+pub SomeAgree-named : (parts : List StreamParts) (streams : List Stream) (name : List ℕ) → AllAgree parts streams →
+    SomeAgree (part_named name parts) (stream_named name streams)
+SomeAgree-named [] [] name each = tt
+SomeAgree-named [] (s ∷ ss) name each = absurd each
+SomeAgree-named (part ∷ parts) [] name each = absurd each
+SomeAgree-named (part ∷ parts) (s ∷ ss) name each =
+    let same : same_name name s.name ≡ same_name name part.name = ap (same_name name) (sym each.0.name) in
+    elim (cases_Bool (same_name name part.name)) [
+      | inl found ↦ rw (same, found) each.0
+      | inr other ↦ rw (same, other) (SomeAgree-named parts ss name each.1)
+    ]
+
+pub SomeAgree-numbered : (parts : List StreamParts) (streams : List Stream) (number : ℕ) → AllAgree parts streams →
+    SomeAgree (part_numbered number parts) (stream_numbered number streams)
+SomeAgree-numbered [] [] number each = tt
+SomeAgree-numbered [] (s ∷ ss) number each = absurd each
+SomeAgree-numbered (part ∷ parts) [] number each = absurd each
+SomeAgree-numbered (part ∷ parts) (s ∷ ss) number each =
+    let same : (number == s.number) ≡ (number == part.id.0) = ap (λ n. number == n) (sym each.0.number) in
+    elim (cases_Bool (number == part.id.0)) [
+      | inl found ↦ rw (same, found) each.0
+      | inr other ↦ rw (same, other) (SomeAgree-numbered parts ss number each.1)
+    ]

@@ -1,0 +1,154 @@
+-- A transaction that joins two neighbours, in which a crash may come.
+use Rattle.std.proofs.Common.{◌≡◌, ⊎_elim, ℕ, ◌<◌, Bool, List, [], ◌∷◌, ◌++◌, refl, sym, subst, Option, Some, None, Err, Result}
+use Rattle.std.specs.Prelude.{IsErr}
+use Rattle.std.proofs.lemmas.Result.{on_ok_weaker}
+use Rattle.std.proofs.lemmas.List.Sorted.{IsPermutation-sym}
+use Rattle.ss_outside.specs.Crash.{KnowsNow, OnlyReads}
+use Rattle.ss_outside.specs.Disk.{Told}
+use Rattle.ss_outside.proofs.CrashLemmas.{joined as run_joined, nothing_pending-same, of_content, read_leaves, weaker}
+use Rattle.ss_codec.specs.declared.record.Record.{Record}
+use Rattle.ss_codec.specs.declared.record.Record.TheVariants as records
+use Rattle.ss_line.specs.declared.entry.Entry.{Entry}
+use Rattle.ss_summary.specs.Figures.{Figures}
+use Rattle.ss_summary.specs.Summaries.{joined}
+use Rattle.ss_target.specs.Lengths.{lengths_of}
+use Rattle.ss_target.specs.Targets.{params_of}
+use Rattle.ss_model.specs.State.{Stream}
+use Rattle.ss_model.specs.declared.types.Window.{Window}
+use Rattle.ss_recover.specs.Held.{entries_of, records_held, slots_held, span_held, span_of, window_record}
+use Rattle.ss_recover.specs.declared.parts.StreamParts.{StreamParts}
+use Rattle.ss_store.specs.Calls.{Turns}
+use Rattle.ss_store.specs.Causes.{IsFirm, IsRead}
+use Rattle.ss_store.specs.Held.{IsHeldIn, IsPartlyJoined, values_held, with_windows}
+use Rattle.ss_store.specs.Joining.{IsJoinedIn}
+use Rattle.ss_store.specs.Slots.{AreSomeLive, Either, HasRecords, LiveSlotsGo, ReplacesTwo}
+use Rattle.ss_store.specs.declared.reading.Fault.{Fault}
+use Rattle.ss_store.specs.declared.reading.Fault.TheVariants as fault
+use Rattle.ss_store.proofs.Calls.{Turns-failed, Turns-reads}
+use Rattle.ss_store.proofs.LiveSlots.{AreSomeLive-part, AreSomeLive-permutation, LiveSlotsGo-beside, LiveSlotsGo-permutation}
+use Rattle.ss_store.proofs.Pairs.{AreJoined, AreSlots, JoinsHeld, JoinsHeld-pair, SameButLine}
+use Rattle.ss_store.proofs.Slots.{HasRecords-permutation}
+
+-- a stream of which nothing was joined
+pub IsPartlyJoined-none : (others : List (ℕ × Option Record)) (part : StreamParts) (s : Stream) (image : List ℕ) → IsHeldIn others part s image →
+    IsPartlyJoined others s image
+IsPartlyJoined-none others part s image held = record { part = part; windows = s.windows; joins = (0, refl); held = held }
+
+pub IsJoinedIn-none : (others : List (ℕ × Option Record)) (part : StreamParts) (s : Stream) (image : List ℕ) → IsHeldIn others part s image →
+    IsJoinedIn others part s image
+IsJoinedIn-none others part s image held = record { windows = s.windows; joins = (0, refl); held = held }
+
+pub IsPartlyJoined-joined : (others : List (ℕ × Option Record)) (part : StreamParts) (s : Stream) (image : List ℕ) → IsJoinedIn others part s image →
+    IsPartlyJoined others s image
+IsPartlyJoined-joined others part s image is = record { part = part; windows = is.windows; joins = is.joins; held = is.held }
+
+-- where reading gave no failure of a record
+pub IsFirm-read : (T : Type 0) (summary : Figures) (failure : Fault) → IsRead summary (Err failure) → IsFirm {T = T} (Err failure)
+IsFirm-read T summary fault.Disk read = tt
+IsFirm-read T summary (fault.Changed slot) read = absurd read
+
+-- what reading two records as one answers, for all records that may stand there
+abbrev pub ReadsJoined : ℕ → Entry → Entry → List ℕ → (Figures → Type 0) → Type 0
+ReadsJoined number w v content Reads =
+    (others : List (ℕ × Option Record)) (one two : Window) →
+    HasRecords ((w.slot, Some (window_record number one)) ∷ (v.slot, Some (window_record number two)) ∷ others) content →
+    span_held w ≡ span_of one → span_held v ≡ span_of two → one.summary.t_last < two.summary.t_first → Reads (joined one.summary two.summary)
+
+module _ (others : List (ℕ × Option Record)) (part new : StreamParts) (s : Stream) (w v : Entry) (same : SameButLine part new)
+    (pair : AreJoined (lengths_of (params_of part.target)) (values_held (entries_of part)) part.line.entries new.line.entries w v) where
+  -- what is read where the stream is held
+  pub read-held : (content : List ℕ) (Reads : Figures → Type 0) → ReadsJoined part.id.0 w v content Reads → (held : IsHeldIn others part s content) →
+      let j = JoinsHeld-pair others part new s w v same pair held.agrees held.stream in Reads (joined j.one.summary j.two.summary)
+  read-held content Reads each held =
+      let j = JoinsHeld-pair others part new s w v same pair held.agrees held.stream in
+      each j.beside j.one j.two
+      (HasRecords-permutation (records_held (part, s) ++ others) ((w.slot, Some (window_record part.id.0 j.one)) ∷ (v.slot, Some (window_record part.id.0 j.two)) ∷ j.beside)
+      content j.was held.records)
+      j.first j.second j.later
+
+  module _ {T E : Type 0} (old mid after : Told) (summary : Figures) (result : Result T E) (knows : KnowsNow old) (reads : OnlyReads old mid)
+      (read : ReadsJoined part.id.0 w v old.content (λ is. summary ≡ is))
+      (replaces : ReplacesTwo w.slot v.slot (records.Window part.id.0 w.first summary) mid after result) where
+    module _ (held : IsHeldIn others part s old.content) where
+      j : JoinsHeld others part new s w v
+      j = JoinsHeld-pair others part new s w v same pair held.agrees held.stream
+
+      was : List (ℕ × Option Record)
+      was = (w.slot, Some (window_record part.id.0 j.one)) ∷ (v.slot, Some (window_record part.id.0 j.two)) ∷ j.beside
+
+      is : List (ℕ × Option Record)
+      is = (w.slot, Some (records.Window part.id.0 w.first summary)) ∷ j.beside
+
+      turns : Turns (HasRecords was) (Either (HasRecords was) (HasRecords is)) (HasRecords is) mid after result
+      unfolding was is
+      turns = replaces (Some (window_record part.id.0 j.one)) (Some (window_record part.id.0 j.two)) j.beside
+
+      before : HasRecords was mid.content
+      unfolding was
+      before =
+          subst (λ image. HasRecords was image) (sym reads.same.content)
+          (HasRecords-permutation (records_held (part, s) ++ others) was old.content j.was held.records)
+
+      summary_is : summary ≡ joined j.one.summary j.two.summary
+      unfolding j
+      summary_is = read-held old.content (λ is. summary ≡ is) read held
+
+      reached : (image : List ℕ) → HasRecords is image → IsJoinedIn others new s image
+      unfolding is
+      reached image has =
+          let joint : List (ℕ × Option Record) = (w.slot, Some (records.Window part.id.0 w.first (joined j.one.summary j.two.summary))) ∷ j.beside in
+          record {
+            windows = j.windows;
+            joins = j.joins;
+            held = record {
+              agrees = j.agrees;
+              stream = j.stream;
+              records = HasRecords-permutation joint (records_held (new, with_windows s j.windows) ++ others) image j.is
+                  (subst (λ f. HasRecords ((w.slot, Some (records.Window part.id.0 w.first f)) ∷ j.beside) image) summary_is has);
+            };
+          }
+
+      stayed : (image : List ℕ) → HasRecords was image → IsHeldIn others part s image
+      unfolding was
+      stayed image has = record {
+        agrees = held.agrees;
+        stream = held.stream;
+        records = HasRecords-permutation was (records_held (part, s) ++ others) image (IsPermutation-sym (records_held (part, s) ++ others) was j.was) has;
+      }
+
+      left : (image : List ℕ) → Either (HasRecords was) (HasRecords is) image → IsPartlyJoined others s image
+      left image = ⊎_elim (λ stays. IsPartlyJoined-none others part s image (stayed image stays)) (λ turned. IsPartlyJoined-joined others new s image (reached image turned))
+
+    -- two records are read, and one is put in their place
+    pub Turns-join : Turns (IsHeldIn others part s) (IsPartlyJoined others s) (IsJoinedIn others new s) old after result
+    Turns-join = record {
+      content = λ held. on_ok_weaker result (reached held after.content) ((turns held).content (before held));
+      any_moment = λ none held.
+          run_joined old mid after (IsPartlyJoined others s)
+          (weaker old mid old.may_leave (IsPartlyJoined others s)
+          (of_content old (IsPartlyJoined others s) none (IsPartlyJoined-none others part s old.content held)) (read_leaves old mid knows reads))
+          (weaker mid after (Either (HasRecords (was held)) (HasRecords (is held))) (IsPartlyJoined others s) (left held)
+          ((turns held).any_moment (nothing_pending-same old mid reads.same none) (before held)));
+      durable = λ none. (replaces None None []).durable (nothing_pending-same old mid reads.same none);
+    }
+
+-- where the records weren't read nothing was written
+pub Turns-not_read : {T E : Type 0} (others : List (ℕ × Option Record)) (part : StreamParts) (s : Stream) (Q : List ℕ → Type 0) (old new : Told) (result : Result T E) →
+    IsErr result → KnowsNow old → OnlyReads old new → Turns (IsHeldIn others part s) (IsPartlyJoined others s) Q old new result
+Turns-not_read others part s Q old new result failed knows reads =
+    Turns-failed (IsHeldIn others part s) (IsPartlyJoined others s) (IsHeldIn others part s) Q old new result result failed
+    (Turns-reads (IsHeldIn others part s) (IsPartlyJoined others s) old new result knows reads (IsPartlyJoined-none others part s old.content))
+
+-- the slots of two neighbours are live, and the second goes
+pub AreSomeLive-two : (part new : StreamParts) (w v : Entry) (live : List Bool) → AreSlots part new w v → AreSomeLive (slots_held part) live →
+    AreSomeLive (w.slot ∷ v.slot ∷ []) live
+AreSomeLive-two part new w v live slots some =
+    AreSomeLive-part (w.slot ∷ v.slot ∷ []) slots.beside live
+    (AreSomeLive-permutation (slots_held part) (w.slot ∷ v.slot ∷ slots.beside) live slots.was some)
+
+pub LiveSlotsGo-two : (part new : StreamParts) (w v : Entry) (live live_now : List Bool) → AreSlots part new w v →
+    LiveSlotsGo (w.slot ∷ v.slot ∷ []) (w.slot ∷ []) live live_now → LiveSlotsGo (slots_held part) (slots_held new) live live_now
+LiveSlotsGo-two part new w v live live_now slots go =
+    LiveSlotsGo-permutation (w.slot ∷ v.slot ∷ slots.beside) (slots_held part) (w.slot ∷ slots.beside) (slots_held new) live live_now
+    (IsPermutation-sym (slots_held part) (w.slot ∷ v.slot ∷ slots.beside) slots.was) (IsPermutation-sym (slots_held new) (w.slot ∷ slots.beside) slots.is)
+    (LiveSlotsGo-beside slots.beside (w.slot ∷ v.slot ∷ []) (w.slot ∷ []) live live_now go)

@@ -1,0 +1,97 @@
+-- How many slots are live, and how many records the streams need.
+use Rattle.std.proofs.Common.{◌≡◌, ℕ, ◌<◌, ◌≤◌, Bool, false, List, [], ◌∷◌, length, map, flat_map, refl, ap, sym, ◌∙◌, arith, cond, None, Some}
+use Rattle.std.specs.Prelude.{nat_le, count_by, slice_get, Option, IfSome, IsNone, IsTrue, ◌↔◌}
+use Rattle.std.specs.List.{range_with_len}
+use Rattle.std.proofs.lemmas.Bool.Decides.{nat_tests}
+use Rattle.std.proofs.lemmas.List.{get_or_default, length-map, same_lists}
+use Rattle.std.proofs.lemmas.List.Concat.{length-flat_map}
+use Rattle.std.proofs.lemmas.List.FromFn.{get_or-map-range_with_len, length-map-range_with_len}
+use Rattle.std.proofs.lemmas.List.Folds.{length-flat_map-take}
+use Rattle.std.proofs.lemmas.List.Sorted.{length_permutation}
+use Rattle.std.proofs.lemmas.List.Sums.{length-filter, sum_by-cons}
+use Rattle.std.proofs.lemmas.Option.{get_or_from_slice_get, slice_get_within}
+use Rattle.ss_journal.specs.declared.format.TheConstants.{MOST_SLOTS}
+use Rattle.ss_records.specs.Live.{is_live, live_count}
+use Rattle.ss_model.specs.State.{Stream, live, records_of}
+use Rattle.ss_model.specs.declared.types.TheConstants.{MOST_RECORDS}
+use Rattle.ss_recover.specs.Held.{AllAgree, AreWhole, entries_of, slots_held}
+use Rattle.ss_recover.specs.declared.parts.StreamParts.{StreamParts}
+use Rattle.ss_store.specs.Slots.{live_slots}
+use Rattle.ss_store.proofs.HeldCounts.{length-Agrees}
+
+count_by-map : {X Y : Type 0} (p : Y → Bool) (f : X → Y) (xs : List X) → count_by (λ x. p (f x)) xs ≡ count_by p (map f xs)
+count_by-map p f [] = refl
+count_by-map p f (x ∷ xs) =
+    omega (arith, count_by-map p f xs, sum_by-cons (λ y. cond (p (f y)) 1 0) x xs, sum_by-cons (λ y. cond (p y) 1 0) (f x) (map f xs))
+
+-- whether each slot is live, told of each in order
+map-is_live : (slots : List Bool) → map (is_live slots) (range_with_len 0 (length slots)) ≡ slots
+map-is_live slots =
+    let all = length-map-range_with_len (is_live slots) 0 (length slots) in
+    same_lists (map (is_live slots) (range_with_len 0 (length slots))) slots all
+    (λ k d inside.
+    let within : k < length slots = omega arith in
+    get_or-map-range_with_len (is_live slots) 0 (length slots) k k d within (omega arith) ∙ get_or_default slots k false d within)
+
+pub length-live_slots : (slots : List Bool) → length (live_slots slots) ≡ live_count slots
+length-live_slots slots =
+    length-filter (is_live slots) (range_with_len 0 (length slots))
+    ∙ count_by-map (λ (is : Bool). is) (is_live slots) (range_with_len 0 (length slots))
+    ∙ ap (λ l. live_count l) (map-is_live slots)
+
+-- the slots that are held are as many as the records that the streams need
+pub length-slots : (parts : List StreamParts) (streams : List Stream) → AllAgree parts streams → length (flat_map slots_held parts) ≡ live streams
+length-slots [] [] each = refl
+length-slots [] (s ∷ ss) each = absurd each
+length-slots (part ∷ parts) [] each = absurd each
+length-slots (part ∷ parts) (s ∷ ss) each =
+    omega (
+      arith,
+      length-slots parts ss each.1,
+      length-flat_map slots_held (part ∷ parts),
+      length-flat_map slots_held parts,
+      sum_by-cons (λ (p : StreamParts). length (slots_held p)) part parts,
+      sum_by-cons records_of s ss,
+      length-map (entries_of part) (λ e. e.slot),
+      length-map part.line.entries (λ e. e.1),
+      length-Agrees part s each.0,
+    )
+
+-- each live slot is that of a record
+pub live_count-slots : (parts : List StreamParts) (slots : List Bool) → AreWhole parts slots → live_count slots ≡ length (flat_map slots_held parts)
+live_count-slots parts slots whole =
+    sym (length-live_slots slots) ∙ length_permutation (flat_map slots_held parts) (live_slots slots) whole.slots
+
+pub live_count-AreWhole : (parts : List StreamParts) (streams : List Stream) (slots : List Bool) → AllAgree parts streams → AreWhole parts slots →
+    live_count slots ≡ live streams
+live_count-AreWhole parts streams slots each whole = live_count-slots parts slots whole ∙ length-slots parts streams each
+
+-- no slot is free exactly where there are as many records as there can be
+pub is_full-exactly : (parts : List StreamParts) (slots : List Bool) (o : Option ℕ) → AreWhole parts slots → live_count slots ≤ MOST_SLOTS →
+    IsNone o ↔ (live_count slots ≡ MOST_SLOTS) → IsNone o ↔ IsTrue (nat_le MOST_RECORDS (length (flat_map slots_held parts)))
+is_full-exactly parts slots o whole most exactly =
+    let all = live_count-slots parts slots whole in (
+      (λ none. let full = exactly.0 none in let more : MOST_RECORDS ≤ length (flat_map slots_held parts) = omega arith in grind (arith, nat_tests)),
+      (λ full. let more : MOST_RECORDS ≤ length (flat_map slots_held parts) = grind (arith, nat_tests) in exactly.1 (omega arith)),
+    )
+
+-- the lowest free slot isn't above the number of records
+pub low-slots : (parts : List StreamParts) (slots : List Bool) (o : Option ℕ) → AreWhole parts slots →
+    IfSome o (λ slot. (slot < MOST_SLOTS) × (slot ≤ live_count slots)) → IfSome o (λ slot. slot ≤ length (flat_map slots_held parts))
+low-slots parts slots None whole few = tt
+low-slots parts slots (Some slot) whole few = omega (arith, few.1, live_count-slots parts slots whole)
+
+-- a stream has no more windows than there are slots
+pub few-entries : (parts : List StreamParts) (place : ℕ) (part : StreamParts) → slice_get parts place ≡ Some part →
+    nat_le MOST_RECORDS (length (flat_map slots_held parts)) ≡ false → length part.line.entries < MOST_SLOTS
+few-entries parts place part at room =
+    let inside = slice_get_within parts place part at in
+    let one = length-flat_map-take slots_held parts place part inside in
+    let less : length (flat_map slots_held parts) < MOST_RECORDS = grind (arith, nat_tests) in
+    omega (
+      arith,
+      one,
+      ap (λ (p : StreamParts). length (slots_held p)) (get_or_from_slice_get parts place part part at),
+      length-map (entries_of part) (λ e. e.slot),
+      length-map part.line.entries (λ e. e.1),
+    )

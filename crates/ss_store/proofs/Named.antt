@@ -1,0 +1,190 @@
+-- What the catalog finds by a name, and what is held of it.
+use Rattle.std.proofs.Common.{◌≡◌, ℕ, ◌<◌, Bool, List, [], ◌∷◌, length, map, get_or, refl, ap, sym, ◌∙◌, subst, None, Some, is_some, inl, inr}
+use Rattle.std.specs.Prelude.{slice_get, Option, option_map, IfSome, IsSome, ◌==◌, ◌||◌}
+use Rattle.std.specs.List.{position_or_len, list_any, find}
+use Rattle.std.specs.List.Sorted.{IsStrictlyIncreasing}
+use Rattle.std.proofs.lemmas.Bool.{cases_Bool}
+use Rattle.std.proofs.lemmas.List.{length-map}
+use Rattle.std.proofs.lemmas.List.Folds.{find_at}
+use Rattle.std.proofs.lemmas.Option.{slice_get_read}
+use Rattle.ss_catalog.specs.Catalog.{id_of}
+use Rattle.ss_catalog.specs.Names.{same_name}
+use Rattle.ss_catalog.specs.declared.TheConstants.{LAST_STREAM}
+use Rattle.ss_catalog.specs.declared.stream_id.StreamId.{StreamId}
+use Rattle.ss_model.specs.Refusals.{stands, has_all_streams}
+use Rattle.ss_model.specs.Standing.{IsState, IsStream}
+use Rattle.ss_model.specs.State.{Stream, numbers_of, stream_named, stream_numbered}
+use Rattle.ss_recover.specs.Held.{AllAgree, Agrees}
+use Rattle.ss_recover.specs.declared.parts.StreamParts.{StreamParts}
+use Rattle.ss_store.specs.Kept.{SomeAgree, entry_of, has_all_numbers, numbers_held, part_named, part_numbered}
+use Rattle.ss_store.proofs.Among.{Agrees-at, IsStream-at}
+use Rattle.ss_store.proofs.HeldCounts.{SomeAgree-named}
+use Rattle.ss_store.proofs.PlaceLemmas.{part_numbered-at}
+
+-- what the catalog finds
+pub id_of-named : (name : List ℕ) (parts : List StreamParts) →
+    id_of name (map entry_of parts) ≡ option_map (λ part. part.id) (part_named name parts)
+id_of-named name [] = refl
+id_of-named name (part ∷ parts) = elim (cases_Bool (same_name name part.name)) [
+  | inl same ↦ rw same refl
+  | inr other ↦ rw (other, id_of-named name parts) refl
+]
+
+-- a stream that the catalog finds
+pub record IsListed (name : List ℕ) (id : StreamId) (parts : List StreamParts) : Type 0 where
+  pub part : StreamParts
+  pub named : part_named name parts ≡ Some part
+  pub numbered : part_numbered id.0 parts ≡ Some part
+
+abbrev id_or : StreamId → Option StreamId → StreamId
+id_or d None = d
+id_or d (Some id) = id
+
+IsListed-find : (name : List ℕ) (id : StreamId) (parts : List StreamParts) (o : Option StreamParts) → IsStrictlyIncreasing (numbers_held parts) →
+    part_named name parts ≡ o → option_map (λ (part : StreamParts). part.id) o ≡ Some id → IsListed name id parts
+IsListed-find name id parts None rising named found = cc
+IsListed-find name id parts (Some part) rising named found =
+    let number : part.id.0 ≡ id.0 = ap (λ o. (id_or id o).0) found in
+    let at : slice_get parts (position_or_len (λ (p : StreamParts). same_name name p.name) parts) ≡ Some part =
+    sym (find_at (λ (p : StreamParts). same_name name p.name) parts) ∙ named in
+    record {
+      part = part;
+      named = named;
+      numbered = subst (λ n. part_numbered n parts ≡ Some part) number (part_numbered-at parts _ part rising at);
+    }
+
+pub IsListed-catalog : (name : List ℕ) (id : StreamId) (parts : List StreamParts) (catalog : List (List ℕ × StreamId)) →
+    IsStrictlyIncreasing (numbers_held parts) → catalog ≡ map entry_of parts → id_of name catalog ≡ Some id → IsListed name id parts
+IsListed-catalog name id parts catalog rising listed found =
+    IsListed-find name id parts (part_named name parts) rising refl (sym (id_of-named name parts) ∙ ap (λ names. id_of name names) (sym listed) ∙ found)
+
+-- what the catalog finds by a name, the number finds too
+pub record IsFoundBy (name : List ℕ) (parts : List StreamParts) (id : StreamId) : Type 0 where
+  pub same : part_numbered id.0 parts ≡ part_named name parts
+  pub stands : IsSome (part_numbered id.0 parts)
+
+pub IsFoundBy-find : (name : List ℕ) (parts : List StreamParts) (catalog : List (List ℕ × StreamId)) (o : Option StreamId) →
+    IsStrictlyIncreasing (numbers_held parts) → catalog ≡ map entry_of parts → o ≡ id_of name catalog → IfSome o (IsFoundBy name parts)
+IsFoundBy-find name parts catalog None rising listed found = tt
+IsFoundBy-find name parts catalog (Some id) rising listed found =
+    let both = IsListed-catalog name id parts catalog rising listed (sym found) in
+    record { same = both.numbered ∙ sym both.named; stands = rw both.numbered refl }
+
+pub IfSome-weaker : {X : Type 0} (P Q : X → Type 0) (o : Option X) → ((x : X) → P x → Q x) → IfSome o P → IfSome o Q
+IfSome-weaker P Q None weaker given = tt
+IfSome-weaker P Q (Some x) weaker given = weaker x given
+
+-- a stream that is held stands, and one that stands is held
+is_some-SomeAgree : (o : Option StreamParts) (p : Option Stream) → SomeAgree o p → is_some o ≡ is_some p
+is_some-SomeAgree None None agree = refl
+is_some-SomeAgree None (Some s) agree = absurd agree
+is_some-SomeAgree (Some part) None agree = absurd agree
+is_some-SomeAgree (Some part) (Some s) agree = refl
+
+is_some-option_map : {X Y : Type 0} (f : X → Y) (o : Option X) → is_some (option_map f o) ≡ is_some o
+is_some-option_map f None = refl
+is_some-option_map f (Some x) = refl
+
+-- the catalog has a name where a stream of it is held
+pub is_some-listed : (name : List ℕ) (parts : List StreamParts) (catalog : List (List ℕ × StreamId)) → catalog ≡ map entry_of parts →
+    is_some (id_of name catalog) ≡ is_some (part_named name parts)
+is_some-listed name parts catalog listed =
+    ap (λ names. is_some (id_of name names)) listed ∙ ap is_some (id_of-named name parts)
+    ∙ is_some-option_map (λ (part : StreamParts). part.id) (part_named name parts)
+
+pub stands-held : (name : List ℕ) (parts : List StreamParts) (streams : List Stream) → AllAgree parts streams →
+    is_some (part_named name parts) ≡ stands name streams
+stands-held name parts streams each =
+    is_some-SomeAgree (part_named name parts) (stream_named name streams) (SomeAgree-named parts streams name each)
+
+pub numbers-AllAgree : (parts : List StreamParts) (streams : List Stream) → AllAgree parts streams → numbers_held parts ≡ numbers_of streams
+numbers-AllAgree [] [] each = refl
+numbers-AllAgree [] (s ∷ ss) each = absurd each
+numbers-AllAgree (part ∷ parts) [] each = absurd each
+numbers-AllAgree (part ∷ parts) (s ∷ ss) each = rw (each.0.number, numbers-AllAgree parts ss each.1) refl
+
+list_any-numbers : (streams : List Stream) →
+    list_any (λ number. number == LAST_STREAM) (numbers_of streams) ≡ list_any (λ (s : Stream). s.number == LAST_STREAM) streams
+list_any-numbers [] = refl
+list_any-numbers (s ∷ ss) = ap (λ b. (s.number == LAST_STREAM) || b) (list_any-numbers ss)
+
+-- there is a place and a number for a stream more, as the numbers that are held say
+pub has_all_streams-held : (parts : List StreamParts) (streams : List Stream) → AllAgree parts streams →
+    has_all_numbers (numbers_held parts) ≡ has_all_streams streams
+has_all_streams-held parts streams each =
+    ap (λ numbers. has_all_numbers numbers) (numbers-AllAgree parts streams each)
+    ∙ rw (length-map streams (λ (s : Stream). s.number), list_any-numbers streams) refl
+
+-- the place of the stream of a name
+pub record IsAtPlace (name : List ℕ) (place : ℕ) (parts : List StreamParts) (part : StreamParts) : Type 0 where
+  pub named : part_named name parts ≡ Some part
+  pub at : slice_get parts place ≡ Some part
+
+pub IsAtPlace-listed : (name : List ℕ) (id : StreamId) (parts : List StreamParts) (place : ℕ) (part : StreamParts) → IsListed name id parts →
+    slice_get parts place ≡ part_numbered id.0 parts → place < length parts → part ≡ get_or parts place part → IsAtPlace name place parts part
+IsAtPlace-listed name id parts place part found at inside read =
+    let here : slice_get parts place ≡ Some part = slice_get_read parts (length parts) place part refl inside read in
+    let same : Some found.part ≡ Some part = sym found.numbered ∙ sym at ∙ here in
+    record { named = found.named ∙ same; at = here }
+
+-- a part, and the stream that stands at its place
+pub record IsPair (parts : List StreamParts) (streams : List Stream) (place : ℕ) (part : StreamParts) : Type 0 where
+  pub stream : Stream
+  pub here : slice_get streams place ≡ Some stream
+  pub agrees : Agrees part stream
+  pub is : IsStream stream
+
+pub IsPair-at : (parts : List StreamParts) (streams : List Stream) (place : ℕ) (part : StreamParts) → AllAgree parts streams → IsState streams →
+    slice_get parts place ≡ Some part → IsPair parts streams place part
+IsPair-at parts streams place part each state at =
+    let found = Agrees-at parts streams place part each at in
+    record { stream = found.0; here = found.1; agrees = found.2; is = IsStream-at streams place found.0 state found.1 }
+
+-- what is found alike stands at one place
+position-alike : (p : StreamParts → Bool) (q : Stream → Bool) → ((part : StreamParts) (s : Stream) → Agrees part s → p part ≡ q s) →
+    (parts : List StreamParts) (streams : List Stream) → AllAgree parts streams → position_or_len p parts ≡ position_or_len q streams
+position-alike p q alike [] [] each = refl
+position-alike p q alike [] (s ∷ ss) each = absurd each
+position-alike p q alike (part ∷ parts) [] each = absurd each
+position-alike p q alike (part ∷ parts) (s ∷ ss) each =
+    let same : p part ≡ q s = alike part s each.0 in
+    rw (same, position-alike p q alike parts ss each.1) refl
+
+-- a part and its stream, which both are found
+pub record AreFound (parts : List StreamParts) (streams : List Stream) (part : StreamParts) (found : Option Stream) : Type 0 where
+  pub place : ℕ
+  pub at : slice_get parts place ≡ Some part
+  pub stream : Stream
+  pub here : slice_get streams place ≡ Some stream
+  pub found_is : found ≡ Some stream
+  pub agrees : Agrees part stream
+  pub is : IsStream stream
+
+AreFound-alike : (p : StreamParts → Bool) (q : Stream → Bool) → ((part : StreamParts) (s : Stream) → Agrees part s → p part ≡ q s) →
+    (parts : List StreamParts) (streams : List Stream) (part : StreamParts) → AllAgree parts streams → IsState streams →
+    find p parts ≡ Some part → AreFound parts streams part (find q streams)
+AreFound-alike p q alike parts streams part each state found =
+    let place = position_or_len p parts in
+    let at : slice_get parts place ≡ Some part = sym (find_at p parts) ∙ found in
+    let pair = IsPair-at parts streams place part each state at in
+    record {
+      place = place;
+      at = at;
+      stream = pair.stream;
+      here = pair.here;
+      found_is = find_at q streams ∙ ap (λ k. slice_get streams k) (sym (position-alike p q alike parts streams each)) ∙ pair.here;
+      agrees = pair.agrees;
+      is = pair.is;
+    }
+
+pub AreFound-named : (parts : List StreamParts) (streams : List Stream) (name : List ℕ) (part : StreamParts) → AllAgree parts streams → IsState streams →
+    part_named name parts ≡ Some part → AreFound parts streams part (stream_named name streams)
+AreFound-named parts streams name part each state found =
+    AreFound-alike (λ (p : StreamParts). same_name name p.name) (λ (s : Stream). same_name name s.name)
+    (λ p s agrees. ap (λ n. same_name name n) agrees.name) parts streams part each state found
+
+pub AreFound-numbered : (parts : List StreamParts) (streams : List Stream) (number : ℕ) (part : StreamParts) → AllAgree parts streams → IsState streams →
+    part_numbered number parts ≡ Some part → AreFound parts streams part (stream_numbered number streams)
+AreFound-numbered parts streams number part each state found =
+    AreFound-alike (λ (p : StreamParts). number == p.id.0) (λ (s : Stream). number == s.number)
+    (λ p s agrees. ap (λ n. number == n) agrees.number) parts streams part each state found

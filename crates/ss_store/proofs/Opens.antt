@@ -1,0 +1,191 @@
+-- What opening reads, and what it leaves of the disk.
+use Rattle.std.proofs.Common.{◌≡◌, ℕ, List, flat_map, zip, ap, subst, ◌∙◌, Result, Ok, Err}
+use Rattle.std.specs.Prelude.{IsErr}
+use Rattle.ss_outside.specs.Crash.{KnowsNow, OnlyReads}
+use Rattle.ss_outside.specs.Disk.{Told}
+use Rattle.ss_outside.specs.declared.source.Failed.{Failed}
+use Rattle.ss_journal.specs.Calls.{KeepsMap}
+use Rattle.ss_journal.specs.Kept as Journals
+use Rattle.ss_journal.specs.Kept.{JournalState}
+use Rattle.ss_journal.specs.Redo.{SlotMap, StandsFor}
+use Rattle.ss_journal.specs.declared.journal_error.JournalError.{JournalError}
+use Rattle.ss_journal.specs.declared.journal_error.JournalError.TheVariants as journal
+use Rattle.ss_journal.proofs.MapLemmas.{SameMap-refl}
+use Rattle.ss_journal.proofs.RedoLemmas.{StandsFor-from}
+use Rattle.ss_records.specs.Kept.{AreKept, RecordsState}
+use Rattle.ss_model.specs.ClosedState.{closed_state}
+use Rattle.ss_model.specs.Standing.{IsState}
+use Rattle.ss_model.specs.State.{Stream}
+use Rattle.ss_recover.specs.Held.{AllAgree, records_held}
+use Rattle.ss_recover.specs.Rebuilt.{RebuildsAs}
+use Rattle.ss_recover.specs.declared.parts.Parts.{Parts}
+use Rattle.ss_recover.specs.declared.parts.StreamParts.{StreamParts}
+use Rattle.ss_recover.specs.declared.recover_error.RecoverError.{RecoverError}
+use Rattle.ss_recover.specs.declared.recover_error.RecoverError.TheVariants as recovering
+use Rattle.ss_store.specs.Calls.{KeepsState, Turns}
+use Rattle.ss_store.specs.Causes.{IsFirm, OpensAs}
+use Rattle.ss_store.specs.Errors.{open_of_fault, open_of_journal, open_of_recover}
+use Rattle.ss_store.specs.Kept.{IsKept, StoreState}
+use Rattle.ss_store.specs.Recover.{Recovers, recover, recovered_from, recovered_of}
+use Rattle.ss_store.specs.Slots.{HasRecords}
+use Rattle.ss_store.specs.declared.reading.Fault.{Fault}
+use Rattle.ss_store.specs.declared.reading.Fault.TheVariants as fault
+use Rattle.ss_store.proofs.Among.{Recovers-held, recover-StandsFor}
+use Rattle.ss_store.proofs.Calls.{Turns-answers, Turns-failed, Turns-joined, Turns-reads, Turns-then, Turns-weaker}
+use Rattle.ss_store.proofs.ClosingAll.{AreHeldIn, IsState-closed_state, closed_state-again}
+use Rattle.ss_store.proofs.KeptStates.{Recovers-same}
+use Rattle.ss_store.proofs.Slots.{Turns-settle}
+
+-- why there is no store
+pub OpensAs-journal : (content : List ℕ) (error : JournalError) → Journals.OpensAs content (Err error) → OpensAs content (Err (open_of_journal error))
+unfolding recover
+OpensAs-journal content journal.Disk opens = tt
+OpensAs-journal content journal.NotAStore opens = ap recovered_from opens
+OpensAs-journal content (journal.BadEntry n) opens = ap recovered_from opens
+OpensAs-journal content journal.OutOfMemory opens = tt
+
+pub OpensAs-recover : (content : List ℕ) (found : SlotMap) (error : RecoverError) → StandsFor content found → RebuildsAs found (Err error) →
+    OpensAs content (Err (open_of_recover error))
+OpensAs-recover content found (recovering.BadSlot n) is rebuilds = recover-StandsFor content found is ∙ ap recovered_of rebuilds
+OpensAs-recover content found (recovering.BadStream id) is rebuilds = recover-StandsFor content found is ∙ ap recovered_of rebuilds
+OpensAs-recover content found recovering.Disk is rebuilds = tt
+OpensAs-recover content found recovering.OutOfMemory is rebuilds = tt
+
+pub OpensAs-firm : (content : List ℕ) (why : Fault) → IsFirm {T = Unit {0}} (Err why) → OpensAs content (Err (open_of_fault why))
+OpensAs-firm content fault.Disk firm = tt
+OpensAs-firm content (fault.Changed slot) firm = absurd firm
+
+-- the map of a content that records keep
+pub StandsFor-kept : (records : RecordsState) (content : List ℕ) (kept : AreKept records content) → StandsFor content kept.journal.found
+StandsFor-kept records content kept =
+    StandsFor-from content kept.journal.found kept.journal.found kept.journal.map (SameMap-refl kept.journal.found)
+
+-- What was rebuilt is held, and stands for a state.
+pub record IsRebuilt (parts : List StreamParts) (content : List ℕ) : Type 0 where
+  pub streams : List Stream
+  pub state : IsState streams
+  pub held : AreHeldIn parts streams content
+
+pub IsRebuilt-from : (records : RecordsState) (parts : Parts) (content : List ℕ) → AreKept records content →
+    ((found : SlotMap) → StandsFor content found → RebuildsAs found (Ok parts)) → IsRebuilt parts.streams.items content
+IsRebuilt-from records parts content kept rebuilds =
+    let found = kept.journal.found in
+    let is = StandsFor-kept records content kept in
+    let built = rebuilds found is in
+    record {
+      streams = built.0;
+      state = built.2.state;
+      held = record { agree = built.2.each; records = record { found = found; map = is; occupied = built.2.records } };
+    }
+
+-- what was rebuilt of a disk that was only read
+pub IsRebuilt-opened : (records : RecordsState) (parts : Parts) (held : List StreamParts) (old opened : Told) → OnlyReads old opened →
+    AreKept records opened.content → ((found : SlotMap) → StandsFor opened.content found → RebuildsAs found (Ok parts)) →
+    held ≡ parts.streams.items → IsRebuilt held old.content
+IsRebuilt-opened records parts held old opened reads kept rebuilds is =
+    rw (is, ← reads.same.content) (IsRebuilt-from records parts opened.content kept rebuilds)
+
+-- the records of what was rebuilt
+abbrev pub HasRebuilt : List StreamParts → List Stream → List ℕ → Type 0
+HasRebuilt parts streams = HasRecords (flat_map records_held (zip parts streams))
+
+pub Recovers-rebuilt : (parts : List StreamParts) (content : List ℕ) (is : IsRebuilt parts content) → Recovers (closed_state is.streams) content
+Recovers-rebuilt parts content is = Recovers-held parts is.streams content is.held.agree is.state is.held.records
+
+-- what holds of closed streams that are held
+pub Recovers-closed : (now : List StreamParts) (streams : List Stream) (image : List ℕ) → IsState streams → AllAgree now (closed_state streams) →
+    HasRebuilt now (closed_state streams) image → Recovers (closed_state streams) image
+Recovers-closed now streams image state agree has =
+    subst (λ l. Recovers l image) (closed_state-again streams state)
+    (Recovers-held now (closed_state streams) image agree (IsState-closed_state streams state) has)
+
+-- reading, and settling, leave the records
+pub Turns-settled : {T E : Type 0} (parts : List StreamParts) (streams : List Stream) (old read new : Told) (result : Result T E) → KnowsNow old →
+    OnlyReads old read → KeepsMap read new result →
+    Turns (HasRebuilt parts streams) (HasRebuilt parts streams) (HasRebuilt parts streams) old new result
+Turns-settled {T} {E} parts streams old read new result knows reads keeps =
+    let has = HasRebuilt parts streams in
+    Turns-joined {S = Unit {0}} {F = E} has has has has old read new tt result (Turns-reads has has old read (Ok tt) knows reads (λ is. is))
+    (Turns-settle (flat_map records_held (zip parts streams)) read new result keeps)
+
+-- and closing leaves the state
+pub Turns-opened : {F T E : Type 0} (parts now : List StreamParts) (streams : List Stream) (old settled new : Told) (result : Result T E) →
+    AllAgree parts streams → IsState streams →
+    Turns {T = Unit {0}} {E = F} (HasRebuilt parts streams) (HasRebuilt parts streams) (HasRebuilt parts streams) old settled (Ok tt) →
+    Turns (HasRebuilt parts streams) (Recovers (closed_state streams)) (HasRebuilt now (closed_state streams)) settled new result →
+    Turns (HasRebuilt parts streams) (Recovers (closed_state streams)) (HasRebuilt now (closed_state streams)) old new result
+Turns-opened {F} parts now streams old settled new result agree state first second =
+    let has = HasRebuilt parts streams in
+    let is = Recovers (closed_state streams) in
+    Turns-then {S = Unit {0}} {F = F} has has has is (HasRebuilt now (closed_state streams)) is old settled new tt result first second
+    (λ image held. Recovers-held parts streams image agree state held) (λ image left. left)
+
+-- a call that leaves the state of what was rebuilt keeps the state
+pub KeepsState-rebuilt : {T E : Type 0} (parts : List StreamParts) (old new : Told) (result : Result T E) (is : IsRebuilt parts old.content)
+    (M Q : List ℕ → Type 0) → ((image : List ℕ) → M image → Recovers (closed_state is.streams) image) →
+    ((image : List ℕ) → Q image → Recovers (closed_state is.streams) image) →
+    Turns (HasRebuilt parts is.streams) M Q old new result → KeepsState old new result
+KeepsState-rebuilt parts old new result is M Q crash after turns streams =
+    let same : Recovers streams old.content → (image : List ℕ) → Recovers (closed_state is.streams) image → Recovers streams image =
+    λ has image left. subst (λ l. Recovers l image) (Recovers-same (closed_state is.streams) streams old.content (Recovers-rebuilt parts old.content is) has) left in
+    Turns-weaker (HasRebuilt parts is.streams) (Recovers streams) M (Recovers streams) Q (Recovers streams) old new result
+    (λ has. is.held.records) (λ has image left. same has image (crash image left)) (λ has image left. same has image (after image left)) turns
+
+-- settling failed
+pub KeepsState-unsettled : {S F T E : Type 0} (parts : List StreamParts) (old read new : Told) (step : Result S F) (result : Result T E) → KnowsNow old →
+    IsRebuilt parts old.content → OnlyReads old read → KeepsMap read new step → IsErr result → KeepsState old new result
+KeepsState-unsettled parts old read new step result knows is reads keeps failed =
+    let has = HasRebuilt parts is.streams in
+    let recovers : (image : List ℕ) → has image → Recovers (closed_state is.streams) image =
+    λ image held. Recovers-held parts is.streams image is.held.agree is.state held in
+    KeepsState-rebuilt parts old new result is has has recovers recovers
+    (Turns-failed has has has has old new step result failed (Turns-settled parts is.streams old read new step knows reads keeps))
+
+-- the streams were rebuilt, and settling went well
+module _ (parts now : List StreamParts) (old read settled new : Told) (knows : KnowsNow old) (is : IsRebuilt parts old.content) (reads : OnlyReads old read)
+    (keeps : KeepsMap {T = Unit {0}} {E = Failed} read settled (Ok tt)) where
+  abbrev Closes : {T E : Type 0} → Result T E → Type 0
+  Closes step =
+      Turns (HasRebuilt parts is.streams) (Recovers (closed_state is.streams)) (HasRebuilt now (closed_state is.streams)) settled new step
+
+  pub held_settled : HasRebuilt parts is.streams settled.content
+  held_settled = (Turns-settled parts is.streams old read settled (Ok tt) knows reads keeps).content is.held.records
+
+  closed-from_start : {T E : Type 0} (step : Result T E) → Closes step →
+      Turns (HasRebuilt parts is.streams) (Recovers (closed_state is.streams)) (HasRebuilt now (closed_state is.streams)) old new step
+  closed-from_start step closes =
+      Turns-opened parts now is.streams old settled new step is.held.agree is.state
+      (Turns-settled parts is.streams old read settled (Ok tt) knows reads keeps) closes
+
+  -- closing failed
+  pub KeepsState-unclosed : {S F T E : Type 0} (step : Result S F) (result : Result T E) → Closes step → IsErr result → KeepsState old new result
+  KeepsState-unclosed step result closes failed =
+      let has = HasRebuilt parts is.streams in
+      let recovers = Recovers (closed_state is.streams) in
+      KeepsState-rebuilt parts old new result is recovers recovers (λ image left. left) (λ image left. left)
+      (Turns-failed has recovers (HasRebuilt now (closed_state is.streams)) recovers old new step result failed (closed-from_start step closes))
+
+  -- the streams were closed
+  pub KeepsState-closed : {S F T E : Type 0} (value : S) (result : Result T E) → Closes {T = S} {E = F} (Ok value) → AllAgree now (closed_state is.streams) →
+      KeepsState old new result
+  KeepsState-closed value result closes agree =
+      let has = HasRebuilt parts is.streams in
+      let recovers = Recovers (closed_state is.streams) in
+      let held = HasRebuilt now (closed_state is.streams) in
+      KeepsState-rebuilt parts old new result is recovers held (λ image left. left)
+      (λ image left. Recovers-closed now is.streams image is.state agree left)
+      (Turns-answers has recovers held old new value result (closed-from_start (Ok value) closes))
+
+  pub OpensAs-closed : (store : StoreState) → AllAgree store.streams (closed_state is.streams) → OpensAs old.content (Ok store)
+  OpensAs-closed store agree = (closed_state is.streams, Recovers-rebuilt parts old.content is, agree, IsState-closed_state is.streams is.state)
+
+  pub IsKept-closed : (store : StoreState) → Closes {T = Unit {0}} {E = Fault} (Ok tt) → AreKept store.records new.content → store.streams ≡ now →
+      AllAgree now (closed_state is.streams) → IsKept store new.content
+  IsKept-closed store closes kept same agree = record {
+    records = kept;
+    streams = closed_state is.streams;
+    state = IsState-closed_state is.streams is.state;
+    agree = rw same agree;
+    held = rw same (closes.content held_settled);
+    closed = closed_state-again is.streams is.state;
+  }

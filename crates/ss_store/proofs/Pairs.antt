@@ -1,0 +1,388 @@
+-- Two neighbours in a line that become one: their places, their positions, their slots and their records.
+use Rattle.std.proofs.Common.{◌≡◌, ◌∙◌, ℕ, ◌+◌, ◌-◌, ◌<◌, ◌≤◌, Bool, true, false, List, [], ◌∷◌, ◌++◌, map, length, refl, sym, ap, ap₂, subst, arith, append_assoc, length-append, set, IsPermutation, Option, Some}
+use Rattle.std.specs.Prelude.{zip}
+use Rattle.std.specs.List.{list_any, remove}
+use Rattle.std.proofs.Math.Seq.{set-append_seam}
+use Rattle.std.proofs.lemmas.Bool.{or_parts}
+use Rattle.std.proofs.lemmas.List.{length-map, map-append}
+use Rattle.std.proofs.lemmas.List.Sorted.{IsPermutation-append_left, IsPermutation-cons, IsPermutation-middle, IsPermutation-sym, IsPermutation-trans}
+use Rattle.ss_windowing.specs.Windowing.{fits}
+use Rattle.ss_codec.specs.declared.record.Record.{Record}
+use Rattle.ss_codec.specs.declared.record.Record.TheVariants as records
+use Rattle.ss_line.specs.Line.{StandsIn, entry_at, index_of, is_at}
+use Rattle.ss_line.specs.declared.entry.At.{At}
+use Rattle.ss_line.specs.declared.entry.Entry.{Entry}
+use Rattle.ss_summary.specs.Summaries.{joined}
+use Rattle.ss_target.specs.Lengths.{lengths_of}
+use Rattle.ss_target.specs.Targets.{params_of}
+use Rattle.ss_model.specs.Closed.{joined_window, last_position}
+use Rattle.ss_model.specs.Joins.{JoinsDue}
+use Rattle.ss_model.specs.Standing.{IsStream}
+use Rattle.ss_model.specs.State.{Stream, values_in}
+use Rattle.ss_model.specs.Tiling.{AreWindows}
+use Rattle.ss_model.specs.declared.types.Window.{Window}
+use Rattle.ss_model.proofs.JoinLemmas.{AreWindows-JoinsDue, JoinsDue-one, newest_time-JoinsDue}
+use Rattle.ss_model.proofs.Tiles.{AreNeighbours-from_AreWindows}
+use Rattle.ss_recover.specs.Held.{Agrees, TileFrom, entries_of, records_held, slots_held, span_held, span_of, stream_record, window_record}
+use Rattle.ss_recover.specs.declared.parts.StreamParts.{StreamParts}
+use Rattle.ss_store.specs.Held.{values_held, with_windows}
+use Rattle.ss_store.specs.Joining.{AreDue}
+use Rattle.ss_store.proofs.Places.{find-read, index-once}
+use Rattle.ss_store.proofs.Spans.{AreTiled, AreTiled-seam, joined_entry, values_held-windows}
+use Rattle.ss_store.proofs.Walks.{entries_in}
+
+list_any-replaced : {X : Type 0} (p : X → Bool) (xs : List X) (x y : X) → p y ≡ p x → list_any p (xs ++ x ∷ []) ≡ false → list_any p (xs ++ y ∷ []) ≡ false
+list_any-replaced p [] x y same none = rw same none
+list_any-replaced p (z ∷ zs) x y same none =
+    let parts = or_parts (p z) (list_any p (zs ++ x ∷ [])) none in
+    let rest = list_any-replaced p zs x y same parts.1 in
+    rw (parts.0, rest) refl
+
+remove-seam : {X : Type 0} (xs : List X) (x : X) (ys : List X) → remove (xs ++ x ∷ ys) (length xs) ≡ xs ++ ys
+remove-seam [] x ys = refl
+remove-seam (z ∷ zs) x ys = ap (λ l. z ∷ l) (remove-seam zs x ys)
+
+-- Two entries that stand side by side and are due, and the line after the second is cut out and the first set.
+pub record AreJoined (len : ℕ → ℕ) (n : ℕ) (entries new : List (At × Entry)) (w v : Entry) : Type 0 where
+  pub front : List Entry
+  pub rest : List Entry
+  pub was : entries_in entries ≡ front ++ w ∷ v ∷ rest
+  pub is : entries_in new ≡ front ++ joined_entry w v ∷ rest
+  pub fewer : length new < length entries
+  pub due : fits len w.first v.last n ≡ true
+
+-- the line with two entries as one
+abbrev pub joined_line : List (At × Entry) → At → At → Entry → Entry → List (At × Entry)
+joined_line entries left right w v =
+    let one = set entries (index_of entries left) (left, joined_entry w v) in remove one (index_of one right)
+
+module _ (len : ℕ → ℕ) (n : ℕ) (entries : List (At × Entry)) (left right : At) (due : AreDue len n entries left right) where
+  stands-seam : (es before : List (At × Entry)) (at : At) (e : Entry) (rest : List (At × Entry)) → es ≡ before ++ (at, e) ∷ rest →
+      list_any (is_at at) before ≡ false → StandsIn es at
+  stands-seam es before at e rest is once =
+      let index : index_of es at ≡ length before = ap (λ l. index_of l at) is ∙ index-once before at e rest once in
+      let long : length es ≡ length (before ++ (at, e) ∷ rest) = ap (λ l. length l) is in
+      omega (arith, index, long, length-append before ((at, e) ∷ rest))
+
+  moved : entries ≡ (due.pair.before ++ (left, due.pair.window) ∷ []) ++ (right, due.pair.next) ∷ due.pair.rest
+  moved = due.pair.is ∙ sym (append_assoc due.pair.before ((left, due.pair.window) ∷ []) ((right, due.pair.next) ∷ due.pair.rest))
+
+  pub StandsIn-left : StandsIn entries left
+  StandsIn-left = stands-seam entries due.pair.before left due.pair.window ((right, due.pair.next) ∷ due.pair.rest) due.pair.is due.pair.left_once
+
+  pub StandsIn-right : StandsIn entries right
+  StandsIn-right = stands-seam entries (due.pair.before ++ (left, due.pair.window) ∷ []) right due.pair.next due.pair.rest moved due.pair.right_once
+
+  module _ (w v : Entry) (read_left : entry_at entries left ≡ Some w) (read_right : entry_at entries right ≡ Some v) where
+    first_is : due.pair.window ≡ w
+    first_is = find-read entries due.pair.before left due.pair.window ((right, due.pair.next) ∷ due.pair.rest) w due.pair.is due.pair.left_once read_left
+
+    second_is : due.pair.next ≡ v
+    second_is = find-read entries (due.pair.before ++ (left, due.pair.window) ∷ []) right due.pair.next due.pair.rest v moved due.pair.right_once read_right
+
+    set_is : set entries (index_of entries left) (left, joined_entry w v) ≡ due.pair.before ++ (left, joined_entry w v) ∷ (right, due.pair.next) ∷ due.pair.rest
+    set_is =
+        let index : index_of entries left ≡ length due.pair.before =
+        ap (λ l. index_of l left) due.pair.is ∙ index-once due.pair.before left due.pair.window ((right, due.pair.next) ∷ due.pair.rest) due.pair.left_once in
+        ap₂ (λ (l : List (At × Entry)) (k : ℕ). set l k (left, joined_entry w v)) due.pair.is index
+        ∙ set-append_seam due.pair.before (left, due.pair.window) ((right, due.pair.next) ∷ due.pair.rest) (left, joined_entry w v)
+
+    set_moved : set entries (index_of entries left) (left, joined_entry w v) ≡ (due.pair.before ++ (left, joined_entry w v) ∷ []) ++ (right, due.pair.next) ∷ due.pair.rest
+    set_moved = set_is ∙ sym (append_assoc due.pair.before ((left, joined_entry w v) ∷ []) ((right, due.pair.next) ∷ due.pair.rest))
+
+    right_once : list_any (is_at right) (due.pair.before ++ (left, joined_entry w v) ∷ []) ≡ false
+    right_once = list_any-replaced (is_at right) due.pair.before (left, due.pair.window) (left, joined_entry w v) refl due.pair.right_once
+
+    pub StandsIn-set : StandsIn (set entries (index_of entries left) (left, joined_entry w v)) right
+    StandsIn-set = stands-seam (set entries (index_of entries left) (left, joined_entry w v)) (due.pair.before ++ (left, joined_entry w v) ∷ []) right due.pair.next due.pair.rest set_moved right_once
+
+    line_is : joined_line entries left right w v ≡ due.pair.before ++ (left, joined_entry w v) ∷ due.pair.rest
+    line_is =
+        let front : List (At × Entry) = due.pair.before ++ (left, joined_entry w v) ∷ [] in
+        let one : List (At × Entry) = set entries (index_of entries left) (left, joined_entry w v) in
+        let index : index_of one right ≡ length front = ap (λ l. index_of l right) set_moved ∙ index-once front right due.pair.next due.pair.rest right_once in
+        ap₂ (λ (l : List (At × Entry)) (k : ℕ). remove l k) set_moved index
+        ∙ remove-seam front (right, due.pair.next) due.pair.rest ∙ append_assoc due.pair.before ((left, joined_entry w v) ∷ []) due.pair.rest
+
+    pub AreJoined-due : AreJoined len n entries (joined_line entries left right w v) w v
+    AreJoined-due =
+        let second : At × Entry → Entry = λ e. e.1 in
+        let all = ap (λ l. length l) due.pair.is in
+        let now = ap (λ l. length l) line_is in
+        let long = length-append due.pair.before ((left, due.pair.window) ∷ (right, due.pair.next) ∷ due.pair.rest) in
+        let short = length-append due.pair.before ((left, joined_entry w v) ∷ due.pair.rest) in
+        record {
+          front = entries_in due.pair.before;
+          rest = entries_in due.pair.rest;
+          was = ap (λ l. entries_in l) due.pair.is ∙ map-append second due.pair.before ((left, due.pair.window) ∷ (right, due.pair.next) ∷ due.pair.rest)
+              ∙ ap₂ (λ (x y : Entry). entries_in due.pair.before ++ x ∷ y ∷ entries_in due.pair.rest) first_is second_is;
+          is = ap (λ l. entries_in l) line_is ∙ map-append second due.pair.before ((left, joined_entry w v) ∷ due.pair.rest);
+          fewer = omega (arith, all, now, long, short);
+          due = ap₂ (λ (x y : Entry). fits len x.first y.last n) (sym first_is) (sym second_is) ∙ due.due;
+        }
+
+-- two out of the middle of a list
+pub IsPermutation-two : {X : Type 0} (xs : List X) (a b : X) (ys : List X) → IsPermutation (xs ++ a ∷ b ∷ ys) (a ∷ b ∷ (xs ++ ys))
+IsPermutation-two xs a b ys =
+    IsPermutation-trans (xs ++ a ∷ b ∷ ys) (a ∷ (xs ++ b ∷ ys)) (a ∷ b ∷ (xs ++ ys)) (IsPermutation-middle xs a (b ∷ ys))
+    (IsPermutation-cons a (xs ++ b ∷ ys) (b ∷ (xs ++ ys)) (IsPermutation-middle xs b ys))
+
+zip-append : {X Y : Type 0} (xs us : List X) (ys vs : List Y) → length xs ≡ length ys → zip (xs ++ us) (ys ++ vs) ≡ zip xs ys ++ zip us vs
+zip-append [] us [] vs same = refl
+zip-append [] us (y ∷ ys) vs same = absurd (omega arith)
+zip-append (x ∷ xs) us [] vs same = absurd (omega arith)
+zip-append (x ∷ xs) us (y ∷ ys) vs same = ap (λ l. (x, y) ∷ l) (zip-append xs us ys vs (omega arith))
+
+-- the windows that entries are of
+pub record AreTheirs (front : List Entry) (w v : Entry) (rest : List Entry) (ws : List Window) : Type 0 where
+  pub before : List Window
+  pub one : Window
+  pub two : Window
+  pub behind : List Window
+  pub is : ws ≡ before ++ one ∷ two ∷ behind
+  pub fronts : map span_held front ≡ map span_of before
+  pub first : span_held w ≡ span_of one
+  pub second : span_held v ≡ span_of two
+  pub rests : map span_held rest ≡ map span_of behind
+
+pub AreTheirs-positions : (front : List Entry) (w v : Entry) (rest : List Entry) (ws : List Window) → map span_held (front ++ w ∷ v ∷ rest) ≡ map span_of ws →
+    AreTheirs front w v rest ws
+AreTheirs-positions [] w v rest [] same = absurd (cc)
+AreTheirs-positions [] w v rest (x ∷ []) same = absurd (cc)
+AreTheirs-positions [] w v rest (x ∷ y ∷ ys) same = record {
+  before = [];
+  one = x;
+  two = y;
+  behind = ys;
+  is = refl;
+  fronts = refl;
+  first = cc;
+  second = cc;
+  rests = cc;
+}
+AreTheirs-positions (f ∷ fs) w v rest [] same = absurd (cc)
+AreTheirs-positions (f ∷ fs) w v rest (x ∷ xs) same =
+    let head : span_held f ≡ span_of x = cc in
+    let tail : map span_held (fs ++ w ∷ v ∷ rest) ≡ map span_of xs = cc in
+    let later = AreTheirs-positions fs w v rest xs tail in
+    record {
+      before = x ∷ later.before;
+      one = later.one;
+      two = later.two;
+      behind = later.behind;
+      is = ap (λ l. x ∷ l) {y = later.before ++ later.one ∷ later.two ∷ later.behind} later.is;
+      fronts = ap₂ (λ (p : ℕ × ℕ) (l : List (ℕ × ℕ)). p ∷ l) head later.fronts;
+      first = later.first;
+      second = later.second;
+      rests = later.rests;
+    }
+
+same-length : (es : List Entry) (ws : List Window) → map span_held es ≡ map span_of ws → length es ≡ length ws
+same-length es ws same = let long = ap (λ l. length l) same in omega (arith, long, length-map es span_held, length-map ws span_of)
+
+slot_of : Entry → ℕ
+slot_of e = e.slot
+
+-- the slots of a stream's records before and after
+pub record AreSlots (part new : StreamParts) (w v : Entry) : Type 0 where
+  pub beside : List ℕ
+  pub was : IsPermutation (slots_held part) (w.slot ∷ v.slot ∷ beside)
+  pub is : IsPermutation (slots_held new) (w.slot ∷ beside)
+
+pub AreSlots-joined : (len : ℕ → ℕ) (n : ℕ) (part new : StreamParts) (w v : Entry) → new.slot ≡ part.slot →
+    AreJoined len n part.line.entries new.line.entries w v → AreSlots part new w v
+AreSlots-joined len n part new w v same pair =
+    let slots : List Entry → List ℕ = λ es. map (λ (e : Entry). e.slot) es in
+    let front : List ℕ = part.slot ∷ slots pair.front in
+    let was : slots_held part ≡ front ++ w.slot ∷ v.slot ∷ slots pair.rest =
+    ap (λ es. part.slot ∷ slots es) pair.was ∙ ap (λ l. part.slot ∷ l) (map-append (λ (e : Entry). e.slot) pair.front (w ∷ v ∷ pair.rest)) in
+    let is : slots_held new ≡ front ++ w.slot ∷ slots pair.rest =
+    ap₂ (λ (s : ℕ) (es : List Entry). s ∷ slots es) same pair.is
+    ∙ ap (λ l. part.slot ∷ l) (map-append (λ (e : Entry). e.slot) pair.front (joined_entry w v ∷ pair.rest)) in
+    record {
+      beside = front ++ slots pair.rest;
+      was = subst (λ l. IsPermutation l (w.slot ∷ v.slot ∷ (front ++ slots pair.rest))) (sym was) (IsPermutation-two front w.slot v.slot (slots pair.rest));
+      is = subst (λ l. IsPermutation l (w.slot ∷ (front ++ slots pair.rest))) (sym is) (IsPermutation-middle front w.slot (slots pair.rest));
+    }
+
+-- the stream with the line that a join leaves
+abbrev pub one_part : StreamParts → At → At → Entry → Entry → StreamParts
+one_part part left right w v = record part { line = record { entries = joined_line part.line.entries left right w v; spare = 0 } }
+
+-- two entries of a stream that were read side by side, and are due
+pub record ArePair (part : StreamParts) (left right : At) (w v : Entry) : Type 0 where
+  pub joined : AreJoined (lengths_of (params_of part.target)) (values_held (entries_of part)) part.line.entries
+      (joined_line part.line.entries left right w v) w v
+  pub tiled : AreTiled w v (values_held (entries_of part))
+  pub slots : AreSlots part (one_part part left right w v) w v
+  pub stands : StandsIn (set part.line.entries (index_of part.line.entries left) (left, joined_entry w v)) right
+
+pub ArePair-read : (part : StreamParts) (left right : At) (w v : Entry) →
+    AreDue (lengths_of (params_of part.target)) (values_held (entries_of part)) part.line.entries left right → TileFrom 1 (entries_of part) →
+    entry_at part.line.entries left ≡ Some w → entry_at part.line.entries right ≡ Some v → ArePair part left right w v
+ArePair-read part left right w v due tiles read_left read_right =
+    let len = lengths_of (params_of part.target) in
+    let n = values_held (entries_of part) in
+    let pair = AreJoined-due len n part.line.entries left right due w v read_left read_right in
+    record {
+      joined = pair;
+      tiled = subst (λ es. AreTiled w v (values_held es)) (sym pair.was) (AreTiled-seam pair.front w v pair.rest (subst (λ es. TileFrom 1 es) pair.was tiles));
+      slots = AreSlots-joined len n part (one_part part left right w v) w v refl pair;
+      stands = StandsIn-set len n part.line.entries left right due w v read_left read_right;
+    }
+
+-- What joining two neighbours makes of a stream that is held beside others: which records lie where before it and after it.
+pub record JoinsHeld (others : List (ℕ × Option Record)) (part new : StreamParts) (s : Stream) (w v : Entry) : Type 0 where
+  pub one : Window
+  pub two : Window
+  pub first : span_held w ≡ span_of one
+  pub second : span_held v ≡ span_of two
+  pub later : one.summary.t_last < two.summary.t_first
+  pub beside : List (ℕ × Option Record)
+  pub was : IsPermutation (records_held (part, s) ++ others)
+      ((w.slot, Some (window_record part.id.0 one)) ∷ (v.slot, Some (window_record part.id.0 two)) ∷ beside)
+  pub windows : List Window
+  pub joins : JoinsDue (lengths_of s.params) (values_in s) s.windows windows
+  pub agrees : Agrees new (with_windows s windows)
+  pub stream : IsStream (with_windows s windows)
+  pub is : IsPermutation ((w.slot, Some (records.Window part.id.0 w.first (joined one.summary two.summary))) ∷ beside)
+      (records_held (new, with_windows s windows) ++ others)
+
+-- the same stream, but for its line
+pub record SameButLine (part new : StreamParts) : Type 0 where
+  pub id : new.id ≡ part.id
+  pub name : new.name ≡ part.name
+  pub target : new.target ≡ part.target
+  pub slot : new.slot ≡ part.slot
+  pub last_time : new.last_time ≡ part.last_time
+
+span-joined : (w v : Entry) (one two : Window) → one.first + one.summary.count ≡ two.first → 1 ≤ two.summary.count → span_held w ≡ span_of one →
+    span_held v ≡ span_of two → span_held (joined_entry w v) ≡ span_of (joined_window one two)
+span-joined w v one two next some first second =
+    let start : w.first ≡ one.first = ap (λ (p : ℕ × ℕ). p.0) first in
+    let end : v.last ≡ two.first + two.summary.count - 1 = ap (λ (p : ℕ × ℕ). p.1) second in
+    let last : v.last ≡ one.first + (one.summary.count + two.summary.count) - 1 = omega arith in
+    λ i. (start i, last i)
+
+pub one_part-same : (part : StreamParts) (left right : At) (w v : Entry) → SameButLine part (one_part part left right w v)
+one_part-same part left right w v = record { id = refl; name = refl; target = refl; slot = refl; last_time = refl }
+
+pub zip-held : (number : ℕ) (front : List Entry) (es : List Entry) (before : List Window) (ws : List Window) → map span_held front ≡ map span_of before →
+    zip (map (λ (e : Entry). e.slot) (front ++ es)) (map (λ x. Some (window_record number x)) (before ++ ws))
+    ≡ zip (map (λ (e : Entry). e.slot) front) (map (λ x. Some (window_record number x)) before)
+    ++ zip (map (λ (e : Entry). e.slot) es) (map (λ x. Some (window_record number x)) ws)
+zip-held number front es before ws same =
+    let slots : List Entry → List ℕ = λ l. map (λ (e : Entry). e.slot) l in
+    let spelled : List Window → List (Option Record) = λ l. map (λ x. Some (window_record number x)) l in
+    let long : length (slots front) ≡ length (spelled before) =
+    omega (arith, length-map front (λ (e : Entry). e.slot), length-map before (λ x. Some (window_record number x)), same-length front before same) in
+    ap₂ (λ (xs : List ℕ) (ys : List (Option Record)). zip xs ys) (map-append (λ (e : Entry). e.slot) front es) (map-append (λ x. Some (window_record number x)) before ws)
+    ∙ zip-append (slots front) (slots es) (spelled before) (spelled ws) long
+
+module _ (others : List (ℕ × Option Record)) (part new : StreamParts) (s : Stream) (w v : Entry) (same : SameButLine part new)
+    (pair : AreJoined (lengths_of (params_of part.target)) (values_held (entries_of part)) part.line.entries new.line.entries w v)
+    (agrees : Agrees part s) (stream : IsStream s) where
+  theirs : AreTheirs pair.front w v pair.rest s.windows
+  theirs = AreTheirs-positions pair.front w v pair.rest s.windows (ap (λ es. map span_held es) (sym pair.was) ∙ agrees.positions)
+
+  stand : AreWindows (theirs.before ++ theirs.one ∷ theirs.two ∷ theirs.behind)
+  stand = subst (λ ws. AreWindows ws) theirs.is stream.windows
+
+  ws : List Window
+  ws = theirs.before ++ joined_window theirs.one theirs.two ∷ theirs.behind
+
+  due : fits (lengths_of s.params) theirs.one.first (last_position theirs.two) (values_in s) ≡ true
+  due =
+      let params : params_of part.target ≡ s.params = agrees.params in
+      let held : values_held (entries_of part) ≡ values_in s = values_held-windows s.windows (entries_of part) stream.windows agrees.positions in
+      let first : w.first ≡ theirs.one.first = ap (λ (p : ℕ × ℕ). p.0) theirs.first in
+      let last : v.last ≡ last_position theirs.two = ap (λ (p : ℕ × ℕ). p.1) theirs.second in
+      (λ i. fits (lengths_of (sym params i)) (sym first i) (sym last i) (sym held i)) ∙ pair.due
+
+  joins : JoinsDue (lengths_of s.params) (values_in s) s.windows ws
+  unfolding ws
+  joins = JoinsDue-one (lengths_of s.params) (values_in s) s.windows ws (record {
+    before = theirs.before;
+    window = theirs.one;
+    next = theirs.two;
+    rest = theirs.behind;
+    was = theirs.is;
+    is = refl;
+    due = due;
+  })
+
+  beside_windows : List (ℕ × Option Record)
+  beside_windows =
+      zip (map (λ (e : Entry). e.slot) pair.front) (map (λ x. Some (window_record s.number x)) theirs.before)
+      ++ zip (map (λ (e : Entry). e.slot) pair.rest) (map (λ x. Some (window_record s.number x)) theirs.behind)
+
+  front : List (ℕ × Option Record)
+  front =
+      (part.slot, Some (stream_record s)) ∷ zip (map (λ (e : Entry). e.slot) pair.front) (map (λ x. Some (window_record s.number x)) theirs.before)
+
+  back : List (ℕ × Option Record)
+  back = zip (map (λ (e : Entry). e.slot) pair.rest) (map (λ x. Some (window_record s.number x)) theirs.behind)
+
+  was_records : records_held (part, s)
+      ≡ front ++ (w.slot, Some (window_record s.number theirs.one)) ∷ (v.slot, Some (window_record s.number theirs.two)) ∷ back
+  unfolding front back
+  was_records =
+      ap₂ (λ (es : List Entry) (l : List Window). (part.slot, Some (stream_record s)) ∷ zip (map (λ (e : Entry). e.slot) es) (map (λ x. Some (window_record s.number x)) l))
+      pair.was theirs.is
+      ∙ ap (λ l. (part.slot, Some (stream_record s)) ∷ l) (zip-held s.number pair.front (w ∷ v ∷ pair.rest) theirs.before (theirs.one ∷ theirs.two ∷ theirs.behind) theirs.fronts)
+
+  is_records : records_held (new, with_windows s ws) ≡ front ++ (w.slot, Some (window_record s.number (joined_window theirs.one theirs.two))) ∷ back
+  unfolding ws front back
+  is_records =
+      ap₂ (λ (k : ℕ) (es : List Entry). (k, Some (stream_record s)) ∷ zip (map (λ (e : Entry). e.slot) es) (map (λ x. Some (window_record s.number x)) ws))
+      same.slot pair.is
+      ∙ ap (λ l. (part.slot, Some (stream_record s)) ∷ l)
+      (zip-held s.number pair.front (joined_entry w v ∷ pair.rest) theirs.before (joined_window theirs.one theirs.two ∷ theirs.behind) theirs.fronts)
+
+  positions : map span_held (entries_of new) ≡ map span_of ws
+  unfolding ws
+  positions =
+      let neighbours = AreNeighbours-from_AreWindows theirs.before theirs.behind theirs.one theirs.two stand in
+      let one : span_held (joined_entry w v) ≡ span_of (joined_window theirs.one theirs.two) =
+      span-joined w v theirs.one theirs.two neighbours.next neighbours.some_behind theirs.first theirs.second in
+      ap (λ es. map span_held es) pair.is ∙ map-append span_held pair.front (joined_entry w v ∷ pair.rest)
+      ∙ ap₂ (λ (xs ys : List (ℕ × ℕ)). xs ++ ys) theirs.fronts (ap₂ (λ (p : ℕ × ℕ) (l : List (ℕ × ℕ)). p ∷ l) one theirs.rests)
+      ∙ sym (map-append span_of theirs.before (joined_window theirs.one theirs.two ∷ theirs.behind))
+
+  pub JoinsHeld-pair : JoinsHeld others part new s w v
+  JoinsHeld-pair =
+      let number : part.id.0 ≡ s.number = agrees.number in
+      let start : w.first ≡ theirs.one.first = ap (λ (p : ℕ × ℕ). p.0) theirs.first in
+      let rest : List (ℕ × Option Record) = (front ++ back) ++ others in
+      let was : IsPermutation (records_held (part, s) ++ others)
+      ((w.slot, Some (window_record s.number theirs.one)) ∷ (v.slot, Some (window_record s.number theirs.two)) ∷ rest) =
+      subst (λ l. IsPermutation (l ++ others) ((w.slot, Some (window_record s.number theirs.one)) ∷ (v.slot, Some (window_record s.number theirs.two)) ∷ rest)) (sym was_records)
+      (IsPermutation-append_left others (front ++ (w.slot, Some (window_record s.number theirs.one)) ∷ (v.slot, Some (window_record s.number theirs.two)) ∷ back)
+      ((w.slot, Some (window_record s.number theirs.one)) ∷ (v.slot, Some (window_record s.number theirs.two)) ∷ (front ++ back))
+      (IsPermutation-two front (w.slot, Some (window_record s.number theirs.one)) (v.slot, Some (window_record s.number theirs.two)) back)) in
+      let joint : ℕ × Option Record = (w.slot, Some (window_record s.number (joined_window theirs.one theirs.two))) in
+      let is : IsPermutation (joint ∷ rest) (records_held (new, with_windows s ws) ++ others) =
+      subst (λ l. IsPermutation (joint ∷ rest) (l ++ others)) (sym is_records)
+      (IsPermutation-append_left others (joint ∷ (front ++ back)) (front ++ joint ∷ back)
+      (IsPermutation-sym (front ++ joint ∷ back) (joint ∷ (front ++ back)) (IsPermutation-middle front joint back))) in
+      record {
+        one = theirs.one;
+        two = theirs.two;
+        first = theirs.first;
+        second = theirs.second;
+        later = (AreNeighbours-from_AreWindows theirs.before theirs.behind theirs.one theirs.two stand).times;
+        beside = rest;
+        was = subst (λ n. IsPermutation (records_held (part, s) ++ others) ((w.slot, Some (window_record n theirs.one)) ∷ (v.slot, Some (window_record n theirs.two)) ∷ rest)) (sym number) was;
+        windows = ws;
+        joins = joins;
+        agrees = record {
+          number = ap (λ (i : _). i.0) same.id ∙ number;
+          name = same.name ∙ agrees.name;
+          params = ap (λ t. params_of t) same.target ∙ agrees.params;
+          positions = positions;
+          last_time = same.last_time ∙ agrees.last_time ∙ sym (newest_time-JoinsDue (lengths_of s.params) (values_in s) s.windows ws joins);
+        };
+        stream = record { target = stream.target; number = stream.number; windows = AreWindows-JoinsDue (lengths_of s.params) (values_in s) s.windows ws stream.windows joins };
+        is = subst (λ n. IsPermutation ((w.slot, Some (records.Window n w.first (joined theirs.one.summary theirs.two.summary))) ∷ rest) (records_held (new, with_windows s ws) ++ others)) (sym number)
+            (subst (λ f. IsPermutation ((w.slot, Some (records.Window s.number f (joined theirs.one.summary theirs.two.summary))) ∷ rest) (records_held (new, with_windows s ws) ++ others)) (sym start) is);
+      }

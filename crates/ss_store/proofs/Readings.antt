@@ -1,0 +1,41 @@
+-- Two records that are read one after the other.
+use Rattle.std.proofs.Common.{◌≡◌, ℕ, ◌<◌, Bool, List, ◌∷◌, ◌++◌, length, sym, subst, arith, Option, Err, All}
+use Rattle.std.specs.List.{range_with_len}
+use Rattle.std.proofs.lemmas.List.Elements.{All-filter, All-from_recursion, All-head}
+use Rattle.std.proofs.lemmas.List.Sorted.{All-permutation, IsPermutation-sym}
+use Rattle.ss_records.specs.Live.{is_live}
+use Rattle.ss_codec.specs.declared.record.Record.{Record}
+use Rattle.ss_summary.specs.Figures.{Figures}
+use Rattle.ss_recover.proofs.Lists.{range-within}
+use Rattle.ss_recover.proofs.Permutations.{IsPermutation-turn}
+use Rattle.ss_store.specs.Causes.{IsRead}
+use Rattle.ss_store.specs.Slots.{AreSomeLive, HasRecords, live_slots}
+use Rattle.ss_store.specs.declared.reading.Fault.{Fault}
+use Rattle.ss_store.specs.declared.reading.Fault.TheVariants.{Disk, Changed}
+use Rattle.ss_store.proofs.LiveSlots.{AreSomeLive-permutation}
+use Rattle.ss_store.proofs.Slots.{HasRecords-permutation}
+
+-- a failure says nothing of what was to be read
+pub IsRead-err : (first second : Figures) (fault : Fault) → IsRead first (Err fault) → IsRead second (Err fault)
+IsRead-err first second Disk read = tt
+IsRead-err first second (Changed slot) read = absurd read
+
+-- a slot that is live is one of those that there are
+pub live-below : (slot : ℕ) (slots : List ℕ) (live : List Bool) → AreSomeLive (slot ∷ slots) live → slot < length live
+live-below slot slots live some =
+    let all : All (λ s. s < length live) (live_slots live) =
+    All-filter (is_live live) (λ s. s < length live) (range_with_len 0 (length live))
+    (All-from_recursion (λ s. s < length live) (range_with_len 0 (length live)) (range-within 0 (length live) (length live) (omega arith))) in
+    All-head (λ s. s < length live) slot (slots ++ some.0)
+    (All-permutation (λ s. s < length live) (live_slots live) (slot ∷ slots ++ some.0) (IsPermutation-sym (slot ∷ slots ++ some.0) (live_slots live) some.1) all)
+
+pub live-below_second : (first slot : ℕ) (slots : List ℕ) (live : List Bool) → AreSomeLive (first ∷ slot ∷ slots) live → slot < length live
+live-below_second first slot slots live some =
+    live-below slot (first ∷ slots) live (AreSomeLive-permutation (first ∷ slot ∷ slots) (slot ∷ first ∷ slots) live (IsPermutation-turn first slot slots) some)
+
+-- the second of two records, after a call that left the content
+pub HasRecords-second : (first second : ℕ × Option Record) (others : List (ℕ × Option Record)) (old new : List ℕ) → new ≡ old →
+    HasRecords (first ∷ second ∷ others) old → HasRecords (second ∷ first ∷ others) new
+HasRecords-second first second others old new same has =
+    subst (λ image. HasRecords (second ∷ first ∷ others) image) (sym same)
+    (HasRecords-permutation (first ∷ second ∷ others) (second ∷ first ∷ others) old (IsPermutation-turn first second others) has)

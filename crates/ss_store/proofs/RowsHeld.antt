@@ -1,0 +1,29 @@
+-- The row of a stream that is held.
+use Rattle.std.proofs.Common.{◌≡◌, ℕ, List, map, refl, ap, sym, ◌∙◌, Some}
+use Rattle.std.specs.Prelude.{slice_get, option_map}
+use Rattle.std.proofs.lemmas.Option.{slice_get-map}
+use Rattle.ss_catalog.specs.declared.stream_id.StreamId.{StreamId}
+use Rattle.ss_model.specs.Shown.{row_of}
+use Rattle.ss_model.specs.Standing.{IsState, IsStream}
+use Rattle.ss_model.specs.State.{Stream}
+use Rattle.ss_model.specs.declared.types.StreamRow.{StreamRow}
+use Rattle.ss_recover.specs.Held.{AllAgree, Agrees}
+use Rattle.ss_recover.specs.declared.parts.StreamParts.{StreamParts}
+use Rattle.ss_store.specs.Kept.{row_of_held}
+use Rattle.ss_store.proofs.Among.{Agrees-at, IsStream-at}
+use Rattle.ss_store.proofs.HeldCounts.{length-Agrees, values_held-Agrees}
+
+pub row_of_held-Agrees : (part : StreamParts) (s : Stream) → IsStream s → Agrees part s → row_of_held part ≡ row_of s
+row_of_held-Agrees part s is agrees =
+    let id : StreamId = record { 0 = s.number } in
+    let number : part.id ≡ id = ap (λ m. let i : StreamId = record { 0 = m } in i) agrees.number in
+    rw (number, agrees.name, agrees.params, values_held-Agrees part s is agrees, length-Agrees part s agrees) refl
+
+-- the row at a place is that of the stream there
+pub row-at : (parts : List StreamParts) (streams : List Stream) (place : ℕ) (part : StreamParts) (r : StreamRow) → IsState streams →
+    AllAgree parts streams → slice_get parts place ≡ Some part → r ≡ row_of_held part → slice_get (map row_of streams) place ≡ Some r
+row-at parts streams place part r state each at is =
+    let found = Agrees-at parts streams place part each at in
+    let stream = IsStream-at streams place found.0 state found.1 in
+    slice_get-map row_of streams place ∙ ap (option_map row_of) found.1
+    ∙ ap (λ (x : StreamRow). Some x) (sym (row_of_held-Agrees part found.0 stream found.2) ∙ sym is)

@@ -1,0 +1,73 @@
+-- States of which a stream has other windows, no more than before.
+use Rattle.std.proofs.Common.{◌≡◌, ℕ, zero, suc, ◌≤◌, List, [], ◌∷◌, ◌++◌, length, slice_get, slice_set, refl, ap, subst, ◌∙◌, arith, Some}
+use Rattle.std.specs.Prelude.{sum_by}
+use Rattle.std.proofs.lemmas.List.{length-append, length-set}
+use Rattle.std.proofs.lemmas.List.Elements.{All-get_or, All-set}
+use Rattle.std.proofs.lemmas.List.Sums.{sum_by-cons}
+use Rattle.std.proofs.lemmas.Option.{get_or_from_slice_get, none-some, same_Some, slice_get_within}
+use Rattle.ss_target.specs.Lengths.{lengths_of}
+use Rattle.ss_model.specs.Closed.{closed, joined_window}
+use Rattle.ss_model.specs.ClosedState.{closed_stream}
+use Rattle.ss_model.specs.Joins.{JoinsDue, Joins}
+use Rattle.ss_model.specs.Standing.{IsState, IsStream}
+use Rattle.ss_model.specs.State.{Stream, records_of, values_in}
+use Rattle.ss_model.specs.Tiling.{AreWindows}
+use Rattle.ss_model.specs.Windows.{taken}
+use Rattle.ss_model.specs.declared.types.Window.{Window}
+use Rattle.ss_model.proofs.JoinLemmas.{closed-JoinsDue, taken-JoinsDue}
+use Rattle.ss_store.specs.Held.{with_windows}
+use Rattle.ss_store.proofs.OneOfMany.{map-set_same}
+
+-- a sum of which a part gets no greater
+sum_by-set_le : {X : Type 0} (f : X → ℕ) (xs : List X) (i : ℕ) (x now : X) → slice_get xs i ≡ Some x → f now ≤ f x →
+    sum_by f (slice_set xs i now) ≤ sum_by f xs
+sum_by-set_le f [] i x now at less = absurd (none-some x at)
+sum_by-set_le f (y ∷ ys) zero x now at less =
+    let same = ap f (same_Some y x at) in
+    omega (arith, sum_by-cons f now ys, sum_by-cons f y ys)
+sum_by-set_le f (y ∷ ys) (suc i) x now at less =
+    let rest = sum_by-set_le f ys i x now at less in
+    omega (arith, sum_by-cons f y ys, sum_by-cons f y (slice_set ys i now))
+
+pub IsState-shorter : (streams : List Stream) (place : ℕ) (s : Stream) (ws : List Window) → IsState streams → slice_get streams place ≡ Some s →
+    AreWindows ws → length ws ≤ length s.windows → IsState (slice_set streams place (with_windows s ws))
+IsState-shorter streams place s ws state at tiles few =
+    let now = with_windows s ws in
+    let was : IsStream s =
+    subst IsStream (get_or_from_slice_get streams place s s at)
+    (All-get_or IsStream streams place s (slice_get_within streams place s at) state.each) in
+    record {
+      each = All-set IsStream streams place now (record { target = was.target; number = was.number; windows = tiles }) state.each;
+      numbers = rw (map-set_same (λ (u : Stream). u.number) streams place s now at refl) state.numbers;
+      names = rw (map-set_same (λ (u : Stream). u.name) streams place s now at refl) state.names;
+      few = omega (arith, state.few, length-set streams place now);
+      room = omega (arith, state.room, sum_by-set_le records_of streams place s now at (omega arith));
+    }
+
+-- joins leave no more windows than there were
+length-joined : (before rest : List Window) (w v : Window) → length (before ++ joined_window w v ∷ rest) ≤ length (before ++ w ∷ v ∷ rest)
+length-joined before rest w v = omega (arith, length-append before (joined_window w v ∷ rest), length-append before (w ∷ v ∷ rest))
+
+length-joins : (len : ℕ → ℕ) (n k : ℕ) (old new : List Window) → Joins len n k old new → length new ≤ length old
+length-joins len n zero old new same = omega (arith, ap length same)
+length-joins len n (suc k) old new joins =
+    let one = joins.1 in
+    omega (
+      arith,
+      length-joins len n k joins.0 new joins.2,
+      ap length one.is,
+      ap length one.was,
+      length-joined one.before one.rest one.window one.next,
+    )
+
+pub length-JoinsDue : (len : ℕ → ℕ) (n : ℕ) (old new : List Window) → JoinsDue len n old new → length new ≤ length old
+length-JoinsDue len n old new joins = length-joins len n joins.0 old new joins.1
+
+-- a stream of which some windows were joined that are due closes to the same
+pub closed_stream-joined : (s : Stream) (ws : List Window) → AreWindows s.windows → JoinsDue (lengths_of s.params) (values_in s) s.windows ws →
+    closed_stream (with_windows s ws) ≡ closed_stream s
+closed_stream-joined s ws tiles joins =
+    let len = lengths_of s.params in
+    let same : closed len (taken ws) ws ≡ closed len (values_in s) s.windows =
+    ap (λ n. closed len n ws) (taken-JoinsDue len (values_in s) s.windows ws joins) ∙ closed-JoinsDue len (values_in s) s.windows ws tiles joins in
+    ap (with_windows s) same

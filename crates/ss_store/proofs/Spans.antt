@@ -1,0 +1,123 @@
+-- Positions of the entries of a line.
+use Rattle.std.proofs.Common.{◌≡◌, ◌∙◌, ℕ, ◌+◌, ◌≤◌, false, List, [], ◌∷◌, ◌++◌, map, refl, sym, ap, subst, arith, append_assoc}
+use Rattle.ss_windowing.specs.Windowing.{fits}
+use Rattle.ss_windowing.specs.declared.decay.TheConstants.{MOST_VALUES}
+use Rattle.ss_line.specs.declared.entry.Entry.{Entry}
+use Rattle.ss_model.specs.Decay.{NoneIsDue}
+use Rattle.ss_model.specs.Tiling.{AreWindows}
+use Rattle.ss_model.specs.Windows.{taken}
+use Rattle.ss_model.specs.declared.types.Window.{Window}
+use Rattle.ss_model.proofs.Tiles.{last_position-from_AreWindows}
+use Rattle.ss_recover.specs.Held.{TileFrom, span_held, span_of}
+use Rattle.ss_store.specs.Held.{values_held}
+use Rattle.ss_store.specs.Joining.{NoSpansAreDue}
+
+-- two entries as one, in the slot of the first
+abbrev pub joined_entry : Entry → Entry → Entry
+joined_entry w v = record { first = w.first; last = v.last; slot = w.slot }
+
+pub values_held-seam : (front : List Entry) (e : Entry) (rest : List Entry) → values_held (front ++ e ∷ rest) ≡ values_held (e ∷ rest)
+values_held-seam [] e rest = refl
+values_held-seam (f ∷ []) e rest = refl
+values_held-seam (f ∷ g ∷ gs) e rest = values_held-seam (g ∷ gs) e rest
+
+pub values_held-joined : (front : List Entry) (w v : Entry) (rest : List Entry) →
+    values_held (front ++ joined_entry w v ∷ rest) ≡ values_held (front ++ w ∷ v ∷ rest)
+values_held-joined front w v [] = values_held-seam front (joined_entry w v) [] ∙ sym (values_held-seam front w (v ∷ []))
+values_held-joined front w v (r ∷ rs) = values_held-seam front (joined_entry w v) (r ∷ rs) ∙ sym (values_held-seam front w (v ∷ r ∷ rs))
+
+-- where the rest of a line begins
+pub TileFrom-behind : (first : ℕ) (front rest : List Entry) → TileFrom first (front ++ rest) → (start : ℕ) × (first ≤ start) × TileFrom start rest
+TileFrom-behind first [] rest tiles = (first, omega arith, tiles)
+TileFrom-behind first (f ∷ fs) rest tiles =
+    let later = TileFrom-behind (f.last + 1) fs rest tiles.3 in
+    let here = tiles.0 in
+    let some = tiles.1 in
+    let above = later.1 in
+    (later.0, omega arith, later.2)
+
+pub last-held : (first : ℕ) (e : Entry) (es : List Entry) → TileFrom first (e ∷ es) → (e.last ≤ values_held (e ∷ es)) × (values_held (e ∷ es) ≤ MOST_VALUES)
+last-held first e [] tiles = (omega arith, tiles.2)
+last-held first e (f ∷ fs) tiles =
+    let later = last-held (e.last + 1) f fs tiles.3 in
+    let start = tiles.3.0 in
+    let some = tiles.3.1 in
+    let above = later.0 in
+    (omega arith, later.1)
+
+-- the positions of two neighbours
+pub record AreTiled (w v : Entry) (held : ℕ) : Type 0 where
+  pub first : 1 ≤ w.first
+  pub some : w.first ≤ w.last
+  pub next : v.first ≡ w.last + 1
+  pub some_behind : v.first ≤ v.last
+  pub last : v.last ≤ held
+  pub few : held ≤ MOST_VALUES
+
+pub AreTiled-seam : (front : List Entry) (w v : Entry) (rest : List Entry) → TileFrom 1 (front ++ w ∷ v ∷ rest) →
+    AreTiled w v (values_held (front ++ w ∷ v ∷ rest))
+AreTiled-seam front w v rest tiles =
+    let behind = TileFrom-behind 1 front (w ∷ v ∷ rest) tiles in
+    let start = behind.1 in
+    let here = behind.2.0 in
+    let most = last-held (w.last + 1) v rest behind.2.3 in
+    let all = values_held-seam front w (v ∷ rest) in
+    record {
+      first = omega arith;
+      some = behind.2.1;
+      next = behind.2.3.0;
+      some_behind = behind.2.3.1;
+      last = subst (λ n. v.last ≤ n) (sym all) most.0;
+      few = subst (λ n. n ≤ MOST_VALUES) (sym all) most.1;
+    }
+
+pub TileFrom-joined : (first : ℕ) (front : List Entry) (w v : Entry) (rest : List Entry) → TileFrom first (front ++ w ∷ v ∷ rest) →
+    TileFrom first (front ++ joined_entry w v ∷ rest)
+TileFrom-joined first [] w v rest tiles =
+    let here = tiles.0 in
+    let some = tiles.1 in
+    let next = tiles.3.0 in
+    let some_behind = tiles.3.1 in
+    (here, omega arith, tiles.3.2, tiles.3.3)
+TileFrom-joined first (f ∷ fs) w v rest tiles = (tiles.0, tiles.1, tiles.2, TileFrom-joined (f.last + 1) fs w v rest tiles.3)
+
+TileFrom-more : (first : ℕ) (f : Entry) (fs : List Entry) (e : Entry) → TileFrom first (f ∷ fs) → e.first ≡ values_held (f ∷ fs) + 1 → e.last ≡ e.first →
+    e.last ≤ MOST_VALUES → TileFrom first ((f ∷ fs) ++ e ∷ [])
+TileFrom-more first f [] e tiles start one few = (tiles.0, tiles.1, tiles.2, (start, omega arith, few, tt))
+TileFrom-more first f (g ∷ gs) e tiles start one few = (tiles.0, tiles.1, tiles.2, TileFrom-more (f.last + 1) g gs e tiles.3 start one few)
+
+-- one more position at the end
+pub TileFrom-push : (es : List Entry) (e : Entry) → TileFrom 1 es → e.first ≡ values_held es + 1 → e.last ≡ e.first → e.last ≤ MOST_VALUES →
+    TileFrom 1 (es ++ e ∷ [])
+TileFrom-push [] e tiles start one few = (start, omega arith, few, tt)
+TileFrom-push (f ∷ fs) e tiles start one few = TileFrom-more 1 f fs e tiles start one few
+
+pub NoSpansAreDue-push : (len : ℕ → ℕ) (n : ℕ) (front : List Entry) (w v : Entry) → NoSpansAreDue len n (map span_held (front ++ w ∷ [])) →
+    fits len w.first v.last n ≡ false → NoSpansAreDue len n (map span_held ((front ++ w ∷ []) ++ v ∷ []))
+NoSpansAreDue-push len n [] w v none unfit = (unfit, tt)
+NoSpansAreDue-push len n (f ∷ []) w v none unfit = (none.0, (unfit, tt))
+NoSpansAreDue-push len n (f ∷ g ∷ gs) w v none unfit = (none.0, NoSpansAreDue-push len n (g ∷ gs) w v none.1 unfit)
+
+-- positions of windows
+pub NoneIsDue-spans : (len : ℕ → ℕ) (n : ℕ) (ws : List Window) → NoSpansAreDue len n (map span_of ws) → NoneIsDue len n ws
+NoneIsDue-spans len n [] none = tt
+NoneIsDue-spans len n (w ∷ []) none = tt
+NoneIsDue-spans len n (w ∷ v ∷ vs) none = (none.0, NoneIsDue-spans len n (v ∷ vs) none.1)
+
+values-behind : (us : List Window) (w : Window) (ws : List Window) (es : List Entry) → AreWindows (us ++ w ∷ ws) → map span_held es ≡ map span_of (w ∷ ws) →
+    values_held es ≡ taken (us ++ w ∷ ws)
+values-behind us w ws [] tiles same = absurd (cc)
+values-behind us w [] (e ∷ []) tiles same =
+    let pair : span_held e ≡ span_of w = cc in ap (λ (p : ℕ × ℕ). p.1) pair ∙ last_position-from_AreWindows us w tiles
+values-behind us w [] (e ∷ f ∷ fs) tiles same = absurd (cc)
+values-behind us w (v ∷ vs) (e ∷ []) tiles same = absurd (cc)
+values-behind us w (v ∷ vs) (e ∷ f ∷ fs) tiles same =
+    let rest : map span_held (f ∷ fs) ≡ map span_of (v ∷ vs) = cc in
+    let seam = append_assoc us (w ∷ []) (v ∷ vs) in
+    values-behind (us ++ w ∷ []) v vs (f ∷ fs) (subst (λ (zs : List Window). AreWindows zs) (sym seam) tiles) rest ∙ ap (λ (zs : List Window). taken zs) seam
+
+-- entries hold as many values as the windows at the same positions
+pub values_held-windows : (ws : List Window) (es : List Entry) → AreWindows ws → map span_held es ≡ map span_of ws → values_held es ≡ taken ws
+values_held-windows [] [] tiles same = refl
+values_held-windows [] (e ∷ es) tiles same = absurd (cc)
+values_held-windows (w ∷ ws) es tiles same = values-behind [] w ws es tiles same

@@ -1,0 +1,35 @@
+-- What a file stands for that isn't formed.
+use Rattle.std.proofs.Common.{◌≡◌, ℕ, List, [], ◌∷◌, filter, map, IsTrue, refl, ap, sym, subst, not, IsPermutation}
+use Rattle.std.specs.List.{range_with_len}
+use Rattle.std.proofs.lemmas.List.Sorted.{IsPermutation-refl}
+use Rattle.ss_journal.specs.Format.{is_unborn}
+use Rattle.ss_journal.specs.Redo.{StandsFor, blank_map, zeros}
+use Rattle.ss_journal.proofs.MapLemmas.{SameMap-refl}
+use Rattle.ss_journal.proofs.RedoLemmas.{StandsFor-from, redo-unborn}
+use Rattle.ss_records.specs.Live.{are_zeros}
+use Rattle.ss_model.specs.State.{state}
+use Rattle.ss_model.proofs.HistoryLemmas.{IsHistory-nil}
+use Rattle.ss_model.proofs.StandLemmas.{IsState-nil}
+use Rattle.ss_recover.specs.Held.{occupied}
+use Rattle.ss_store.specs.Recover.{Recovers, Stands}
+use Rattle.ss_store.proofs.Among.{Recovers-held}
+
+none-live : (slots : List ℕ) → filter (λ slot. not (are_zeros zeros)) slots ≡ []
+none-live [] = refl
+none-live (slot ∷ slots) = none-live slots
+
+none-occupied : (image : List ℕ) → occupied (blank_map image) ≡ []
+none-occupied image = ap (map _) (none-live (range_with_len 0 (blank_map image).extent))
+
+state-nil : state [] ≡ []
+unfolding state
+state-nil = refl
+
+pub Stands-unformed : (image : List ℕ) → IsTrue (is_unborn image) → Stands [] image
+Stands-unformed image unborn =
+    let found = blank_map image in
+    let is : StandsFor image found = StandsFor-from image found found (redo-unborn image unborn) (SameMap-refl found) in
+    let recovers : Recovers [] image =
+    Recovers-held [] [] image tt IsState-nil
+    (record { found = found; map = is; occupied = subst (IsPermutation []) (sym (none-occupied image)) (IsPermutation-refl []) }) in
+    record { is_history = IsHistory-nil; state = subst (λ l. Recovers l image) (sym state-nil) recovers }

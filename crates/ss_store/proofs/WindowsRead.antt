@@ -1,0 +1,155 @@
+-- A window that is read: its record among all, and the window that it is of.
+use Rattle.std.proofs.Common.{◌≡◌, ℕ, suc, true, false, List, ◌∷◌, ◌++◌, map, remove, refl, ap, sym, ◌∙◌, subst, None, Some, Option, Result, Ok, Err}
+use Rattle.std.specs.Prelude.{slice_get, option_map, ◌==◌, IfSome, IsSome, IfOk}
+use Rattle.std.proofs.lemmas.Bool.{eqb-true}
+use Rattle.std.proofs.lemmas.List.Sorted.{IsPermutation-remove}
+use Rattle.std.proofs.lemmas.Option.{get_or_from_slice_get, none-some, same_Some, slice_get-map, slice_get_within}
+use Rattle.ss_catalog.specs.declared.event.Event.{Event}
+use Rattle.ss_codec.specs.declared.record.Record.{Record}
+use Rattle.ss_line.specs.Line.{entry_at, index_of}
+use Rattle.ss_line.specs.declared.entry.At.{At}
+use Rattle.ss_line.specs.declared.entry.Entry.{Entry}
+use Rattle.ss_summary.specs.Figures.{Figures}
+use Rattle.ss_target.specs.Lengths.{lengths_of}
+use Rattle.ss_model.specs.Decay.{IsReadWithinTarget}
+use Rattle.ss_model.specs.Refusals.{IsHistory}
+use Rattle.ss_model.specs.Shown.{placed_of}
+use Rattle.ss_model.specs.State.{Stream, state, stream_numbered, values_in}
+use Rattle.ss_model.specs.declared.types.Placed.{Placed}
+use Rattle.ss_model.specs.declared.types.Window.{Window}
+use Rattle.ss_model.proofs.WithinLemmas.{IsReadWithinTarget-read}
+use Rattle.ss_recover.specs.Held.{Agrees, entries_of, records_held, span_held, span_of, window_record}
+use Rattle.ss_recover.specs.declared.parts.StreamParts.{StreamParts}
+use Rattle.ss_store.specs.Causes.{IsAskFirm, IsRead}
+use Rattle.ss_store.specs.Errors.{ask_of_fault}
+use Rattle.ss_store.specs.Kept.{IsKept, StoreState, part_numbered}
+use Rattle.ss_store.specs.Recover.{Recovers}
+use Rattle.ss_store.specs.Slots.{HasRecords}
+use Rattle.ss_store.specs.declared.error.AskError.{AskError}
+use Rattle.ss_store.specs.declared.reading.Fault.{Fault}
+use Rattle.ss_store.specs.declared.reading.Fault.TheVariants as fault
+use Rattle.ss_store.proofs.Among.{IsHeldIn-at, others_of}
+use Rattle.ss_store.proofs.Appended.{found-passes}
+use Rattle.ss_store.proofs.KeptStates.{Recovers-IsKept, Recovers-same}
+use Rattle.ss_store.proofs.Named.{AreFound-numbered}
+use Rattle.ss_store.proofs.OneOfMany.{slice_get-zip}
+use Rattle.ss_store.proofs.Slots.{HasRecords-permutation}
+use Rattle.ss_store.proofs.WindowsHeld.{first_at, slice_get-entry}
+
+-- a window of the state that the content stands for, and its record
+pub record IsKeptWindow (content : List ℕ) (streams : List Stream) (number place : ℕ) (e : Entry) : Type 0 where
+  pub stream : Stream
+  pub found : stream_numbered number streams ≡ Some stream
+  pub window : Window
+  pub at : slice_get stream.windows place ≡ Some window
+  pub span : span_held e ≡ span_of window
+  pub others : List (ℕ × Option Record)
+  pub has : HasRecords ((e.slot, Some (window_record number window)) ∷ others) content
+
+-- the window whose span an entry has
+some_window : (e : Entry) (o : Option Window) → Some (span_held e) ≡ option_map span_of o → (w : Window) × (o ≡ Some w) × (span_held e ≡ span_of w)
+some_window e None same = absurd (none-some (span_held e) (sym same))
+some_window e (Some w) same = (w, refl, same_Some (span_held e) (span_of w) same)
+
+window-at : (part : StreamParts) (s : Stream) (i : ℕ) (e : Entry) → Agrees part s → slice_get (entries_of part) i ≡ Some e →
+    (w : Window) × (slice_get s.windows i ≡ Some w) × (span_held e ≡ span_of w)
+window-at part s i e agrees at =
+    some_window e (slice_get s.windows i)
+    (sym (ap (option_map span_held) at) ∙ sym (slice_get-map span_held (entries_of part) i) ∙ ap (λ l. slice_get l i) agrees.positions
+    ∙ slice_get-map span_of s.windows i)
+
+record-at : (part : StreamParts) (s : Stream) (i : ℕ) (e : Entry) (w : Window) → slice_get (entries_of part) i ≡ Some e → slice_get s.windows i ≡ Some w →
+    slice_get (records_held (part, s)) (suc i) ≡ Some (e.slot, Some (window_record s.number w))
+record-at part s i e w at window =
+    slice_get-zip (map (λ (x : Entry). x.slot) (entries_of part)) (map (λ x. Some (window_record s.number x)) s.windows) i e.slot (Some (window_record s.number w))
+    (slice_get-map (λ (x : Entry). x.slot) (entries_of part) i ∙ ap (option_map (λ (x : Entry). x.slot)) at)
+    (slice_get-map (λ x. Some (window_record s.number x)) s.windows i ∙ ap (option_map (λ x. Some (window_record s.number x))) window)
+
+-- one record is first, and the others come after it
+has-first : (all : List (ℕ × Option Record)) (i : ℕ) (r : ℕ × Option Record) (image : List ℕ) → slice_get all i ≡ Some r → HasRecords all image →
+    HasRecords (r ∷ remove all i) image
+has-first all i r image at has =
+    HasRecords-permutation all (r ∷ remove all i) image
+    (IsPermutation-remove all i r (slice_get_within all i r at) (sym (get_or_from_slice_get all i r r at))) has
+
+pub IsKeptWindow-at : (store : StoreState) (content : List ℕ) (kept : IsKept store content) (number : ℕ) (part : StreamParts) (at : At) (e : Entry) →
+    part_numbered number store.streams ≡ Some part → entry_at part.line.entries at ≡ Some e →
+    IsKeptWindow content kept.streams number (index_of part.line.entries at) e
+IsKeptWindow-at store content kept number part at e numbered is =
+    let found = AreFound-numbered store.streams kept.streams number part kept.agree kept.state numbered in
+    let s = found.stream in
+    let i = index_of part.line.entries at in
+    let others = others_of found.place store.streams kept.streams in
+    let held = IsHeldIn-at store.streams kept.streams found.place part s content kept.agree kept.state found.at found.here kept.held in
+    let read = slice_get-entry part.line.entries at e is in
+    let window = window-at part s i e found.agrees read in
+    let own : number ≡ s.number =
+    eqb-true number part.id.0 (found-passes (λ (p : StreamParts). number == p.id.0) store.streams part numbered) ∙ found.agrees.number in
+    let all = records_held (part, s) ++ others in
+    let here = first_at (records_held (part, s)) others (suc i) (e.slot, Some (window_record s.number window.0)) (record-at part s i e window.0 read window.1) in
+    record {
+      stream = s;
+      found = found.found_is;
+      window = window.0;
+      at = window.1;
+      span = window.2;
+      others = remove all (suc i);
+      has = subst (λ n. HasRecords ((e.slot, Some (window_record n window.0)) ∷ remove all (suc i)) content) (sym own)
+          (has-first all (suc i) (e.slot, Some (window_record s.number window.0)) content here held.records);
+    }
+
+-- what is read of it
+abbrev placed : Entry → Figures → Placed
+placed e summary = record { first = e.first; last = e.last; summary = summary }
+
+placed-is : (e : Entry) (w : Window) (summary : Figures) → span_held e ≡ span_of w → summary ≡ w.summary → placed_of w ≡ placed e summary
+placed-is e w summary span is =
+    let first : e.first ≡ w.first = ap (λ (p : ℕ × ℕ). p.0) span in
+    let last : e.last ≡ (placed_of w).last = ap (λ (p : ℕ × ℕ). p.1) span in
+    rw (first, last, is) refl
+
+-- a window is read as it is in the state that the content stands for
+pub window-read : (store : StoreState) (content : List ℕ) (number : ℕ) (part : StreamParts) (at : At) (e : Entry) (summary : Figures) →
+    IsKept store content → part_numbered number store.streams ≡ Some part → entry_at part.line.entries at ≡ Some e →
+    ((others : List (ℕ × Option Record)) (w : Window) → HasRecords ((e.slot, Some (window_record number w)) ∷ others) content →
+    span_held e ≡ span_of w → summary ≡ w.summary) →
+    (streams : List Stream) → Recovers streams content →
+    IfSome (part_numbered number store.streams) (λ p. IfSome (stream_numbered number streams) (λ s.
+    slice_get (map placed_of s.windows) (index_of p.line.entries at) ≡ Some (placed e summary)))
+window-read store content number part at e summary kept numbered is reads streams recovers =
+    let window = IsKeptWindow-at store content kept number part at e numbered is in
+    let same = Recovers-same kept.streams streams content (Recovers-IsKept store content kept) recovers in
+    let found : stream_numbered number streams ≡ Some window.stream = ap (λ l. stream_numbered number l) (sym same) ∙ window.found in
+    let summary_is = reads window.others window.window window.has window.span in
+    let read : slice_get (map placed_of window.stream.windows) (index_of part.line.entries at) ≡ Some (placed e summary) =
+    slice_get-map placed_of window.stream.windows (index_of part.line.entries at) ∙ ap (option_map placed_of) window.at
+    ∙ ap (λ (p : Placed). Some p) (placed-is e window.window summary window.span summary_is) in
+    rw (numbered, found) read
+
+-- no slot has changed on a disk that tells
+IsAskFirm-fault : (T : Type 0) (summary : Figures) (f : Fault) (error : AskError) → IsRead summary (Err f) → error ≡ ask_of_fault f → IsAskFirm {T = T} (Err error)
+IsAskFirm-fault T summary fault.Disk error read is = subst (λ x. IsAskFirm {T = T} (Err x)) (sym is) tt
+IsAskFirm-fault T summary (fault.Changed slot) error read is = absurd read
+
+pub firm-read : (T : Type 0) (store : StoreState) (content : List ℕ) (number : ℕ) (part : StreamParts) (at : At) (e : Entry) (f : Fault) (error : AskError) →
+    IsKept store content → part_numbered number store.streams ≡ Some part → entry_at part.line.entries at ≡ Some e →
+    ((others : List (ℕ × Option Record)) (w : Window) → HasRecords ((e.slot, Some (window_record number w)) ∷ others) content →
+    span_held e ≡ span_of w → IsRead w.summary (Err f)) → error ≡ ask_of_fault f → IsAskFirm {T = T} (Err error)
+firm-read T store content number part at e f error kept numbered is reads from =
+    let window = IsKeptWindow-at store content kept number part at e numbered is in
+    IsAskFirm-fault T window.window.summary f error (reads window.others window.window window.has window.span) from
+
+-- what is read keeps to the target
+pub within-read : {E : Type 0} (result : Result Placed E) (history : List Event) (o : Option StreamParts) (number : ℕ) (at : At) → IsHistory history → IsSome o →
+    IfOk result (λ p. IfSome o (λ part. IfSome (stream_numbered number (state history)) (λ s.
+    slice_get (map placed_of s.windows) (index_of part.line.entries at) ≡ Some p))) →
+    IfOk result (λ p. IfSome (stream_numbered number (state history)) (λ s. IsReadWithinTarget (lengths_of s.params) (values_in s) p))
+within-read (Ok p) history None number at whole some read = (let wrong : false ≡ true = some in cc)
+within-read (Ok p) history (Some part) number at whole some read =
+    IsReadWithinTarget-read history (state history) number (index_of part.line.entries at) p whole refl read
+within-read (Err error) history o number at whole some read = tt
+
+-- the part that stands
+pub some_part : (o : Option StreamParts) (P : StreamParts → Type 0) → IsSome o → IfSome o P → (part : StreamParts) × (o ≡ Some part) × P part
+some_part None P some has = (let wrong : false ≡ true = some in cc)
+some_part (Some part) P some has = (part, refl, has)

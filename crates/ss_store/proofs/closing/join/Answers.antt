@@ -1,0 +1,139 @@
+use Rattle.std.proofs.Common.{◌≡◌, ◌∙◌, List, [], ◌∷◌, refl, sym, ap, subst, arith, IsTrue, Err}
+use Rattle.std.proofs.lemmas.Result.{err_from_is_err_and}
+use Rattle.ss_codec.proofs.RecordLemmas.{is_valid-IsWindow}
+use Rattle.std.specs.List.{remove}
+use Rattle.ss_line.specs.Line.{StandsIn, index_of}
+use Rattle.ss_line.specs.declared.entry.At.{At}
+use Rattle.ss_line.specs.declared.entry.Entry.{Entry}
+use Rattle.ss_summary.specs.Summaries.{joined}
+use Rattle.ss_target.specs.Lengths.{lengths_of}
+use Rattle.ss_target.specs.Targets.{params_of}
+use Rattle.ss_recover.specs.Held.{TileFrom, entries_of}
+use Rattle.ss_store.specs.Causes.{IsRead}
+use Rattle.ss_store.specs.Held.{IsHeldIn, IsPartlyJoined, values_held}
+use Rattle.ss_store.specs.Joining.{IsJoinedIn}
+use Rattle.ss_store.specs.Slots.{AreSomeLive, LiveSlotsGo}
+use Rattle.ss_store.proofs.Calls.{Turns-answers, Turns-failed}
+use Rattle.ss_store.proofs.Joinings.{AreSomeLive-two, IsFirm-read, LiveSlotsGo-two, Turns-join, Turns-not_read, read-held}
+use Rattle.ss_store.proofs.Pairs.{AreJoined, ArePair-read, AreSlots-joined, JoinsHeld-pair, StandsIn-left, StandsIn-right, joined_line, one_part, one_part-same}
+use Rattle.ss_store.proofs.Spans.{TileFrom-joined, values_held-joined}
+use Rattle.ss_store.proofs.closing.join.Goals as goal
+
+pub get-window-requires : goal.get-window-requires
+get-window-requires g c =
+    StandsIn-left (lengths_of (params_of c.args.part.now.target)) (values_held (entries_of c.args.part.now)) c.args.part.now.line.entries c.args.left c.args.right c.requires.due
+
+pub get-next-requires : goal.get-next-requires
+get-next-requires g c =
+    StandsIn-right (lengths_of (params_of c.args.part.now.target)) (values_held (entries_of c.args.part.now)) c.args.part.now.line.entries c.args.left c.args.right c.requires.due
+
+pub read_joined-requires-clause-live : goal.read_joined-requires-clause-live
+read_joined-requires-clause-live g c =
+    let pair = ArePair-read c.args.part.now c.args.left c.args.right c.get-window.result c.get-next.result c.requires.due c.requires.tiles c.get-window.ensures.entry c.get-next.ensures.entry in
+    AreSomeLive-two c.args.part.now (one_part c.args.part.now c.args.left c.args.right c.get-window.result c.get-next.result) c.get-window.result c.get-next.result c.args.records.now.live pair.slots c.requires.live
+
+pub read_joined-requires-clause-first : goal.read_joined-requires-clause-first
+read_joined-requires-clause-first g c =
+    (ArePair-read c.args.part.now c.args.left c.args.right c.get-window.result c.get-next.result c.requires.due c.requires.tiles c.get-window.ensures.entry c.get-next.ensures.entry).tiled.first
+
+pub read_joined-requires-clause-side_by_side : goal.read_joined-requires-clause-side_by_side
+read_joined-requires-clause-side_by_side g c =
+    (ArePair-read c.args.part.now c.args.left c.args.right c.get-window.result c.get-next.result c.requires.due c.requires.tiles c.get-window.ensures.entry c.get-next.ensures.entry).tiled.next
+
+pub read_joined-requires-clause-few : goal.read_joined-requires-clause-few
+read_joined-requires-clause-few g c =
+    let tiled = (ArePair-read c.args.part.now c.args.left c.args.right c.get-window.result c.get-next.result c.requires.due c.requires.tiles c.get-window.ensures.entry c.get-next.ensures.entry).tiled in
+    omega (arith, tiled.last, tiled.few)
+
+pub returns-in_err-read_joined-clause-joins : goal.returns-in_err-read_joined-clause-joins
+returns-in_err-read_joined-clause-joins g c = λ told others s.
+    Turns-not_read others c.args.part.now s _ (g.D.Disk.told c.args.disk.now) (g.D.Disk.told c.read_joined.new.disk) c.from_residual.result c.from_residual.ensures.0
+    (g.met.D.Disk.knows_now c.args.disk.now told) (c.read_joined.ensures.reads told)
+
+pub returns-in_err-read_joined-clause-firm : goal.returns-in_err-read_joined-clause-firm
+returns-in_err-read_joined-clause-firm g c = λ told others s held.
+    let w = c.get-window.result in
+    let v = c.get-next.result in
+    let pair = ArePair-read c.args.part.now c.args.left c.args.right w v c.requires.due c.requires.tiles c.get-window.ensures.entry c.get-next.ensures.entry in
+    let new = one_part c.args.part.now c.args.left c.args.right w v in
+    let j = JoinsHeld-pair others c.args.part.now new s w v (one_part-same c.args.part.now c.args.left c.args.right w v) pair.joined held.agrees held.stream in
+    let read = read-held others c.args.part.now new s w v (one_part-same c.args.part.now c.args.left c.args.right w v) pair.joined (g.D.Disk.told c.args.disk.now).content
+    (λ is. IsRead is (Err c.in_err-read_joined.field-0.0)) (c.in_err-read_joined.ensures.joined told) held in
+    let p = err_from_is_err_and c.from_residual.result c.from_residual.ensures.1 in
+    rw (p.1, p.2) (IsFirm-read (Unit {0}) (joined j.one.summary j.two.summary) c.in_err-read_joined.field-0.0 read)
+
+pub replace_two-requires-clause-valid : goal.replace_two-requires-clause-valid
+replace_two-requires-clause-valid g c =
+    let tiled = (ArePair-read c.args.part.now c.args.left c.args.right c.get-window.result c.get-next.result c.requires.due c.requires.tiles c.get-window.ensures.entry c.get-next.ensures.entry).tiled in
+    let count = c.in_ok-read_joined.ensures.count in
+    is_valid-IsWindow c.args.part.now.id.0 c.get-window.result.first c.in_ok-read_joined.field-0 (omega arith) tiled.first (omega (arith, count, tiled.last, tiled.few))
+    c.in_ok-read_joined.ensures.possible
+
+pub replace_two-requires-clause-live : goal.replace_two-requires-clause-live
+replace_two-requires-clause-live g c =
+    let pair = ArePair-read c.args.part.now c.args.left c.args.right c.get-window.result c.get-next.result c.requires.due c.requires.tiles c.get-window.ensures.entry c.get-next.ensures.entry in
+    subst (λ live. AreSomeLive (c.get-window.result.slot ∷ c.get-next.result.slot ∷ []) live) (sym c.read_joined.ensures.live)
+    (AreSomeLive-two c.args.part.now (one_part c.args.part.now c.args.left c.args.right c.get-window.result c.get-next.result) c.get-window.result c.get-next.result c.args.records.now.live pair.slots c.requires.live)
+
+pub returns-in_err-replace_two-clause-joins : goal.returns-in_err-replace_two-clause-joins
+returns-in_err-replace_two-clause-joins g c = λ told others s.
+    let w = c.get-window.result in
+    let v = c.get-next.result in
+    let pair = ArePair-read c.args.part.now c.args.left c.args.right w v c.requires.due c.requires.tiles c.get-window.ensures.entry c.get-next.ensures.entry in
+    let new = one_part c.args.part.now c.args.left c.args.right w v in
+    Turns-failed (IsHeldIn others c.args.part.now s) (IsPartlyJoined others s) (IsJoinedIn others new s) _ (g.D.Disk.told c.args.disk.now) (g.D.Disk.told c.replace_two.new.disk)
+    c.replace_two.result c.from_residual-in_err-replace_two.result c.from_residual-in_err-replace_two.ensures.0
+    (Turns-join others c.args.part.now new s w v (one_part-same c.args.part.now c.args.left c.args.right w v) pair.joined
+    (g.D.Disk.told c.args.disk.now) (g.D.Disk.told c.read_joined.new.disk) (g.D.Disk.told c.replace_two.new.disk) c.in_ok-read_joined.field-0 c.replace_two.result
+    (g.met.D.Disk.knows_now c.args.disk.now told) (c.read_joined.ensures.reads told) (c.in_ok-read_joined.ensures.joined told)
+    (c.replace_two.ensures.replaces (subst (λ b. IsTrue b) (sym c.read_joined.ensures.tells) told)))
+
+pub set-requires : goal.set-requires
+set-requires g c =
+    StandsIn-left (lengths_of (params_of c.args.part.now.target)) (values_held (entries_of c.args.part.now)) c.args.part.now.line.entries c.args.left c.args.right c.requires.due
+
+pub cut_out-requires : goal.cut_out-requires
+cut_out-requires g c =
+    subst (λ es. StandsIn es c.args.right) (sym c.set.ensures.entries)
+    (ArePair-read c.args.part.now c.args.left c.args.right c.get-window.result c.get-next.result c.requires.due c.requires.tiles c.get-window.ensures.entry c.get-next.ensures.entry).stands
+
+-- the line that is left, and what it is to the line before
+line : (g : _) (c : goal.After-cut_out g) →
+    AreJoined (lengths_of (params_of c.args.part.now.target)) (values_held (entries_of c.args.part.now)) c.args.part.now.line.entries c.cut_out.new.self.entries
+    c.get-window.result c.get-next.result
+line g c =
+    let is : c.cut_out.new.self.entries ≡ joined_line c.args.part.now.line.entries c.args.left c.args.right c.get-window.result c.get-next.result =
+    c.cut_out.ensures.entries ∙ ap (λ (es : List (At × Entry)). remove es (index_of es c.args.right)) c.set.ensures.entries in
+    let pair = ArePair-read c.args.part.now c.args.left c.args.right c.get-window.result c.get-next.result c.requires.due c.requires.tiles c.get-window.ensures.entry c.get-next.ensures.entry in
+    subst (λ es. AreJoined (lengths_of (params_of c.args.part.now.target)) (values_held (entries_of c.args.part.now)) c.args.part.now.line.entries es c.get-window.result c.get-next.result)
+    (sym is) pair.joined
+
+pub returns-clause-joins : goal.returns-clause-joins
+returns-clause-joins g c = λ told others s.
+    Turns-answers (IsHeldIn others c.args.part.now s) (IsPartlyJoined others s) _ (g.D.Disk.told c.args.disk.now) (g.D.Disk.told c.replace_two.new.disk) c.in_ok-replace_two.field-0 _
+    (Turns-join others c.args.part.now (record c.args.part.now { line = c.cut_out.new.self }) s c.get-window.result c.get-next.result
+    (record { id = refl; name = refl; target = refl; slot = refl; last_time = refl }) (line g c)
+    (g.D.Disk.told c.args.disk.now) (g.D.Disk.told c.read_joined.new.disk) (g.D.Disk.told c.replace_two.new.disk) c.in_ok-read_joined.field-0 _
+    (g.met.D.Disk.knows_now c.args.disk.now told) (c.read_joined.ensures.reads told) (c.in_ok-read_joined.ensures.joined told)
+    (c.in_ok-replace_two.ensures.replaces (subst (λ b. IsTrue b) (sym c.read_joined.ensures.tells) told)))
+
+pub returns-clause-values : goal.returns-clause-values
+returns-clause-values g c =
+    let pair = line g c in
+    ap (λ es. values_held es) pair.is ∙ values_held-joined pair.front c.get-window.result c.get-next.result pair.rest ∙ ap (λ es. values_held es) (sym pair.was)
+
+pub returns-clause-tiles : goal.returns-clause-tiles
+returns-clause-tiles g c =
+    let pair = line g c in
+    subst (λ es. TileFrom 1 es) (sym pair.is) (TileFrom-joined 1 pair.front c.get-window.result c.get-next.result pair.rest (subst (λ es. TileFrom 1 es) pair.was c.requires.tiles))
+
+pub returns-clause-fewer : goal.returns-clause-fewer
+returns-clause-fewer g c = (line g c).fewer
+
+pub returns-clause-live : goal.returns-clause-live
+returns-clause-live g c =
+    let new = record c.args.part.now { line = c.cut_out.new.self } in
+    let slots = AreSlots-joined (lengths_of (params_of c.args.part.now.target)) (values_held (entries_of c.args.part.now)) c.args.part.now new c.get-window.result c.get-next.result refl (line g c) in
+    LiveSlotsGo-two c.args.part.now new c.get-window.result c.get-next.result c.args.records.now.live c.replace_two.new.records.live slots
+    (subst (λ live. LiveSlotsGo (c.get-window.result.slot ∷ c.get-next.result.slot ∷ []) (c.get-window.result.slot ∷ []) live c.replace_two.new.records.live) c.read_joined.ensures.live
+    c.in_ok-replace_two.ensures.live)

@@ -1,0 +1,6 @@
+use Rattle.std.proofs.Common.{◌≡◌, map, take}
+use Rattle.ss_store.specs.Kept.{entry_of}
+use Rattle.ss_store.proofs.opening.catalog_of.Given as goal
+
+abbrev pub invariant-loop-stream : goal.invariant-loop-stream
+invariant-loop-stream l = l.catalog ≡ map entry_of (take l.stream-index l.streams)

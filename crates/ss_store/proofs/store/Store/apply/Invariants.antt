@@ -1,0 +1,4 @@
+use Rattle.ss_store.proofs.store.Store.apply.Given as goal
+
+abbrev pub ghosts-append : goal.ghosts-append
+ghosts-append g a = record { name = a.blank.name; parts = a.blank.parts }

@@ -1,0 +1,28 @@
+use Rattle.std.proofs.Common.{◌≡◌, ◌<◌, ◌∙◌, ap, length, refl, Some, subst, sym}
+use Rattle.std.specs.Prelude.{option_map, slice_get}
+use Rattle.std.proofs.lemmas.Option.{slice_get_read}
+use Rattle.ss_model.specs.declared.types.StreamRow.{StreamRow}
+use Rattle.ss_recover.specs.Held.{AllAgree}
+use Rattle.ss_store.specs.Kept.{StoreState, row_of_held}
+use Rattle.ss_store.proofs.RowsHeld.{row-at}
+use Rattle.ss_store.proofs.store.Store.stream_in.Goals as goal
+
+pub returns-clause-held : goal.returns-clause-held
+returns-clause-held g c =
+    let parts = c.self.inside.streams.items in
+    let part = c.index-stream.result.now in
+    let at : slice_get parts c.args.place ≡ Some part =
+    slice_get_read parts (length parts) c.args.place part refl
+    (subst (λ (s : StoreState). c.args.place < length s.streams) (sym c.self.view_is) c.requires.place) c.index-stream.ensures in
+    ap (λ (s : StoreState). option_map row_of_held (slice_get s.streams c.args.place)) (sym c.self.view_is) ∙ ap (option_map row_of_held) at
+    ∙ ap (λ (r : StreamRow). Some r) (rw (c.params.ensures, c.values_held.ensures, c.len.ensures.value) refl)
+
+pub returns-clause-row : goal.returns-clause-row
+returns-clause-row g c streams state each =
+    let parts = c.self.inside.streams.items in
+    let part = c.index-stream.result.now in
+    let held : AllAgree parts streams = subst (λ (s : StoreState). AllAgree s.streams streams) (sym c.self.view_is) each in
+    let at : slice_get parts c.args.place ≡ Some part =
+    slice_get_read parts (length parts) c.args.place part refl
+    (subst (λ (s : StoreState). c.args.place < length s.streams) (sym c.self.view_is) c.requires.place) c.index-stream.ensures in
+    row-at parts streams c.args.place part _ state held at (rw (c.params.ensures, c.values_held.ensures, c.len.ensures.value) refl)

@@ -1,0 +1,33 @@
+-- What is known of an event that isn't refused, before it is applied.
+use Rattle.std.specs.Prelude.{◌≡◌, ℕ, ◌<◌, ◌≤◌, false, List, length, flat_map, slice_get, Some, None, IsTrue}
+use Rattle.ss_catalog.specs.declared.params.Params.{Params}
+use Rattle.ss_journal.specs.declared.format.TheConstants.{MOST_SLOTS}
+use Rattle.ss_records.specs.Live.{lowest_free}
+use Rattle.ss_target.specs.Lengths.{has_target}
+use Rattle.ss_windowing.specs.declared.decay.TheConstants.{MOST_VALUES}
+use Rattle.ss_model.specs.Refusals.{is_past}
+use Rattle.ss_model.specs.State.{next_number}
+use Rattle.ss_recover.specs.Held.{entries_of, slots_held}
+use Rattle.ss_recover.specs.declared.parts.StreamParts.{StreamParts}
+use Rattle.ss_store.specs.Held.{values_held}
+use Rattle.ss_store.specs.Kept.{StoreState, has_all_numbers, numbers_held, part_named}
+
+-- a name and parameters make a new stream, with this number, and its record comes into this slot
+pub record IsNew (store : StoreState) (name : List ℕ) (params : Params) (number slot : ℕ) : Type 0 where
+  pub target : IsTrue (has_target params)
+  pub named : part_named name store.streams ≡ None
+  pub next : number ≡ next_number (numbers_held store.streams)
+  pub room : has_all_numbers (numbers_held store.streams) ≡ false
+  pub free : lowest_free store.records.live ≡ Some slot
+  pub low : slot ≤ length (flat_map slots_held store.streams)
+
+-- the stream of a name stands at a place and may take a value at a time, and a slot is free for its window
+pub record IsTaker (store : StoreState) (name : List ℕ) (t place slot : ℕ) : Type 0 where
+  pub part : StreamParts
+  pub named : part_named name store.streams ≡ Some part
+  pub at : slice_get store.streams place ≡ Some part
+  pub later : is_past part.last_time t ≡ false
+  pub room : values_held (entries_of part) < MOST_VALUES
+  pub free : lowest_free store.records.live ≡ Some slot
+  pub low : slot ≤ length (flat_map slots_held store.streams)
+  pub few : length part.line.entries < MOST_SLOTS

@@ -1,0 +1,41 @@
+-- What a call makes of what a disk stands for, also in a crash.
+use Rattle.std.specs.Prelude.{◌⊎◌, ℕ, List, [], ◌∷◌, ◌++◌, Result, OnOk}
+use Rattle.ss_catalog.specs.declared.event.Event.{Event}
+use Rattle.ss_outside.specs.Crash.{LeavesOnly}
+use Rattle.ss_outside.specs.Disk.{Told, NothingPending}
+use Rattle.ss_model.specs.State.{Stream}
+use Rattle.ss_model.specs.Steps.{stepped}
+use Rattle.ss_store.specs.Recover.{Recovers, Stands}
+
+-- A call turns a content that has P into one that has Q. With nothing pending at the call, a crash at any moment of it leaves
+-- only images that have M, and at Ok nothing is pending.
+pub record Turns {T E : Type 0} (P M Q : List ℕ → Type 0) (old new : Told) (result : Result T E) : Type 0 where
+  pub content : P old.content → OnOk result (Q new.content)
+  pub any_moment : NothingPending old → P old.content → LeavesOnly old new M
+  pub durable : NothingPending old → OnOk result (NothingPending new)
+
+-- A call keeps what the disk stands for, whatever it is.
+abbrev pub KeepsState : {T E : Type 0} → Told → Told → Result T E → Type 0
+KeepsState old new result = (streams : List Stream) → Turns (Recovers streams) (Recovers streams) (Recovers streams) old new result
+
+-- the same of histories
+abbrev pub KeepsHistory : {T E : Type 0} → Told → Told → Result T E → Type 0
+KeepsHistory old new result = (history : List Event) → Turns (Stands history) (Stands history) (Stands history) old new result
+
+-- the image stands for the history, or for the history with the event at its end
+abbrev pub StandsForEither : List Event → Event → List ℕ → Type 0
+StandsForEither history event image = Stands history image ⊎ Stands (history ++ event ∷ []) image
+
+-- A call adds an event to the history that the disk stands for, wholly or not at all.
+abbrev pub AddsEvent : {T E : Type 0} → Event → Told → Told → Result T E → Type 0
+AddsEvent event old new result =
+    (history : List Event) → Turns (Stands history) (StandsForEither history event) (Stands (history ++ event ∷ [])) old new result
+
+-- the image recovers to these streams, or to those after the event
+abbrev pub RecoversToEither : List Stream → Event → List ℕ → Type 0
+RecoversToEither streams event image = Recovers streams image ⊎ Recovers (stepped streams event) image
+
+-- A call makes a step of the state that the disk stands for, wholly or not at all, also of one that no history has.
+abbrev pub StepsState : {T E : Type 0} → Event → Told → Told → Result T E → Type 0
+StepsState event old new result =
+    (streams : List Stream) → Turns (Recovers streams) (RecoversToEither streams event) (Recovers (stepped streams event)) old new result

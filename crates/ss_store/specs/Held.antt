@@ -1,0 +1,51 @@
+-- One stream among others: what is held of it in memory, and its records.
+use Rattle.std.specs.Prelude.{◌≡◌, ◌⊎◌, ℕ, ℤ, ◌+◌, List, [], ◌∷◌, ◌++◌, Option}
+use Rattle.ss_codec.specs.declared.record.Record.{Record}
+use Rattle.ss_line.specs.declared.entry.Entry.{Entry}
+use Rattle.ss_target.specs.Lengths.{lengths_of}
+use Rattle.ss_model.specs.Joins.{JoinsDue}
+use Rattle.ss_model.specs.Standing.{IsStream}
+use Rattle.ss_model.specs.State.{Stream, values_in}
+use Rattle.ss_model.specs.Steps.{single_window}
+use Rattle.ss_model.specs.declared.types.Window.{Window}
+use Rattle.ss_recover.specs.Held.{Agrees, records_held}
+use Rattle.ss_recover.specs.declared.parts.StreamParts.{StreamParts}
+use Rattle.ss_store.specs.Slots.{HasRecords}
+
+-- What is held agrees with the stream, and its records lie in an image beside the others, each in the slot where it is held.
+pub record IsHeldIn (others : List (ℕ × Option Record)) (part : StreamParts) (s : Stream) (image : List ℕ) : Type 0 where
+  pub agrees : Agrees part s
+  pub stream : IsStream s
+  pub records : HasRecords (records_held (part, s) ++ others) image
+
+-- a stream with these windows in place of its own
+abbrev pub with_windows : Stream → List Window → Stream
+with_windows s ws = record s { windows = ws }
+
+-- An image has the records of a stream of whose windows some were joined that are due, however many.
+pub record IsPartlyJoined (others : List (ℕ × Option Record)) (s : Stream) (image : List ℕ) : Type 0 where
+  pub part : StreamParts
+  pub windows : List Window
+  pub joins : JoinsDue (lengths_of s.params) (values_in s) s.windows windows
+  pub held : IsHeldIn others part (with_windows s windows) image
+
+-- a stream with a value as a window of its own, before any window is joined
+abbrev pub with_single : Stream → ℕ → ℤ → Stream
+with_single s t v = with_windows s (s.windows ++ single_window (values_in s + 1) t v ∷ [])
+
+-- what a crash in the middle of an append may leave: the stream from before, or with the value, however many were joined
+abbrev pub IsHalfway : List (ℕ × Option Record) → StreamParts → Stream → ℕ → ℤ → List ℕ → Type 0
+IsHalfway others part s t v image = IsHeldIn others part s image ⊎ IsPartlyJoined others (with_single s t v) image
+
+-- how many values the entries of a stream hold
+abbrev pub values_held : List Entry → ℕ
+values_held [] = 0
+values_held (e ∷ []) = e.last
+values_held (e ∷ f ∷ es) = values_held (f ∷ es)
+
+-- the same stream, perhaps with other windows
+pub record IsSameStream (old new : StreamParts) : Type 0 where
+  pub id : new.id ≡ old.id
+  pub name : new.name ≡ old.name
+  pub target : new.target ≡ old.target
+  pub slot : new.slot ≡ old.slot

@@ -1,0 +1,41 @@
+-- Two windows side by side in a line, and a stream of which some windows were joined.
+use Rattle.std.specs.Prelude.{◌≡◌, ℕ, true, false, List, [], ◌∷◌, ◌++◌, Option, ⊤}
+use Rattle.std.specs.List.{list_any}
+use Rattle.ss_codec.specs.declared.record.Record.{Record}
+use Rattle.ss_line.specs.Line.{is_at}
+use Rattle.ss_line.specs.declared.entry.At.{At}
+use Rattle.ss_line.specs.declared.entry.Entry.{Entry}
+use Rattle.ss_target.specs.Lengths.{lengths_of}
+use Rattle.ss_windowing.specs.Windowing.{fits}
+use Rattle.ss_model.specs.Joins.{JoinsDue}
+use Rattle.ss_model.specs.State.{Stream, values_in}
+use Rattle.ss_model.specs.declared.types.Window.{Window}
+use Rattle.ss_recover.specs.declared.parts.StreamParts.{StreamParts}
+use Rattle.ss_store.specs.Held.{IsHeldIn, with_windows}
+
+-- of two neighbours, each by its positions, none lie together in one target window at n
+abbrev pub NoSpansAreDue : (ℕ → ℕ) → ℕ → List (ℕ × ℕ) → Type 0
+NoSpansAreDue len n [] = ⊤
+NoSpansAreDue len n (span ∷ []) = ⊤
+NoSpansAreDue len n (span ∷ next ∷ spans) = (fits len span.0 next.1 n ≡ false) × NoSpansAreDue len n (next ∷ spans)
+
+-- two entries stand side by side in a line, and no entry before them has a place of theirs
+pub record AreSideBySide (entries : List (At × Entry)) (left right : At) : Type 0 where
+  pub before : List (At × Entry)
+  pub window : Entry
+  pub next : Entry
+  pub rest : List (At × Entry)
+  pub is : entries ≡ before ++ (left, window) ∷ (right, next) ∷ rest
+  pub left_once : list_any (is_at left) before ≡ false
+  pub right_once : list_any (is_at right) (before ++ (left, window) ∷ []) ≡ false
+
+-- and at n they lie together in one target window
+pub record AreDue (len : ℕ → ℕ) (n : ℕ) (entries : List (At × Entry)) (left right : At) : Type 0 where
+  pub pair : AreSideBySide entries left right
+  pub due : fits len pair.window.first pair.next.last n ≡ true
+
+-- what is held agrees with a stream of whose windows some were joined that are due, and its records lie in an image
+pub record IsJoinedIn (others : List (ℕ × Option Record)) (part : StreamParts) (s : Stream) (image : List ℕ) : Type 0 where
+  pub windows : List Window
+  pub joins : JoinsDue (lengths_of s.params) (values_in s) s.windows windows
+  pub held : IsHeldIn others part (with_windows s windows) image

@@ -1,0 +1,60 @@
+-- The records in the slots of an image.
+use Rattle.std.specs.Prelude.{◌⊎◌, ℕ, Bool, nat_lt, if◌then◌else◌, List, [], ◌∷◌, ◌++◌, length, filter, Option, Some, Result}
+use Rattle.std.specs.List.{range_with_len}
+use Rattle.std.specs.List.Sorted.{IsPermutation}
+use Rattle.ss_outside.specs.Disk.{Told}
+use Rattle.ss_journal.specs.Redo.{SlotMap, StandsFor, zeros}
+use Rattle.ss_journal.specs.declared.put.Put.{Put}
+use Rattle.ss_records.specs.Live.{is_live}
+use Rattle.ss_codec.specs.Record.{spelling}
+use Rattle.ss_codec.specs.declared.record.Record.{Record}
+use Rattle.ss_recover.specs.Held.{occupied}
+use Rattle.ss_store.specs.Calls.{Turns}
+
+-- the image stands for a map whose slots that aren't zeros are these, each with its record, in whichever order
+pub record HasRecords (slots : List (ℕ × Option Record)) (image : List ℕ) : Type 0 where
+  pub found : SlotMap
+  pub map : StandsFor image found
+  pub occupied : IsPermutation slots (occupied found)
+
+-- either
+abbrev pub Either : (List ℕ → Type 0) → (List ℕ → Type 0) → List ℕ → Type 0
+Either P Q image = P image ⊎ Q image
+
+-- a call puts a record into a free slot, or leaves all as it was
+abbrev pub AddsRecord : {T E : Type 0} → ℕ → Record → Told → Told → Result T E → Type 0
+AddsRecord slot r old new result =
+    (others : List (ℕ × Option Record)) →
+    Turns (HasRecords others) (Either (HasRecords others) (HasRecords ((slot, Some r) ∷ others))) (HasRecords ((slot, Some r) ∷ others)) old new result
+
+-- a call puts a record in place of that of one slot, and frees another, or leaves all as it was
+abbrev pub ReplacesTwo : {T E : Type 0} → ℕ → ℕ → Record → Told → Told → Result T E → Type 0
+ReplacesTwo kept freed r old new result =
+    (was gone : Option Record) (others : List (ℕ × Option Record)) →
+    let before = HasRecords ((kept, was) ∷ (freed, gone) ∷ others) in
+    let after = HasRecords ((kept, Some r) ∷ others) in
+    Turns before (Either before after) after old new result
+
+-- a put of a record, and one of zeros
+abbrev pub record_put : ℕ → Record → Put
+record_put slot r = record { slot = slot; bytes = spelling r }
+
+abbrev pub zeros_put : ℕ → Put
+zeros_put slot = record { slot = slot; bytes = zeros }
+
+-- a record for one slot and zeros for another, in the order of the slots
+abbrev pub pair_put : ℕ → ℕ → Record → List Put
+pair_put kept freed r = if nat_lt kept freed then record_put kept r ∷ zeros_put freed ∷ [] else zeros_put freed ∷ record_put kept r ∷ []
+
+-- the slots that are live, in order
+abbrev pub live_slots : List Bool → List ℕ
+live_slots live = filter (is_live live) (range_with_len 0 (length live))
+
+-- these slots are live, each once
+abbrev pub AreSomeLive : List ℕ → List Bool → Type 0
+AreSomeLive slots live = (others : List ℕ) × IsPermutation (slots ++ others) (live_slots live)
+
+-- slots that were some of those that are live became these, and the others stay
+abbrev pub LiveSlotsGo : List ℕ → List ℕ → List Bool → List Bool → Type 0
+LiveSlotsGo slots now live live_now =
+    (others : List ℕ) → IsPermutation (slots ++ others) (live_slots live) → IsPermutation (now ++ others) (live_slots live_now)

@@ -1,0 +1,65 @@
+// Laws of stores and their disks, each the contract of a function that does nothing.
+ghost use Rattle.std.specs.Prelude.{◌≡◌, ◌+◌, ◌*◌, ◌<◌, ◌≤◌, ℕ, Bool, IsTrue, List, [], length, map, flat_map};
+ghost use Rattle.ss_catalog.specs.declared.event.Event.{Event};
+ghost use Rattle.ss_journal.specs.Format.{is_unborn};
+ghost use Rattle.ss_line.specs.declared.entry.Entry.{Entry};
+ghost use Rattle.ss_records.specs.Live.{live_count};
+ghost use Rattle.ss_model.specs.Decay.{cover};
+ghost use Rattle.ss_model.specs.Refusals.{refuses};
+ghost use Rattle.ss_model.specs.Standing.{IsState};
+ghost use Rattle.ss_model.specs.State.{Stream, live, state, stream_named, stream_numbered, values_in};
+ghost use Rattle.ss_recover.specs.Held.{Agrees, AllAgree, AreWhole, TileFrom, entries_of, slots_held, span_held};
+ghost use Rattle.ss_recover.specs.declared.parts.StreamParts.{StreamParts};
+ghost use Rattle.ss_model.specs.Standing.{IsStream};
+ghost use Rattle.ss_store.specs.Held.{values_held};
+ghost use Rattle.ss_store.specs.Joining.{NoSpansAreDue};
+ghost use Rattle.ss_store.specs.Kept.{IsKept, SomeAgree, StoreState, part_named, part_numbered, refuses_held};
+ghost use Rattle.ss_store.specs.Recover.{Recovers, Stands};
+
+/// What a store holds agrees with the state that its content stands for.
+pub fn what_is_kept_is_the_state()
+    ensures state { (store : StoreState) (content : List ℕ) (streams : List Stream) → IsKept store content →
+        Recovers streams content → AllAgree store.streams streams × IsState streams }
+    ensures history { (store : StoreState) (content : List ℕ) (history : List Event) → IsKept store content →
+        Stands history content → AllAgree store.streams (state history) × IsState (state history) }
+    ensures recovers { (store : StoreState) (content : List ℕ) → IsKept store content →
+        (streams : List Stream) × Recovers streams content × AllAgree store.streams streams × IsState streams }
+{}
+
+/// Streams that are held agree one by one, and are found alike, by name and by number.
+pub fn what_is_held_is_found_alike()
+    ensures named { (parts : List StreamParts) (streams : List Stream) (name : List ℕ) → AllAgree parts streams →
+        SomeAgree (part_named name parts) (stream_named name streams) }
+    ensures numbered { (parts : List StreamParts) (streams : List Stream) (number : ℕ) → AllAgree parts streams →
+        SomeAgree (part_numbered number parts) (stream_numbered number streams) }
+{}
+
+/// A stream that is held has as many values and windows as the stream that it agrees with.
+pub fn what_is_held_counts_alike()
+    ensures values { (part : StreamParts) (s : Stream) → IsStream s → Agrees part s → values_held (entries_of part) ≡ values_in s }
+    ensures windows { (part : StreamParts) (s : Stream) → Agrees part s → length part.line.entries ≡ length s.windows }
+    ensures streams { (parts : List StreamParts) (streams : List Stream) → AllAgree parts streams → length parts ≡ length streams }
+    ensures records { (parts : List StreamParts) (streams : List Stream) (bits : List Bool) → AllAgree parts streams →
+        AreWhole parts bits → live_count bits ≡ live streams }
+    ensures slots { (parts : List StreamParts) (streams : List Stream) → AllAgree parts streams →
+        length (flat_map slots_held parts) ≡ live streams }
+{}
+
+/// Where no two neighbours lie together in one target window, at most 2K - 1 windows stand, where K target windows cover the
+/// values.
+pub fn few_windows_stand()
+    ensures { (len : ℕ → ℕ) (entries : List Entry) → TileFrom 1 entries →
+        NoSpansAreDue len (values_held entries) (map span_held entries) → 0 < values_held entries →
+        length entries + 1 ≤ 2 * cover len (values_held entries) }
+{}
+
+/// Refusals by what is held are those of the state that it agrees with.
+pub fn refusals_of_what_is_held()
+    ensures { (parts : List StreamParts) (streams : List Stream) (event : Event) → AllAgree parts streams → IsState streams →
+        refuses_held parts event ≡ refuses streams event }
+{}
+
+/// A file that isn't formed stands for the empty history.
+pub fn unformatted_files_stand_for_nothing()
+    ensures { (image : List ℕ) → IsTrue (is_unborn image) → Stands [] image }
+{}

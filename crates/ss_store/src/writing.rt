@@ -1,0 +1,100 @@
+// Transactions of records.
+ghost use Rattle.std.specs.Prelude.{◌≡◌, ◌≢◌, ◌+◌, ◌<◌, ◌≤◌, max, [], ◌∷◌, true, IsTrue, OnOk, OnErr};
+ghost use Rattle.ss_outside.specs.Causes.{HasCause};
+ghost use Rattle.ss_journal.specs.Kept.{IsSettled};
+ghost use Rattle.ss_journal.specs.declared.format.TheConstants.{MOST_SLOTS};
+ghost use Rattle.ss_records.specs.Kept.{AreKept};
+ghost use Rattle.ss_records.specs.Live.{lowest_free};
+ghost use Rattle.ss_codec.specs.Record.{is_valid};
+ghost use Rattle.ss_codec.specs.declared.record.Record.TheVariants.{Free};
+ghost use Rattle.ss_store.specs.Slots.{AddsRecord, AreSomeLive, LiveSlotsGo, ReplacesTwo, pair_put};
+
+use ss_codec::{Record, SLOT_SIZE, encode};
+use ss_journal::{MOST_SLOTS, Put, Txn};
+use ss_outside::{Disk, Failed};
+use ss_records::Records;
+
+/// Puts a record into the lowest free slot.
+pub fn add_record<D: Disk>(
+    records: &mut Records,
+    disk: &mut D,
+    slot: u32,
+    written: &Record,
+) -> Result<(), Failed>
+    requires settled { IsSettled records.old.journal }
+    requires valid { IsTrue (is_valid written.now) }
+    requires some { written.now ≢ Free }
+    requires free { lowest_free records.old.live ≡ Some slot }
+    requires one_disk { IsTrue (D.tells disk.old) → AreKept records.old (D.told disk.old).content }
+    ensures adds { IsTrue (D.tells disk.old) → AddsRecord slot written.now (D.told disk.old) (D.told disk.new) result }
+    ensures one_disk { IsTrue (D.tells disk.old) → OnOk result (AreKept records.new (D.told disk.new).content) }
+    ensures settled { OnOk result (IsSettled records.new.journal) }
+    ensures live { OnOk result (LiveSlotsGo [] (slot ∷ []) records.old.live records.new.live) }
+    ensures extent { OnOk result (records.new.journal.extent ≤ max records.old.journal.extent (slot + 1)) }
+    ensures err { OnErr result (records.new.live ≡ records.old.live) }
+    ensures tells { D.tells disk.new ≡ D.tells disk.old }
+    ensures cause { HasCause (D.faults disk.old) (D.faults disk.new) result }
+{
+    prove!(records.lowest_free() == Some(slot));
+    let mut txn = Txn::new();
+    txn.push(Put {
+        slot,
+        bytes: encode(written),
+    });
+    records.apply(disk, &txn)
+}
+
+// A record for one slot and zeros for another, in the order of the slots.
+fn pair_of(kept: u32, freed: u32, written: &Record) -> Txn
+    requires apart { kept ≢ freed }
+    requires kept { kept < MOST_SLOTS }
+    requires freed { freed < MOST_SLOTS }
+    requires valid { IsTrue (is_valid written.now) }
+    ensures { result.items ≡ pair_put kept freed written.now }
+{
+    let put = Put {
+        slot: kept,
+        bytes: encode(written),
+    };
+    let zeros = Put {
+        slot: freed,
+        bytes: [0; SLOT_SIZE],
+    };
+    let mut txn = Txn::new();
+    if kept < freed {
+        txn.push(put);
+        txn.push(zeros);
+    } else {
+        txn.push(zeros);
+        txn.push(put);
+    }
+    txn
+}
+
+/// Puts a record in place of another and frees a second slot, both or neither.
+pub fn replace_two<D: Disk>(
+    records: &mut Records,
+    disk: &mut D,
+    kept: u32,
+    freed: u32,
+    written: &Record,
+) -> Result<(), Failed>
+    requires settled { IsSettled records.old.journal }
+    requires valid { IsTrue (is_valid written.now) }
+    requires some { written.now ≢ Free }
+    requires live { AreSomeLive (kept ∷ freed ∷ []) records.old.live }
+    requires one_disk { IsTrue (D.tells disk.old) → AreKept records.old (D.told disk.old).content }
+    ensures replaces { IsTrue (D.tells disk.old)
+        → ReplacesTwo kept freed written.now (D.told disk.old) (D.told disk.new) result }
+    ensures one_disk { IsTrue (D.tells disk.old) → OnOk result (AreKept records.new (D.told disk.new).content) }
+    ensures settled { OnOk result (IsSettled records.new.journal) }
+    ensures live { OnOk result (LiveSlotsGo (kept ∷ freed ∷ []) (kept ∷ []) records.old.live records.new.live) }
+    ensures extent { OnOk result (records.new.journal.extent ≡ records.old.journal.extent) }
+    ensures err { OnErr result (records.new.live ≡ records.old.live) }
+    ensures tells { D.tells disk.new ≡ D.tells disk.old }
+    ensures cause { HasCause (D.faults disk.old) (D.faults disk.new) result }
+{
+    // The records are sound: each slot that is live lies below the extent.
+    prove!(records.live() <= MOST_SLOTS);
+    records.apply(disk, &pair_of(kept, freed, written))
+}
