@@ -6,16 +6,23 @@ TARGET_BENCH = crates/target_bench/out/target_bench
 LANDMARKS = crates/landmarks_bench/out/landmarks_bench
 PREFIX = /usr/local
 
-.PHONY: build demo test install bench help
+.PHONY: build demo test faults install bench help
 
 build: ## proves and builds the program
-	@tools/build summarystore any.store
+	@tools/build summarystore --version
 
 demo: build ## builds the program, and runs it on each file of examples/
 	@examples/demo $(PROGRAM)
 
 test: ## runs the whole gate: proofs, tests, must-fail edits, program runs
 	.ci/run
+
+faults: ## tries the program that was built last on files while something goes wrong: faults/README.md
+	@test -x $(PROGRAM) || $(MAKE) build
+	@faults/foreign $(PROGRAM)
+	@faults/refuse $(PROGRAM)
+	@faults/kill $(PROGRAM)
+	@faults/images $(PROGRAM)
 
 install: ## installs the program that was built last: make install PREFIX=/usr/local
 	@test -x $(PROGRAM) || $(MAKE) build
@@ -27,7 +34,7 @@ bench: ## times the programs that were built last: bench/README.md
 	@test -x $(RECORDS_BENCH) || tools/build records_bench
 	@test -x $(TARGET_BENCH) || tools/build target_bench
 	@test -x $(LANDMARKS) || tools/build landmarks_bench
-	@bench/appends $(PROGRAM)
+	@bench/durable $(PROGRAM)
 	@bench/commits $(BENCH)
 	@bench/records $(RECORDS_BENCH)
 	@bench/targets $(TARGET_BENCH)

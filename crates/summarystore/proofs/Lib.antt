@@ -1,6 +1,7 @@
 pub mod SendLemmas
-pub mod AnswerLemmas
 pub mod SessionLemmas
 pub mod TakeLemmas
+pub mod AnswerLemmas
+pub mod HeldLemmas
 pub mod RunLemmas
 pub mod Rows

@@ -1,6 +1,6 @@
 -- Worked rows of the session, and the numbers of its rules.
 use Rattle.std.proofs.Common.{◌≡◌, ◌^◌, ◌++◌, [], ◌∷◌, refl}
-use Rattle.std.specs.Prelude.{ℕ, List, codes, pos, negsuc, flat_map}
+use Rattle.std.specs.Prelude.{ℕ, List, Some, None, codes, pos, negsuc, flat_map}
 use Rattle.std.specs.Fmt.{digits}
 use Rattle.ss_catalog.specs.Names.{is_name}
 use Rattle.ss_catalog.specs.declared.event.Event.{Event}
@@ -13,7 +13,10 @@ use Rattle.ss_fields.specs.Words.{is_number, number_of, number_up_to, signed_of}
 use Rattle.ss_model.specs.Refusals.{refuses, refuses_reading}
 use Rattle.ss_model.specs.State.{state}
 use Rattle.ss_windowing.specs.Windowing.{index_of}
+use Rattle.ss_store.specs.Recover.{no_store, damaged_entry, damaged_slot, damaged_stream, recovers}
+use Rattle.summarystore.specs.Held.{acks}
 use Rattle.summarystore.specs.Outcome.{lines_within}
+use Rattle.summarystore.specs.Refused.{refusal_line}
 use Rattle.summarystore.specs.Session.{accepted, after_lines, report}
 use Rattle.summarystore.specs.declared.run.TheConstants.{BUFFER, LONGEST_INPUT}
 
@@ -74,3 +77,44 @@ lines_within-rest = refl
 lines_within-end : lines_within (codes "ab" ++ 10 ∷ codes "c") [] ≡ codes "ab" ∷ codes "c" ∷ []
 unfolding ended_lines unended
 lines_within-end = refl
+
+-- each reply to the readings has 7 bytes: an event is acknowledged with the last of them
+acks-none : acks [] (lines readings) 6 ≡ 0
+unfolding ended_lines unended meaning words is_number number_of number_up_to signed_of is_name state refuses refuses_reading index_of digits
+acks-none = refl
+
+acks-some : acks [] (lines readings) 20 ≡ 2
+unfolding ended_lines unended meaning words is_number number_of number_up_to signed_of is_name state refuses refuses_reading index_of digits
+acks-some = refl
+
+acks-all : acks [] (lines readings) 56 ≡ 8
+unfolding ended_lines unended meaning words is_number number_of number_up_to signed_of is_name state refuses refuses_reading index_of digits
+acks-all = refl
+
+-- what is shown behind them acknowledges no further event, and refused lines acknowledge none
+acks-shown : acks [] (lines readings) 100 ≡ 8
+unfolding ended_lines unended meaning words is_number number_of number_up_to signed_of is_name state refuses refuses_reading index_of digits
+acks-shown = refl
+
+acks-refused : acks history (lines mistakes) 120 ≡ 0
+unfolding ended_lines unended meaning words is_number number_of number_up_to signed_of is_name state refuses refuses_reading index_of digits
+acks-refused = refl
+
+-- what is said of a store that is refused
+refusal_line-no_store : refusal_line no_store ≡ Some (codes "not a store" ++ 10 ∷ [])
+refusal_line-no_store = refl
+
+refusal_line-entry : refusal_line (damaged_entry 0) ≡ Some (codes "damaged entry 0" ++ 10 ∷ [])
+unfolding digits
+refusal_line-entry = refl
+
+refusal_line-slot : refusal_line (damaged_slot 1048575) ≡ Some (codes "damaged slot 1048575" ++ 10 ∷ [])
+unfolding digits
+refusal_line-slot = refl
+
+refusal_line-stream : refusal_line (damaged_stream 6) ≡ Some (codes "damaged stream 6" ++ 10 ∷ [])
+unfolding digits
+refusal_line-stream = refl
+
+refusal_line-recovers : refusal_line (recovers []) ≡ None
+refusal_line-recovers = refl

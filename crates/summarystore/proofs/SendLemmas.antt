@@ -1,10 +1,12 @@
 -- What puts one after another leave, and fronts of a text.
-use Rattle.std.proofs.Common.{◌≡◌, ℕ, ◌+◌, ◌++◌, ◌-◌, ◌≤◌, List, [], length, min, take, drop, take_all, Option, Some, None, Ok, refl, sym, ap, ◌∙◌, append_assoc, length-drop, inl, inr, arith}
+use Rattle.std.proofs.Common.{◌≡◌, ℕ, ◌+◌, ◌++◌, ◌-◌, ◌≤◌, List, [], length, min, take, drop, take_all, Option, Some, None, Ok, Err, Result, refl, sym, ap, ◌∙◌, append_assoc, length-drop, inl, inr, arith}
 use Rattle.std.proofs.Math.Seq.{take-add, take-append-add}
 use Rattle.std.proofs.lemmas.Bool.{cases_lt}
 use Rattle.std.proofs.lemmas.List.{append-nil, take-append-le}
+use Rattle.ss_outside.specs.Causes.{HasCause}
 use Rattle.ss_outside.specs.Sink.{Appends}
-use Rattle.summarystore.specs.Sent.{appended, AppendsFront}
+use Rattle.ss_outside.specs.declared.source.Failed.{Failed}
+use Rattle.summarystore.specs.Sent.{appended, AppendsFront, SaysLine, Sends}
 
 appends : (held after : Option (List ℕ)) (piece : List ℕ) (k : ℕ) → Appends held after (Ok k) piece → after ≡ appended held (take k piece)
 appends None after piece k is = is
@@ -61,3 +63,9 @@ AppendsFront-after before after a b part = (
   length a + part.0,
   part.1 ∙ appended-appended before a (take part.0 b) ∙ ap (λ bs. appended before bs) (sym (take-append-add a b part.0)),
 )
+
+-- what sending a line leaves, whatever it answers
+pub SaysLine-sent : (before after : Option (List ℕ)) (line : List ℕ) (faults_before faults : ℕ) (result : Result (Unit {0}) Failed) →
+    Sends before after line result → HasCause faults_before faults result → SaysLine line before after faults_before faults
+SaysLine-sent before after line faults_before faults (Ok u) sends cause = record { front = AppendsFront-all before after line sends; whole = λ _. sends }
+SaysLine-sent before after line faults_before faults (Err e) sends cause = record { front = (sends.0, sends.2); whole = λ calm. absurd (calm cause.failed) }

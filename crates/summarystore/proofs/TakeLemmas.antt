@@ -1,21 +1,26 @@
 -- What taking bytes up to a line end does to a session.
-use Rattle.std.proofs.Common.{◌≡◌, ℕ, ◌+◌, ◌++◌, ◌-◌, ◌≤◌, List, [], ◌∷◌, length, map, take, drop, Option, Some, None, IfSome, sym, ap, ◌∙◌, subst, append_assoc, inl, inr}
+use Rattle.std.proofs.Common.{◌≡◌, ℕ, ◌+◌, ◌++◌, ◌-◌, ◌≤◌, List, [], ◌∷◌, length, map, take, drop, Option, Some, None, IfSome, Ok, Err, sym, ap, ◌∙◌, subst, append_assoc, inl, inr}
 use Rattle.std.proofs.Math.Seq.{take-add}
 use Rattle.std.proofs.lemmas.Bool.{cond-true, cond-false, cases_lt, le-leb, lt-leb}
 use Rattle.std.specs.Prelude.{nat_le}
-use Rattle.std.proofs.lemmas.List.{map-append, take-append-drop}
+use Rattle.std.proofs.lemmas.List.{append-nil, map-append, take-append-drop}
 use Rattle.ss_command.specs.Lines.{lines_so_far, unended, without_return}
 use Rattle.ss_command.specs.LineState.{Kept, ended_line, kept, unless_long}
 use Rattle.ss_command.specs.declared.TheConstants.{LONGEST_LINE}
 use Rattle.ss_command.proofs.LineLemmas.{ended_lines-append}
-use Rattle.ss_model.specs.State.{Stream, state}
-use Rattle.summarystore.specs.Line.{History, StandsFor, brings, line_text}
-use Rattle.summarystore.specs.Progress.{HasReplied, HasTaken, StopsAt, StopsWith}
+use Rattle.ss_outside.proofs.CrashLemmas.{at_start, joined, now, of_content, weaker}
+use Rattle.ss_outside.specs.Crash.{KnowsNow, LeavesOnly}
+use Rattle.ss_outside.specs.Disk.{NothingPending, Told}
+use Rattle.ss_store.specs.Kept.{StoreState}
+use Rattle.ss_store.specs.Recover.{Stands}
+use Rattle.summarystore.specs.Answer.{Adds}
+use Rattle.summarystore.specs.Line.{History, brings, history_after, line_text}
+use Rattle.summarystore.specs.Progress.{EndsWell, GoesOn, HasReplied, HasTaken, SessionState, StandsAround, StandsWithin, StopsIn, StopsWith}
 use Rattle.summarystore.specs.Sent.{appended}
-use Rattle.summarystore.specs.Session.{after_line, after_lines, text_of}
+use Rattle.summarystore.specs.Session.{after_lines, text_of}
 use Rattle.summarystore.specs.declared.status.Status.{Status}
 use Rattle.summarystore.proofs.SendLemmas.{appended-appended, rest-slice}
-use Rattle.summarystore.proofs.SessionLemmas.{after_lines-append, text_of-push, StopsAt-more, StopsAt-next}
+use Rattle.summarystore.proofs.SessionLemmas.{after_lines-push, text_of-push, StandsWithin-all, StandsWithin-around, StandsWithin-more, StopsAt-more, StopsAt-next}
 
 -- a line that has ended and is kept isn't too long
 unless_long-short : (line : List ℕ) → IfSome (unless_long line) (λ bytes. length bytes ≤ LONGEST_LINE)
@@ -30,34 +35,6 @@ pub ended_line-short : (line : Kept) → IfSome (ended_line line) (λ bytes. len
 ended_line-short None = tt
 ended_line-short (Some bytes) = unless_long-short (without_return bytes)
 
--- the history after one more line
-after_lines-push : (history : History) (ls : List (List ℕ)) (line : List ℕ) →
-    after_lines history (ls ++ line ∷ []) ≡ after_line (after_lines history ls) line
-after_lines-push history ls line = after_lines-append history ls (line ∷ [])
-
--- a session that took more bytes, of which no line end ended a line
-pub HasTaken-same : (history : History) (store : List Stream) (line : Option (List ℕ)) (input more : List ℕ) →
-    lines_so_far more ≡ lines_so_far input → line ≡ kept (unended more) → StandsFor store (after_lines history (lines_so_far input)) →
-    HasTaken history (record { store = store; line = line }) more
-HasTaken-same history store line input more same going stands = record {
-  store = stands ∙ ap (λ ls. state (after_lines history ls)) (sym same);
-  line = going;
-}
-
-pub HasReplied-same : (history : History) (before held : Option (List ℕ)) (input more : List ℕ) → lines_so_far more ≡ lines_so_far input →
-    HasReplied history before held input → HasReplied history before held more
-HasReplied-same history before held input more same replied = replied ∙ ap (λ ls. appended before (text_of history ls)) (sym same)
-
--- and of which one did, that was answered
-pub HasTaken-line : (history : History) (store : List Stream) (under_way : Option (List ℕ)) (input more line : List ℕ) →
-    lines_so_far more ≡ lines_so_far input ++ line ∷ [] → under_way ≡ kept (unended more) →
-    StandsFor store (after_line (after_lines history (lines_so_far input)) line) →
-    HasTaken history (record { store = store; line = under_way }) more
-HasTaken-line history store under_way input more line one going stands = record {
-  store = stands ∙ ap (λ h. state h) (sym (ap (λ ls. after_lines history ls) one ∙ after_lines-push history (lines_so_far input) line));
-  line = going;
-}
-
 -- the sink got the replies to the lines before, and to one more
 pub replied-line : (history : History) (before held after : Option (List ℕ)) (ls : List (List ℕ)) (line : List ℕ) →
     held ≡ appended before (text_of history ls) → after ≡ appended held (line_text (after_lines history ls) line) →
@@ -67,27 +44,131 @@ replied-line history before held after ls line is sent =
     sent ∙ ap (λ o. appended o reply) is ∙ appended-appended before (text_of history ls) reply
     ∙ ap (λ bs. appended before bs) (sym (text_of-push history ls line))
 
-pub HasReplied-line : (history : History) (before held after : Option (List ℕ)) (input more line : List ℕ) →
-    lines_so_far more ≡ lines_so_far input ++ line ∷ [] → HasReplied history before held input →
-    after ≡ appended held (line_text (after_lines history (lines_so_far input)) line) → HasReplied history before after more
-HasReplied-line history before held after input more line one replied sent =
-    replied-line history before held after (lines_so_far input) line replied sent ∙ ap (λ ls. appended before (text_of history ls)) (sym one)
+-- a line was answered, or the run stopped at it: a crash left images of lines up to it
+pub any_moment-line : (history : History) (old new : Told) (ls : List (List ℕ)) (line : List ℕ) →
+    LeavesOnly old new (StandsAround (after_lines history ls) (brings (after_lines history ls) line)) → LeavesOnly old new (StandsWithin history (ls ++ line ∷ []))
+any_moment-line history old new ls line run =
+    weaker old new (StandsAround (after_lines history ls) (brings (after_lines history ls) line)) (StandsWithin history (ls ++ line ∷ []))
+    (StandsWithin-around history ls line) run
+
+-- of more lines
+pub any_moment-more : (history : History) (old new : Told) (ls ms : List (List ℕ)) → LeavesOnly old new (StandsWithin history ls) →
+    LeavesOnly old new (StandsWithin history (ls ++ ms))
+any_moment-more history old new ls ms run = weaker old new (StandsWithin history ls) (StandsWithin history (ls ++ ms)) (StandsWithin-more history ls ms) run
+
+-- the history after one line more, where it was answered
+stands-line : (history : History) (content : List ℕ) (ls : List (List ℕ)) (line : List ℕ) →
+    Stands (history_after (after_lines history ls) (brings (after_lines history ls) line)) content → Stands (after_lines history (ls ++ line ∷ [])) content
+stands-line history content ls line stands = subst (λ h. Stands h content) (sym (after_lines-push history ls line)) stands
+
+-- all lines and one more were answered
+pub EndsWell-line : (history : History) (old new : Told) (before held after : Option (List ℕ)) (ls : List (List ℕ)) (line : List ℕ) (u : Unit {0}) →
+    held ≡ appended before (text_of history ls) → after ≡ appended held (line_text (after_lines history ls) line) →
+    Stands (after_lines history ls) old.content → NothingPending old →
+    Adds (after_lines history ls) (brings (after_lines history ls) line) old new (Ok u) → EndsWell history (ls ++ line ∷ []) old new before after
+EndsWell-line history old new before held after ls line u is sent stands durable adds = record {
+  stands = stands-line history new.content ls line (adds.content stands);
+  durable = adds.durable durable;
+  replied = replied-line history before held after ls line is sent;
+  any_moment = any_moment-line history old new ls line (adds.any_moment durable stands);
+}
+
+-- all were answered before
+pub EndsWell-same : (history : History) (disk : Told) (before held : Option (List ℕ)) (ls : List (List ℕ)) → KnowsNow disk →
+    held ≡ appended before (text_of history ls) → Stands (after_lines history ls) disk.content → NothingPending disk →
+    EndsWell history ls disk disk before held
+EndsWell-same history disk before held ls knows is stands durable = record {
+  stands = stands;
+  durable = durable;
+  replied = is;
+  any_moment = at_start disk (StandsWithin history ls) knows
+      (of_content disk (StandsWithin history ls) durable (StandsWithin-all history ls disk.content stands));
+}
+
+-- a session whose lines are these has taken what ends in them
+pub GoesOn-ends : (history : History) (old new : Told) (store : StoreState) (before after : Option (List ℕ)) (under_way : Option (List ℕ)) (ls : List (List ℕ)) (more : List ℕ) →
+    lines_so_far more ≡ ls → under_way ≡ kept (unended more) → EndsWell history ls old new before after →
+    GoesOn history old new (record { store = store; line = under_way }) before after more
+GoesOn-ends history old new store before after under_way ls more same going ends = record {
+  at = record { stands = subst (λ l. Stands (after_lines history l) new.content) (sym same) ends.stands; durable = ends.durable; line = going };
+  replied = ends.replied ∙ ap (λ l. appended before (text_of history l)) (sym same);
+  any_moment = subst (λ l. LeavesOnly old new (StandsWithin history l)) (sym same) ends.any_moment;
+}
+
+-- the run stopped at the line that comes next
+pub StopsIn-next : (history : History) (old new : Told) (before held after : Option (List ℕ)) (ls : List (List ℕ)) (line : List ℕ) (status : Status) →
+    KnowsNow new → held ≡ appended before (text_of history ls) → StopsWith (brings (after_lines history ls) line) held after status →
+    Stands (after_lines history ls) old.content → NothingPending old →
+    Adds {T = Unit {0}} (after_lines history ls) (brings (after_lines history ls) line) old new (Err status) →
+    StopsIn history (ls ++ line ∷ []) old new before after status
+StopsIn-next history old new before held after ls line status knows is stop stands durable adds =
+    let around = adds.any_moment durable stands in
+    record {
+      at = StopsAt-next history ls line before held after new status is stop
+          (now old new (StandsAround (after_lines history ls) (brings (after_lines history ls) line)) knows around);
+      any_moment = any_moment-line history old new ls line around;
+    }
+
+-- it stopped at one of more lines
+pub StopsIn-more : (history : History) (old new : Told) (before after : Option (List ℕ)) (ls ms : List (List ℕ)) (status : Status) →
+    StopsIn history ls old new before after status → StopsIn history (ls ++ ms) old new before after status
+StopsIn-more history old new before after ls ms status stops = record {
+  at = StopsAt-more ms stops.at;
+  any_moment = any_moment-more history old new ls ms stops.any_moment;
+}
 
 -- a line of a piece at which the run stopped
-pub StopsAt-piece : (history : History) (before held after : Option (List ℕ)) (status : Status) (input piece line : List ℕ) (count : ℕ) →
-    lines_so_far (input ++ take count piece) ≡ lines_so_far input ++ line ∷ [] → HasReplied history before held input →
-    StopsWith (brings (after_lines history (lines_so_far input)) line) held after status →
-    StopsAt history (lines_so_far (input ++ piece)) before after status
-StopsAt-piece history before held after status input piece line count one replied stop =
-    let at = StopsAt-next history (lines_so_far input) line before held after status replied stop in
+pub StopsIn-piece : (history : History) (old new : Told) (before after : Option (List ℕ)) (status : Status) (input piece line : List ℕ) (count : ℕ) →
+    lines_so_far (input ++ take count piece) ≡ lines_so_far input ++ line ∷ [] →
+    StopsIn history (lines_so_far input ++ line ∷ []) old new before after status →
+    StopsIn history (lines_so_far (input ++ piece)) old new before after status
+StopsIn-piece history old new before after status input piece line count one stops =
     let more = ended_lines-append (input ++ take count piece) (drop count piece) in
     let whole : (input ++ take count piece) ++ drop count piece ≡ input ++ piece =
     append_assoc input (take count piece) (drop count piece) ∙ ap (λ bs. input ++ bs) (take-append-drop count piece) in
-    subst (λ ls. StopsAt history ls before after status)
+    subst (λ ls. StopsIn history ls old new before after status)
     (ap (λ ls. ls ++ map without_return more.0) (sym one)
     ∙ sym (ap (λ ls. map without_return ls) more.1 ∙ map-append without_return _ more.0)
     ∙ ap (λ bs. lines_so_far bs) whole)
-    (StopsAt-more (map without_return more.0) at)
+    (StopsIn-more history old new before after (lines_so_far input ++ line ∷ []) (map without_return more.0) status stops)
+
+-- the lines of more input
+any_moment-input : (history : History) (old new : Told) (taken more : List ℕ) → LeavesOnly old new (StandsWithin history (lines_so_far taken)) →
+    LeavesOnly old new (StandsWithin history (lines_so_far (taken ++ more)))
+any_moment-input history old new taken more run =
+    let front = ended_lines-append taken more in
+    let are = ap (λ ls. map without_return ls) front.1 ∙ map-append without_return _ front.0 in
+    subst (λ ls. LeavesOnly old new (StandsWithin history ls)) (sym are) (any_moment-more history old new (lines_so_far taken) (map without_return front.0) run)
+
+-- a session that took no more bytes yet
+pub GoesOn-start : (history : History) (disk : Told) (session : SessionState) (before held : Option (List ℕ)) (input : List ℕ) → KnowsNow disk →
+    HasTaken history disk session input → HasReplied history before held input → GoesOn history disk disk session before held (input ++ [])
+GoesOn-start history disk session before held input knows at replied =
+    subst (λ bs. GoesOn history disk disk session before held bs) (sym (append-nil input)) (record {
+      at = at;
+      replied = replied;
+      any_moment = at_start disk (StandsWithin history (lines_so_far input)) knows
+          (of_content disk (StandsWithin history (lines_so_far input)) at.durable (StandsWithin-all history (lines_so_far input) disk.content at.stands));
+    })
+
+-- a session goes on from where it came to
+pub GoesOn-then : (history : History) (old mid new : Told) (first second : SessionState) (before held after : Option (List ℕ)) (taken more : List ℕ) →
+    GoesOn history old mid first before held taken → GoesOn history mid new second before after (taken ++ more) →
+    GoesOn history old new second before after (taken ++ more)
+GoesOn-then history old mid new first second before held after taken more one two = record {
+  at = two.at;
+  replied = two.replied;
+  any_moment = joined old mid new (StandsWithin history (lines_so_far (taken ++ more))) (any_moment-input history old mid taken more one.any_moment) two.any_moment;
+}
+
+-- or stops after it
+pub StopsIn-then : (history : History) (old mid new : Told) (session : SessionState) (before held after : Option (List ℕ)) (status : Status) (taken more : List ℕ) →
+    GoesOn history old mid session before held taken → StopsIn history (lines_so_far (taken ++ more)) mid new before after status →
+    StopsIn history (lines_so_far (taken ++ more)) old new before after status
+StopsIn-then history old mid new session before held after status taken more one two = record {
+  at = two.at;
+  any_moment = joined old mid new (StandsWithin history (lines_so_far (taken ++ more))) (any_moment-input history old mid taken more one.any_moment) two.any_moment;
+}
 
 -- a piece that was taken in part, and more of the rest of it
 pub taken_more : (input piece : List ℕ) (done k : ℕ) →

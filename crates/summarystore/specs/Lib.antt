@@ -5,4 +5,6 @@ pub mod Progress
 pub mod Answer
 pub mod Words
 pub mod Status
+pub mod Held
+pub mod Refused
 pub mod Outcome

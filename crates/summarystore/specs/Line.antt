@@ -1,5 +1,5 @@
 -- What one line brings: the one place that says what a line does to the history before it.
-use Rattle.std.specs.Prelude.{◌≡◌, ℕ, List, [], ◌∷◌, ◌++◌, length, map, flat_map, Option, Some, None, Result, Ok, Err}
+use Rattle.std.specs.Prelude.{ℕ, List, [], ◌∷◌, ◌++◌, length, map, flat_map, Option, Some, None, Result, Ok, Err}
 use Rattle.ss_catalog.specs.Events.{event_name}
 use Rattle.ss_catalog.specs.declared.event.Event.{Event}
 use Rattle.ss_catalog.specs.declared.refusal.Refusal.{Refusal}
@@ -93,7 +93,3 @@ the_event (Some event) = event ∷ []
 -- the history after what a line brings
 abbrev pub history_after : History → Brought → History
 history_after history brought = history ++ the_event brought.event
-
--- the store of a history
-abbrev pub StandsFor : List Stream → History → Type 0
-StandsFor store history = store ≡ state history

@@ -1,15 +1,17 @@
 -- What a run over an input leaves, by its exit status.
-use Rattle.std.specs.Prelude.{◌≡◌, ℕ, ◌+◌, ◌<◌, ◌≤◌, ◌++◌, ◌∷◌, List, [], take, drop, length, Option, Some}
+use Rattle.std.specs.Prelude.{◌≡◌, ◌⊎◌, ℕ, ◌+◌, ◌-◌, ◌<◌, ◌≤◌, ◌++◌, ◌∷◌, List, [], take, drop, length, Option, Some}
 use Rattle.ss_command.specs.Lines.{lines, lines_so_far}
-use Rattle.ss_outside.specs.Causes.{Rose}
+use Rattle.ss_outside.specs.Crash.{LeavesOnly}
+use Rattle.ss_outside.specs.Disk.{Told}
+use Rattle.ss_store.specs.Recover.{Stands}
 use Rattle.summarystore.specs.declared.run.TheConstants.{LONGEST_INPUT}
 use Rattle.summarystore.specs.declared.status.Status.{Status}
-use Rattle.summarystore.specs.declared.status.Status.TheVariants.{SinkFault, OutOfMemory}
+use Rattle.summarystore.specs.declared.status.Status.TheVariants.{SinkFault, DiskFault, OutOfMemory}
+use Rattle.summarystore.specs.Held.{HoldsAcked}
 use Rattle.summarystore.specs.Line.{History}
-use Rattle.summarystore.specs.Progress.{StopsAt}
+use Rattle.summarystore.specs.Progress.{StandsWithin, StopsAt}
 use Rattle.summarystore.specs.Sent.{appended, AppendsFront}
-use Rattle.summarystore.specs.Session.{report, report_so_far}
-use Rattle.summarystore.specs.Words.{usage}
+use Rattle.summarystore.specs.Session.{accepted, report, report_so_far}
 
 -- some bytes of the input were taken, at most as many as an input may have, and the others are left
 pub record Took (input : List ℕ) (left : Option (List ℕ)) (taken rest : List ℕ) : Type 0 where
@@ -23,18 +25,24 @@ lines_within taken [] = lines taken
 lines_within taken (b ∷ rest) = lines_so_far taken
 
 -- a run stopped at a line that had ended within the bytes taken
-abbrev pub Stopped : History → List ℕ → Option (List ℕ) → Option (List ℕ) → Option (List ℕ) → Status → Type 0
-Stopped history input left before after status =
-    (taken : List ℕ) × (rest : List ℕ) × Took input left taken rest × StopsAt history (lines_within taken rest) before after status
+abbrev pub Stopped : History → List ℕ → Option (List ℕ) → Option (List ℕ) → Option (List ℕ) → Told → Status → Type 0
+Stopped history input left before after disk status =
+    (taken : List ℕ) × (rest : List ℕ) × Took input left taken rest × StopsAt history (lines_within taken rest) before after disk status
+
+-- a run ended where its store wasn't open yet
+abbrev pub NotBegun : List ℕ → Option (List ℕ) → Option (List ℕ) → Option (List ℕ) → Type 0
+NotBegun input left before after = (left ≡ Some input) × (after ≡ before)
 
 -- The report: the sink's new bytes are a front of the report of the input. At status 0 they are all of it. At 5 and 8
--- they are the replies to the lines that ended within the bytes taken. At 6 and 7 the run stopped at such a line.
-pub record Reports (history : History) (input : List ℕ) (left before after : Option (List ℕ)) (status : ℕ) : Type 0 where
+-- they are the replies to the lines that ended within the bytes taken. At 6 the run stopped at such a line, and at 4 and 7
+-- there or in opening the store.
+pub record Reports (history : History) (input : List ℕ) (left before after : Option (List ℕ)) (disk : Told) (status : ℕ) : Type 0 where
   pub front : AppendsFront before after (report history input)
   pub whole : status ≡ 0 → after ≡ appended before (report history input)
+  pub broken : status ≡ 4 → NotBegun input left before after ⊎ Stopped history input left before after disk DiskFault
   pub faulted : status ≡ 5 → (taken : List ℕ) × (rest : List ℕ) × Took input left taken rest × (after ≡ appended before (report_so_far history taken))
-  pub cut : status ≡ 6 → Stopped history input left before after SinkFault
-  pub starved : status ≡ 7 → Stopped history input left before after OutOfMemory
+  pub cut : status ≡ 6 → Stopped history input left before after disk SinkFault
+  pub starved : status ≡ 7 → NotBegun input left before after ⊎ Stopped history input left before after disk OutOfMemory
   pub limited : status ≡ 8 → after ≡ appended before (report_so_far history (take LONGEST_INPUT input))
 
 -- What was read: at status 0 the input to its end; at 8 as many bytes as an input may have, and one more.
@@ -42,7 +50,15 @@ pub record Reads (input : List ℕ) (left : Option (List ℕ)) (status : ℕ) : 
   pub whole : status ≡ 0 → (length input ≤ LONGEST_INPUT) × (left ≡ Some [])
   pub limit : status ≡ 8 → (LONGEST_INPUT < length input) × (left ≡ Some (drop (LONGEST_INPUT + 1) input))
 
--- The usage line: the sink gets a front of it, and all of it unless its count of faults rose.
-pub record SaysUsage (before after : Option (List ℕ)) (faults_before faults : ℕ) : Type 0 where
-  pub front : AppendsFront before after usage
-  pub whole : (Rose faults_before faults → ⊥) → after ≡ appended before usage
+-- each image holds the acknowledged events, and at most one more, by the sink's new bytes
+abbrev pub HoldsReported : History → List ℕ → Option (List ℕ) → Option (List ℕ) → Told → ℕ → Type 0
+HoldsReported history input before after disk status =
+    (had has : List ℕ) → before ≡ Some had → after ≡ Some has →
+    (image : List ℕ) → disk.may_leave image → HoldsAcked history (lines input) (length has - length had) status image
+
+-- What a session over an input leaves, of its report and of the disk.
+pub record Serves (history : History) (input : List ℕ) (left before after : Option (List ℕ)) (old new : Told) (status : ℕ) : Type 0 where
+  pub report : Reports history input left before after new status
+  pub kept : HoldsReported history input before after new status
+  pub any_moment : LeavesOnly old new (StandsWithin history (lines input))
+  pub whole : status ≡ 0 → Stands (history ++ accepted history (lines input)) new.content

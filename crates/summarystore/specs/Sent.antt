@@ -1,6 +1,6 @@
 -- What is sent to a sink.
 use Rattle.std.specs.Prelude.{◌≡◌, ℕ, ◌<◌, ◌++◌, List, take, length, Option, option_map, Result, Ok, Err}
-use Rattle.ss_outside.specs.declared.source.Failed.{Failed}
+use Rattle.ss_outside.specs.Causes.{Rose}
 
 -- what a sink holds with a text at its end, where it tells what it holds
 abbrev pub appended : Option (List ℕ) → List ℕ → Option (List ℕ)
@@ -15,6 +15,11 @@ abbrev pub AppendsLess : Option (List ℕ) → Option (List ℕ) → List ℕ �
 AppendsLess before after text = (k : ℕ) × (k < length text) × (after ≡ appended before (take k text))
 
 -- what sending a text leaves: the text at the end, or at a failure less than all of it
-abbrev pub Sends : Option (List ℕ) → Option (List ℕ) → List ℕ → Result Unit Failed → Type 0
+abbrev pub Sends : {E : Type 0} → Option (List ℕ) → Option (List ℕ) → List ℕ → Result Unit E → Type 0
 Sends before after text (Ok u) = after ≡ appended before text
 Sends before after text (Err e) = AppendsLess before after text
+
+-- A line is said, whether or not the sink takes it: the sink gets a front of it, and all of it unless its count of faults rose.
+pub record SaysLine (line : List ℕ) (before after : Option (List ℕ)) (faults_before faults : ℕ) : Type 0 where
+  pub front : AppendsFront before after line
+  pub whole : (Rose faults_before faults → ⊥) → after ≡ appended before line

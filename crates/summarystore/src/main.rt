@@ -5,7 +5,9 @@
 mod adapter_tests;
 mod adapters;
 mod answer;
+mod file_disk;
 mod notice;
+mod refuse;
 mod run;
 mod send;
 mod session;
@@ -14,18 +16,29 @@ mod status;
 mod tests;
 
 use adapters::{StdSink, StdSource};
+use file_disk::FileDisk;
 use notice::notice;
 use run::run;
 use send::send;
 use status::{Status, complaint, exit_code};
+use std::alloc::{AllocError, Global};
+use std::fs::File;
 use std::io::ErrorKind;
 use std::process::ExitCode;
-use std::rt::Env;
+use std::rt::{Env, Files};
 use std::{env, io};
 
 // The words of the command line, the program's name first.
 fn read_words<R: Env + AllocGlobal>(rt: &R) -> io::Result<Vec<String>> {
     env::args(rt)?.collect(rt.alloc()).map_err(io::Error::from)
+}
+
+// The store's path: the second word, or the empty path where there is none.
+fn path_of(alloc: Global, words: &[String]) -> Result<String, AllocError> {
+    match words {
+        [_, path, ..] => String::from_str(alloc, path.as_str()),
+        _ => Ok(String::new(alloc)),
+    }
 }
 
 // Prints a notice, and answers the exit status.
@@ -36,8 +49,9 @@ fn print_notice<R: Print>(rt: &R, text: &str) -> u8 {
     }
 }
 
-// The exit status of a run over standard input and output, or of a notice. Words that can't be read as text count as none.
-fn run_program<R: Env + AllocGlobal + Input + Print>(rt: &R) -> u8 {
+// The exit status of a run over the store's file, standard input and standard output, or of a notice. Words that can't be
+// read as text count as none.
+fn run_program<R: Env + AllocGlobal + Input + Print + Files<File = File>>(rt: &R) -> u8 {
     let words = match read_words(rt) {
         Ok(words) => words,
         Err(error) if error.kind() == ErrorKind::OutOfMemory => return Status::OutOfMemory.number(),
@@ -46,9 +60,13 @@ fn run_program<R: Env + AllocGlobal + Input + Print>(rt: &R) -> u8 {
     if let Some(text) = notice(&words) {
         return print_notice(rt, text);
     }
+    let Ok(path) = path_of(rt.alloc(), &words) else {
+        return Status::OutOfMemory.number();
+    };
+    let mut disk = FileDisk::new(rt, path);
     let mut source = StdSource::new(rt);
     let mut sink = StdSink::new(rt);
-    run(rt.alloc(), &words, &mut source, &mut sink)
+    run(rt.alloc(), &words, &mut disk, &mut source, &mut sink)
 }
 
 fn main(rt: HostRuntime) -> ExitCode {

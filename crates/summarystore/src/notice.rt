@@ -5,8 +5,10 @@ const HELP: &str = "\
 usage: summarystore STORE [run | check | gen SEED COUNT]
 
 Reads commands from standard input, one a line, and replies to each on standard
-output. STORE is the path of the store. This version keeps its streams in
-memory: nothing is kept in STORE yet, and check and gen are not there yet.
+output. STORE is the file that keeps the streams. It is made where there is none,
+and the next run goes on where the last one ended, also after a crash: each ok
+is on the disk before it is printed. One program at a time can use a store.
+check and gen are not there yet.
 
   create NAME exp B R S  a new stream: R windows of each of the lengths S, S*B,
                          S*B*B and so on, the longer ones for older values
@@ -24,10 +26,13 @@ empty line is no command, and a line that begins with # isn't either. Any other
 line gets refused and a word that says why.
 
 Exit statuses:
-  0  done                       6  a write of standard output failed
-  2  unknown arguments          7  out of memory
-  5  a read of standard input   8  the input has more than 2^36 bytes
-     failed
+  0  done                              5  a read of standard input failed
+  2  unknown arguments                 6  a write of standard output failed
+  3  STORE isn't a store or is         7  out of memory
+     damaged; it is left as it was     8  the input has more than 2^36 bytes
+  4  STORE can't be used, a call       9  a record in STORE isn't what it was
+     of it failed, or another             when it was written
+     program uses it
 
   summarystore --help, -h       prints this text
   summarystore --version        prints the version

@@ -1,17 +1,25 @@
 // The top call.
-ghost use Rattle.std.specs.Prelude.{◌≡◌, ◌≢◌, ◌↔◌, ◌⊎◌, ◌+◌, ◌-◌, ◌<◌, ◌≤◌, ◌++◌, ℕ, List, [], Option, Some, map, length, take, drop, true, false, IsTrue, IfOk, IfErr, OnErr, IsErrOf, string_bytes, codes};
-ghost use Rattle.ss_command.specs.Lines.{lines_so_far};
+ghost use Rattle.std.specs.Prelude.{◌≡◌, ◌≢◌, ◌↔◌, ◌⊎◌, ◌+◌, ◌-◌, ◌<◌, ◌≤◌, ◌++◌, ℕ, List, [], Option, Some, map, length, take, drop, true, false, IsTrue, IsSome, IfOk, IfErr, OnOk, OnErr, IsErrOf, string_bytes, codes};
+ghost use Rattle.ss_command.specs.Lines.{lines, lines_so_far};
 ghost use Rattle.ss_outside.specs.Causes.{Rose, HasCause};
-ghost use Rattle.summarystore.specs.Outcome.{Reports, Reads, SaysUsage};
+ghost use Rattle.ss_outside.specs.Disk.{NothingPending};
+ghost use Rattle.ss_store.specs.Recover.{Stands, recover};
+ghost use Rattle.summarystore.specs.Answer.{IsOpen};
+ghost use Rattle.summarystore.specs.Held.{StandsForFirst};
 ghost use Rattle.summarystore.specs.Line.{History};
-ghost use Rattle.summarystore.specs.Progress.{HasTaken, HasReplied, StopsAt};
-ghost use Rattle.summarystore.specs.Status.{number_of, IsStop, Counts, CountsIfEnded};
-ghost use Rattle.summarystore.specs.Words.{ArePlain};
+ghost use Rattle.summarystore.specs.Outcome.{HoldsReported, Reports, Reads, Serves};
+ghost use Rattle.summarystore.specs.Progress.{GoesOn, HasTaken, HasReplied, StopsIn};
+ghost use Rattle.summarystore.specs.Refused.{RefusesStore, refusal_line};
+ghost use Rattle.summarystore.specs.Sent.{SaysLine};
+ghost use Rattle.summarystore.specs.Session.{accepted};
+ghost use Rattle.summarystore.specs.Status.{number_of, EndsServing, IsStop, Counts, CountsIfEnded};
+ghost use Rattle.summarystore.specs.Words.{ArePlain, usage};
 
-use crate::send::send;
+use crate::refuse::{refuse, say_usage};
 use crate::session::Session;
 use crate::status::Status;
-use ss_outside::{Failed, Sink, Source};
+use ss_outside::{Disk, Failed, Sink, Source};
+use ss_store::Store;
 use std::alloc::Global;
 
 /// An input has at most this many bytes.
@@ -19,8 +27,6 @@ pub const LONGEST_INPUT: u64 = 1 << 36;
 
 // How many bytes a read asks for at the most.
 const BUFFER: usize = 4096;
-
-const USAGE: &str = "usage: summarystore STORE [run | check | gen SEED COUNT]\n";
 
 // Whether a word is `run`.
 fn is_run(word: &str) -> bool
@@ -40,35 +46,34 @@ fn are_plain(words: &[String]) -> bool
     }
 }
 
-// Says how the program is used.
-fn say_usage<K: Sink>(sink: &mut K)
-    ensures { SaysUsage (K.held sink.old) (K.held sink.new) (K.faults sink.old) (K.faults sink.new) }
-{
-    let _ = send(sink, USAGE.as_bytes());
-}
-
 // Reads at most `room` bytes, answers each line that ends in them, and says how many there were: 0 at the end of the input.
-fn read_piece<S: Source, K: Sink>(
+fn read_piece<D: Disk, S: Source, K: Sink>(
     session: &mut Session,
     room: u64,
+    disk: &mut D,
     source: &mut S,
     sink: &mut K,
 ) -> Result<u64, Status>
-    requires { 0 < room }
-    ensures ok { IfOk result (λ count. (history : History) (before : Option (List ℕ)) (input left : List ℕ) →
-        S.left source.old ≡ Some left → HasTaken history session.old input →
-        HasReplied history before (K.held sink.old) input → (count ≤ length left) × (count ≡ 0 → left ≡ [])
-        × (S.left source.new ≡ Some (drop count left)) × HasTaken history session.new (input ++ take count left)
-        × HasReplied history before (K.held sink.new) (input ++ take count left)) }
+    requires room { 0 < room }
+    requires open { IsOpen (D.tells disk.old) (D.told disk.old) session.old.store }
+    ensures ok { IfOk result (λ count. IsTrue (D.tells disk.old) → (history : History) (before : Option (List ℕ)) (input left : List ℕ) →
+        S.left source.old ≡ Some left → HasTaken history (D.told disk.old) session.old input →
+        HasReplied history before (K.held sink.old) input → (count ≤ length left) × (S.left source.new ≡ Some (drop count left))
+        × GoesOn history (D.told disk.old) (D.told disk.new) session.new before (K.held sink.new) (input ++ take count left)) }
+    ensures moves { IfOk result (λ count. (left : List ℕ) → S.left source.old ≡ Some left → (count ≤ length left)
+        × (count ≡ 0 → left ≡ []) × (S.left source.new ≡ Some (drop count left))) }
     ensures count { IfOk result (λ count. count ≤ room) }
     ensures fault { IsErrOf result Status.SourceFault → (S.left source.new ≡ S.left source.old)
-        × (session.new ≡ session.old) × (K.held sink.new ≡ K.held sink.old) }
-    ensures stops { IfErr result (λ status. IsStop status → (history : History) (before : Option (List ℕ))
-        (input left : List ℕ) → S.left source.old ≡ Some left → HasTaken history session.old input →
-        HasReplied history before (K.held sink.old) input → (count : ℕ) × (count ≤ room) × (count ≤ length left)
-        × (S.left source.new ≡ Some (drop count left))
-        × StopsAt history (lines_so_far (input ++ take count left)) before (K.held sink.new) status) }
-    ensures status { IfErr result (λ status. (status ≡ Status.SourceFault) ⊎ IsStop status) }
+        × (session.new ≡ session.old) × (K.held sink.new ≡ K.held sink.old) × (disk.new ≡ disk.old) }
+    ensures stops { IfErr result (λ status. IsStop (D.tells disk.old) status → IsTrue (D.tells disk.old) →
+        (history : History) (before : Option (List ℕ)) (input left : List ℕ) → S.left source.old ≡ Some left →
+        HasTaken history (D.told disk.old) session.old input → HasReplied history before (K.held sink.old) input →
+        (count : ℕ) × (count ≤ room) × (count ≤ length left) × (S.left source.new ≡ Some (drop count left))
+        × StopsIn history (lines_so_far (input ++ take count left)) (D.told disk.old) (D.told disk.new) before (K.held sink.new) status) }
+    ensures open { OnOk result (IsOpen (D.tells disk.new) (D.told disk.new) session.new.store) }
+    ensures tells { D.tells disk.new ≡ D.tells disk.old }
+    ensures status { IfErr result (λ status. (status ≡ Status.SourceFault) ⊎ IsStop (D.tells disk.old) status) }
+    ensures disk_cause { CountsIfEnded Status.DiskFault (D.faults disk.old) (D.faults disk.new) result }
     ensures source_cause { CountsIfEnded Status.SourceFault (S.faults source.old) (S.faults source.new) result }
     ensures sink_cause { CountsIfEnded Status.SinkFault (K.faults sink.old) (K.faults sink.new) result }
 {
@@ -77,7 +82,7 @@ fn read_piece<S: Source, K: Sink>(
     let into = &mut buffer[..want];
     match source.read(into) {
         Err(_) => Err(Status::SourceFault),
-        Ok(count) => match session.take(&into[..count], sink) {
+        Ok(count) => match session.take(&into[..count], disk, sink) {
             Ok(()) => Ok(count as u64),
             Err(status) => Err(status),
         },
@@ -101,59 +106,111 @@ fn is_at_end<S: Source>(source: &mut S) -> Result<bool, Failed>
 }
 
 // Reads the source to its end, and answers each of its lines.
-fn serve<S: Source, K: Sink>(alloc: Global, source: &mut S, sink: &mut K) -> Status
-    ensures known { result ≢ Status.Usage }
+fn serve<D: Disk, S: Source, K: Sink>(
+    store: Store,
+    disk: &mut D,
+    source: &mut S,
+    sink: &mut K,
+) -> Status
+    requires { IsOpen (D.tells disk.old) (D.told disk.old) store }
+    ensures known { EndsServing (D.tells disk.old) result }
+    ensures disk_cause { Counts Status.DiskFault (D.faults disk.old) (D.faults disk.new) result }
     ensures source_cause { Counts Status.SourceFault (S.faults source.old) (S.faults source.new) result }
     ensures sink_cause { Counts Status.SinkFault (K.faults sink.old) (K.faults sink.new) result }
+    ensures tells { D.tells disk.new ≡ D.tells disk.old }
     ensures reads { (input : List ℕ) → S.left source.old ≡ Some input → Reads input (S.left source.new) (number_of result) }
-    ensures reports { (input : List ℕ) → S.left source.old ≡ Some input →
-        Reports [] input (S.left source.new) (K.held sink.old) (K.held sink.new) (number_of result) }
+    ensures serves { IsTrue (D.tells disk.old) → NothingPending (D.told disk.old) → (history : History) →
+        Stands history (D.told disk.old).content → (input : List ℕ) → S.left source.old ≡ Some input →
+        Serves history input (S.left source.new) (K.held sink.old) (K.held sink.new) (D.told disk.old) (D.told disk.new) (number_of result) }
 {
-    let mut session = Session::start(alloc);
+    let mut session = Session::start(store);
     let mut done = 0;
     while done < LONGEST_INPUT {
-        match read_piece(&mut session, LONGEST_INPUT - done, source, sink) {
-            Ok(0) => return session.finish(sink),
+        match read_piece(&mut session, LONGEST_INPUT - done, disk, source, sink) {
+            Ok(0) => return session.finish(disk, sink),
             Ok(count) => done += count,
             Err(status) => return status,
         }
     }
     match is_at_end(source) {
         Err(_) => Status::SourceFault,
-        Ok(true) => session.finish(sink),
+        Ok(true) => session.finish(disk, sink),
         Ok(false) => Status::InputLimit,
     }
 }
 
-/// Runs the program over a source of command lines and a sink of replies, and answers its exit status. The words are
-/// those of the command line, the program's name first; the store's path is not used while the store lies in memory.
-/// docs/GUIDE.md has the forms of lines and replies and the statuses, docs/DEFINITIONS.md what the report of an input is.
-pub fn run<S: Source, K: Sink>(alloc: Global, words: &[String], source: &mut S, sink: &mut K) -> u8
+/// Runs the program over a store, a source of command lines and a sink of replies, and answers its exit status. The words
+/// are those of the command line, the program's name first; the disk is that of the store's path. docs/GUIDE.md has the forms
+/// of lines and replies and the statuses, docs/DEFINITIONS.md what the report of an input is and what an image stands for.
+pub fn run<D: Disk, S: Source, K: Sink>(
+    alloc: Global,
+    words: &[String],
+    disk: &mut D,
+    source: &mut S,
+    sink: &mut K,
+) -> u8
     // No other number is answered.
     ensures known { (status : _) × (result ≡ number_of status) }
 
-    // 2 exactly where the words aren't known. The source is then not called, and the sink gets the usage line.
+    // 2 exactly where the words aren't known. The disk and the source are then not called, and the sink gets the usage line.
     ensures words { result ≡ 2 ↔ (ArePlain (map (λ w. string_bytes w) words.now) → ⊥) }
+    ensures undone { result ≡ 2 → disk.new ≡ disk.old }
     ensures unread { result ≡ 2 → source.new ≡ source.old }
-    ensures usage { result ≡ 2 → SaysUsage (K.held sink.old) (K.held sink.new) (K.faults sink.old) (K.faults sink.new) }
+    ensures usage { result ≡ 2 → SaysLine usage (K.held sink.old) (K.held sink.new) (K.faults sink.old) (K.faults sink.new) }
 
-    // 5 only where the count of faults of the source rose, and where it rose nothing else: no fault is passed over.
+    // 3 exactly where the words are known and the content is no store or is damaged, unless the disk fails before, or memory
+    // runs out. The source is then not called, nothing is written, and the sink gets the line of what is found first.
+    ensures refused { result ≡ 3 → IsTrue (D.tells disk.old) → RefusesStore (D.told disk.old) (D.told disk.new)
+        (K.held sink.old) (K.held sink.new) (K.faults sink.old) (K.faults sink.new) }
+    ensures refuses { ArePlain (map (λ w. string_bytes w) words.now) → IsTrue (D.tells disk.old) →
+        IsSome (refusal_line (recover (D.told disk.old).content)) → (result ≡ 3) ⊎ (result ≡ 4) ⊎ (result ≡ 7) }
+    ensures unserved { result ≡ 3 → source.new ≡ source.old }
+
+    // 4 only where the count of faults of the disk rose, and where it rose nothing else: no fault is passed over.
+    ensures disk_fault { result ≡ 4 → Rose (D.faults disk.old) (D.faults disk.new) }
+    ensures disk_fine { (result ≡ 4 → ⊥) → D.faults disk.new ≡ D.faults disk.old }
+
+    // The same of 5 and the source.
     ensures source_fault { result ≡ 5 → Rose (S.faults source.old) (S.faults source.new) }
     ensures source_fine { (result ≡ 5 → ⊥) → S.faults source.new ≡ S.faults source.old }
 
-    // The same of 6 and the sink. At 2 the usage line may have failed to go out.
+    // The same of 6 and the sink. At 2 and 3 the line may have failed to go out.
     ensures sink_fault { result ≡ 6 → Rose (K.faults sink.old) (K.faults sink.new) }
-    ensures sink_fine { (result ≡ 2 → ⊥) → (result ≡ 6 → ⊥) → K.faults sink.new ≡ K.faults sink.old }
+    ensures sink_fine { (result ≡ 2 → ⊥) → (result ≡ 3 → ⊥) → (result ≡ 6 → ⊥) → K.faults sink.new ≡ K.faults sink.old }
 
-    // What is read and what is written, at known words and where the devices tell.
+    // 9 only where the disk doesn't tell what it holds.
+    ensures firm { result ≡ 9 → IsTrue (D.tells disk.old) → ⊥ }
+
+    // What is read, at known words and where the source tells.
     ensures reads { (result ≡ 2 → ⊥) → (input : List ℕ) → S.left source.old ≡ Some input →
         Reads input (S.left source.new) result }
-    ensures report { (result ≡ 2 → ⊥) → (input : List ℕ) → S.left source.old ≡ Some input →
-        Reports [] input (S.left source.new) (K.held sink.old) (K.held sink.new) result }
 
-    // With known words, an input within its limit and no fault, the answer is 0, or 7: out of memory.
-    ensures completes { ArePlain (map (λ w. string_bytes w) words.now) → (input : List ℕ) →
-        S.left source.old ≡ Some input → length input ≤ LONGEST_INPUT →
+    // What is written to the sink, for each history for which the content stands.
+    ensures report { (result ≡ 2 → ⊥) → IsTrue (D.tells disk.old) → NothingPending (D.told disk.old) →
+        (history : History) → Stands history (D.told disk.old).content → (input : List ℕ) → S.left source.old ≡ Some input →
+        Reports history input (S.left source.new) (K.held sink.old) (K.held sink.new) (D.told disk.new) result }
+
+    // What a crash leaves after the run: the history and the acknowledged events, and at most one more; at 0 all of them.
+    ensures kept { (result ≡ 2 → ⊥) → IsTrue (D.tells disk.old) → NothingPending (D.told disk.old) →
+        (history : History) → Stands history (D.told disk.old).content → (input : List ℕ) → S.left source.old ≡ Some input →
+        HoldsReported history input (K.held sink.old) (K.held sink.new) (D.told disk.new) result }
+
+    // What a crash at any moment of the run leaves: the history and some first of the events that are accepted.
+    ensures any_moment { IsTrue (D.tells disk.old) → NothingPending (D.told disk.old) →
+        (history : History) → Stands history (D.told disk.old).content → (input : List ℕ) → S.left source.old ≡ Some input →
+        (image : List ℕ) → (D.told disk.new).left_since (D.told disk.old).moment image →
+        StandsForFirst history (accepted history (lines input)) image }
+
+    // At 0 the content stands for the history and all events that are accepted.
+    ensures done { result ≡ 0 → IsTrue (D.tells disk.old) → NothingPending (D.told disk.old) →
+        (history : History) → Stands history (D.told disk.old).content → (input : List ℕ) → S.left source.old ≡ Some input →
+        Stands (history ++ accepted history (lines input)) (D.told disk.new).content }
+
+    // With known words, a content that stands for a history, an input within its limit and no fault, the answer is 0, or 7:
+    // out of memory.
+    ensures completes { ArePlain (map (λ w. string_bytes w) words.now) → IsTrue (D.tells disk.old) →
+        (history : History) → Stands history (D.told disk.old).content → (input : List ℕ) →
+        S.left source.old ≡ Some input → length input ≤ LONGEST_INPUT → (Rose (D.faults disk.old) (D.faults disk.new) → ⊥) →
         (Rose (S.faults source.old) (S.faults source.new) → ⊥) → (Rose (K.faults sink.old) (K.faults sink.new) → ⊥) →
         (result ≡ 0) ⊎ (result ≡ 7) }
 {
@@ -161,5 +218,9 @@ pub fn run<S: Source, K: Sink>(alloc: Global, words: &[String], source: &mut S, 
         say_usage(sink);
         return Status::Usage.number();
     }
-    serve(alloc, source, sink).number()
+    let status = match Store::open(alloc, disk) {
+        Ok(store) => serve(store, disk, source, sink),
+        Err(error) => refuse(error, sink),
+    };
+    status.number()
 }

@@ -9,10 +9,13 @@ use std::process::ExitCode;
 pub enum Status {
     Done,
     Usage,
+    RefusedStore,
+    DiskFault,
     SourceFault,
     SinkFault,
     OutOfMemory,
     InputLimit,
+    RecordChanged,
 }
 
 impl Status {
@@ -25,10 +28,13 @@ impl Status {
         match self {
             Status::Done => 0,
             Status::Usage => 2,
+            Status::RefusedStore => 3,
+            Status::DiskFault => 4,
             Status::SourceFault => 5,
             Status::SinkFault => 6,
             Status::OutOfMemory => 7,
             Status::InputLimit => 8,
+            Status::RecordChanged => 9,
         }
     }
 }
@@ -36,10 +42,12 @@ impl Status {
 /// What standard error says of an exit status, where it says something.
 pub fn complaint(number: u8) -> Option<&'static str> {
     match number {
+        4 => Some("summarystore: disk fault"),
         5 => Some("summarystore: input fault"),
         6 => Some("summarystore: output fault"),
         7 => Some("summarystore: out of memory"),
         8 => Some("summarystore: input too long"),
+        9 => Some("summarystore: record changed"),
         _ => None,
     }
 }

@@ -1,10 +1,10 @@
-// The program's rows over devices in memory, and its real devices over made-up streams.
+// The program's rows over devices in memory.
 ghost use Rattle.std.specs.Prelude.{◌<◌, Some};
 
 use crate::notice::notice;
 use crate::run::run;
 use crate::status::complaint;
-use ss_outside::{Failed, MemSink, MemSource, Sink, Source};
+use ss_outside::{Choice, Failed, MemDisk, MemSink, MemSource, Sink, Source};
 use std::alloc::{AllocError, Global};
 use std::test::Fail;
 
@@ -102,9 +102,15 @@ fn words_of(alloc: Global, words: &[&str]) -> Result<Vec<String>, AllocError> {
     Ok(owned)
 }
 
-// Runs the program over an input that is given in pieces, with a list of failing reads.
-fn run_over<K: Sink>(
+// A disk that holds nothing.
+fn empty(alloc: Global) -> Result<MemDisk, AllocError> {
+    MemDisk::new(alloc, Vec::new(alloc))
+}
+
+// Runs the program on a disk, over an input that is given in pieces, with a list of failing reads.
+fn run_on<K: Sink>(
     alloc: Global,
+    disk: &mut MemDisk,
     input: &str,
     piece: usize,
     failing: &[u64],
@@ -115,7 +121,20 @@ fn run_over<K: Sink>(
     let words = words_of(alloc, &["summarystore", "readings.store"])?;
     let mut source = MemSource::new(alloc, input.as_bytes().to_vec(alloc)?, piece);
     source.fail_at(failing.to_vec(alloc)?);
-    Ok(run(alloc, &words, &mut source, sink))
+    Ok(run(alloc, &words, disk, &mut source, sink))
+}
+
+// The same on a disk that holds nothing.
+fn run_over<K: Sink>(
+    alloc: Global,
+    input: &str,
+    piece: usize,
+    failing: &[u64],
+    sink: &mut K,
+) -> Result<u8, AllocError>
+    requires { 0 < piece }
+{
+    run_on(alloc, &mut empty(alloc)?, input, piece, failing, sink)
 }
 
 #[test]
@@ -244,10 +263,13 @@ fn words_are_known_or_the_usage_is_said(rt: HostRuntime) -> Result<(), Fail> {
     for (words, status, written) in rows {
         let words = words_of(rt.alloc(), words)?;
         let input = "create s exp 2 1 1".as_bytes().to_vec(rt.alloc())?;
+        let mut disk = empty(rt.alloc())?;
         let mut source = MemSource::new(rt.alloc(), input, 4096);
         let mut sink = MemSink::new(rt.alloc());
-        assert_eq!(rt; run(rt.alloc(), &words, &mut source, &mut sink), status);
+        let answer = run(rt.alloc(), &words, &mut disk, &mut source, &mut sink);
+        assert_eq!(rt; answer, status);
         assert_eq!(rt; sink.held(), written.as_bytes());
+        assert_eq!(rt; disk.calls() == 0, status == 2);
     }
     Ok(())
 }
@@ -276,10 +298,12 @@ fn a_notice_is_printed_where_it_is_the_only_argument(rt: HostRuntime) -> Result<
 
 #[test]
 fn a_failing_sink_leaves_the_usage_status(rt: HostRuntime) -> Result<(), Fail> {
+    let mut disk = empty(rt.alloc())?;
     let mut source = MemSource::new(rt.alloc(), Vec::new(rt.alloc()), 1);
     let mut sink = MemSink::new(rt.alloc());
     sink.fail_at([0].to_vec(rt.alloc())?);
-    assert_eq!(rt; run(rt.alloc(), &[], &mut source, &mut sink), 2);
+    let answer = run(rt.alloc(), &[], &mut disk, &mut source, &mut sink);
+    assert_eq!(rt; answer, 2);
     assert_eq!(rt; sink.held(), b"".as_slice());
     Ok(())
 }
@@ -289,11 +313,223 @@ fn a_failed_run_says_why(rt: HostRuntime) {
     for (number, text) in [
         (0, None),
         (2, None),
+        (3, None),
+        (4, Some("summarystore: disk fault")),
         (5, Some("summarystore: input fault")),
         (6, Some("summarystore: output fault")),
         (7, Some("summarystore: out of memory")),
         (8, Some("summarystore: input too long")),
+        (9, Some("summarystore: record changed")),
     ] {
         assert_eq!(rt; complaint(number), text);
     }
+}
+
+// What is shown of the stream on a disk, by a run of its own.
+fn shown(alloc: Global, disk: &mut MemDisk) -> Result<Vec<u8>, AllocError> {
+    let mut sink = MemSink::new(alloc);
+    let status = run_on(alloc, disk, "windows a\nlist\n", 4096, &[], &mut sink)?;
+    if status == 0 {
+        sink.held().to_vec(alloc)
+    } else {
+        Ok(Vec::new(alloc))
+    }
+}
+
+// The input of the worked row up to its line of so many.
+fn first_lines(count: usize) -> &'static str {
+    let ends = [0, 19, 33, 48, 62, 76, 90, 104, 118];
+    READINGS
+        .get(..*ends.get(count).unwrap_or(&118))
+        .unwrap_or("")
+}
+
+// What is shown after each number of events of the worked row, from none to all eight.
+fn shown_after_each(alloc: Global) -> Result<Vec<Vec<u8>>, AllocError> {
+    let mut all = Vec::new(alloc);
+    for count in 0..9 {
+        let mut disk = empty(alloc)?;
+        let mut sink = MemSink::new(alloc);
+        run_on(alloc, &mut disk, first_lines(count), 4096, &[], &mut sink)?;
+        all.push(shown(alloc, &mut disk)?)?;
+    }
+    Ok(all)
+}
+
+const SIX: &str =
+    "windows 4\n1 2 2 2 -3 5 10 20\n3 4 2 9 1 8 30 40\n5 5 1 9 9 9 50 50\n6 6 1 2 2 2 60 60\n\
+    list 1\na exp 2 1 1 6 4 0 0\n";
+
+const SEVEN: &str = "windows 3\n1 4 4 11 -3 8 10 40\n5 6 2 11 2 9 50 60\n7 7 1 7 7 7 70 70\n\
+    list 1\na exp 2 1 1 7 3 0 0\n";
+
+#[test]
+fn a_store_outlives_the_run(rt: HostRuntime) -> Result<(), Fail> {
+    let mut disk = empty(rt.alloc())?;
+    for (input, report) in [
+        ("", ""),
+        (first_lines(7), &REPORT[..49]),
+        ("windows a\nlist\n", SIX),
+        (&READINGS[104..], &REPORT[49..]),
+        ("windows a\nlist", SEVEN),
+    ] {
+        let mut sink = MemSink::new(rt.alloc());
+        assert_eq!(rt;
+            run_on(rt.alloc(), &mut disk, input, 64, &[], &mut sink)?,
+            0
+        );
+        assert_eq!(rt; sink.held(), report.as_bytes());
+        assert!(rt; disk.content().starts_with(b"\xA5SSTORE01"));
+    }
+    Ok(())
+}
+
+// A disk on which the worked row stopped at a call, with the status and the report.
+fn stopped_at(alloc: Global, stop: u64) -> Result<(MemDisk, u8, MemSink), AllocError> {
+    let mut disk = empty(alloc)?;
+    disk.stop_from(stop);
+    let mut sink = MemSink::new(alloc);
+    let status = run_on(alloc, &mut disk, READINGS, 4096, &[], &mut sink)?;
+    Ok((disk, status, sink))
+}
+
+// The first call at which the worked row stops after so many good syncs.
+fn call_after(alloc: Global, syncs: u64) -> Result<u64, AllocError> {
+    for stop in 0..300 {
+        if stopped_at(alloc, stop)?.0.syncs() >= syncs {
+            return Ok(stop);
+        }
+    }
+    Ok(300)
+}
+
+// A birth makes 3 syncs, and each creation, value and merge 2. Three merges come before the second of the seventh append.
+const FIRST_MERGE: u64 = 3 + 2 * (1 + 7 + 3);
+
+// The gate of the seventh append's first entry is written, and not synced.
+const SEVENTH_GATE: u64 = 3 + 2 * (1 + 6 + 2) + 2;
+
+const CRASHES: [Choice; 4] = [
+    Choice::Lost,
+    Choice::Kept,
+    Choice::Fill(0),
+    Choice::Fill(0xA5),
+];
+
+// Whether each crash shows one of these.
+fn shows(alloc: Global, disk: &MemDisk, texts: &[Vec<u8>]) -> Result<bool, AllocError> {
+    for choice in CRASHES {
+        let found = shown(alloc, &mut disk.crash(choice)?)?;
+        if !texts.contains(&found) {
+            return Ok(false);
+        }
+    }
+    Ok(true)
+}
+
+#[test]
+fn each_stop_leaves_what_was_acknowledged(rt: HostRuntime) -> Result<(), Fail> {
+    let texts = shown_after_each(rt.alloc())?;
+    for stop in 0..300 {
+        let (disk, status, sink) = stopped_at(rt.alloc(), stop)?;
+        let replies = sink.held().len() / 7;
+        assert_eq!(rt; sink.held(), front(replies), "stop {stop}");
+        let one_more = replies.saturating_add(2).min(9);
+        assert!(rt;
+            shows(
+                rt.alloc(),
+                &disk,
+                texts.get(replies..one_more).unwrap_or(&[])
+            )?,
+            "stop {stop}"
+        );
+        assert_eq!(rt; status, if replies < 8 { 4 } else { 0 }, "stop {stop}");
+    }
+    Ok(())
+}
+
+#[test]
+fn a_crash_between_two_merges(rt: HostRuntime) -> Result<(), Fail> {
+    let stop = call_after(rt.alloc(), FIRST_MERGE)?;
+    let (disk, status, sink) = stopped_at(rt.alloc(), stop)?;
+    assert_eq!(rt; (status, sink.held()), (4, front(7)));
+    // Also where the opening after it stops at each of its calls.
+    let seven = [SEVEN.as_bytes().to_vec(rt.alloc())?];
+    assert!(rt; shows(rt.alloc(), &disk, &seven)?);
+    for stop in 0..200 {
+        let mut left = disk.crash(Choice::Kept)?;
+        left.stop_from(stop);
+        let _ = shown(rt.alloc(), &mut left)?;
+        assert!(rt; shows(rt.alloc(), &left, &seven)?, "stop {stop}");
+    }
+    Ok(())
+}
+
+#[test]
+fn the_gate_of_an_append_decides(rt: HostRuntime) -> Result<(), Fail> {
+    let stop = call_after(rt.alloc(), SEVENTH_GATE)?.saturating_sub(1);
+    let (disk, status, sink) = stopped_at(rt.alloc(), stop)?;
+    assert_eq!(rt; (status, sink.held()), (4, front(7)));
+    for (byte, text) in [(0xA5, SEVEN), (0, SIX), (0x7F, SIX)] {
+        let found = shown(rt.alloc(), &mut disk.crash(Choice::Fill(byte))?)?;
+        assert_eq!(rt; found.as_slice(), text.as_bytes(), "{byte}");
+    }
+    Ok(())
+}
+
+// A formed file of zeros, with some bytes put at a place behind its magic.
+fn formed(alloc: Global, length: usize, at: usize, bytes: &[u8]) -> Result<Vec<u8>, AllocError> {
+    let mut content = b"\xA5SSTORE01".as_slice().to_vec(alloc)?;
+    content.resize(at, 0)?;
+    content.extend_from_slice(bytes)?;
+    content.resize(length, 0)?;
+    Ok(content)
+}
+
+// The same with four slots.
+fn damaged(alloc: Global, at: usize, bytes: &[u8]) -> Result<Vec<u8>, AllocError> {
+    formed(alloc, 37376, at, bytes)
+}
+
+// A window of one value 0 at the time 0, of the stream 6.
+const LOST_WINDOW: &[u8] = b"\x02\0\0\0\0\0\0\x06\0\0\0\0\0\0\0\x01\0\0\0\0\0\0\0\x01";
+
+#[test]
+fn a_refused_file_is_named_and_left(rt: HostRuntime) -> Result<(), Fail> {
+    for (content, line) in [
+        (b"hello".as_slice().to_vec(rt.alloc())?, "not a store\n"),
+        (damaged(rt.alloc(), 37248, &[9])?, "damaged slot 3\n"),
+        (damaged(rt.alloc(), 512, &[0xA5, 5])?, "damaged entry 0\n"),
+        (
+            damaged(rt.alloc(), 36992, LOST_WINDOW)?,
+            "damaged stream 6\n",
+        ),
+    ] {
+        let mut disk = MemDisk::new(rt.alloc(), content.as_slice().to_vec(rt.alloc())?)?;
+        let mut sink = MemSink::new(rt.alloc());
+        assert_eq!(rt;
+            run_on(rt.alloc(), &mut disk, READINGS, 64, &[], &mut sink)?,
+            3
+        );
+        assert_eq!(rt; sink.held(), line.as_bytes());
+        assert_eq!(rt; disk.content(), content.as_slice());
+        assert_eq!(rt; disk.syncs(), 0);
+    }
+    Ok(())
+}
+
+#[test]
+fn a_file_that_begins_with_0_is_formatted(rt: HostRuntime) -> Result<(), Fail> {
+    let mut disk = MemDisk::new(rt.alloc(), [0, 1, 2, 3, 4].to_vec(rt.alloc())?)?;
+    let mut sink = MemSink::new(rt.alloc());
+    assert_eq!(rt;
+        run_on(rt.alloc(), &mut disk, "list", 64, &[], &mut sink)?,
+        0
+    );
+    assert_eq!(rt; sink.held(), b"list 0\n".as_slice());
+    assert_eq!(rt;
+        disk.content(),
+        formed(rt.alloc(), 36864, 9, &[])?.as_slice()
+    );
+    Ok(())
 }

@@ -1,13 +1,24 @@
-use Rattle.std.proofs.Common.{◌≡◌, ◌-◌, ◌≤◌, List, [], ℕ, Some}
+use Rattle.std.proofs.Common.{◌≡◌, ◌-◌, ◌≤◌, List, ℕ, Some}
+use Rattle.std.specs.Bool.{IsTrue}
+use Rattle.ss_outside.specs.Disk.{NothingPending}
+use Rattle.ss_store.specs.Recover.{Stands}
+use Rattle.summarystore.specs.Answer.{IsOpen}
+use Rattle.summarystore.specs.Line.{History}
 use Rattle.summarystore.specs.declared.run.TheConstants.{LONGEST_INPUT}
-use Rattle.summarystore.proofs.RunLemmas.{IsThrough}
+use Rattle.summarystore.proofs.RunLemmas.{IsThrough, IsLeft}
 use Rattle.summarystore.proofs.run.serve.Given as goal
 
+-- so many bytes were read, and the lines that end in them are answered
 abbrev pub invariant-loop-done : goal.invariant-loop-done
 invariant-loop-done g l = record {
   fits : l.done ≤ LONGEST_INPUT;
-  through : (input : List ℕ) → g.S.Source.left l.fn.source ≡ Some input →
-      IsThrough [] l.session (g.K.Sink.held l.fn.sink) (g.K.Sink.held l.sink) (g.S.Source.left l.source) input l.done;
+  is_open : IsOpen (g.D.Disk.tells l.disk) (g.D.Disk.told l.disk) l.session.store;
+  tells : g.D.Disk.tells l.disk ≡ g.D.Disk.tells l.fn.disk;
+  left : (input : List ℕ) → g.S.Source.left l.fn.source ≡ Some input → IsLeft (g.S.Source.left l.source) input l.done;
+  through : IsTrue (g.D.Disk.tells l.fn.disk) → NothingPending (g.D.Disk.told l.fn.disk) → (history : History) →
+      Stands history (g.D.Disk.told l.fn.disk).content → (input : List ℕ) → g.S.Source.left l.fn.source ≡ Some input →
+      IsThrough history (g.D.Disk.told l.fn.disk) (g.D.Disk.told l.disk) l.session (g.K.Sink.held l.fn.sink) (g.K.Sink.held l.sink) (g.S.Source.left l.source) input l.done;
+  disk_faults : g.D.Disk.faults l.disk ≡ g.D.Disk.faults l.fn.disk;
   source_faults : g.S.Source.faults l.source ≡ g.S.Source.faults l.fn.source;
   sink_faults : g.K.Sink.faults l.sink ≡ g.K.Sink.faults l.fn.sink;
 }

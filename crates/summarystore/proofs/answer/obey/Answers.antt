@@ -1,0 +1,14 @@
+use Rattle.std.proofs.Common.{refl}
+use Rattle.ss_command.specs.declared.command.Command.TheVariants.{Windows, List as ListAll}
+use Rattle.summarystore.specs.Line.{command_brings}
+use Rattle.summarystore.proofs.AnswerLemmas.{Adds-none, Adds-reads, windows-event}
+use Rattle.summarystore.proofs.answer.obey.Goals as goal
+
+pub returns-in-Windows-clause-adds : goal.returns-in-Windows-clause-adds
+returns-in-Windows-clause-adds g c told history = rw c.in-Windows.is
+    (Adds-reads history (command_brings history (Windows c.in-Windows.name)) (g.D.Disk.told c.args.disk.now) (g.D.Disk.told c.show_windows.new.disk) c.show_windows.result
+    (λ has. windows-event history c.in-Windows.name) (g.met.D.Disk.knows_now c.args.disk.now told) (c.show_windows.ensures.reads told))
+
+pub returns-in-List-clause-adds : goal.returns-in-List-clause-adds
+returns-in-List-clause-adds g c told history = rw c.in-List.is
+    (Adds-none history (command_brings history ListAll) (g.D.Disk.told c.args.disk.now) c.list.result (λ has. refl) (g.met.D.Disk.knows_now c.args.disk.now told))
