@@ -3,4 +3,5 @@ pub mod NameLaws
 pub mod Params
 pub mod Refusal
 pub mod Events
+pub mod Queries
 pub mod Catalog

@@ -1,10 +1,11 @@
-//! Names, parameters, events and refusals of streams, and the names in order of creation.
+//! Names, parameters, events, queries and refusals of streams, and the names in order of creation.
 #![tactic(auto)]
 
 mod catalog;
 mod event;
 mod name;
 mod params;
+mod query;
 mod refusal;
 mod stream_id;
 #[cfg(test)]
@@ -14,6 +15,7 @@ pub use catalog::{Catalog, CatalogError};
 pub use event::Event;
 pub use name::{LONGEST_NAME, Name};
 pub use params::{GREATEST_BASE, GREATEST_POWER, GREATEST_SCALE, GREATEST_WIDENING, Params};
+pub use query::{Kind, Query};
 pub use refusal::Refusal;
 pub use stream_id::StreamId;
 

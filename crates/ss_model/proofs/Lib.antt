@@ -1,6 +1,7 @@
 mod Rows
 mod HistoryRows
 mod QueryRows
+mod AnswerRows
 pub mod Rises
 pub mod Stretches
 pub mod Incremental
@@ -21,3 +22,4 @@ pub mod AskedLemmas
 pub mod IntervalLemmas
 pub mod PieceLemmas
 pub mod RisingLemmas
+pub mod AnswerLemmas

@@ -38,7 +38,7 @@ last-outlines (s ∷ ss) (u ∷ us) same =
     λ i. (number i == LAST_STREAM) || rest i
 
 -- what is read of the stream of a name
-read-outlines : {Y : Type 0} (read : Option Stream → Y) → ((s u : Stream) → SameOutline s u → read (Some s) ≡ read (Some u)) →
+pub read-outlines : {Y : Type 0} (read : Option Stream → Y) → ((s u : Stream) → SameOutline s u → read (Some s) ≡ read (Some u)) →
     (name : List ℕ) (streams others : List Stream) → SameOutlines streams others → read (stream_named name streams) ≡ read (stream_named name others)
 read-outlines read one name [] [] same = refl
 read-outlines read one name [] (u ∷ us) same = absurd same

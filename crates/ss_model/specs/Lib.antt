@@ -14,3 +14,4 @@ pub mod Shown
 pub mod Outline
 pub mod Truth
 pub mod Interval
+pub mod Answers

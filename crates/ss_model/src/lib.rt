@@ -1,14 +1,17 @@
 //! The definitions that several crates speak of, and laws over them. There is no code here.
 #![tactic(auto)]
 
+mod answer_laws;
 mod closing_laws;
 mod decay_laws;
 mod history_laws;
 mod laws;
+mod outcome;
 mod outline_laws;
 mod query_laws;
 mod types;
 
+pub use answer_laws::{outcomes_hold_the_truth, queries_are_refused_or_answered};
 pub use closing_laws::{
     closing_again_changes_nothing, closing_is_confluent, closing_is_joining_what_is_due,
     interrupted_joins_close_to_the_windows, joining_due_keeps_windows, joins_add_up,
@@ -25,6 +28,7 @@ pub use laws::{
     incremental_is_from_scratch, joining_keeps_windows, windows_are_neighbours,
     windows_count_values, windows_end_last, windows_stand_in_place,
 };
+pub use outcome::Outcome;
 pub use outline_laws::refusals_read_outlines;
 pub use query_laws::{
     answers_hold_the_truth, answers_hold_the_truth_of_histories, unsplit_answers_are_exact,

@@ -1,0 +1,84 @@
+-- Worked rows of what states answer to queries, each computed from a history.
+use Rattle.std.specs.Prelude.{◌≡◌, ℕ, pos, negsuc, List, [], ◌∷◌, map, Option, Some, None, codes}
+use Rattle.std.proofs.Common.{refl}
+use Rattle.ss_windowing.specs.Windowing.{index_of}
+use Rattle.ss_power.specs.Power.{power_length}
+use Rattle.ss_catalog.specs.declared.event.Event.{Event}
+use Rattle.ss_catalog.specs.declared.event.Event.TheVariants.{Create, Value}
+use Rattle.ss_catalog.specs.declared.params.Params.TheVariants.{Exp, Power}
+use Rattle.ss_catalog.specs.declared.query.Kind.{Kind}
+use Rattle.ss_catalog.specs.declared.query.Kind.TheVariants as kinds
+use Rattle.ss_catalog.specs.declared.query.Query.{Query}
+use Rattle.ss_catalog.specs.declared.refusal.Refusal.{Refusal}
+use Rattle.ss_catalog.specs.declared.refusal.Refusal.TheVariants.{Unknown, Range}
+use Rattle.ss_bounds.specs.declared.extreme.Extreme.TheVariants.{Nothing, Sure, Maybe}
+use Rattle.ss_bounds.specs.Split.{sum_interval}
+use Rattle.ss_model.specs.Answers.{outcome_of, refuses_query}
+use Rattle.ss_model.specs.State.{state}
+use Rattle.ss_model.specs.declared.outcome.Outcome.{Outcome}
+use Rattle.ss_model.specs.declared.outcome.Outcome.TheVariants.{Count, Sum, Min, Max}
+
+a : List ℕ
+a = codes "a"
+
+-- a stream and seven readings
+readings : List Event
+readings =
+    Create a (Exp 2 1 1) ∷ Value a 10 (pos 5) ∷ Value a 20 (negsuc 2) ∷ Value a 30 (pos 8) ∷ Value a 40 (pos 1)
+    ∷ Value a 50 (pos 9) ∷ Value a 60 (pos 2) ∷ Value a 70 (pos 7) ∷ []
+
+query : Kind → ℕ → ℕ → Query
+query kind from to = record { name = a; kind = kind; from = from; to = to }
+
+answers : List Query → List (Option Outcome)
+answers = map (outcome_of (state readings))
+
+-- no window is split
+answers-whole : answers (query kinds.Count 10 40 ∷ query kinds.Sum 0 100 ∷ query kinds.Max 45 65 ∷ query kinds.Min 71 80 ∷ []) ≡
+    Some (Count 4 4) ∷ Some (Sum (pos 29) (pos 29)) ∷ Some (Max (Sure (pos 9) (pos 9))) ∷ Some (Min Nothing) ∷ []
+unfolding answers outcome_of query state index_of sum_interval readings a
+answers-whole = refl
+
+-- one window is split
+answers-split : answers
+    (query kinds.Count 10 25 ∷ query kinds.Sum 10 25 ∷ query kinds.Min 10 25 ∷ query kinds.Min 15 25 ∷ query kinds.Count 15 25 ∷ []) ≡
+    Some (Count 1 3) ∷ Some (Sum (negsuc 4) (pos 16)) ∷ Some (Min (Sure (negsuc 2) (pos 8))) ∷ Some (Min (Maybe (negsuc 2) (pos 8)))
+    ∷ Some (Count 0 2) ∷ []
+unfolding answers outcome_of query state index_of sum_interval readings a
+answers-split = refl
+
+-- two windows are split
+answers-two_split : answers (query kinds.Count 25 55 ∷ query kinds.Sum 25 55 ∷ query kinds.Min 25 55 ∷ query kinds.Max 25 55 ∷ []) ≡
+    Some (Count 2 4) ∷ Some (Sum (negsuc 2) (pos 25)) ∷ Some (Min (Sure (negsuc 2) (pos 8))) ∷ Some (Max (Sure (pos 2) (pos 9))) ∷ []
+unfolding answers outcome_of query state index_of sum_interval readings a
+answers-two_split = refl
+
+-- the name is tested before the range
+why : Query → Option Refusal
+why = refuses_query (state readings)
+
+refusals-readings : map why
+    (query kinds.Sum 5 4 ∷ query kinds.Sum 5 5 ∷ record { name = codes "x"; kind = kinds.Sum; from = 5; to = 4 }
+    ∷ record { name = codes "x"; kind = kinds.Min; from = 0; to = 4 } ∷ []) ≡ Some Range ∷ None ∷ Some Unknown ∷ Some Unknown ∷ []
+unfolding why refuses_query query state index_of readings a
+refusals-readings = refl
+
+-- where no stream stands there is no answer, and a stream without values answers all the same
+bare : List Event
+bare = Create a (Exp 2 1 1) ∷ []
+
+answers-bare : map (outcome_of (state bare))
+    (record { name = codes "x"; kind = kinds.Count; from = 0; to = 4 } ∷ query kinds.Count 0 4 ∷ query kinds.Sum 0 4 ∷ query kinds.Max 0 4 ∷ []) ≡
+    None ∷ Some (Count 0 0) ∷ Some (Sum (pos 0) (pos 0)) ∷ Some (Max Nothing) ∷ []
+unfolding outcome_of query state index_of bare a
+answers-bare = refl
+
+-- four values at four times in one window of four: the free times are used up
+close_times : List Event
+close_times =
+    Create a (Power 1 0 1 4) ∷ Value a 10 (pos 4) ∷ Value a 11 (pos 4) ∷ Value a 12 (pos 6) ∷ Value a 13 (pos 6) ∷ []
+
+answers-close_times : map (outcome_of (state close_times)) (query kinds.Count 10 11 ∷ query kinds.Sum 10 11 ∷ []) ≡
+    Some (Count 2 2) ∷ Some (Sum (pos 8) (pos 12)) ∷ []
+unfolding outcome_of query state power_length index_of sum_interval close_times a
+answers-close_times = refl

@@ -1,0 +1,28 @@
+// Laws on what a state answers to a query, each the contract of a function that does nothing.
+ghost use Rattle.std.specs.Prelude.{◌≡◌, List, [], Some, None, IsSome};
+ghost use Rattle.ss_catalog.specs.declared.event.Event.{Event};
+ghost use Rattle.ss_catalog.specs.declared.query.Query.{Query};
+ghost use Rattle.ss_model.specs.Answers.{HoldsTruth, IsExactOutcome, IsOfKind, outcome_of, refuses_query, split_by};
+ghost use Rattle.ss_model.specs.History.{values_of};
+ghost use Rattle.ss_model.specs.Outline.{SameOutlines};
+ghost use Rattle.ss_model.specs.Refusals.{IsHistory};
+ghost use Rattle.ss_model.specs.State.{Stream, state};
+ghost use Rattle.ss_model.specs.declared.outcome.Outcome.{Outcome};
+
+/// What the state of a history answers holds the truth over all values that the history has of the stream. It is to what was
+/// asked for, and leaves nothing open where the range splits no window.
+pub fn outcomes_hold_the_truth()
+    ensures truth { (history : List Event) (query : Query) (outcome : Outcome) → IsHistory history →
+        outcome_of (state history) query ≡ Some outcome → HoldsTruth query (values_of history query.name) [] outcome }
+    ensures kind { (streams : List Stream) (query : Query) (outcome : Outcome) →
+        outcome_of streams query ≡ Some outcome → IsOfKind query.kind outcome }
+    ensures exact { (streams : List Stream) (query : Query) (outcome : Outcome) →
+        outcome_of streams query ≡ Some outcome → split_by streams query ≡ [] → IsExactOutcome outcome }
+{}
+
+/// A query that isn't refused has an answer. It is refused alike in states of which a store keeps the same in memory.
+pub fn queries_are_refused_or_answered()
+    ensures answered { (streams : List Stream) (query : Query) → refuses_query streams query ≡ None → IsSome (outcome_of streams query) }
+    ensures outlines { (streams others : List Stream) (query : Query) → SameOutlines streams others →
+        refuses_query streams query ≡ refuses_query others query }
+{}

@@ -1,0 +1,16 @@
+// What is answered to a query.
+use ss_bounds::Extreme;
+
+/// The answer to a query: an interval that holds the truth, over all values of the stream in the range.
+/// docs/DEFINITIONS.md ("Queries: the truth and the answer") says which one.
+#[derive(Clone, Copy, Debug, PartialEq, Eq)]
+pub enum Outcome {
+    /// From `lo` to `hi` values.
+    Count { lo: u64, hi: u64 },
+    /// A sum from `lo` to `hi`.
+    Sum { lo: i128, hi: i128 },
+    /// What is known of the least value.
+    Min(Extreme),
+    /// What is known of the greatest value.
+    Max(Extreme),
+}
