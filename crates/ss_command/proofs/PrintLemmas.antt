@@ -13,14 +13,17 @@ use Rattle.std.specs.List.{All, list_all}
 use Rattle.ss_fields.proofs.WordLemmas.{signed_of-signed_decimal, unsigned_of-decimal}
 use Rattle.ss_catalog.proofs.NameLemmas.{length-is_name}
 use Rattle.ss_catalog.specs.Names.{is_name, is_name_byte}
+use Rattle.ss_catalog.specs.Queries.{kind_name}
 use Rattle.ss_catalog.specs.declared.TheConstants.{LAST_TIME}
 use Rattle.ss_catalog.specs.declared.event.Event.TheVariants.{Create, Value}
 use Rattle.ss_catalog.specs.declared.params.Params.TheVariants.{Exp, Power}
+use Rattle.ss_catalog.specs.declared.query.Kind.{Kind}
+use Rattle.ss_catalog.specs.declared.query.Kind.TheVariants as kinds
 use Rattle.ss_command.proofs.GrammarLemmas.{meaning-words}
 use Rattle.ss_command.proofs.NumberLemmas.{or_number-Ok}
 use Rattle.ss_command.proofs.PutLemmas.{length-decimal_32, length-decimal_64, length-signed_64, length-with_word}
 use Rattle.ss_command.proofs.WordLemmas.{words-blank, words-one}
-use Rattle.ss_command.specs.Grammar.{is_comment, meaning, meaning_of_words, name_of, or_number, parameter_of, time_of, value_of}
+use Rattle.ss_command.specs.Grammar.{is_comment, kind_of, meaning, meaning_of_words, name_of, or_number, parameter_of, time_of, value_of}
 use Rattle.ss_command.specs.Printed.{IsSayable, printed, spaced, target_words, with_word}
 use Rattle.ss_command.specs.Words.{is_blank, words}
 use Rattle.ss_command.specs.declared.command.Command.{Command}
@@ -150,6 +153,33 @@ meaning-value name t v is early fits =
     meaning-spaced (codes "append") rest (literal (codes "append") refl) all short refl
     ∙ rw (time_of-decimal t early, value_of-signed v fits, name_of-name name is) refl
 
+-- the name of what is asked for
+IsWord-kind : (kind : Kind) → IsWord (kind_name kind)
+IsWord-kind kinds.Count = literal (codes "count") refl
+IsWord-kind kinds.Sum = literal (codes "sum") refl
+IsWord-kind kinds.Min = literal (codes "min") refl
+IsWord-kind kinds.Max = literal (codes "max") refl
+
+length-kind : (kind : Kind) → length (kind_name kind) ≤ 5
+length-kind kinds.Count = omega arith
+length-kind kinds.Sum = omega arith
+length-kind kinds.Min = omega arith
+length-kind kinds.Max = omega arith
+
+kind_of-name : (kind : Kind) → kind_of (kind_name kind) ≡ Ok kind
+kind_of-name kinds.Count = refl
+kind_of-name kinds.Sum = refl
+kind_of-name kinds.Min = refl
+kind_of-name kinds.Max = refl
+
+meaning-query : (name : List ℕ) (kind : Kind) (from to : ℕ) → is_name name ≡ true → from ≤ LAST_TIME → to ≤ LAST_TIME → meaning (spaced (codes "query") (name ∷ kind_name kind ∷ decimal from ∷ decimal to ∷ [])) ≡ Ok (Some (commands.Ask (record { name = name; kind = kind; from = from; to = to })))
+meaning-query name kind from to is early late =
+    let rest = name ∷ kind_name kind ∷ decimal from ∷ decimal to ∷ [] in
+    let all : AreWords rest = (IsWord-name name is, (IsWord-kind kind, (IsWord-decimal from (omega arith), (IsWord-decimal to (omega arith), tt)))) in
+    let short : length (spaced (codes "query") rest) ≤ 256 = omega (arith, length-spaced rest (codes "query"), length-is_name name is, length-kind kind, length-decimal_64 from (omega arith), length-decimal_64 to (omega arith)) in
+    meaning-spaced (codes "query") rest (literal (codes "query") refl) all short refl
+    ∙ rw (kind_of-name kind, time_of-decimal from early, time_of-decimal to late, name_of-name name is) refl
+
 meaning-windows : (name : List ℕ) → is_name name ≡ true → meaning (spaced (codes "windows") (name ∷ [])) ≡ Ok (Some (commands.Windows name))
 meaning-windows name is =
     let rest = name ∷ [] in
@@ -163,5 +193,6 @@ unfolding printed
 meaning-printed (commands.Do (Create name (Exp b r s))) sayable = meaning-exp name b r s sayable.0 sayable.1.0 sayable.1.1 sayable.1.2
 meaning-printed (commands.Do (Create name (Power p q r s))) sayable = meaning-power name p q r s sayable.0 sayable.1.0 sayable.1.1 sayable.1.2 sayable.1.3
 meaning-printed (commands.Do (Value name t v)) sayable = meaning-value name t v sayable.0 sayable.1 sayable.2
+meaning-printed (commands.Ask query) sayable = meaning-query query.name query.kind query.from query.to sayable.0 sayable.1.0 sayable.1.1
 meaning-printed (commands.Windows name) sayable = meaning-windows name sayable
 meaning-printed commands.List sayable = meaning-spaced (codes "list") [] (literal (codes "list") refl) tt (omega arith) refl

@@ -6,6 +6,7 @@ use Rattle.ss_fields.specs.Words.{is_number, number_of, number_up_to, signed_of}
 use Rattle.ss_catalog.specs.Names.{is_name}
 use Rattle.ss_catalog.specs.declared.event.Event.TheVariants.{Create, Value}
 use Rattle.ss_catalog.specs.declared.params.Params.TheVariants.{Exp, Power}
+use Rattle.ss_catalog.specs.declared.query.Kind.TheVariants as kinds
 use Rattle.ss_catalog.specs.declared.refusal.Refusal.{Refusal}
 use Rattle.ss_catalog.specs.declared.refusal.Refusal.TheVariants as refusals
 use Rattle.ss_command.specs.Grammar.{meaning}
@@ -85,6 +86,22 @@ means-refused :
 unfolding meaning words is_number number_of number_up_to signed_of is_name
 means-refused = refl
 
+means-queries :
+    map meaning (codes "query a count 10 40" ∷ codes "query a sum 00 4611686018427387904" ∷ codes "query a min 5 4" ∷ codes "query a max 0 0" ∷ [])
+    ≡ Ok (Some (commands.Ask (record { name = codes "a"; kind = kinds.Count; from = 10; to = 40 })))
+    ∷ Ok (Some (commands.Ask (record { name = codes "a"; kind = kinds.Sum; from = 0; to = 4611686018427387904 })))
+    ∷ Ok (Some (commands.Ask (record { name = codes "a"; kind = kinds.Min; from = 5; to = 4 })))
+    ∷ Ok (Some (commands.Ask (record { name = codes "a"; kind = kinds.Max; from = 0; to = 0 })))
+    ∷ []
+unfolding meaning words is_number number_of number_up_to signed_of is_name
+means-queries = refl
+
+means-queries_refused :
+    map meaning (codes "query a count 1" ∷ codes "query a count 1 2 3" ∷ codes "query a mean 1 2" ∷ codes "query x! mean y 2" ∷ codes "query x! sum y 2" ∷ codes "query a sum 1 4611686018427387905" ∷ codes "query a sum -1 2" ∷ codes "query x! sum 1 2" ∷ [])
+    ≡ map refused (refusals.Syntax ∷ refusals.Syntax ∷ refusals.Syntax ∷ refusals.Syntax ∷ refusals.Number ∷ refusals.Number ∷ refusals.Number ∷ refusals.Name ∷ [])
+unfolding meaning words is_number number_of number_up_to signed_of is_name
+means-queries_refused = refl
+
 -- `list` with blanks behind it, up to the longest line and one past it
 means-256_bytes : meaning (codes "list" ++ replicate 252 32) ≡ Ok (Some commands.List)
 unfolding meaning words
@@ -99,3 +116,7 @@ printed-commands :
     ≡ codes "create a exp 2 1 1" ∷ codes "create p power 1 0 1 4" ∷ codes "append a 7 -3" ∷ codes "windows a" ∷ codes "list" ∷ []
 unfolding printed digits
 printed-commands = refl
+
+printed-query : printed (commands.Ask (record { name = codes "a"; kind = kinds.Max; from = 45; to = 65 })) ≡ codes "query a max 45 65"
+unfolding printed digits
+printed-query = refl

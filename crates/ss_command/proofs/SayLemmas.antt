@@ -11,7 +11,7 @@ use Rattle.ss_catalog.specs.declared.event.Event.TheVariants.{Create, Value}
 use Rattle.ss_catalog.specs.declared.params.Params.TheVariants.{Exp, Power}
 use Rattle.ss_catalog.specs.declared.refusal.Refusal.{Refusal}
 use Rattle.ss_command.specs.declared.TheConstants.{LONGEST_LINE}
-use Rattle.ss_command.specs.Grammar.{◌>>=◌, append_of, command_of, create_of, exp_of, is_comment, list_of, meaning, meaning_of_words, name_of, or_number, parameter_of, power_of, time_of, value_of, windows_of}
+use Rattle.ss_command.specs.Grammar.{◌>>=◌, append_of, command_of, create_of, exp_of, is_comment, list_of, meaning, meaning_of_words, kind_of, name_of, or_number, parameter_of, power_of, query_of, time_of, value_of, windows_of}
 use Rattle.ss_command.specs.Printed.{IsSayable}
 use Rattle.ss_command.specs.Words.{is_word, words}
 use Rattle.ss_command.specs.declared.command.Command.{Command}
@@ -121,6 +121,20 @@ append-sayable (name ∷ time ∷ value ∷ []) c same =
     subst IsSayable is (name-is name stream.0 stream.1, time-le time t.0 t.1, value-fits value v.0 v.1)
 append-sayable (name ∷ time ∷ value ∷ more ∷ rest) c same = cc
 
+query-sayable : (ws : List (List ℕ)) (c : Command) → query_of ws ≡ Ok c → IsSayable c
+query-sayable [] c same = cc
+query-sayable (name ∷ []) c same = cc
+query-sayable (name ∷ asked ∷ []) c same = cc
+query-sayable (name ∷ asked ∷ first ∷ []) c same = cc
+query-sayable (name ∷ asked ∷ first ∷ last ∷ []) c same =
+    let kind = bind-Ok (kind_of asked) _ c same in
+    let from = bind-Ok (time_of first) _ c kind.2 in
+    let to = bind-Ok (time_of last) _ c from.2 in
+    let stream = bind-Ok (name_of name) _ c to.2 in
+    let is : commands.Ask (record { name = stream.0; kind = kind.0; from = from.0; to = to.0 }) ≡ c = cc (stream.2) in
+    subst IsSayable is (name-is name stream.0 stream.1, (time-le first from.0 from.1, time-le last to.0 to.1))
+query-sayable (name ∷ asked ∷ first ∷ last ∷ more ∷ rest) c same = cc
+
 windows-sayable : (ws : List (List ℕ)) (c : Command) → windows_of ws ≡ Ok c → IsSayable c
 windows-sayable [] c same = cc
 windows-sayable (name ∷ []) c same =
@@ -137,8 +151,9 @@ command-sayable : (verb : List ℕ) (rest : List (List ℕ)) (c : Command) → c
 command-sayable verb rest c same =
     choice (IsSayable c) (is_word verb (codes "create")) _ _ c (create-sayable rest c)
     (choice (IsSayable c) (is_word verb (codes "append")) _ _ c (append-sayable rest c)
+    (choice (IsSayable c) (is_word verb (codes "query")) _ _ c (query-sayable rest c)
     (choice (IsSayable c) (is_word verb (codes "windows")) _ _ c (windows-sayable rest c)
-    (choice (IsSayable c) (is_word verb (codes "list")) _ _ c (list-sayable rest c) (λ wrong. cc (wrong)))))
+    (choice (IsSayable c) (is_word verb (codes "list")) _ _ c (list-sayable rest c) (λ wrong. cc (wrong))))))
     same
 
 words-sayable : (ws : List (List ℕ)) (c : Command) → meaning_of_words ws ≡ Ok (Some c) → IsSayable c

@@ -6,6 +6,8 @@ use Rattle.ss_catalog.specs.Names.{is_name}
 use Rattle.ss_catalog.specs.declared.TheConstants.{LAST_TIME}
 use Rattle.ss_catalog.specs.declared.event.Event.TheVariants.{Create, Value}
 use Rattle.ss_catalog.specs.declared.params.Params.TheVariants.{Exp, Power}
+use Rattle.ss_catalog.specs.declared.query.Kind.{Kind}
+use Rattle.ss_catalog.specs.declared.query.Kind.TheVariants as kinds
 use Rattle.ss_catalog.specs.declared.refusal.Refusal.{Refusal}
 use Rattle.ss_catalog.specs.declared.refusal.Refusal.TheVariants as refusals
 use Rattle.ss_command.specs.Words.{words, is_word}
@@ -78,6 +80,25 @@ append_of (name ∷ time ∷ value ∷ []) = do
   Ok (commands.Do (Value stream t v))
 append_of _ = Err refusals.Syntax
 
+-- what is asked for: one of these words
+abbrev pub kind_of : List ℕ → Result Kind Refusal
+kind_of word =
+    if is_word word (codes "count") then Ok kinds.Count
+    else (if is_word word (codes "sum") then Ok kinds.Sum
+    else (if is_word word (codes "min") then Ok kinds.Min
+    else (if is_word word (codes "max") then Ok kinds.Max
+    else Err refusals.Syntax)))
+
+-- `query NAME count T1 T2`, from its name on; also with `sum`, `min` and `max`
+abbrev pub query_of : List (List ℕ) → Result Command Refusal
+query_of (name ∷ asked ∷ first ∷ last ∷ []) = do
+  kind ← kind_of asked
+  from ← time_of first
+  to ← time_of last
+  stream ← name_of name
+  Ok (commands.Ask (record { name = stream; kind = kind; from = from; to = to }))
+query_of _ = Err refusals.Syntax
+
 -- `windows NAME`, from its name on
 abbrev pub windows_of : List (List ℕ) → Result Command Refusal
 windows_of (name ∷ []) = do
@@ -95,9 +116,10 @@ abbrev pub command_of : List ℕ → List (List ℕ) → Result Command Refusal
 command_of verb rest =
     if is_word verb (codes "create") then create_of rest
     else (if is_word verb (codes "append") then append_of rest
+    else (if is_word verb (codes "query") then query_of rest
     else (if is_word verb (codes "windows") then windows_of rest
     else (if is_word verb (codes "list") then list_of rest
-    else Err refusals.Syntax)))
+    else Err refusals.Syntax))))
 
 -- what words mean: nothing, where there are none, or a command
 abbrev pub meaning_of_words : List (List ℕ) → Result (Option Command) Refusal

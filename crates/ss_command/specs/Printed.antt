@@ -4,6 +4,7 @@ use Rattle.std.specs.Fmt.{decimal, signed_decimal}
 use Rattle.std.specs.Int.{w64}
 use Rattle.ss_catalog.specs.Events.{IsInTime}
 use Rattle.ss_catalog.specs.Names.{is_name}
+use Rattle.ss_catalog.specs.Queries.{IsQueryInTime, kind_name}
 use Rattle.ss_catalog.specs.declared.TheConstants.{LAST_TIME}
 use Rattle.ss_catalog.specs.declared.event.Event.TheVariants.{Create, Value}
 use Rattle.ss_catalog.specs.declared.params.Params.{Params}
@@ -28,6 +29,7 @@ spaced first rest = fold with_word first rest
 unfoldable pub printed : Command → List ℕ
 printed (commands.Do (Create name params)) = spaced (codes "create") (name ∷ target_words params)
 printed (commands.Do (Value name t v)) = spaced (codes "append") (name ∷ decimal t ∷ signed_decimal v ∷ [])
+printed (commands.Ask query) = spaced (codes "query") (query.name ∷ kind_name query.kind ∷ decimal query.from ∷ decimal query.to ∷ [])
 printed (commands.Windows name) = spaced (codes "windows") (name ∷ [])
 printed commands.List = codes "list"
 
@@ -40,11 +42,13 @@ HasParameters (Power p q r s) = (p < 2 ^ 32) × (q < 2 ^ 32) × (r < 2 ^ 32) × 
 abbrev pub IsSayable : Command → Type 0
 IsSayable (commands.Do (Create name params)) = (is_name name ≡ true) × HasParameters params
 IsSayable (commands.Do (Value name t v)) = (is_name name ≡ true) × (t ≤ LAST_TIME) × FitsSigned w64 v
+IsSayable (commands.Ask query) = (is_name query.name ≡ true) × IsQueryInTime query
 IsSayable (commands.Windows name) = is_name name ≡ true
 IsSayable commands.List = Unit {0}
 
 -- a command has no time above the greatest one
 abbrev pub IsCommandInTime : Command → Type 0
 IsCommandInTime (commands.Do event) = IsInTime event
+IsCommandInTime (commands.Ask query) = IsQueryInTime query
 IsCommandInTime (commands.Windows name) = Unit {0}
 IsCommandInTime commands.List = Unit {0}

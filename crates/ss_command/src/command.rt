@@ -1,11 +1,13 @@
 // What a line asks for.
-use ss_catalog::{Event, Name};
+use ss_catalog::{Event, Name, Query};
 
 /// What a line asks for. docs/GUIDE.md ("Commands") has the forms.
 #[derive(Clone, Copy, Debug, PartialEq, Eq)]
 pub enum Command {
     /// To take an event.
     Do(Event),
+    /// What is asked of a stream.
+    Ask(Query),
     /// The windows of a stream.
     Windows(Name),
     /// All streams.

@@ -1,13 +1,13 @@
 // What a line means.
 ghost use Rattle.std.specs.Prelude.{◌≡◌, ◌≤◌, length, codes, IfOk, IfSome};
-ghost use Rattle.ss_command.specs.Grammar.{append_of, command_of, create_of, exp_of, is_comment, list_of, meaning, power_of, windows_of};
+ghost use Rattle.ss_command.specs.Grammar.{append_of, command_of, create_of, exp_of, is_comment, kind_of, list_of, meaning, power_of, query_of, windows_of};
 ghost use Rattle.ss_command.specs.Printed.{IsCommandInTime, IsSayable};
 
 use crate::command::Command;
 use crate::numbers::{read_name, read_parameter, read_time, read_value};
 use crate::words::{Words, is_word};
 use crate::{COMMENT, LONGEST_LINE};
-use ss_catalog::{Event, Params, Refusal};
+use ss_catalog::{Event, Kind, Params, Query, Refusal};
 
 // Reads `create NAME exp B R S`, from B on.
 fn exp(name: &[u8], mut words: Words) -> Result<Command, Refusal>
@@ -76,6 +76,45 @@ fn append(mut words: Words) -> Result<Command, Refusal>
     Ok(Command::Do(Event::Value { name, t, v }))
 }
 
+// What is asked for.
+fn kind(word: &[u8]) -> Result<Kind, Refusal>
+    ensures { result ≡ kind_of word.now }
+{
+    if is_word(word, "count") {
+        Ok(Kind::Count)
+    } else if is_word(word, "sum") {
+        Ok(Kind::Sum)
+    } else if is_word(word, "min") {
+        Ok(Kind::Min)
+    } else if is_word(word, "max") {
+        Ok(Kind::Max)
+    } else {
+        Err(Refusal::Syntax)
+    }
+}
+
+// Reads `query NAME count T1 T2` and its like, from its name on.
+fn query(mut words: Words) -> Result<Command, Refusal>
+    ensures meaning { result ≡ query_of words.entry }
+    ensures time { IfOk result IsCommandInTime }
+{
+    let name = words.word()?;
+    let asked = words.word()?;
+    let first = words.word()?;
+    let last = words.word()?;
+    words.end()?;
+    let kind = kind(asked)?;
+    let from = read_time(first)?;
+    let to = read_time(last)?;
+    let name = read_name(name)?;
+    Ok(Command::Ask(Query {
+        name,
+        kind,
+        from,
+        to,
+    }))
+}
+
 // Reads `windows NAME`, from its name on.
 fn windows(mut words: Words) -> Result<Command, Refusal>
     ensures { result ≡ windows_of words.entry }
@@ -103,6 +142,8 @@ fn command(verb: &[u8], words: Words) -> Result<Command, Refusal>
         create(words)
     } else if is_word(verb, "append") {
         append(words)
+    } else if is_word(verb, "query") {
+        query(words)
     } else if is_word(verb, "windows") {
         windows(words)
     } else if is_word(verb, "list") {

@@ -1,14 +1,15 @@
 // How a command is printed.
 ghost use Rattle.std.specs.Prelude.{◌≡◌, [], Ok, Some};
 ghost use Rattle.ss_catalog.specs.Events.{IsInTime};
+ghost use Rattle.ss_catalog.specs.Queries.{IsQueryInTime};
 ghost use Rattle.ss_command.specs.Grammar.{meaning};
 ghost use Rattle.ss_command.specs.Printed.{IsCommandInTime, IsSayable, printed};
 ghost use Rattle.ss_command.specs.declared.command.Command.TheVariants as commands;
 
 use crate::command::Command;
-use crate::put::{put_name, put_number, put_target, put_value};
+use crate::put::{put_kind, put_name, put_number, put_target, put_value};
 use arrayvec::ArrayString;
-use ss_catalog::Event;
+use ss_catalog::{Event, Query};
 
 // Writes an event into an empty text.
 fn print_event(event: &Event, out: &mut ArrayString<256>)
@@ -32,6 +33,20 @@ fn print_event(event: &Event, out: &mut ArrayString<256>)
     }
 }
 
+// Writes a query into an empty text.
+fn print_query(query: &Query, out: &mut ArrayString<256>)
+    requires empty { out.old.bytes ≡ [] }
+    requires time { IsQueryInTime query.now }
+    ensures text { out.new.bytes ≡ printed (commands.Ask query.now) }
+    ensures sayable { IsSayable (commands.Ask query.now) }
+{
+    out.push_str("query");
+    put_name(&query.name, out);
+    put_kind(query.kind, out);
+    put_number(query.from, out);
+    put_number(query.to, out);
+}
+
 /// Writes a command into an empty text: its words with one space between them, numbers without leading zeros. `parse`
 /// reads it as the same command.
 pub fn print(command: &Command, out: &mut ArrayString<256>)
@@ -43,6 +58,7 @@ pub fn print(command: &Command, out: &mut ArrayString<256>)
 {
     match command {
         Command::Do(event) => print_event(event, out),
+        Command::Ask(query) => print_query(query, out),
         Command::Windows(name) => {
             out.push_str("windows");
             put_name(name, out);

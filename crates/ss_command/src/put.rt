@@ -2,10 +2,11 @@
 ghost use Rattle.std.specs.Prelude.{◌≡◌, ◌≤◌, ◌+◌, length, true};
 ghost use Rattle.std.specs.Fmt.{decimal, signed_decimal};
 ghost use Rattle.ss_catalog.specs.Names.{is_name};
+ghost use Rattle.ss_catalog.specs.Queries.{kind_name};
 ghost use Rattle.ss_command.specs.Printed.{HasParameters, spaced, target_words, with_word};
 
 use arrayvec::ArrayString;
-use ss_catalog::{Name, Params};
+use ss_catalog::{Kind, Name, Params};
 use ss_fields::{print_i64, print_i128, print_u64};
 
 /// Adds a space and a name.
@@ -17,6 +18,16 @@ pub fn put_name(name: &Name, out: &mut ArrayString<256>)
 {
     out.push_str(" ");
     out.push_str(name.as_str());
+}
+
+/// Adds a space and the name of what is asked for.
+pub fn put_kind(kind: Kind, out: &mut ArrayString<256>)
+    requires { length out.old.bytes + 6 ≤ 256 }
+    ensures bytes { out.new.bytes ≡ with_word out.old.bytes (kind_name kind) }
+    ensures short { length out.new.bytes ≤ length out.old.bytes + 6 }
+{
+    out.push_str(" ");
+    out.push_str(kind.text());
 }
 
 /// Adds a space and a number.

@@ -2,10 +2,12 @@
 use Rattle.std.proofs.Common.{◌≡◌, ℕ, List, [], ◌∷◌, ◌++◌, map, refl}
 use Rattle.std.specs.Prelude.{codes, pos, negsuc}
 use Rattle.std.specs.Fmt.{digits}
+use Rattle.ss_bounds.specs.declared.extreme.Extreme.TheVariants.{Nothing, Sure, Maybe}
 use Rattle.ss_catalog.specs.declared.params.Params.TheVariants.{Exp}
 use Rattle.ss_catalog.specs.declared.refusal.Refusal.TheVariants as refusals
+use Rattle.ss_model.specs.declared.outcome.Outcome.TheVariants.{Count, Sum, Min, Max}
 use Rattle.ss_report.specs.Text.{reply_line}
-use Rattle.ss_report.specs.declared.reply.Reply.TheVariants.{Done, Refused, WindowsHead, Window, ListHead, Stream}
+use Rattle.ss_report.specs.declared.reply.Reply.TheVariants.{Done, Answered, Refused, WindowsHead, Window, ListHead, Stream}
 
 -- a text as a line
 abbrev ended : List ℕ → List ℕ
@@ -16,6 +18,17 @@ replies-events :
     ≡ map ended (codes "ok 7 3" ∷ codes "refused NOT_OPEN" ∷ codes "refused STORE_FULL" ∷ [])
 unfolding digits
 replies-events = refl
+
+replies-answers :
+    map reply_line
+    (Answered (Count 1 3) ∷ Answered (Sum (negsuc 4) (pos 16)) ∷ Answered (Min (Sure (negsuc 2) (pos 8)))
+    ∷ Answered (Min (Maybe (negsuc 2) (pos 8))) ∷ Answered (Min Nothing) ∷ Answered (Max (Sure (pos 2) (pos 9)))
+    ∷ Answered (Max (Maybe (pos 0) (pos 0))) ∷ Answered (Max Nothing) ∷ [])
+    ≡ map ended
+    (codes "count 1 3" ∷ codes "sum -5 16" ∷ codes "min -3 8" ∷ codes "min -3 8 maybe-none" ∷ codes "min none" ∷ codes "max 2 9"
+    ∷ codes "max 0 0 maybe-none" ∷ codes "max none" ∷ [])
+unfolding digits
+replies-answers = refl
 
 replies-windows :
     map reply_line

@@ -1,19 +1,37 @@
 -- The text of a reply.
 use Rattle.std.specs.Prelude.{ℕ, List, [], ◌∷◌, ◌++◌, codes}
 use Rattle.std.specs.Fmt.{decimal, signed_decimal}
+use Rattle.ss_bounds.specs.declared.extreme.Extreme.{Extreme}
+use Rattle.ss_bounds.specs.declared.extreme.Extreme.TheVariants.{Nothing, Sure, Maybe}
 use Rattle.ss_catalog.specs.Refusal.{refusal_name}
 use Rattle.ss_command.specs.Printed.{spaced, target_words}
 use Rattle.ss_command.specs.declared.TheConstants.{LINE_END}
+use Rattle.ss_model.specs.declared.outcome.Outcome.{Outcome}
+use Rattle.ss_model.specs.declared.outcome.Outcome.TheVariants.{Count, Sum, Min, Max}
 use Rattle.ss_report.specs.declared.reply.Reply.{Reply}
-use Rattle.ss_report.specs.declared.reply.Reply.TheVariants.{Done, Refused, WindowsHead, Window, ListHead, Stream}
+use Rattle.ss_report.specs.declared.reply.Reply.TheVariants.{Done, Answered, Refused, WindowsHead, Window, ListHead, Stream}
 
 -- a line of words with one space between them, with its line end
 abbrev pub line_of : List ℕ → List (List ℕ) → List ℕ
 line_of first rest = spaced first rest ++ LINE_END ∷ []
 
+-- what is known of a least or a greatest value: that there is none, or from which to which it lies
+abbrev pub extreme_words : Extreme → List (List ℕ)
+extreme_words Nothing = codes "none" ∷ []
+extreme_words (Sure lo hi) = signed_decimal lo ∷ signed_decimal hi ∷ []
+extreme_words (Maybe lo hi) = signed_decimal lo ∷ signed_decimal hi ∷ codes "maybe-none" ∷ []
+
+-- the line of an answer
+abbrev pub answer_line : Outcome → List ℕ
+answer_line (Count lo hi) = line_of (codes "count") (decimal lo ∷ decimal hi ∷ [])
+answer_line (Sum lo hi) = line_of (codes "sum") (signed_decimal lo ∷ signed_decimal hi ∷ [])
+answer_line (Min extreme) = line_of (codes "min") (extreme_words extreme)
+answer_line (Max extreme) = line_of (codes "max") (extreme_words extreme)
+
 -- the line of a reply, with its line end
 abbrev pub reply_line : Reply → List ℕ
 reply_line (Done ack) = line_of (codes "ok") (decimal ack.n ∷ decimal ack.k ∷ [])
+reply_line (Answered outcome) = answer_line outcome
 reply_line (Refused refusal) = line_of (codes "refused") (refusal_name refusal ∷ [])
 reply_line (WindowsHead count) = line_of (codes "windows") (decimal count ∷ [])
 reply_line (Window w) =

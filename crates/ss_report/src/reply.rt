@@ -1,6 +1,6 @@
 // What is replied to a line.
 use ss_catalog::Refusal;
-use ss_model::{Ack, Placed, StreamRow};
+use ss_model::{Ack, Outcome, Placed, StreamRow};
 
 /// One line of a reply: the whole reply, or a head or a row of one that has rows. docs/GUIDE.md ("Replies") says which
 /// comes when.
@@ -8,6 +8,8 @@ use ss_model::{Ack, Placed, StreamRow};
 pub enum Reply {
     /// An event was accepted.
     Done(Ack),
+    /// A query was answered.
+    Answered(Outcome),
     /// A command was refused.
     Refused(Refusal),
     /// So many windows follow.

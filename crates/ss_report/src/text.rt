@@ -1,15 +1,18 @@
 // The text of a reply.
-ghost use Rattle.std.specs.Prelude.{◌≡◌, ◌≤◌, [], length};
+ghost use Rattle.std.specs.Prelude.{◌≡◌, ◌+◌, ◌≤◌, [], length};
 ghost use Rattle.std.specs.Fmt.{decimal};
-ghost use Rattle.ss_report.specs.Text.{reply_line};
+ghost use Rattle.ss_command.specs.Printed.{spaced};
+ghost use Rattle.ss_report.specs.Text.{answer_line, extreme_words, reply_line};
+ghost use Rattle.ss_model.specs.declared.outcome.Outcome.TheVariants.{Count, Sum, Min, Max};
 ghost use Rattle.ss_report.specs.declared.reply.Reply.TheVariants.{Done, Refused, WindowsHead, Window, ListHead, Stream};
 
 use crate::Reply;
 use arrayvec::ArrayString;
+use ss_bounds::Extreme;
 use ss_catalog::{LONGEST_NAME, Name, Refusal};
 use ss_command::{put_number, put_sum, put_target, put_value};
 use ss_fields::print_u64;
-use ss_model::{Ack, Placed, StreamRow};
+use ss_model::{Ack, Outcome, Placed, StreamRow};
 
 // Writes a number into an empty text.
 fn begin_with_number(number: u64, out: &mut ArrayString<256>)
@@ -38,6 +41,81 @@ fn done_text(ack: &Ack, out: &mut ArrayString<256>)
     put_number(ack.n, out);
     put_number(u64::from(ack.k), out);
     out.push_str("\n");
+}
+
+// Writes the line of a count into an empty text.
+fn count_text(lo: u64, hi: u64, out: &mut ArrayString<256>)
+    requires { out.old.bytes ≡ [] }
+    ensures { out.new.bytes ≡ answer_line (Count lo hi) }
+{
+    out.push_str("count");
+    put_number(lo, out);
+    put_number(hi, out);
+    out.push_str("\n");
+}
+
+// Writes the line of a sum into an empty text.
+fn sum_text(lo: i128, hi: i128, out: &mut ArrayString<256>)
+    requires { out.old.bytes ≡ [] }
+    ensures { out.new.bytes ≡ answer_line (Sum lo hi) }
+{
+    out.push_str("sum");
+    put_sum(lo, out);
+    put_sum(hi, out);
+    out.push_str("\n");
+}
+
+// Adds what is known of a least or a greatest value.
+fn put_extreme(extreme: Extreme, out: &mut ArrayString<256>)
+    requires { length out.old.bytes + 80 ≤ 256 }
+    ensures bytes { out.new.bytes ≡ spaced out.old.bytes (extreme_words extreme) }
+    ensures short { length out.new.bytes ≤ length out.old.bytes + 53 }
+{
+    match extreme {
+        Extreme::Nothing => out.push_str(" none"),
+        Extreme::Sure { lo, hi } => {
+            put_value(lo, out);
+            put_value(hi, out);
+        }
+        Extreme::Maybe { lo, hi } => {
+            put_value(lo, out);
+            put_value(hi, out);
+            out.push_str(" maybe-none");
+        }
+    }
+}
+
+// Writes the line of a least value into an empty text.
+fn min_text(extreme: Extreme, out: &mut ArrayString<256>)
+    requires { out.old.bytes ≡ [] }
+    ensures { out.new.bytes ≡ answer_line (Min extreme) }
+{
+    out.push_str("min");
+    put_extreme(extreme, out);
+    out.push_str("\n");
+}
+
+// Writes the line of a greatest value into an empty text.
+fn max_text(extreme: Extreme, out: &mut ArrayString<256>)
+    requires { out.old.bytes ≡ [] }
+    ensures { out.new.bytes ≡ answer_line (Max extreme) }
+{
+    out.push_str("max");
+    put_extreme(extreme, out);
+    out.push_str("\n");
+}
+
+// Writes the line of an answer into an empty text.
+fn answer_text(outcome: &Outcome, out: &mut ArrayString<256>)
+    requires { out.old.bytes ≡ [] }
+    ensures { out.new.bytes ≡ answer_line outcome.now }
+{
+    match *outcome {
+        Outcome::Count { lo, hi } => count_text(lo, hi, out),
+        Outcome::Sum { lo, hi } => sum_text(lo, hi, out),
+        Outcome::Min(extreme) => min_text(extreme, out),
+        Outcome::Max(extreme) => max_text(extreme, out),
+    }
 }
 
 // Writes the line of a refusal into an empty text.
@@ -107,6 +185,7 @@ pub fn reply_text(reply: &Reply, out: &mut ArrayString<256>)
 {
     match reply {
         Reply::Done(ack) => done_text(ack, out),
+        Reply::Answered(outcome) => answer_text(outcome, out),
         Reply::Refused(refusal) => refused_text(*refusal, out),
         Reply::WindowsHead(count) => windows_text(*count, out),
         Reply::Window(window) => window_text(window, out),

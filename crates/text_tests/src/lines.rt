@@ -8,7 +8,7 @@ use std::test::Fail;
 
 #[test]
 fn lines_without_a_command(rt: HostRuntime) {
-    let rows: [(&[u8], Result<Option<Command>, Refusal>); 37] = [
+    let rows: [(&[u8], Result<Option<Command>, Refusal>); 46] = [
         (b"", Ok(None)),
         (b" \t ", Ok(None)),
         (b"# note", Ok(None)),
@@ -29,7 +29,15 @@ fn lines_without_a_command(rt: HostRuntime) {
         (b"create a exp 2 1 1 1", Err(Refusal::Syntax)),
         (b"create a power 1 0 1", Err(Refusal::Syntax)),
         (b"create a power 1 0 1 1 1", Err(Refusal::Syntax)),
+        (b"query a sum 1", Err(Refusal::Syntax)),
+        (b"query a sum 1 2 3", Err(Refusal::Syntax)),
+        (b"query a mean 1 2", Err(Refusal::Syntax)),
+        (b"query a MIN 1 2", Err(Refusal::Syntax)),
+        (b"query x! mean y 2", Err(Refusal::Syntax)),
         (b"append x! y 1", Err(Refusal::Number)),
+        (b"query x! sum 1 y", Err(Refusal::Number)),
+        (b"query a sum -1 2", Err(Refusal::Number)),
+        (b"query a max 0 4611686018427387905", Err(Refusal::Number)),
         (b"append a 1 +1", Err(Refusal::Number)),
         (b"append a -1 1", Err(Refusal::Number)),
         (b"append a 1 --1", Err(Refusal::Number)),
@@ -41,6 +49,7 @@ fn lines_without_a_command(rt: HostRuntime) {
         (b"create a power 1 0 1 -1", Err(Refusal::Number)),
         (b"create x! exp 2 1 y", Err(Refusal::Number)),
         (b"append x! 1 1", Err(Refusal::Name)),
+        (b"query x! sum 1 2", Err(Refusal::Name)),
         (b"windows a/b", Err(Refusal::Name)),
         (b"windows a\0", Err(Refusal::Name)),
         (b"windows \xc3\xa9", Err(Refusal::Name)),
@@ -58,7 +67,7 @@ fn lines_without_a_command(rt: HostRuntime) {
 
 #[test]
 fn commands_are_printed(rt: HostRuntime) -> Result<(), Fail> {
-    let rows: [(&[u8], &str); 11] = [
+    let rows: [(&[u8], &str); 15] = [
         (b"list", "list"),
         (b"\t list \t\t", "list"),
         (
@@ -75,6 +84,13 @@ fn commands_are_printed(rt: HostRuntime) -> Result<(), Fail> {
             "create a power 1 0 4294967295 0",
         ),
         (b"append a 10 5", "append a 10 5"),
+        (b"query a count 10 040", "query a count 10 40"),
+        (
+            b" query\ta sum 0 4611686018427387904",
+            "query a sum 0 4611686018427387904",
+        ),
+        (b"query a min 5 4", "query a min 5 4"),
+        (b"query a max 45 65", "query a max 45 65"),
         (b"append a 007 -0", "append a 7 0"),
         (
             b"append a 0000000000000000000000000000000000000000001 -0000000000000000000000000000009",

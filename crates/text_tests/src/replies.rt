@@ -1,7 +1,8 @@
 // The texts of the replies, as docs/GUIDE.md lists them.
 use arrayvec::ArrayString;
+use ss_bounds::Extreme;
 use ss_catalog::{Name, Params, Refusal, StreamId};
-use ss_model::{Ack, Placed, StreamRow};
+use ss_model::{Ack, Outcome, Placed, StreamRow};
 use ss_report::{Reply, reply_text};
 use ss_summary::Summary;
 use std::test::Fail;
@@ -62,4 +63,47 @@ fn each_reply_has_its_line(rt: HostRuntime) -> Result<(), Fail> {
         assert_eq!(rt; text.as_str(), line);
     }
     Ok(())
+}
+
+#[test]
+fn each_answer_has_its_line(rt: HostRuntime) {
+    let sure = Extreme::Sure { lo: -3, hi: 8 };
+    let maybe = Extreme::Maybe {
+        lo: i64::MIN,
+        hi: i64::MAX,
+    };
+    for (outcome, line) in [
+        (Outcome::Count { lo: 1, hi: 3 }, "count 1 3\n"),
+        (
+            Outcome::Count {
+                lo: 0,
+                hi: u64::MAX,
+            },
+            "count 0 18446744073709551615\n",
+        ),
+        (Outcome::Sum { lo: -5, hi: 16 }, "sum -5 16\n"),
+        (
+            Outcome::Sum {
+                lo: i128::MIN,
+                hi: i128::MAX,
+            },
+            "sum -170141183460469231731687303715884105728 170141183460469231731687303715884105727\n",
+        ),
+        (Outcome::Min(sure), "min -3 8\n"),
+        (
+            Outcome::Min(maybe),
+            "min -9223372036854775808 9223372036854775807 maybe-none\n",
+        ),
+        (Outcome::Min(Extreme::Nothing), "min none\n"),
+        (Outcome::Max(sure), "max -3 8\n"),
+        (
+            Outcome::Max(maybe),
+            "max -9223372036854775808 9223372036854775807 maybe-none\n",
+        ),
+        (Outcome::Max(Extreme::Nothing), "max none\n"),
+    ] {
+        let mut text = ArrayString::new();
+        reply_text(&Reply::Answered(outcome), &mut text);
+        assert_eq!(rt; text.as_str(), line);
+    }
 }
