@@ -31,5 +31,9 @@ pub mod Valued
 pub mod Appended
 pub mod Decays
 pub mod WindowsRead
+pub mod Answering
+pub mod Seeing
+pub mod AskedWindows
+pub mod AskedStreams
 mod Rows
 pub mod FoundAlike

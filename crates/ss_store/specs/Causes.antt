@@ -45,6 +45,7 @@ ApplyCause before now (Err (apply.Changed slot)) = now ≡ before
 
 abbrev pub AskCause : {T : Type 0} → ℕ → ℕ → Result T AskError → Type 0
 AskCause before now (Ok value) = now ≡ before
+AskCause before now (Err (ask.Refused r)) = now ≡ before
 AskCause before now (Err ask.Disk) = (before ≤ now) × Rose before now
 AskCause before now (Err ask.Stopped) = now ≡ before
 AskCause before now (Err (ask.Changed slot)) = now ≡ before
@@ -71,6 +72,7 @@ IsApplyFirm (Err (apply.Changed slot)) = ⊥
 
 abbrev pub IsAskFirm : {T : Type 0} → Result T AskError → Type 0
 IsAskFirm (Ok value) = ⊤
+IsAskFirm (Err (ask.Refused r)) = ⊤
 IsAskFirm (Err ask.Disk) = ⊤
 IsAskFirm (Err ask.Stopped) = ⊤
 IsAskFirm (Err (ask.Changed slot)) = ⊥
@@ -104,6 +106,14 @@ IfRefused (Err apply.Stopped) P = P
 IfRefused (Err apply.OutOfMemory) P = ⊤
 IfRefused (Err (apply.Changed slot)) P = ⊤
 
+-- a fact where a query is answered without a call of the disk: it is refused, or the store had stopped
+abbrev pub IfUnasked : {T : Type 0} → Result T AskError → Type 0 → Type 0
+IfUnasked (Ok value) P = ⊤
+IfUnasked (Err (ask.Refused r)) P = P
+IfUnasked (Err ask.Disk) P = ⊤
+IfUnasked (Err ask.Stopped) P = P
+IfUnasked (Err (ask.Changed slot)) P = ⊤
+
 -- whether a store has stopped after a call that answered this: where it had before, or the disk failed or a record changed
 abbrev pub stopped_by_apply : {T : Type 0} → Bool → Result T ApplyError → Bool
 stopped_by_apply before (Ok value) = before
@@ -115,6 +125,7 @@ stopped_by_apply before (Err (apply.Changed slot)) = true
 
 abbrev pub stopped_by_ask : {T : Type 0} → Bool → Result T AskError → Bool
 stopped_by_ask before (Ok value) = before
+stopped_by_ask before (Err (ask.Refused r)) = before
 stopped_by_ask before (Err ask.Disk) = true
 stopped_by_ask before (Err ask.Stopped) = before
 stopped_by_ask before (Err (ask.Changed slot)) = true

@@ -7,3 +7,4 @@ pub mod Kept
 pub mod Errors
 pub mod Causes
 pub mod Admitted
+pub mod Asked

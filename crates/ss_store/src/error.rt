@@ -61,6 +61,9 @@ pub enum ApplyError {
 /// Why a store was not read.
 #[derive(Clone, Copy, Debug, PartialEq, Eq, Error)]
 pub enum AskError {
+    /// The query is refused: the disk was not called.
+    #[error("refused: {0}", .0.text())]
+    Refused(Refusal),
     /// A call of the disk failed. The store has stopped: open it again.
     #[error("the disk failed")]
     Disk,

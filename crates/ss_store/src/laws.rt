@@ -1,9 +1,11 @@
 // Laws of stores and their disks, each the contract of a function that does nothing.
 ghost use Rattle.std.specs.Prelude.{◌≡◌, ◌+◌, ◌*◌, ◌<◌, ◌≤◌, ℕ, Bool, IsTrue, List, [], length, map, flat_map};
 ghost use Rattle.ss_catalog.specs.declared.event.Event.{Event};
+ghost use Rattle.ss_catalog.specs.declared.query.Query.{Query};
 ghost use Rattle.ss_journal.specs.Format.{is_unborn};
 ghost use Rattle.ss_line.specs.declared.entry.Entry.{Entry};
 ghost use Rattle.ss_records.specs.Live.{live_count};
+ghost use Rattle.ss_model.specs.Answers.{refuses_query};
 ghost use Rattle.ss_model.specs.Decay.{cover};
 ghost use Rattle.ss_model.specs.Refusals.{refuses};
 ghost use Rattle.ss_model.specs.Standing.{IsState};
@@ -11,6 +13,7 @@ ghost use Rattle.ss_model.specs.State.{Stream, live, state, stream_named, stream
 ghost use Rattle.ss_recover.specs.Held.{Agrees, AllAgree, AreWhole, TileFrom, entries_of, slots_held, span_held};
 ghost use Rattle.ss_recover.specs.declared.parts.StreamParts.{StreamParts};
 ghost use Rattle.ss_model.specs.Standing.{IsStream};
+ghost use Rattle.ss_store.specs.Asked.{refuses_query_held};
 ghost use Rattle.ss_store.specs.Held.{values_held};
 ghost use Rattle.ss_store.specs.Joining.{NoSpansAreDue};
 ghost use Rattle.ss_store.specs.Kept.{IsKept, SomeAgree, StoreState, part_named, part_numbered, refuses_held};
@@ -57,6 +60,12 @@ pub fn few_windows_stand()
 pub fn refusals_of_what_is_held()
     ensures { (parts : List StreamParts) (streams : List Stream) (event : Event) → AllAgree parts streams → IsState streams →
         refuses_held parts event ≡ refuses streams event }
+{}
+
+/// Refusals of queries by what is held are those of the state that it agrees with.
+pub fn query_refusals_of_what_is_held()
+    ensures { (parts : List StreamParts) (streams : List Stream) (query : Query) → AllAgree parts streams →
+        refuses_query_held parts query ≡ refuses_query streams query }
 {}
 
 /// A file that isn't formed stands for the empty history.

@@ -7,16 +7,17 @@ ghost use Rattle.ss_model.specs.Refusals.{is_past};
 ghost use Rattle.ss_recover.specs.declared.parts.StreamParts.{StreamParts};
 
 use crate::appending::append;
+use crate::asking::answer;
 use crate::closing::values_held;
 use crate::opening::{catalog_of, close_all};
 use crate::place::{next_id, place_of};
 use crate::reading::{Fault, read_window};
 use crate::writing::add_record;
 use crate::{ApplyError, AskError, OpenError};
-use ss_catalog::{Catalog, Event, LAST_TIME, Name, Params, Refusal, StreamId};
+use ss_catalog::{Catalog, Event, LAST_TIME, Name, Params, Query, Refusal, StreamId};
 use ss_codec::Record;
 use ss_line::{At, Entry, Line};
-use ss_model::{Ack, Placed, StreamRow};
+use ss_model::{Ack, Outcome, Placed, StreamRow};
 use ss_outside::{Disk, Failed};
 use ss_records::Records;
 use ss_recover::{Parts, StreamParts, rebuild};
@@ -108,14 +109,17 @@ impl Store {
     ghost use Rattle.ss_model.specs.declared.types.TheConstants.{MOST_RECORDS};
     ghost use Rattle.ss_target.specs.Lengths.{lengths_of};
     ghost use Rattle.ss_target.specs.Targets.{params_of};
+    ghost use Rattle.ss_model.specs.Answers.{HoldsTruth, IsExactOutcome, IsOfKind, outcome_of, split_by};
     ghost use Rattle.ss_model.specs.Decay.{cover, IsReadWithinTarget};
+    ghost use Rattle.ss_model.specs.History.{values_of};
     ghost use Rattle.ss_model.specs.Refusals.{IsHistory};
     ghost use Rattle.ss_model.specs.Shown.{placed_of, row_of};
     ghost use Rattle.ss_model.specs.Standing.{IsState};
     ghost use Rattle.ss_model.specs.State.{state, Stream, stream_named, stream_numbered, values_in};
     ghost use Rattle.ss_recover.specs.Held.{AllAgree, slots_held};
+    ghost use Rattle.ss_store.specs.Asked.{refuses_query_held};
     ghost use Rattle.ss_store.specs.Calls.{AddsEvent, KeepsHistory, KeepsState, StepsState};
-    ghost use Rattle.ss_store.specs.Causes.{ApplyCause, AskCause, IfRefused, IfUncalled, IfUnwritten, IsApplyFirm, IsAskFirm, OpenCause, OpensAs, said_of_held, stopped_by_apply, stopped_by_ask};
+    ghost use Rattle.ss_store.specs.Causes.{ApplyCause, AskCause, IfRefused, IfUnasked, IfUncalled, IfUnwritten, IsApplyFirm, IsAskFirm, OpenCause, OpensAs, said_of_held, stopped_by_apply, stopped_by_ask};
     ghost use Rattle.ss_store.specs.Kept.{IsKept, SameButSpare, part_named, part_numbered, refuses_held, row_of_held};
     ghost use Rattle.ss_store.specs.Recover.{Recovers, Stands};
     ghost use Rattle.ss_store.specs.Admitted.{IsNew, IsTaker};
@@ -488,6 +492,105 @@ impl Store {
         line.neighbours(at, &mut Steps::<L>::new(blank)).1
     }
 
+    /// Answers a query, by what the windows of its stream say. It writes nothing, and takes no memory. A refusal is the first
+    /// that applies, and makes no call of the disk.
+    pub fn ask<D: Disk>(&mut self, disk: &mut D, query: &Query) -> Result<Outcome, AskError>
+        requires one_disk { IsTrue (D.tells disk.old) → self.old.stopped ≡ false → IsKept self.old (D.told disk.old).content }
+        // The answer of the state that the content recovers to.
+        ensures answer { IsTrue (D.tells disk.old) → (streams : List Stream) → Recovers streams (D.told disk.old).content →
+            IfOk result (λ outcome. outcome_of streams query.now ≡ Some outcome) }
+        // It holds the truth over all values of the stream, for every history that the content stands for.
+        ensures truth { IsTrue (D.tells disk.old) → (history : List Event) → Stands history (D.told disk.old).content →
+            IfOk result (HoldsTruth query.now (values_of history query.now.name) []) }
+        // It leaves nothing open where the range splits no window.
+        ensures exact { IsTrue (D.tells disk.old) → (streams : List Stream) → Recovers streams (D.told disk.old).content →
+            split_by streams query.now ≡ [] → IfOk result IsExactOutcome }
+        // Over every disk it is to what was asked for.
+        ensures kind { IfOk result (IsOfKind query.now.kind) }
+        ensures one_disk { IsTrue (D.tells disk.old) → self.new.stopped ≡ false → IsKept self.new (D.told disk.new).content }
+        ensures streams { self.new.streams ≡ self.old.streams }
+        ensures live { self.new.records.live ≡ self.old.records.live }
+        ensures journal { OnOk result (self.new.records.journal ≡ self.old.records.journal) }
+        // Stopped comes first, exactly where the store had stopped, and then each refusal exactly where it applies.
+        ensures stopped { (result ≡ Err AskError.Stopped) ↔ (self.old.stopped ≡ true) }
+        ensures refused { self.old.stopped ≡ false → (r : Refusal) →
+            (result ≡ Err (AskError.Refused r)) ↔ (refuses_query_held self.old.streams query.now ≡ Some r) }
+        ensures uncalled { IfUnasked result (disk.new ≡ disk.old) }
+        ensures same { IfUnasked result (self.new ≡ self.old) }
+        ensures stops { self.new.stopped ≡ stopped_by_ask self.old.stopped result }
+        ensures firm { IsTrue (D.tells disk.old) → IsAskFirm result }
+        // The content and the images are those from before.
+        ensures reads { IsTrue (D.tells disk.old) → OnlyReads (D.told disk.old) (D.told disk.new) }
+        ensures tells { D.tells disk.new ≡ D.tells disk.old }
+        ensures cause { AskCause (D.faults disk.old) (D.faults disk.new) result }
+    {
+        if self.stopped {
+            return Err(AskError::Stopped);
+        }
+        match self.asked(query) {
+            Ok(id) => self.answer::<D, Brand>(disk, query, id, Blank::new(1)),
+            Err(refusal) => Err(AskError::Refused(refusal)),
+        }
+    }
+
+    // The number of the stream that a query asks, or why it is refused.
+    fn asked(&self, query: &Query) -> Result<StreamId, Refusal>
+        ensures refused { IfErr result (λ r. refuses_query_held self.now.streams query.now ≡ Some r) }
+        ensures accepted { OnOk result (refuses_query_held self.now.streams query.now ≡ None) }
+        ensures order { OnOk result (query.now.from ≤ query.now.to) }
+        ensures stands { IfOk result (λ id. IsSome (part_numbered id.0 self.now.streams)) }
+        ensures same { IfOk result (λ id. part_numbered id.0 self.now.streams ≡ part_named query.now.name self.now.streams) }
+    {
+        let Some(id) = self.find(&query.name) else {
+            return Err(Refusal::Unknown);
+        };
+        if query.to < query.from {
+            return Err(Refusal::Range);
+        }
+        Ok(id)
+    }
+
+    // Answers a query to the stream of a number, where the store hasn't stopped.
+    fn answer<D: Disk, L: Ledger>(
+        &mut self,
+        disk: &mut D,
+        query: &Query,
+        id: StreamId,
+        blank: Blank,
+    ) -> Result<Outcome, AskError>
+        requires fresh { IsFresh L.name L.parts blank }
+        requires order { query.now.from ≤ query.now.to }
+        requires stands { IsSome (part_numbered id.0 self.old.streams) }
+        requires same { part_numbered id.0 self.old.streams ≡ part_named query.now.name self.old.streams }
+        requires runs { self.old.stopped ≡ false }
+        requires one_disk { IsTrue (D.tells disk.old) → IsKept self.old (D.told disk.old).content }
+        ensures answer { IsTrue (D.tells disk.old) → (streams : List Stream) → Recovers streams (D.told disk.old).content →
+            IfOk result (λ outcome. outcome_of streams query.now ≡ Some outcome) }
+        ensures kind { IfOk result (IsOfKind query.now.kind) }
+        ensures one_disk { IsTrue (D.tells disk.old) → self.new.stopped ≡ false → IsKept self.new (D.told disk.new).content }
+        ensures streams { self.new.streams ≡ self.old.streams }
+        ensures live { self.new.records.live ≡ self.old.records.live }
+        ensures journal { OnOk result (self.new.records.journal ≡ self.old.records.journal) }
+        ensures running { result ≢ Err AskError.Stopped }
+        ensures unrefused { (r : Refusal) → result ≢ Err (AskError.Refused r) }
+        ensures stops { self.new.stopped ≡ stopped_by_ask self.old.stopped result }
+        ensures firm { IsTrue (D.tells disk.old) → IsAskFirm result }
+        ensures reads { IsTrue (D.tells disk.old) → OnlyReads (D.told disk.old) (D.told disk.new) }
+        ensures tells { D.tells disk.new ≡ D.tells disk.old }
+        ensures cause { AskCause (D.faults disk.old) (D.faults disk.new) result }
+    {
+        let stream = &self.streams[place_of(&self.streams, id)];
+        let mut steps = Steps::<L>::new(blank);
+        match answer(&mut self.records, disk, stream, query, &mut steps) {
+            Ok(outcome) => Ok(outcome),
+            Err(fault) => {
+                let error = AskError::from(fault);
+                self.stopped = true;
+                Err(error)
+            }
+        }
+    }
+
     /// Reads a window of the stream of a number.
     pub fn window_read<D: Disk>(
         &mut self,
@@ -515,6 +618,7 @@ impl Store {
         ensures live { self.new.records.live ≡ self.old.records.live }
         ensures journal { OnOk result (self.new.records.journal ≡ self.old.records.journal) }
         ensures stopped { (result ≡ Err AskError.Stopped) ↔ (self.old.stopped ≡ true) }
+        ensures unrefused { (r : Refusal) → result ≢ Err (AskError.Refused r) }
         ensures uncalled { self.old.stopped ≡ true → disk.new ≡ disk.old }
         ensures same { self.old.stopped ≡ true → self.new ≡ self.old }
         ensures stops { self.new.stopped ≡ stopped_by_ask self.old.stopped result }
@@ -568,6 +672,7 @@ impl Store {
         ensures live { self.new.records.live ≡ self.old.records.live }
         ensures journal { OnOk result (self.new.records.journal ≡ self.old.records.journal) }
         ensures running { result ≢ Err AskError.Stopped }
+        ensures unrefused { (r : Refusal) → result ≢ Err (AskError.Refused r) }
         ensures stops { self.new.stopped ≡ stopped_by_ask self.old.stopped result }
         ensures firm { IsTrue (D.tells disk.old) → IsAskFirm result }
         ensures reads { IsTrue (D.tells disk.old) → OnlyReads (D.told disk.old) (D.told disk.new) }

@@ -1,11 +1,13 @@
-// Worked rows over a disk in memory: what events answer, what each stop leaves of them, and what opening makes of an image.
+// Worked rows over a disk in memory: what events and queries answer, what each stop leaves of them, and what opening makes of an image.
 ghost use Rattle.std.specs.Prelude.{◌≡◌, IfSome, IfOk, false};
 ghost use Rattle.ss_catalog.specs.Events.{IsInTime};
 ghost use Rattle.ss_outside.specs.MemDisk.{told_by};
 ghost use Rattle.ss_store.specs.Kept.{IsKept};
 
-use crate::{ApplyError, OpenError, Store};
-use ss_catalog::{Event, LAST_TIME, Name, Params, Refusal};
+use crate::{ApplyError, AskError, OpenError, Store};
+use ss_bounds::Extreme::{Maybe, Nothing, Sure};
+use ss_catalog::{Event, Kind, LAST_TIME, Name, Params, Query, Refusal};
+use ss_model::Outcome::{self, Count, Max, Min, Sum};
 use ss_outside::{Choice, MemDisk};
 use std::alloc::{AllocError, Global};
 use std::test::Fail;
@@ -133,6 +135,138 @@ fn worked_rows(rt: HostRuntime) -> Result<(), Fail> {
     assert_eq!(rt; play(&mut running, &OTHERS), OTHERS.len());
     let calls = running.disk.calls();
     assert_eq!(rt; play(&mut running, &REFUSED), REFUSED.len());
+    assert_eq!(rt; running.disk.calls(), calls);
+    Ok(())
+}
+
+const IN_FOURS: Params = Params::Power {
+    p: 1,
+    q: 0,
+    r: 1,
+    s: 4,
+};
+
+const IN_TWOS: Params = Params::Power {
+    p: 1,
+    q: 0,
+    r: 1,
+    s: 2,
+};
+
+// A stream with as many values as times, and two with values at the edges of 64 bits.
+const EDGES: [Row; 11] = [
+    (b'd', Create(IN_FOURS), Ok((0, 0))),
+    (b'd', Value(10, 4), Ok((1, 1))),
+    (b'd', Value(11, 4), Ok((2, 1))),
+    (b'd', Value(12, 6), Ok((3, 1))),
+    (b'd', Value(13, 6), Ok((4, 1))),
+    (b'e', Create(IN_TWOS), Ok((0, 0))),
+    (b'e', Value(10, i64::MAX), Ok((1, 1))),
+    (b'e', Value(20, i64::MAX), Ok((2, 1))),
+    (b'f', Create(IN_TWOS), Ok((0, 0))),
+    (b'f', Value(10, i64::MIN), Ok((1, 1))),
+    (b'f', Value(20, i64::MAX), Ok((2, 1))),
+];
+
+// What is asked, of the stream whose name is a letter, from which to which time.
+type Question = (u8, Kind, u64, u64);
+
+// Of `a` the first eight split none of its three windows, the next ones one, and the next ones two.
+const QUERIES: [(Question, Outcome); 21] = [
+    ((b'a', Kind::Count, 10, 40), Count { lo: 4, hi: 4 }),
+    ((b'a', Kind::Sum, 0, 100), Sum { lo: 29, hi: 29 }),
+    ((b'a', Kind::Sum, 0, u64::MAX), Sum { lo: 29, hi: 29 }),
+    ((b'a', Kind::Max, 45, 65), Max(Sure { lo: 9, hi: 9 })),
+    ((b'a', Kind::Min, 71, 80), Min(Nothing)),
+    ((b'a', Kind::Count, 41, 49), Count { lo: 0, hi: 0 }),
+    ((b'a', Kind::Count, 70, 70), Count { lo: 1, hi: 1 }),
+    ((b'a', Kind::Min, 10, 40), Min(Sure { lo: -3, hi: -3 })),
+    ((b'a', Kind::Count, 10, 25), Count { lo: 1, hi: 3 }),
+    ((b'a', Kind::Sum, 10, 25), Sum { lo: -5, hi: 16 }),
+    ((b'a', Kind::Min, 10, 25), Min(Sure { lo: -3, hi: 8 })),
+    ((b'a', Kind::Min, 15, 25), Min(Maybe { lo: -3, hi: 8 })),
+    ((b'a', Kind::Count, 15, 25), Count { lo: 0, hi: 2 }),
+    ((b'a', Kind::Count, 25, 55), Count { lo: 2, hi: 4 }),
+    ((b'a', Kind::Sum, 25, 55), Sum { lo: -3, hi: 25 }),
+    ((b'a', Kind::Min, 25, 55), Min(Sure { lo: -3, hi: 8 })),
+    ((b'a', Kind::Max, 25, 55), Max(Sure { lo: 2, hi: 9 })),
+    ((b'd', Kind::Count, 10, 11), Count { lo: 2, hi: 2 }),
+    ((b'd', Kind::Sum, 10, 11), Sum { lo: 8, hi: 12 }),
+    (
+        (b'f', Kind::Sum, 10, 15),
+        Sum {
+            lo: -9223372036854775808,
+            hi: 9223372036854775807,
+        },
+    ),
+    (
+        (b'e', Kind::Sum, 0, 30),
+        Sum {
+            lo: 18446744073709551614,
+            hi: 18446744073709551614,
+        },
+    ),
+];
+
+// No name but `a` has a stream, where only the readings were taken.
+const UNASKED: [(Question, Refusal); 3] = [
+    ((b'x', Kind::Sum, 4, 5), Refusal::Unknown),
+    ((b'x', Kind::Sum, 5, 4), Refusal::Unknown),
+    ((b'a', Kind::Sum, 5, 4), Refusal::Range),
+];
+
+fn told(running: &mut Running, question: Question) -> Result<Outcome, Option<AskError>>
+    requires { running.old.store.stopped ≡ false → IsKept running.old.store (told_by running.old.disk).content }
+    ensures { running.new.store.stopped ≡ false → IsKept running.new.store (told_by running.new.disk).content }
+{
+    let (letter, kind, from, to) = question;
+    match Name::of(&[letter]) {
+        None => Err(None),
+        Some(name) => {
+            let query = Query {
+                name,
+                kind,
+                from,
+                to,
+            };
+            match running.store.ask(&mut running.disk, &query) {
+                Ok(outcome) => Ok(outcome),
+                Err(error) => Err(Some(error)),
+            }
+        }
+    }
+}
+
+#[test]
+fn queries_are_answered(rt: HostRuntime) -> Result<(), Fail> {
+    let mut running = opened(rt.alloc(), empty(rt.alloc())?)?;
+    assert_eq!(rt; play(&mut running, &READINGS), READINGS.len());
+    assert_eq!(rt; play(&mut running, &EDGES), EDGES.len());
+    for (question, outcome) in QUERIES {
+        assert_eq!(rt; told(&mut running, question), Ok(outcome));
+    }
+    Ok(())
+}
+
+// A refused query makes no call of the disk, and a store that has stopped makes none.
+#[test]
+fn queries_fail(rt: HostRuntime) -> Result<(), Fail> {
+    let mut running = opened(rt.alloc(), empty(rt.alloc())?)?;
+    assert_eq!(rt; play(&mut running, &READINGS), READINGS.len());
+    let mut running = opened(rt.alloc(), running.disk)?;
+    let calls = running.disk.calls();
+    running.disk.stop_from(calls);
+    for (question, refusal) in UNASKED {
+        assert_eq!(rt;
+            told(&mut running, question),
+            Err(Some(AskError::Refused(refusal)))
+        );
+    }
+    assert_eq!(rt; running.disk.calls(), calls);
+    let question = (b'a', Kind::Count, 0, 9);
+    assert_eq!(rt; told(&mut running, question), Err(Some(AskError::Disk)));
+    let calls = running.disk.calls();
+    assert_eq!(rt; told(&mut running, question), Err(Some(AskError::Stopped)));
     assert_eq!(rt; running.disk.calls(), calls);
     Ok(())
 }

@@ -1,0 +1,148 @@
+-- What windows that are read one after the other say of a range of times.
+use Rattle.std.proofs.Common.{◌≡◌, ◌∙◌, ℕ, zero, suc, ◌+◌, ◌-◌, ◌*◌, ◌^◌, ◌<◌, ◌≤◌, max, min, true, ℤ, ◌+ℤ◌, ◌≤ℤ◌, List, [], ◌∷◌, length, refl, sym, ap, ap₂, subst, arith}
+use Rattle.std.specs.Prelude.{unsigned_abs}
+use Rattle.std.specs.List.{count_by, range_with_len}
+use Rattle.std.proofs.lemmas.Int.{ints, clamps, to_z-of_z}
+use Rattle.std.specs.Int.{w128}
+use Rattle.std.proofs.lemmas.List.FromFn.{length-range_with_len}
+use Rattle.ss_bounds.specs.Split.{IsSplit, SplitFigures, greatest_count, greatest_of, high_sum, least_count, least_of, low_sum, sum_interval}
+use Rattle.ss_bounds.specs.Times.{ends_in, split_of, times, times_inside, times_outside}
+use Rattle.ss_bounds.proofs.Held.{held, held-is, low_sum-small, sum-small}
+use Rattle.ss_bounds.proofs.LeastLemmas.{high_sum-rest}
+use Rattle.ss_bounds.proofs.Numbers.{times-down, times-up}
+use Rattle.ss_bounds.proofs.RangeLemmas.{times_inside-times, times_inside-times_outside}
+use Rattle.ss_bounds.proofs.TimeLemmas.{count_by-cons}
+use Rattle.ss_model.specs.Interval.{split_figures}
+use Rattle.ss_model.specs.declared.types.Window.{Window}
+use Rattle.ss_summary.specs.Figures.{Figures, IsPossible}
+use Rattle.ss_store.specs.Asked.{IsNear}
+
+least_of-near : (f : ℕ → ℤ) (a n b : ℕ) → ((x : ℕ) → a ≤ x → x ≤ a + n → unsigned_abs (f x) < b) → unsigned_abs (least_of f a n) < b
+least_of-near f a zero b each = each a (omega arith) (omega arith)
+least_of-near f a (suc n) b each =
+    let rest = least_of-near f a n b (λ x from to. each x from (omega arith)) in
+    let last = each (a + suc n) (omega arith) (omega arith) in
+    omega (arith, ints, clamps)
+
+greatest_of-near : (f : ℕ → ℤ) (a n b : ℕ) → ((x : ℕ) → a ≤ x → x ≤ a + n → unsigned_abs (f x) < b) → unsigned_abs (greatest_of f a n) < b
+greatest_of-near f a zero b each = each a (omega arith) (omega arith)
+greatest_of-near f a (suc n) b each =
+    let rest = greatest_of-near f a n b (λ x from to. each x from (omega arith)) in
+    let last = each (a + suc n) (omega arith) (omega arith) in
+    omega (arith, ints, clamps)
+
+-- the sums of a split window are far within 128 bits
+module _ (s : SplitFigures) (split : IsSplit s) where
+  pub counts-few : (least_count s ≤ 2 ^ 40) × (greatest_count s ≤ 2 ^ 40)
+  counts-few =
+      let low = split.count_low in
+      let high = split.count_high in
+      let ends = split.one_end in
+      (omega arith, omega arith)
+
+  high-near : (x : ℕ) → x ≤ s.count → unsigned_abs (high_sum s x) < 2 ^ 107
+  high-near x within =
+      let is = high_sum-rest s x within in
+      let small = low_sum-small s split (s.count - x) (omega arith) in
+      let all = sum-small s split in
+      subst (λ z. unsigned_abs z < 2 ^ 107) (sym is) (omega (arith, ints))
+
+  within-count : least_count s + (greatest_count s - least_count s) ≤ s.count
+  within-count =
+      let room = split.room in
+      let ends = split.one_end in
+      let low = split.count_low in
+      omega arith
+
+  pub sums-near : IsNear (sum_interval s).0 × IsNear (sum_interval s).1
+  unfolding sum_interval
+  sums-near =
+      let within = within-count in
+      let lo = least_of-near (low_sum s) (least_count s) (greatest_count s - least_count s) (2 ^ 106) (λ x from to. low_sum-small s split x (omega arith)) in
+      let hi = greatest_of-near (high_sum s) (least_count s) (greatest_count s - least_count s) (2 ^ 107) (λ x from to. high-near x (omega arith)) in
+      (omega (arith, lo), omega (arith, hi))
+
+-- and so is the sum of possible figures
+pub sum-near : (f : Figures) → IsPossible f → IsNear f.sum
+sum-near f possible =
+    let low = possible.sum_low in
+    let high = possible.sum_high in
+    let least = times-down (f.count - 1) f.min (omega (arith, possible.count_high)) possible.min_fits in
+    let greatest = times-up (f.count - 1) f.max (omega (arith, possible.count_high)) possible.max_fits in
+    let min_fits = possible.min_fits in
+    let max_fits = possible.max_fits in
+    omega (arith, ints)
+
+pub held-near : (z : ℤ) → IsNear z → held z ≡ z
+held-near z near = to_z-of_z w128 z (omega (arith, ints))
+
+pub near-held : (z : ℤ) → IsNear z → IsNear (held z)
+near-held z near = subst IsNear (sym (held-near z near)) near
+
+-- a sum of three such numbers as the code makes it
+pub held-three : (a b d : ℤ) → IsNear a → IsNear b → IsNear d → held (held (held a +ℤ held b) +ℤ held d) ≡ ((a +ℤ b) +ℤ d)
+held-three a b d near_a near_b near_d =
+    let a_is = to_z-of_z w128 a (omega (arith, ints)) in
+    let b_is = to_z-of_z w128 b (omega (arith, ints)) in
+    let d_is = to_z-of_z w128 d (omega (arith, ints)) in
+    let both = held-is _ (a +ℤ b) (ap₂ (λ p q. p +ℤ q) a_is b_is) (omega (arith, ints)) in
+    held-is _ _ (ap₂ (λ p q. p +ℤ q) both d_is) (omega (arith, ints))
+
+pub three : (a b d x y z : ℤ) → a ≡ x → b ≡ y → d ≡ z → ((a +ℤ b) +ℤ d) ≡ ((x +ℤ y) +ℤ z)
+three a b d x y z first second third = ap₂ (λ p q. p +ℤ q) (ap₂ (λ p q. p +ℤ q) first second) third
+
+-- each time is free, since no landmark stands
+count_by-all : (ts : List ℕ) → count_by (λ t. true) ts ≡ length ts
+count_by-all [] = refl
+count_by-all (t ∷ ts) = let rest = count_by-all ts in let first = count_by-cons (λ z. true) t ts in omega (arith, rest, first)
+
+times-all : (p q : ℕ) → times (λ t. true) p q ≡ q + 1 - p
+times-all p q = count_by-all (range_with_len p (q + 1 - p)) ∙ length-range_with_len p (q + 1 - p)
+
+pub times_inside-all : (from to first last : ℕ) → times_inside (λ t. true) from to first last ≡ min (last - 1) to + 1 - max (first + 1) from
+times_inside-all from to first last = times_inside-times (λ t. true) from to first last ∙ times-all (max (first + 1) from) (min (last - 1) to)
+
+pub times_outside-all : (from to first last : ℕ) →
+    times_inside (λ t. true) from to first last + times_outside (λ t. true) from to first last ≡ last - 1 + 1 - (first + 1)
+times_outside-all from to first last = times_inside-times_outside (λ t. true) from to first last ∙ times-all (first + 1) (last - 1)
+
+figures-same : (count : ℕ) (sum sum' least least' greatest greatest' : ℤ) (ends ends' inside inside' outside outside' : ℕ) →
+    sum ≡ sum' → least ≡ least' → greatest ≡ greatest' → ends ≡ ends' → inside ≡ inside' → outside ≡ outside' →
+    ◌≡◌ {A = SplitFigures} (record { count = count; sum = sum; min = least; max = greatest; ends = ends; inside = inside; outside = outside })
+    (record { count = count; sum = sum'; min = least'; max = greatest'; ends = ends'; inside = inside'; outside = outside' })
+figures-same count sum sum' least least' greatest greatest' ends ends' inside inside' outside outside' p q r s t u = λ i. record {
+  count = count;
+  sum = p i;
+  min = q i;
+  max = r i;
+  ends = s i;
+  inside = t i;
+  outside = u i;
+}
+
+-- the figures of a split window, by those of its summary
+pub split_figures-is : (from to : ℕ) (w : Window) (f : Figures) (sum least greatest : ℤ) (ends inside : ℕ) → f ≡ w.summary →
+    sum ≡ f.sum → least ≡ f.min → greatest ≡ f.max →
+    ends ≡ ends_in from to f.t_first f.t_last → inside ≡ times_inside (λ t. true) from to f.t_first f.t_last → f.t_first + inside < f.t_last →
+    ◌≡◌ {A = SplitFigures} (record {
+      count = f.count;
+      sum = sum;
+      min = least;
+      max = greatest;
+      ends = ends;
+      inside = inside;
+      outside = f.t_last - f.t_first - 1 - inside;
+    }) (split_figures (λ t. true) from to w)
+split_figures-is from to w f sum least greatest ends inside same sum_is least_is greatest_is ends_is inside_is most =
+    let all = times_outside-all from to f.t_first f.t_last in
+    let outside : f.t_last - f.t_first - 1 - inside ≡ times_outside (λ t. true) from to f.t_first f.t_last = omega (arith, all, inside_is) in
+    subst (λ (g : Figures). ◌≡◌ {A = SplitFigures} (record {
+      count = f.count;
+      sum = sum;
+      min = least;
+      max = greatest;
+      ends = ends;
+      inside = inside;
+      outside = f.t_last - f.t_first - 1 - inside;
+    }) (split_of (λ t. true) from to g.count g.sum g.min g.max g.t_first g.t_last)) same
+    (figures-same f.count sum f.sum least f.min greatest f.max ends _ inside _ _ _ sum_is least_is greatest_is ends_is inside_is outside)

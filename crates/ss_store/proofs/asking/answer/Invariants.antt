@@ -1,0 +1,10 @@
+use Rattle.ss_store.proofs.AskedWindows.{IsAsking, left_from}
+use Rattle.ss_store.proofs.asking.answer.Given as goal
+
+abbrev pub invariant-loop-next : goal.invariant-loop-next
+invariant-loop-next g l =
+    IsAsking (g.D.Disk.tells l.fn.disk) (g.D.Disk.tells l.disk) (g.D.Disk.told l.fn.disk) (g.D.Disk.told l.disk) (g.D.Disk.faults l.fn.disk) (g.D.Disk.faults l.disk)
+    l.fn.records l.records l.part l.query.from l.query.to l.seen l.next
+
+abbrev pub decreases-loop-next : goal.decreases-loop-next
+decreases-loop-next g l = left_from l.part.line.entries l.next
