@@ -8,22 +8,27 @@ use Rattle.std.proofs.lemmas.Option.{get_or_from_slice_get, slice_get-map, slice
 use Rattle.std.specs.List.{flat_map, slice_get}
 use Rattle.std.specs.Prelude.{nat_le, option_map}
 use Rattle.ss_catalog.specs.declared.event.Event.{Event}
+use Rattle.ss_catalog.specs.declared.query.Query.{Query}
 use Rattle.ss_catalog.specs.declared.refusal.Refusal.{Refusal}
 use Rattle.ss_catalog.specs.declared.refusal.Refusal.TheVariants as refusals
 use Rattle.ss_command.specs.Grammar.{meaning}
 use Rattle.ss_command.specs.LineState.{unless_long}
 use Rattle.ss_command.specs.declared.TheConstants.{LONGEST_LINE}
 use Rattle.ss_command.specs.declared.command.Command.{Command}
-use Rattle.ss_command.specs.declared.command.Command.TheVariants.{Do, Windows, List as ListAll}
+use Rattle.ss_command.specs.declared.command.Command.TheVariants.{Do, Ask, Windows, List as ListAll}
 use Rattle.ss_catalog.specs.Events.{event_name}
 use Rattle.ss_line.specs.Line.{StandsIn, index_of, place_at}
 use Rattle.ss_line.specs.declared.entry.At.{At}
 use Rattle.ss_line.specs.declared.entry.Entry.{Entry}
+use Rattle.ss_model.proofs.AnswerLemmas.{answer-known}
+use Rattle.ss_model.specs.Answers.{outcome_of, refuses_query}
 use Rattle.ss_model.specs.Shown.{placed_of}
 use Rattle.ss_model.specs.Steps.{ack_of}
 use Rattle.ss_model.specs.declared.types.Placed.{Placed}
 use Rattle.ss_model.specs.Refusals.{refuses, refuses_reading}
 use Rattle.ss_model.specs.State.{Stream, state, stream_named}
+use Rattle.ss_model.specs.declared.outcome.Outcome.{Outcome}
+use Rattle.ss_model.specs.declared.outcome.Outcome.TheVariants.{Count, Sum, Min, Max}
 use Rattle.ss_model.specs.declared.types.Ack.{Ack}
 use Rattle.ss_outside.specs.Causes.{HasCause}
 use Rattle.ss_outside.specs.declared.source.Failed.{Failed}
@@ -31,19 +36,25 @@ use Rattle.std.specs.Fmt.{decimal, signed_decimal}
 use Rattle.ss_catalog.specs.Refusal.{refusal_name}
 use Rattle.ss_command.specs.Printed.{spaced, target_words}
 use Rattle.ss_command.specs.declared.TheConstants.{LINE_END}
-use Rattle.ss_report.specs.Text.{line_of, reply_line}
+use Rattle.ss_report.specs.Text.{answer_line, extreme_words, line_of, reply_line}
 use Rattle.ss_report.specs.declared.reply.Reply.{Reply}
-use Rattle.ss_report.specs.declared.reply.Reply.TheVariants.{Done as AckLine, Refused, WindowsHead, Window, ListHead, Stream as StreamRow}
+use Rattle.ss_report.specs.declared.reply.Reply.TheVariants.{Done as AckLine, Answered, Refused, WindowsHead, Window, ListHead, Stream as StreamRow}
 use Rattle.ss_outside.proofs.CrashLemmas.{reads-none}
 use Rattle.ss_outside.specs.Crash.{KnowsNow, OnlyReads}
 use Rattle.ss_outside.specs.Disk.{Told}
+use Rattle.ss_store.specs.Asked.{refuses_query_held}
 use Rattle.ss_store.specs.Calls.{StandsForEither, Turns}
+use Rattle.ss_store.specs.Kept.{IsKept, StoreState}
 use Rattle.ss_store.specs.Recover.{Stands}
 use Rattle.ss_store.specs.declared.error.ApplyError.{ApplyError}
 use Rattle.ss_store.specs.declared.error.ApplyError.TheVariants as errors
+use Rattle.ss_store.specs.declared.error.AskError.{AskError}
+use Rattle.ss_store.specs.declared.error.AskError.TheVariants as asking
+use Rattle.ss_store.proofs.AskedStreams.{refuses_query_held-is}
 use Rattle.ss_store.proofs.Calls.{Turns-reads, Turns-weaker}
+use Rattle.ss_store.proofs.KeptStates.{AllAgree-recovered}
 use Rattle.summarystore.specs.Answer.{Adds, Replies, at_sink}
-use Rattle.summarystore.specs.Line.{Brought, History, accepted_event, brings, command_brings, history_after, line_text, meaning_brings, refused, shown, stream_rows, text_brought, the_event, unless_refused, window_rows}
+use Rattle.summarystore.specs.Line.{Brought, History, accepted_event, answered, brings, command_brings, history_after, line_text, meaning_brings, refused, shown, stream_rows, text_brought, the_event, unless_refused, window_rows}
 use Rattle.summarystore.specs.Sent.{appended, AppendsLess, Sends}
 use Rattle.summarystore.specs.Progress.{StandsAround, StopsWith}
 use Rattle.summarystore.specs.Status.{Counts, CountsIfEnded, IsApplyStop, IsDiskStop, IsShowStop, IsStop}
@@ -82,6 +93,32 @@ unless_refused-event (Some r) rows = refl
 
 pub windows-event : (history : History) (name : List ℕ) → (command_brings history (Windows name)).event ≡ None
 windows-event history name = unless_refused-event (refuses_reading (state history) name) _
+
+pub ask-event : (history : History) (query : Query) → (command_brings history (Ask query)).event ≡ None
+ask-event history query = unless_refused-event (refuses_query (state history) query) _
+
+-- a query that is refused brings its refusal
+pub brings-unanswered : (history : History) (query : Query) (refusal : Refusal) → refuses_query (state history) query ≡ Some refusal →
+    command_brings history (Ask query) ≡ refused refusal
+brings-unanswered history query refusal is = ap (λ r. unless_refused r (shown (answered (outcome_of (state history) query)))) is
+
+-- and one that isn't brings the answer
+pub brings-answered : (history : History) (query : Query) (outcome : Outcome) → refuses_query (state history) query ≡ None →
+    outcome_of (state history) query ≡ Some outcome → command_brings history (Ask query) ≡ shown (Answered outcome ∷ [])
+brings-answered history query outcome none is =
+    ap (λ r. unless_refused r (shown (answered (outcome_of (state history) query)))) none ∙ ap (λ o. shown (answered o)) is
+
+-- what is refused by what the store holds
+pub refuses_query-kept : (store : StoreState) (content : List ℕ) (history : History) (query : Query) → IsKept store content → Stands history content →
+    refuses_query (state history) query ≡ refuses_query_held store.streams query
+refuses_query-kept store content history query kept stands =
+    sym (refuses_query_held-is store.streams (state history) query (AllAgree-recovered store content (state history) kept stands.state).0)
+
+-- which of the two it is, by what the store answers
+pub not_unanswered : (result : Result Outcome AskError) (refusal : Option Refusal) →
+    ((r : Refusal) → (result ≡ Err (asking.Refused r)) ↔ (refusal ≡ Some r)) → ((r : Refusal) → result ≡ Err (asking.Refused r) → ⊥) → refusal ≡ None
+not_unanswered result None why other = refl
+not_unanswered result (Some r) why other = absurd (other r ((why r).1 refl))
 
 -- what `windows` brings, by whether the stream stands
 pub brings-unknown : (history : History) (name : List ℕ) → stream_named name (state history) ≡ None →
@@ -200,8 +237,15 @@ AppendsLess-none held text some = (0, some, sym (appended-nil held))
 line_of-some : (first : List ℕ) (rest : List (List ℕ)) → 0 < length (line_of first rest)
 line_of-some first rest = omega (arith, length-append (spaced first rest) (LINE_END ∷ []))
 
+answer_line-some : (outcome : Outcome) → 0 < length (answer_line outcome)
+answer_line-some (Count lo hi) = line_of-some (codes "count") (decimal lo ∷ decimal hi ∷ [])
+answer_line-some (Sum lo hi) = line_of-some (codes "sum") (signed_decimal lo ∷ signed_decimal hi ∷ [])
+answer_line-some (Min extreme) = line_of-some (codes "min") (extreme_words extreme)
+answer_line-some (Max extreme) = line_of-some (codes "max") (extreme_words extreme)
+
 pub reply_line-some : (reply : Reply) → 0 < length (reply_line reply)
 reply_line-some (AckLine ack) = line_of-some (codes "ok") (decimal ack.n ∷ decimal ack.k ∷ [])
+reply_line-some (Answered outcome) = answer_line-some outcome
 reply_line-some (Refused refusal) = line_of-some (codes "refused") (refusal_name refusal ∷ [])
 reply_line-some (WindowsHead count) = line_of-some (codes "windows") (decimal count ∷ [])
 reply_line-some (Window w) = line_of-some (decimal w.first)
@@ -253,11 +297,26 @@ event-some history event None some =
     omega (arith, reply_line-some reply, length-append (reply_line reply) [])
 event-some history event (Some r) some = cc
 
+-- and so has a query
+one_reply-some : (reply : Reply) → 0 < length (text_brought (shown (reply ∷ [])))
+one_reply-some reply = omega (arith, reply_line-some reply, length-append (reply_line reply) [])
+
+answer-some : (refusal : Option Refusal) (outcome : Option Outcome) → (refusal ≡ None → IsSome outcome) →
+    0 < length (text_brought (unless_refused refusal (shown (answered outcome))))
+answer-some None None known = let wrong = known refl in cc
+answer-some None (Some outcome) known = one_reply-some (Answered outcome)
+answer-some (Some refusal) outcome known = one_reply-some (Refused refusal)
+
+pub ask-some : (history : History) (query : Query) → 0 < length (text_brought (command_brings history (Ask query)))
+ask-some history query =
+    answer-some (refuses_query (state history) query) (outcome_of (state history) query) (answer-known (state history) query)
+
 meaning-some : (history : History) (means : Result (Option Command) Refusal) → IsSome (meaning_brings history means).event →
     0 < length (text_brought (meaning_brings history means))
 meaning-some history (Err refusal) some = cc
 meaning-some history (Ok None) some = cc
 meaning-some history (Ok (Some (Do event))) some = event-some history event (refuses (state history) event) some
+meaning-some history (Ok (Some (Ask query))) some = let none = ask-event history query in cc
 meaning-some history (Ok (Some (Windows name))) some = let none = windows-event history name in cc
 meaning-some history (Ok (Some ListAll)) some = cc
 
@@ -304,6 +363,11 @@ AppendsLess-after before held after a b c is less = (
 pub Sends-one : (before after : Option (List ℕ)) (reply : Reply) (sent : Result Unit Status) → Sends before after (reply_line reply) sent →
     Sends before after (flat_map reply_line (reply ∷ [])) sent
 Sends-one before after reply sent sends = subst (λ bs. Sends before after bs sent) (sym (append-nil (reply_line reply))) sends
+
+pub Sends-only : (before after : Option (List ℕ)) (brought : Brought) (reply : Reply) (sent : Result Unit Status) → brought.replies ≡ reply ∷ [] →
+    Sends before after (reply_line reply) sent → Sends before after (text_brought brought) sent
+Sends-only before after brought reply sent one sends =
+    subst (λ rs. Sends before after (flat_map reply_line rs) sent) (sym one) (Sends-one before after reply sent sends)
 
 -- a head was sent, and then its rows
 pub Sends-head : (before held after : Option (List ℕ)) (head : Reply) (rows : List Reply) (sent : Result Unit Status) →

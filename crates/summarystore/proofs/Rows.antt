@@ -10,8 +10,11 @@ use Rattle.ss_command.specs.Grammar.{meaning}
 use Rattle.ss_command.specs.Lines.{ended_lines, lines, unended}
 use Rattle.ss_command.specs.Words.{words}
 use Rattle.ss_fields.specs.Words.{is_number, number_of, number_up_to, signed_of}
+use Rattle.ss_bounds.specs.Split.{sum_interval}
+use Rattle.ss_model.specs.Answers.{outcome_of, refuses_query}
 use Rattle.ss_model.specs.Refusals.{refuses, refuses_reading}
 use Rattle.ss_model.specs.State.{state}
+use Rattle.ss_power.specs.Power.{power_length}
 use Rattle.ss_windowing.specs.Windowing.{index_of}
 use Rattle.ss_store.specs.Recover.{no_store, damaged_entry, damaged_slot, damaged_stream, recovers}
 use Rattle.summarystore.specs.Held.{acks}
@@ -68,6 +71,38 @@ report-mistakes = refl
 after_lines-mistakes : after_lines history (lines mistakes) ≡ history ++ Create (codes "b") (Exp 2 1 4) ∷ Value (codes "a") 80 (negsuc 0) ∷ []
 unfolding ended_lines unended meaning words is_number number_of number_up_to signed_of is_name state refuses refuses_reading index_of
 after_lines-mistakes = refl
+
+-- after that history: queries where no window is split, one is, or two are, and each refusal of a query
+abbrev queries : List ℕ
+queries =
+    text (codes "query a count 10 40" ∷ codes "query a sum 0 100" ∷ codes "query a max 45 65" ∷ codes "query a min 71 80"
+    ∷ codes "query a count 10 25" ∷ codes "query a sum 10 25" ∷ codes "query a min 10 25" ∷ codes "query a min 15 25" ∷ codes "query a count 15 25"
+    ∷ codes "query a count 25 55" ∷ codes "query a sum 25 55" ∷ codes "query a min 25 55" ∷ codes "query a max 25 55"
+    ∷ codes "query a sum 5 4" ∷ codes "query x sum 5 4" ∷ codes "query a mean 5 4" ∷ codes "query a sum 5 x" ∷ codes "query a! sum 5 4" ∷ [])
+
+report-queries : report history queries
+    ≡ text (codes "count 4 4" ∷ codes "sum 29 29" ∷ codes "max 9 9" ∷ codes "min none"
+    ∷ codes "count 1 3" ∷ codes "sum -5 16" ∷ codes "min -3 8" ∷ codes "min -3 8 maybe-none" ∷ codes "count 0 2"
+    ∷ codes "count 2 4" ∷ codes "sum -3 25" ∷ codes "min -3 8" ∷ codes "max 2 9"
+    ∷ codes "refused RANGE" ∷ codes "refused UNKNOWN" ∷ codes "refused SYNTAX" ∷ codes "refused NUMBER" ∷ codes "refused NAME" ∷ [])
+unfolding ended_lines unended meaning words is_number number_of number_up_to signed_of is_name state refuses_query outcome_of sum_interval index_of digits
+report-queries = refl
+
+-- they add no event
+accepted-queries : accepted history (lines queries) ≡ []
+unfolding ended_lines unended meaning words is_number number_of number_up_to signed_of is_name state refuses_query outcome_of sum_interval index_of
+accepted-queries = refl
+
+-- another stream: its window is split, but the free times are used up
+abbrev close_times : List ℕ
+close_times =
+    text (codes "create d power 1 0 1 4" ∷ codes "append d 10 4" ∷ codes "append d 11 4" ∷ codes "append d 12 6" ∷ codes "append d 13 6"
+    ∷ codes "query d count 10 11" ∷ codes "query d sum 10 11" ∷ [])
+
+report-close_times : report [] close_times
+    ≡ text (codes "ok 0 0" ∷ codes "ok 1 1" ∷ codes "ok 2 1" ∷ codes "ok 3 1" ∷ codes "ok 4 1" ∷ codes "count 2 2" ∷ codes "sum 8 12" ∷ [])
+unfolding ended_lines unended meaning words is_number number_of number_up_to signed_of is_name state refuses refuses_query outcome_of sum_interval power_length index_of digits
+report-close_times = refl
 
 -- the last line has ended where nothing is left
 lines_within-rest : lines_within (codes "ab" ++ 10 ∷ codes "c") (codes "d") ≡ codes "ab" ∷ []

@@ -5,14 +5,16 @@ use Rattle.ss_catalog.specs.declared.event.Event.{Event}
 use Rattle.ss_catalog.specs.declared.refusal.Refusal.{Refusal}
 use Rattle.ss_command.specs.Grammar.{meaning}
 use Rattle.ss_command.specs.declared.command.Command.{Command}
-use Rattle.ss_command.specs.declared.command.Command.TheVariants.{Do, Windows, List as ListAll}
+use Rattle.ss_command.specs.declared.command.Command.TheVariants.{Do, Ask, Windows, List as ListAll}
+use Rattle.ss_model.specs.Answers.{outcome_of, refuses_query}
 use Rattle.ss_model.specs.Refusals.{refuses, refuses_reading}
 use Rattle.ss_model.specs.Shown.{placed_of, row_of}
 use Rattle.ss_model.specs.State.{Stream, state, stream_named}
 use Rattle.ss_model.specs.Steps.{ack_of}
+use Rattle.ss_model.specs.declared.outcome.Outcome.{Outcome}
 use Rattle.ss_report.specs.Text.{reply_line}
 use Rattle.ss_report.specs.declared.reply.Reply.{Reply}
-use Rattle.ss_report.specs.declared.reply.Reply.TheVariants.{Done, Refused, WindowsHead, Window, ListHead, Stream as StreamRow}
+use Rattle.ss_report.specs.declared.reply.Reply.TheVariants.{Done, Answered, Refused, WindowsHead, Window, ListHead, Stream as StreamRow}
 
 -- a history: the events that were accepted, oldest first
 abbrev pub History : Type 0
@@ -47,6 +49,11 @@ accepted_event history event = record {
   event = Some event;
 }
 
+-- the answer to a query; nothing of a stream that doesn't stand
+abbrev pub answered : Option Outcome → List Reply
+answered None = []
+answered (Some outcome) = Answered outcome ∷ []
+
 -- the rows of a stream's windows, oldest first
 abbrev pub window_rows : Stream → List Reply
 window_rows s = map (λ w. Window (placed_of w)) s.windows
@@ -63,6 +70,8 @@ stream_rows streams = map (λ s. StreamRow (row_of s)) streams
 -- what a command brings
 abbrev pub command_brings : History → Command → Brought
 command_brings history (Do event) = unless_refused (refuses (state history) event) (accepted_event history event)
+command_brings history (Ask query) =
+    unless_refused (refuses_query (state history) query) (shown (answered (outcome_of (state history) query)))
 command_brings history (Windows name) =
     unless_refused (refuses_reading (state history) name) (shown (windows_shown (stream_named name (state history))))
 command_brings history ListAll = shown (ListHead (length (state history)) ∷ stream_rows (state history))

@@ -15,12 +15,12 @@ ghost use Rattle.summarystore.specs.Answer.{Adds, IsOpen, Replies, SendsRows, at
 ghost use Rattle.summarystore.specs.Line.{History, brings, command_brings, stream_rows, text_brought, window_rows};
 ghost use Rattle.summarystore.specs.Sent.{Sends};
 ghost use Rattle.summarystore.specs.Status.{CountsIfEnded, IsApplyStop, IsDiskStop, IsShowStop, IsStop};
-ghost use Rattle.ss_command.specs.declared.command.Command.TheVariants.{Do, Windows, List as ListAll};
+ghost use Rattle.ss_command.specs.declared.command.Command.TheVariants.{Do, Ask, Windows, List as ListAll};
 
 use crate::send::send;
 use crate::status::Status;
 use arrayvec::ArrayString;
-use ss_catalog::{Event, Name, Refusal, StreamId};
+use ss_catalog::{Event, Name, Query, Refusal, StreamId};
 use ss_command::{Command, LONGEST_LINE, parse};
 use ss_line::At;
 use ss_model::Placed;
@@ -69,7 +69,7 @@ fn read<D: Disk>(store: &mut Store, id: StreamId, at: At, disk: &mut D) -> Resul
         Ok(window) => Ok(window),
         Err(AskError::Disk) => Err(Status::DiskFault),
         Err(AskError::Changed { .. }) => Err(Status::RecordChanged),
-        Err(AskError::Stopped) => unreachable!(),
+        Err(AskError::Refused(_) | AskError::Stopped) => unreachable!(),
     }
 }
 
@@ -151,6 +151,47 @@ fn list<K: Sink>(store: &Store, sink: &mut K) -> Result<(), Status>
     send_streams(store, count, sink)
 }
 
+// Asks the store, and answers the reply to it.
+fn ask<D: Disk>(store: &mut Store, query: &Query, disk: &mut D) -> Result<Reply, Status>
+    requires open { IsOpen (D.tells disk.old) (D.told disk.old) store.old }
+    ensures reply { IsTrue (D.tells disk.old) → (history : History) → Stands history (D.told disk.old).content →
+        IfOk result (λ reply. (command_brings history (Ask query.now)).replies ≡ reply ∷ []) }
+    ensures reads { IsTrue (D.tells disk.old) → OnlyReads (D.told disk.old) (D.told disk.new) }
+    ensures open { OnOk result (IsOpen (D.tells disk.new) (D.told disk.new) store.new) }
+    ensures tells { D.tells disk.new ≡ D.tells disk.old }
+    ensures status { IfErr result (IsDiskStop (D.tells disk.old)) }
+    ensures cause { CountsIfEnded Status.DiskFault (D.faults disk.old) (D.faults disk.new) result }
+{
+    match store.ask(disk, query) {
+        Ok(outcome) => Ok(Reply::Answered(outcome)),
+        Err(AskError::Refused(refusal)) => Ok(Reply::Refused(refusal)),
+        Err(AskError::Disk) => Err(Status::DiskFault),
+        Err(AskError::Changed { .. }) => Err(Status::RecordChanged),
+        Err(AskError::Stopped) => unreachable!(),
+    }
+}
+
+// Asks the store, and replies what it answers.
+fn show_answer<D: Disk, K: Sink>(
+    store: &mut Store,
+    query: &Query,
+    disk: &mut D,
+    sink: &mut K,
+) -> Result<(), Status>
+    requires open { IsOpen (D.tells disk.old) (D.told disk.old) store.old }
+    ensures sends { IsTrue (D.tells disk.old) → (history : History) → Stands history (D.told disk.old).content →
+        Sends (K.held sink.old) (K.held sink.new) (text_brought (command_brings history (Ask query.now))) result }
+    ensures reads { IsTrue (D.tells disk.old) → OnlyReads (D.told disk.old) (D.told disk.new) }
+    ensures open { OnOk result (IsOpen (D.tells disk.new) (D.told disk.new) store.new) }
+    ensures tells { D.tells disk.new ≡ D.tells disk.old }
+    ensures status { IfErr result (IsShowStop (D.tells disk.old)) }
+    ensures disk_cause { CountsIfEnded Status.DiskFault (D.faults disk.old) (D.faults disk.new) result }
+    ensures sink_cause { CountsIfEnded Status.SinkFault (K.faults sink.old) (K.faults sink.new) result }
+{
+    let reply = ask(store, query, disk)?;
+    send_reply(&reply, sink)
+}
+
 // Applies an event, and answers the reply to it.
 fn apply<D: Disk>(store: &mut Store, event: &Event, disk: &mut D) -> Result<Reply, Status>
     requires in_time { IsInTime event.now }
@@ -220,6 +261,7 @@ fn obey<D: Disk, K: Sink>(
 {
     match command {
         Command::Do(event) => take(store, event, disk, sink),
+        Command::Ask(query) => show_answer(store, query, disk, sink),
         Command::Windows(name) => show_windows(store, name, disk, sink),
         Command::List => list(store, sink),
     }

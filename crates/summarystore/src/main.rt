@@ -6,6 +6,7 @@ mod adapter_tests;
 mod adapters;
 mod answer;
 mod file_disk;
+mod laws;
 mod notice;
 mod refuse;
 mod run;

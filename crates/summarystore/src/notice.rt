@@ -17,6 +17,9 @@ check and gen are not there yet.
                          for g = 1, 2, 3 and so on
   append NAME T V        the value V at the time T, later than the last: ok N K
                          says that the stream has N values in K windows
+  query NAME count|sum|min|max T1 T2
+                         what is known of the values from the time T1 to T2: the
+                         least and the greatest that the answer can be
   windows NAME           the windows of a stream, oldest first
   list                   all streams, in order of creation
 

@@ -53,6 +53,24 @@ const ORDER_REPORT: &str = "ok 0 0\nok 1 1\nrefused EXISTS\nrefused PARAM\nrefus
     refused NUMBER\nrefused NUMBER\nrefused NAME\nrefused NAME\nrefused TIME\nrefused SYNTAX\nrefused UNKNOWN\n\
     refused PARAM\nlist 1\na exp 2 1 1 1 1 0 0\n";
 
+// Queries where no window is split, one is, or two are, and of which the free times are used up. Then each refusal.
+const QUERIES: &str =
+    "create a exp 2 1 1\nappend a 10 5\nappend a 20 -3\nappend a 30 8\nappend a 40 1\n\
+    append a 50 9\nappend a 60 2\nappend a 70 7\n\
+    query a count 10 40\nquery a sum 0 100\nquery a max 45 65\nquery a min 71 80\n\
+    query a count 10 25\nquery a sum 10 25\nquery a min 10 25\nquery a min 15 25\nquery a count 15 25\n\
+    query a count 25 55\nquery a sum 25 55\nquery a min 25 55\nquery a max 25 55\n\
+    create d power 1 0 1 4\nappend d 10 4\nappend d 11 4\nappend d 12 6\nappend d 13 6\n\
+    query d count 10 11\nquery d sum 10 11\n\
+    query a sum 5 4\nquery x sum 5 4\nquery a mean 5 4\nquery a sum 5 x\nquery a! sum 5 4\nquery a sum 5\n";
+
+const QUERIES_REPORT: &str = "ok 0 0\nok 1 1\nok 2 2\nok 3 2\nok 4 3\nok 5 3\nok 6 4\nok 7 3\n\
+    count 4 4\nsum 29 29\nmax 9 9\nmin none\n\
+    count 1 3\nsum -5 16\nmin -3 8\nmin -3 8 maybe-none\ncount 0 2\n\
+    count 2 4\nsum -3 25\nmin -3 8\nmax 2 9\n\
+    ok 0 0\nok 1 1\nok 2 1\nok 3 1\nok 4 1\ncount 2 2\nsum 8 12\n\
+    refused RANGE\nrefused UNKNOWN\nrefused SYNTAX\nrefused NUMBER\nrefused NAME\nrefused SYNTAX\n";
+
 // The edges of numbers.
 const EDGES: &str =
     "create a exp 2 1 1\nappend a 4611686018427387905 1\nappend a 0080 9223372036854775808\n\
@@ -142,6 +160,7 @@ fn rows_are_reported_in_whatever_pieces(rt: HostRuntime) -> Result<(), Fail> {
     for (input, report) in [
         (READINGS, REPORT),
         (ORDER, ORDER_REPORT),
+        (QUERIES, QUERIES_REPORT),
         (EDGES, EDGES_REPORT),
         (LINES, LINES_REPORT),
         ("", ""),

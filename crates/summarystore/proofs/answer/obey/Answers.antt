@@ -1,8 +1,13 @@
 use Rattle.std.proofs.Common.{refl}
-use Rattle.ss_command.specs.declared.command.Command.TheVariants.{Windows, List as ListAll}
+use Rattle.ss_command.specs.declared.command.Command.TheVariants.{Ask, Windows, List as ListAll}
 use Rattle.summarystore.specs.Line.{command_brings}
-use Rattle.summarystore.proofs.AnswerLemmas.{Adds-none, Adds-reads, windows-event}
+use Rattle.summarystore.proofs.AnswerLemmas.{Adds-none, Adds-reads, ask-event, windows-event}
 use Rattle.summarystore.proofs.answer.obey.Goals as goal
+
+pub returns-in-Ask-clause-adds : goal.returns-in-Ask-clause-adds
+returns-in-Ask-clause-adds g c told history = rw c.in-Ask.is
+    (Adds-reads history (command_brings history (Ask c.in-Ask.query)) (g.D.Disk.told c.args.disk.now) (g.D.Disk.told c.show_answer.new.disk) c.show_answer.result
+    (λ has. ask-event history c.in-Ask.query) (g.met.D.Disk.knows_now c.args.disk.now told) (c.show_answer.ensures.reads told))
 
 pub returns-in-Windows-clause-adds : goal.returns-in-Windows-clause-adds
 returns-in-Windows-clause-adds g c told history = rw c.in-Windows.is
