@@ -35,6 +35,7 @@ bench: ## times the programs that were built last: bench/README.md
 	@test -x $(TARGET_BENCH) || tools/build target_bench
 	@test -x $(LANDMARKS) || tools/build landmarks_bench
 	@bench/durable $(PROGRAM)
+	@bench/queries $(PROGRAM)
 	@bench/commits $(BENCH)
 	@bench/records $(RECORDS_BENCH)
 	@bench/targets $(TARGET_BENCH)
