@@ -9,4 +9,8 @@ pub enum Event {
     Create { name: Name, params: Params },
     /// A value of a stream at a time.
     Value { name: Name, t: u64, v: i64 },
+    /// A landmark of a stream opens: the values from here on are kept one by one.
+    Open { name: Name, t: u64 },
+    /// The open landmark of a stream closes.
+    Close { name: Name, t: u64 },
 }

@@ -1,17 +1,18 @@
 -- What the answers of states hold.
-use Rattle.std.proofs.Common.{◌≡◌, ℕ, ℤ, true, false, List, [], ◌∷◌, map, refl, ap, sym, subst, Some, None, inl, inr, IsSome}
+use Rattle.std.proofs.Common.{◌≡◌, ℕ, ℤ, Bool, true, false, List, [], map, refl, ap, sym, ◌∙◌, subst, Some, None, inl, inr, IsSome}
 use Rattle.std.specs.Prelude.{Option, option_map, is_some}
 use Rattle.std.specs.List.{filter}
 use Rattle.std.proofs.lemmas.Bool.{cases_Bool}
-use Rattle.ss_catalog.specs.Names.{same_name}
 use Rattle.ss_catalog.specs.declared.event.Event.{Event}
 use Rattle.ss_catalog.specs.declared.query.Kind.{Kind}
 use Rattle.ss_catalog.specs.declared.query.Kind.TheVariants as kinds
 use Rattle.ss_catalog.specs.declared.query.Query.{Query}
+use Rattle.ss_landmarks.specs.Free.{is_free}
 use Rattle.ss_target.specs.Lengths.{lengths_of}
 use Rattle.ss_model.specs.Answers.{HoldsTruth, IsExactOutcome, IsOfKind, answer_of, answer_of_kind, outcome_of, refuses_query, split_by}
-use Rattle.ss_model.specs.History.{values_of}
-use Rattle.ss_model.specs.Interval.{is_split, split_figures}
+use Rattle.ss_model.specs.History.{landmarks_of, marked_of, values_of}
+use Rattle.ss_model.specs.Interval.{is_split, split_figures, split_windows}
+use Rattle.ss_model.specs.Marks.{marked_values}
 use Rattle.ss_model.specs.Outline.{SameOutlines}
 use Rattle.ss_model.specs.Refusals.{IsHistory, stands}
 use Rattle.ss_model.specs.State.{Created, Stream, state, standing, stream_after, stream_named}
@@ -20,78 +21,73 @@ use Rattle.ss_model.specs.Windows.{windows}
 use Rattle.ss_model.specs.declared.outcome.Outcome.{Outcome}
 use Rattle.ss_model.specs.declared.types.Window.{Window}
 use Rattle.ss_model.proofs.IntervalLemmas.{AreOf, count-lies, sum-lies, least-Holds, greatest-Holds, count-exact, sum-exact, least-exact, greatest-exact}
-use Rattle.ss_model.proofs.NameLemmas.{same_name-Decides}
 use Rattle.ss_model.proofs.OutlineLemmas.{read-outlines}
 use Rattle.ss_model.proofs.PieceLemmas.{AreOf-windows}
-use Rattle.ss_model.proofs.RisingLemmas.{any_time, values-rise}
+use Rattle.ss_model.proofs.RisingLemmas.{named-after, values-rise}
 
 -- what a choice gave it gave of something
 mapped : {A B : Type 0} (f : A → B) (o : Option A) (b : B) → option_map f o ≡ Some b → (a : A) × (o ≡ Some a) × (f a ≡ b)
 mapped f None b same = cc
 mapped f (Some a) b same = (a, refl, cc)
 
--- the stream of a name has the windows of all values of that name
-named-windows : (history : List Event) (name : List ℕ) (cs : List Created) (s : Stream) → stream_named name (map (stream_after history) cs) ≡ Some s
-    → s.windows ≡ windows (lengths_of s.params) (values_of history name)
-named-windows history name [] s found = cc
-named-windows history name (c ∷ cs) s found = elim (cases_Bool (same_name name c.name)) [
-  | inl same ↦
-      (let is : name ≡ c.name = (same_name-Decides name c.name).0 same in
-      let here : Some (stream_after history c) ≡ Some s = rw same at found in
-      let here : stream_after history c ≡ s = cc in
-      subst (λ (u : Stream). u.windows ≡ windows (lengths_of u.params) (values_of history name)) here
-      (ap (λ n. windows (lengths_of c.params) (values_of history n)) (sym is)))
-  | inr other ↦ (let later : stream_named name (map (stream_after history) cs) ≡ Some s = rw other at found in named-windows history name cs s later)
-]
-
 -- each kind of answer holds the truth
-kind-holds : (kind : Kind) (query : Query) (ws : List Window) (plain : List (ℕ × ℤ)) → AreOf ws plain → RiseAtFree any_time 0 plain
-    → HoldsTruth query plain [] (answer_of_kind kind any_time query.from query.to ws [])
-kind-holds kinds.Count query ws plain of rising = count-lies any_time query.from query.to ws plain [] 0 of rising
-kind-holds kinds.Sum query ws plain of rising = sum-lies any_time query.from query.to ws plain [] 0 of rising
-kind-holds kinds.Min query ws plain of rising = least-Holds any_time query.from query.to ws plain [] 0 of rising
-kind-holds kinds.Max query ws plain of rising = greatest-Holds any_time query.from query.to ws plain [] 0 of rising
+kind-holds : (kind : Kind) (free : ℕ → Bool) (query : Query) (ws : List Window) (plain marked : List (ℕ × ℤ)) → AreOf ws plain
+    → RiseAtFree free 0 plain → HoldsTruth query plain marked (answer_of_kind kind free query.from query.to ws marked)
+kind-holds kinds.Count free query ws plain marked of rising = count-lies free query.from query.to ws plain marked 0 of rising
+kind-holds kinds.Sum free query ws plain marked of rising = sum-lies free query.from query.to ws plain marked 0 of rising
+kind-holds kinds.Min free query ws plain marked of rising = least-Holds free query.from query.to ws plain marked 0 of rising
+kind-holds kinds.Max free query ws plain marked of rising = greatest-Holds free query.from query.to ws plain marked 0 of rising
+
+-- the answer of a stream that stands as a history leaves it
+stream-holds : (history : List Event) (query : Query) (c : Created) → IsHistory history
+    → HoldsTruth query (values_of history c.name) (marked_of history c.name) (answer_of query (stream_after history c))
+stream-holds history query c whole =
+    let values = values_of history c.name in
+    kind-holds query.kind (is_free (landmarks_of history c.name)) query (windows (lengths_of c.params) values) values (marked_of history c.name)
+    (AreOf-windows (lengths_of c.params) values) (values-rise history c.name whole)
 
 pub answer-holds : (history : List Event) (query : Query) (outcome : Outcome) → IsHistory history → outcome_of (state history) query ≡ Some outcome
-    → HoldsTruth query (values_of history query.name) [] outcome
+    → HoldsTruth query (values_of history query.name) (marked_of history query.name) outcome
 unfolding outcome_of state
 answer-holds history query outcome whole answered =
-    let s = mapped (λ (s : Stream). answer_of query s.windows) (stream_named query.name (map (stream_after history) (standing history))) outcome answered in
-    let values = values_of history query.name in
-    let are = named-windows history query.name (standing history) s.0 s.1 in
-    let of : AreOf s.0.windows values = subst (λ ws. AreOf ws values) (sym are) (AreOf-windows (lengths_of s.0.params) values) in
-    subst (HoldsTruth query values []) s.2 (kind-holds query.kind query s.0.windows values of (values-rise history query.name whole))
+    let s = mapped (answer_of query) (stream_named query.name (map (stream_after history) (standing history))) outcome answered in
+    let of = named-after history query.name (standing history) s.0 s.1 in
+    let is : answer_of query (stream_after history of.created) ≡ outcome = ap (answer_of query) (sym of.is) ∙ s.2 in
+    let holds = subst (HoldsTruth query (values_of history of.created.name) (marked_of history of.created.name)) is (stream-holds history query of.created whole) in
+    subst (λ n. HoldsTruth query (values_of history n) (marked_of history n) outcome) of.named holds
 
-kind-is : (kind : Kind) (query : Query) (ws : List Window) → IsOfKind kind (answer_of_kind kind any_time query.from query.to ws [])
-kind-is kinds.Count query ws = refl
-kind-is kinds.Sum query ws = refl
-kind-is kinds.Min query ws = refl
-kind-is kinds.Max query ws = refl
+kind-is : (kind : Kind) (free : ℕ → Bool) (query : Query) (ws : List Window) (marked : List (ℕ × ℤ))
+    → IsOfKind kind (answer_of_kind kind free query.from query.to ws marked)
+kind-is kinds.Count free query ws marked = refl
+kind-is kinds.Sum free query ws marked = refl
+kind-is kinds.Min free query ws marked = refl
+kind-is kinds.Max free query ws marked = refl
 
 pub answer-kind : (streams : List Stream) (query : Query) (outcome : Outcome) → outcome_of streams query ≡ Some outcome → IsOfKind query.kind outcome
 unfolding outcome_of
 answer-kind streams query outcome answered =
-    let s = mapped (λ (s : Stream). answer_of query s.windows) (stream_named query.name streams) outcome answered in
-    subst (IsOfKind query.kind) s.2 (kind-is query.kind query s.0.windows)
+    let s = mapped (answer_of query) (stream_named query.name streams) outcome answered in
+    subst (IsOfKind query.kind) s.2 (kind-is query.kind (is_free s.0.landmarks) query s.0.windows (marked_values s.0.landmarks))
 
 -- where nothing is split, nothing is left open
-kind-exact : (kind : Kind) (query : Query) (ws : List Window) → filter (is_split query.from query.to) ws ≡ []
-    → IsExactOutcome (answer_of_kind kind any_time query.from query.to ws [])
-kind-exact kinds.Count query ws unsplit = count-exact any_time query.from query.to ws [] (ap (map (split_figures any_time query.from query.to)) unsplit)
-kind-exact kinds.Sum query ws unsplit = sum-exact any_time query.from query.to ws [] (ap (map (split_figures any_time query.from query.to)) unsplit)
-kind-exact kinds.Min query ws unsplit = least-exact any_time query.from query.to ws [] (ap (map (split_figures any_time query.from query.to)) unsplit)
-kind-exact kinds.Max query ws unsplit = greatest-exact any_time query.from query.to ws [] (ap (map (split_figures any_time query.from query.to)) unsplit)
+kind-exact : (kind : Kind) (free : ℕ → Bool) (query : Query) (ws : List Window) (marked : List (ℕ × ℤ)) → split_windows free query.from query.to ws ≡ []
+    → IsExactOutcome (answer_of_kind kind free query.from query.to ws marked)
+kind-exact kinds.Count free query ws marked unsplit = count-exact free query.from query.to ws marked unsplit
+kind-exact kinds.Sum free query ws marked unsplit = sum-exact free query.from query.to ws marked unsplit
+kind-exact kinds.Min free query ws marked unsplit = least-exact free query.from query.to ws marked unsplit
+kind-exact kinds.Max free query ws marked unsplit = greatest-exact free query.from query.to ws marked unsplit
 
 pub answer-exact : (streams : List Stream) (query : Query) (outcome : Outcome) → outcome_of streams query ≡ Some outcome
     → split_by streams query ≡ [] → IsExactOutcome outcome
 unfolding outcome_of
 answer-exact streams query outcome answered unsplit =
-    let s = mapped (λ (s : Stream). answer_of query s.windows) (stream_named query.name streams) outcome answered in
+    let s = mapped (answer_of query) (stream_named query.name streams) outcome answered in
     let unsplit : filter (is_split query.from query.to) s.0.windows ≡ [] = rw s.1 at unsplit in
-    subst IsExactOutcome s.2 (kind-exact query.kind query s.0.windows unsplit)
+    subst IsExactOutcome s.2 (kind-exact query.kind (is_free s.0.landmarks) query s.0.windows (marked_values s.0.landmarks)
+    (ap (map (split_figures (is_free s.0.landmarks) query.from query.to)) unsplit))
 
 -- a query that isn't refused has an answer
-some-answered : (o : Option Stream) (query : Query) → is_some o ≡ true → IsSome (option_map (λ (s : Stream). answer_of query s.windows) o)
+some-answered : (o : Option Stream) (query : Query) → is_some o ≡ true → IsSome (option_map (answer_of query) o)
 some-answered None query known = (let wrong : false ≡ true = known in cc)
 some-answered (Some s) query known = search
 

@@ -4,7 +4,7 @@ use Rattle.std.proofs.Common.{refl}
 use Rattle.ss_windowing.specs.Windowing.{index_of}
 use Rattle.ss_power.specs.Power.{power_length}
 use Rattle.ss_catalog.specs.declared.event.Event.{Event}
-use Rattle.ss_catalog.specs.declared.event.Event.TheVariants.{Create, Value}
+use Rattle.ss_catalog.specs.declared.event.Event.TheVariants.{Create, Value, Open, Close}
 use Rattle.ss_catalog.specs.declared.params.Params.TheVariants.{Exp, Power}
 use Rattle.ss_catalog.specs.declared.query.Kind.{Kind}
 use Rattle.ss_catalog.specs.declared.query.Kind.TheVariants as kinds
@@ -12,9 +12,11 @@ use Rattle.ss_catalog.specs.declared.query.Query.{Query}
 use Rattle.ss_catalog.specs.declared.refusal.Refusal.{Refusal}
 use Rattle.ss_catalog.specs.declared.refusal.Refusal.TheVariants.{Unknown, Range}
 use Rattle.ss_bounds.specs.declared.extreme.Extreme.TheVariants.{Nothing, Sure, Maybe}
-use Rattle.ss_bounds.specs.Split.{sum_interval}
+use Rattle.ss_bounds.specs.Split.{SplitFigures, sum_interval}
+use Rattle.ss_landmarks.specs.Free.{is_free}
 use Rattle.ss_model.specs.Answers.{outcome_of, refuses_query}
-use Rattle.ss_model.specs.State.{state}
+use Rattle.ss_model.specs.Interval.{split_windows}
+use Rattle.ss_model.specs.State.{Stream, state}
 use Rattle.ss_model.specs.declared.outcome.Outcome.{Outcome}
 use Rattle.ss_model.specs.declared.outcome.Outcome.TheVariants.{Count, Sum, Min, Max}
 
@@ -82,3 +84,52 @@ answers-close_times : map (outcome_of (state close_times)) (query kinds.Count 10
     Some (Count 2 2) ∷ Some (Sum (pos 8) (pos 12)) ∷ []
 unfolding outcome_of query state power_length index_of sum_interval close_times a
 answers-close_times = refl
+
+-- a value in a landmark at one time, and a value after it
+at_one_time : List Event
+at_one_time = Create a (Exp 2 1 1) ∷ Open a 100 ∷ Value a 100 (pos 7) ∷ Close a 100 ∷ Value a 101 (pos 8) ∷ []
+
+answers-at_one_time : map (outcome_of (state at_one_time))
+    (query kinds.Sum 100 100 ∷ query kinds.Sum 101 101 ∷ query kinds.Count 100 101 ∷ query kinds.Max 0 200 ∷ query kinds.Min 0 99 ∷ []) ≡
+    Some (Sum (pos 7) (pos 7)) ∷ Some (Sum (pos 8) (pos 8)) ∷ Some (Count 2 2) ∷ Some (Max (Sure (pos 8) (pos 8))) ∷ Some (Min Nothing) ∷ []
+unfolding outcome_of query state index_of sum_interval at_one_time a
+answers-at_one_time = refl
+
+-- a landmark from 20 to 40 within a window from 10 to 50
+around : List Event
+around =
+    Create a (Power 1 0 1 2) ∷ Value a 10 (pos 1) ∷ Open a 20 ∷ Value a 20 (pos 100) ∷ Value a 30 (pos 200) ∷ Close a 40
+    ∷ Value a 50 (pos 3) ∷ []
+
+split_around : ℕ → ℕ → List (List SplitFigures)
+split_around from to = map (λ (s : Stream). split_windows (is_free s.landmarks) from to s.windows) (state around)
+
+-- its times are free on both sides of the landmark alone
+splits-around : split_around 20 40 ∷ split_around 5 45 ∷ [] ≡
+    ((record { count = 2; sum = pos 4; min = pos 1; max = pos 3; ends = 0; inside = 0; outside = 18 } ∷ []) ∷ [])
+    ∷ ((record { count = 2; sum = pos 4; min = pos 1; max = pos 3; ends = 1; inside = 14; outside = 4 } ∷ []) ∷ []) ∷ []
+unfolding split_around state power_length index_of around a
+splits-around = refl
+
+answers-around : map (outcome_of (state around))
+    (query kinds.Count 20 40 ∷ query kinds.Sum 20 40 ∷ query kinds.Min 20 40 ∷ query kinds.Max 20 40 ∷ []) ≡
+    Some (Count 2 2) ∷ Some (Sum (pos 300) (pos 300)) ∷ Some (Min (Sure (pos 100) (pos 100))) ∷ Some (Max (Sure (pos 200) (pos 200))) ∷ []
+unfolding outcome_of query state power_length index_of sum_interval around a
+answers-around = refl
+
+-- one end of the window and a part of the landmark
+answers-around_part : map (outcome_of (state around))
+    (query kinds.Count 5 25 ∷ query kinds.Sum 5 25 ∷ query kinds.Min 5 25 ∷ query kinds.Max 5 25 ∷ query kinds.Sum 0 60 ∷ []) ≡
+    Some (Count 2 2) ∷ Some (Sum (pos 101) (pos 103)) ∷ Some (Min (Sure (pos 1) (pos 3))) ∷ Some (Max (Sure (pos 100) (pos 100)))
+    ∷ Some (Sum (pos 304) (pos 304)) ∷ []
+unfolding outcome_of query state power_length index_of sum_interval around a
+answers-around_part = refl
+
+-- the values of a landmark that is open are asked for like those of others
+begun : List Event
+begun = Create a (Exp 2 1 1) ∷ Value a 10 (pos 1) ∷ Open a 20 ∷ Value a 20 (pos 5) ∷ Value a 30 (pos 6) ∷ []
+
+answers-begun : map (outcome_of (state begun)) (query kinds.Count 15 25 ∷ query kinds.Sum 10 30 ∷ query kinds.Max 31 40 ∷ []) ≡
+    Some (Count 1 1) ∷ Some (Sum (pos 12) (pos 12)) ∷ Some (Max Nothing) ∷ []
+unfolding outcome_of query state index_of sum_interval begun a
+answers-begun = refl

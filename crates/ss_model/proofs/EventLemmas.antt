@@ -1,15 +1,15 @@
--- The values of a stream, with one more event.
-use Rattle.std.proofs.Common.{◌≡◌, ℕ, ◌+◌, ◌-◌, ℤ, Bool, true, false, not, List, [], ◌∷◌, ◌++◌, length, refl, ap, arith}
+-- What a stream was given, with one more event.
+use Rattle.std.proofs.Common.{◌≡◌, ℕ, ◌+◌, ◌-◌, Bool, true, false, not, List, [], ◌∷◌, ◌++◌, length, refl, ap, arith}
 use Rattle.std.specs.List.{after_last, suffix_len}
 use Rattle.std.proofs.lemmas.List.{append-nil, reverse-append, length_push, drop-append-le}
-use Rattle.std.proofs.lemmas.List.Elements.{filter-append, filter_map-append}
-use Rattle.std.proofs.lemmas.List.Sums.{suffix_len-le-length}
+use Rattle.std.proofs.lemmas.List.Elements.{filter-append}
+use Rattle.std.proofs.lemmas.List.Sums.{fold-append, suffix_len-le-length}
 use Rattle.std.proofs.lemmas.Grind.{common_steps}
 use Rattle.ss_catalog.specs.Names.{same_name}
 use Rattle.ss_catalog.specs.declared.event.Event.{Event}
-use Rattle.ss_catalog.specs.declared.event.Event.TheVariants.{Create, Value}
+use Rattle.ss_catalog.specs.declared.event.Event.TheVariants.{Create, Value, Open, Close}
 use Rattle.ss_catalog.specs.declared.params.Params.{Params}
-use Rattle.ss_model.specs.History.{is_for, creates, events_of, value_of, values_of}
+use Rattle.ss_model.specs.History.{is_for, creates, events_of, given_after, given_to, nothing_given}
 
 suffix_len-push_yes : {X : Type 0} (p : X → Bool) (xs : List X) (x : X) → p x ≡ true → suffix_len p (xs ++ x ∷ []) ≡ 1 + suffix_len p xs
 suffix_len-push_yes p xs x passes = rw (reverse-append xs (x ∷ []), passes) refl
@@ -32,32 +32,34 @@ after_last-push_no p xs x fails =
     let k : length (xs ++ x ∷ []) - suffix_len (λ y. not (p y)) (xs ++ x ∷ []) ≡ length xs - suffix_len (λ y. not (p y)) xs = omega (arith, length_push xs x) in
     rw k (drop-append-le (length xs - suffix_len (λ y. not (p y)) xs) xs (x ∷ []) (omega arith))
 
--- a stream that is created has fails values
-pub values_of-created : (history : List Event) (name : List ℕ) (params : Params) → same_name name name ≡ true →
-    values_of (history ++ Create name params ∷ []) name ≡ []
-values_of-created history name params same =
+-- a stream that is created has been given nothing
+pub given_to-created : (history : List Event) (name : List ℕ) (params : Params) → same_name name name ≡ true →
+    given_to (history ++ Create name params ∷ []) name ≡ nothing_given
+given_to-created history name params same =
     rw (after_last-push_yes (creates name) history (Create name params) same) refl
 
--- a value comes last
-pub values_of-valued : (history : List Event) (name other : List ℕ) (t : ℕ) (v : ℤ) → same_name name other ≡ true →
-    values_of (history ++ Value other t v ∷ []) name ≡ values_of history name ++ (t, v) ∷ []
-values_of-valued history name other t v same =
+-- an event of the stream that doesn't create it comes last
+pub given_to-event : (history : List Event) (name : List ℕ) (event : Event) → is_for name event ≡ true → creates name event ≡ false →
+    given_to (history ++ event ∷ []) name ≡ given_after (given_to history name) event
+given_to-event history name event own spared =
     rw (
-      after_last-push_no (creates name) history (Value other t v) refl,
-      filter-append (is_for name) (after_last (creates name) history) (Value other t v ∷ []),
-      same,
-      filter_map-append value_of (events_of history name) (Value other t v ∷ []),
+      after_last-push_no (creates name) history event spared,
+      filter-append (is_for name) (after_last (creates name) history) (event ∷ []),
+      own,
+      fold-append given_after nothing_given (events_of history name) (event ∷ []),
     ) refl
 
 -- an event for another stream creates none
-creates-no : (name : List ℕ) (event : Event) → is_for name event ≡ false → creates name event ≡ false
+pub creates-no : (name : List ℕ) (event : Event) → is_for name event ≡ false → creates name event ≡ false
 creates-no name (Create other params) fails = fails
 creates-no name (Value other t v) fails = refl
+creates-no name (Open other t) fails = refl
+creates-no name (Close other t) fails = refl
 
--- an event for another stream brings none
-pub values_of-other : (history : List Event) (name : List ℕ) (event : Event) → is_for name event ≡ false →
-    values_of (history ++ event ∷ []) name ≡ values_of history name
-values_of-other history name event fails =
+-- an event for another stream gives none
+pub given_to-other : (history : List Event) (name : List ℕ) (event : Event) → is_for name event ≡ false →
+    given_to (history ++ event ∷ []) name ≡ given_to history name
+given_to-other history name event fails =
     let spared : creates name event ≡ false = creates-no name event fails in
     rw (
       after_last-push_no (creates name) history event spared,

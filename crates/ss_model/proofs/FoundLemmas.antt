@@ -1,5 +1,5 @@
 -- The one stream of a name among those of different names.
-use Rattle.std.proofs.Common.{◌≡◌, ℕ, zero, suc, ◌-◌, ◌+◌, ◌<◌, ℤ, true, false, List, [], ◌∷◌, ◌++◌, length, map, get_or, refl, ap, sym, subst, ◌∙◌, arith, None, Some, inl, inr}
+use Rattle.std.proofs.Common.{◌≡◌, ℕ, zero, suc, ◌-◌, ◌+◌, ◌<◌, true, false, List, [], ◌∷◌, ◌++◌, length, map, get_or, refl, ap, sym, subst, ◌∙◌, arith, None, Some, inl, inr}
 use Rattle.std.specs.Prelude.{All}
 use Rattle.std.specs.List.{IsDistinct, AllByRecursion}
 use Rattle.std.specs.List.Sorted.{IsStrictlyIncreasing}
@@ -9,12 +9,11 @@ use Rattle.std.proofs.lemmas.List.Elements.{All-nil, All-head, All-tail, All-con
 use Rattle.std.proofs.lemmas.List.Folds.{find-append}
 use Rattle.std.proofs.lemmas.Map.Keys.{IsDistinct-head, IsDistinct-tail, IsDistinct-cons}
 use Rattle.ss_catalog.specs.Names.{same_name}
-use Rattle.ss_catalog.specs.declared.event.Event.TheVariants.{Value}
 use Rattle.ss_model.specs.State.{Stream, next_number, names_of, stream_named}
 use Rattle.ss_model.specs.Refusals.{stands}
-use Rattle.ss_model.specs.Steps.{with_value, stepped}
+use Rattle.ss_model.specs.Steps.{change_named}
 use Rattle.ss_model.proofs.NameLemmas.{same_name-Decides, same_name-swap}
-use Rattle.ss_model.proofs.StepLemmas.{valued}
+use Rattle.ss_model.proofs.StepLemmas.{changed}
 
 -- a stream of a name, and no other before it or after it
 pub record IsFound (name : List ℕ) (streams : List Stream) : Type 0 where
@@ -60,26 +59,25 @@ found name (s ∷ ss) distinct known = elim (cases_Bool (same_name name s.name))
 ]
 
 -- what no stream is named for changes none
-pub map-valued_others : (name : List ℕ) (t : ℕ) (v : ℤ) (streams : List Stream) → stands name streams ≡ false →
-    map (valued name t v) streams ≡ streams
-map-valued_others name t v [] none = refl
-map-valued_others name t v (s ∷ ss) none = elim (cases_Bool (same_name name s.name)) [
+pub map-changed_others : (name : List ℕ) (change : Stream → Stream) (streams : List Stream) → stands name streams ≡ false →
+    map (changed name change) streams ≡ streams
+map-changed_others name change [] none = refl
+map-changed_others name change (s ∷ ss) none = elim (cases_Bool (same_name name s.name)) [
   | inl same ↦ (let wrong : true ≡ false = rw same at none in cc)
   | inr other ↦
       (let later : stands name ss ≡ false = rw other at none in
-      rw (other, map-valued_others name t v ss later) refl)
+      rw (other, map-changed_others name change ss later) refl)
 ]
 
 module _ {name : List ℕ} {streams : List Stream} (at : IsFound name streams) where
-  pub stepped-found : (t : ℕ) (v : ℤ) → stepped streams (Value name t v) ≡ at.before ++ with_value at.stream t v ∷ at.after
-  unfolding stepped
-  stepped-found t v =
+  pub changed-found : (change : Stream → Stream) → change_named name change streams ≡ at.before ++ change at.stream ∷ at.after
+  changed-found change =
       rw (
         at.is,
-        map-append (valued name t v) at.before (at.stream ∷ at.after),
-        map-valued_others name t v at.before at.none_before,
+        map-append (changed name change) at.before (at.stream ∷ at.after),
+        map-changed_others name change at.before at.none_before,
         at.named,
-        map-valued_others name t v at.after at.none_after,
+        map-changed_others name change at.after at.none_after,
       ) refl
 
 none-stands : (name : List ℕ) (streams : List Stream) → stands name streams ≡ false → stream_named name streams ≡ None

@@ -34,7 +34,7 @@ readings_windows =
     ∷ record { first = 7; summary = record { count = 1; sum = pos 7; min = pos 7; max = pos 7; t_first = 70; t_last = 70 } }
     ∷ []
 
-state-readings : state readings ≡ record { number = 0; name = a; params = Exp 2 1 1; windows = readings_windows } ∷ []
+state-readings : state readings ≡ record { number = 0; name = a; params = Exp 2 1 1; windows = readings_windows; landmarks = [] } ∷ []
 unfolding state index_of readings readings_windows a
 state-readings = refl
 
@@ -113,7 +113,7 @@ numbers : map next_number ([] ∷ (0 ∷ []) ∷ (3 ∷ 7 ∷ []) ∷ []) ≡ 0 
 numbers = refl
 
 bare : ℕ → Stream
-bare number = record { number = number; name = a; params = Exp 2 1 1; windows = [] }
+bare number = record { number = number; name = a; params = Exp 2 1 1; windows = []; landmarks = [] }
 
 streams-limit : map has_all_streams (replicate 4095 (bare 1) ∷ replicate 4096 (bare 1) ∷ (bare 4294967294 ∷ []) ∷ (bare 4294967295 ∷ []) ∷ []) ≡
     false ∷ true ∷ false ∷ true ∷ []
@@ -126,6 +126,7 @@ full_stream = record {
   name = a;
   params = Exp 2 1 1;
   windows = record { first = 1; summary = record { count = 2 ^ 40; sum = pos 0; min = pos 0; max = pos 0; t_first = 1; t_last = 2 ^ 40 } } ∷ [];
+  landmarks = [];
 } ∷ []
 
 refusals-full_stream : map (refuses full_stream) (Value a (2 ^ 40) (pos 0) ∷ Value a (2 ^ 40 + 1) (pos 0) ∷ Create (codes "b") (Exp 2 1 1) ∷ []) ≡

@@ -1,18 +1,24 @@
 -- Joining windows that are due: what it leads to, and what it leaves.
 use Rattle.std.proofs.Common.{◌≡◌, ℕ, zero, suc, ◌+◌, ◌-◌, ◌==◌, Bool, true, false, cond, List, [], ◌∷◌, ◌++◌, refl, sym, ap, ◌∙◌, subst, ℤ, length, arith, append_assoc, length-append}
-use Rattle.std.proofs.lemmas.Bool.{cond-true, cond-false, cond_both, eqb-true}
+use Rattle.std.specs.Prelude.{IsTrue}
+use Rattle.std.specs.List.{list_all}
+use Rattle.std.proofs.lemmas.Bool.{and_from, and_parts, cond-true, cond-false, cond_both, eqb-true}
+use Rattle.std.proofs.lemmas.List.Folds.{list_all-append}
 use Rattle.ss_windowing.specs.Windowing.{index_of, fits}
+use Rattle.ss_landmarks.specs.Landmark.{Landmark}
 use Rattle.ss_summary.specs.Summaries.{summary_of}
 use Rattle.ss_summary.proofs.SummaryLemmas.{joined_assoc, IsPossible-joined}
 use Rattle.ss_model.specs.Windows.{windows, taken, newest_time}
 use Rattle.ss_model.specs.Closed.{last_position, joined_window, closed_onto, closed}
 use Rattle.ss_model.specs.Decay.{NoneIsDue}
 use Rattle.ss_model.specs.Joins.{JoinsTwo, Joins, JoinsDue}
+use Rattle.ss_model.specs.Marks.{lies_free}
 use Rattle.ss_model.specs.Tiling.{AreWindows}
 use Rattle.ss_model.specs.declared.types.Window.{Window}
 use Rattle.ss_model.proofs.DecayLemmas.{TileFrom, TileFrom-StandFrom, TileFrom_joined, TileFrom-pushed, NoneIsDue-closed, NoneIsDue-windows}
 use Rattle.ss_model.proofs.Incremental.{index_of_between, windows_push}
 use Rattle.ss_model.proofs.Closes.{newest_time-cons, newest_time_joined}
+use Rattle.ss_model.proofs.MarkLemmas.{lies_free-joined}
 use Rattle.ss_model.proofs.Stretches.{taken-cons}
 use Rattle.ss_model.proofs.Tiles.{taken-append, IsPossible-from_AreWindows, AreNeighbours-from_AreWindows, AreWindows_joined}
 
@@ -182,3 +188,34 @@ newest_time-joins len n (suc k) old new joins =
 
 pub newest_time-JoinsDue : (len : ℕ → ℕ) (n : ℕ) (old new : List Window) → JoinsDue len n old new → newest_time new ≡ newest_time old
 newest_time-JoinsDue len n old new joins = newest_time-joins len n joins.0 old new joins.1
+
+-- two windows that lie free lie so as one, among the others
+lie_free_two : (ls : List Landmark) (us vs : List Window) (w v : Window) → AreWindows (us ++ w ∷ v ∷ vs) →
+    list_all (lies_free ls) (us ++ w ∷ v ∷ vs) ≡ true → list_all (lies_free ls) (us ++ joined_window w v ∷ vs) ≡ true
+lie_free_two ls us vs w v tiles all =
+    let pair = AreNeighbours-from_AreWindows us vs w v tiles in
+    let front = IsPossible-from_AreWindows us (v ∷ vs) w tiles in
+    let moved : AreWindows ((us ++ w ∷ []) ++ v ∷ vs) = rw (append_assoc us (w ∷ []) (v ∷ vs)) tiles in
+    let back = IsPossible-from_AreWindows (us ++ w ∷ []) vs v moved in
+    let apart = and_parts (list_all (lies_free ls) us) (list_all (lies_free ls) (w ∷ v ∷ vs))
+    (sym (list_all-append (lies_free ls) us (w ∷ v ∷ vs)) ∙ all) in
+    let first = and_parts (lies_free ls w) (list_all (lies_free ls) (v ∷ vs)) apart.1 in
+    let second = and_parts (lies_free ls v) (list_all (lies_free ls) vs) first.1 in
+    list_all-append (lies_free ls) us (joined_window w v ∷ vs)
+    ∙ and_from (list_all (lies_free ls) us) (list_all (lies_free ls) (joined_window w v ∷ vs)) apart.0
+    (and_from (lies_free ls (joined_window w v)) (list_all (lies_free ls) vs) (lies_free-joined ls w v pair front back first.0 second.0) second.1)
+
+lie_free-joins : (ls : List Landmark) (len : ℕ → ℕ) (n k : ℕ) (old new : List Window) → AreWindows old → Joins len n k old new →
+    list_all (lies_free ls) old ≡ true → list_all (lies_free ls) new ≡ true
+lie_free-joins ls len n zero old new tiles same all = subst (λ ws. list_all (lies_free ls) ws ≡ true) same all
+lie_free-joins ls len n (suc k) old new tiles joins all =
+    let one = joins.1 in
+    let here : AreWindows (one.before ++ one.window ∷ one.next ∷ one.rest) = subst AreWindows one.was tiles in
+    let lie : list_all (lies_free ls) (one.before ++ one.window ∷ one.next ∷ one.rest) ≡ true = subst (λ ws. list_all (lies_free ls) ws ≡ true) one.was all in
+    lie_free-joins ls len n k joins.0 new (subst AreWindows (sym one.is) (AreWindows_two one.before one.rest one.window one.next here)) joins.2
+    (subst (λ ws. list_all (lies_free ls) ws ≡ true) (sym one.is) (lie_free_two ls one.before one.rest one.window one.next here lie))
+
+-- joining what is due leaves windows free
+pub lie_free-JoinsDue : (len : ℕ → ℕ) (n : ℕ) (old new : List Window) (ls : List Landmark) → AreWindows old → JoinsDue len n old new →
+    IsTrue (list_all (lies_free ls) old) → IsTrue (list_all (lies_free ls) new)
+lie_free-JoinsDue len n old new ls tiles joins all = lie_free-joins ls len n joins.0 old new tiles joins.1 all

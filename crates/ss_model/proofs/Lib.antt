@@ -1,5 +1,6 @@
 mod Rows
 mod HistoryRows
+mod MarkRows
 mod QueryRows
 mod AnswerRows
 pub mod Rises
@@ -7,11 +8,13 @@ pub mod Stretches
 pub mod Incremental
 pub mod Closes
 pub mod Tiles
+pub mod MarkLemmas
 pub mod DecayLemmas
 pub mod EventLemmas
 pub mod NameLemmas
 pub mod StepLemmas
 pub mod FoundLemmas
+pub mod StreamLemmas
 pub mod StandLemmas
 pub mod HistoryLemmas
 pub mod ReadLemmas

@@ -1,6 +1,6 @@
 -- What is read of streams for a refusal is the same where their outlines are.
-use Rattle.std.proofs.Common.{◌≡◌, ℕ, ◌||◌, List, [], ◌∷◌, length, refl, sym, ap, ◌∙◌, arith, inl, inr, Option, Some}
-use Rattle.std.specs.Prelude.{◌==◌, option_and_then, is_some}
+use Rattle.std.proofs.Common.{◌≡◌, ℕ, Bool, false, not, ◌&&◌, ◌||◌, List, [], ◌∷◌, length, refl, sym, ap, ◌∙◌, arith, inl, inr, Option, Some}
+use Rattle.std.specs.Prelude.{◌==◌, is_some, nat_le}
 use Rattle.std.specs.List.{list_any}
 use Rattle.std.specs.Option.{option_map_or}
 use Rattle.std.proofs.lemmas.Bool.{cases_Bool}
@@ -8,10 +8,13 @@ use Rattle.std.proofs.lemmas.List.Sums.{sum_by-cons}
 use Rattle.ss_catalog.specs.Names.{same_name}
 use Rattle.ss_catalog.specs.declared.TheConstants.{LAST_STREAM}
 use Rattle.ss_catalog.specs.declared.event.Event.{Event}
-use Rattle.ss_catalog.specs.declared.event.Event.TheVariants.{Create, Value}
+use Rattle.ss_catalog.specs.declared.event.Event.TheVariants.{Create, Value, Open, Close}
+use Rattle.ss_landmarks.specs.Landmark.{all_values}
+use Rattle.ss_windowing.specs.declared.decay.TheConstants.{MOST_VALUES}
+use Rattle.ss_model.specs.Marks.{has_open}
 use Rattle.ss_model.specs.Outline.{SameOutline, SameOutlines}
-use Rattle.ss_model.specs.Refusals.{refuses}
-use Rattle.ss_model.specs.State.{Stream, last_time, live, records_of, stream_named, values_in}
+use Rattle.ss_model.specs.Refusals.{is_before, is_early, is_full, is_opening, is_past, of_named, refuses}
+use Rattle.ss_model.specs.State.{Stream, last_time, live, records_of, stream_named}
 
 length-outlines : (streams others : List Stream) → SameOutlines streams others → length streams ≡ length others
 length-outlines [] [] same = refl
@@ -25,7 +28,9 @@ live-outlines [] (u ∷ us) same = absurd same
 live-outlines (s ∷ ss) [] same = absurd same
 live-outlines (s ∷ ss) (u ∷ us) same =
     let windows = same.0.windows in
-    omega (arith, sum_by-cons records_of s ss, sum_by-cons records_of u us, windows, live-outlines ss us same.1)
+    let landmarks = ap length same.0.landmarks in
+    let values = ap (λ ls. length (all_values ls)) same.0.landmarks in
+    omega (arith, sum_by-cons records_of s ss, sum_by-cons records_of u us, windows, landmarks, values, live-outlines ss us same.1)
 
 last-outlines : (streams others : List Stream) → SameOutlines streams others →
     list_any (λ s. s.number == LAST_STREAM) streams ≡ list_any (λ s. s.number == LAST_STREAM) others
@@ -51,6 +56,23 @@ read-outlines read one name (s ∷ ss) (u ∷ us) same =
       | inr other ↦ let also : same_name name u.name ≡ _ = sym alike ∙ other in rw (other, also) rest
     ]
 
+-- what a test says of the stream of a name
+of_named-outlines : (test : Stream → Bool) → ((s u : Stream) → SameOutline s u → test s ≡ test u) →
+    (name : List ℕ) (streams others : List Stream) → SameOutlines streams others → of_named name streams test ≡ of_named name others test
+of_named-outlines test one name streams others same = read-outlines (λ found. option_map_or test found false) one name streams others same
+
+is_early-outline : (t : ℕ) (s u : Stream) → SameOutline s u → is_early s t ≡ is_early u t
+is_early-outline t s u alike =
+    let last = alike.last_time in
+    let landmarks = alike.landmarks in
+    λ i. is_past (last i) t && not (is_opening (landmarks i) t)
+
+is_full-outline : (s u : Stream) → SameOutline s u → is_full s ≡ is_full u
+is_full-outline s u alike =
+    let values = alike.values in
+    let landmarks = alike.landmarks in
+    λ i. not (has_open (landmarks i)) && nat_le MOST_VALUES (values i)
+
 pub refuses-outlines : (streams others : List Stream) (event : Event) → SameOutlines streams others → refuses streams event ≡ refuses others event
 unfolding refuses
 refuses-outlines streams others (Create name params) same =
@@ -63,7 +85,20 @@ refuses-outlines streams others (Create name params) same =
 refuses-outlines streams others (Value name t v) same =
     rw (
       read-outlines is_some (λ s u alike. refl) name streams others same,
-      read-outlines (option_and_then last_time) (λ s u alike. alike.last_time) name streams others same,
-      read-outlines (λ found. option_map_or values_in found 0) (λ s u alike. alike.values) name streams others same,
+      of_named-outlines (λ s. is_early s t) (is_early-outline t) name streams others same,
+      of_named-outlines is_full is_full-outline name streams others same,
       live-outlines streams others same,
+    ) refl
+refuses-outlines streams others (Open name t) same =
+    rw (
+      read-outlines is_some (λ s u alike. refl) name streams others same,
+      of_named-outlines (λ s. has_open s.landmarks) (λ s u alike. ap has_open alike.landmarks) name streams others same,
+      of_named-outlines (λ s. is_past (last_time s) t) (λ s u alike. ap (λ o. is_past o t) alike.last_time) name streams others same,
+      live-outlines streams others same,
+    ) refl
+refuses-outlines streams others (Close name t) same =
+    rw (
+      read-outlines is_some (λ s u alike. refl) name streams others same,
+      of_named-outlines (λ s. not (has_open s.landmarks)) (λ s u alike. ap (λ ls. not (has_open ls)) alike.landmarks) name streams others same,
+      of_named-outlines (λ s. is_before (last_time s) t) (λ s u alike. ap (λ o. is_before o t) alike.last_time) name streams others same,
     ) refl

@@ -1,13 +1,15 @@
 -- Worked rows of queries, each computed from the whole list of values.
-use Rattle.std.specs.Prelude.{◌≡◌, ℕ, Bool, true, not, ℤ, pos, negsuc, List, [], ◌∷◌, map}
+use Rattle.std.specs.Prelude.{◌≡◌, ℕ, Bool, true, ℤ, pos, negsuc, List, [], ◌∷◌, map, Some}
 use Rattle.std.proofs.Common.{refl}
 use Rattle.ss_windowing.specs.Exp.{exp_length}
 use Rattle.ss_windowing.specs.Windowing.{index_of}
 use Rattle.ss_bounds.specs.declared.extreme.Extreme.{Extreme}
 use Rattle.ss_bounds.specs.declared.extreme.Extreme.TheVariants.{Nothing, Sure, Maybe}
 use Rattle.ss_bounds.specs.Split.{sum_interval}
-use Rattle.ss_bounds.specs.Times.{lies_in}
-use Rattle.ss_model.specs.Interval.{interval_of_count, interval_of_sum, interval_of_least, interval_of_greatest}
+use Rattle.ss_landmarks.specs.Free.{is_free}
+use Rattle.ss_landmarks.specs.Landmark.{Landmark}
+use Rattle.ss_model.specs.Interval.{interval_of_count, interval_of_sum, interval_of_least, interval_of_greatest, split_windows}
+use Rattle.ss_model.specs.Marks.{marked_values}
 use Rattle.ss_model.specs.Truth.{true_count, true_sum}
 use Rattle.ss_model.specs.Windows.{windows}
 use Rattle.ss_model.specs.declared.types.Window.{Window}
@@ -67,14 +69,26 @@ unfolding index_of sum_interval
 crowded-sum = refl
 
 -- one value in a landmark at 100, and one after it
-marked_before : interval_of_sum (λ t. not (lies_in 100 100 t)) 100 100 (windows (exp_length 2 1 1) ((101, pos 8) ∷ [])) ((100, pos 7) ∷ [])
-    ≡ (pos 7, pos 7)
+abbrev single : List Landmark
+single = record { start = 100; finish = Some 100; values = record { t = 100; v = pos 7 } ∷ [] } ∷ []
+
+marked_before : map (λ (range : ℕ × ℕ). interval_of_sum (is_free single) range.0 range.1 (windows (exp_length 2 1 1) ((101, pos 8) ∷ [])) (marked_values single))
+    ((100, 100) ∷ (101, 101) ∷ (0, 200) ∷ []) ≡ (pos 7, pos 7) ∷ (pos 8, pos 8) ∷ (pos 15, pos 15) ∷ []
 unfolding index_of sum_interval
 marked_before = refl
 
 -- a window that spans a landmark from 20 to 40 with two values
+abbrev spanning : List Landmark
+spanning = record { start = 20; finish = Some 40; values = record { t = 20; v = pos 100 } ∷ record { t = 30; v = pos 200 } ∷ [] } ∷ []
+
 abbrev spanned : {A : Type 0} → ((ℕ → Bool) → ℕ → ℕ → List Window → List (ℕ × ℤ) → A) → A
-spanned answer = answer (λ t. not (lies_in 20 40 t)) 20 40 (windows (λ i. 2) ((10, pos 1) ∷ (50, pos 3) ∷ [])) ((20, pos 100) ∷ (30, pos 200) ∷ [])
+spanned answer = answer (is_free spanning) 20 40 (windows (λ i. 2) ((10, pos 1) ∷ (50, pos 3) ∷ [])) (marked_values spanning)
+
+-- of the times between its ends, the 18 outside the landmark are free
+spanned-split : spanned (λ free from to ws marked. split_windows free from to ws)
+    ≡ record { count = 2; sum = pos 4; min = pos 1; max = pos 3; ends = 0; inside = 0; outside = 18 } ∷ []
+unfolding index_of
+spanned-split = refl
 
 spanned-count : spanned interval_of_count ≡ (2, 2)
 unfolding index_of

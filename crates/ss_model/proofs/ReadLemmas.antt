@@ -1,26 +1,26 @@
 -- What is read off the state of a history.
-use Rattle.std.proofs.Common.{◌≡◌, ◌≢◌, ℕ, ◌+◌, ◌*◌, ◌<◌, ◌≤◌, ℤ, false, true, List, [], ◌∷◌, length, map, get_or, refl, sym, ◌∙◌, arith, None, Some, inl, inr}
+use Rattle.std.proofs.Common.{◌≡◌, ◌≢◌, ℕ, ◌+◌, ◌*◌, ◌<◌, ◌≤◌, ℤ, false, true, List, [], ◌∷◌, length, get_or, refl, ap, sym, ◌∙◌, arith, None, Some, inl, inr}
 use Rattle.std.specs.Prelude.{All, Option}
 use Rattle.std.specs.Option.{option_or}
-use Rattle.std.proofs.lemmas.Bool.{cases_Bool}
+use Rattle.std.proofs.lemmas.Bool.{cases_Bool, cond_both}
 use Rattle.std.proofs.lemmas.List.Elements.{All-map, All-get_or}
 use Rattle.std.proofs.lemmas.List.Folds.{find-append}
 use Rattle.ss_catalog.specs.Events.{event_name}
 use Rattle.ss_catalog.specs.Names.{same_name}
 use Rattle.ss_catalog.specs.declared.event.Event.{Event}
-use Rattle.ss_catalog.specs.declared.event.Event.TheVariants.{Create, Value}
+use Rattle.ss_catalog.specs.declared.event.Event.TheVariants.{Create, Value, Open, Close}
 use Rattle.ss_target.specs.Lengths.{has_target, lengths_of}
 use Rattle.ss_target.proofs.LengthLemmas.{lengths_of-positive, lengths_of-never_fall}
 use Rattle.ss_model.specs.Decay.{cover, IsWithinTarget}
 use Rattle.ss_model.specs.History.{values_of}
+use Rattle.ss_model.specs.Marks.{has_open, with_closed, with_marked, with_opened}
 use Rattle.ss_model.specs.Refusals.{IsHistory}
 use Rattle.ss_model.specs.Standing.{IsStream}
 use Rattle.ss_model.specs.State.{Created, Stream, state, standing, stream_after, stream_named, values_in}
-use Rattle.ss_model.specs.Steps.{stepped}
+use Rattle.ss_model.specs.Steps.{change_named, stepped, with_taken, with_value}
 use Rattle.ss_model.proofs.DecayLemmas.{length-windows, IsWithinTarget-windows}
 use Rattle.ss_model.proofs.HistoryLemmas.{IsState-state}
 use Rattle.ss_model.proofs.NameLemmas.{same_name-Decides}
-use Rattle.ss_model.proofs.StepLemmas.{valued}
 use Rattle.ss_model.proofs.Stretches.{taken-windows}
 
 -- what holds of each stream as a history leaves it holds in its state
@@ -34,18 +34,23 @@ differs a b apart = elim (cases_Bool (same_name a b)) [
   | inr other ↦ other
 ]
 
-named-valued_other : (name other : List ℕ) (t : ℕ) (v : ℤ) (streams : List Stream) → name ≢ other →
-    stream_named name (map (valued other t v) streams) ≡ stream_named name streams
-named-valued_other name other t v [] apart = refl
-named-valued_other name other t v (s ∷ ss) apart =
-    let rest = named-valued_other name other t v ss apart in
+-- a change that keeps names changes no stream of another name
+named-changed_other : (name other : List ℕ) (change : Stream → Stream) (streams : List Stream) → name ≢ other →
+    ((s : Stream) → (change s).name ≡ s.name) → stream_named name (change_named other change streams) ≡ stream_named name streams
+named-changed_other name other change [] apart keeps = refl
+named-changed_other name other change (s ∷ ss) apart keeps =
+    let rest = named-changed_other name other change ss apart keeps in
     elim (cases_Bool (same_name other s.name)) [
       | inl same ↦
           (let is : other ≡ s.name = (same_name-Decides other s.name).0 same in
           let wrong : same_name name s.name ≡ false = differs name s.name (λ e. apart (e ∙ sym is)) in
-          rw (same, wrong, rest) refl)
+          let still : same_name name (change s).name ≡ false = ap (same_name name) (keeps s) ∙ wrong in
+          rw (same, wrong, still, rest) refl)
       | inr differ ↦ rw (differ, rest) refl
     ]
+
+name-taken : (t : ℕ) (v : ℤ) (s : Stream) → (with_taken s t v).name ≡ s.name
+name-taken t v s = cond_both (has_open s.landmarks) (record s { landmarks = with_marked s.landmarks t v }) (with_value s t v) (λ (u : Stream). u.name ≡ s.name) (λ begun. refl) (λ none. refl)
 
 option_or-none : {X : Type 0} (o : Option X) → option_or o None ≡ o
 option_or-none None = refl
@@ -57,7 +62,11 @@ unfolding stepped
 stream_named-stepped streams (Create other params) name apart =
     let differ = differs name other apart in
     rw (find-append (λ (s : Stream). same_name name s.name) streams _, differ) (option_or-none (stream_named name streams))
-stream_named-stepped streams (Value other t v) name apart = named-valued_other name other t v streams apart
+stream_named-stepped streams (Value other t v) name apart = named-changed_other name other (λ s. with_taken s t v) streams apart (name-taken t v)
+stream_named-stepped streams (Open other t) name apart =
+    named-changed_other name other (λ s. record s { landmarks = with_opened s.landmarks t }) streams apart (λ s. refl)
+stream_named-stepped streams (Close other t) name apart =
+    named-changed_other name other (λ s. record s { landmarks = with_closed s.landmarks t }) streams apart (λ s. refl)
 
 pub decay-state : (history : List Event) →
     All (λ s. 0 < values_in s → length s.windows + 1 ≤ 2 * cover (lengths_of s.params) (values_in s)) (state history)

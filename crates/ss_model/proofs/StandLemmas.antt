@@ -1,16 +1,17 @@
 -- What every state meets, through one step.
-use Rattle.std.proofs.Common.{◌≡◌, ℕ, ◌+◌, ◌<◌, ◌≤◌, ℤ, Bool, true, false, List, [], ◌∷◌, ◌++◌, length, refl, ap, sym, ◌∙◌, arith, None, Some, subst}
+use Rattle.std.proofs.Common.{◌≡◌, ℕ, ◌+◌, ◌<◌, ◌≤◌, ℤ, Bool, true, false, not, List, [], ◌∷◌, ◌++◌, length, refl, ap, sym, ◌∙◌, arith, None, Some, subst, inl, inr}
 use Rattle.std.specs.Prelude.{All, Option, FitsSigned, nat_le, ◌||◌, ◌==◌}
 use Rattle.std.specs.Int.{w64}
 use Rattle.std.specs.List.{IsDistinct, list_any}
-use Rattle.std.proofs.lemmas.Bool.{cond_both, eqb-false}
+use Rattle.std.specs.Option.{option_map_or}
+use Rattle.std.proofs.lemmas.Bool.{cases_Bool, cond-false, cond-true, cond_both, eqb-false, not-false}
 use Rattle.std.proofs.lemmas.Bool.Decides.{nat_tests}
 use Rattle.std.proofs.lemmas.List.{length_push, length-append, map-append}
 use Rattle.std.proofs.lemmas.List.Elements.{All-nil, All-head, All-tail, All-cons, All-append, All-push}
 use Rattle.std.proofs.lemmas.List.Sums.{sum_by-append, sum_by-cons, sum_by_push}
-use Rattle.ss_catalog.specs.declared.TheConstants.{MOST_STREAMS, LAST_STREAM}
+use Rattle.ss_catalog.specs.declared.TheConstants.{MOST_STREAMS, LAST_STREAM, LAST_TIME}
 use Rattle.ss_catalog.specs.declared.event.Event.{Event}
-use Rattle.ss_catalog.specs.declared.event.Event.TheVariants.{Create, Value}
+use Rattle.ss_catalog.specs.declared.event.Event.TheVariants.{Create, Value, Open, Close}
 use Rattle.ss_catalog.specs.declared.params.Params.{Params}
 use Rattle.ss_target.specs.Lengths.{lengths_of}
 use Rattle.ss_summary.specs.Figures.{IsPossible}
@@ -21,15 +22,17 @@ use Rattle.ss_windowing.specs.Windowing.{fits}
 use Rattle.ss_windowing.specs.declared.decay.TheConstants.{MOST_VALUES}
 use Rattle.ss_model.specs.Closed.{closed, closed_onto, joined_window, last_position}
 use Rattle.ss_model.specs.History.{CanBeSaid}
-use Rattle.ss_model.specs.Refusals.{refuses, is_past, has_all_records}
+use Rattle.ss_model.specs.Marks.{has_open, with_closed, with_marked, with_opened}
+use Rattle.ss_model.specs.Refusals.{has_all_records, is_before, is_early, is_full, is_past, of_named, refuses}
 use Rattle.ss_model.specs.Standing.{IsStream, IsState}
 use Rattle.ss_model.specs.State.{Stream, next_number, numbers_of, names_of, stream_named, values_in, last_time, live, records_of}
-use Rattle.ss_model.specs.Steps.{single_window, with_value, stepped}
+use Rattle.ss_model.specs.Steps.{change_named, single_window, stepped, with_taken, with_value}
 use Rattle.ss_model.specs.declared.types.TheConstants.{MOST_RECORDS}
 use Rattle.ss_model.specs.declared.types.Window.{Window}
-use Rattle.ss_model.proofs.FoundLemmas.{found, stepped-found, stream_named-at, below_next, IsStrictlyIncreasing_push, IsDistinct_push, All-around}
-use Rattle.ss_model.proofs.StepLemmas.{CanCreate, CanAppend, CanCreate-refuses, CanAppend-refuses}
-use Rattle.ss_model.proofs.Tiles.{AreWindows-nil, AreWindows_push, AreWindows-closed}
+use Rattle.ss_model.proofs.FoundLemmas.{IsFound, found, changed-found, stream_named-at, below_next, IsStrictlyIncreasing_push, IsDistinct_push, All-around}
+use Rattle.ss_model.proofs.StepLemmas.{CanCreate, CanAppend, CanOpenAt, CanCloseAt, CanCreate-refuses, CanAppend-refuses, CanOpenAt-refuses, CanCloseAt-refuses}
+use Rattle.ss_model.proofs.StreamLemmas.{IsStream-closed, IsStream-marked, IsStream-opened, IsStream-value, past-early, records_of-closed, records_of-marked, records_of-opened}
+use Rattle.ss_model.proofs.Tiles.{AreWindows-nil}
 
 -- closing makes no windows
 length-closed_onto : (len : ℕ → ℕ) (n : ℕ) (w : Window) (ws : List Window) → length (closed_onto len n w ws) ≤ length (w ∷ ws)
@@ -86,26 +89,17 @@ IsState-create : (streams : List Stream) (name : List ℕ) (params : Params) →
 unfolding stepped
 IsState-create streams name params before can =
     let number = next_number (numbers_of streams) in
-    let new : Stream = record { number = number; name = name; params = params; windows = [] } in
+    let new : Stream = record { number = number; name = name; params = params; windows = []; landmarks = [] } in
     let limits = or-false (nat_le MOST_STREAMS (length streams)) (list_any (λ s. s.number == LAST_STREAM) streams) can.room in
     record {
       each = All-push IsStream streams new before.each
-          (record { target = can.target; number = next_number-le streams before.each limits.1; windows = AreWindows-nil });
+          (record { target = can.target; number = next_number-le streams before.each limits.1; windows = AreWindows-nil; landmarks = tt; free = refl });
       numbers = rw (map-append (λ (s : Stream). s.number) streams (new ∷ []))
           (IsStrictlyIncreasing_push (numbers_of streams) number before.numbers (below_next (numbers_of streams)));
       names = rw (map-append (λ (s : Stream). s.name) streams (new ∷ [])) (IsDistinct_push streams name before.names can.new);
       few = omega (arith, length_push streams new, below-has_all_streams streams limits.0);
       room = omega (arith, sum_by_push records_of streams new, below-has_all_records streams can.records);
     }
-
-IsStream-value : (s : Stream) (t : ℕ) (v : ℤ) → IsStream s → is_past (last_time s) t ≡ false → values_in s < MOST_VALUES →
-    IsPossible (summary_of ((t, v) ∷ [])) → IsStream (with_value s t v)
-IsStream-value s t v sound later few possible = record {
-  target = sound.target;
-  number = sound.number;
-  windows = AreWindows-closed (lengths_of s.params) (values_in s + 1) (s.windows ++ single_window (values_in s + 1) t v ∷ [])
-      (AreWindows_push s.windows t v sound.windows few (later-is_past (last_time s) t later) possible);
-}
 
 -- one more record at most
 records_of-value : (s : Stream) (t : ℕ) (v : ℤ) → records_of (with_value s t v) ≤ records_of s + 1
@@ -133,41 +127,113 @@ IsState-set before after s u was number name sound room =
 pub live-around : (before : List Stream) (s : Stream) (after : List Stream) → live (before ++ s ∷ after) ≡ live before + records_of s + live after
 live-around before s after = omega (arith, sum_by-append records_of before (s ∷ after), sum_by-cons records_of s after)
 
--- what is asked of the one stream of the name
-pub record MayTake (s : Stream) (t : ℕ) : Type 0 where
-  pub later : is_past (last_time s) t ≡ false
-  pub few : values_in s < MOST_VALUES
+-- a stream that is changed: it stays one, with its number and name, and needs no more than so many records more
+pub record ChangesTo (s u : Stream) (more : ℕ) : Type 0 where
+  pub number : u.number ≡ s.number
+  pub name : u.name ≡ s.name
+  pub sound : IsStream u
+  pub few : records_of u ≤ records_of s + more
 
-pub MayTake-found : (name : List ℕ) (before : List Stream) (s : Stream) (after : List Stream) (t : ℕ) →
-    stream_named name (before ++ s ∷ after) ≡ Some s → CanAppend (before ++ s ∷ after) name t → MayTake s t
-MayTake-found name before s after t is can =
-    let few : nat_le MOST_VALUES (values_in s) ≡ false = rw is at can.few in
-    record { later = rw is at can.later; few = grind (arith, nat_tests) }
+IsState-change : (name : List ℕ) (streams : List Stream) (at : IsFound name streams) (change : Stream → Stream) (more : ℕ) → IsState streams →
+    ChangesTo at.stream (change at.stream) more → live streams + more ≤ MOST_RECORDS → IsState (change_named name change streams)
+IsState-change name streams at change more was to room =
+    let u = change at.stream in
+    let old : live streams ≡ live at.before + records_of at.stream + live at.after = ap live at.is ∙ live-around at.before at.stream at.after in
+    let new = live-around at.before u at.after in
+    subst (λ ss. IsState ss) (sym (changed-found at change))
+    (IsState-set at.before at.after at.stream u (subst (λ ss. IsState ss) at.is was) to.number to.name to.sound
+    (omega (arith, to.few, room, old, new)))
 
-IsState-found : (name : List ℕ) (before : List Stream) (s : Stream) (after : List Stream) (t : ℕ) (v : ℤ) → IsState (before ++ s ∷ after) →
-    MayTake s t → IsPossible (summary_of ((t, v) ∷ [])) → live (before ++ s ∷ after) < MOST_RECORDS →
-    IsState (before ++ with_value s t v ∷ after)
-IsState-found name before s after t v was may possible room =
-    let around = All-around IsStream before s after was.each in
-    IsState-set before after s (with_value s t v) was refl refl (IsStream-value s t v around.one may.later may.few possible)
-    (omega (arith, live-around before s after, live-around before (with_value s t v) after, records_of-value s t v))
+-- what is asked of the stream of a name is asked of the one that is found, and that one is a stream
+module _ {name : List ℕ} {streams : List Stream} (at : IsFound name streams) where
+  of_named-found : (test : Stream → Bool) → of_named name streams test ≡ test at.stream
+  of_named-found test =
+      ap (λ o. option_map_or test o false)
+      (ap (stream_named name) at.is ∙ stream_named-at name at.before at.stream at.after at.none_before at.named)
+
+  IsStream-found : IsState streams → IsStream at.stream
+  IsStream-found was = (All-around IsStream at.before at.stream at.after (subst (All IsStream) at.is was.each)).one
 
 pub IsPossible-single : (t : ℕ) (v : ℤ) → t ≤ LATEST_TIME → FitsSigned w64 v → IsPossible (summary_of ((t, v) ∷ []))
 IsPossible-single t v early fits = IsPossible-summary_of ((t, v) ∷ []) (record { some = omega arith; few = omega arith; rising = (omega arith, early, fits, tt) })
 
+-- a value, which is the open landmark's, where one is open
+pub ChangesTo-value : (s : Stream) (t : ℕ) (v : ℤ) → IsStream s → is_early s t ≡ false → is_full s ≡ false → t ≤ LAST_TIME → FitsSigned w64 v →
+    ChangesTo s (with_taken s t v) 1
+ChangesTo-value s t v sound later few early fits = elim (cases_Bool (has_open s.landmarks)) [
+  | inl begun ↦
+      (let u : Stream = record s { landmarks = with_marked s.landmarks t v } in
+      let is : with_taken s t v ≡ u = cond-true (has_open s.landmarks) u (with_value s t v) begun in
+      let records = records_of-marked s t v begun in
+      subst (λ x. ChangesTo s x 1) (sym is)
+      (record { number = refl; name = refl; sound = IsStream-marked s t v sound begun later early fits; few = omega (arith, records) }))
+  | inr none ↦
+      (let u : Stream = record s { landmarks = with_marked s.landmarks t v } in
+      let is : with_taken s t v ≡ with_value s t v = cond-false (has_open s.landmarks) u (with_value s t v) none in
+      let room : nat_le MOST_VALUES (values_in s) ≡ false = rw none at few in
+      let below : values_in s < MOST_VALUES = grind (arith, nat_tests) in
+      subst (λ x. ChangesTo s x 1) (sym is)
+      (record {
+        number = refl;
+        name = refl;
+        sound = IsStream-value s t v sound none (past-early s t none later) below (IsPossible-single t v early fits);
+        few = records_of-value s t v;
+      }))
+]
+
+-- a landmark that opens, and one that closes
+pub ChangesTo-opened : (s : Stream) (t : ℕ) → IsStream s → has_open s.landmarks ≡ false → is_past (last_time s) t ≡ false → t ≤ LAST_TIME →
+    ChangesTo s (record s { landmarks = with_opened s.landmarks t }) 1
+ChangesTo-opened s t sound none later early =
+    let records = records_of-opened s t in
+    record { number = refl; name = refl; sound = IsStream-opened s t sound none later early; few = omega (arith, records) }
+
+pub ChangesTo-closed : (s : Stream) (t : ℕ) → IsStream s → not (has_open s.landmarks) ≡ false → is_before (last_time s) t ≡ false → t ≤ LAST_TIME →
+    ChangesTo s (record s { landmarks = with_closed s.landmarks t }) 0
+ChangesTo-closed s t sound begun later early =
+    let records = records_of-closed s t in
+    record {
+      number = refl;
+      name = refl;
+      sound = IsStream-closed s t sound (not-false (has_open s.landmarks) begun) later early;
+      few = omega (arith, records);
+    }
+
 IsState-value : (streams : List Stream) (name : List ℕ) (t : ℕ) (v : ℤ) → IsState streams → CanAppend streams name t →
-    IsPossible (summary_of ((t, v) ∷ [])) → IsState (stepped streams (Value name t v))
-IsState-value streams name t v was can possible =
+    t ≤ LAST_TIME → FitsSigned w64 v → IsState (stepped streams (Value name t v))
+unfolding stepped
+IsState-value streams name t v was can early fits =
     let at = found name streams was.names can.known in
-    let here = stream_named-at name at.before at.stream at.after at.none_before at.named in
-    let can_here : CanAppend (at.before ++ at.stream ∷ at.after) name t = subst (λ ss. CanAppend ss name t) at.is can in
-    let was_here : IsState (at.before ++ at.stream ∷ at.after) = subst (λ ss. IsState ss) at.is was in
-    subst (λ ss. IsState ss) (sym (stepped-found at t v))
-    (IsState-found name at.before at.stream at.after t v was_here (MayTake-found name at.before at.stream at.after t here can_here) possible
-    (below-has_all_records (at.before ++ at.stream ∷ at.after) can_here.records))
+    let room = below-has_all_records streams can.records in
+    IsState-change name streams at (λ s. with_taken s t v) 1 was
+    (ChangesTo-value at.stream t v (IsStream-found at was) (sym (of_named-found at (λ s. is_early s t)) ∙ can.later)
+    (sym (of_named-found at is_full) ∙ can.few) early fits)
+    (omega (arith, room))
+
+IsState-open : (streams : List Stream) (name : List ℕ) (t : ℕ) → IsState streams → CanOpenAt streams name t → t ≤ LAST_TIME →
+    IsState (stepped streams (Open name t))
+unfolding stepped
+IsState-open streams name t was can early =
+    let at = found name streams was.names can.known in
+    let room = below-has_all_records streams can.records in
+    IsState-change name streams at (λ s. record s { landmarks = with_opened s.landmarks t }) 1 was
+    (ChangesTo-opened at.stream t (IsStream-found at was) (sym (of_named-found at (λ s. has_open s.landmarks)) ∙ can.closed)
+    (sym (of_named-found at (λ s. is_past (last_time s) t)) ∙ can.later) early)
+    (omega (arith, room))
+
+IsState-close : (streams : List Stream) (name : List ℕ) (t : ℕ) → IsState streams → CanCloseAt streams name t → t ≤ LAST_TIME →
+    IsState (stepped streams (Close name t))
+unfolding stepped
+IsState-close streams name t was can early =
+    let at = found name streams was.names can.known in
+    IsState-change name streams at (λ s. record s { landmarks = with_closed s.landmarks t }) 0 was
+    (ChangesTo-closed at.stream t (IsStream-found at was) (sym (of_named-found at (λ s. not (has_open s.landmarks))) ∙ can.begun)
+    (sym (of_named-found at (λ s. is_before (last_time s) t)) ∙ can.later) early)
+    (omega (arith, was.room))
 
 pub IsState-stepped : (streams : List Stream) (event : Event) → IsState streams → CanBeSaid event → refuses streams event ≡ None →
     IsState (stepped streams event)
 IsState-stepped streams (Create name params) was said none = IsState-create streams name params was (CanCreate-refuses streams name params none)
-IsState-stepped streams (Value name t v) was said none =
-    IsState-value streams name t v was (CanAppend-refuses streams name t v none) (IsPossible-single t v said.0 said.1)
+IsState-stepped streams (Value name t v) was said none = IsState-value streams name t v was (CanAppend-refuses streams name t v none) said.0 said.1
+IsState-stepped streams (Open name t) was said none = IsState-open streams name t was (CanOpenAt-refuses streams name t none) said
+IsState-stepped streams (Close name t) was said none = IsState-close streams name t was (CanCloseAt-refuses streams name t none) said

@@ -1,21 +1,24 @@
 -- The state of a history with one more event.
 use Rattle.std.proofs.Common.{◌≡◌, ℕ, ℤ, Bool, not, true, false, List, [], ◌∷◌, ◌++◌, map, refl, ap, sym, ◌∙◌, arith, None, inl, inr}
-use Rattle.std.specs.Prelude.{if◌then◌else◌, option_and_then}
+use Rattle.std.specs.Prelude.{if◌then◌else◌}
 use Rattle.std.proofs.lemmas.Bool.{cases_Bool}
 use Rattle.std.proofs.lemmas.List.{map-append}
 use Rattle.std.proofs.lemmas.List.Sums.{fold-append}
 use Rattle.std.proofs.lemmas.Grind.{common_steps}
+use Rattle.ss_catalog.specs.Events.{event_name}
 use Rattle.ss_catalog.specs.Names.{same_name}
 use Rattle.ss_catalog.specs.declared.event.Event.{Event}
-use Rattle.ss_catalog.specs.declared.event.Event.TheVariants.{Create, Value}
+use Rattle.ss_catalog.specs.declared.event.Event.TheVariants.{Create, Value, Open, Close}
 use Rattle.ss_catalog.specs.declared.params.Params.{Params}
 use Rattle.ss_catalog.specs.declared.refusal.Refusal.{Refusal}
 use Rattle.ss_target.specs.Lengths.{has_target, lengths_of}
-use Rattle.ss_model.specs.History.{values_of}
-use Rattle.ss_model.specs.State.{Created, Stream, next_number, standing_after, standing, stream_after, state, stream_named, last_time}
-use Rattle.ss_model.specs.Refusals.{stands, has_all_streams, has_all_records, is_past, is_full, first_that_applies, refuses}
-use Rattle.ss_model.specs.Steps.{with_value, stepped}
-use Rattle.ss_model.proofs.EventLemmas.{values_of-created, values_of-valued, values_of-other}
+use Rattle.ss_model.specs.History.{Given, creates, given_after, given_to}
+use Rattle.ss_model.specs.Marks.{has_open, with_closed, with_opened}
+use Rattle.ss_model.specs.State.{Created, Stream, next_number, standing_after, standing, stream_after, state, last_time}
+use Rattle.ss_model.specs.Refusals.{stands, has_all_streams, has_all_records, is_before, is_early, is_full, is_past, first_that_applies, of_named, refuses}
+use Rattle.ss_model.specs.Steps.{change_named, with_taken, with_value, stepped}
+use Rattle.ss_model.specs.Windows.{windows}
+use Rattle.ss_model.proofs.EventLemmas.{given_to-created, given_to-event, given_to-other}
 use Rattle.ss_model.proofs.NameLemmas.{same_name-same, same_name-swap}
 use Rattle.ss_model.proofs.Incremental.{windows_push}
 use Rattle.ss_model.proofs.Stretches.{taken-windows}
@@ -32,37 +35,73 @@ pub map-same : {X Y : Type 0} (f g : X → Y) (xs : List X) → ((x : X) → f x
 map-same f g [] same = refl
 map-same f g (x ∷ xs) same = rw (same x, map-same f g xs same) refl
 
+-- a change of the stream of a name
+abbrev pub changed : List ℕ → (Stream → Stream) → Stream → Stream
+changed name change s = if same_name name s.name then change s else s
+
+-- what an event does to the stream that it names, where it creates none
+abbrev pub change_by : Event → Stream → Stream
+change_by (Create name params) s = s
+change_by (Value name t v) s = with_taken s t v
+change_by (Open name t) s = record s { landmarks = with_opened s.landmarks t }
+change_by (Close name t) s = record s { landmarks = with_closed s.landmarks t }
+
 -- a value changes the stream that it names
 abbrev pub valued : List ℕ → ℕ → ℤ → Stream → Stream
-valued name t v s = if same_name name s.name then with_value s t v else s
+valued name t v s = changed name (λ u. with_taken u t v) s
 
-stream_after-value : (history : List Event) (name : List ℕ) (t : ℕ) (v : ℤ) (c : Created) →
-    stream_after (history ++ Value name t v ∷ []) c ≡ valued name t v (stream_after history c)
-stream_after-value history name t v c =
-    let len = lengths_of c.params in
-    let before = values_of history c.name in
-    elim (cases_Bool (same_name c.name name)) [
-      | inl same ↦
-          (let back : same_name name c.name ≡ true = sym (same_name-swap c.name name) ∙ same in
-          rw (back, values_of-valued history c.name name t v same, windows_push len before (t, v), taken-windows len before) refl)
-      | inr other ↦
-          (let back : same_name name c.name ≡ false = sym (same_name-swap c.name name) ∙ other in
-          rw (back, values_of-other history c.name (Value name t v) other) refl)
-    ]
+-- a stream that was given something, with the windows of the values outside landmarks
+abbrev stream_given : Created → Given → Stream
+stream_given c given = record {
+  number = c.number;
+  name = c.name;
+  params = c.params;
+  windows = windows (lengths_of c.params) given.plain;
+  landmarks = given.landmarks;
+}
 
-state-value : (history : List Event) (name : List ℕ) (t : ℕ) (v : ℤ) →
-    state (history ++ Value name t v ∷ []) ≡ stepped (state history) (Value name t v)
-unfolding state stepped
-state-value history name t v =
-    rw (standing-push history (Value name t v), map-map (valued name t v) (stream_after history) (standing history))
-    (map-same (stream_after (history ++ Value name t v ∷ [])) (λ c. valued name t v (stream_after history c)) (standing history)
-    (stream_after-value history name t v))
+stream_given-plain : (c : Created) (given : Given) (t : ℕ) (v : ℤ) →
+    stream_given c (record given { plain = given.plain ++ (t, v) ∷ [] }) ≡ with_value (stream_given c given) t v
+stream_given-plain c given t v =
+    let len = lengths_of c.params in rw (windows_push len given.plain (t, v), taken-windows len given.plain) refl
+
+stream_given-value : (c : Created) (given : Given) (name : List ℕ) (t : ℕ) (v : ℤ) (begun : Bool) → has_open given.landmarks ≡ begun →
+    stream_given c (given_after given (Value name t v)) ≡ with_taken (stream_given c given) t v
+stream_given-value c given name t v true is = rw is refl
+stream_given-value c given name t v false is = rw is (stream_given-plain c given t v)
+
+stream_given-after : (c : Created) (given : Given) (event : Event) → stream_given c (given_after given event) ≡ change_by event (stream_given c given)
+stream_given-after c given (Create name params) = refl
+stream_given-after c given (Value name t v) = stream_given-value c given name t v (has_open given.landmarks) refl
+stream_given-after c given (Open name t) = refl
+stream_given-after c given (Close name t) = refl
+
+stream_after-event : (history : List Event) (event : Event) (c : Created) → creates c.name event ≡ false →
+    stream_after (history ++ event ∷ []) c ≡ changed (event_name event) (change_by event) (stream_after history c)
+stream_after-event history event c spared = elim (cases_Bool (same_name c.name (event_name event))) [
+  | inl same ↦
+      (let back : same_name (event_name event) c.name ≡ true = sym (same_name-swap c.name (event_name event)) ∙ same in
+      rw back (ap (stream_given c) (given_to-event history c.name event same spared) ∙ stream_given-after c (given_to history c.name) event))
+  | inr other ↦
+      (let back : same_name (event_name event) c.name ≡ false = sym (same_name-swap c.name (event_name event)) ∙ other in
+      rw back (ap (stream_given c) (given_to-other history c.name event other)))
+]
+
+-- an event that creates no stream changes the one that it names
+state-changed : (history : List Event) (event : Event) → standing_after (standing history) event ≡ standing history →
+    ((name : List ℕ) → creates name event ≡ false) →
+    state (history ++ event ∷ []) ≡ change_named (event_name event) (change_by event) (state history)
+unfolding state
+state-changed history event stay spared =
+    rw (standing-push history event, stay, map-map (changed (event_name event) (change_by event)) (stream_after history) (standing history))
+    (map-same (stream_after (history ++ event ∷ [])) (λ c. changed (event_name event) (change_by event) (stream_after history c)) (standing history)
+    (λ c. stream_after-event history event c (spared c.name)))
 
 stream_after-other : (history : List Event) (name : List ℕ) (params : Params) (c : Created) → same_name name c.name ≡ false →
     stream_after (history ++ Create name params ∷ []) c ≡ stream_after history c
 stream_after-other history name params c other =
     let apart : same_name c.name name ≡ false = sym (same_name-swap name c.name) ∙ other in
-    rw (values_of-other history c.name (Create name params) apart) refl
+    ap (stream_given c) (given_to-other history c.name (Create name params) apart)
 
 -- a create leaves streams of other names as they were
 streams-create : (history : List Event) (name : List ℕ) (params : Params) (cs : List Created) →
@@ -81,15 +120,15 @@ state-create : (history : List Event) (name : List ℕ) (params : Params) → st
 unfolding state stepped
 state-create history name params none =
     let new : Created = record { number = next_number (map (λ s. s.number) (standing history)); name = name; params = params } in
+    let made = ap (stream_given new) (given_to-created history name params (same_name-same name)) in
     rw (
       standing-push history (Create name params),
       map-append (stream_after (history ++ Create name params ∷ [])) (standing history) (new ∷ []),
       streams-create history name params (standing history) none,
-      values_of-created history name params (same_name-same name),
       map-map (λ s. s.number) (stream_after history) (standing history),
-    ) refl
+    ) (ap (λ (x : Stream). map (stream_after history) (standing history) ++ x ∷ []) made)
 
--- why a create or a value wasn't refused
+-- why an event wasn't refused
 pub record CanCreate (streams : List Stream) (name : List ℕ) (params : Params) : Type 0 where
   pub target : has_target params ≡ true
   pub new : stands name streams ≡ false
@@ -98,9 +137,20 @@ pub record CanCreate (streams : List Stream) (name : List ℕ) (params : Params)
 
 pub record CanAppend (streams : List Stream) (name : List ℕ) (t : ℕ) : Type 0 where
   pub known : stands name streams ≡ true
-  pub later : is_past (option_and_then last_time (stream_named name streams)) t ≡ false
-  pub few : is_full name streams ≡ false
+  pub later : of_named name streams (λ s. is_early s t) ≡ false
+  pub few : of_named name streams is_full ≡ false
   pub records : has_all_records streams ≡ false
+
+pub record CanOpenAt (streams : List Stream) (name : List ℕ) (t : ℕ) : Type 0 where
+  pub known : stands name streams ≡ true
+  pub closed : of_named name streams (λ s. has_open s.landmarks) ≡ false
+  pub later : of_named name streams (λ s. is_past (last_time s) t) ≡ false
+  pub records : has_all_records streams ≡ false
+
+pub record CanCloseAt (streams : List Stream) (name : List ℕ) (t : ℕ) : Type 0 where
+  pub known : stands name streams ≡ true
+  pub begun : of_named name streams (λ s. not (has_open s.landmarks)) ≡ false
+  pub later : of_named name streams (λ s. is_before (last_time s) t) ≡ false
 
 -- the first test is passed where its value is true, and the others where theirs is false
 none-applies : (a b c d : Bool) (p q r s : Refusal) → first_that_applies ((not a, p) ∷ (b, q) ∷ (c, r) ∷ (d, s) ∷ []) ≡ None →
@@ -117,11 +167,35 @@ CanCreate-refuses streams name params none =
 pub CanAppend-refuses : (streams : List Stream) (name : List ℕ) (t : ℕ) (v : ℤ) →
     refuses streams (Value name t v) ≡ None → CanAppend streams name t
 unfolding refuses
-CanAppend-refuses streams name t v none = grind (arith, common_steps)
+CanAppend-refuses streams name t v none =
+    let passed = none-applies (stands name streams) (of_named name streams (λ s. is_early s t)) (of_named name streams is_full)
+    (has_all_records streams) _ _ _ _ none in
+    record { known = passed.0; later = passed.1; few = passed.2; records = passed.3 }
+
+pub CanOpenAt-refuses : (streams : List Stream) (name : List ℕ) (t : ℕ) → refuses streams (Open name t) ≡ None → CanOpenAt streams name t
+unfolding refuses
+CanOpenAt-refuses streams name t none =
+    let passed = none-applies (stands name streams) (of_named name streams (λ s. has_open s.landmarks))
+    (of_named name streams (λ s. is_past (last_time s) t)) (has_all_records streams) _ _ _ _ none in
+    record { known = passed.0; closed = passed.1; later = passed.2; records = passed.3 }
+
+none-applies_three : (a b c : Bool) (p q r : Refusal) → first_that_applies ((not a, p) ∷ (b, q) ∷ (c, r) ∷ []) ≡ None →
+    (a ≡ true) × (b ≡ false) × (c ≡ false)
+none-applies_three a b c p q r none = grind (arith, common_steps)
+
+pub CanCloseAt-refuses : (streams : List Stream) (name : List ℕ) (t : ℕ) → refuses streams (Close name t) ≡ None → CanCloseAt streams name t
+unfolding refuses
+CanCloseAt-refuses streams name t none =
+    let passed = none-applies_three (stands name streams) (of_named name streams (λ s. not (has_open s.landmarks)))
+    (of_named name streams (λ s. is_before (last_time s) t)) _ _ _ none in
+    record { known = passed.0; begun = passed.1; later = passed.2 }
 
 pub state-push : (history : List Event) (event : Event) → refuses (state history) event ≡ None →
     state (history ++ event ∷ []) ≡ stepped (state history) event
+unfolding stepped
 state-push history (Create name params) none =
     let can = CanCreate-refuses (state history) name params none in
     state-create history name params can.new
-state-push history (Value name t v) none = state-value history name t v
+state-push history (Value name t v) none = state-changed history (Value name t v) refl (λ n. refl)
+state-push history (Open name t) none = state-changed history (Open name t) refl (λ n. refl)
+state-push history (Close name t) none = state-changed history (Close name t) refl (λ n. refl)

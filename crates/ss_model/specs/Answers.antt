@@ -1,5 +1,5 @@
 -- What a state answers to a query, and when that is true.
-use Rattle.std.specs.Prelude.{◌≡◌, ℕ, ◌≤◌, Bool, true, not, nat_lt, ℤ, ◌≤ℤ◌, List, [], ◌∷◌, Option, option_map}
+use Rattle.std.specs.Prelude.{◌≡◌, ℕ, ◌≤◌, Bool, not, nat_lt, ℤ, ◌≤ℤ◌, List, [], ◌∷◌, Option, option_map}
 use Rattle.std.specs.List.{filter}
 use Rattle.std.specs.Option.{option_map_or}
 use Rattle.ss_catalog.specs.declared.query.Kind.{Kind}
@@ -8,7 +8,9 @@ use Rattle.ss_catalog.specs.declared.query.Query.{Query}
 use Rattle.ss_catalog.specs.declared.refusal.Refusal.{Refusal}
 use Rattle.ss_catalog.specs.declared.refusal.Refusal.TheVariants.{Unknown, Range}
 use Rattle.ss_bounds.specs.Truth.{Holds}
+use Rattle.ss_landmarks.specs.Free.{is_free}
 use Rattle.ss_model.specs.Interval.{interval_of_count, interval_of_sum, interval_of_least, interval_of_greatest, is_split, IsExact}
+use Rattle.ss_model.specs.Marks.{marked_values}
 use Rattle.ss_model.specs.Refusals.{stands, first_that_applies}
 use Rattle.ss_model.specs.State.{Stream, stream_named}
 use Rattle.ss_model.specs.Truth.{true_count, true_sum, true_least, true_greatest}
@@ -33,13 +35,13 @@ answer_of_kind kinds.Sum free from to windows marked =
 answer_of_kind kinds.Min free from to windows marked = Min (interval_of_least free from to windows marked)
 answer_of_kind kinds.Max free from to windows marked = Max (interval_of_greatest free from to windows marked)
 
--- the answer of a stream with these windows. No landmark stands yet: every time is free, and no value stands by itself.
-abbrev pub answer_of : Query → List Window → Outcome
-answer_of query windows = answer_of_kind query.kind (λ t. true) query.from query.to windows []
+-- the answer of a stream
+abbrev pub answer_of : Query → Stream → Outcome
+answer_of query s = answer_of_kind query.kind (is_free s.landmarks) query.from query.to s.windows (marked_values s.landmarks)
 
 -- the answer of a state, where the stream stands
 unfoldable pub outcome_of : List Stream → Query → Option Outcome
-outcome_of streams query = option_map (λ s. answer_of query s.windows) (stream_named query.name streams)
+outcome_of streams query = option_map (answer_of query) (stream_named query.name streams)
 
 -- the windows of the stream that the range splits
 abbrev pub split_by : List Stream → Query → List Window

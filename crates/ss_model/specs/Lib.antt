@@ -5,6 +5,7 @@ pub mod ClosedState
 pub mod Joins
 pub mod Tiling
 pub mod Decay
+pub mod Marks
 pub mod History
 pub mod State
 pub mod Refusals

@@ -1,15 +1,17 @@
 -- Which refusal an event or a command gets in a state.
-use Rattle.std.specs.Prelude.{◌≡◌, ℕ, Bool, false, not, nat_le, ◌==◌, ◌||◌, if◌then◌else◌, List, [], ◌∷◌, ◌++◌, length, Option, Some, None, is_some, option_and_then}
+use Rattle.std.specs.Prelude.{◌≡◌, ℕ, Bool, false, not, nat_le, nat_lt, ◌==◌, ◌&&◌, ◌||◌, if◌then◌else◌, List, [], ◌∷◌, ◌++◌, length, Option, Some, None, is_some}
 use Rattle.std.specs.List.{list_any}
 use Rattle.std.specs.Option.{option_map_or}
 use Rattle.ss_catalog.specs.declared.TheConstants.{MOST_STREAMS, LAST_STREAM}
 use Rattle.ss_catalog.specs.declared.event.Event.{Event}
-use Rattle.ss_catalog.specs.declared.event.Event.TheVariants.{Create, Value}
+use Rattle.ss_catalog.specs.declared.event.Event.TheVariants.{Create, Value, Open, Close}
+use Rattle.ss_catalog.specs.declared.refusal.Refusal.TheVariants as refusal
 use Rattle.ss_catalog.specs.declared.refusal.Refusal.{Refusal}
-use Rattle.ss_catalog.specs.declared.refusal.Refusal.TheVariants.{Param, Exists, Streams, Unknown, Time, StreamFull, StoreFull}
+use Rattle.ss_landmarks.specs.Landmark.{Landmark, open_landmark}
 use Rattle.ss_target.specs.Lengths.{has_target}
 use Rattle.ss_windowing.specs.declared.decay.TheConstants.{MOST_VALUES}
 use Rattle.ss_model.specs.History.{CanBeSaid}
+use Rattle.ss_model.specs.Marks.{has_open}
 use Rattle.ss_model.specs.State.{Stream, state, stream_named, values_in, last_time, live}
 use Rattle.ss_model.specs.declared.types.TheConstants.{MOST_RECORDS}
 
@@ -21,14 +23,30 @@ stands name streams = is_some (stream_named name streams)
 abbrev pub has_all_streams : List Stream → Bool
 has_all_streams streams = nat_le MOST_STREAMS (length streams) || list_any (λ s. s.number == LAST_STREAM) streams
 
--- whether a time isn't later than the last one, where there is one
+-- whether a time isn't later than the last one, where there is one, and whether it is earlier
 abbrev pub is_past : Option ℕ → ℕ → Bool
 is_past None t = false
 is_past (Some last) t = nat_le t last
 
--- whether a stream of a name has as many values as it can take
-abbrev pub is_full : List ℕ → List Stream → Bool
-is_full name streams = nat_le MOST_VALUES (option_map_or values_in (stream_named name streams) 0)
+abbrev pub is_before : Option ℕ → ℕ → Bool
+is_before None t = false
+is_before (Some last) t = nat_lt t last
+
+-- whether a landmark is open that has no value yet and opened at this time: its first value may carry it
+abbrev pub is_opening : List Landmark → ℕ → Bool
+is_opening landmarks t = option_map_or (λ (l : Landmark). l.start == t && length l.values == 0) (open_landmark landmarks) false
+
+-- whether a value comes too early for a stream
+abbrev pub is_early : Stream → ℕ → Bool
+is_early s t = is_past (last_time s) t && not (is_opening s.landmarks t)
+
+-- whether a value would be one more outside landmarks than a stream can take
+abbrev pub is_full : Stream → Bool
+is_full s = not (has_open s.landmarks) && nat_le MOST_VALUES (values_in s)
+
+-- whether the stream of a name stands and has this
+abbrev pub of_named : List ℕ → List Stream → (Stream → Bool) → Bool
+of_named name streams test = option_map_or test (stream_named name streams) false
 
 -- whether no further record has a place
 abbrev pub has_all_records : List Stream → Bool
@@ -37,15 +55,24 @@ has_all_records streams = nat_le MOST_RECORDS (live streams)
 -- the refusals of an event in the order of their numbers, each with whether it applies
 abbrev pub refusals : List Stream → Event → List (Bool × Refusal)
 refusals streams (Create name params) =
-    (not (has_target params), Param)
-    ∷ (stands name streams, Exists)
-    ∷ (has_all_streams streams, Streams)
-    ∷ (has_all_records streams, StoreFull) ∷ []
+    (not (has_target params), refusal.Param)
+    ∷ (stands name streams, refusal.Exists)
+    ∷ (has_all_streams streams, refusal.Streams)
+    ∷ (has_all_records streams, refusal.StoreFull) ∷ []
 refusals streams (Value name t v) =
-    (not (stands name streams), Unknown)
-    ∷ (is_past (option_and_then last_time (stream_named name streams)) t, Time)
-    ∷ (is_full name streams, StreamFull)
-    ∷ (has_all_records streams, StoreFull) ∷ []
+    (not (stands name streams), refusal.Unknown)
+    ∷ (of_named name streams (λ s. is_early s t), refusal.Time)
+    ∷ (of_named name streams is_full, refusal.StreamFull)
+    ∷ (has_all_records streams, refusal.StoreFull) ∷ []
+refusals streams (Open name t) =
+    (not (stands name streams), refusal.Unknown)
+    ∷ (of_named name streams (λ s. has_open s.landmarks), refusal.Open)
+    ∷ (of_named name streams (λ s. is_past (last_time s) t), refusal.Time)
+    ∷ (has_all_records streams, refusal.StoreFull) ∷ []
+refusals streams (Close name t) =
+    (not (stands name streams), refusal.Unknown)
+    ∷ (of_named name streams (λ s. not (has_open s.landmarks)), refusal.NotOpen)
+    ∷ (of_named name streams (λ s. is_before (last_time s) t), refusal.Time) ∷ []
 
 -- the first refusal that applies
 abbrev pub first_that_applies : List (Bool × Refusal) → Option Refusal
@@ -58,7 +85,7 @@ refuses streams event = first_that_applies (refusals streams event)
 
 -- why a command that reads the stream of a name is refused in a state, where it is
 unfoldable pub refuses_reading : List Stream → List ℕ → Option Refusal
-refuses_reading streams name = first_that_applies ((not (stands name streams), Unknown) ∷ [])
+refuses_reading streams name = first_that_applies ((not (stands name streams), refusal.Unknown) ∷ [])
 
 -- a history: events that can be said, none of them refused in the state of the events before it
 pub record IsHistory (history : List Event) : Type 0 where

@@ -1,11 +1,13 @@
--- The state after a history: the streams that stand, each with its windows.
+-- The state after a history: the streams that stand, each with its windows and its landmarks.
 use Rattle.std.specs.Prelude.{ℕ, ◌+◌, max, ◌==◌, List, [], ◌∷◌, ◌++◌, map, find, fold, length, sum_by, Option}
 use Rattle.ss_catalog.specs.Names.{same_name}
 use Rattle.ss_catalog.specs.declared.event.Event.{Event}
-use Rattle.ss_catalog.specs.declared.event.Event.TheVariants.{Create, Value}
+use Rattle.ss_catalog.specs.declared.event.Event.TheVariants.{Create, Value, Open, Close}
 use Rattle.ss_catalog.specs.declared.params.Params.{Params}
+use Rattle.ss_landmarks.specs.Landmark.{Landmark, all_values}
 use Rattle.ss_target.specs.Lengths.{lengths_of}
-use Rattle.ss_model.specs.History.{values_of}
+use Rattle.ss_model.specs.History.{landmarks_of, values_of}
+use Rattle.ss_model.specs.Marks.{later, latest_of}
 use Rattle.ss_model.specs.Windows.{windows, taken, newest_time}
 use Rattle.ss_model.specs.declared.types.Window.{Window}
 
@@ -15,12 +17,13 @@ pub record Created : Type 0 where
   pub name : List ℕ
   pub params : Params
 
--- a stream that stands: as it was created, and the windows of its values, oldest first
+-- a stream that stands: as it was created, the windows of its values outside landmarks, and its landmarks, oldest first
 pub record Stream : Type 0 where
   pub number : ℕ
   pub name : List ℕ
   pub params : Params
   pub windows : List Window
+  pub landmarks : List Landmark
 
 -- the number of a new stream: one more than the greatest of those that stand, or 0 where none stands
 abbrev pub next_number : List ℕ → ℕ
@@ -32,18 +35,21 @@ abbrev pub standing_after : List Created → Event → List Created
 standing_after standing (Create name params) =
     standing ++ record { number = next_number (map (λ s. s.number) standing); name = name; params = params } ∷ []
 standing_after standing (Value name t v) = standing
+standing_after standing (Open name t) = standing
+standing_after standing (Close name t) = standing
 
 -- the streams that stand after a history, in order of creation
 abbrev pub standing : List Event → List Created
 standing history = fold standing_after [] history
 
--- a stream after a history, with the windows of the whole list of its values
+-- a stream after a history, with the windows of the whole list of its values outside landmarks
 abbrev pub stream_after : List Event → Created → Stream
 stream_after history s = record {
   number = s.number;
   name = s.name;
   params = s.params;
   windows = windows (lengths_of s.params) (values_of history s.name);
+  landmarks = landmarks_of history s.name;
 }
 
 -- the state after a history: the streams that stand, in order of creation
@@ -54,13 +60,13 @@ state history = map (stream_after history) (standing history)
 abbrev pub values_in : Stream → ℕ
 values_in s = taken s.windows
 
--- the last time of a stream, where it has one
+-- the last time of a stream, where it has one: of its values, and of its landmarks
 abbrev pub last_time : Stream → Option ℕ
-last_time s = newest_time s.windows
+last_time s = later (newest_time s.windows) (latest_of s.landmarks)
 
--- how many records a stream needs: one for itself, and one for each window
+-- how many records a stream needs: one for itself, and one for each window, each landmark and each value of a landmark
 abbrev pub records_of : Stream → ℕ
-records_of s = 1 + length s.windows
+records_of s = 1 + length s.windows + length s.landmarks + length (all_values s.landmarks)
 
 -- how many records a state needs
 abbrev pub live : List Stream → ℕ

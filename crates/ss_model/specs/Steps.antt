@@ -2,10 +2,11 @@
 use Rattle.std.specs.Prelude.{ℕ, ℤ, ◌+◌, if◌then◌else◌, List, [], ◌∷◌, ◌++◌, map, length, Option, Some, None}
 use Rattle.ss_catalog.specs.Names.{same_name}
 use Rattle.ss_catalog.specs.declared.event.Event.{Event}
-use Rattle.ss_catalog.specs.declared.event.Event.TheVariants.{Create, Value}
+use Rattle.ss_catalog.specs.declared.event.Event.TheVariants.{Create, Value, Open, Close}
 use Rattle.ss_summary.specs.Summaries.{summary_of}
 use Rattle.ss_target.specs.Lengths.{lengths_of}
 use Rattle.ss_model.specs.Closed.{closed}
+use Rattle.ss_model.specs.Marks.{has_open, with_closed, with_marked, with_opened}
 use Rattle.ss_model.specs.State.{Stream, next_number, numbers_of, stream_named, values_in}
 use Rattle.ss_model.specs.declared.types.Ack.{Ack}
 use Rattle.ss_model.specs.declared.types.Window.{Window}
@@ -14,17 +15,27 @@ use Rattle.ss_model.specs.declared.types.Window.{Window}
 abbrev pub single_window : ℕ → ℕ → ℤ → Window
 single_window position t v = record { first = position; summary = summary_of ((t, v) ∷ []) }
 
--- a stream with one more value: a window of its own after the others, and then those that are due are joined
+-- a stream with one more value outside landmarks: a window of its own after the others, and then those that are due are joined
 abbrev pub with_value : Stream → ℕ → ℤ → Stream
 with_value s t v =
     let n = values_in s + 1 in
     record s { windows = closed (lengths_of s.params) n (s.windows ++ single_window n t v ∷ []) }
 
--- the state after one more event that isn't refused
+-- a stream with one more value, which is the open landmark's, where one is open
+abbrev pub with_taken : Stream → ℕ → ℤ → Stream
+with_taken s t v = if has_open s.landmarks then record s { landmarks = with_marked s.landmarks t v } else with_value s t v
+
+-- the streams, with that of a name changed
+abbrev pub change_named : List ℕ → (Stream → Stream) → List Stream → List Stream
+change_named name change streams = map (λ s. if same_name name s.name then change s else s) streams
+
+-- the state after one more event that isn't refused. A landmark's event touches no window.
 unfoldable pub stepped : List Stream → Event → List Stream
 stepped streams (Create name params) =
-    streams ++ record { number = next_number (numbers_of streams); name = name; params = params; windows = [] } ∷ []
-stepped streams (Value name t v) = map (λ s. if same_name name s.name then with_value s t v else s) streams
+    streams ++ record { number = next_number (numbers_of streams); name = name; params = params; windows = []; landmarks = [] } ∷ []
+stepped streams (Value name t v) = change_named name (λ s. with_taken s t v) streams
+stepped streams (Open name t) = change_named name (λ s. record s { landmarks = with_opened s.landmarks t }) streams
+stepped streams (Close name t) = change_named name (λ s. record s { landmarks = with_closed s.landmarks t }) streams
 
 -- what is said of a stream, and zeros where it doesn't stand
 abbrev pub said_of : Option Stream → Ack

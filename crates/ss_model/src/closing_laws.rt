@@ -1,10 +1,13 @@
 // Laws on joining the windows that are due, each the contract of a function that does nothing.
-ghost use Rattle.std.specs.Prelude.{◌≡◌, ◌+◌, ℕ, ℤ, List, [], ◌∷◌, ◌++◌, length};
+ghost use Rattle.std.specs.Prelude.{◌≡◌, ◌+◌, ℕ, ℤ, List, [], ◌∷◌, ◌++◌, length, IsTrue};
+ghost use Rattle.std.specs.List.{list_all};
+ghost use Rattle.ss_landmarks.specs.Landmark.{Landmark};
 ghost use Rattle.ss_summary.specs.Summaries.{summary_of};
 ghost use Rattle.ss_model.specs.Windows.{newest_time, taken, windows};
 ghost use Rattle.ss_model.specs.Closed.{closed};
 ghost use Rattle.ss_model.specs.Decay.{NoneIsDue};
 ghost use Rattle.ss_model.specs.Joins.{JoinsDue, JoinsTwo};
+ghost use Rattle.ss_model.specs.Marks.{lies_free};
 ghost use Rattle.ss_model.specs.Tiling.{AreWindows};
 ghost use Rattle.ss_model.specs.declared.types.Window.{Window};
 
@@ -30,11 +33,14 @@ pub fn joins_add_up()
         JoinsDue len n old between → JoinsDue len n between new → JoinsDue len n old new }
 {}
 
-/// Windows stay windows when some that are due are joined. They hold as many values and keep the newest time.
+/// Windows stay windows when some that are due are joined. They hold as many values and keep the newest time, and those that lie
+/// among landmarks still do.
 pub fn joining_due_keeps_windows()
     ensures windows { (len : ℕ → ℕ) (n : ℕ) (old new : List Window) → AreWindows old → JoinsDue len n old new → AreWindows new }
     ensures taken { (len : ℕ → ℕ) (n : ℕ) (old new : List Window) → JoinsDue len n old new → taken new ≡ taken old }
     ensures newest_time { (len : ℕ → ℕ) (n : ℕ) (old new : List Window) → JoinsDue len n old new → newest_time new ≡ newest_time old }
+    ensures free { (len : ℕ → ℕ) (n : ℕ) (old new : List Window) (landmarks : List Landmark) → AreWindows old → JoinsDue len n old new →
+        IsTrue (list_all (lies_free landmarks) old) → IsTrue (list_all (lies_free landmarks) new) }
 {}
 
 /// Closing what is closed changes nothing: windows that were just closed stay, and so do those of some values.

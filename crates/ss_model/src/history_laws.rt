@@ -4,7 +4,8 @@ ghost use Rattle.ss_catalog.specs.Events.{event_name};
 ghost use Rattle.ss_catalog.specs.declared.event.Event.{Event};
 ghost use Rattle.ss_target.specs.Lengths.{lengths_of};
 ghost use Rattle.ss_model.specs.Decay.{cover, IsReadWithinTarget, IsWithinTarget};
-ghost use Rattle.ss_model.specs.History.{CanBeSaid, values_of};
+ghost use Rattle.ss_model.specs.History.{CanBeSaid, landmarks_of, values_of};
+ghost use Rattle.ss_model.specs.Marks.{later, latest_of};
 ghost use Rattle.ss_model.specs.Refusals.{IsHistory, refuses};
 ghost use Rattle.ss_model.specs.Shown.{placed_of};
 ghost use Rattle.ss_model.specs.Standing.{IsState};
@@ -47,7 +48,9 @@ pub fn streams_are_of_their_values()
     ensures windows { (history : List Event) →
         All (λ s. s.windows ≡ windows (lengths_of s.params) (values_of history s.name)) (state history) }
     ensures count { (history : List Event) → All (λ s. values_in s ≡ length (values_of history s.name)) (state history) }
-    ensures time { (history : List Event) → All (λ s. last_time s ≡ time_of_last (values_of history s.name)) (state history) }
+    ensures landmarks { (history : List Event) → All (λ s. s.landmarks ≡ landmarks_of history s.name) (state history) }
+    ensures time { (history : List Event) →
+        All (λ s. last_time s ≡ later (time_of_last (values_of history s.name)) (latest_of (landmarks_of history s.name))) (state history) }
 {}
 
 /// In the state of a history each stream has at most 2K - 1 windows where K target windows cover its values, and no window

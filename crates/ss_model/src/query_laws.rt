@@ -1,9 +1,11 @@
 // Laws on the answers to queries, each the contract of a function that does nothing.
-ghost use Rattle.std.specs.Prelude.{◌≡◌, ℕ, ◌≤◌, Bool, true, ℤ, ◌≤ℤ◌, List, [], All};
+ghost use Rattle.std.specs.Prelude.{◌≡◌, ℕ, ◌≤◌, Bool, ℤ, ◌≤ℤ◌, List, [], All};
 ghost use Rattle.ss_catalog.specs.declared.event.Event.{Event};
 ghost use Rattle.ss_bounds.specs.Truth.{Holds};
+ghost use Rattle.ss_landmarks.specs.Free.{is_free};
 ghost use Rattle.ss_model.specs.Interval.{interval_of_count, interval_of_greatest, interval_of_least, interval_of_sum, IsExact, split_windows};
-ghost use Rattle.ss_model.specs.History.{values_of};
+ghost use Rattle.ss_model.specs.History.{marked_of, values_of};
+ghost use Rattle.ss_model.specs.Marks.{marked_values};
 ghost use Rattle.ss_model.specs.Refusals.{IsHistory};
 ghost use Rattle.ss_model.specs.State.{state};
 ghost use Rattle.ss_model.specs.Truth.{RiseAtFree, true_count, true_greatest, true_least, true_sum};
@@ -25,19 +27,23 @@ pub fn answers_hold_the_truth()
         Holds (interval_of_greatest free from to (windows len plain) marked) (true_greatest from to plain marked) }
 {}
 
-/// The answers of each stream of a state hold the truth over all values of the stream, for every history of that state. No
-/// landmark stands yet, so every time is free.
+/// The answers of each stream of a state hold the truth over all values of the stream, those outside landmarks and those of
+/// landmarks, for every history of that state.
 pub fn answers_hold_the_truth_of_histories()
     ensures count { (history : List Event) (from to : ℕ) → IsHistory history →
-        All (λ s. let answer = interval_of_count (λ t. true) from to s.windows [] in
-        let truth = true_count from to (values_of history s.name) [] in (answer.0 ≤ truth) × (truth ≤ answer.1)) (state history) }
+        All (λ s. let answer = interval_of_count (is_free s.landmarks) from to s.windows (marked_values s.landmarks) in
+        let truth = true_count from to (values_of history s.name) (marked_of history s.name) in
+        (answer.0 ≤ truth) × (truth ≤ answer.1)) (state history) }
     ensures sum { (history : List Event) (from to : ℕ) → IsHistory history →
-        All (λ s. let answer = interval_of_sum (λ t. true) from to s.windows [] in
-        let truth = true_sum from to (values_of history s.name) [] in (answer.0 ≤ℤ truth) × (truth ≤ℤ answer.1)) (state history) }
+        All (λ s. let answer = interval_of_sum (is_free s.landmarks) from to s.windows (marked_values s.landmarks) in
+        let truth = true_sum from to (values_of history s.name) (marked_of history s.name) in
+        (answer.0 ≤ℤ truth) × (truth ≤ℤ answer.1)) (state history) }
     ensures least { (history : List Event) (from to : ℕ) → IsHistory history →
-        All (λ s. Holds (interval_of_least (λ t. true) from to s.windows []) (true_least from to (values_of history s.name) [])) (state history) }
+        All (λ s. Holds (interval_of_least (is_free s.landmarks) from to s.windows (marked_values s.landmarks))
+        (true_least from to (values_of history s.name) (marked_of history s.name))) (state history) }
     ensures greatest { (history : List Event) (from to : ℕ) → IsHistory history →
-        All (λ s. Holds (interval_of_greatest (λ t. true) from to s.windows []) (true_greatest from to (values_of history s.name) [])) (state history) }
+        All (λ s. Holds (interval_of_greatest (is_free s.landmarks) from to s.windows (marked_values s.landmarks))
+        (true_greatest from to (values_of history s.name) (marked_of history s.name))) (state history) }
 {}
 
 /// Where the range splits no window, an answer is one number, or says that there is no value.

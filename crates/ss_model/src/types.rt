@@ -2,7 +2,8 @@
 use ss_catalog::{Name, Params, StreamId};
 use ss_summary::Summary;
 
-/// A store holds at most this many records: one for each stream and each window.
+/// A store holds at most this many records: one for each stream, each window, each landmark and each
+/// value of a landmark.
 pub const MOST_RECORDS: u32 = 1 << 20;
 
 /// Values that stand together: the position of the first, counted from 1, and their summary.
@@ -12,7 +13,7 @@ pub struct Window {
     pub summary: Summary,
 }
 
-/// What an accepted append answers: how many values were taken, and how many windows stand.
+/// What an accepted event answers of its stream: how many values it has outside landmarks, and how many windows stand.
 #[derive(Clone, Copy, Debug, PartialEq, Eq)]
 pub struct Ack {
     pub n: u64,

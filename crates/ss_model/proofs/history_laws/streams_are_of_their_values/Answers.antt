@@ -1,6 +1,7 @@
-use Rattle.std.proofs.Common.{◌≡◌, length, refl}
+use Rattle.std.proofs.Common.{◌≡◌, ap, length, refl}
 use Rattle.ss_target.specs.Lengths.{lengths_of}
-use Rattle.ss_model.specs.History.{values_of}
+use Rattle.ss_model.specs.History.{landmarks_of, values_of}
+use Rattle.ss_model.specs.Marks.{later, latest_of}
 use Rattle.ss_model.specs.State.{values_in, last_time}
 use Rattle.ss_model.specs.Windows.{windows, time_of_last}
 use Rattle.ss_model.proofs.ReadLemmas.{All-state}
@@ -14,6 +15,10 @@ pub returns-clause-count : goal.returns-clause-count
 returns-clause-count c history =
     All-state (λ s. values_in s ≡ length (values_of history s.name)) history (λ s. taken-windows (lengths_of s.params) (values_of history s.name))
 
+pub returns-clause-landmarks : goal.returns-clause-landmarks
+returns-clause-landmarks c history = All-state (λ s. s.landmarks ≡ landmarks_of history s.name) history (λ s. refl)
+
 pub returns-clause-time : goal.returns-clause-time
 returns-clause-time c history =
-    All-state (λ s. last_time s ≡ time_of_last (values_of history s.name)) history (λ s. newest_time-windows (lengths_of s.params) (values_of history s.name))
+    All-state (λ s. last_time s ≡ later (time_of_last (values_of history s.name)) (latest_of (landmarks_of history s.name))) history
+    (λ s. ap (λ o. later o (latest_of (landmarks_of history s.name))) (newest_time-windows (lengths_of s.params) (values_of history s.name)))
