@@ -1,5 +1,5 @@
 -- Each valid record is what its spelling is read as.
-use Rattle.std.specs.Prelude.{◌≡◌, ◌↔◌, ℕ, ◌+◌, ◌-◌, ◌^◌, ◌<◌, ◌≤◌, Bool, true, false, cond, IsTrue, FitsSigned, List, [], ◌∷◌, length, replicate, slice_index, take, drop, Option, Some, None, IsSome, IfSome, IfNone}
+use Rattle.std.specs.Prelude.{◌≡◌, ◌↔◌, ℕ, ◌+◌, ◌-◌, ◌^◌, ◌<◌, ◌≤◌, ℤ, pos, negsuc, Bool, true, false, cond, IsTrue, FitsSigned, List, [], ◌∷◌, length, replicate, slice_index, take, drop, Option, Some, None, IsSome, IfSome, IfNone, MatchOption}
 use Rattle.std.specs.Int.{cast_unsigned, w64, w128}
 use Rattle.std.specs.Str.{bytes_eq}
 use Rattle.std.proofs.Common.{arith, refl, sym, ap, ◌∙◌, lit≤, lit<}
@@ -10,18 +10,19 @@ use Rattle.std.proofs.lemmas.Slice.Eq.{bytes_eq-Decides}
 use Rattle.ss_fields.specs.Fields.{number_at, number_bytes}
 use Rattle.ss_fields.proofs.FieldLemmas.{length-number_bytes, number_at-take, i64_at-take, i128_at-take}
 use Rattle.ss_summary.specs.Figures.{Figures, IsPossible}
-use Rattle.ss_summary.specs.Possible.{is_possible}
+use Rattle.ss_summary.specs.Possible.{is_possible, fits_i64}
 use Rattle.ss_summary.specs.declared.summary.TheConstants.{GREATEST_COUNT}
 use Rattle.ss_summary.proofs.SummaryLemmas.{IsPossible-sum}
 use Rattle.ss_summary.proofs.PossibleLemmas.{is_possible-tells}
 use Rattle.ss_catalog.specs.Names.{is_name}
 use Rattle.ss_catalog.specs.Params.{in_range}
+use Rattle.ss_catalog.specs.declared.TheConstants.{LAST_TIME}
 use Rattle.ss_catalog.specs.declared.params.Params.{Params}
 use Rattle.ss_catalog.specs.declared.params.Params.TheVariants.{Exp, Power}
 use Rattle.ss_codec.specs.declared.record.Record.{Record}
-use Rattle.ss_codec.specs.declared.record.Record.TheVariants.{Free, Stream, Window}
-use Rattle.ss_codec.specs.Record.{is_valid, family, parameters, fields, spelling, Spells}
-use Rattle.ss_codec.specs.Decoded.{checked, decoded, params_in, record_in, stream_in, window_in}
+use Rattle.ss_codec.specs.declared.record.Record.TheVariants.{Free, Stream, Window, Landmark, Value}
+use Rattle.ss_codec.specs.Record.{is_interval, is_valid, family, parameters, state, closing, fields, spelling, Spells}
+use Rattle.ss_codec.specs.Decoded.{checked, decoded, finish_in, landmark_in, params_in, record_in, stream_in, value_in, window_in}
 use Rattle.ss_codec.proofs.FieldLemmas.{IsWithin, AreInOrder, HasFields, HasFields-with_fields, slice_index-part}
 
 not_true : (b : Bool) → (b ≡ true → ⊥) → b ≡ false
@@ -72,6 +73,88 @@ pub is_valid-IsWindow : (id first : ℕ) (f : Figures) → id < 2 ^ 32 → 1 ≤
 unfolding is_valid
 is_valid-IsWindow id first f number low high possible =
     let test = (is_possible-tells f).1 possible in
+    grind (arith, nat_tests)
+
+-- how many values a landmark has at its times
+abbrev pub IsInterval : ℕ → ℕ → Option ℕ → Type 0
+IsInterval values start finish =
+    MatchOption finish ((values ≡ 0) × (start ≤ LAST_TIME)) (λ finish. (values < 2 ^ 32) × (start ≤ finish) × (finish ≤ LAST_TIME))
+
+IsInterval-is_interval : (values start : ℕ) (finish : Option ℕ) → is_interval values start finish ≡ true → IsInterval values start finish
+IsInterval-is_interval values start None test = (grind (arith, nat_tests), grind (arith, nat_tests))
+IsInterval-is_interval values start (Some finish) test = (grind (arith, nat_tests), grind (arith, nat_tests), grind (arith, nat_tests))
+
+is_interval-IsInterval : (values start : ℕ) (finish : Option ℕ) → IsInterval values start finish → is_interval values start finish ≡ true
+is_interval-IsInterval values start None is = let none = is.0 in let early = is.1 in grind (arith, nat_tests)
+is_interval-IsInterval values start (Some finish) is =
+    let few = is.0 in
+    let order = is.1 in
+    let early = is.2 in
+    grind (arith, nat_tests)
+
+-- what a valid landmark says
+pub record IsLandmark (id number values start : ℕ) (finish : Option ℕ) : Type 0 where
+  pub stream : id < 2 ^ 32
+  pub low : 1 ≤ number
+  pub high : number < 2 ^ 32
+  pub interval : IsInterval values start finish
+
+pub IsLandmark-is_valid : (id number values start : ℕ) (finish : Option ℕ) → is_valid (Landmark id number values start finish) ≡ true
+    → IsLandmark id number values start finish
+unfolding is_valid
+IsLandmark-is_valid id number values start finish valid =
+    let test : is_interval values start finish ≡ true = grind (arith, nat_tests) in
+    record {
+      stream = grind (arith, nat_tests);
+      low = grind (arith, nat_tests);
+      high = grind (arith, nat_tests);
+      interval = IsInterval-is_interval values start finish test;
+    }
+
+pub is_valid-IsLandmark : (id number values start : ℕ) (finish : Option ℕ) → id < 2 ^ 32 → 1 ≤ number → number < 2 ^ 32
+    → IsInterval values start finish → is_valid (Landmark id number values start finish) ≡ true
+unfolding is_valid
+is_valid-IsLandmark id number values start finish stream low high interval =
+    let test = is_interval-IsInterval values start finish interval in
+    grind (arith, nat_tests)
+
+fits-true : (z : ℤ) → fits_i64 z ≡ true → FitsSigned w64 z
+fits-true (pos n) test = let small : n < 2 ^ 63 = grind (arith, nat_tests) in record { sfits = small }
+fits-true (negsuc n) test = let small : n < 2 ^ 63 = grind (arith, nat_tests) in record { sfits = small }
+
+true-fits : (z : ℤ) → FitsSigned w64 z → fits_i64 z ≡ true
+true-fits (pos n) fits = let small : n < 2 ^ 63 = fits.sfits in grind (arith, nat_tests)
+true-fits (negsuc n) fits = let small : n < 2 ^ 63 = fits.sfits in grind (arith, nat_tests)
+
+-- what a valid value of a landmark says
+pub record IsValue (id number index t : ℕ) (v : ℤ) : Type 0 where
+  pub stream : id < 2 ^ 32
+  pub low : 1 ≤ number
+  pub high : number < 2 ^ 32
+  pub index_low : 1 ≤ index
+  pub index_high : index < 2 ^ 32
+  pub early : t ≤ LAST_TIME
+  pub fits : FitsSigned w64 v
+
+pub IsValue-is_valid : (id number index t : ℕ) (v : ℤ) → is_valid (Value id number index t v) ≡ true → IsValue id number index t v
+unfolding is_valid
+IsValue-is_valid id number index t v valid =
+    let test : fits_i64 v ≡ true = grind (arith, nat_tests) in
+    record {
+      stream = grind (arith, nat_tests);
+      low = grind (arith, nat_tests);
+      high = grind (arith, nat_tests);
+      index_low = grind (arith, nat_tests);
+      index_high = grind (arith, nat_tests);
+      early = grind (arith, nat_tests);
+      fits = fits-true v test;
+    }
+
+pub is_valid-IsValue : (id number index t : ℕ) (v : ℤ) → id < 2 ^ 32 → 1 ≤ number → number < 2 ^ 32 → 1 ≤ index → index < 2 ^ 32
+    → t ≤ LAST_TIME → FitsSigned w64 v → is_valid (Value id number index t v) ≡ true
+unfolding is_valid
+is_valid-IsValue id number index t v stream low high index_low index_high early fits =
+    let test = true-fits v fits in
     grind (arith, nat_tests)
 
 -- a field of a number lies within a slot
@@ -160,6 +243,64 @@ window-in_order id first f = (
   ),
 )
 
+landmark-in_order : (id number values start : ℕ) (finish : Option ℕ) → AreInOrder 128 0 (fields (Landmark id number values start finish))
+landmark-in_order id number values start finish = (
+  lit≤ tt,
+  byte-within 0 3 (lit≤ tt),
+  (
+    lit≤ tt,
+    byte-within 1 (state finish) (lit≤ tt),
+    (
+      lit≤ tt,
+      number-within 4 4 id (lit≤ tt),
+      (
+        lit≤ tt,
+        number-within 4 8 number (lit≤ tt),
+        (
+          lit≤ tt,
+          number-within 4 12 values (lit≤ tt),
+          (
+            lit≤ tt,
+            number-within 8 16 start (lit≤ tt),
+            (
+              lit≤ tt,
+              number-within 8 24 (closing finish) (lit≤ tt),
+              tt,
+            ),
+          ),
+        ),
+      ),
+    ),
+  ),
+)
+
+value-in_order : (id number index t : ℕ) (v : ℤ) → AreInOrder 128 0 (fields (Value id number index t v))
+value-in_order id number index t v = (
+  lit≤ tt,
+  byte-within 0 4 (lit≤ tt),
+  (
+    lit≤ tt,
+    number-within 4 4 id (lit≤ tt),
+    (
+      lit≤ tt,
+      number-within 4 8 number (lit≤ tt),
+      (
+        lit≤ tt,
+        number-within 4 12 index (lit≤ tt),
+        (
+          lit≤ tt,
+          number-within 8 16 t (lit≤ tt),
+          (
+            lit≤ tt,
+            number-within 8 24 (cast_unsigned w64 v) (lit≤ tt),
+            tt,
+          ),
+        ),
+      ),
+    ),
+  ),
+)
+
 -- parameters in range fit their fields
 record AreSmall (params : Params) : Type 0 where
   first : (parameters params).0 < 2 ^ 32
@@ -236,6 +377,59 @@ window_in-fields id first f bytes is has =
       t_last = t_last i;
     })
 
+-- the numbers of a landmark fit their fields
+record AreInFields (values start : ℕ) (finish : Option ℕ) : Type 0 where
+  values_fit : values < 2 ^ 32
+  start_fits : start < 2 ^ 64
+  finish_fits : closing finish < 2 ^ 64
+
+AreInFields-IsInterval : (values start : ℕ) (finish : Option ℕ) → IsInterval values start finish → AreInFields values start finish
+AreInFields-IsInterval values start None is = record {
+  values_fit = omega (arith, is.0);
+  start_fits = omega (arith, is.1);
+  finish_fits = lit< tt;
+}
+AreInFields-IsInterval values start (Some finish) is = record {
+  values_fit = is.0;
+  start_fits = omega (arith, is.1, is.2);
+  finish_fits = omega (arith, is.2);
+}
+
+-- the closing time whose state and number stand in the bytes is read from there
+finish_in-numbers : (finish : Option ℕ) (bytes : List ℕ) → slice_index bytes 1 ≡ state finish → number_at 8 bytes 24 ≡ closing finish
+    → finish_in bytes ≡ finish
+unfolding finish_in
+finish_in-numbers None bytes kind time = rw kind refl
+finish_in-numbers (Some finish) bytes kind time = rw (kind, time) refl
+
+-- so is a landmark
+landmark_in-fields : (id number values start : ℕ) (finish : Option ℕ) (bytes : List ℕ) → IsLandmark id number values start finish
+    → HasFields bytes (fields (Landmark id number values start finish)) → landmark_in bytes ≡ Landmark id number values start finish
+unfolding landmark_in
+landmark_in-fields id number values start finish bytes is has =
+    let small = AreInFields-IsInterval values start finish is.interval in
+    let kind = slice_index-part 1 (state finish) bytes has.1.0 in
+    let stream = number_at-take 4 4 id bytes (omega (arith, is.stream)) has.1.1.0 in
+    let number_is = number_at-take 4 8 number bytes (omega (arith, is.high)) has.1.1.1.0 in
+    let values_is = number_at-take 4 12 values bytes (omega (arith, small.values_fit)) has.1.1.1.1.0 in
+    let start_is = number_at-take 8 16 start bytes (omega (arith, small.start_fits)) has.1.1.1.1.1.0 in
+    let time = number_at-take 8 24 (closing finish) bytes (omega (arith, small.finish_fits)) has.1.1.1.1.1.1.0 in
+    let finish_is = finish_in-numbers finish bytes kind time in
+    λ i. Landmark (stream i) (number_is i) (values_is i) (start_is i) (finish_is i)
+
+-- and a value of one
+value_in-fields : (id number index t : ℕ) (v : ℤ) (bytes : List ℕ) → IsValue id number index t v
+    → HasFields bytes (fields (Value id number index t v)) → value_in bytes ≡ Value id number index t v
+unfolding value_in
+value_in-fields id number index t v bytes is has =
+    let early = is.early in
+    let stream = number_at-take 4 4 id bytes (omega (arith, is.stream)) has.1.0 in
+    let number_is = number_at-take 4 8 number bytes (omega (arith, is.high)) has.1.1.0 in
+    let index_is = number_at-take 4 12 index bytes (omega (arith, is.index_high)) has.1.1.1.0 in
+    let time = number_at-take 8 16 t bytes (omega arith) has.1.1.1.1.0 in
+    let v_is = i64_at-take 24 v bytes is.fits has.1.1.1.1.1.0 in
+    λ i. Value (stream i) (number_is i) (index_is i) (time i) (v_is i)
+
 -- what a spelling has
 spelled : (r : Record) → AreInOrder 128 0 (fields r) → HasFields (spelling r) (fields r)
 unfolding spelling
@@ -259,6 +453,16 @@ record_in-spelling (Window id first f) valid =
     let has = spelled (Window id first f) (window-in_order id first f) in
     let kind = slice_index-part 0 2 (spelling (Window id first f)) has.0 in
     rw kind (window_in-fields id first f (spelling (Window id first f)) is has)
+record_in-spelling (Landmark id number values start finish) valid =
+    let is = IsLandmark-is_valid id number values start finish valid in
+    let has = spelled (Landmark id number values start finish) (landmark-in_order id number values start finish) in
+    let kind = slice_index-part 0 3 (spelling (Landmark id number values start finish)) has.0 in
+    rw kind (landmark_in-fields id number values start finish (spelling (Landmark id number values start finish)) is has)
+record_in-spelling (Value id number index t v) valid =
+    let is = IsValue-is_valid id number index t v valid in
+    let has = spelled (Value id number index t v) (value-in_order id number index t v) in
+    let kind = slice_index-part 0 4 (spelling (Value id number index t v)) has.0 in
+    rw kind (value_in-fields id number index t v (spelling (Value id number index t v)) is has)
 
 -- what an answer that was tested twice says
 tested : (b v : Bool) (x r : Record) → cond b (cond v (Some x) None) None ≡ Some r → (b ≡ true) × (v ≡ true) × (x ≡ r)

@@ -8,7 +8,7 @@ use Rattle.ss_summary.specs.Figures.{Figures}
 use Rattle.ss_catalog.specs.declared.params.Params.{Params}
 use Rattle.ss_catalog.specs.declared.params.Params.TheVariants.{Exp, Power}
 use Rattle.ss_codec.specs.declared.record.Record.{Record}
-use Rattle.ss_codec.specs.declared.record.Record.TheVariants.{Free, Stream, Window}
+use Rattle.ss_codec.specs.declared.record.Record.TheVariants.{Free, Stream, Window, Landmark, Value}
 use Rattle.ss_codec.specs.Record.{is_valid, spelling}
 
 -- the parameters in the bytes of a stream
@@ -29,17 +29,37 @@ figures_in bytes = record {
   t_last = number_at 8 bytes 64;
 }
 
--- what a stream's record has, and a window's, in the bytes of one
+-- when a landmark closes by its bytes, if it is closed
+unfoldable pub finish_in : List ℕ → Option ℕ
+finish_in bytes = if slice_index bytes 1 == 2 then Some (number_at 8 bytes 24) else None
+
+-- what a stream's record has, a window's, a landmark's, and a landmark value's, in the bytes of one
 unfoldable pub stream_in : List ℕ → Record
 stream_in bytes = Stream (number_at 4 bytes 4) (take (slice_index bytes 2) (drop 24 bytes)) (params_in bytes)
 
 unfoldable pub window_in : List ℕ → Record
 window_in bytes = Window (number_at 4 bytes 4) (number_at 8 bytes 8) (figures_in bytes)
 
+unfoldable pub landmark_in : List ℕ → Record
+landmark_in bytes =
+    Landmark (number_at 4 bytes 4) (number_at 4 bytes 8) (number_at 4 bytes 12) (number_at 8 bytes 16) (finish_in bytes)
+
+unfoldable pub value_in : List ℕ → Record
+value_in bytes =
+    Value (number_at 4 bytes 4) (number_at 4 bytes 8) (number_at 4 bytes 12) (number_at 8 bytes 16) (cast_signed w64 (number_at 8 bytes 24))
+
 -- the one record whose spelling the bytes can be, by their kind
 unfoldable pub record_in : List ℕ → Record
 record_in bytes =
-    if slice_index bytes 0 == 1 then stream_in bytes else if slice_index bytes 0 == 2 then window_in bytes else Free
+    if slice_index bytes 0 == 1
+    then stream_in bytes
+    else if slice_index bytes 0 == 2
+    then window_in bytes
+    else if slice_index bytes 0 == 3
+    then landmark_in bytes
+    else if slice_index bytes 0 == 4
+    then value_in bytes
+    else Free
 
 -- the record, if it is valid
 abbrev pub checked : Record → Option Record

@@ -1,21 +1,35 @@
 -- Records: which there are, and how each is spelled in the 128 bytes of a slot.
-use Rattle.std.specs.Prelude.{◌≡◌, ℕ, ◌+◌, ◌-◌, ◌^◌, Bool, true, ◌&&◌, nat_le, nat_lt, IsTrue, List, [], ◌∷◌, length, replicate}
-use Rattle.ss_summary.specs.Possible.{is_possible}
+use Rattle.std.specs.Prelude.{◌≡◌, ℕ, ◌+◌, ◌-◌, ◌^◌, Bool, true, ◌&&◌, ◌==◌, nat_le, nat_lt, IsTrue, List, [], ◌∷◌, length, replicate, Option, Some, None}
+use Rattle.ss_summary.specs.Possible.{is_possible, fits_i64}
 use Rattle.ss_summary.specs.declared.summary.TheConstants.{GREATEST_COUNT}
 use Rattle.ss_catalog.specs.Names.{is_name}
 use Rattle.ss_catalog.specs.Params.{in_range}
+use Rattle.ss_catalog.specs.declared.TheConstants.{LAST_TIME}
 use Rattle.ss_catalog.specs.declared.params.Params.{Params}
 use Rattle.ss_catalog.specs.declared.params.Params.TheVariants.{Exp, Power}
 use Rattle.ss_codec.specs.declared.record.Record.{Record}
-use Rattle.ss_codec.specs.declared.record.Record.TheVariants.{Free, Stream, Window}
+use Rattle.ss_codec.specs.declared.record.Record.TheVariants.{Free, Stream, Window, Landmark, Value}
 use Rattle.ss_codec.specs.Fields.{Field, u8, u32, u64, i64, i128, text, with_fields}
 
--- a record that a slot may hold. Streams have numbers of 32 bits, and values have positions from 1 on.
+-- a number of 32 bits that counts from 1
+abbrev pub counts_from_1 : ℕ → Bool
+counts_from_1 n = nat_le 1 n && nat_lt n (2 ^ 32)
+
+-- a landmark may have so many values and these times: an open one has 0, and a closed one closes at or after its opening
+abbrev pub is_interval : ℕ → ℕ → Option ℕ → Bool
+is_interval values start None = values == 0 && nat_le start LAST_TIME
+is_interval values start (Some finish) = nat_lt values (2 ^ 32) && nat_le start finish && nat_le finish LAST_TIME
+
+-- a record that a slot may hold. Streams have numbers of 32 bits, values have positions from 1 on, and so have landmarks and
+-- their values.
 unfoldable pub is_valid : Record → Bool
 is_valid Free = true
 is_valid (Stream id name params) = nat_lt id (2 ^ 32) && is_name name && in_range params
 is_valid (Window id first summary) =
     nat_lt id (2 ^ 32) && nat_le 1 first && nat_le (first + summary.count - 1) GREATEST_COUNT && is_possible summary
+is_valid (Landmark id number values start finish) = nat_lt id (2 ^ 32) && counts_from_1 number && is_interval values start finish
+is_valid (Value id number index t v) =
+    nat_lt id (2 ^ 32) && counts_from_1 number && counts_from_1 index && nat_le t LAST_TIME && fits_i64 v
 
 -- the number of a family, and its four parameters; the exponential family has three, and a 0
 abbrev pub family : Params → ℕ
@@ -25,6 +39,15 @@ family (Power p q r s) = 2
 abbrev pub parameters : Params → ℕ × ℕ × ℕ × ℕ
 parameters (Exp b r s) = (b, r, s, 0)
 parameters (Power p q r s) = (p, q, r, s)
+
+-- the number of a landmark's state, 1 as long as it is open, and its closing time; one that is open has a 0
+abbrev pub state : Option ℕ → ℕ
+state None = 1
+state (Some finish) = 2
+
+abbrev pub closing : Option ℕ → ℕ
+closing None = 0
+closing (Some finish) = finish
 
 -- the fields of a record, each at its place. Byte 0 is the kind, and a free slot has no field.
 abbrev pub fields : Record → List Field
@@ -50,6 +73,23 @@ fields (Window id first summary) =
     ∷ i64 48 summary.max
     ∷ u64 56 summary.t_first
     ∷ u64 64 summary.t_last
+    ∷ []
+fields (Landmark id number values start finish) =
+    u8 0 3
+    ∷ u8 1 (state finish)
+    ∷ u32 4 id
+    ∷ u32 8 number
+    ∷ u32 12 values
+    ∷ u64 16 start
+    ∷ u64 24 (closing finish)
+    ∷ []
+fields (Value id number index t v) =
+    u8 0 4
+    ∷ u32 4 id
+    ∷ u32 8 number
+    ∷ u32 12 index
+    ∷ u64 16 t
+    ∷ i64 24 v
     ∷ []
 
 -- the bytes of a record: its fields, and zeros wherever no field is

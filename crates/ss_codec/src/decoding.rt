@@ -1,12 +1,14 @@
 // Records, read.
 ghost use Rattle.std.specs.Prelude.{◌≡◌, ◌+◌, ◌-◌, ◌&&◌, ◌≤◌, nat_le, IfSome, IfNone, if◌then◌else◌};
 ghost use Rattle.ss_summary.specs.Possible.{is_possible};
-ghost use Rattle.ss_codec.specs.Record.{Spells};
-ghost use Rattle.ss_codec.specs.Decoded.{checked, decoded, figures_in, params_in, record_in, stream_in, window_in};
+ghost use Rattle.ss_codec.specs.Record.{Spells, counts_from_1, is_interval};
+ghost use Rattle.ss_codec.specs.Decoded.{checked, decoded, figures_in, finish_in, landmark_in, params_in, record_in, stream_in, value_in, window_in};
 
 use crate::encoding::encode;
-use crate::record::{EXPONENTIAL, NAME, Record, SLOT_SIZE, STREAM, WINDOW};
-use ss_catalog::{LONGEST_NAME, Name, Params};
+use crate::record::{
+    CLOSED, EXPONENTIAL, LANDMARK, NAME, Record, SLOT_SIZE, STREAM, VALUE, WINDOW,
+};
+use ss_catalog::{LAST_TIME, LONGEST_NAME, Name, Params};
 use ss_fields::{get_i64, get_i128, get_u32, get_u64};
 use ss_summary::{GREATEST_COUNT, Summary};
 
@@ -90,6 +92,81 @@ fn window_in(bytes: &[u8; SLOT_SIZE]) -> Option<Record>
     }
 }
 
+// Whether a number counts from 1.
+fn counts_from_1(n: u32) -> bool
+    ensures { result ≡ counts_from_1 n }
+{
+    1 <= n
+}
+
+// Whether a landmark may have so many values and these times.
+fn is_interval(values: u32, start: u64, finish: Option<u64>) -> bool
+    ensures { result ≡ is_interval values start finish }
+{
+    match finish {
+        None => values == 0 && start <= LAST_TIME,
+        Some(finish) => start <= finish && finish <= LAST_TIME,
+    }
+}
+
+// When the landmark in the bytes closes, if it is closed.
+#[tactic(auto, unfolding(crate::specs::Decoded::finish_in))]
+fn finish_in(bytes: &[u8; SLOT_SIZE]) -> Option<u64>
+    ensures { result ≡ finish_in bytes.now }
+{
+    if bytes[1] == CLOSED {
+        Some(get_u64(bytes, 24))
+    } else {
+        None
+    }
+}
+
+// The landmark's record in the bytes, if it is a valid one.
+#[tactic(auto, using(std::proofs::lemmas::Bool::Decides::nat_tests), unfolding(crate::specs::Decoded::landmark_in, crate::specs::Record::is_valid))]
+fn landmark_in(bytes: &[u8; SLOT_SIZE]) -> Option<Record>
+    ensures { result ≡ checked (landmark_in bytes.now) }
+{
+    let id = get_u32(bytes, 4);
+    let number = get_u32(bytes, 8);
+    let values = get_u32(bytes, 12);
+    let start = get_u64(bytes, 16);
+    let finish = finish_in(bytes);
+    if counts_from_1(number) && is_interval(values, start, finish) {
+        Some(Record::Landmark {
+            id,
+            number,
+            values,
+            start,
+            finish,
+        })
+    } else {
+        None
+    }
+}
+
+// The record of a landmark's value in the bytes, if it is a valid one.
+#[tactic(auto, using(std::proofs::lemmas::Bool::Decides::nat_tests), unfolding(crate::specs::Decoded::value_in, crate::specs::Record::is_valid))]
+fn value_in(bytes: &[u8; SLOT_SIZE]) -> Option<Record>
+    ensures { result ≡ checked (value_in bytes.now) }
+{
+    let id = get_u32(bytes, 4);
+    let number = get_u32(bytes, 8);
+    let index = get_u32(bytes, 12);
+    let t = get_u64(bytes, 16);
+    let v = get_i64(bytes, 24);
+    if counts_from_1(number) && counts_from_1(index) && t <= LAST_TIME {
+        Some(Record::Value {
+            id,
+            number,
+            index,
+            t,
+            v,
+        })
+    } else {
+        None
+    }
+}
+
 // The one record whose spelling the bytes can be, if it is a valid one.
 #[tactic(auto, using(std::proofs::lemmas::Bool::Decides::nat_tests), unfolding(crate::specs::Decoded::record_in, crate::specs::Record::is_valid))]
 fn record_in(bytes: &[u8; SLOT_SIZE]) -> Option<Record>
@@ -98,6 +175,8 @@ fn record_in(bytes: &[u8; SLOT_SIZE]) -> Option<Record>
     match bytes[0] {
         STREAM => stream_in(bytes),
         WINDOW => window_in(bytes),
+        LANDMARK => landmark_in(bytes),
+        VALUE => value_in(bytes),
         _ => Some(Record::Free),
     }
 }

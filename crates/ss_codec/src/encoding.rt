@@ -1,10 +1,12 @@
 // Records, spelled.
 ghost use Rattle.std.specs.Prelude.{◌≡◌, ◌≤◌, length, IsTrue};
 ghost use Rattle.ss_codec.specs.Fields.{with_fields};
-ghost use Rattle.ss_codec.specs.Record.{family, fields, is_valid, parameters, spelling};
+ghost use Rattle.ss_codec.specs.Record.{closing, family, fields, is_valid, parameters, spelling, state};
 
 use crate::fields::{write_i64, write_i128, write_text, write_u8, write_u32, write_u64};
-use crate::record::{EXPONENTIAL, NAME, POWER_LAW, Record, SLOT_SIZE, STREAM, WINDOW};
+use crate::record::{
+    CLOSED, EXPONENTIAL, LANDMARK, NAME, OPEN, POWER_LAW, Record, SLOT_SIZE, STREAM, VALUE, WINDOW,
+};
 use ss_catalog::{LONGEST_NAME, Name, Params};
 use ss_summary::Summary;
 
@@ -63,6 +65,60 @@ fn write_window(bytes: &mut [u8], id: u32, first: u64, summary: Summary)
     write_u64(bytes, 64, summary.t_last);
 }
 
+// The number of a landmark's state.
+fn state(finish: Option<u64>) -> u8
+    ensures { result ≡ state finish }
+{
+    match finish {
+        None => OPEN,
+        Some(_) => CLOSED,
+    }
+}
+
+// When a landmark closes, and 0 as long as it is open.
+fn closing(finish: Option<u64>) -> u64
+    ensures { result ≡ closing finish }
+{
+    match finish {
+        None => 0,
+        Some(finish) => finish,
+    }
+}
+
+// Writes the fields of a landmark.
+fn write_landmark(
+    bytes: &mut [u8],
+    id: u32,
+    number: u32,
+    values: u32,
+    start: u64,
+    finish: Option<u64>,
+)
+    requires { 128 ≤ length bytes.old }
+    ensures { bytes.new ≡ with_fields bytes.old (fields (Record.Landmark id number values start finish)) }
+{
+    write_u8(bytes, 0, LANDMARK);
+    write_u8(bytes, 1, state(finish));
+    write_u32(bytes, 4, id);
+    write_u32(bytes, 8, number);
+    write_u32(bytes, 12, values);
+    write_u64(bytes, 16, start);
+    write_u64(bytes, 24, closing(finish));
+}
+
+// Writes the fields of a landmark's value.
+fn write_value(bytes: &mut [u8], id: u32, number: u32, index: u32, t: u64, v: i64)
+    requires { 128 ≤ length bytes.old }
+    ensures { bytes.new ≡ with_fields bytes.old (fields (Record.Value id number index t v)) }
+{
+    write_u8(bytes, 0, VALUE);
+    write_u32(bytes, 4, id);
+    write_u32(bytes, 8, number);
+    write_u32(bytes, 12, index);
+    write_u64(bytes, 16, t);
+    write_i64(bytes, 24, v);
+}
+
 /// The bytes that spell a record.
 #[tactic(auto, unfolding(crate::specs::Record::spelling))]
 pub fn encode(r: &Record) -> [u8; SLOT_SIZE]
@@ -74,6 +130,20 @@ pub fn encode(r: &Record) -> [u8; SLOT_SIZE]
         Record::Free => {}
         Record::Stream { id, name, params } => write_stream(&mut bytes, *id, name, params),
         Record::Window { id, first, summary } => write_window(&mut bytes, *id, *first, *summary),
+        Record::Landmark {
+            id,
+            number,
+            values,
+            start,
+            finish,
+        } => write_landmark(&mut bytes, *id, *number, *values, *start, *finish),
+        Record::Value {
+            id,
+            number,
+            index,
+            t,
+            v,
+        } => write_value(&mut bytes, *id, *number, *index, *t, *v),
     }
     bytes
 }

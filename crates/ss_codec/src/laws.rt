@@ -1,12 +1,14 @@
 // Laws over records and their spellings, each the contract of a function that does nothing.
-ghost use Rattle.std.specs.Prelude.{◌≡◌, ◌↔◌, ℕ, ◌+◌, ◌-◌, ◌^◌, ◌<◌, ◌≤◌, List, replicate, IsTrue, Some};
+ghost use Rattle.std.specs.Prelude.{◌≡◌, ◌↔◌, ℕ, ◌+◌, ◌-◌, ◌^◌, ◌<◌, ◌≤◌, ℤ, FitsSigned, List, replicate, IsTrue, Option, Some, MatchOption};
+ghost use Rattle.std.specs.Int.{w64};
 ghost use Rattle.ss_summary.specs.Figures.{Figures, IsPossible};
 ghost use Rattle.ss_summary.specs.declared.summary.TheConstants.{GREATEST_COUNT};
 ghost use Rattle.ss_catalog.specs.Names.{is_name};
 ghost use Rattle.ss_catalog.specs.Params.{in_range};
+ghost use Rattle.ss_catalog.specs.declared.TheConstants.{LAST_TIME};
 ghost use Rattle.ss_catalog.specs.declared.params.Params.{Params};
 ghost use Rattle.ss_codec.specs.declared.record.Record.{Record};
-ghost use Rattle.ss_codec.specs.declared.record.Record.TheVariants.{Free, Stream, Window};
+ghost use Rattle.ss_codec.specs.declared.record.Record.TheVariants.{Free, Stream, Window, Landmark, Value};
 ghost use Rattle.ss_codec.specs.Record.{is_valid, spelling, Spells};
 ghost use Rattle.ss_codec.specs.Decoded.{decoded};
 
@@ -40,4 +42,17 @@ pub fn which_streams_are_valid()
 pub fn which_windows_are_valid()
     ensures { (id first : ℕ) (f : Figures) → IsTrue (is_valid (Window id first f))
         ↔ ((id < 2 ^ 32) × (1 ≤ first) × (first + f.count - 1 ≤ GREATEST_COUNT) × IsPossible f) }
+{}
+
+/// What a valid landmark is. One that is open has no count of its values yet.
+pub fn which_landmarks_are_valid()
+    ensures { (id number values start : ℕ) (finish : Option ℕ) → IsTrue (is_valid (Landmark id number values start finish))
+        ↔ ((id < 2 ^ 32) × (1 ≤ number) × (number < 2 ^ 32)
+        × MatchOption finish ((values ≡ 0) × (start ≤ LAST_TIME)) (λ finish. (values < 2 ^ 32) × (start ≤ finish) × (finish ≤ LAST_TIME))) }
+{}
+
+/// What a valid value of a landmark is.
+pub fn which_values_are_valid()
+    ensures { (id number index t : ℕ) (v : ℤ) → IsTrue (is_valid (Value id number index t v))
+        ↔ ((id < 2 ^ 32) × (1 ≤ number) × (number < 2 ^ 32) × (1 ≤ index) × (index < 2 ^ 32) × (t ≤ LAST_TIME) × FitsSigned w64 v) }
 {}

@@ -13,6 +13,7 @@ pub use decoding::decode;
 pub use encoding::encode;
 pub use laws::{
     decoded_is_what_is_spelled, free_slots_are_zeros, one_spelling, spelling_reads_back,
-    which_streams_are_valid, which_windows_are_valid,
+    which_landmarks_are_valid, which_streams_are_valid, which_values_are_valid,
+    which_windows_are_valid,
 };
 pub use record::{Record, SLOT_SIZE};

@@ -10,10 +10,19 @@ pub const STREAM: u8 = 1;
 
 pub const WINDOW: u8 = 2;
 
+pub const LANDMARK: u8 = 3;
+
+pub const VALUE: u8 = 4;
+
 // The second byte of a stream's record says the family of its target.
 pub const EXPONENTIAL: u8 = 1;
 
 pub const POWER_LAW: u8 = 2;
+
+// The second byte of a landmark's record says whether it is open or closed.
+pub const OPEN: u8 = 1;
+
+pub const CLOSED: u8 = 2;
 
 // Where the name of a stream begins.
 pub const NAME: usize = 24;
@@ -35,5 +44,23 @@ pub enum Record {
         id: u32,
         first: u64,
         summary: Summary,
+    },
+    /// A landmark of a stream: the stream's number, the landmark's number, how many values it has, 0 as long as it is open,
+    /// when it opens, and when it closes if it is closed. Numbers count the stream's landmarks from 1.
+    Landmark {
+        id: u32,
+        number: u32,
+        values: u32,
+        start: u64,
+        finish: Option<u64>,
+    },
+    /// A value of a landmark: the stream's number, the landmark's number, the value's index, its time, and what it is.
+    /// Indexes count the landmark's values from 1.
+    Value {
+        id: u32,
+        number: u32,
+        index: u32,
+        t: u64,
+        v: i64,
     },
 }

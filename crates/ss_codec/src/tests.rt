@@ -3,7 +3,8 @@ ghost use Rattle.std.specs.Prelude.{◌≤◌, length};
 
 use super::{
     Record, SLOT_SIZE, decode, decoded_is_what_is_spelled, encode, free_slots_are_zeros,
-    one_spelling, spelling_reads_back, which_streams_are_valid, which_windows_are_valid,
+    one_spelling, spelling_reads_back, which_landmarks_are_valid, which_streams_are_valid,
+    which_values_are_valid, which_windows_are_valid,
 };
 use ss_catalog::Params;
 
@@ -31,6 +32,40 @@ const ONE_VALUE: [u8; 72] = [
     255, 255, 255, 255, 255, 255, 255, 255, 255, 0, 0, 0, 0, 0, 0, 0, 10, 0, 0, 0, 0, 0, 0, 0, 10,
 ];
 
+// The landmark 1 of stream 0, from 100 to 100, with one value.
+const LANDMARK: [u8; 32] = [
+    3, 2, 0, 0, 0, 0, 0, 0, 0, 0, 0, 1, 0, 0, 0, 1, 0, 0, 0, 0, 0, 0, 0, 100, 0, 0, 0, 0, 0, 0, 0,
+    100,
+];
+
+// The same while it is open.
+const OPEN_LANDMARK: [u8; 24] = [
+    3, 1, 0, 0, 0, 0, 0, 0, 0, 0, 0, 1, 0, 0, 0, 0, 0, 0, 0, 0, 0, 0, 0, 100,
+];
+
+// The last landmark of the last stream, with as many values as can be, at the last time.
+const LAST_LANDMARK: [u8; 32] = [
+    3, 2, 0, 0, 255, 255, 255, 255, 255, 255, 255, 255, 255, 255, 255, 255, 64, 0, 0, 0, 0, 0, 0,
+    0, 64, 0, 0, 0, 0, 0, 0, 0,
+];
+
+// The value 7 at the time 100, the first of the landmark 1 of stream 0.
+const VALUE: [u8; 32] = [
+    4, 0, 0, 0, 0, 0, 0, 0, 0, 0, 0, 1, 0, 0, 0, 1, 0, 0, 0, 0, 0, 0, 0, 100, 0, 0, 0, 0, 0, 0, 0,
+    7,
+];
+
+// The last value of the last landmark of the last stream, at the last time: the greatest, and the least.
+const GREATEST_VALUE: [u8; 32] = [
+    4, 0, 0, 0, 255, 255, 255, 255, 255, 255, 255, 255, 255, 255, 255, 255, 64, 0, 0, 0, 0, 0, 0,
+    0, 127, 255, 255, 255, 255, 255, 255, 255,
+];
+
+const LEAST_VALUE: [u8; 32] = [
+    4, 0, 0, 0, 255, 255, 255, 255, 255, 255, 255, 255, 255, 255, 255, 255, 64, 0, 0, 0, 0, 0, 0,
+    0, 128, 0, 0, 0, 0, 0, 0, 0,
+];
+
 // A slot that begins with these bytes and has zeros after them.
 fn slot(bytes: &[u8]) -> [u8; SLOT_SIZE]
     requires { length bytes.now ≤ SLOT_SIZE }
@@ -47,6 +82,12 @@ fn worked_records_are_read_and_spelled_again(rt: HostRuntime) {
         slot(&POWER_STREAM),
         slot(&WINDOW),
         slot(&ONE_VALUE),
+        slot(&LANDMARK),
+        slot(&OPEN_LANDMARK),
+        slot(&LAST_LANDMARK),
+        slot(&VALUE),
+        slot(&GREATEST_VALUE),
+        slot(&LEAST_VALUE),
         slot(&[]),
     ];
     for bytes in slots {
@@ -82,8 +123,65 @@ fn the_window_has_its_fields(rt: HostRuntime) {
 }
 
 #[test]
+fn the_landmark_has_its_fields(rt: HostRuntime) {
+    match &decode(&slot(&LANDMARK)) {
+        Some(
+            Record::Landmark {
+                id,
+                number,
+                values,
+                start,
+                finish,
+            },
+        ) => {
+            assert_eq!(rt; (*id, *number, *values), (0, 1, 1));
+            assert_eq!(rt; (*start, *finish), (100, Some(100)));
+        }
+        _ => assert!(rt; false),
+    }
+}
+
+#[test]
+fn the_open_landmark_has_no_closing_time(rt: HostRuntime) {
+    match &decode(&slot(&OPEN_LANDMARK)) {
+        Some(
+            Record::Landmark {
+                id,
+                number,
+                values,
+                start,
+                finish,
+            },
+        ) => {
+            assert_eq!(rt; (*id, *number, *values), (0, 1, 0));
+            assert_eq!(rt; (*start, *finish), (100, None));
+        }
+        _ => assert!(rt; false),
+    }
+}
+
+#[test]
+fn the_value_of_a_landmark_has_its_fields(rt: HostRuntime) {
+    match &decode(&slot(&VALUE)) {
+        Some(
+            Record::Value {
+                id,
+                number,
+                index,
+                t,
+                v,
+            },
+        ) => {
+            assert_eq!(rt; (*id, *number, *index), (0, 1, 1));
+            assert_eq!(rt; (*t, *v), (100, 7));
+        }
+        _ => assert!(rt; false),
+    }
+}
+
+#[test]
 fn what_is_no_record_in_one_byte(rt: HostRuntime) {
-    let rows: [(&[u8; SLOT_SIZE], u8, u8); 27] = [
+    let rows: [(&[u8; SLOT_SIZE], u8, u8); 46] = [
         // a kind that isn't there
         (&slot(&STREAM), 0, 5),
         (&slot(&STREAM), 0, 0),
@@ -116,9 +214,32 @@ fn what_is_no_record_in_one_byte(rt: HostRuntime) {
         (&slot(&ONE_VALUE), 71, 11),
         (&slot(&ONE_VALUE), 39, 254),
         (&slot(&ONE_VALUE), 64, 128),
-        // a landmark that is neither open nor closed, and an open one with a closing time
-        (&slot(&[3, 0, 0, 0, 0, 0, 0, 0, 0, 0, 0, 1]), 23, 100),
-        (&slot(&[3, 1, 0, 0, 0, 0, 0, 0, 0, 0, 0, 1]), 31, 100),
+        // a landmark that is neither open nor closed
+        (&slot(&LANDMARK), 1, 0),
+        (&slot(&LANDMARK), 1, 3),
+        (&slot(&OPEN_LANDMARK), 1, 0),
+        // an open landmark with a closing time, and with a value
+        (&slot(&LANDMARK), 1, 1),
+        (&slot(&OPEN_LANDMARK), 31, 100),
+        (&slot(&OPEN_LANDMARK), 15, 1),
+        // a landmark that closes before it opens, with the number 0, too late
+        (&slot(&OPEN_LANDMARK), 1, 2),
+        (&slot(&LANDMARK), 31, 99),
+        (&slot(&LANDMARK), 11, 0),
+        (&slot(&OPEN_LANDMARK), 11, 0),
+        (&slot(&LAST_LANDMARK), 31, 1),
+        (&slot(&OPEN_LANDMARK), 16, 64),
+        // a byte that isn't zero where no field is
+        (&slot(&LANDMARK), 2, 1),
+        (&slot(&LANDMARK), 32, 1),
+        (&slot(&OPEN_LANDMARK), 127, 1),
+        (&slot(&VALUE), 1, 1),
+        (&slot(&VALUE), 32, 1),
+        // a value of the landmark 0, with the index 0, too late, of another kind
+        (&slot(&VALUE), 11, 0),
+        (&slot(&VALUE), 15, 0),
+        (&slot(&GREATEST_VALUE), 23, 1),
+        (&slot(&VALUE), 0, 3),
     ];
     for (bytes, place, value) in rows {
         let mut changed = *bytes;
