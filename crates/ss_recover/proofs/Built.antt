@@ -1,11 +1,12 @@
 -- What a walk answers at its end, and at a record that it refuses.
-use Rattle.std.proofs.Common.{◌≡◌, ◌∙◌, ℕ, zero, suc, ◌+◌, ◌<◌, ◌≤◌, All, List, [], ◌∷◌, ◌++◌, map, length, get_or, take, drop, Option, Some, Result, Err, refl, sym, ap, subst, arith}
-use Rattle.std.specs.Prelude.{zip, slice_index}
+use Rattle.std.proofs.Common.{◌≡◌, ◌∙◌, ℕ, zero, suc, ◌+◌, ◌<◌, ◌≤◌, All, List, [], ◌∷◌, ◌++◌, map, filter, length, get_or, take, drop, Option, Some, None, Result, Err, refl, sym, ap, subst, arith, append-nil}
+use Rattle.std.specs.Prelude.{slice_index}
 use Rattle.std.specs.List.{AllByRecursion, IsDistinct}
 use Rattle.std.specs.List.Sorted.{IsStrictlyIncreasing}
+use Rattle.std.proofs.Math.Seq.{drop-cons}
 use Rattle.std.proofs.lemmas.List.{length-append, length-map, length-take, take_all, take-append-drop}
 use Rattle.std.proofs.lemmas.List.Elements.{All-from_recursion, recursion_from_All}
-use Rattle.std.proofs.lemmas.List.Sums.{sum_by-cons}
+use Rattle.std.proofs.lemmas.List.Sums.{count_by-le-length, length-filter, sum_by-cons}
 use Rattle.ss_catalog.specs.Names.{same_name}
 use Rattle.ss_catalog.specs.declared.stream_id.StreamId.{StreamId}
 use Rattle.ss_codec.specs.declared.record.Record.{Record}
@@ -14,20 +15,24 @@ use Rattle.ss_model.specs.Standing.{IsStream}
 use Rattle.ss_model.specs.State as Streams
 use Rattle.ss_model.specs.State.{Stream, live, names_of, numbers_of}
 use Rattle.ss_model.specs.declared.types.TheConstants.{MOST_RECORDS}
-use Rattle.ss_recover.specs.Held.{Agrees, entries_of, records_held, span_held, span_of, window_record}
-use Rattle.std.proofs.Math.Seq.{drop-cons}
+use Rattle.ss_recover.specs.Held.{entries_of, window_record}
 use Rattle.ss_recover.specs.Order.{Rises, found_key}
-use Rattle.ss_recover.specs.Walk.{AnswersAs, AreBuilt, IsLowestUnsound, IsUsable, WalksAs, in_slot, parts_open, records_of}
+use Rattle.ss_recover.specs.Walk.{AnswersAs, AreBuilt, CannotClose, Closes, IsDone, IsLowestUnsound, IsReady, IsUsable, WalksAs, records_of}
 use Rattle.ss_recover.specs.declared.found.Found.{Found}
 use Rattle.ss_recover.specs.declared.parts.Parts.{Parts}
 use Rattle.ss_recover.specs.declared.parts.StreamParts.{StreamParts}
+use Rattle.ss_recover.specs.declared.walking.Open.{Open}
+use Rattle.ss_recover.specs.declared.walking.Walk.{Walk}
 use Rattle.ss_recover.specs.declared.recover_error.RecoverError.{RecoverError}
 use Rattle.ss_recover.specs.declared.recover_error.RecoverError.TheVariants.{BadSlot, BadStream, Disk, OutOfMemory}
-use Rattle.ss_recover.proofs.HeldRecords.{records_of_stream, records_of_streams}
 use Rattle.ss_recover.proofs.InOrder.{Rise}
-use Rattle.ss_recover.proofs.WalkLemmas.{AreHeldSoFar, IsCurrent}
+use Rattle.ss_recover.proofs.Marks.{length-marks_of, marks_of}
+use Rattle.ss_recover.proofs.Refusals.{lacks-at_end}
+use Rattle.ss_recover.proofs.WalkCurrent.{found_landmark, found_other}
+use Rattle.ss_recover.proofs.WalkLemmas.{AreHeldSoFar, AreHeldSoFar-none, AreNames, AreNames-none}
 use Rattle.ss_recover.proofs.WalkOrder.{IsAmid, IsAmid-from_order}
-use Rattle.ss_recover.proofs.WalkSteps.{HoldsAs, closed, said}
+use Rattle.ss_recover.proofs.WalkRecords.{all_walked, walked}
+use Rattle.ss_recover.proofs.WalkSteps.{AreComing, Holds, HoldsAs, all-held}
 
 -- keys that rise, from each to the next
 increasing-Rise : (ss : List Stream) → Rise (λ s. s.number) ss → IsStrictlyIncreasing (numbers_of ss)
@@ -40,73 +45,90 @@ increasing-Rise (s ∷ u ∷ us) rise (suc k) lt =
     subst (λ (j : ℕ). slice_index (numbers_of (s ∷ u ∷ us)) (suc k) < slice_index (numbers_of (s ∷ u ∷ us)) j) next rest
 
 -- how many records streams have
-length-records : (ss : List Stream) → length (records_of_streams ss) ≡ live ss
+length-records : (ss : List Stream) → length (all_walked ss) ≡ live ss
 length-records [] = refl
 length-records (s ∷ ss) =
     omega (
       arith,
-      length-append (records_of_stream s) (records_of_streams ss),
+      length-append (walked s) (all_walked ss),
+      length-append (marks_of s.number 1 s.landmarks) (map (window_record s.number) s.windows),
+      length-marks_of s.number 1 s.landmarks,
       length-map s.windows (window_record s.number),
       length-records ss,
       sum_by-cons Streams.records_of s ss,
     )
 
-built : (parts : List StreamParts) (ss : List Stream) (names : List (List ℕ × StreamId)) (all : List Found) → AreHeldSoFar parts ss names all → length all ≤ MOST_RECORDS →
-    AreBuilt parts ss all
-built parts ss names all so_far few = record {
+built : (parts : List StreamParts) (ss : List Stream) (names : List (List ℕ × StreamId)) (all : List Found) → AreHeldSoFar parts ss all → AreNames names (names_of ss) →
+    length all ≤ MOST_RECORDS → AreBuilt parts ss all
+built parts ss names all so_far names_are few = record {
   each = so_far.each;
   records = so_far.records;
   state = record {
     each = All-from_recursion IsStream ss so_far.sound;
     numbers = increasing-Rise ss so_far.rise;
-    names = subst (IsDistinct same_name) so_far.same_names so_far.distinct;
+    names = subst (IsDistinct same_name) names_are.same names_are.distinct;
     few =
-        let most = so_far.most in
-        omega (arith, most, length-map names (λ (n : List ℕ × StreamId). n.0), length-map ss (λ (s : Stream). s.name), ap (λ (ns : List (List ℕ)). length ns) so_far.same_names);
-    room = omega (arith, few, length-records ss, ap (λ (rs : List Record). length rs) (said parts ss names all so_far), length-map all (λ (f : Found). f.holds));
+        let most = names_are.most in
+        omega (arith, most, length-map names (λ (n : List ℕ × StreamId). n.0), length-map ss (λ (s : Stream). s.name), ap (λ (ns : List (List ℕ)). length ns) names_are.same);
+    room = omega (arith, few, length-records ss, ap (λ (rs : List Record). length rs) so_far.order, length-map all (λ (f : Found). f.holds));
   };
 }
 
 -- the end of a walk
-pub built-end : (o : Option StreamParts) (done parts : List StreamParts) (names : List (List ℕ × StreamId)) (next : ℕ) (all : List Found) (i : ℕ) →
-    HoldsAs o done names next (take i all) → length all ≤ i → length all ≤ MOST_RECORDS → parts ≡ done ++ parts_open o → (streams : List Stream) × AreBuilt parts streams all
-built-end o done parts names next all i holds end few is =
-    let whole : HoldsAs o done names next all = subst (HoldsAs o done names next) (take_all i all end) holds in
-    let shut = closed o done names next all whole in
-    (shut.streams, subst (λ ps. AreBuilt ps shut.streams all) (sym is) (built (done ++ parts_open o) shut.streams names all shut.so_far few))
+built-open : (o : Option Open) (done new : List StreamParts) (names : List (List ℕ × StreamId)) (all : List Found) → HoldsAs o done names all → IsDone o done new →
+    length all ≤ MOST_RECORDS → (streams : List Stream) × AreBuilt new streams all
+built-open None done new names all holds is few = (
+  [],
+  built new [] names all
+      (subst (λ ps. AreHeldSoFar ps [] all) (sym (is ∙ holds.0)) (subst (λ fs. AreHeldSoFar [] [] fs) (sym holds.2) AreHeldSoFar-none))
+      (subst (λ ns. AreNames ns []) (sym holds.1) AreNames-none) few,
+)
+built-open (Some stream) done new names all holds is few =
+    let its = all-held stream done names all holds is.0 new is.1 is.2 is.3 is.4 in
+    (its.streams, built new its.streams names all its.held its.names_are few)
 
--- a line has room, since each of its entries stands for a record
-length-zip : {X Y : Type 0} (xs : List X) (ys : List Y) → length xs ≡ length ys → length (zip xs ys) ≡ length xs
-length-zip [] ys same = refl
-length-zip (x ∷ xs) [] same = absurd (omega arith)
-length-zip (x ∷ xs) (y ∷ ys) same = omega (arith, length-zip xs ys (omega arith))
+pub built-end : (old new : Walk) (all : List Found) (i : ℕ) → Holds old (take i all) → length all ≤ i → length all ≤ MOST_RECORDS → Closes old new →
+    (streams : List Stream) × AreBuilt new.done.items streams all
+built-end old new all i holds end few closes =
+    built-open old.current old.done.items new.done.items old.names all (subst (Holds old) (take_all i all end) holds) closes.done few
 
-length-held : (part : StreamParts) (s : Stream) → Agrees part s → length (records_held (part, s)) ≡ length part.line.entries + 1
-length-held part s agrees =
-    let spans = ap (λ (ps : List (ℕ × ℕ)). length ps) agrees.positions in
-    let one = length-map (entries_of part) span_held in
-    let two = length-map s.windows span_of in
-    let three = length-map (entries_of part) (λ (e : Entry). e.slot) in
-    let four = length-map s.windows (λ w. Some (window_record s.number w)) in
-    let five = length-map part.line.entries (λ e. e.1) in
-    omega (arith, length-zip (map (λ (e : Entry). e.slot) (entries_of part)) (map (λ w. Some (window_record s.number w)) s.windows) (omega arith))
+-- at the end the stream whose records came lacks values
+pub lacks-end : (old : Walk) (all : List Found) (i n : ℕ) → Holds old (take i all) → length all ≤ i → CannotClose old n → IsLowestUnsound n (records_of all)
+lacks-end old all i n holds end cannot =
+    subst (λ fs. IsLowestUnsound n (records_of fs)) (append-nil (take i all) ∙ take_all i all end)
+    (lacks-at_end old n (take i all) [] holds cannot (λ stream coming is. tt))
 
-pub room : (o : Option StreamParts) (part : StreamParts) (done : List StreamParts) (names : List (List ℕ × StreamId)) (next : ℕ) (all : List Found) (i : ℕ) →
-    HoldsAs o done names next (take i all) → o ≡ Some part → i < length all → length all ≤ MOST_RECORDS → length part.line.entries < MOST_RECORDS
-room o part done names next all i holds is within few =
-    let current : IsCurrent done part names next (take i all) = subst (λ q. HoldsAs q done names next (take i all)) is holds in
-    let size = ap (λ (fs : List Found). length fs) current.split in
-    omega (
-      arith,
-      within,
-      few,
-      size,
-      length-held part current.stream current.agrees,
-      ap (λ (es : List (ℕ × Option Record)). length es) current.held,
-      length-map current.own in_slot,
-      length-append current.before current.own,
-      length-take i all,
-    )
+-- there is room, since all that is held stands for a record
+room-coming : (stream : Open) (done : List StreamParts) (names : List (List ℕ × StreamId)) (all : List Found) → AreComing stream done names all → length all ≤ MOST_RECORDS → IsReady stream
+room-coming stream done names all coming few =
+    let c = coming.current in
+    let entries = ap (λ (slots : List ℕ). length slots) c.found_slots in
+    let one = length-map (entries_of stream.part) (λ (e : Entry). e.slot) in
+    let two = length-map stream.part.line.entries (λ e. e.1) in
+    let three = length-map c.found (λ (f : Found). f.slot) in
+    let slots = ap (λ (slots : List ℕ). length slots) c.slots in
+    let four = length-map (filter found_landmark c.marks) (λ (f : Found). f.slot) in
+    let value_slots = ap (λ (slots : List ℕ). length slots) c.value_slots in
+    let five = length-map (filter found_other c.marks) (λ (f : Found). f.slot) in
+    let six = length-filter found_landmark c.marks in
+    let seven = length-filter found_other c.marks in
+    let first = count_by-le-length found_landmark c.marks in
+    let second = count_by-le-length found_other c.marks in
+    let own = ap (λ (fs : List Found). length fs) c.split in
+    let both = length-append c.marks c.found in
+    let whole = ap (λ (fs : List Found). length fs) coming.split in
+    let parts = length-append coming.before coming.own in
+    record {
+      line = omega (arith, few, entries, one, two, three, own, both, whole, parts);
+      slots = omega (arith, few, slots, four, six, first, own, both, whole, parts);
+      value_slots = omega (arith, few, value_slots, five, seven, second, own, both, whole, parts);
+      in_time = c.in_time;
+    }
+
+pub room : (walk : Walk) (stream : Open) (all : List Found) (i : ℕ) → Holds walk (take i all) → walk.current ≡ Some stream → length all ≤ MOST_RECORDS → IsReady stream
+room walk stream all i holds is few =
+    room-coming stream walk.done.items walk.names (take i all) (subst (λ o. HoldsAs o walk.done.items walk.names (take i all)) is holds)
+    (omega (arith, few, length-take i all))
 
 -- a record that is refused
 pub refuses-walk : (all : List Found) (takes : Type 0) (refuses : ℕ → Type 0) (answer : Result (Unit {0}) RecoverError) (result : Result Parts RecoverError) (e : RecoverError) →

@@ -1,7 +1,7 @@
 -- What a map carries is a state.
-use Rattle.std.proofs.Common.{◌≡◌, ℕ, ◌+◌, ◌<◌, ◌≤◌, Bool, true, false, not, ◌&&◌, List, [], ◌∷◌, filter, map, length, get_or, refl, sym, subst, ◌∙◌, arith, inl, inr, IsPermutation, Option, Some, None}
+use Rattle.std.proofs.Common.{◌≡◌, ℕ, ◌+◌, ◌<◌, ◌≤◌, Bool, true, false, not, ◌&&◌, List, [], ◌∷◌, filter, map, length, get_or, refl, sym, ap, subst, ◌∙◌, arith, inl, inr, IsPermutation, Option, Some, None}
 use Rattle.std.specs.Prelude.{◌==◌, nat_le, nat_lt, sum_by}
-use Rattle.std.specs.List.{AllByRecursion, IsDistinct, filter_map, list_any}
+use Rattle.std.specs.List.{AllByRecursion, IsDistinct, filter_map, list_all, list_any}
 use Rattle.std.specs.List.Sorted.{IsStrictlyIncreasing}
 use Rattle.std.proofs.lemmas.Bool.{and_parts, cases_Bool, eqb-true, leb-true, ltb-true, not-true, or_parts}
 use Rattle.std.proofs.lemmas.Bool.Decides.{nat_tests}
@@ -17,20 +17,24 @@ use Rattle.ss_journal.specs.declared.format.TheConstants.{MOST_SLOTS}
 use Rattle.ss_summary.specs.Figures.{IsPossible}
 use Rattle.ss_codec.specs.declared.record.Record.{Record}
 use Rattle.ss_windowing.specs.declared.decay.TheConstants.{MOST_VALUES}
+use Rattle.ss_model.specs.Marks.{lies_free}
 use Rattle.ss_model.specs.Standing.{IsState, IsStream}
 use Rattle.ss_model.specs.State.{Created, Stream, live, records_of}
 use Rattle.ss_model.specs.Tiling.{AreWindows, StandFrom}
 use Rattle.ss_model.specs.Windows.{taken}
 use Rattle.ss_model.specs.declared.types.Window.{Window}
 use Rattle.ss_model.specs.declared.types.TheConstants.{MOST_RECORDS}
-use Rattle.ss_recover.specs.Carried.{in_order, number_of, spelled, streams_created, window_of, windows_carried}
+use Rattle.ss_recover.specs.Carried.{in_order, is_mark_of, marks_carried, number_of, spelled, streams_created, window_of, windows_carried}
 use Rattle.ss_recover.specs.Conditions.{has_new_name, has_one_record, has_place, is_named_before, is_sound, tile, tile_from, times_rise}
+use Rattle.ss_recover.specs.Marked.{are_marks, landmarks_made}
+use Rattle.ss_recover.specs.Order.{place_of}
 use Rattle.ss_recover.specs.Parts.{carried, carries, judged, least, lowest_bad_slot, lowest_bad_stream, records_in, stream_carried, streams_carried}
 use Rattle.ss_recover.proofs.InOrder.{IsPermutation-in_order, NoneFalls, NoneFalls-in_order, Rise, all-in_order, increasing-Rise}
-use Rattle.ss_recover.proofs.Lists.{all_both, all_weaker, map-map}
+use Rattle.ss_recover.proofs.Lists.{all-kept, all-passing, all_both, all_weaker, map-map}
+use Rattle.ss_recover.proofs.Marks.{AreOf, AreOf-are_marks, length-marks_of, marks_of}
 use Rattle.ss_recover.proofs.RecordCounts.{all-counted, of_number, sum_by-le_each, sum_by-of_number}
 use Rattle.ss_recover.proofs.SoundStreams.{IsNew, IsOnce, at, lower}
-use Rattle.ss_recover.proofs.ValidRecords.{CanStand, all-created_by, all-numbers_created, all-window_of, few-records, valid-records}
+use Rattle.ss_recover.proofs.ValidRecords.{CanStand, IsValid, all-created_by, all-numbers_created, all-window_of, few-records, valid-records}
 
 -- where streams are carried, no stream is damaged
 carries-judged : (slot number : Option ℕ) (ss streams : List Stream) → judged slot number ss ≡ carries streams → (number ≡ None) × (ss ≡ streams)
@@ -56,6 +60,8 @@ record IsSound (rs : List Record) (number : ℕ) : Type 0 where
   new : has_new_name number (streams_created rs) ≡ true
   tiles : tile (windows_carried number rs) ≡ true
   rising : times_rise (windows_carried number rs) ≡ true
+  marks : are_marks (marks_carried number rs) ≡ true
+  free : list_all (lies_free (landmarks_made (marks_carried number rs))) (windows_carried number rs) ≡ true
 
 IsSound-is_sound : (rs : List Record) (number : ℕ) → is_sound rs number ≡ true → IsSound rs number
 unfolding is_sound
@@ -64,11 +70,24 @@ IsSound-is_sound rs number sound =
     let b = has_place number (streams_created rs) in
     let c = has_new_name number (streams_created rs) in
     let d = tile (windows_carried number rs) in
-    let fifth = and_parts (a && b && c && d) (times_rise (windows_carried number rs)) sound in
+    let e = times_rise (windows_carried number rs) in
+    let f = are_marks (marks_carried number rs) in
+    let last = list_all (lies_free (landmarks_made (marks_carried number rs))) (windows_carried number rs) in
+    let seventh = and_parts (a && b && c && d && e && f) last sound in
+    let sixth = and_parts (a && b && c && d && e) f seventh.0 in
+    let fifth = and_parts (a && b && c && d) e sixth.0 in
     let fourth = and_parts (a && b && c) d fifth.0 in
     let third = and_parts (a && b) c fourth.0 in
     let second = and_parts a b third.0 in
-    record { one = second.0; place = second.1; new = third.1; tiles = fourth.1; rising = fifth.1 }
+    record {
+      one = second.0;
+      place = second.1;
+      new = third.1;
+      tiles = fourth.1;
+      rising = fifth.1;
+      marks = sixth.1;
+      free = seventh.1;
+    }
 
 -- windows that tile, at rising times, from a time on
 abbrev BeginsFrom : ℕ → List Window → Type 0
@@ -190,8 +209,7 @@ each-own P ss each =
 
 -- what the records of a map carry, where all are sound
 module _ (rs : List Record) (sound : AllByRecursion (λ number. is_sound rs number ≡ true) (filter_map number_of rs))
-    (can : AllByRecursion CanStand (streams_created rs))
-    (possible : (number : ℕ) → AllByRecursion (λ w. IsPossible w.summary) (filter_map (window_of number) rs)) where
+    (valid : AllByRecursion IsValid rs) where
   abbrev ordered : List Created
   ordered = in_order (λ s. s.number) (streams_created rs)
 
@@ -247,6 +265,16 @@ module _ (rs : List Record) (sound : AllByRecursion (λ number. is_sound rs numb
       (each-own IsOther ordered
       (all_weaker (λ s. IsSound rs s.number) (λ s. AllByRecursion (λ u. u.number ≡ s.number → IsOther u) ordered) others ordered each_sound))
 
+  -- the landmarks
+  abbrev marks : Created → List Record
+  marks s = filter (is_mark_of s.number) rs
+
+  landmarks_are : (s : Created) → IsSound rs s.number → AreOf s.number (marks_carried s.number rs) (landmarks_made (marks_carried s.number rs))
+  landmarks_are s is =
+      AreOf-are_marks s.number (marks_carried s.number rs)
+      (all-in_order place_of (λ r. is_mark_of s.number r ≡ true) (marks s) (all-passing (is_mark_of s.number) rs))
+      (all-in_order place_of IsValid (marks s) (all-kept IsValid (is_mark_of s.number) rs valid)) is.marks
+
   -- the streams
   carried_is : (s : Created) → IsSound rs s.number → CanStand s → IsStream (stream_carried rs s)
   carried_is s is stands = record {
@@ -254,13 +282,16 @@ module _ (rs : List Record) (sound : AllByRecursion (λ number. is_sound rs numb
     number = stands.number;
     windows =
         AreWindows-tile (windows_carried s.number rs) is.tiles is.rising
-        (all-in_order (λ (w : Window). w.first) (λ w. IsPossible w.summary) (filter_map (window_of s.number) rs) (possible s.number));
+        (all-in_order (λ (w : Window). w.first) (λ w. IsPossible w.summary) (filter_map (window_of s.number) rs)
+        (all-window_of s.number rs valid));
+    landmarks = (landmarks_are s is).landmarks;
+    free = is.free;
   }
 
   each : AllByRecursion (λ s. IsStream (stream_carried rs s)) ordered
   each =
       all_both (λ s. IsSound rs s.number) CanStand (λ s. IsStream (stream_carried rs s)) carried_is ordered each_sound
-      (all-in_order (λ (s : Created). s.number) CanStand (streams_created rs) can)
+      (all-in_order (λ (s : Created). s.number) CanStand (streams_created rs) (all-created_by rs valid))
 
   -- their records
   records_of-carried : (s : Created) → IsSound rs s.number → records_of (stream_carried rs s) ≤ sum_by (of_number s.number) rs
@@ -268,7 +299,10 @@ module _ (rs : List Record) (sound : AllByRecursion (λ number. is_sound rs numb
       let windows = filter_map (window_of s.number) rs in
       let long : length (windows_carried s.number rs) ≡ length windows =
       length_permutation windows (windows_carried s.number rs) (IsPermutation-in_order (λ (w : Window). w.first) windows) in
-      omega (arith, sum_by-of_number s.number rs, once_created s.number is, long)
+      let landmarks = landmarks_made (marks_carried s.number rs) in
+      let many : length (marks_of s.number 1 landmarks) ≡ length (marks s) =
+      sym (ap length (landmarks_are s is).records) ∙ length_permutation (marks s) (marks_carried s.number rs) (IsPermutation-in_order place_of (marks s)) in
+      omega (arith, sum_by-of_number s.number rs, once_created s.number is, long, many, length-marks_of s.number 1 landmarks)
 
   room : live (map (stream_carried rs) ordered) ≤ length rs
   room =
@@ -297,4 +331,4 @@ IsState-carries found streams inside is =
     let sound = all-filter (is_sound rs) numbers (nil-least (filter (λ number. not (is_sound rs number)) numbers) parts.0) in
     let valid = valid-records found in
     subst IsState parts.1
-    (IsState-carried rs sound (all-created_by rs valid) (λ number. all-window_of number rs valid) (omega (arith, few-records found, inside)))
+    (IsState-carried rs sound valid (omega (arith, few-records found, inside)))

@@ -1,27 +1,33 @@
 -- What is held is what the map carries.
-use Rattle.std.proofs.Common.{◌≡◌, ℕ, ◌≤◌, Bool, true, not, cond, List, [], ◌∷◌, filter, map, length, refl, sym, ap, subst, ◌∙◌, arith, IsPermutation, None}
+use Rattle.std.proofs.Common.{◌≡◌, ℕ, ◌≤◌, Bool, true, not, cond, List, [], ◌∷◌, filter, map, length, refl, sym, ap, ap₂, subst, ◌∙◌, arith, IsPermutation, None}
 use Rattle.std.specs.Prelude.{◌==◌, is_none, sum_by}
-use Rattle.std.specs.List.{AllByRecursion, IsDistinct, filter_map}
+use Rattle.std.specs.List.{AllByRecursion, IsDistinct, filter_map, list_all}
 use Rattle.std.specs.List.Sorted.{IsStrictlyIncreasing}
+use Rattle.std.proofs.lemmas.Bool.{and_from}
 use Rattle.std.proofs.lemmas.List.{length-map}
 use Rattle.std.proofs.lemmas.List.Elements.{All-from_recursion, recursion_from_All}
-use Rattle.std.proofs.lemmas.List.Sorted.{All-permutation}
+use Rattle.std.proofs.lemmas.List.Sorted.{All-permutation, IsPermutation-sym, IsPermutation-trans}
+use Rattle.std.proofs.lemmas.List.Sums.{sum_by-cons}
 use Rattle.ss_catalog.specs.Names.{same_name}
 use Rattle.ss_journal.specs.Redo.{SlotMap}
 use Rattle.ss_codec.specs.declared.record.Record.{Record}
+use Rattle.ss_model.specs.Marks.{lies_free}
 use Rattle.ss_model.specs.Standing.{IsState, IsStream}
-use Rattle.ss_model.specs.State.{Created, Stream}
+use Rattle.ss_model.specs.State.{Created, Stream, live, records_of}
+use Rattle.ss_model.specs.declared.types.TheConstants.{MOST_RECORDS}
 use Rattle.ss_model.specs.declared.types.Window.{Window}
-use Rattle.ss_recover.specs.Carried.{created_by, number_of, spelled, streams_created, window_of, windows_carried}
+use Rattle.ss_recover.specs.Carried.{created_by, is_mark_of, marks_carried, number_of, spelled, streams_created, window_of, windows_carried}
 use Rattle.ss_recover.specs.Conditions.{is_sound, tile, times_rise}
 use Rattle.ss_recover.specs.Held.{AreHeld, HasWholeSlots}
+use Rattle.ss_recover.specs.Marked.{are_marks, landmarks_made}
 use Rattle.ss_recover.specs.Parts.{carried, carries, judged, least, lowest_bad_slot, lowest_bad_stream, records_in, stream_carried, streams_carried}
 use Rattle.ss_recover.specs.declared.parts.StreamParts.{StreamParts}
 use Rattle.ss_recover.proofs.HeldRecords.{every_slot_spells, made_of_records, records_of_streams}
 use Rattle.ss_recover.proofs.InOrder.{Rise, Rise-increasing, in_order-IsPermutation}
-use Rattle.ss_recover.proofs.Lists.{all_both, position-none}
+use Rattle.ss_recover.proofs.Lists.{all_both, filter_map-kept, kept, position-none}
+use Rattle.ss_recover.proofs.Marks.{are_marks-marks_of, in_order-marks_of, landmarks_made-marks_of, length-marks_of, marks_of}
 use Rattle.ss_recover.proofs.SoundStreams.{IsNew-each, IsOnce-each, Rise-AreWindows, has_new_name-moved, has_one_record-moved, has_place-moved, tile-AreWindows, times_rise-AreWindows}
-use Rattle.ss_recover.proofs.StreamRecords.{HasWindows-each, all-number_of, created, filter_map-created_by}
+use Rattle.ss_recover.proofs.StreamRecords.{HasMarks-each, HasWindows-each, all-number_of, created, filter_map-created_by}
 
 -- where all are sound, none is the least that isn't
 filter-sound : (test : ℕ → Bool) (ns : List ℕ) → AllByRecursion (λ n. test n ≡ true) ns → filter (λ n. not (test n)) ns ≡ []
@@ -32,13 +38,22 @@ map-map-created : {Y : Type 0} (f : Created → Y) (ss : List Stream) → map f 
 map-map-created f [] = refl
 map-map-created f (s ∷ ss) = ap (λ l. f (created s) ∷ l) (map-map-created f ss)
 
--- the streams of a state, and of each the windows that records carry
-map-stream_carried : (records : List Record) (ss : List Stream) → AllByRecursion (λ s. windows_carried s.number records ≡ s.windows) ss →
+-- the streams of a state, and of each the windows and the landmarks that records carry
+abbrev Carries : List Record → Stream → Type 0
+Carries records s = (windows_carried s.number records ≡ s.windows) × (landmarks_made (marks_carried s.number records) ≡ s.landmarks)
+
+map-stream_carried : (records : List Record) (ss : List Stream) → AllByRecursion (Carries records) ss →
     map (stream_carried records) (map created ss) ≡ ss
 map-stream_carried records [] each = refl
 map-stream_carried records (s ∷ ss) each =
     let rest = map-stream_carried records ss each.1 in
-    λ i. record { number = s.number; name = s.name; params = s.params; windows = each.0 i } ∷ rest i
+    λ i. record { number = s.number; name = s.name; params = s.params; windows = each.0.0 i; landmarks = each.0.1 i } ∷ rest i
+
+-- no stream needs more records than all of them
+each-records_of : (ss : List Stream) (most : ℕ) → live ss ≤ most → AllByRecursion (λ s. records_of s ≤ most) ss
+each-records_of [] most room = tt
+each-records_of (s ∷ ss) most room =
+    let all = sum_by-cons records_of s ss in (omega (arith, all, room), each-records_of ss most (omega (arith, all, room)))
 
 all_created : (P : Created → Type 0) (ss : List Stream) → AllByRecursion P (map created ss) → AllByRecursion (λ s. P (created s)) ss
 all_created P [] all = tt
@@ -80,11 +95,42 @@ module _ (parts : List StreamParts) (streams : List Stream) (found : SlotMap) (w
       (Rise-AreWindows s.windows is.windows))
       streams (HasWindows-each streams rise) each_is
 
+  -- the landmarks of each stream
+  marks_moved : (number : ℕ) →
+      IsPermutation (filter (is_mark_of number) (records_of_streams streams)) (filter (is_mark_of number) records)
+  marks_moved number =
+      subst (λ l. IsPermutation l (filter (is_mark_of number) records)) (filter_map-kept (is_mark_of number) (records_of_streams streams))
+      (subst (λ l. IsPermutation (filter_map (kept (is_mark_of number)) (records_of_streams streams)) l) (filter_map-kept (is_mark_of number) records)
+      (made_of_records parts streams found whole held (kept (is_mark_of number)) refl))
+
+  abbrev MarksAre : Stream → Type 0
+  MarksAre s = marks_carried s.number records ≡ marks_of s.number 1 s.landmarks
+
+  marks_are : AllByRecursion MarksAre streams
+  marks_are =
+      let Has : Stream → Type 0 = λ s. IsPermutation (filter (is_mark_of s.number) (records_of_streams streams)) (marks_of s.number 1 s.landmarks) in
+      all_both Has (λ s. records_of s ≤ MOST_RECORDS) MarksAre
+      (λ s has room.
+      in_order-marks_of s.number 1 s.landmarks (filter (is_mark_of s.number) records)
+      (IsPermutation-trans (marks_of s.number 1 s.landmarks) (filter (is_mark_of s.number) (records_of_streams streams))
+      (filter (is_mark_of s.number) records)
+      (IsPermutation-sym (filter (is_mark_of s.number) (records_of_streams streams)) (marks_of s.number 1 s.landmarks) has) (marks_moved s.number))
+      (omega (arith, length-marks_of s.number 1 s.landmarks, room)))
+      streams (HasMarks-each streams rise) (each-records_of streams MOST_RECORDS state.room)
+
+  carries_each : AllByRecursion (Carries records) streams
+  carries_each =
+      let Windows : Stream → Type 0 = λ s. windows_carried s.number records ≡ s.windows in
+      let Both : Stream → Type 0 = λ s. Windows s × MarksAre s in
+      all_both Both IsStream (Carries records)
+      (λ s both is. (both.0, ap landmarks_made both.1 ∙ landmarks_made-marks_of s.number s.landmarks is.landmarks)) streams
+      (all_both Windows MarksAre Both (λ s windows marks. (windows, marks)) streams windows_are marks_are) each_is
+
   streams_are : streams_carried records ≡ streams
   streams_are =
       ap (map (stream_carried records))
       (in_order-IsPermutation (λ (s : Created). s.number) (streams_created records) (map created streams) moved rise_created)
-      ∙ map-stream_carried records streams windows_are
+      ∙ map-stream_carried records streams carries_each
 
   -- the conditions
   few : length (map created streams) ≤ 4096
@@ -101,18 +147,25 @@ module _ (parts : List StreamParts) (streams : List Stream) (found : SlotMap) (w
       let names = subst (IsDistinct same_name) (sym (map-map-created (λ s. s.name) streams)) state.names in
       let new = IsNew-each (map created streams) rise_created names in
       let Once : Stream → Type 0 = λ s. sum_by (λ (u : Created). cond (u.number == s.number) 1 0) (map created streams) ≡ 1 in
-      let Windows : Stream → Type 0 = λ s. windows_carried s.number records ≡ s.windows in
-      let Both : Stream → Type 0 = λ s. Windows s × IsStream s in
-      all_both Once Both (λ s. is_sound records s.number ≡ true)
-      (λ s one both.
+      let Both : Stream → Type 0 = λ s. Carries records s × MarksAre s in
+      let All : Stream → Type 0 = λ s. Both s × IsStream s in
+      all_both Once All (λ s. is_sound records s.number ≡ true)
+      (λ s one all.
       let created_here = streams_created records in
+      let windows = all.0.0.0 in
+      let landmarks = all.0.0.1 in
       let a = has_one_record-moved (map created streams) created_here moved s.number one in
       let b = has_place-moved (map created streams) created_here moved s.number one few in
       let c = has_new_name-moved (map created streams) created_here moved s.number new in
-      let d : tile (windows_carried s.number records) ≡ true = ap tile both.0 ∙ tile-AreWindows s.windows both.1.windows in
-      let e : times_rise (windows_carried s.number records) ≡ true = ap times_rise both.0 ∙ times_rise-AreWindows s.windows both.1.windows in
-      rw (a, b, c, d, e) refl)
-      streams once (all_both Windows IsStream Both (λ s has is. (has, is)) streams windows_are each_is)
+      let d : tile (windows_carried s.number records) ≡ true = ap tile windows ∙ tile-AreWindows s.windows all.1.windows in
+      let e : times_rise (windows_carried s.number records) ≡ true = ap times_rise windows ∙ times_rise-AreWindows s.windows all.1.windows in
+      let f : are_marks (marks_carried s.number records) ≡ true = ap are_marks all.0.1 ∙ are_marks-marks_of s.number s.landmarks all.1.landmarks in
+      let g : list_all (lies_free (landmarks_made (marks_carried s.number records))) (windows_carried s.number records) ≡ true =
+      ap₂ (λ ls ws. list_all (lies_free ls) ws) landmarks windows ∙ all.1.free in
+      and_from _ _ (and_from _ _ (and_from _ _ (and_from _ _ (and_from _ _ (and_from _ _ a b) c) d) e) f) g)
+      streams once
+      (all_both Both IsStream All (λ s both is. (both, is)) streams
+      (all_both (Carries records) MarksAre Both (λ s carries marks. (carries, marks)) streams carries_each marks_are) each_is)
 
   none_bad : lowest_bad_stream records ≡ None
   none_bad =

@@ -12,19 +12,24 @@ use Rattle.ss_codec.specs.Decoded.{decoded}
 use Rattle.ss_codec.specs.declared.record.Record.{Record}
 use Rattle.ss_codec.specs.declared.record.Record.TheVariants.{Free}
 use Rattle.ss_codec.proofs.RecordLemmas.{decoded-spelling, is_valid-free, spelling-free}
+use Rattle.ss_landmarks.specs.Landmark.{all_values}
 use Rattle.ss_line.specs.declared.entry.Entry.{Entry}
 use Rattle.ss_model.specs.State.{Stream}
 use Rattle.ss_recover.specs.Carried.{spelled}
-use Rattle.ss_recover.specs.Held.{AllAgree, AreHeld, Agrees, HasWholeSlots, entries_of, occupied, records_held, span_held, span_of, stream_record, window_record}
+use Rattle.ss_recover.specs.Held.{AllAgree, AreHeld, Agrees, HasWholeSlots, all_value_records, entries_of, in_slots, landmark_records, marks_held, occupied, records_held, span_held, span_of, stream_record, window_record, windows_held}
 use Rattle.ss_recover.specs.Parts.{records_in}
 use Rattle.ss_recover.specs.declared.parts.StreamParts.{StreamParts}
 use Rattle.ss_recover.proofs.Lists.{all_weaker, map-map, range-within}
+use Rattle.ss_recover.proofs.Marks.{length-all_value_records, length-landmark_records}
 use Rattle.ss_recover.proofs.Occupied.{filled, filled-live, filled-zeros}
 use Rattle.ss_recover.proofs.Permutations.{IsPermutation-filter_map}
 
 -- the records of a stream, and of streams
 abbrev pub records_of_stream : Stream → List Record
-records_of_stream s = stream_record s ∷ map (window_record s.number) s.windows
+records_of_stream s =
+    stream_record s
+    ∷ map (window_record s.number) s.windows
+    ++ (landmark_records s.number 1 s.landmarks ++ all_value_records s.number 1 s.landmarks)
 
 abbrev pub records_of_streams : List Stream → List Record
 records_of_streams streams = flat_map records_of_stream streams
@@ -36,9 +41,15 @@ map-second-zip (x ∷ xs) [] same = absurd (omega arith)
 map-second-zip (x ∷ xs) (y ∷ ys) same = ap (λ l. y ∷ l) (map-second-zip xs ys (omega arith))
 
 -- what is held of a stream, without the slots
-second-records_held : (part : StreamParts) (s : Stream) → Agrees part s →
-    map (λ (e : ℕ × Option Record). e.1) (records_held (part, s)) ≡ map Some (records_of_stream s)
-second-records_held part s agrees =
+abbrev second : ℕ × Option Record → Option Record
+second e = e.1
+
+second-in_slots : (slots : List ℕ) (held : List Record) → length slots ≡ length held → map second (in_slots slots held) ≡ map Some held
+second-in_slots slots held long = map-second-zip slots (map Some held) (omega (arith, long, length-map held Some))
+
+second-windows_held : (part : StreamParts) (s : Stream) → Agrees part s →
+    map second (windows_held (part, s)) ≡ map Some (stream_record s ∷ map (window_record s.number) s.windows)
+second-windows_held part s agrees =
     let slots : List ℕ = map (λ (e : Entry). e.slot) (entries_of part) in
     let records : List (Option Record) = map (λ w. Some (window_record s.number w)) s.windows in
     let long : length slots ≡ length records =
@@ -51,6 +62,32 @@ second-records_held part s agrees =
       ap length agrees.positions,
     ) in
     ap (λ l. Some (stream_record s) ∷ l) (map-second-zip slots records long ∙ sym (map-map Some (window_record s.number) s.windows))
+
+second-marks_held : (part : StreamParts) (s : Stream) → Agrees part s →
+    map second (marks_held (part, s)) ≡ map Some (landmark_records s.number 1 s.landmarks ++ all_value_records s.number 1 s.landmarks)
+second-marks_held part s agrees =
+    let its = part.landmarks in
+    let first = landmark_records s.number 1 s.landmarks in
+    let others = all_value_records s.number 1 s.landmarks in
+    let long : length its.slots ≡ length first =
+    omega (arith, agrees.known.slots, ap length agrees.landmarks, length-landmark_records s.number 1 s.landmarks) in
+    let many : length its.value_slots ≡ length others =
+    omega (
+      arith,
+      agrees.known.value_slots,
+      ap (λ ls. length (all_values ls)) agrees.landmarks,
+      length-all_value_records s.number 1 s.landmarks,
+    ) in
+    map-append second (in_slots its.slots first) (in_slots its.value_slots others)
+    ∙ ap₂ ◌++◌ (second-in_slots its.slots first long) (second-in_slots its.value_slots others many)
+    ∙ sym (map-append Some first others)
+
+second-records_held : (part : StreamParts) (s : Stream) → Agrees part s → map second (records_held (part, s)) ≡ map Some (records_of_stream s)
+second-records_held part s agrees =
+    map-append second (windows_held (part, s)) (marks_held (part, s))
+    ∙ ap₂ ◌++◌ (second-windows_held part s agrees) (second-marks_held part s agrees)
+    ∙ sym (map-append Some (stream_record s ∷ map (window_record s.number) s.windows)
+    (landmark_records s.number 1 s.landmarks ++ all_value_records s.number 1 s.landmarks))
 
 pub second-held : (parts : List StreamParts) (streams : List Stream) → AllAgree parts streams →
     map (λ (e : ℕ × Option Record). e.1) (flat_map records_held (zip parts streams)) ≡ map Some (records_of_streams streams)

@@ -2,6 +2,7 @@ pub mod OrderLemmas
 pub mod Lists
 pub mod Permutations
 pub mod InOrder
+pub mod Marks
 pub mod Occupied
 pub mod PutLemmas
 pub mod WholeSlots
@@ -22,4 +23,10 @@ pub mod HeldLemmas
 pub mod ValidRecords
 pub mod RecordCounts
 pub mod CarriedStates
+pub mod Latest
+pub mod WalkCode
+pub mod Phases
+pub mod WalkRecords
+pub mod WalkCurrent
+pub mod WalkClosed
 mod Rows

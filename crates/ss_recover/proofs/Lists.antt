@@ -1,8 +1,8 @@
 -- Lemmas on lists of anything, and on numbers in a row.
-use Rattle.std.proofs.Common.{◌≡◌, ℕ, zero, suc, ◌+◌, ◌<◌, ◌≤◌, Bool, false, nat_eq, List, [], ◌∷◌, ◌++◌, map, length, refl, ap, arith, Some, None}
+use Rattle.std.proofs.Common.{◌≡◌, ℕ, zero, suc, ◌+◌, ◌<◌, ◌≤◌, Bool, true, false, cond, nat_eq, List, [], ◌∷◌, ◌++◌, map, filter, length, refl, ap, arith, inl, inr, Option, Some, None}
 use Rattle.std.specs.Prelude.{nat_lt}
-use Rattle.std.specs.List.{AllByRecursion, list_any, position, position_or_len, range_with_len}
-use Rattle.std.proofs.lemmas.Bool.{cond-false, le-ltb, or_parts}
+use Rattle.std.specs.List.{AllByRecursion, filter_map, list_all, list_any, position, position_or_len, range_with_len}
+use Rattle.std.proofs.lemmas.Bool.{and_from, and_parts, cases_Bool, cond-false, cond_both, le-ltb, or_parts}
 use Rattle.std.proofs.lemmas.Bool.Decides.{nat_tests}
 
 -- what holds of each element
@@ -14,6 +14,52 @@ pub all_both : {X : Type 0} (P Q R : X → Type 0) → ((x : X) → P x → Q x 
     AllByRecursion R xs
 all_both P Q R both [] ps qs = tt
 all_both P Q R both (x ∷ xs) ps qs = (both x ps.0 qs.0, all_both P Q R both xs ps.1 qs.1)
+
+pub all_append : {X : Type 0} (P : X → Type 0) (xs ys : List X) → AllByRecursion P xs → AllByRecursion P ys → AllByRecursion P (xs ++ ys)
+all_append P [] ys first second = second
+all_append P (x ∷ xs) ys first second = (first.0, all_append P xs ys first.1 second)
+
+pub all_push : {X : Type 0} (P : X → Type 0) (xs : List X) (x : X) → AllByRecursion P xs → P x → AllByRecursion P (xs ++ x ∷ [])
+all_push P xs x all one = all_append P xs (x ∷ []) all (one, tt)
+
+pub list_all-each : {X : Type 0} (p : X → Bool) (xs : List X) → AllByRecursion (λ x. p x ≡ true) xs → list_all p xs ≡ true
+list_all-each p [] all = refl
+list_all-each p (x ∷ xs) all = and_from (p x) (list_all p xs) all.0 (list_all-each p xs all.1)
+
+pub each-list_all : {X : Type 0} (p : X → Bool) (xs : List X) → list_all p xs ≡ true → AllByRecursion (λ x. p x ≡ true) xs
+each-list_all p [] all = tt
+each-list_all p (x ∷ xs) all = let parts = and_parts (p x) (list_all p xs) all in (parts.0, each-list_all p xs parts.1)
+
+-- what passes a test, where all pass it or none does
+pub filter-all : {X : Type 0} (p : X → Bool) (xs : List X) → AllByRecursion (λ x. p x ≡ true) xs → filter p xs ≡ xs
+filter-all p [] all = refl
+filter-all p (x ∷ xs) all = rw all.0 (ap (λ l. x ∷ l) (filter-all p xs all.1))
+
+pub filter-none : {X : Type 0} (p : X → Bool) (xs : List X) → AllByRecursion (λ x. p x ≡ false) xs → filter p xs ≡ []
+filter-none p [] none = refl
+filter-none p (x ∷ xs) none = rw none.0 (filter-none p xs none.1)
+
+pub all-passing : {X : Type 0} (p : X → Bool) (xs : List X) → AllByRecursion (λ x. p x ≡ true) (filter p xs)
+all-passing p [] = tt
+all-passing p (x ∷ xs) =
+    cond_both (p x) (x ∷ filter p xs) (filter p xs) (AllByRecursion (λ y. p y ≡ true)) (λ passes. (passes, all-passing p xs)) (λ fails. all-passing p xs)
+
+pub all-kept : {X : Type 0} (P : X → Type 0) (p : X → Bool) (xs : List X) → AllByRecursion P xs → AllByRecursion P (filter p xs)
+all-kept P p [] all = tt
+all-kept P p (x ∷ xs) all =
+    let rest = all-kept P p xs all.1 in
+    cond_both (p x) (x ∷ filter p xs) (filter p xs) (AllByRecursion P) (λ passes. (all.0, rest)) (λ fails. rest)
+
+-- what passes a test, as what is made of each
+abbrev pub kept : {X : Type 0} → (X → Bool) → X → Option X
+kept p x = cond (p x) (Some x) None
+
+pub filter_map-kept : {X : Type 0} (p : X → Bool) (xs : List X) → filter_map (kept p) xs ≡ filter p xs
+filter_map-kept p [] = refl
+filter_map-kept p (x ∷ xs) = elim (cases_Bool (p x)) [
+  | inl passes ↦ rw passes (ap (λ l. x ∷ l) (filter_map-kept p xs))
+  | inr fails ↦ rw fails (filter_map-kept p xs)
+]
 
 pub map-map : {X Y Z : Type 0} (g : Y → Z) (f : X → Y) (xs : List X) → map g (map f xs) ≡ map (λ x. g (f x)) xs
 map-map g f [] = refl

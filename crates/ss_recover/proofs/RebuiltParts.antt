@@ -1,12 +1,12 @@
 -- What rebuilding answers, from what was read and what the walk over it answers.
-use Rattle.std.proofs.Common.{◌≡◌, ◌∙◌, ◌+◌, ◌-◌, ◌<◌, ◌≤◌, ℕ, zero, suc, Bool, false, not, ◌&&◌, All, List, [], ◌∷◌, ◌++◌, map, filter, flat_map, length, Option, Some, None, Result, Ok, Err, IfOk, Vec, Global, refl, sym, ap, ap₂, subst, arith, IsPermutation}
+use Rattle.std.proofs.Common.{◌≡◌, ◌∙◌, ◌+◌, ◌-◌, ◌<◌, ◌≤◌, ℕ, zero, suc, Bool, false, not, ◌&&◌, All, List, [], ◌∷◌, ◌++◌, map, filter, flat_map, length, max, MatchOption, Option, Some, None, Result, Ok, Err, IfOk, Vec, Global, refl, sym, ap, ap₂, subst, arith, IsPermutation}
 use Rattle.std.specs.Prelude.{zip, is_none, ◌≢◌}
-use Rattle.std.specs.List.{AllByRecursion, filter_map, list_any, range_with_len, IsDistinct}
+use Rattle.std.specs.List.{AllByRecursion, filter_map, list_all, list_any, range_with_len, IsDistinct}
 use Rattle.std.specs.List.Sorted.{IsStrictlyIncreasing}
 use Rattle.std.proofs.lemmas.Bool.{or_from}
 use Rattle.std.proofs.lemmas.List.{length-map, map-append}
-use Rattle.std.proofs.lemmas.List.Elements.{All-from_recursion, recursion_from_All}
-use Rattle.std.proofs.lemmas.List.Sorted.{IsPermutation-map, IsPermutation-sym}
+use Rattle.std.proofs.lemmas.List.Elements.{All-from_recursion, All-nil, recursion_from_All}
+use Rattle.std.proofs.lemmas.List.Sorted.{IsPermutation-map, IsPermutation-sym, IsPermutation-trans}
 use Rattle.std.proofs.lemmas.List.Sums.{sum_by-cons}
 use Rattle.ss_journal.specs.Redo.{SlotMap}
 use Rattle.ss_records.specs.Live.{is_live}
@@ -14,18 +14,24 @@ use Rattle.ss_catalog.specs.Names.{same_name}
 use Rattle.ss_codec.specs.Decoded.{decoded}
 use Rattle.ss_codec.specs.declared.record.Record.{Record}
 use Rattle.ss_codec.specs.declared.record.Record.TheVariants.{Free}
+use Rattle.ss_landmarks.specs.Landmark.{Landmark, all_values}
+use Rattle.ss_landmarks.specs.Landmarks.{IsState as AreKnown}
+use Rattle.ss_landmarks.specs.Order.{AllEndBy, EndsBy}
+use Rattle.ss_landmarks.proofs.TimeLemmas.{AllEndBy-later}
 use Rattle.ss_line.specs.declared.entry.Entry.{Entry}
 use Rattle.ss_windowing.specs.declared.decay.TheConstants.{MOST_VALUES}
+use Rattle.ss_model.specs.Marks.{later, latest_of, lies_free}
 use Rattle.ss_model.specs.Standing.{IsStream}
-use Rattle.ss_model.specs.State.{Stream, names_of, numbers_of}
+use Rattle.ss_model.specs.State.{Stream, last_time, names_of, numbers_of}
 use Rattle.ss_model.specs.Tiling.{StandFrom}
-use Rattle.ss_model.specs.Windows.{taken}
+use Rattle.ss_model.specs.Windows.{newest_time, taken}
 use Rattle.ss_model.specs.declared.types.Window.{Window}
-use Rattle.ss_recover.specs.Carried.{created_by, in_order, number_of, spelled, streams_created, window_of, windows_carried}
+use Rattle.ss_recover.specs.Carried.{created_by, in_order, is_mark_of, marks_carried, number_of, spelled, streams_created, window_of, windows_carried}
 use Rattle.ss_recover.specs.Conditions.{has_new_name, has_one_record, has_place, is_sound, tile, times_rise}
 use Rattle.ss_recover.specs.Gathered.{AreFound, GathersAs}
-use Rattle.ss_recover.specs.Held.{Agrees, AllAgree, AreHeld, AreWhole, HasWholeSlots, TileFrom, entries_of, occupied, records_held, slots_held, span_held, span_of, window_record}
-use Rattle.ss_recover.specs.Order.{found_key, key_of}
+use Rattle.ss_recover.specs.Held.{Agrees, AllAgree, AreHeld, AreWhole, EndByLast, HasWholeSlots, TileFrom, all_value_records, entries_of, in_slots, landmark_records, mark_slots, marks_held, occupied, records_held, slots_held, span_held, span_of, window_record, window_slots, windows_held}
+use Rattle.ss_recover.specs.Marked.{are_marks, landmarks_made}
+use Rattle.ss_recover.specs.Order.{found_key, key_of, place_of}
 use Rattle.ss_recover.specs.Parts.{bad_slot, bad_stream, carried, judged, least, lowest_bad_slot, lowest_bad_stream, records_in, streams_carried}
 use Rattle.ss_recover.specs.Rebuilt.{BlamesDisk, NotDisk, OnDisk, RebuildsAs}
 use Rattle.ss_recover.specs.Walk.{IsLowestUnsound, IsUsable, WalksAs, in_slot, records_of}
@@ -36,7 +42,9 @@ use Rattle.ss_recover.specs.declared.recover_error.RecoverError.{RecoverError}
 use Rattle.ss_recover.specs.declared.recover_error.RecoverError.TheVariants.{BadSlot, BadStream, Disk, OutOfMemory}
 use Rattle.ss_recover.proofs.HeldLemmas.{carried-AreHeld}
 use Rattle.ss_recover.proofs.HeldRecords.{filter_map-filled, zeros_are_free}
-use Rattle.ss_recover.proofs.Lists.{position-none}
+use Rattle.ss_recover.proofs.Latest.{AllEndBy-latest, none-latest}
+use Rattle.ss_recover.proofs.Lists.{filter_map-kept, kept, position-none}
+use Rattle.ss_recover.proofs.Marks.{length-all_value_records, length-landmark_records}
 use Rattle.ss_recover.proofs.OrderLemmas.{map-in_order}
 use Rattle.ss_recover.proofs.Unordered.{lowest-bad}
 
@@ -53,17 +61,27 @@ made-found f free found all whole are =
     ∙ ap (λ (es : List (ℕ × Option Record)). filter_map f (records_in (map (λ e. e.1) es))) (sym are.occupied_by)
     ∙ ap (filter_map f) (records_in-found all)
 
-is_sound-made : (rs us : List Record) (n : ℕ) → streams_created rs ≡ streams_created us → filter_map (window_of n) rs ≡ filter_map (window_of n) us → is_sound rs n ≡ is_sound us n
+is_sound-made : (rs us : List Record) (n : ℕ) → streams_created rs ≡ streams_created us → filter_map (window_of n) rs ≡ filter_map (window_of n) us →
+    filter (is_mark_of n) rs ≡ filter (is_mark_of n) us → is_sound rs n ≡ is_sound us n
 unfolding is_sound
-is_sound-made rs us n created windows =
+is_sound-made rs us n created windows marks =
     let ordered : windows_carried n rs ≡ windows_carried n us = ap (in_order (λ (w : Window). w.first)) windows in
+    let marked : marks_carried n rs ≡ marks_carried n us = ap (in_order place_of) marks in
     λ i. has_one_record n (created i) && has_place n (created i) && has_new_name n (created i) && tile (ordered i) && times_rise (ordered i)
+    && are_marks (marked i) && list_all (lies_free (landmarks_made (marked i))) (ordered i)
+
+marks-made : (n : ℕ) (found : SlotMap) (all : List Found) → HasWholeSlots found → AreFound all found →
+    filter (is_mark_of n) (records_in (spelled found)) ≡ filter (is_mark_of n) (records_of all)
+marks-made n found all whole are =
+    sym (filter_map-kept (is_mark_of n) (records_in (spelled found))) ∙ made-found (kept (is_mark_of n)) refl found all whole are
+    ∙ filter_map-kept (is_mark_of n) (records_of all)
 
 lowest-made : (found : SlotMap) (all : List Found) → HasWholeSlots found → AreFound all found → lowest_bad_stream (records_in (spelled found)) ≡ lowest_bad_stream (records_of all)
 lowest-made found all whole are =
     let rs = records_in (spelled found) in
     let us = records_of all in
-    let sound : (n : ℕ) → is_sound rs n ≡ is_sound us n = λ n. is_sound-made rs us n (made-found created_by refl found all whole are) (made-found (window_of n) refl found all whole are) in
+    let sound : (n : ℕ) → is_sound rs n ≡ is_sound us n =
+    λ n. is_sound-made rs us n (made-found created_by refl found all whole are) (made-found (window_of n) refl found all whole are) (marks-made n found all whole are) in
     let numbers : filter_map number_of rs ≡ filter_map number_of us = made-found number_of refl found all whole are in
     λ i. least (filter (λ m. not (sound m i)) (numbers i))
 
@@ -100,7 +118,7 @@ rebuilds found all sorted (Ok parts) whole are usable order moved walks =
     let held : AreHeld parts.streams.items walks.0 found = record {
       each = walks.1.each;
       records =
-          subst (λ l. IsPermutation l (occupied found)) (sym walks.1.records)
+          IsPermutation-trans (flat_map records_held (zip parts.streams.items walks.0)) (map in_slot sorted) (occupied found) walks.1.records
           (subst (IsPermutation (map in_slot sorted)) are.occupied_by (IsPermutation-map in_slot sorted all (IsPermutation-sym all sorted moved)));
       state = walks.1.state;
     } in
@@ -158,8 +176,24 @@ map-first-zip [] ys same = refl
 map-first-zip (x ∷ xs) [] same = absurd (omega arith)
 map-first-zip (x ∷ xs) (y ∷ ys) same = ap (λ l. x ∷ l) (map-first-zip xs ys (omega arith))
 
-slots-one : (part : StreamParts) (s : Stream) → Agrees part s → map (λ (e : ℕ × Option Record). e.0) (records_held (part, s)) ≡ slots_held part
-slots-one part s agrees =
+first-in_slots : (slots : List ℕ) (rs : List Record) → length slots ≡ length rs → map (λ (e : ℕ × Option Record). e.0) (in_slots slots rs) ≡ slots
+first-in_slots slots rs same = map-first-zip slots (map Some rs) (omega (arith, length-map rs (λ (r : Record). Some r), same))
+
+slots-marks : (part : StreamParts) (s : Stream) → Agrees part s → map (λ (e : ℕ × Option Record). e.0) (marks_held (part, s)) ≡ mark_slots part
+slots-marks part s agrees =
+    let known = agrees.known in
+    let landmarks = ap (λ (ls : List Landmark). length ls) agrees.landmarks in
+    let values = ap (λ (ls : List Landmark). length (all_values ls)) agrees.landmarks in
+    let rs = landmark_records s.number 1 s.landmarks in
+    let vs = all_value_records s.number 1 s.landmarks in
+    let one = length-landmark_records s.number 1 s.landmarks in
+    let two = length-all_value_records s.number 1 s.landmarks in
+    map-append (λ (e : ℕ × Option Record). e.0) (in_slots part.landmarks.slots rs) (in_slots part.landmarks.value_slots vs)
+    ∙ ap₂ ◌++◌ (first-in_slots part.landmarks.slots rs (omega (arith, known.slots, landmarks, one)))
+    (first-in_slots part.landmarks.value_slots vs (omega (arith, known.value_slots, values, two)))
+
+slots-windows : (part : StreamParts) (s : Stream) → Agrees part s → map (λ (e : ℕ × Option Record). e.0) (windows_held (part, s)) ≡ window_slots part
+slots-windows part s agrees =
     let spans = ap (λ (ps : List (ℕ × ℕ)). length ps) agrees.positions in
     let one = length-map (entries_of part) span_held in
     let two = length-map s.windows span_of in
@@ -167,12 +201,33 @@ slots-one part s agrees =
     let four = length-map s.windows (λ w. Some (window_record s.number w)) in
     ap (λ l. part.slot ∷ l) (map-first-zip (map (λ (e : Entry). e.slot) (entries_of part)) (map (λ w. Some (window_record s.number w)) s.windows) (omega arith))
 
+slots-one : (part : StreamParts) (s : Stream) → Agrees part s → map (λ (e : ℕ × Option Record). e.0) (records_held (part, s)) ≡ slots_held part
+slots-one part s agrees =
+    map-append (λ (e : ℕ × Option Record). e.0) (windows_held (part, s)) (marks_held (part, s)) ∙ ap₂ ◌++◌ (slots-windows part s agrees) (slots-marks part s agrees)
+
 slots-agree : (parts : List StreamParts) (ss : List Stream) → AllAgree parts ss → map (λ (e : ℕ × Option Record). e.0) (flat_map records_held (zip parts ss)) ≡ flat_map slots_held parts
 slots-agree [] [] each = refl
 slots-agree [] (s ∷ ss) each = absurd each
 slots-agree (p ∷ ps) [] each = absurd each
 slots-agree (p ∷ ps) (s ∷ ss) each =
     map-append (λ (e : ℕ × Option Record). e.0) (records_held (p, s)) (flat_map records_held (zip ps ss)) ∙ ap₂ ◌++◌ (slots-one p s each.0) (slots-agree ps ss each.1)
+
+-- landmarks end by the later of two times, where the second is their latest
+ends-later : (ls : List Landmark) (newest latest : Option ℕ) → latest_of ls ≡ latest → MatchOption (later newest latest) (ls ≡ []) (λ last. AllEndBy last ls)
+ends-later ls None None is = none-latest ls is
+ends-later ls (Some t) None is = let none = none-latest ls is in subst (AllEndBy t) (sym none) (All-nil (EndsBy t))
+ends-later ls None (Some u) is = AllEndBy-latest ls u is
+ends-later ls (Some t) (Some u) is = AllEndBy-later ls u (max t u) (omega arith) (AllEndBy-latest ls u is)
+
+EndByLast-Agrees : (part : StreamParts) (s : Stream) → Agrees part s → EndByLast part
+EndByLast-Agrees part s agrees =
+    let ends : MatchOption (last_time s) (s.landmarks ≡ []) (λ last. AllEndBy last s.landmarks) = ends-later s.landmarks (newest_time s.windows) (latest_of s.landmarks) refl in
+    rw (agrees.last_time, agrees.landmarks) ends
+
+landmarks-agree : (parts : List StreamParts) (ss : List Stream) → AllAgree parts ss → AllByRecursion (λ (part : StreamParts). AreKnown part.landmarks × EndByLast part) parts
+landmarks-agree [] ss each = tt
+landmarks-agree (p ∷ ps) [] each = absurd each
+landmarks-agree (p ∷ ps) (s ∷ ss) each = ((each.0.known, EndByLast-Agrees p s each.0), landmarks-agree ps ss each.1)
 
 first-in_slot : (all : List Found) → map (λ (e : ℕ × Option Record). e.0) (map in_slot all) ≡ map (λ (f : Found). f.slot) all
 first-in_slot [] = refl
@@ -187,16 +242,21 @@ whole-from_walk live all sorted (Ok parts) slots moved walks =
     let ss = walks.0 in
     let built = walks.1 in
     let numbers = numbers-agree ps ss built.each in
-    let held : flat_map slots_held ps ≡ map (λ (f : Found). f.slot) sorted =
-    sym (slots-agree ps ss built.each) ∙ ap (map (λ (e : ℕ × Option Record). e.0)) built.records ∙ first-in_slot sorted in
+    let first : ℕ × Option Record → ℕ = λ e. e.0 in
+    let held : IsPermutation (flat_map slots_held ps) (map (λ (f : Found). f.slot) sorted) =
+    subst (λ l. IsPermutation l (map (λ (f : Found). f.slot) sorted)) (slots-agree ps ss built.each)
+    (subst (IsPermutation (map first (flat_map records_held (zip ps ss)))) (first-in_slot sorted)
+    (IsPermutation-map first (flat_map records_held (zip ps ss)) (map in_slot sorted) built.records)) in
     let few = built.state.few in
     record {
       few = omega (arith, few, length-map ps (λ (part : StreamParts). part.id.0), length-map ss (λ (s : Stream). s.number), ap (λ (ns : List ℕ). length ns) numbers);
       numbers = subst IsStrictlyIncreasing (sym numbers) built.state.numbers;
       names = subst (IsDistinct same_name) (sym (names-agree ps ss built.each)) built.state.names;
       tiles = All-from_recursion (λ (part : StreamParts). TileFrom 1 (entries_of part)) ps (tiles-agree ps ss built.each (recursion_from_All IsStream ss built.state.each));
+      landmarks =
+          All-from_recursion (λ (part : StreamParts). AreKnown part.landmarks × EndByLast part) ps (landmarks-agree ps ss built.each);
       slots =
-          subst (λ l. IsPermutation l (filter (is_live live) (range_with_len 0 (length live)))) (sym held)
+          IsPermutation-trans (flat_map slots_held ps) (map (λ (f : Found). f.slot) sorted) (filter (is_live live) (range_with_len 0 (length live))) held
           (subst (IsPermutation (map (λ (f : Found). f.slot) sorted)) slots (IsPermutation-map (λ (f : Found). f.slot) sorted all (IsPermutation-sym all sorted moved)));
     }
 

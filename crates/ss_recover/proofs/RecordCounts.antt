@@ -1,5 +1,5 @@
 -- Streams of different numbers need no more records than there are.
-use Rattle.std.proofs.Common.{◌≡◌, ℕ, ◌+◌, ◌<◌, ◌≤◌, cond, List, [], ◌∷◌, length, refl, arith, inl, inr}
+use Rattle.std.proofs.Common.{◌≡◌, ℕ, ◌+◌, ◌<◌, ◌≤◌, cond, List, [], ◌∷◌, filter, length, refl, arith, inl, inr}
 use Rattle.std.specs.Prelude.{◌==◌, sum_by}
 use Rattle.std.specs.List.{AllByRecursion, filter_map}
 use Rattle.std.proofs.lemmas.Bool.{cases_Bool, cond-false, cond-true, eqb-true}
@@ -7,9 +7,9 @@ use Rattle.std.proofs.lemmas.Bool.Decides.{nat_tests}
 use Rattle.std.proofs.lemmas.List.Sums.{sum_by-cons}
 use Rattle.ss_summary.specs.Figures.{Figures}
 use Rattle.ss_codec.specs.declared.record.Record.{Record}
-use Rattle.ss_codec.specs.declared.record.Record.TheVariants.{Free, Stream, Window}
+use Rattle.ss_codec.specs.declared.record.Record.TheVariants.{Free, Stream, Window, Landmark, Value}
 use Rattle.ss_model.specs.State.{Created}
-use Rattle.ss_recover.specs.Carried.{created_by, window_of}
+use Rattle.ss_recover.specs.Carried.{created_by, is_mark_of, window_of}
 use Rattle.ss_recover.proofs.InOrder.{Rise}
 use Rattle.ss_recover.proofs.Lists.{all_weaker}
 use Rattle.ss_recover.proofs.SoundStreams.{at}
@@ -32,14 +32,20 @@ abbrev pub of_number : ℕ → Record → ℕ
 of_number number Free = 0
 of_number number (Stream id name params) = cond (id == number) 1 0
 of_number number (Window id first f) = cond (id == number) 1 0
+of_number number (Landmark id n values start finish) = cond (id == number) 1 0
+of_number number (Value id n index t v) = cond (id == number) 1 0
 
 length-window_of : (number id first : ℕ) (f : Figures) (rs : List Record) → length (filter_map (window_of number) (Window id first f ∷ rs))
     ≡ cond (id == number) 1 0 + length (filter_map (window_of number) rs)
 length-window_of number id first f rs = elim (cases_Bool (id == number)) [ inl same ↦ rw same (omega arith) | inr other ↦ rw other (omega arith) ]
 
--- the records of a number are those of streams and those of windows
-pub sum_by-of_number : (number : ℕ) (rs : List Record) →
-    sum_by (of_number number) rs ≡ sum_by (at number) (filter_map created_by rs) + length (filter_map (window_of number) rs)
+length-mark_of : (number : ℕ) (r : Record) (rs : List Record) →
+    length (filter (is_mark_of number) (r ∷ rs)) ≡ cond (is_mark_of number r) 1 0 + length (filter (is_mark_of number) rs)
+length-mark_of number r rs = elim (cases_Bool (is_mark_of number r)) [ inl own ↦ rw own (omega arith) | inr other ↦ rw other (omega arith) ]
+
+-- the records of a number are those of streams, those of windows, and those of landmarks and their values
+pub sum_by-of_number : (number : ℕ) (rs : List Record) → sum_by (of_number number) rs
+    ≡ sum_by (at number) (filter_map created_by rs) + length (filter_map (window_of number) rs) + length (filter (is_mark_of number) rs)
 sum_by-of_number number [] = refl
 sum_by-of_number number (Free ∷ rs) = omega (arith, sum_by-cons (of_number number) Free rs, sum_by-of_number number rs)
 sum_by-of_number number (Stream id name params ∷ rs) =
@@ -51,6 +57,12 @@ sum_by-of_number number (Stream id name params ∷ rs) =
     )
 sum_by-of_number number (Window id first f ∷ rs) =
     omega (arith, sum_by-cons (of_number number) (Window id first f) rs, length-window_of number id first f rs, sum_by-of_number number rs)
+sum_by-of_number number (Landmark id n values start finish ∷ rs) =
+    let r = Landmark id n values start finish in
+    omega (arith, sum_by-cons (of_number number) r rs, length-mark_of number r rs, sum_by-of_number number rs)
+sum_by-of_number number (Value id n index t v ∷ rs) =
+    let r = Value id n index t v in
+    omega (arith, sum_by-cons (of_number number) r rs, length-mark_of number r rs, sum_by-of_number number rs)
 
 -- a number is that of one stream at most
 abbrev hit : ℕ → Created → ℕ
@@ -82,6 +94,8 @@ once-counted : (r : Record) (ss : List Created) → Rise (λ s. s.number) ss →
 once-counted Free ss rise = omega (arith, sum_by-none ss)
 once-counted (Stream id name params) ss rise = hits id ss rise
 once-counted (Window id first f) ss rise = hits id ss rise
+once-counted (Landmark id n values start finish) ss rise = hits id ss rise
+once-counted (Value id n index t v) ss rise = hits id ss rise
 
 pub all-counted : (ss : List Created) (rs : List Record) → Rise (λ s. s.number) ss → sum_by (λ s. sum_by (of_number s.number) rs) ss ≤ length rs
 all-counted ss [] rise = omega (arith, sum_by-none ss)

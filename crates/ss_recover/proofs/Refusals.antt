@@ -1,11 +1,10 @@
 -- The number that a walk tells where it refuses a record: the lowest whose records break a condition.
-use Rattle.std.proofs.Common.{◌≡◌, ◌∙◌, ℕ, ◌+◌, ◌<◌, ◌≤◌, Bool, true, false, cond, List, [], ◌∷◌, ◌++◌, map, length, Option, Some, None, IsSome, refl, sym, ap, ap₂, subst, inl, inr, arith, append_assoc, append-nil}
+use Rattle.std.proofs.Common.{◌≡◌, ◌∙◌, ℕ, ◌+◌, ◌^◌, ◌<◌, ◌≤◌, Bool, true, false, cond, List, [], ◌∷◌, ◌++◌, map, filter, length, Option, Some, None, IsSome, refl, sym, ap, ap₂, subst, inl, inr, arith, append_assoc, append-nil}
 use Rattle.std.specs.Prelude.{◌==◌, count_by}
-use Rattle.std.specs.List.{AllByRecursion, IsDistinct, cons_option, filter_map, list_any}
-use Rattle.std.proofs.lemmas.Bool.{cases_eq, cond-true, true≢false, eq-eqb, eqb-true, ne_eqb, or_left, or_right}
+use Rattle.std.specs.List.{AllByRecursion, IsDistinct, cons_option, filter_map, list_all, list_any}
+use Rattle.std.proofs.lemmas.Bool.{and_left, and_right, cases_Bool, cases_eq, cond-true, cond-false, true≢false, eq-eqb, eqb-true, or_left, or_right}
 use Rattle.std.proofs.lemmas.List.{map-append, length-append, length-map}
-use Rattle.std.proofs.lemmas.List.Concat.{flat_map-append}
-use Rattle.std.proofs.lemmas.List.Elements.{filter_map-append}
+use Rattle.std.proofs.lemmas.List.Elements.{filter-append, filter_map-append}
 use Rattle.std.proofs.lemmas.List.Folds.{list_any-append}
 use Rattle.std.proofs.lemmas.List.Sums.{sum_by-append, sum_by-cons}
 use Rattle.std.proofs.lemmas.Map.Keys.{IsDistinct-from_apart, IsDistinct-head, IsDistinct-tail, IsDistinct-cons}
@@ -17,34 +16,39 @@ use Rattle.ss_catalog.specs.declared.stream_id.StreamId.{StreamId}
 use Rattle.ss_catalog.specs.declared.params.Params.{Params}
 use Rattle.ss_codec.specs.declared.record.Record.{Record}
 use Rattle.ss_codec.specs.declared.record.Record.TheVariants as records
-use Rattle.ss_summary.specs.Figures.{Figures}
+use Rattle.ss_landmarks.specs.Landmarks.{IsState as AreKnown}
+use Rattle.ss_model.specs.Marks.{lies_free}
 use Rattle.ss_model.specs.Standing.{IsStream}
 use Rattle.ss_model.specs.State.{Created, Stream, names_of}
 use Rattle.ss_model.specs.Windows.{taken, newest_time}
 use Rattle.ss_model.specs.declared.types.Window.{Window}
-use Rattle.ss_recover.specs.Carried.{created_by, window_of}
+use Rattle.ss_recover.specs.Carried.{created_by, is_mark_of, window_of}
 use Rattle.ss_recover.specs.Held.{window_record}
+use Rattle.ss_recover.specs.Marked.{are_marks, is_next_landmark, is_next_value, is_whole, landmarks_made, marked_with}
 use Rattle.ss_recover.specs.Order.{place_of, stream_of}
-use Rattle.ss_recover.specs.Walk.{IsAfter, IsLowestUnsound, Refuses, RefusesWindow, is_open, is_sound_in_order, parts_open, records_of}
+use Rattle.ss_recover.specs.Walk.{CannotClose, IsAfter, IsLowestUnsound, LacksValues, Refuses, RefusesFirst, RefusesHere, RefusesNext, is_open, is_sound_in_order, records_of}
 use Rattle.ss_recover.specs.declared.found.Found.{Found}
 use Rattle.ss_recover.specs.declared.parts.StreamParts.{StreamParts}
+use Rattle.ss_recover.specs.declared.walking.Open.{Open}
 use Rattle.ss_recover.specs.declared.walking.Walk.{Walk}
-use Rattle.ss_recover.proofs.HeldRecords.{records_of_stream, records_of_streams}
 use Rattle.ss_recover.proofs.InOrder.{Rise}
-use Rattle.ss_recover.proofs.Lists.{all_weaker}
-use Rattle.ss_recover.proofs.SoundInOrder.{all-append, own-windows, sound-below, unsound-without_stream, unsound-two_streams, unsound-full, unsound-named, unsound-window}
-use Rattle.ss_recover.proofs.WalkLemmas.{AreHeldSoFar, IsCurrent}
-use Rattle.ss_recover.proofs.WalkOrder.{IsAmid}
-use Rattle.ss_recover.proofs.WalkSteps.{Holds, HoldsAs, closed, less, said}
+use Rattle.ss_recover.proofs.Lists.{all_append, all_weaker}
+use Rattle.ss_recover.proofs.Phases.{IsEnded, ended-lacks, ended-landmarks, lacks-whole, marks-made, marks-whole, next-add, next-begin, next-whole, not-marks, with_more, with_next}
+use Rattle.ss_recover.proofs.SoundInOrder.{marks-apart, sound-below, unsound-back_free, unsound-back_marks, unsound-full, unsound-named, unsound-two_streams, unsound-window, unsound-without_stream}
+use Rattle.ss_recover.proofs.WalkCurrent.{PhaseAs, phase-ended}
+use Rattle.ss_recover.proofs.WalkLemmas.{AreNames}
+use Rattle.ss_recover.proofs.WalkOrder.{IsAmid, no-marks-behind}
+use Rattle.ss_recover.proofs.WalkRecords.{all_walked, own-windows}
+use Rattle.ss_recover.proofs.WalkSteps.{AreComing, AreDone, Holds, HoldsAs, HoldsFor, coming-at_most, left, no-windows}
 
 abbrev digit : Bool → ℕ
 digit b = cond b 1 0
 
 lowest : (ss : List Stream) (back : List Record) (n : ℕ) (below : AllByRecursion (λ s. s.number < n) ss) (above : AllByRecursion (λ r. n ≤ stream_of r) back) →
     Rise (λ s. s.number) ss → IsDistinct same_name (names_of ss) → AllByRecursion IsStream ss → length ss ≤ MOST_STREAMS → list_any (λ r. stream_of r == n) back ≡ true →
-    is_sound_in_order (records_of_streams ss ++ back) n ≡ false → IsLowestUnsound n (records_of_streams ss ++ back)
+    is_sound_in_order (all_walked ss ++ back) n ≡ false → IsLowestUnsound n (all_walked ss ++ back)
 lowest ss back n below above rise distinct streams few has unsound = record {
-  has = list_any-append (λ r. stream_of r == n) (records_of_streams ss) back ∙ or_right (list_any (λ r. stream_of r == n) (records_of_streams ss)) _ has;
+  has = list_any-append (λ r. stream_of r == n) (all_walked ss) back ∙ or_right (list_any (λ r. stream_of r == n) (all_walked ss)) _ has;
   unsound = unsound;
   lower = sound-below ss back n below above rise distinct streams few;
 }
@@ -62,179 +66,362 @@ distinct-front (x ∷ xs) ys distinct =
     front [] all = tt
     front (z ∷ zs) all = (all.0, front zs all.1)
 
--- what is held of names
-distinct-held : (parts : List StreamParts) (ss : List Stream) (names : List (List ℕ × StreamId)) (all : List Found) → AreHeldSoFar parts ss names all → IsDistinct same_name (names_of ss)
-distinct-held parts ss names all so_far = subst (IsDistinct same_name) so_far.same_names so_far.distinct
+-- as many names as streams
+long-names : (names : List (List ℕ × StreamId)) (own : List (List ℕ)) → AreNames names own → length own ≡ length names
+long-names names own are = sym (ap (λ (ns : List (List ℕ)). length ns) are.same) ∙ length-map names (λ (n : List ℕ × StreamId). n.0)
 
-few-held : (parts : List StreamParts) (ss : List Stream) (names : List (List ℕ × StreamId)) (all : List Found) → AreHeldSoFar parts ss names all → length ss ≡ length names
-few-held parts ss names all so_far =
-    omega (arith, length-map names (λ (n : List ℕ × StreamId). n.0), length-map ss (λ (s : Stream). s.name), ap (λ (ns : List (List ℕ)). length ns) so_far.same_names)
+long-streams : (ss : List Stream) → length (names_of ss) ≡ length ss
+long-streams ss = length-map ss (λ (s : Stream). s.name)
 
--- A record that comes after those of other streams is refused.
-module _ (old : Walk) (front : List Found) (f : Found) (back : List Found) (holds : Holds old front) (amid : IsAmid (records_of front) f.holds (records_of back)) where
-  abbrev shut : List Stream
-  shut = (closed old.current old.done.items old.names old.next front holds).streams
+-- ---- the first record of a stream is refused
 
-  abbrev so_far : AreHeldSoFar (old.done.items ++ parts_open old.current) shut old.names front
-  so_far = (closed old.current old.done.items old.names old.next front holds).so_far
-
+module _ (done : List StreamParts) (names : List (List ℕ × StreamId)) (front : List Found) (f : Found) (back : List Found) (held : AreDone done names front (stream_of f.holds))
+    (amid : IsAmid (records_of front) f.holds (records_of back)) where
   abbrev rest : List Record
   rest = f.holds ∷ records_of back
 
-  all-shut : records_of (front ++ f ∷ back) ≡ records_of_streams shut ++ rest
-  all-shut =
-      map-append (λ (g : Found). g.holds) front (f ∷ back)
-      ∙ ap (λ l. l ++ rest) (said (old.done.items ++ parts_open old.current) shut old.names front so_far)
+  all-done : records_of (front ++ f ∷ back) ≡ all_walked held.streams ++ rest
+  all-done = map-append (λ (g : Found). g.holds) front (f ∷ back) ∙ ap (λ l. l ++ rest) held.held.order
 
-  above-shut : AllByRecursion (λ r. stream_of f.holds ≤ stream_of r) rest
-  above-shut = (omega arith, amid.behind)
+  above-done : AllByRecursion (λ r. stream_of f.holds ≤ stream_of r) rest
+  above-done = (omega arith, amid.behind)
 
-  after-others : (other : is_open old.current (stream_of f.holds) ≡ false) → is_sound_in_order (records_of_streams shut ++ rest) (stream_of f.holds) ≡ false →
-      IsLowestUnsound (stream_of f.holds) (records_of (front ++ f ∷ back))
-  after-others other unsound =
-      subst (IsLowestUnsound (stream_of f.holds)) (sym all-shut)
-      (lowest shut rest (stream_of f.holds) (less f.holds (records_of back) old.current old.done.items old.names old.next front holds amid other) above-shut
-      so_far.rise (distinct-held (old.done.items ++ parts_open old.current) shut old.names front so_far) so_far.sound
-      (let long = few-held (old.done.items ++ parts_open old.current) shut old.names front so_far in let most = so_far.most in omega arith)
+  after-others : is_sound_in_order (all_walked held.streams ++ rest) (stream_of f.holds) ≡ false → IsLowestUnsound (stream_of f.holds) (records_of (front ++ f ∷ back))
+  after-others unsound =
+      subst (IsLowestUnsound (stream_of f.holds)) (sym all-done)
+      (lowest held.streams rest (stream_of f.holds) held.below above-done held.held.rise
+      (subst (IsDistinct same_name) held.names_are.same held.names_are.distinct) held.held.sound
+      (let most = held.names_are.most in omega (arith, most, long-names names (names_of held.streams) held.names_are, long-streams held.streams))
       (or_left (stream_of f.holds == stream_of f.holds) _ (eq-eqb (stream_of f.holds) (stream_of f.holds) refl)) unsound)
 
-  refused-without_stream : (other : is_open old.current (stream_of f.holds) ≡ false) → 1 ≤ place_of f.holds → IsLowestUnsound (stream_of f.holds) (records_of (front ++ f ∷ back))
-  refused-without_stream other place =
-      after-others other
-      (unsound-without_stream shut rest (stream_of f.holds) (less f.holds (records_of back) old.current old.done.items old.names old.next front holds amid other) above-shut
+  refused-without_stream : 1 ≤ place_of f.holds → IsLowestUnsound (stream_of f.holds) (records_of (front ++ f ∷ back))
+  refused-without_stream place =
+      after-others
+      (unsound-without_stream held.streams rest (stream_of f.holds) held.below above-done
       ((λ _. place), all_weaker (λ r. stream_of r ≡ stream_of f.holds → place_of f.holds ≤ place_of r) (λ r. stream_of r ≡ stream_of f.holds → 1 ≤ place_of r) (λ r le same. let behind = le same in omega arith) (records_of back) amid.places))
 
-  refused-full : (other : is_open old.current (stream_of f.holds) ≡ false) → length old.names ≡ MOST_STREAMS → IsLowestUnsound (stream_of f.holds) (records_of (front ++ f ∷ back))
-  refused-full other full =
-      after-others other
-      (unsound-full shut rest (stream_of f.holds) (less f.holds (records_of back) old.current old.done.items old.names old.next front holds amid other) above-shut
-      (few-held (old.done.items ++ parts_open old.current) shut old.names front so_far ∙ full))
+  refused-full : length names ≡ MOST_STREAMS → IsLowestUnsound (stream_of f.holds) (records_of (front ++ f ∷ back))
+  refused-full full =
+      after-others
+      (unsound-full held.streams rest (stream_of f.holds) held.below above-done
+      (sym (long-streams held.streams) ∙ long-names names (names_of held.streams) held.names_are ∙ full))
 
-  refused-named : (other : is_open old.current (stream_of f.holds) ≡ false) (name : List ℕ) (params : Params) → f.holds ≡ records.Stream (stream_of f.holds) name params →
-      IsSome (id_of name old.names) → IsLowestUnsound (stream_of f.holds) (records_of (front ++ f ∷ back))
-  refused-named other name params is taken =
-      after-others other
-      (unsound-named shut rest (stream_of f.holds) (less f.holds (records_of back) old.current old.done.items old.names old.next front holds amid other) above-shut name params (records_of back)
+  refused-named : (name : List ℕ) (params : Params) → f.holds ≡ records.Stream (stream_of f.holds) name params → IsSome (id_of name names) →
+      IsLowestUnsound (stream_of f.holds) (records_of (front ++ f ∷ back))
+  refused-named name params is taken =
+      after-others
+      (unsound-named held.streams rest (stream_of f.holds) held.below above-done name params (records_of back)
       (ap (λ r. r ∷ records_of back) is)
-      (ap (list_any (same_name name)) (sym so_far.same_names) ∙ sym (is_some-lookup (same_name name) old.names) ∙ taken))
+      (ap (list_any (same_name name)) (sym held.names_are.same) ∙ sym (is_some-lookup (same_name name) names) ∙ taken))
 
--- A record of the stream that is current is refused.
-module _ (done : List StreamParts) (part : StreamParts) (names : List (List ℕ × StreamId)) (next : ℕ) (front : List Found) (f : Found) (back : List Found)
-    (holds : IsCurrent done part names next front) (amid : IsAmid (records_of front) f.holds (records_of back)) (same : holds.stream.number ≡ stream_of f.holds) where
+-- ---- a record of the stream whose records come is refused, or it lacks values of a landmark
+
+module _ (stream : Open) (done : List StreamParts) (names : List (List ℕ × StreamId)) (front back : List Found) (coming : AreComing stream done names front)
+    (behind : AllByRecursion (λ r. coming.head.number ≤ stream_of r) (records_of back)) where
+  abbrev number : ℕ
+  number = coming.head.number
+
+  abbrev head_record : Record
+  head_record = records.Stream coming.head.number coming.head.name coming.head.params
+
+  abbrev marks : List Record
+  marks = records_of coming.current.marks
+
+  abbrev windows : List Record
+  windows = map (window_record coming.head.number) coming.current.windows
+
+  abbrev own : List Record
+  own = head_record ∷ (marks ++ windows)
+
   abbrev own_back : List Record
-  own_back = records_of_stream holds.stream ++ f.holds ∷ records_of back
+  own_back = own ++ records_of back
 
-  all-current : records_of (front ++ f ∷ back) ≡ records_of_streams holds.streams ++ own_back
-  all-current =
-      map-append (λ (g : Found). g.holds) front (f ∷ back)
-      ∙ ap (λ l. l ++ f.holds ∷ records_of back)
-      (said (done ++ part ∷ []) (holds.streams ++ holds.stream ∷ []) names front (closed (Some part) done names next front holds).so_far
-      ∙ flat_map-append records_of_stream holds.streams (holds.stream ∷ [])
-      ∙ ap (λ l. records_of_streams holds.streams ++ l) (append-nil (records_of_stream holds.stream)))
-      ∙ append_assoc (records_of_streams holds.streams) (records_of_stream holds.stream) (f.holds ∷ records_of back)
+  own-records : records_of coming.own ≡ own
+  own-records =
+      ap records_of coming.current.split
+      ∙ ap (λ l. head_record ∷ l)
+      (map-append (λ (f : Found). f.holds) coming.current.marks coming.current.found ∙ ap (λ l. marks ++ l) coming.current.found_records)
 
-  below-current : AllByRecursion (λ s. s.number < stream_of f.holds) holds.streams
-  below-current = all_weaker (λ s. s.number < holds.stream.number) (λ s. s.number < stream_of f.holds) (λ s lt. omega (arith, same)) holds.streams holds.above
+  all-coming : records_of (front ++ back) ≡ all_walked coming.streams ++ own_back
+  all-coming =
+      map-append (λ (g : Found). g.holds) front back
+      ∙ ap (λ l. l ++ records_of back)
+      (ap records_of coming.split ∙ map-append (λ (g : Found). g.holds) coming.before coming.own ∙ ap₂ ◌++◌ coming.held.order own-records)
+      ∙ append_assoc (all_walked coming.streams) own (records_of back)
 
-  above-current : AllByRecursion (λ r. stream_of f.holds ≤ stream_of r) own_back
-  above-current = all-append (λ r. stream_of f.holds ≤ stream_of r) (records_of_stream holds.stream) (f.holds ∷ records_of back) (omega (arith, same), go holds.stream.windows) (omega arith, amid.behind)
+  mark-number : (r : Record) → is_mark_of number r ≡ true → number ≤ stream_of r
+  mark-number records.Free is = cc
+  mark-number (records.Stream id name params) is = cc
+  mark-number (records.Window id first summary) is = cc
+  mark-number (records.Landmark id n values start finish) is = let same = eqb-true id number is in omega (arith, same)
+  mark-number (records.Value id n index t v) is = let same = eqb-true id number is in omega (arith, same)
+
+  marks-above : (fs : List Found) → AllByRecursion (λ (f : Found). is_mark_of number f.holds ≡ true) fs → AllByRecursion (λ r. number ≤ stream_of r) (records_of fs)
+  marks-above [] all = tt
+  marks-above (f ∷ fs) all = (mark-number f.holds all.0, marks-above fs all.1)
+
+  windows-above : (ws : List Window) → AllByRecursion (λ r. number ≤ stream_of r) (map (window_record number) ws)
+  windows-above [] = tt
+  windows-above (w ∷ ws) = (omega arith, windows-above ws)
+
+  above-coming : AllByRecursion (λ r. number ≤ stream_of r) own_back
+  above-coming =
+      all_append (λ r. number ≤ stream_of r) own (records_of back)
+      (omega arith, all_append (λ r. number ≤ stream_of r) marks windows (marks-above coming.current.marks coming.current.of_number) (windows-above coming.current.windows)) behind
+
+  of-coming : is_sound_in_order (all_walked coming.streams ++ own_back) number ≡ false → IsLowestUnsound number (records_of (front ++ back))
+  of-coming unsound =
+      subst (IsLowestUnsound number) (sym all-coming)
+      (lowest coming.streams own_back number coming.above above-coming coming.held.rise
+      (distinct-front (names_of coming.streams) (coming.head.name ∷ []) (subst (IsDistinct same_name) coming.names_are.same coming.names_are.distinct)) coming.held.sound
+      (let most = coming.names_are.most in
+      omega (
+        arith,
+        most,
+        long-names names (names_of coming.streams ++ coming.head.name ∷ []) coming.names_are,
+        length-append (names_of coming.streams) (coming.head.name ∷ []),
+        long-streams coming.streams,
+      ))
+      (or_left (number == number) _ (eq-eqb number number refl)) unsound)
+
+  -- the marks and the windows of the stream
+  none-marks : (ws : List Window) → filter (is_mark_of number) (map (window_record number) ws) ≡ []
+  none-marks [] = refl
+  none-marks (w ∷ ws) = none-marks ws
+
+  all-marks : (fs : List Found) → AllByRecursion (λ (f : Found). is_mark_of number f.holds ≡ true) fs → filter (is_mark_of number) (records_of fs) ≡ records_of fs
+  all-marks [] all = refl
+  all-marks (f ∷ fs) all = rw all.0 (ap (λ l. f.holds ∷ l) (all-marks fs all.1))
+
+  own-marks : filter (is_mark_of number) own_back ≡ marks ++ filter (is_mark_of number) (records_of back)
+  own-marks =
+      filter-append (is_mark_of number) own (records_of back)
+      ∙ ap (λ l. l ++ filter (is_mark_of number) (records_of back))
+      (filter-append (is_mark_of number) marks windows
+      ∙ ap₂ ◌++◌ (all-marks coming.current.marks coming.current.of_number) (none-marks coming.current.windows) ∙ append-nil marks)
+
+  no-window : (r : Record) → is_mark_of number r ≡ true → (ws : List Window) → cons_option (window_of number r) ws ≡ ws
+  no-window records.Free is ws = refl
+  no-window (records.Stream id name params) is ws = refl
+  no-window (records.Window id first summary) is ws = cc
+  no-window (records.Landmark id n values start finish) is ws = refl
+  no-window (records.Value id n index t v) is ws = refl
+
+  none-windows : (fs : List Found) → AllByRecursion (λ (f : Found). is_mark_of number f.holds ≡ true) fs → filter_map (window_of number) (records_of fs) ≡ []
+  none-windows [] all = refl
+  none-windows (f ∷ fs) all = no-window f.holds all.0 (filter_map (window_of number) (records_of fs)) ∙ none-windows fs all.1
+
+  windows-own : filter_map (window_of number) own_back ≡ coming.current.windows ++ filter_map (window_of number) (records_of back)
+  windows-own =
+      filter_map-append (window_of number) own (records_of back)
+      ∙ ap (λ l. l ++ filter_map (window_of number) (records_of back))
+      (filter_map-append (window_of number) marks windows
+      ∙ ap₂ ◌++◌ (none-windows coming.current.marks coming.current.of_number) (own-windows number coming.current.windows))
+
+  -- its last landmark lacks values, and no more come
+  pub refused-lacks : filter (is_mark_of number) (records_of back) ≡ [] → AreKnown stream.part.landmarks → LacksValues stream →
+      IsLowestUnsound number (records_of (front ++ back))
+  refused-lacks none known lacks =
+      of-coming (unsound-back_marks coming.streams own_back number coming.above above-coming
+      (ap are_marks (own-marks ∙ ap (λ l. marks ++ l) none ∙ append-nil marks)
+      ∙ marks-whole marks coming.current.marked false coming.current.by (lacking coming.current.windows coming.current.phase)))
     where
-      go : (ws : List Window) → AllByRecursion (λ r. stream_of f.holds ≤ stream_of r) (map (window_record holds.stream.number) ws)
-      go [] = tt
-      go (w ∷ ws) = (omega (arith, same), go ws)
+      lacking : (ws : List Window) → PhaseAs stream coming.current.marked ws → is_whole coming.current.marked ≡ false
+      lacking [] phase = lacks-whole stream coming.current.marked known.order phase lacks
+      lacking (w ∷ ws) phase = absurd (ended-lacks stream coming.current.marked phase lacks)
 
-  of-current : is_sound_in_order (records_of_streams holds.streams ++ own_back) (stream_of f.holds) ≡ false → IsLowestUnsound (stream_of f.holds) (records_of (front ++ f ∷ back))
-  of-current unsound =
-      subst (IsLowestUnsound (stream_of f.holds)) (sym all-current)
-      (lowest holds.streams own_back (stream_of f.holds) below-current above-current holds.rise
-      (distinct-front (names_of holds.streams) (holds.stream.name ∷ []) (subst (IsDistinct same_name) holds.same_names holds.distinct)) holds.sound
-      (let long = ap (λ (ns : List (List ℕ)). length ns) (holds.same_names ∙ sym (map-append (λ (s : Stream). s.name) holds.streams (holds.stream ∷ []))) in
-      let most = holds.most in
-      omega (arith, long, length-map names (λ (n : List ℕ × StreamId). n.0), length-map (holds.streams ++ holds.stream ∷ []) (λ (s : Stream). s.name), length-append holds.streams (holds.stream ∷ [])))
-      (or_left (holds.stream.number == stream_of f.holds) _ (eq-eqb holds.stream.number (stream_of f.holds) same)) unsound)
+  -- a record of a landmark or a value may not come next
+  pub refused-mark : (r : Record) (more : List Record) → records_of back ≡ r ∷ more → is_mark_of number r ≡ true → marked_with coming.current.marked r ≡ None →
+      IsLowestUnsound number (records_of (front ++ back))
+  refused-mark r more is own_mark none =
+      of-coming (unsound-back_marks coming.streams own_back number coming.above above-coming
+      (ap are_marks (own-marks ∙ ap (λ l. marks ++ filter (is_mark_of number) l) is
+      ∙ ap (λ l. marks ++ l) (cond-true (is_mark_of number r) (r ∷ filter (is_mark_of number) more) (filter (is_mark_of number) more) own_mark))
+      ∙ not-marks marks r (filter (is_mark_of number) more) coming.current.marked coming.current.by none))
 
-  refused-twice : (name : List ℕ) (params : Params) → f.holds ≡ records.Stream (stream_of f.holds) name params → IsLowestUnsound (stream_of f.holds) (records_of (front ++ f ∷ back))
-  refused-twice name params is =
-      let n = stream_of f.holds in
+  -- a window isn't the next one
+  window-next : (w : Window) (more : List Record) → records_of back ≡ window_record number w ∷ more →
+      filter_map (window_of number) own_back ≡ coming.current.windows ++ w ∷ filter_map (window_of number) more
+  window-next w more is =
+      windows-own
+      ∙ ap (λ l. coming.current.windows ++ filter_map (window_of number) l) is
+      ∙ ap (λ (b : Bool). coming.current.windows ++ cons_option (cond b (Some w) None) (filter_map (window_of number) more)) (eq-eqb number number refl)
+
+  pub refused-window : (w : Window) (more : List Record) → records_of back ≡ window_record number w ∷ more →
+      (w.first ≡ taken coming.current.windows + 1 → IsAfter (newest_time coming.current.windows) w.summary.t_first → ⊥) → IsLowestUnsound number (records_of (front ++ back))
+  refused-window w more is refused =
+      of-coming (unsound-window coming.streams own_back number coming.above above-coming coming.current.windows w (filter_map (window_of number) more)
+      (window-next w more is) refused)
+
+  -- it doesn't lie free among the landmarks
+  pub refused-free : (mid : Open) (w : Window) (more : List Record) → records_of back ≡ window_record number w ∷ more → filter (is_mark_of number) (records_of back) ≡ [] →
+      IsEnded mid coming.current.marked → lies_free mid.part.landmarks.landmarks w ≡ false → IsLowestUnsound number (records_of (front ++ back))
+  refused-free mid w more is none ended covered =
+      let made : landmarks_made (filter (is_mark_of number) own_back) ≡ mid.part.landmarks.landmarks =
+      ap landmarks_made (own-marks ∙ ap (λ l. marks ++ l) none ∙ append-nil marks) ∙ marks-made marks coming.current.marked coming.current.by
+      ∙ ended-landmarks mid coming.current.marked ended in
+      of-coming (unsound-back_free coming.streams own_back number coming.above above-coming
+      (ap₂ (λ ls ws. list_all (lies_free ls) ws) made (window-next w more is) ∙ not-all (lies_free mid.part.landmarks.landmarks) coming.current.windows w (filter_map (window_of number) more) covered))
+    where
+      not-all : (p : Window → Bool) (xs : List Window) (x : Window) (ys : List Window) → p x ≡ false → list_all p (xs ++ x ∷ ys) ≡ false
+      not-all p [] x ys fails = and_left (p x) (list_all p ys) fails
+      not-all p (y ∷ xs) x ys fails = and_right (p y) (list_all p (xs ++ x ∷ ys)) (not-all p xs x ys fails)
+
+  -- another record of the stream itself
+  pub refused-twice : (name : List ℕ) (params : Params) (more : List Record) → records_of back ≡ records.Stream number name params ∷ more →
+      IsLowestUnsound number (records_of (front ++ back))
+  refused-twice name params more is =
+      let n = number in
       let c : Created = record { number = n; name = name; params = params } in
-      let first : Created = record { number = holds.stream.number; name = holds.stream.name; params = holds.stream.params } in
-      let windows : List Created = filter_map created_by (map (window_record holds.stream.number) holds.stream.windows) in
-      let later : filter_map created_by own_back ≡ first ∷ (windows ++ c ∷ filter_map created_by (records_of back)) =
-      filter_map-append created_by (records_of_stream holds.stream) (f.holds ∷ records_of back) ∙ ap (λ r. first ∷ (windows ++ filter_map created_by (r ∷ records_of back))) is in
-      let one : ℕ → ℕ = λ k. cond (k == n) 1 0 in
-      let count : count_by (λ (d : Created). d.number == n) (filter_map created_by own_back) ≡ count_by (λ (d : Created). d.number == n) (first ∷ (windows ++ c ∷ filter_map created_by (records_of back))) =
+      let first : Created = coming.head in
+      let between : List Created = filter_map created_by (marks ++ windows) in
+      let later : filter_map created_by own_back ≡ first ∷ (between ++ c ∷ filter_map created_by more) =
+      filter_map-append created_by own (records_of back) ∙ ap (λ rs. first ∷ (between ++ filter_map created_by rs)) is in
+      let count : count_by (λ (d : Created). d.number == n) (filter_map created_by own_back) ≡ count_by (λ (d : Created). d.number == n) (first ∷ (between ++ c ∷ filter_map created_by more)) =
       ap (count_by (λ (d : Created). d.number == n)) later in
-      of-current (unsound-two_streams holds.streams own_back n below-current above-current
+      of-coming (unsound-two_streams coming.streams own_back n coming.above above-coming
       (omega (
         arith,
         count,
-        sum_by-cons (λ (d : Created). cond (d.number == n) 1 0) first (windows ++ c ∷ filter_map created_by (records_of back)),
-        sum_by-append (λ (d : Created). cond (d.number == n) 1 0) windows (c ∷ filter_map created_by (records_of back)),
-        sum_by-cons (λ (d : Created). cond (d.number == n) 1 0) c (filter_map created_by (records_of back)),
-        one-at holds.stream.number n same,
-        one-at n n refl,
+        sum_by-cons (λ (d : Created). cond (d.number == n) 1 0) first (between ++ c ∷ filter_map created_by more),
+        sum_by-append (λ (d : Created). cond (d.number == n) 1 0) between (c ∷ filter_map created_by more),
+        sum_by-cons (λ (d : Created). cond (d.number == n) 1 0) c (filter_map created_by more),
+        cond-true {A = ℕ} (n == n) 1 0 (eq-eqb n n refl),
       )))
+
+-- ---- any record that is refused
+
+others-behind : (n : ℕ) (rs : List Record) → AllByRecursion (λ r. n < stream_of r) rs → filter (is_mark_of n) rs ≡ []
+others-behind n rs above = marks-apart n rs (all_weaker (λ r. n < stream_of r) (λ r. stream_of r ≡ n → ⊥) (λ r lt same. absurd (omega (arith, lt, same))) rs above)
+
+module _ (stream : Open) (done : List StreamParts) (names : List (List ℕ × StreamId)) (front : List Found) (slot : ℕ) (back : List Found) (coming : AreComing stream done names front)
+    (known : AreKnown stream.part.landmarks) where
+  into : (r : Record) → stream_of r ≡ coming.head.number → IsAmid (records_of front) r (records_of back) → RefusesNext stream r →
+      IsLowestUnsound coming.head.number (records_of (front ++ record { slot = slot; holds = r } ∷ back))
+  into r same amid refuses = go r same amid refuses
     where
-      one-at : (k m : ℕ) → k ≡ m → digit (k == m) ≡ 1
-      one-at k m e = cond-true (k == m) 1 0 (eq-eqb k m e)
+      at-least : (r : Record) → stream_of r ≡ coming.head.number → IsAmid (records_of front) r (records_of back) →
+          AllByRecursion (λ other. coming.head.number ≤ stream_of other) (r ∷ records_of back)
+      at-least r same amid =
+          (omega (arith, same), all_weaker (λ other. stream_of r ≤ stream_of other) (λ other. coming.head.number ≤ stream_of other) (λ other le. omega (arith, le, same)) (records_of back) amid.behind)
 
-  refused-window : (first : ℕ) (summary : Figures) → f.holds ≡ records.Window (stream_of f.holds) first summary →
-      (first ≡ taken holds.stream.windows + 1 → IsAfter (newest_time holds.stream.windows) summary.t_first → ⊥) → IsLowestUnsound (stream_of f.holds) (records_of (front ++ f ∷ back))
-  refused-window first summary is refused =
-      let n = stream_of f.holds in
-      let w : Window = record { first = first; summary = summary } in
-      let rest_windows : List Window = filter_map (window_of n) (records_of back) in
-      let own : filter_map (window_of n) (records_of_stream holds.stream) ≡ holds.stream.windows =
-      ap (λ m. filter_map (window_of n) (map (window_record m) holds.stream.windows)) same ∙ own-windows n holds.stream.windows in
-      let next_one : filter_map (window_of n) (f.holds ∷ records_of back) ≡ w ∷ rest_windows =
-      ap (λ r. filter_map (window_of n) (r ∷ records_of back)) is ∙ ap (λ (b : Bool). cons_option (cond b (Some w) None) rest_windows) (eq-eqb n n refl) in
-      of-current (unsound-window holds.streams own_back n below-current above-current holds.stream.windows w rest_windows
-      (filter_map-append (window_of n) (records_of_stream holds.stream) (f.holds ∷ records_of back) ∙ ap₂ ◌++◌ own next_one) refused)
+      go : (r : Record) → stream_of r ≡ coming.head.number → IsAmid (records_of front) r (records_of back) → RefusesNext stream r →
+          IsLowestUnsound coming.head.number (records_of (front ++ record { slot = slot; holds = r } ∷ back))
+      go records.Free same amid refuses = absurd amid.usable
+      go (records.Stream id name params) same amid refuses =
+          let r = records.Stream id name params in
+          refused-twice stream done names front (record { slot = slot; holds = r } ∷ back) coming (at-least r same amid) name params (records_of back)
+          (ap (λ n. records.Stream n name params ∷ records_of back) same)
+      go (records.Value id number index t v) same amid refuses =
+          let r = records.Value id number index t v in
+          let few = amid.usable.1 in
+          let short = amid.usable.2 in
+          let none = no-windows stream done names front coming r (records_of back) amid same (omega (arith, few, short)) in
+          refused-mark stream done names front (record { slot = slot; holds = r } ∷ back) coming (at-least r same amid) r (records_of back) refl (eq-eqb id coming.head.number same)
+          (cond-false (is_next_value coming.current.marked number index t) (Some (with_more coming.current.marked t v)) None
+          (next-add stream coming.current.marked number index t known.order (subst (PhaseAs stream coming.current.marked) none coming.current.phase) refuses))
+      go (records.Landmark id number values start finish) same amid refuses =
+          let r = records.Landmark id number values start finish in
+          let few = amid.usable.1 in
+          let none = no-windows stream done names front coming r (records_of back) amid same (omega (arith, few)) in
+          let marking = subst (PhaseAs stream coming.current.marked) none coming.current.phase in
+          let test : is_next_landmark coming.current.marked number start ≡ false = elim refuses [
+            | inl lacks ↦ next-whole coming.current.marked number start (lacks-whole stream coming.current.marked known.order marking lacks)
+            | inr cannot ↦
+                next-begin cannot.0 coming.current.marked number start cannot.2.order
+                (phase-ended stream cannot.0 coming.current.marked coming.current.windows known.order coming.current.phase cannot.1) cannot.3
+          ] in
+          refused-mark stream done names front (record { slot = slot; holds = r } ∷ back) coming (at-least r same amid) r (records_of back) refl (eq-eqb id coming.head.number same)
+          (cond-false (is_next_landmark coming.current.marked number start) (Some (with_next coming.current.marked values start finish)) None test)
+      go (records.Window id first summary) same amid refuses =
+          let r = records.Window id first summary in
+          let m = coming.current.marked in
+          let w : Window = record { first = first; summary = summary } in
+          let x : Found = record { slot = slot; holds = r } in
+          let is : r ∷ records_of back ≡ window_record coming.head.number w ∷ records_of back = ap (λ n. records.Window n first summary ∷ records_of back) same in
+          let least = at-least r same amid in
+          let places : AllByRecursion (λ other. stream_of other ≡ coming.head.number → 2 ^ 64 + first ≤ place_of other) (records_of back) =
+          all_weaker (λ other. stream_of other ≡ stream_of r → place_of r ≤ place_of other) (λ other. stream_of other ≡ coming.head.number → 2 ^ 64 + first ≤ place_of other)
+          (λ other le also. le (also ∙ sym same)) (records_of back) amid.places in
+          let none : filter (is_mark_of coming.head.number) (r ∷ records_of back) ≡ [] =
+          no-marks-behind coming.head.number first (records_of back) amid.rest places in
+          elim refuses [
+            | inl lacks ↦ refused-lacks stream done names front (x ∷ back) coming least none known lacks
+            | inr cannot ↦
+                let mid = cannot.0 in
+                let ended = phase-ended stream mid m coming.current.windows known.order coming.current.phase cannot.1 in
+                elim (cases_Bool (lies_free mid.part.landmarks.landmarks w)) [
+                  | inr covered ↦ refused-free stream done names front (x ∷ back) coming least mid w (records_of back) is none ended covered
+                  | inl free ↦
+                      refused-window stream done names front (x ∷ back) coming least w (records_of back) is
+                      (λ place after. cannot.2 (record {
+                        in_turn = place ∙ sym (cannot.1.same.next ∙ coming.current.place);
+                        after = subst (λ (o : Option ℕ). IsAfter o summary.t_first) (sym (cannot.1.same.newest ∙ coming.current.newest)) after;
+                        free = free;
+                      }))
+                ]
+          ]
 
-open-number : (o : Option StreamParts) (part : StreamParts) (n : ℕ) → o ≡ Some part → (part.id.0 ≡ n → ⊥) → is_open o n ≡ false
-open-number o part n is other = ap (λ q. is_open q n) is ∙ ne_eqb part.id.0 n other
+-- the stream whose records came lacks values at its end
+pub lacks-at_end : (old : Walk) (n : ℕ) (front back : List Found) → Holds old front → CannotClose old n →
+    ((stream : Open) (coming : AreComing stream old.done.items old.names front) → stream.part.id.0 ≡ n → AllByRecursion (λ r. coming.head.number < stream_of r) (records_of back)) →
+    IsLowestUnsound n (records_of (front ++ back))
+lacks-at_end old n front back holds cannot above =
+    let coming : AreComing cannot.stream old.done.items old.names front = subst (λ o. HoldsAs o old.done.items old.names front) cannot.current holds in
+    let others = above cannot.stream coming (sym cannot.number) in
+    let same : coming.head.number ≡ n = sym coming.current.number ∙ sym cannot.number in
+    subst (λ k. IsLowestUnsound k (records_of (front ++ back))) same
+    (refused-lacks cannot.stream old.done.items old.names front back coming
+    (all_weaker (λ r. coming.head.number < stream_of r) (λ r. coming.head.number ≤ stream_of r) (λ r lt. omega arith) (records_of back) others)
+    (others-behind coming.head.number (records_of back) others) cannot.known cannot.lacks)
 
--- of any record that is refused
-refused-current : (o : Option StreamParts) (done : List StreamParts) (names : List (List ℕ × StreamId)) (next : ℕ) (slot id : ℕ) (name : List ℕ) (params : Params) (front back : List Found) →
-    HoldsAs o done names next front → IsAmid (records_of front) (records.Stream id name params) (records_of back) → is_open o id ≡ true →
-    IsLowestUnsound id (records_of (front ++ record { slot = slot; holds = records.Stream id name params } ∷ back))
-refused-current None done names next slot id name params front back holds amid is = absurd (true≢false (sym is))
-refused-current (Some part) done names next slot id name params front back holds amid is =
-    refused-twice done part names next front (record { slot = slot; holds = records.Stream id name params }) back holds amid
-    (sym holds.agrees.number ∙ eqb-true part.id.0 id is) name params refl
-
-refused-behind : (old : Walk) (slot id first : ℕ) (summary : Figures) (front back : List Found) → Holds old front →
-    IsAmid (records_of front) (records.Window id first summary) (records_of back) → RefusesWindow old id first summary →
-    (o : Option StreamParts) → old.current ≡ o → HoldsAs o old.done.items old.names old.next front →
-    IsLowestUnsound id (records_of (front ++ record { slot = slot; holds = records.Window id first summary } ∷ back))
-refused-behind old slot id first summary front back holds amid refuses None is inside =
-    refused-without_stream old front (record { slot = slot; holds = records.Window id first summary }) back holds amid (ap (λ q. is_open q id) is) amid.usable.0
-refused-behind old slot id first summary front back holds amid refuses (Some part) is inside =
-    elim (cases_eq part.id.0 id) [
-      | inr other ↦ refused-without_stream old front (record { slot = slot; holds = records.Window id first summary }) back holds amid (open-number old.current part id is other) amid.usable.0
-      | inl same ↦
-          refused-window old.done.items part old.names old.next front (record { slot = slot; holds = records.Window id first summary }) back inside amid (sym inside.agrees.number ∙ same) first summary refl
-          (λ place after. refuses part (record {
-            current = is;
-            number = same;
-            in_turn = place ∙ sym inside.place;
-            after = subst (λ (o : Option ℕ). IsAfter o summary.t_first) (sym inside.agrees.last_time) after;
-          }))
+refused-first : (mid : Walk) (slot : ℕ) (r : Record) (front back : List Found) → AreDone mid.done.items mid.names front (stream_of r) → IsAmid (records_of front) r (records_of back) →
+    RefusesFirst mid r → IsLowestUnsound (stream_of r) (records_of (front ++ record { slot = slot; holds = r } ∷ back))
+refused-first mid slot records.Free front back held amid refuses = absurd amid.usable
+refused-first mid slot (records.Stream id name params) front back held amid refuses =
+    let f : Found = record { slot = slot; holds = records.Stream id name params } in
+    elim refuses [
+      | inl taken ↦ refused-named mid.done.items mid.names front f back held amid name params refl taken
+      | inr full ↦ refused-full mid.done.items mid.names front f back held amid full
     ]
+refused-first mid slot (records.Window id first summary) front back held amid refuses =
+    let low = amid.usable.0 in
+    refused-without_stream mid.done.items mid.names front (record { slot = slot; holds = records.Window id first summary }) back held amid (omega (arith, low))
+refused-first mid slot (records.Landmark id number values start finish) front back held amid refuses =
+    let low = amid.usable.0 in
+    refused-without_stream mid.done.items mid.names front (record { slot = slot; holds = records.Landmark id number values start finish }) back held amid (omega (arith, low))
+refused-first mid slot (records.Value id number index t v) front back held amid refuses =
+    let low = amid.usable.0 in
+    refused-without_stream mid.done.items mid.names front (record { slot = slot; holds = records.Value id number index t v }) back held amid (omega (arith, low))
+
+refused-here : (mid : Walk) (slot : ℕ) (r : Record) (front back : List Found) → HoldsFor mid.current mid.done.items mid.names front (stream_of r) →
+    IsAmid (records_of front) r (records_of back) → RefusesHere mid r → IsLowestUnsound (stream_of r) (records_of (front ++ record { slot = slot; holds = r } ∷ back))
+refused-here mid slot r front back holds amid (inl first) =
+    refused-first mid slot r front back (subst (λ o. HoldsFor o mid.done.items mid.names front (stream_of r)) first.0 holds) amid first.1
+refused-here mid slot r front back holds amid (inr next) =
+    let its = subst (λ o. HoldsFor o mid.done.items mid.names front (stream_of r)) next.current holds in
+    let coming = its.0 in
+    let same : stream_of r ≡ coming.head.number = sym its.1 ∙ coming.current.number in
+    subst (λ n. IsLowestUnsound n (records_of (front ++ record { slot = slot; holds = r } ∷ back))) (sym same)
+    (into next.stream mid.done.items mid.names front slot back coming next.known r same amid next.refuses)
+
+open-other : (o : Option Open) (stream : Open) (n : ℕ) → o ≡ Some stream → is_open o n ≡ false → stream.part.id.0 ≡ n → ⊥
+open-other o stream n is other same = true≢false (sym (ap (λ q. is_open q n) is ∙ eq-eqb stream.part.id.0 n same) ∙ other)
 
 pub refused : (old : Walk) (slot n : ℕ) (r : Record) (front back : List Found) → Holds old front → IsAmid (records_of front) r (records_of back) → Refuses old n r →
     IsLowestUnsound n (records_of (front ++ record { slot = slot; holds = r } ∷ back))
-refused old slot n records.Free front back holds amid refuses = absurd refuses
-refused old slot n (records.Stream id name params) front back holds amid refuses =
-    let f : Found = record { slot = slot; holds = records.Stream id name params } in
-    subst (λ m. IsLowestUnsound m (records_of (front ++ f ∷ back))) (sym refuses.0)
-    (elim refuses.1 [
-      | inl is ↦ refused-current old.current old.done.items old.names old.next slot id name params front back holds amid is
-      | inr why ↦ elim why.1 [
-        | inl taken ↦ refused-named old front f back holds amid why.0 name params refl taken
-        | inr full ↦ refused-full old front f back holds amid why.0 full
-      ]
-    ])
-refused old slot n (records.Window id first summary) front back holds amid refuses =
-    subst (λ m. IsLowestUnsound m (records_of (front ++ record { slot = slot; holds = records.Window id first summary } ∷ back))) (sym refuses.0)
-    (refused-behind old slot id first summary front back holds amid refuses.1 old.current refl holds)
+refused old slot n r front back holds amid (inl ends) =
+    let cannot = ends.1 in
+    lacks-at_end old n front (record { slot = slot; holds = r } ∷ back) holds cannot
+    (λ stream coming is.
+    let le = coming-at_most stream old.done.items old.names front coming (stream_of r) amid.before in
+    let differ : coming.head.number ≡ stream_of r → ⊥ =
+    λ same. open-other old.current cannot.stream (stream_of r) cannot.current ends.0 (sym cannot.number ∙ sym is ∙ coming.current.number ∙ same) in
+    let lt : coming.head.number < stream_of r = not_same coming.head.number (stream_of r) le differ in
+    (lt, all_weaker (λ other. stream_of r ≤ stream_of other) (λ other. coming.head.number < stream_of other) (λ other le. omega (arith, le, lt)) (records_of back) amid.behind))
+  where
+    not_same : (a b : ℕ) → a ≤ b → (a ≡ b → ⊥) → a < b
+    not_same a b le ne = elim (cases_eq a b) [ inl same ↦ absurd (ne same) | inr other ↦ omega (arith, other, le) ]
+refused old slot n r front back holds amid (inr here) =
+    subst (λ m. IsLowestUnsound m (records_of (front ++ record { slot = slot; holds = r } ∷ back))) (sym here.0)
+    (refused-here here.1.0 slot r front back (left old here.1.0 (stream_of r) front amid.before holds here.1.1) amid here.1.2)

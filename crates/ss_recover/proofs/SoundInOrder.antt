@@ -1,10 +1,10 @@
 -- Records in order: those of lower numbers are sound, and why those of a number aren't.
-use Rattle.std.proofs.Common.{◌≡◌, ◌∙◌, ℕ, ◌+◌, ◌<◌, ◌≤◌, Bool, true, false, not, ◌&&◌, cond, List, [], ◌∷◌, ◌++◌, map, length, refl, sym, ap, ap₂, subst, inl, inr, arith, append-nil}
+use Rattle.std.proofs.Common.{◌≡◌, ◌∙◌, ℕ, ◌+◌, ◌<◌, ◌≤◌, Bool, true, false, not, ◌&&◌, cond, List, [], ◌∷◌, ◌++◌, map, filter, length, refl, sym, ap, ap₂, subst, inl, inr, arith, append-nil}
 use Rattle.std.specs.Prelude.{◌==◌, nat_lt, count_by, sum_by}
-use Rattle.std.specs.List.{AllByRecursion, IsDistinct, filter_map, list_any}
+use Rattle.std.specs.List.{AllByRecursion, IsDistinct, filter_map, list_all, list_any}
 use Rattle.std.proofs.lemmas.Bool.{and_from, and_left, and_right, and_parts, cases_Bool, eq-eqb, eqb-true, ne_eqb, or_cases, or_from, or_left, or_right, ltb-true, lt-ltb, le-ltb, true≢false}
 use Rattle.std.proofs.lemmas.List.{length-map}
-use Rattle.std.proofs.lemmas.List.Elements.{filter_map-append}
+use Rattle.std.proofs.lemmas.List.Elements.{filter-append, filter_map-append}
 use Rattle.std.proofs.lemmas.List.Folds.{list_any-append}
 use Rattle.std.proofs.lemmas.List.Sums.{sum_by-cons, sum_by-append}
 use Rattle.ss_catalog.specs.Names.{same_name}
@@ -13,45 +13,96 @@ use Rattle.ss_catalog.specs.declared.params.Params.{Params}
 use Rattle.ss_codec.specs.declared.record.Record.{Record}
 use Rattle.ss_codec.specs.declared.record.Record.TheVariants as records
 use Rattle.ss_model.proofs.NameLemmas.{same_name-swap}
+use Rattle.ss_landmarks.specs.Landmark.{Landmark}
+use Rattle.ss_landmarks.specs.Order.{AreLandmarks}
+use Rattle.ss_model.specs.Marks.{lies_free}
 use Rattle.ss_model.specs.Standing.{IsStream}
 use Rattle.ss_model.specs.State.{Created, Stream, names_of}
 use Rattle.ss_model.specs.Windows.{taken, newest_time}
 use Rattle.ss_model.specs.declared.types.Window.{Window}
-use Rattle.ss_recover.specs.Carried.{created_by, streams_created, window_of}
+use Rattle.ss_recover.specs.Carried.{created_by, is_mark_of, streams_created, window_of}
 use Rattle.ss_recover.specs.Conditions.{has_new_name, has_one_record, has_place, is_named_before, tile, tile_from, times_rise}
-use Rattle.ss_recover.specs.Held.{window_record}
+use Rattle.ss_recover.specs.Marked.{are_marks, landmarks_made}
 use Rattle.ss_recover.specs.Order.{place_of, stream_of}
 use Rattle.ss_recover.specs.Walk.{IsAfter, is_sound_in_order}
-use Rattle.ss_recover.proofs.HeldRecords.{records_of_streams}
 use Rattle.ss_recover.proofs.InOrder.{Rise}
-use Rattle.ss_recover.proofs.Lists.{all_weaker}
+use Rattle.ss_recover.proofs.Lists.{all_append, all_weaker}
 use Rattle.ss_recover.proofs.SoundStreams.{IsOnce-each, IsNew-each, tile-AreWindows, times_rise-AreWindows}
-use Rattle.ss_recover.proofs.StreamRecords.{created, filter_map-created_by, HasWindows-each}
+use Rattle.ss_recover.proofs.Marks.{are_marks-marks_of, landmarks_made-marks_of, marks_of}
+use Rattle.ss_recover.proofs.StreamRecords.{created}
+use Rattle.ss_recover.proofs.WalkRecords.{HasOwn, HasOwn-each, all-all_walked, all_walked, created-all_walked, marks-others, windows-others}
+
+-- seven conditions, of which one isn't met
+module _ (a b c d e f g : Bool) where
+  from_6 : (a && b && c && d && e && f) ≡ false → (a && b && c && d && e && f && g) ≡ false
+  from_6 is = and_left (a && b && c && d && e && f) g is
+
+  from_5 : (a && b && c && d && e) ≡ false → (a && b && c && d && e && f && g) ≡ false
+  from_5 is = from_6 (and_left (a && b && c && d && e) f is)
+
+  from_4 : (a && b && c && d) ≡ false → (a && b && c && d && e && f && g) ≡ false
+  from_4 is = from_5 (and_left (a && b && c && d) e is)
+
+  from_3 : (a && b && c) ≡ false → (a && b && c && d && e && f && g) ≡ false
+  from_3 is = from_4 (and_left (a && b && c) d is)
+
+  from_2 : (a && b) ≡ false → (a && b && c && d && e && f && g) ≡ false
+  from_2 is = from_3 (and_left (a && b) c is)
+
+  fails-1 : a ≡ false → (a && b && c && d && e && f && g) ≡ false
+  fails-1 is = from_2 (and_left a b is)
+
+  fails-2 : b ≡ false → (a && b && c && d && e && f && g) ≡ false
+  fails-2 is = from_2 (and_right a b is)
+
+  fails-3 : c ≡ false → (a && b && c && d && e && f && g) ≡ false
+  fails-3 is = from_3 (and_right (a && b) c is)
+
+  fails-4 : d ≡ false → (a && b && c && d && e && f && g) ≡ false
+  fails-4 is = from_4 (and_right (a && b && c) d is)
+
+  fails-5 : e ≡ false → (a && b && c && d && e && f && g) ≡ false
+  fails-5 is = from_5 (and_right (a && b && c && d) e is)
+
+  fails-6 : f ≡ false → (a && b && c && d && e && f && g) ≡ false
+  fails-6 is = from_6 (and_right (a && b && c && d && e) f is)
+
+  fails-7 : g ≡ false → (a && b && c && d && e && f && g) ≡ false
+  fails-7 is = and_right (a && b && c && d && e && f) g is
+
+  sound-all : a ≡ true → b ≡ true → c ≡ true → d ≡ true → e ≡ true → f ≡ true → g ≡ true → (a && b && c && d && e && f && g) ≡ true
+  sound-all is_a is_b is_c is_d is_e is_f is_g =
+      and_from (a && b && c && d && e && f) g
+      (and_from (a && b && c && d && e) f (and_from (a && b && c && d) e (and_from (a && b && c) d (and_from (a && b) c (and_from a b is_a is_b) is_c) is_d) is_e) is_f) is_g
 
 -- what each condition of a sound number makes of all
-pub unsound-one : (rs : List Record) (n : ℕ) → has_one_record n (streams_created rs) ≡ false → is_sound_in_order rs n ≡ false
-unsound-one rs n is =
-    and_left (has_one_record n (streams_created rs) && has_place n (streams_created rs) && has_new_name n (streams_created rs) && tile (filter_map (window_of n) rs)) (times_rise (filter_map (window_of n) rs)) (and_left (has_one_record n (streams_created rs) && has_place n (streams_created rs) && has_new_name n (streams_created rs)) (tile (filter_map (window_of n) rs)) (and_left (has_one_record n (streams_created rs) && has_place n (streams_created rs)) (has_new_name n (streams_created rs)) (and_left (has_one_record n (streams_created rs)) (has_place n (streams_created rs)) is)))
+module _ (rs : List Record) (n : ℕ) where
+  abbrev marks : List Record
+  marks = filter (is_mark_of n) rs
 
-pub unsound-place : (rs : List Record) (n : ℕ) → has_place n (streams_created rs) ≡ false → is_sound_in_order rs n ≡ false
-unsound-place rs n is =
-    and_left (has_one_record n (streams_created rs) && has_place n (streams_created rs) && has_new_name n (streams_created rs) && tile (filter_map (window_of n) rs)) (times_rise (filter_map (window_of n) rs)) (and_left (has_one_record n (streams_created rs) && has_place n (streams_created rs) && has_new_name n (streams_created rs)) (tile (filter_map (window_of n) rs)) (and_left (has_one_record n (streams_created rs) && has_place n (streams_created rs)) (has_new_name n (streams_created rs)) (and_right (has_one_record n (streams_created rs)) (has_place n (streams_created rs)) is)))
+  abbrev windows : List Window
+  windows = filter_map (window_of n) rs
 
-pub unsound-name : (rs : List Record) (n : ℕ) → has_new_name n (streams_created rs) ≡ false → is_sound_in_order rs n ≡ false
-unsound-name rs n is =
-    and_left (has_one_record n (streams_created rs) && has_place n (streams_created rs) && has_new_name n (streams_created rs) && tile (filter_map (window_of n) rs)) (times_rise (filter_map (window_of n) rs)) (and_left (has_one_record n (streams_created rs) && has_place n (streams_created rs) && has_new_name n (streams_created rs)) (tile (filter_map (window_of n) rs)) (and_right (has_one_record n (streams_created rs) && has_place n (streams_created rs)) (has_new_name n (streams_created rs)) is))
+  pub unsound-one : has_one_record n (streams_created rs) ≡ false → is_sound_in_order rs n ≡ false
+  unsound-one is = fails-1 (has_one_record n (streams_created rs)) (has_place n (streams_created rs)) (has_new_name n (streams_created rs)) (tile windows) (times_rise windows) (are_marks marks) (list_all (lies_free (landmarks_made marks)) windows) is
 
-pub unsound-tile : (rs : List Record) (n : ℕ) → tile (filter_map (window_of n) rs) ≡ false → is_sound_in_order rs n ≡ false
-unsound-tile rs n is =
-    and_left (has_one_record n (streams_created rs) && has_place n (streams_created rs) && has_new_name n (streams_created rs) && tile (filter_map (window_of n) rs)) (times_rise (filter_map (window_of n) rs)) (and_right (has_one_record n (streams_created rs) && has_place n (streams_created rs) && has_new_name n (streams_created rs)) (tile (filter_map (window_of n) rs)) is)
+  pub unsound-place : has_place n (streams_created rs) ≡ false → is_sound_in_order rs n ≡ false
+  unsound-place is = fails-2 (has_one_record n (streams_created rs)) (has_place n (streams_created rs)) (has_new_name n (streams_created rs)) (tile windows) (times_rise windows) (are_marks marks) (list_all (lies_free (landmarks_made marks)) windows) is
 
-pub unsound-times : (rs : List Record) (n : ℕ) → times_rise (filter_map (window_of n) rs) ≡ false → is_sound_in_order rs n ≡ false
-unsound-times rs n is =
-    and_right (has_one_record n (streams_created rs) && has_place n (streams_created rs) && has_new_name n (streams_created rs) && tile (filter_map (window_of n) rs)) (times_rise (filter_map (window_of n) rs)) is
+  pub unsound-name : has_new_name n (streams_created rs) ≡ false → is_sound_in_order rs n ≡ false
+  unsound-name is = fails-3 (has_one_record n (streams_created rs)) (has_place n (streams_created rs)) (has_new_name n (streams_created rs)) (tile windows) (times_rise windows) (are_marks marks) (list_all (lies_free (landmarks_made marks)) windows) is
 
-sound-all : (a b c d e : Bool) → a ≡ true → b ≡ true → c ≡ true → d ≡ true → e ≡ true → (a && b && c && d && e) ≡ true
-sound-all a b c d e is_a is_b is_c is_d is_e =
-    and_from (a && b && c && d) e (and_from (a && b && c) d (and_from (a && b) c (and_from a b is_a is_b) is_c) is_d) is_e
+  pub unsound-tile : tile windows ≡ false → is_sound_in_order rs n ≡ false
+  unsound-tile is = fails-4 (has_one_record n (streams_created rs)) (has_place n (streams_created rs)) (has_new_name n (streams_created rs)) (tile windows) (times_rise windows) (are_marks marks) (list_all (lies_free (landmarks_made marks)) windows) is
+
+  pub unsound-times : times_rise windows ≡ false → is_sound_in_order rs n ≡ false
+  unsound-times is = fails-5 (has_one_record n (streams_created rs)) (has_place n (streams_created rs)) (has_new_name n (streams_created rs)) (tile windows) (times_rise windows) (are_marks marks) (list_all (lies_free (landmarks_made marks)) windows) is
+
+  pub unsound-marks : are_marks marks ≡ false → is_sound_in_order rs n ≡ false
+  unsound-marks is = fails-6 (has_one_record n (streams_created rs)) (has_place n (streams_created rs)) (has_new_name n (streams_created rs)) (tile windows) (times_rise windows) (are_marks marks) (list_all (lies_free (landmarks_made marks)) windows) is
+
+  pub unsound-free : list_all (lies_free (landmarks_made marks)) windows ≡ false → is_sound_in_order rs n ≡ false
+  unsound-free is = fails-7 (has_one_record n (streams_created rs)) (has_place n (streams_created rs)) (has_new_name n (streams_created rs)) (tile windows) (times_rise windows) (are_marks marks) (list_all (lies_free (landmarks_made marks)) windows) is
 
 abbrev digit : Bool → ℕ
 digit b = cond b 1 0
@@ -100,29 +151,28 @@ created-back P [] all = tt
 created-back P (records.Free ∷ rs) all = created-back P rs all.1
 created-back P (records.Stream id name params ∷ rs) all = (all.0, created-back P rs all.1)
 created-back P (records.Window id first summary ∷ rs) all = created-back P rs all.1
+created-back P (records.Landmark id number values start finish ∷ rs) all = created-back P rs all.1
+created-back P (records.Value id number index t v ∷ rs) all = created-back P rs all.1
 
 pub windows-apart : (m : ℕ) (rs : List Record) → AllByRecursion (λ r. stream_of r ≡ m → ⊥) rs → filter_map (window_of m) rs ≡ []
 windows-apart m [] apart = refl
 windows-apart m (records.Free ∷ rs) apart = windows-apart m rs apart.1
 windows-apart m (records.Stream id name params ∷ rs) apart = windows-apart m rs apart.1
 windows-apart m (records.Window id first summary ∷ rs) apart = rw (ne_eqb id m apart.0) (windows-apart m rs apart.1)
+windows-apart m (records.Landmark id number values start finish ∷ rs) apart = windows-apart m rs apart.1
+windows-apart m (records.Value id number index t v ∷ rs) apart = windows-apart m rs apart.1
+
+pub marks-apart : (m : ℕ) (rs : List Record) → AllByRecursion (λ r. stream_of r ≡ m → ⊥) rs → filter (is_mark_of m) rs ≡ []
+marks-apart m [] apart = refl
+marks-apart m (records.Free ∷ rs) apart = marks-apart m rs apart.1
+marks-apart m (records.Stream id name params ∷ rs) apart = marks-apart m rs apart.1
+marks-apart m (records.Window id first summary ∷ rs) apart = marks-apart m rs apart.1
+marks-apart m (records.Landmark id number values start finish ∷ rs) apart = rw (ne_eqb id m apart.0) (marks-apart m rs apart.1)
+marks-apart m (records.Value id number index t v ∷ rs) apart = rw (ne_eqb id m apart.0) (marks-apart m rs apart.1)
 
 map-all : {X Y : Type 0} (P : Y → Type 0) (f : X → Y) (xs : List X) → AllByRecursion (λ x. P (f x)) xs → AllByRecursion P (map f xs)
 map-all P f [] all = tt
 map-all P f (x ∷ xs) all = (all.0, map-all P f xs all.1)
-
-pub all-append : {X : Type 0} (P : X → Type 0) (xs ys : List X) → AllByRecursion P xs → AllByRecursion P ys → AllByRecursion P (xs ++ ys)
-all-append P [] ys left right = right
-all-append P (x ∷ xs) ys left right = (left.0, all-append P xs ys left.1 right)
-
--- the records of streams, each of the number of its stream
-pub all-records : (P : ℕ → Type 0) (ss : List Stream) → AllByRecursion (λ s. P s.number) ss → AllByRecursion (λ r. P (stream_of r)) (records_of_streams ss)
-all-records P [] all = tt
-all-records P (s ∷ ss) all = (all.0, all-append (λ r. P (stream_of r)) (map (window_record s.number) s.windows) (records_of_streams ss) (go s.windows) (all-records P ss all.1))
-  where
-    go : (ws : List Window) → AllByRecursion (λ r. P (stream_of r)) (map (window_record s.number) ws)
-    go [] = tt
-    go (w ∷ ws) = (all.0, go ws)
 
 all-from_map : {X Y : Type 0} (P : Y → Type 0) (f : X → Y) (xs : List X) → AllByRecursion P (map f xs) → AllByRecursion (λ x. P (f x)) xs
 all-from_map P f [] all = tt
@@ -142,6 +192,8 @@ no-stream n [] all = tt
 no-stream n (records.Free ∷ rs) all = no-stream n rs all.1
 no-stream n (records.Stream id name params ∷ rs) all = ((λ same. let first = all.0 same in absurd (omega arith)), no-stream n rs all.1)
 no-stream n (records.Window id first summary ∷ rs) all = no-stream n rs all.1
+no-stream n (records.Landmark id number values start finish ∷ rs) all = no-stream n rs all.1
+no-stream n (records.Value id number index t v ∷ rs) all = no-stream n rs all.1
 
 -- a name that a stream of a lower number has
 named-created : (n : ℕ) (name : List ℕ) (ss : List Stream) → AllByRecursion (λ s. s.number < n) ss → list_any (same_name name) (names_of ss) ≡ true →
@@ -165,14 +217,10 @@ times-next [] w rest rise = tt
 times-next (v ∷ []) w rest rise = ltb-true v.summary.t_last w.summary.t_first (and_parts (nat_lt v.summary.t_last w.summary.t_first) _ rise).0
 times-next (v ∷ u ∷ us) w rest rise = times-next (u ∷ us) w rest (and_parts (nat_lt v.summary.t_last u.summary.t_first) _ rise).1
 
-pub own-windows : (number : ℕ) (ws : List Window) → filter_map (window_of number) (map (window_record number) ws) ≡ ws
-own-windows number [] = refl
-own-windows number (w ∷ ws) = rw (eq-eqb number number refl) (ap (λ l. w ∷ l) (own-windows number ws))
-
 -- Streams of numbers below n, and records behind them of numbers from n on.
 module _ (ss : List Stream) (back : List Record) (n : ℕ) (below : AllByRecursion (λ s. s.number < n) ss) (above : AllByRecursion (λ r. n ≤ stream_of r) back) where
   abbrev all : List Record
-  all = records_of_streams ss ++ back
+  all = all_walked ss ++ back
 
   abbrev cs : List Created
   cs = map created ss
@@ -180,8 +228,11 @@ module _ (ss : List Stream) (back : List Record) (n : ℕ) (below : AllByRecursi
   abbrev later : List Created
   later = filter_map created_by back
 
+  marks-all : (m : ℕ) → filter (is_mark_of m) all ≡ filter (is_mark_of m) (all_walked ss) ++ filter (is_mark_of m) back
+  marks-all m = filter-append (is_mark_of m) (all_walked ss) back
+
   created-all : streams_created all ≡ cs ++ later
-  created-all = filter_map-append created_by (records_of_streams ss) back ∙ ap (λ l. l ++ later) (filter_map-created_by ss)
+  created-all = filter_map-append created_by (all_walked ss) back ∙ ap (λ l. l ++ later) (created-all_walked ss)
 
   cs-below : AllByRecursion (λ c. c.number < n) cs
   cs-below = map-all (λ c. c.number < n) created ss below
@@ -189,8 +240,8 @@ module _ (ss : List Stream) (back : List Record) (n : ℕ) (below : AllByRecursi
   later-above : AllByRecursion (λ c. n ≤ c.number) later
   later-above = created-back (λ k. n ≤ k) back above
 
-  windows-all : (m : ℕ) → filter_map (window_of m) all ≡ filter_map (window_of m) (records_of_streams ss) ++ filter_map (window_of m) back
-  windows-all m = filter_map-append (window_of m) (records_of_streams ss) back
+  windows-all : (m : ℕ) → filter_map (window_of m) all ≡ filter_map (window_of m) (all_walked ss) ++ filter_map (window_of m) back
+  windows-all m = filter_map-append (window_of m) (all_walked ss) back
 
   -- no stream is of a number and named before, if each of the first is new among the first
   none-named : (m : ℕ) → m < n → (us : List Created) → AllByRecursion (λ c. c.number < n) us → AllByRecursion (λ c. is_named_before cs c ≡ false) us →
@@ -205,9 +256,12 @@ module _ (ss : List Stream) (back : List Record) (n : ℕ) (below : AllByRecursi
       or_from _ _ (and_right (u.number == m) _ here) (none-named m lt us low.1 new.1)
 
   one-below : (m : ℕ) → m < n → sum_by (λ (c : Created). cond (c.number == m) 1 0) cs ≡ 1 → length ss ≤ MOST_STREAMS → AllByRecursion (λ c. is_named_before cs c ≡ false) cs →
-      (ws : List Window) → filter_map (window_of m) (records_of_streams ss) ≡ ws → tile ws ≡ true → times_rise ws ≡ true → is_sound_in_order all m ≡ true
-  one-below m lt once few new ws windows tiles rise =
+      (ws : List Window) (ls : List Landmark) → filter_map (window_of m) (all_walked ss) ≡ ws → tile ws ≡ true → times_rise ws ≡ true →
+      filter (is_mark_of m) (all_walked ss) ≡ marks_of m 1 ls → AreLandmarks ls → list_all (lies_free ls) ws ≡ true → is_sound_in_order all m ≡ true
+  one-below m lt once few new ws ls windows tiles rise marks order free =
       let apart : AllByRecursion (λ c. c.number ≡ m → ⊥) later = all_weaker (λ c. n ≤ c.number) (λ c. c.number ≡ m → ⊥) (λ c le same. absurd (omega arith)) later later-above in
+      let others = all_weaker (λ r. n ≤ stream_of r) (λ r. stream_of r ≡ m → ⊥) (λ r le same. absurd (omega arith)) back above in
+      let marks' : filter (is_mark_of m) all ≡ marks_of m 1 ls = marks-all m ∙ ap₂ ◌++◌ marks (marks-apart m back others) ∙ append-nil (marks_of m 1 ls) in
       let higher : AllByRecursion (λ c. m ≤ c.number) later = all_weaker (λ c. n ≤ c.number) (λ c. m ≤ c.number) (λ c le. omega arith) later later-above in
       let count : count_by (λ c. c.number == m) (cs ++ later) ≡ 1 =
       omega (arith, sum_by-append (λ (c : Created). cond (c.number == m) 1 0) cs later, count-apart m later apart, once) in
@@ -219,22 +273,25 @@ module _ (ss : List Stream) (back : List Record) (n : ℕ) (below : AllByRecursi
       (none-passes (λ (c : Created). c.number == m && is_named_before (cs ++ later) c) later
       (all_weaker (λ c. c.number ≡ m → ⊥) (λ c. (c.number == m && is_named_before (cs ++ later) c) ≡ false) (λ c no. and_left _ _ (ne_eqb c.number m no)) later apart)) in
       let windows' : filter_map (window_of m) all ≡ ws =
-      windows-all m ∙ ap₂ ◌++◌ windows (windows-apart m back (all_weaker (λ r. n ≤ stream_of r) (λ r. stream_of r ≡ m → ⊥) (λ r le same. absurd (omega arith)) back above)) ∙ append-nil ws in
-      sound-all _ _ _ _ _
+      windows-all m ∙ ap₂ ◌++◌ windows (windows-apart m back others) ∙ append-nil ws in
+      sound-all _ _ _ _ _ _ _
       (ap (has_one_record m) created-all ∙ eq-eqb _ _ count)
       (ap (has_place m) created-all ∙ lt-ltb _ _ lower)
       (ap (has_new_name m) created-all ∙ ap not names)
       (ap tile windows' ∙ tiles)
       (ap times_rise windows' ∙ rise)
+      (ap are_marks marks' ∙ are_marks-marks_of m ls order)
+      (ap₂ (λ rs us. list_all (lies_free (landmarks_made rs)) us) marks' windows' ∙ ap (λ made. list_all (lies_free made) ws) (landmarks_made-marks_of m ls order) ∙ free)
 
   -- the first streams are sound
   sounds : (us : List Stream) → AllByRecursion (λ s. s.number < n) us → AllByRecursion (λ s. sum_by (λ (c : Created). cond (c.number == s.number) 1 0) cs ≡ 1) us →
-      AllByRecursion (λ s. filter_map (window_of s.number) (records_of_streams ss) ≡ s.windows) us → AllByRecursion IsStream us →
+      AllByRecursion (HasOwn ss) us → AllByRecursion IsStream us →
       length ss ≤ MOST_STREAMS → AllByRecursion (λ c. is_named_before cs c ≡ false) cs → AllByRecursion (λ s. is_sound_in_order all s.number ≡ true) us
-  sounds [] low once windows streams few new = tt
-  sounds (u ∷ us) low once windows streams few new = (
-    one-below u.number low.0 once.0 few new u.windows windows.0 (tile-AreWindows u.windows streams.0.windows) (times_rise-AreWindows u.windows streams.0.windows),
-    sounds us low.1 once.1 windows.1 streams.1 few new,
+  sounds [] low once own streams few new = tt
+  sounds (u ∷ us) low once own streams few new = (
+    one-below u.number low.0 once.0 few new u.windows u.landmarks own.0.windows (tile-AreWindows u.windows streams.0.windows) (times_rise-AreWindows u.windows streams.0.windows)
+        own.0.marks streams.0.landmarks streams.0.free,
+    sounds us low.1 once.1 own.1 streams.1 few new,
   )
 
   pub sound-below : Rise (λ s. s.number) ss → IsDistinct same_name (names_of ss) → AllByRecursion IsStream ss → length ss ≤ MOST_STREAMS →
@@ -243,9 +300,9 @@ module _ (ss : List Stream) (back : List Record) (n : ℕ) (below : AllByRecursi
       let rise_cs = map-Rise ss rise in
       let names : IsDistinct same_name (map (λ c. c.name) cs) = subst (IsDistinct same_name) (names-created ss) distinct in
       let each = sounds ss below (all-from_map (λ c. sum_by (λ (o : Created). cond (o.number == c.number) 1 0) cs ≡ 1) created ss (IsOnce-each cs rise_cs))
-      (HasWindows-each ss rise) streams few (IsNew-each cs rise_cs names) in
-      all-append (λ r. stream_of r < n → is_sound_in_order all (stream_of r) ≡ true) (records_of_streams ss) back
-      (all-records (λ k. k < n → is_sound_in_order all k ≡ true) ss (all_weaker (λ s. is_sound_in_order all s.number ≡ true) (λ s. s.number < n → is_sound_in_order all s.number ≡ true) (λ s is _. is) ss each))
+      (HasOwn-each ss rise) streams few (IsNew-each cs rise_cs names) in
+      all_append (λ r. stream_of r < n → is_sound_in_order all (stream_of r) ≡ true) (all_walked ss) back
+      (all-all_walked (λ k. k < n → is_sound_in_order all k ≡ true) ss (all_weaker (λ s. is_sound_in_order all s.number ≡ true) (λ s. s.number < n → is_sound_in_order all s.number ≡ true) (λ s is _. is) ss each))
       (all_weaker (λ r. n ≤ stream_of r) (λ r. stream_of r < n → is_sound_in_order all (stream_of r) ≡ true) (λ r le lt. absurd (omega arith)) back above)
 
   cs-apart : AllByRecursion (λ c. c.number ≡ n → ⊥) cs
@@ -286,13 +343,28 @@ module _ (ss : List Stream) (back : List Record) (n : ℕ) (below : AllByRecursi
       ∙ or_left _ _ (and_from (n == n) _ (eq-eqb n n refl) named)) in
       unsound-name all n (ap (has_new_name n) created-all ∙ ap not any)
 
+  apart-below : AllByRecursion (λ s. s.number ≡ n → ⊥) ss
+  apart-below = all_weaker (λ s. s.number < n) (λ s. s.number ≡ n → ⊥) (λ s lt same. absurd (omega arith)) ss below
+
+  windows-back : filter_map (window_of n) all ≡ filter_map (window_of n) back
+  windows-back = windows-all n ∙ ap (λ l. l ++ filter_map (window_of n) back) (windows-others n ss apart-below)
+
+  marks-back : filter (is_mark_of n) all ≡ filter (is_mark_of n) back
+  marks-back = marks-all n ∙ ap (λ l. l ++ filter (is_mark_of n) back) (marks-others n ss apart-below)
+
+  -- the records of landmarks and values aren't those of landmarks
+  pub unsound-back_marks : are_marks (filter (is_mark_of n) back) ≡ false → is_sound_in_order all n ≡ false
+  unsound-back_marks fails = unsound-marks all n (ap are_marks marks-back ∙ fails)
+
+  -- a window doesn't lie free
+  pub unsound-back_free : list_all (lies_free (landmarks_made (filter (is_mark_of n) back))) (filter_map (window_of n) back) ≡ false → is_sound_in_order all n ≡ false
+  unsound-back_free fails = unsound-free all n (ap₂ (λ rs us. list_all (lies_free (landmarks_made rs)) us) marks-back windows-back ∙ fails)
+
   -- a window isn't the next one
   pub unsound-window : (ws : List Window) (w : Window) (rest : List Window) → filter_map (window_of n) back ≡ ws ++ w ∷ rest →
       (w.first ≡ taken ws + 1 → IsAfter (newest_time ws) w.summary.t_first → ⊥) → is_sound_in_order all n ≡ false
   unsound-window ws w rest windows refused =
-      let have : filter_map (window_of n) all ≡ ws ++ w ∷ rest =
-      windows-all n
-      ∙ ap₂ ◌++◌ (windows-apart n (records_of_streams ss) (all-records (λ k. k ≡ n → ⊥) ss (all_weaker (λ s. s.number < n) (λ s. s.number ≡ n → ⊥) (λ s lt same. absurd (omega arith)) ss below))) windows in
+      let have : filter_map (window_of n) all ≡ ws ++ w ∷ rest = windows-back ∙ windows in
       elim (cases_Bool (tile (ws ++ w ∷ rest))) [
         | inl tiles ↦ elim (cases_Bool (times_rise (ws ++ w ∷ rest))) [
           | inl rise ↦ absurd (refused (omega (arith, tile-next 1 ws w rest (and_parts _ _ tiles).0)) (times-next ws w rest rise))

@@ -1,26 +1,27 @@
 -- Which numbers are sound doesn't hang on the order of the records.
 use Rattle.std.proofs.Common.{◌≡◌, ◌⊎◌, ◌∙◌, ℕ, ◌+◌, ◌*◌, ◌^◌, ◌<◌, ◌≤◌, Bool, true, false, not, ◌&&◌, cond, leb, List, [], ◌∷◌, filter, fold, min, Option, Some, None, refl, sym, ap, ap₂, inl, inr, arith, IsPermutation}
 use Rattle.std.specs.Prelude.{◌==◌, nat_lt}
-use Rattle.std.specs.List.{AllByRecursion, cons_option, filter_map, list_any}
+use Rattle.std.specs.List.{AllByRecursion, cons_option, filter_map, list_all, list_any}
 use Rattle.std.proofs.lemmas.Bool.{cases_Bool, cases_lt, cond-true, cond-false, cond_both, eq-eqb, eqb-true, leb-true, leb-false, le-leb, lt-leb, or_cases, or_left, or_right, true≢false}
 use Rattle.std.proofs.lemmas.List.Elements.{All-from_recursion, recursion_from_All}
 use Rattle.std.proofs.lemmas.List.Sorted.{All-permutation, IsPermutation-sym, list_any-IsPermutation, sum_by-IsPermutation}
 use Rattle.ss_catalog.specs.Names.{same_name}
 use Rattle.ss_codec.specs.declared.record.Record.{Record}
 use Rattle.ss_codec.specs.declared.record.Record.TheVariants as records
+use Rattle.ss_model.specs.Marks.{lies_free}
 use Rattle.ss_model.specs.State.{Created}
 use Rattle.ss_model.specs.declared.types.Window.{Window}
-use Rattle.ss_recover.specs.Carried.{created_by, in_order, number_of, put_in_order, streams_created, window_of, windows_carried}
+use Rattle.ss_recover.specs.Carried.{created_by, in_order, is_mark_of, marks_carried, number_of, put_in_order, streams_created, window_of, windows_carried}
 use Rattle.ss_recover.specs.Conditions.{has_new_name, has_one_record, has_place, is_named_before, is_sound, tile, times_rise}
-use Rattle.ss_recover.specs.Order.{Rises, key_of, stream_of}
+use Rattle.ss_recover.specs.Marked.{are_marks, landmarks_made}
+use Rattle.ss_recover.specs.Order.{Rises, key_of, place_of, stream_of}
 use Rattle.ss_recover.specs.Parts.{least, lowest_bad_stream}
 use Rattle.ss_recover.specs.Walk.{IsLowestUnsound, IsUsable, is_sound_in_order}
 use Rattle.ss_recover.proofs.InOrder.{IsPermutation-in_order}
 use Rattle.ss_catalog.specs.declared.TheConstants.{MOST_STREAMS}
-use Rattle.ss_recover.proofs.Lists.{all_weaker}
+use Rattle.ss_recover.proofs.Lists.{all_weaker, filter_map-kept, kept}
 use Rattle.ss_recover.proofs.Permutations.{IsPermutation-filter_map}
 use Rattle.ss_recover.proofs.OrderLemmas.{Rises-in_order, put-less, put-more}
-use Rattle.ss_recover.proofs.Permutations.{IsPermutation-filter_map}
 
 -- elements that give something are put in order as what they give is
 module _ {X Y : Type 0} (key : X → ℕ) (key' : Y → ℕ) (h : X → Option Y)
@@ -68,7 +69,7 @@ module _ {X Y : Type 0} (key : X → ℕ) (key' : Y → ℕ) (h : X → Option Y
       go (Some z) some rest = put-some x z some (in_order key xs) (Rises-in_order key xs) ∙ ap (put_in_order key' z) rest
 
 -- the key of a window of a number
-window-key : (n : ℕ) (r : Record) (z : Window) → window_of n r ≡ Some z → key_of r ≡ n * 2 ^ 64 + z.first
+window-key : (n : ℕ) (r : Record) (z : Window) → window_of n r ≡ Some z → key_of r ≡ n * 2 ^ 65 + (2 ^ 64 + z.first)
 window-key n records.Free z is = cc
 window-key n (records.Stream id name params) z is = cc
 window-key n (records.Window id first summary) z is =
@@ -76,9 +77,21 @@ window-key n (records.Window id first summary) z is =
       | inl same ↦
           let some : Some (record { first = first; summary = summary }) ≡ Some z = sym (cond-true (id == n) _ _ same) ∙ is in
           let w : record { first = first; summary = summary } ≡ z = cc in
-          ap₂ (λ (a b : ℕ). a * 2 ^ 64 + b) (eqb-true id n same) (ap (λ (v : Window). v.first) w)
+          ap₂ (λ (a b : ℕ). a * 2 ^ 65 + (2 ^ 64 + b)) (eqb-true id n same) (ap (λ (v : Window). v.first) w)
       | inr other ↦ let none : None ≡ Some z = sym (cond-false (id == n) _ _ other) ∙ is in cc
     ]
+window-key n (records.Landmark id number values start finish) z is = cc
+window-key n (records.Value id number index t v) z is = cc
+
+-- the key of a landmark's record or a value's of a number
+mark-key : (n : ℕ) (r : Record) → is_mark_of n r ≡ true → key_of r ≡ n * 2 ^ 65 + place_of r
+mark-key n records.Free is = absurd (true≢false (sym is))
+mark-key n (records.Stream id name params) is = absurd (true≢false (sym is))
+mark-key n (records.Window id first summary) is = absurd (true≢false (sym is))
+mark-key n (records.Landmark id number values start finish) is =
+    ap (λ (a : ℕ). a * 2 ^ 65 + place_of (records.Landmark id number values start finish)) (eqb-true id n is)
+mark-key n (records.Value id number index t v) is =
+    ap (λ (a : ℕ). a * 2 ^ 65 + place_of (records.Value id number index t v)) (eqb-true id n is)
 
 leb-shift : (c a b : ℕ) → leb (c + a) (c + b) ≡ leb a b
 leb-shift c a b = elim (cases_Bool (leb a b)) [
@@ -87,10 +100,31 @@ leb-shift c a b = elim (cases_Bool (leb a b)) [
 ]
 
 window-order : (n : ℕ) (x y : Record) (z w : Window) → window_of n x ≡ Some z → window_of n y ≡ Some w → leb (key_of x) (key_of y) ≡ leb z.first w.first
-window-order n x y z w is also = ap₂ leb (window-key n x z is) (window-key n y w also) ∙ leb-shift (n * 2 ^ 64) z.first w.first
+window-order n x y z w is also =
+    ap₂ leb (window-key n x z is) (window-key n y w also) ∙ leb-shift (n * 2 ^ 65) (2 ^ 64 + z.first) (2 ^ 64 + w.first) ∙ leb-shift (2 ^ 64) z.first w.first
 
 windows-in_order : (n : ℕ) (rs : List Record) → windows_carried n rs ≡ filter_map (window_of n) (in_order key_of rs)
 windows-in_order n rs = sym (filter_map-in_order key_of (λ (w : Window). w.first) (window_of n) (window-order n) rs)
+
+-- a record that is kept passes the test, and is what is made of it
+kept-is : (p : Record → Bool) (r z : Record) → kept p r ≡ Some z → (p r ≡ true) × (r ≡ z)
+kept-is p r z is = elim (cases_Bool (p r)) [
+  | inl passes ↦ let some : Some r ≡ Some z = sym (cond-true (p r) _ _ passes) ∙ is in (passes, cc)
+  | inr fails ↦ let none : None ≡ Some z = sym (cond-false (p r) _ _ fails) ∙ is in cc
+]
+
+mark-order : (n : ℕ) (x y z w : Record) → kept (is_mark_of n) x ≡ Some z → kept (is_mark_of n) y ≡ Some w → leb (key_of x) (key_of y) ≡ leb (place_of z) (place_of w)
+mark-order n x y z w is also =
+    let first = kept-is (is_mark_of n) x z is in
+    let second = kept-is (is_mark_of n) y w also in
+    ap₂ leb (mark-key n x first.0) (mark-key n y second.0) ∙ leb-shift (n * 2 ^ 65) (place_of x) (place_of y)
+    ∙ ap₂ (λ (a b : Record). leb (place_of a) (place_of b)) first.1 second.1
+
+marks-in_order : (n : ℕ) (rs : List Record) → marks_carried n rs ≡ filter (is_mark_of n) (in_order key_of rs)
+marks-in_order n rs =
+    ap (in_order place_of) (sym (filter_map-kept (is_mark_of n) rs))
+    ∙ sym (filter_map-in_order key_of place_of (kept (is_mark_of n)) (mark-order n) rs)
+    ∙ filter_map-kept (is_mark_of n) (in_order key_of rs)
 
 -- the records of a number are sound in any order, where they are sound in order
 pub is_sound-in_order : (rs : List Record) (n : ℕ) → is_sound rs n ≡ is_sound_in_order (in_order key_of rs) n
@@ -108,7 +142,9 @@ is_sound-in_order rs n =
     ap not ((λ i. list_any (λ (s : Created). s.number == n && named s i) (streams_created rs))
     ∙ list_any-IsPermutation (λ (s : Created). s.number == n && is_named_before (streams_created qs) s) (streams_created rs) (streams_created qs) moved) in
     let windows = windows-in_order n rs in
-    λ i. one i && place i && new i && tile (windows i) && times_rise (windows i)
+    let marks = marks-in_order n rs in
+    λ i. one i && place i && new i && tile (windows i) && times_rise (windows i) && are_marks (marks i)
+    && list_all (lies_free (landmarks_made (marks i))) (windows i)
 
 -- the least of some numbers
 fold-least : (n a : ℕ) (xs : List ℕ) → n ≤ a → AllByRecursion (λ x. n ≤ x) xs → (a ≡ n) ⊎ (list_any (λ x. x == n) xs ≡ true) → fold min a xs ≡ n
@@ -161,12 +197,24 @@ module _ (sound : ℕ → Bool) (n : ℕ) where
         | inl here ↦ bad-has fails id (filter_map number_of us) (inl (eqb-true id n here))
         | inr there ↦ bad-has fails id (filter_map number_of us) (inr (numbers-has fails us usable.1 there))
       ]
+  numbers-has fails (records.Landmark id number values start finish ∷ us) usable has =
+      elim (or_cases (id == n) (list_any (λ r. stream_of r == n) us) has) [
+        | inl here ↦ bad-has fails id (filter_map number_of us) (inl (eqb-true id n here))
+        | inr there ↦ bad-has fails id (filter_map number_of us) (inr (numbers-has fails us usable.1 there))
+      ]
+  numbers-has fails (records.Value id number index t v ∷ us) usable has =
+      elim (or_cases (id == n) (list_any (λ r. stream_of r == n) us) has) [
+        | inl here ↦ bad-has fails id (filter_map number_of us) (inl (eqb-true id n here))
+        | inr there ↦ bad-has fails id (filter_map number_of us) (inr (numbers-has fails us usable.1 there))
+      ]
 
   numbers-least : (us : List Record) → AllByRecursion (λ r. stream_of r < n → sound (stream_of r) ≡ true) us → AllByRecursion (λ k. n ≤ k) (bad (filter_map number_of us))
   numbers-least [] fine = tt
   numbers-least (records.Free ∷ us) fine = numbers-least us fine.1
   numbers-least (records.Stream id name params ∷ us) fine = bad-least id (filter_map number_of us) fine.0 (numbers-least us fine.1)
   numbers-least (records.Window id first summary ∷ us) fine = bad-least id (filter_map number_of us) fine.0 (numbers-least us fine.1)
+  numbers-least (records.Landmark id number values start finish ∷ us) fine = bad-least id (filter_map number_of us) fine.0 (numbers-least us fine.1)
+  numbers-least (records.Value id number index t v ∷ us) fine = bad-least id (filter_map number_of us) fine.0 (numbers-least us fine.1)
 
 -- the number that a walk tells is the lowest bad one
 pub lowest-bad : (rs : List Record) (n : ℕ) → AllByRecursion IsUsable rs → IsLowestUnsound n (in_order key_of rs) → lowest_bad_stream rs ≡ Some n

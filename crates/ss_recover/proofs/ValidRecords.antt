@@ -11,13 +11,13 @@ use Rattle.ss_journal.specs.Redo.{SlotMap}
 use Rattle.ss_codec.specs.Decoded.{decoded}
 use Rattle.ss_codec.specs.Record.{is_valid}
 use Rattle.ss_codec.specs.declared.record.Record.{Record}
-use Rattle.ss_codec.specs.declared.record.Record.TheVariants.{Free, Stream, Window}
+use Rattle.ss_codec.specs.declared.record.Record.TheVariants.{Free, Stream, Window, Landmark, Value}
 use Rattle.ss_codec.proofs.RecordLemmas.{IsStream-is_valid, IsWindow-is_valid, Spells-decoded}
 use Rattle.ss_model.specs.State.{Created}
 use Rattle.ss_recover.specs.Carried.{created_by, number_of, spelled, window_of}
 use Rattle.ss_recover.specs.Parts.{records_in}
 
-abbrev IsValid : Record → Type 0
+abbrev pub IsValid : Record → Type 0
 IsValid r = is_valid r ≡ true
 
 valid-option : (o : Option Record) (bytes : List ℕ) → decoded bytes ≡ o → (rest : List Record) → AllByRecursion IsValid rest →
@@ -62,6 +62,8 @@ all-created_by (Stream id name params ∷ rs) valid =
     let low = is.number in
     (record { target = is.ranged; number = omega arith }, all-created_by rs valid.1)
 all-created_by (Window id first f ∷ rs) valid = all-created_by rs valid.1
+all-created_by (Landmark id number values start finish ∷ rs) valid = all-created_by rs valid.1
+all-created_by (Value id number index t v ∷ rs) valid = all-created_by rs valid.1
 
 -- the windows of a number
 pub all-window_of : (number : ℕ) (rs : List Record) → AllByRecursion IsValid rs →
@@ -75,6 +77,8 @@ all-window_of number (Window id first f ∷ rs) valid =
       | inl same ↦ rw same ((IsWindow-is_valid id first f valid.0).possible, rest)
       | inr other ↦ rw other rest
     ]
+all-window_of number (Landmark id n values start finish ∷ rs) valid = all-window_of number rs valid.1
+all-window_of number (Value id n index t v ∷ rs) valid = all-window_of number rs valid.1
 
 -- what holds of the number of each record holds of that of each stream
 pub all-numbers_created : (P : ℕ → Type 0) (rs : List Record) → AllByRecursion P (filter_map number_of rs) →
@@ -83,3 +87,5 @@ all-numbers_created P [] all = tt
 all-numbers_created P (Free ∷ rs) all = all-numbers_created P rs all
 all-numbers_created P (Stream id name params ∷ rs) all = (all.0, all-numbers_created P rs all.1)
 all-numbers_created P (Window id first f ∷ rs) all = all-numbers_created P rs all.1
+all-numbers_created P (Landmark id number values start finish ∷ rs) all = all-numbers_created P rs all.1
+all-numbers_created P (Value id number index t v ∷ rs) all = all-numbers_created P rs all.1

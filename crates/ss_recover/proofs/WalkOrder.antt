@@ -1,28 +1,27 @@
 -- Records in the order of their keys: which numbers come before a record, and which behind it.
-use Rattle.std.proofs.Common.{◌≡◌, ◌∙◌, ℕ, ◌+◌, ◌*◌, ◌^◌, ◌<◌, ◌≤◌, List, [], ◌∷◌, ◌++◌, map, flat_map, Option, Some, refl, sym, ap, arith}
-use Rattle.std.specs.Prelude.{zip}
+use Rattle.std.proofs.Common.{◌≡◌, ℕ, ◌+◌, ◌*◌, ◌^◌, ◌<◌, ◌≤◌, List, [], ◌∷◌, ◌++◌, filter, refl, ap, arith}
 use Rattle.std.specs.List.{AllByRecursion}
+use Rattle.std.proofs.lemmas.Bool.{ne_eqb}
 use Rattle.ss_codec.specs.declared.record.Record.{Record}
 use Rattle.ss_codec.specs.declared.record.Record.TheVariants as records
-use Rattle.ss_model.specs.State.{Stream}
-use Rattle.ss_recover.specs.Held.{AllAgree, records_held, stream_record, window_record}
+use Rattle.ss_recover.specs.Carried.{is_mark_of}
 use Rattle.ss_recover.specs.Order.{Rises, found_key, place_of, stream_of}
-use Rattle.ss_recover.specs.Walk.{IsUsable, in_slot, records_of}
+use Rattle.ss_recover.specs.Walk.{IsUsable, records_of}
 use Rattle.ss_recover.specs.declared.found.Found.{Found}
-use Rattle.ss_recover.specs.declared.parts.StreamParts.{StreamParts}
-use Rattle.ss_recover.proofs.HeldRecords.{records_of_streams, second-held}
 
--- places have 64 bits
-place-below : (r : Record) → IsUsable r → place_of r < 2 ^ 64
+-- places have 65 bits
+place-below : (r : Record) → IsUsable r → place_of r < 2 ^ 65
 place-below records.Free usable = absurd usable
 place-below (records.Stream id name params) usable = omega arith
 place-below (records.Window id first summary) usable = omega (arith, usable.1)
+place-below (records.Landmark id number values start finish) usable = omega (arith, usable.1)
+place-below (records.Value id number index t v) usable = omega (arith, usable.1, usable.2)
 
-key-le : (a b p q : ℕ) → p < 2 ^ 64 → q < 2 ^ 64 → a * 2 ^ 64 + p ≤ b * 2 ^ 64 + q → a ≤ b
+key-le : (a b p q : ℕ) → p < 2 ^ 65 → q < 2 ^ 65 → a * 2 ^ 65 + p ≤ b * 2 ^ 65 + q → a ≤ b
 key-le a b p q small_p small_q le = omega arith
 
-key-place : (a b p q : ℕ) → a * 2 ^ 64 + p ≤ b * 2 ^ 64 + q → b ≡ a → p ≤ q
-key-place a b p q le same = let same' : b * 2 ^ 64 ≡ a * 2 ^ 64 = ap (λ (n : ℕ). n * 2 ^ 64) same in omega (arith, le, same')
+key-place : (a b p q : ℕ) → a * 2 ^ 65 + p ≤ b * 2 ^ 65 + q → b ≡ a → p ≤ q
+key-place a b p q le same = let same' : b * 2 ^ 65 ≡ a * 2 ^ 65 = ap (λ (n : ℕ). n * 2 ^ 65) same in omega (arith, le, same')
 
 -- what comes in order before and behind an element
 front-rises : {X : Type 0} (key : X → ℕ) (front : List X) (x : X) (back : List X) → Rises key (front ++ x ∷ back) → AllByRecursion (λ y. key y ≤ key x) front
@@ -41,6 +40,8 @@ back-rises key (y ∷ ys) x back rises = back-rises key ys x back rises.1
 pub record IsAmid (front : List Record) (r : Record) (back : List Record) : Type 0 where
   pub usable : IsUsable r
   pub before : AllByRecursion (λ other. stream_of other ≤ stream_of r) front
+  pub earlier : AllByRecursion (λ other. stream_of r ≡ stream_of other → place_of other ≤ place_of r) front
+  pub rest : AllByRecursion IsUsable back
   pub behind : AllByRecursion (λ other. stream_of r ≤ stream_of other) back
   pub places : AllByRecursion (λ other. stream_of other ≡ stream_of r → place_of r ≤ place_of other) back
 
@@ -49,6 +50,8 @@ pub IsAmid-from_order : (front : List Found) (f : Found) (back : List Found) →
 IsAmid-from_order front f back rises usable = record {
   usable = here front usable;
   before = below front (front-rises found_key front f back rises) usable;
+  earlier = sooner front (front-rises found_key front f back rises);
+  rest = holds-each back (rest front usable);
   behind = above back (back-rises found_key front f back rises) (rest front usable);
   places = places back (back-rises found_key front f back rises) (rest front usable);
 }
@@ -61,11 +64,20 @@ IsAmid-from_order front f back rises usable = record {
     rest [] all = all.1
     rest (g ∷ gs) all = rest gs all.1
 
+    holds-each : (gs : List Found) → AllByRecursion (λ (g : Found). IsUsable g.holds) gs → AllByRecursion IsUsable (records_of gs)
+    holds-each [] all = tt
+    holds-each (g ∷ gs) all = (all.0, holds-each gs all.1)
+
     below : (gs : List Found) → AllByRecursion (λ g. found_key g ≤ found_key f) gs → AllByRecursion (λ (g : Found). IsUsable g.holds) (gs ++ f ∷ back) →
         AllByRecursion (λ other. stream_of other ≤ stream_of f.holds) (records_of gs)
     below [] le all = tt
     below (g ∷ gs) le all =
         (key-le (stream_of g.holds) (stream_of f.holds) (place_of g.holds) (place_of f.holds) (place-below g.holds all.0) (place-below f.holds (here (g ∷ gs) all)) le.0, below gs le.1 all.1)
+
+    sooner : (gs : List Found) → AllByRecursion (λ g. found_key g ≤ found_key f) gs →
+        AllByRecursion (λ other. stream_of f.holds ≡ stream_of other → place_of other ≤ place_of f.holds) (records_of gs)
+    sooner [] le = tt
+    sooner (g ∷ gs) le = (key-place (stream_of g.holds) (stream_of f.holds) (place_of g.holds) (place_of f.holds) le.0, sooner gs le.1)
 
     above : (gs : List Found) → AllByRecursion (λ g. found_key f ≤ found_key g) gs → AllByRecursion (λ (g : Found). IsUsable g.holds) gs →
         AllByRecursion (λ other. stream_of f.holds ≤ stream_of other) (records_of gs)
@@ -78,31 +90,18 @@ IsAmid-from_order front f back rises usable = record {
     places [] le all = tt
     places (g ∷ gs) le all = (key-place (stream_of f.holds) (stream_of g.holds) (place_of f.holds) (place_of g.holds) le.0, places gs le.1 all.1)
 
--- the records that are held are those that were found
-some-same : {X : Type 0} (xs ys : List X) → map Some xs ≡ map Some ys → xs ≡ ys
-some-same [] [] same = refl
-some-same [] (y ∷ ys) same = cc
-some-same (x ∷ xs) [] same = cc
-some-same (x ∷ xs) (y ∷ ys) same =
-    let first : x ≡ y = cc in
-    let rest : map Some xs ≡ map Some ys = cc in
-    ap (λ z. z ∷ xs) first ∙ ap (λ zs. y ∷ zs) (some-same xs ys rest)
-
-second-in_slot : (all : List Found) → map (λ (e : ℕ × Option Record). e.1) (map in_slot all) ≡ map Some (records_of all)
-second-in_slot [] = refl
-second-in_slot (f ∷ fs) = ap (λ l. Some f.holds ∷ l) (second-in_slot fs)
-
-pub records-held : (parts : List StreamParts) (streams : List Stream) (all : List Found) → AllAgree parts streams →
-    flat_map records_held (zip parts streams) ≡ map in_slot all → records_of all ≡ records_of_streams streams
-records-held parts streams all each held =
-    some-same (records_of all) (records_of_streams streams)
-    (sym (second-in_slot all) ∙ ap (map (λ (e : ℕ × Option Record). e.1)) (sym held) ∙ second-held parts streams each)
-
-all-behind : {X : Type 0} (P : X → Type 0) (xs ys : List X) → AllByRecursion P (xs ++ ys) → AllByRecursion P ys
-all-behind P [] ys all = all
-all-behind P (x ∷ xs) ys all = all-behind P xs ys all.1
-
--- what each record of streams has, each stream's own has
-pub each-stream : (P : Record → Type 0) (ss : List Stream) → AllByRecursion P (records_of_streams ss) → AllByRecursion (λ s. P (stream_record s)) ss
-each-stream P [] all = tt
-each-stream P (s ∷ ss) all = (all.0, each-stream P ss (all-behind P (map (window_record s.number) s.windows) (records_of_streams ss) all.1))
+-- what comes at or after a window among those of its stream is no record of a landmark or of a value
+pub no-marks-behind : (n first : ℕ) (rs : List Record) → AllByRecursion IsUsable rs → AllByRecursion (λ other. stream_of other ≡ n → 2 ^ 64 + first ≤ place_of other) rs →
+    filter (is_mark_of n) rs ≡ []
+no-marks-behind n first [] usable behind = refl
+no-marks-behind n first (records.Free ∷ rs) usable behind = no-marks-behind n first rs usable.1 behind.1
+no-marks-behind n first (records.Stream id name params ∷ rs) usable behind = no-marks-behind n first rs usable.1 behind.1
+no-marks-behind n first (records.Window id w summary ∷ rs) usable behind = no-marks-behind n first rs usable.1 behind.1
+no-marks-behind n first (records.Landmark id number values start finish ∷ rs) usable behind =
+    let few = usable.0 in
+    let late = behind.0 in
+    rw (ne_eqb id n (λ same. let le = late same in absurd (omega (arith, le, few.1)))) (no-marks-behind n first rs usable.1 behind.1)
+no-marks-behind n first (records.Value id number index t v ∷ rs) usable behind =
+    let few = usable.0 in
+    let late = behind.0 in
+    rw (ne_eqb id n (λ same. let le = late same in absurd (omega (arith, le, few.1, few.2)))) (no-marks-behind n first rs usable.1 behind.1)

@@ -1,12 +1,13 @@
 -- What the slots of a map carry, by the number of the stream that each record is of.
-use Rattle.std.specs.Prelude.{ℕ, ◌==◌, nat_le, if◌then◌else◌, List, [], ◌∷◌, map, Option, Some, None}
-use Rattle.std.specs.List.{filter_map, range_with_len}
+use Rattle.std.specs.Prelude.{ℕ, Bool, false, ◌==◌, nat_le, if◌then◌else◌, List, [], ◌∷◌, map, Option, Some, None}
+use Rattle.std.specs.List.{filter, filter_map, range_with_len}
 use Rattle.ss_journal.specs.Redo.{SlotMap}
 use Rattle.ss_codec.specs.Decoded.{decoded}
 use Rattle.ss_codec.specs.declared.record.Record.{Record}
-use Rattle.ss_codec.specs.declared.record.Record.TheVariants.{Free, Stream, Window}
+use Rattle.ss_codec.specs.declared.record.Record.TheVariants.{Free, Stream, Window, Landmark, Value}
 use Rattle.ss_model.specs.State as State
 use Rattle.ss_model.specs.declared.types.Window as Model
+use Rattle.ss_recover.specs.Order.{place_of}
 
 -- what each slot below the extent spells, in order: a valid record, or none. From the extent on every slot is free.
 unfoldable pub spelled : SlotMap → List (Option Record)
@@ -17,18 +18,32 @@ abbrev pub number_of : Record → Option ℕ
 number_of Free = None
 number_of (Stream id name params) = Some id
 number_of (Window id first summary) = Some id
+number_of (Landmark id number values start finish) = Some id
+number_of (Value id number index t v) = Some id
 
 -- the stream that a record creates, if it is a stream's record
 abbrev pub created_by : Record → Option State.Created
 created_by Free = None
 created_by (Stream id name params) = Some (record { number = id; name = name; params = params })
 created_by (Window id first summary) = None
+created_by (Landmark id number values start finish) = None
+created_by (Value id number index t v) = None
 
 -- the window of a record, if it is one of the stream of this number
 abbrev pub window_of : ℕ → Record → Option Model.Window
 window_of number Free = None
 window_of number (Stream id name params) = None
 window_of number (Window id first summary) = if id == number then Some (record { first = first; summary = summary }) else None
+window_of number (Landmark id n values start finish) = None
+window_of number (Value id n index t v) = None
+
+-- whether a record is that of a landmark of the stream of this number, or of a value of one
+abbrev pub is_mark_of : ℕ → Record → Bool
+is_mark_of number Free = false
+is_mark_of number (Stream id name params) = false
+is_mark_of number (Window id first summary) = false
+is_mark_of number (Landmark id n values start finish) = id == number
+is_mark_of number (Value id n index t v) = id == number
 
 -- an element before the first one whose key isn't less
 abbrev pub put_in_order : {X : Type 0} → (X → ℕ) → X → List X → List X
@@ -47,3 +62,7 @@ streams_created records = filter_map created_by records
 -- the windows that records have of the stream of a number, in the order of their positions
 abbrev pub windows_carried : ℕ → List Record → List Model.Window
 windows_carried number records = in_order (λ w. w.first) (filter_map (window_of number) records)
+
+-- the records of the landmarks of the stream of a number and of their values, each landmark's before those of its values
+abbrev pub marks_carried : ℕ → List Record → List Record
+marks_carried number records = in_order place_of (filter (is_mark_of number) records)

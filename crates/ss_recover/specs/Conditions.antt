@@ -1,14 +1,16 @@
 -- What the records of one stream number have to meet, one condition after another.
 use Rattle.std.specs.Prelude.{ℕ, ◌+◌, Bool, true, not, ◌==◌, ◌&&◌, nat_le, nat_lt, List, [], ◌∷◌, count_by}
-use Rattle.std.specs.List.{list_any}
+use Rattle.std.specs.List.{list_all, list_any}
 use Rattle.ss_catalog.specs.Names.{same_name}
 use Rattle.ss_catalog.specs.declared.TheConstants.{MOST_STREAMS}
 use Rattle.ss_codec.specs.declared.record.Record.{Record}
 use Rattle.ss_windowing.specs.declared.decay.TheConstants.{MOST_VALUES}
+use Rattle.ss_model.specs.Marks.{lies_free}
 use Rattle.ss_model.specs.State.{Created}
 use Rattle.ss_model.specs.Windows.{taken}
 use Rattle.ss_model.specs.declared.types.Window.{Window}
-use Rattle.ss_recover.specs.Carried.{streams_created, windows_carried}
+use Rattle.ss_recover.specs.Carried.{marks_carried, streams_created, windows_carried}
+use Rattle.ss_recover.specs.Marked.{are_marks, landmarks_made}
 
 -- exactly one stream record has the number
 abbrev pub has_one_record : ℕ → List Created → Bool
@@ -49,3 +51,5 @@ is_sound records number =
     && has_new_name number (streams_created records)
     && tile (windows_carried number records)
     && times_rise (windows_carried number records)
+    && are_marks (marks_carried number records)
+    && list_all (lies_free (landmarks_made (marks_carried number records))) (windows_carried number records)

@@ -1,5 +1,6 @@
 -- Streams as they are held in memory, with the slot of each record.
-use Rattle.std.specs.Prelude.{◌≡◌, ◌≢◌, ℕ, ◌+◌, ◌<◌, ◌≤◌, Bool, not, List, [], ◌∷◌, length, map, filter, flat_map, zip, All, Option, Some, ⊤}
+use Rattle.std.specs.Prelude.{◌≡◌, ◌≢◌, ℕ, ◌+◌, ◌<◌, ◌≤◌, Bool, not, List, [], ◌∷◌, length, map, filter, flat_map, zip, All, Option, Some, MatchOption, ◌++◌, ⊤}
+use Rattle.std.specs.Option.{option_map_or}
 use Rattle.std.specs.List.{range_with_len, IsDistinct}
 use Rattle.std.specs.List.Sorted.{IsPermutation, IsStrictlyIncreasing}
 use Rattle.ss_journal.specs.Redo.{SlotMap}
@@ -12,6 +13,9 @@ use Rattle.ss_codec.specs.Decoded.{decoded}
 use Rattle.ss_codec.specs.Record.{Spells}
 use Rattle.ss_codec.specs.declared.record.Record.{Record}
 use Rattle.ss_codec.specs.declared.record.Record.TheVariants as records
+use Rattle.ss_landmarks.specs.Landmark.{Landmark, LandmarkValue}
+use Rattle.ss_landmarks.specs.Landmarks.{IsState as AreKnown}
+use Rattle.ss_landmarks.specs.Order.{AllEndBy}
 use Rattle.ss_line.specs.declared.entry.Entry.{Entry}
 use Rattle.ss_target.specs.Targets.{params_of}
 use Rattle.ss_windowing.specs.declared.decay.TheConstants.{MOST_VALUES}
@@ -32,13 +36,15 @@ span_held e = (e.first, e.last)
 abbrev pub span_of : Window → ℕ × ℕ
 span_of w = (w.first, last_position w)
 
--- What is held agrees with a stream: its number, name and parameters, the positions of each of its windows, and its last
--- time. The other figures of the windows are in their records alone.
+-- What is held agrees with a stream: its number, name and parameters, the positions of each of its windows, its landmarks with their
+-- values, and its last time. The other figures of the windows are in their records alone.
 pub record Agrees (part : StreamParts) (s : Stream) : Type 0 where
   pub number : part.id.0 ≡ s.number
   pub name : part.name ≡ s.name
   pub params : params_of part.target ≡ s.params
   pub positions : map span_held (entries_of part) ≡ map span_of s.windows
+  pub landmarks : part.landmarks.landmarks ≡ s.landmarks
+  pub known : AreKnown part.landmarks
   pub last_time : part.last_time ≡ last_time s
 
 -- the same of each, in order
@@ -55,11 +61,47 @@ stream_record s = records.Stream s.number s.name s.params
 abbrev pub window_record : ℕ → Window → Record
 window_record number w = records.Window number w.first w.summary
 
--- the records of a stream, each with the slot where it is held: its own, and those of its windows
-abbrev pub records_held : StreamParts × Stream → List (ℕ × Option Record)
-records_held p =
+-- the record of the landmark with a number, in the stream with a number. While it is open it says no number of values.
+abbrev pub values_said : Landmark → ℕ
+values_said l = option_map_or (λ finish. length l.values) l.finish 0
+
+abbrev pub landmark_record : ℕ → ℕ → Landmark → Record
+landmark_record number n l = records.Landmark number n (values_said l) l.start l.finish
+
+-- the records of landmarks, numbered from here on
+abbrev pub landmark_records : ℕ → ℕ → List Landmark → List Record
+landmark_records number n [] = []
+landmark_records number n (l ∷ ls) = landmark_record number n l ∷ landmark_records number (n + 1) ls
+
+-- the records of the values of the landmark with a number, with indexes from here on
+abbrev pub value_records : ℕ → ℕ → ℕ → List LandmarkValue → List Record
+value_records number n index [] = []
+value_records number n index (value ∷ values) =
+    records.Value number n index value.t value.v ∷ value_records number n (index + 1) values
+
+-- the records of the values of landmarks, these numbered from here on
+abbrev pub all_value_records : ℕ → ℕ → List Landmark → List Record
+all_value_records number n [] = []
+all_value_records number n (l ∷ ls) = value_records number n 1 l.values ++ all_value_records number (n + 1) ls
+
+-- records in these slots, one after the other
+abbrev pub in_slots : List ℕ → List Record → List (ℕ × Option Record)
+in_slots slots held = zip slots (map Some held)
+
+-- the records of a stream, each with the slot where it is held: its own and those of its windows; those of its landmarks and of the
+-- values of these; and all of them
+abbrev pub windows_held : StreamParts × Stream → List (ℕ × Option Record)
+windows_held p =
     (p.0.slot, Some (stream_record p.1))
     ∷ zip (map (λ (e : Entry). e.slot) (entries_of p.0)) (map (λ w. Some (window_record p.1.number w)) p.1.windows)
+
+abbrev pub marks_held : StreamParts × Stream → List (ℕ × Option Record)
+marks_held p =
+    in_slots p.0.landmarks.slots (landmark_records p.1.number 1 p.1.landmarks)
+    ++ in_slots p.0.landmarks.value_slots (all_value_records p.1.number 1 p.1.landmarks)
+
+abbrev pub records_held : StreamParts × Stream → List (ℕ × Option Record)
+records_held p = windows_held p ++ marks_held p
 
 -- the slots of a map that aren't zeros, in order, each with the record that it spells, if it spells one
 abbrev pub occupied : SlotMap → List (ℕ × Option Record)
@@ -89,15 +131,26 @@ abbrev pub TileFrom : ℕ → List Entry → Type 0
 TileFrom first [] = ⊤
 TileFrom first (e ∷ es) = (e.first ≡ first) × (e.first ≤ e.last) × (e.last ≤ MOST_VALUES) × TileFrom (e.last + 1) es
 
--- the slots of a stream's records
+-- the slots of a stream's records: of its own and those of its windows; of its landmarks and their values; and all of them
+abbrev pub window_slots : StreamParts → List ℕ
+window_slots part = part.slot ∷ map (λ (e : Entry). e.slot) (entries_of part)
+
+abbrev pub mark_slots : StreamParts → List ℕ
+mark_slots part = part.landmarks.slots ++ part.landmarks.value_slots
+
 abbrev pub slots_held : StreamParts → List ℕ
-slots_held part = part.slot ∷ map (λ (e : Entry). e.slot) (entries_of part)
+slots_held part = window_slots part ++ mark_slots part
+
+-- no time of the landmarks is after the last time of their stream
+abbrev pub EndByLast : StreamParts → Type 0
+EndByLast part = MatchOption part.last_time (part.landmarks.landmarks ≡ []) (λ last. AllEndBy last part.landmarks.landmarks)
 
 -- What is true of what is held over every disk, whatever it tells: numbers rise, names differ, the windows of each stream
--- hold its positions, and the slots are those that are live, each once.
+-- hold its positions, its landmarks end by its last time, and the slots are those that are live, each once.
 pub record AreWhole (parts : List StreamParts) (live : List Bool) : Type 0 where
   pub few : length parts ≤ MOST_STREAMS
   pub numbers : IsStrictlyIncreasing (map (λ (part : StreamParts). part.id.0) parts)
   pub names : IsDistinct same_name (map (λ (part : StreamParts). part.name) parts)
   pub tiles : All (λ part. TileFrom 1 (entries_of part)) parts
+  pub landmarks : All (λ part. AreKnown part.landmarks × EndByLast part) parts
   pub slots : IsPermutation (flat_map slots_held parts) (filter (is_live live) (range_with_len 0 (length live)))

@@ -4,8 +4,9 @@ use Rattle.std.specs.List.{filter_map, position}
 use Rattle.ss_journal.specs.Redo.{SlotMap}
 use Rattle.ss_codec.specs.declared.record.Record.{Record}
 use Rattle.ss_model.specs.State.{Created, Stream}
-use Rattle.ss_recover.specs.Carried.{spelled, number_of, in_order, streams_created, windows_carried}
+use Rattle.ss_recover.specs.Carried.{spelled, number_of, in_order, marks_carried, streams_created, windows_carried}
 use Rattle.ss_recover.specs.Conditions.{is_sound}
+use Rattle.ss_recover.specs.Marked.{landmarks_made}
 
 -- what the records of a map are
 pub data Carried : Type 0 where
@@ -30,13 +31,14 @@ least (n ∷ ns) = Some (fold min n ns)
 abbrev pub lowest_bad_stream : List Record → Option ℕ
 lowest_bad_stream records = least (filter (λ number. not (is_sound records number)) (filter_map number_of records))
 
--- a stream with the windows that records have of it
+-- a stream with the windows and the landmarks that records have of it
 abbrev pub stream_carried : List Record → Created → Stream
 stream_carried records s = record {
   number = s.number;
   name = s.name;
   params = s.params;
   windows = windows_carried s.number records;
+  landmarks = landmarks_made (marks_carried s.number records);
 }
 
 -- the streams that records have, in the order of their numbers

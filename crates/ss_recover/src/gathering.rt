@@ -28,7 +28,10 @@ fn record_in(bytes: &[u8; SLOT_SIZE]) -> Option<Record>
     let record = decode(bytes)?;
     match record {
         Record::Free => None,
-        Record::Stream { .. } | Record::Window { .. } => Some(record),
+        Record::Stream { .. }
+        | Record::Window { .. }
+        | Record::Landmark { .. }
+        | Record::Value { .. } => Some(record),
     }
 }
 

@@ -2,6 +2,7 @@
 #![tactic(auto)]
 
 mod found;
+mod free;
 mod gathering;
 mod laws;
 mod parts;
@@ -12,6 +13,7 @@ mod sorting;
 mod tests;
 mod walking;
 
+pub use free::lies_free;
 pub use laws::{
     a_record_in_a_free_slot, a_record_in_place_of_another, a_slot_that_is_freed,
     images_have_whole_slots, same_maps_carry_the_same, what_is_carried_is_a_state,

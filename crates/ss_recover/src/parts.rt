@@ -1,10 +1,11 @@
 // Streams as they are held in memory.
 use ss_catalog::{Name, StreamId};
+use ss_landmarks::Landmarks;
 use ss_line::Line;
 use ss_target::Target;
 
-/// A stream as a store holds it: what its record says and in which slot it lies, the greatest time that it has, and its
-/// windows in order, each as its positions and the slot of its record.
+/// A stream as a store holds it: what its record says and in which slot it lies, the greatest time that it has, its windows
+/// in order, each as its positions and the slot of its record, and its landmarks with their values and the slot of each record.
 #[derive(Drop)]
 pub struct StreamParts {
     pub id: StreamId,
@@ -13,6 +14,7 @@ pub struct StreamParts {
     pub slot: u32,
     pub last_time: Option<u64>,
     pub line: Line,
+    pub landmarks: Landmarks,
 }
 
 /// Streams, in the order of their numbers.

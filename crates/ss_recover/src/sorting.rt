@@ -8,17 +8,33 @@ use crate::found::Found;
 use ss_codec::Record;
 use std::alloc::AllocError;
 
-// How many places a stream can have in the order.
-const PLACES: u128 = 1 << 64;
+// How many places a stream can have in the order, how many of them come before its windows, and how many a landmark has.
+const PLACES: u128 = 1 << 65;
 
-// By number, and in each number the stream's record first, and then its windows by their first positions.
+const BEFORE_WINDOWS: u128 = 1 << 64;
+
+const OF_A_LANDMARK: u128 = 1 << 32;
+
+// By number, and in each number the stream's record first, then its landmarks by their numbers, each with its values by their
+// indexes, and then its windows by their first positions.
 fn key_of(found: &Found) -> u128
     ensures { result ≡ found_key found.now }
 {
     match found.holds {
         Record::Free => 0,
         Record::Stream { id, .. } => u128::from(id) * PLACES,
-        Record::Window { id, first, .. } => u128::from(id) * PLACES + u128::from(first),
+        Record::Landmark { id, number, .. } => {
+            u128::from(id) * PLACES + u128::from(number) * OF_A_LANDMARK
+        }
+        Record::Value {
+            id,
+            number,
+            index,
+            ..
+        } => u128::from(id) * PLACES + u128::from(number) * OF_A_LANDMARK + u128::from(index),
+        Record::Window { id, first, .. } => {
+            u128::from(id) * PLACES + BEFORE_WINDOWS + u128::from(first)
+        }
     }
 }
 

@@ -7,7 +7,10 @@ pub returns-in-Stream : goal.returns-in-Stream
 returns-in-Stream c =
     let other : c.in_ok-record.record ≡ Free → ⊥ = λ free. elim c.in-Stream.is [
       | inl stream ↦ let is = stream.3 in cc
-      | inr window ↦ let is = window.3 in cc
+      | inr behind ↦ elim behind [
+        | inl window ↦ let is = window.3 in cc
+        | inr mark ↦ elim mark [ inl landmark ↦ let is = landmark.5 in cc | inr value ↦ let is = value.5 in cc ]
+      ]
     ] in
     record {
       some = sym c.in_ok-record.ensures.exact;

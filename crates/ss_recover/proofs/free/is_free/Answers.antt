@@ -1,0 +1,21 @@
+use Rattle.std.proofs.Common.{◌≡◌, ℕ, ◌+◌, ◌-◌, Bool, true, false, cond, List, [], refl, ap, ◌∙◌, arith}
+use Rattle.std.specs.Prelude.{◌==◌, count_by}
+use Rattle.std.specs.List.{range_with_len}
+use Rattle.std.proofs.lemmas.List.Sums.{sum_by-cons}
+use Rattle.ss_landmarks.specs.Free.{free, is_free}
+use Rattle.ss_landmarks.specs.Landmark.{Landmark}
+use Rattle.ss_recover.proofs.free.is_free.Goals as goal
+
+-- of one time, one is free or none
+one : (b : Bool) → (cond b 1 0 == 1) ≡ b
+one true = refl
+one false = refl
+
+free-one : (ls : List Landmark) (t : ℕ) → (free ls t t == 1) ≡ is_free ls t
+free-one ls t =
+    let long : t + 1 - t ≡ 1 = omega arith in
+    let counted : count_by (is_free ls) (range_with_len t 1) ≡ cond (is_free ls t) 1 0 = omega (arith, sum_by-cons (λ u. cond (is_free ls u) 1 0) t []) in
+    ap (λ n. count_by (is_free ls) (range_with_len t n) == 1) long ∙ ap (λ n. n == 1) counted ∙ one (is_free ls t)
+
+pub returns : goal.returns
+returns c = ap (λ n. n == 1) c.free.ensures ∙ free-one c.args.landmarks.now.landmarks c.args.t
