@@ -1,5 +1,5 @@
 -- A value that is put after the windows of a stream, as a window of its own.
-use Rattle.std.proofs.Common.{◌≡◌, ◌∙◌, ⊎_elim, inl, inr, ℕ, ◌+◌, ◌-◌, ◌<◌, ℤ, Bool, false, List, [], ◌∷◌, ◌++◌, map, refl, sym, ap, ap₂, subst, arith, IsPermutation, Option, None, Some, Result}
+use Rattle.std.proofs.Common.{◌≡◌, ◌∙◌, ⊎_elim, inl, inr, ℕ, max, ◌+◌, ◌-◌, ◌<◌, ℤ, Bool, false, List, [], ◌∷◌, ◌++◌, map, refl, sym, ap, ap₂, subst, arith, IsPermutation, Option, None, Some, Result}
 use Rattle.std.specs.Prelude.{zip}
 use Rattle.std.proofs.lemmas.Bool.Decides.{nat_tests}
 use Rattle.std.proofs.lemmas.List.{map-append}
@@ -8,6 +8,7 @@ use Rattle.ss_outside.specs.Disk.{Told}
 use Rattle.ss_windowing.specs.declared.decay.TheConstants.{MOST_VALUES}
 use Rattle.ss_codec.specs.declared.record.Record.{Record}
 use Rattle.ss_codec.specs.declared.record.Record.TheVariants as records
+use Rattle.ss_landmarks.specs.Landmarks.{IsState as AreKnown, LandmarksState}
 use Rattle.ss_line.specs.declared.entry.Entry.{Entry}
 use Rattle.ss_summary.specs.Figures.{Figures, IsPossible}
 use Rattle.ss_summary.specs.Summaries.{summary_of}
@@ -15,15 +16,17 @@ use Rattle.ss_target.specs.Lengths.{lengths_of}
 use Rattle.ss_target.specs.Targets.{params_of}
 use Rattle.ss_model.specs.Closed.{closed}
 use Rattle.ss_model.specs.ClosedState.{closed_stream}
+use Rattle.ss_model.specs.Marks.{has_open, later, latest_of}
 use Rattle.ss_model.specs.Refusals.{is_past}
 use Rattle.ss_model.specs.Standing.{IsStream}
-use Rattle.ss_model.specs.State.{Stream, values_in}
+use Rattle.ss_model.specs.State.{Stream, last_time, values_in}
 use Rattle.ss_model.specs.Steps.{single_window, with_value}
-use Rattle.ss_model.specs.Windows.{taken}
+use Rattle.ss_model.specs.Windows.{newest_time, taken}
 use Rattle.ss_model.specs.declared.types.Window.{Window}
 use Rattle.ss_model.proofs.Closes.{newest_time_push}
-use Rattle.ss_model.proofs.Tiles.{AreWindows_push, taken-append}
-use Rattle.ss_recover.specs.Held.{Agrees, TileFrom, entries_of, records_held, slots_held, span_held, span_of, stream_record, window_record}
+use Rattle.ss_model.proofs.StreamLemmas.{IsStream-single}
+use Rattle.ss_model.proofs.Tiles.{taken-append}
+use Rattle.ss_recover.specs.Held.{Agrees, TileFrom, entries_of, mark_slots, records_held, slots_held, span_held, span_of, stream_record, window_record, window_slots, windows_held}
 use Rattle.ss_recover.specs.declared.parts.StreamParts.{StreamParts}
 use Rattle.ss_store.specs.Calls.{Turns}
 use Rattle.ss_store.specs.Held.{IsHalfway, IsHeldIn, values_held, with_single, with_windows}
@@ -31,17 +34,16 @@ use Rattle.ss_store.specs.Slots.{AddsRecord, Either, HasRecords, LiveSlotsGo}
 use Rattle.ss_store.proofs.Calls.{Turns-weaker}
 use Rattle.ss_store.proofs.Joinings.{IsPartlyJoined-none}
 use Rattle.ss_store.proofs.LiveSlots.{LiveSlotsGo-beside, LiveSlotsGo-permutation}
-use Rattle.ss_store.proofs.Pairs.{zip-held}
+use Rattle.ss_store.proofs.Pairs.{records_held-apart, records_held-changed, zip-held}
 use Rattle.ss_store.proofs.Slots.{HasRecords-permutation}
 use Rattle.ss_store.proofs.Spans.{TileFrom-push, values_held-seam, values_held-windows}
 use Rattle.ss_recover.proofs.Permutations.{IsPermutation-same}
 
-later-from_is_past : (last : Option ℕ) (t old : ℕ) → is_past last t ≡ false → last ≡ Some old → old < t
-later-from_is_past None t old later is = absurd (cc)
-later-from_is_past (Some last) t old later is =
-    let same : last ≡ old = cc in
-    let above : last < t = grind (arith, nat_tests) in
-    omega (arith, same, above)
+-- a time that isn't past is the later one
+later-past : (o p : Option ℕ) (t : ℕ) → is_past (later o p) t ≡ false → later (Some t) p ≡ Some t
+later-past o None t past = refl
+later-past None (Some u) t past = let above : u < t = grind (arith, nat_tests) in ap Some (omega (arith, above))
+later-past (Some old) (Some u) t past = let above : max old u < t = grind (arith, nat_tests) in ap Some (omega (arith, above))
 
 -- an entry of one value
 abbrev pub single_entry : ℕ → ℕ → Entry
@@ -53,6 +55,7 @@ pub record IsAdded (part new : StreamParts) (slot t : ℕ) : Type 0 where
   pub name : new.name ≡ part.name
   pub target : new.target ≡ part.target
   pub own_slot : new.slot ≡ part.slot
+  pub landmarks : new.landmarks ≡ part.landmarks
   pub last_time : new.last_time ≡ Some t
   pub entries : entries_of new ≡ entries_of part ++ single_entry (values_held (entries_of part) + 1) slot ∷ []
 
@@ -67,29 +70,34 @@ module _ (part new : StreamParts) (slot t : ℕ) (added : IsAdded part new slot 
 
   pub LiveSlotsGo-added : (live live_now : List Bool) → LiveSlotsGo [] (slot ∷ []) live live_now → LiveSlotsGo (slots_held part) (slots_held new) live live_now
   LiveSlotsGo-added live live_now go =
-      let now : slots_held new ≡ slots_held part ++ slot ∷ [] =
+      let marks : List ℕ = mark_slots part in
+      let stay : mark_slots new ≡ marks = ap (λ (l : LandmarksState). l.slots ++ l.value_slots) added.landmarks in
+      let now : window_slots new ≡ window_slots part ++ slot ∷ [] =
       ap₂ (λ (s : ℕ) (es : List Entry). s ∷ map (λ (e : Entry). e.slot) es) added.own_slot added.entries
       ∙ ap (λ l. part.slot ∷ l) (map-append (λ (e : Entry). e.slot) (entries_of part) (single_entry (values_held (entries_of part) + 1) slot ∷ [])) in
       LiveSlotsGo-permutation (slots_held part) (slots_held part) (slot ∷ slots_held part) (slots_held new) live live_now
       (IsPermutation-same (slots_held part) (slots_held part) refl)
-      (subst (λ l. IsPermutation (slot ∷ slots_held part) l) (sym now) (IsPermutation-sym (slots_held part ++ slot ∷ []) (slot ∷ slots_held part) (IsPermutation-to_front (slots_held part) slot)))
+      (subst (λ m. IsPermutation (slot ∷ slots_held part) (window_slots new ++ m)) (sym stay)
+      (subst (λ l. IsPermutation (slot ∷ slots_held part) (l ++ marks)) (sym now)
+      (IsPermutation-append_left marks (slot ∷ window_slots part) (window_slots part ++ slot ∷ [])
+      (IsPermutation-sym (window_slots part ++ slot ∷ []) (slot ∷ window_slots part) (IsPermutation-to_front (window_slots part) slot)))))
       (LiveSlotsGo-beside (slots_held part) [] (slot ∷ []) live live_now go)
 
   module _ (v : ℤ) (summary : Figures) (is : summary ≡ summary_of ((t, v) ∷ [])) (possible : IsPossible summary) (room : values_held (entries_of part) < MOST_VALUES)
-      (later : is_past part.last_time t ≡ false) (s : Stream) (agrees : Agrees part s) (stream : IsStream s) where
+      (plain : has_open part.landmarks.landmarks ≡ false) (past : is_past part.last_time t ≡ false) (s : Stream) (agrees : Agrees part s) (stream : IsStream s) where
     single : Window
     single = single_window (values_in s + 1) t v
 
     held : values_held (entries_of part) ≡ values_in s
     held = values_held-windows s.windows (entries_of part) stream.windows agrees.positions
 
-    IsStream-single : IsStream (with_single s t v)
-    IsStream-single = record {
-      target = stream.target;
-      number = stream.number;
-      windows = AreWindows_push s.windows t v stream.windows (subst (λ n. n < MOST_VALUES) held room)
-          (λ old last. later-from_is_past part.last_time t old later (agrees.last_time ∙ last)) (subst (λ f. IsPossible f) is possible);
-    }
+    past_all : is_past (last_time s) t ≡ false
+    past_all = subst (λ o. is_past o t ≡ false) agrees.last_time past
+
+    IsStream-added : IsStream (with_single s t v)
+    IsStream-added =
+        IsStream-single s t v stream (subst (λ ls. has_open ls ≡ false) agrees.landmarks plain) past_all (subst (λ n. n < MOST_VALUES) held room)
+        (subst (λ f. IsPossible f) is possible)
 
     Agrees-single : Agrees new (with_single s t v)
     unfolding single
@@ -104,10 +112,15 @@ module _ (part new : StreamParts) (slot t : ℕ) (added : IsAdded part new slot 
           ap (λ es. map span_held es) added.entries ∙ map-append span_held (entries_of part) (single_entry (values_held (entries_of part) + 1) slot ∷ [])
           ∙ ap₂ (λ (xs : List (ℕ × ℕ)) (p : ℕ × ℕ). xs ++ p ∷ []) agrees.positions one
           ∙ sym (map-append span_of s.windows (single_window (values_in s + 1) t v ∷ []));
-      last_time = added.last_time ∙ sym (newest_time_push s.windows (single_window (values_in s + 1) t v));
+      landmarks = ap (λ (l : LandmarksState). l.landmarks) added.landmarks ∙ agrees.landmarks;
+      known = subst AreKnown (sym added.landmarks) agrees.known;
+      last_time =
+          let newest = newest_time_push s.windows (single_window (values_in s + 1) t v) in
+          added.last_time ∙ sym (later-past (newest_time s.windows) (latest_of s.landmarks) t past_all)
+          ∙ ap (λ o. later o (latest_of s.landmarks)) (sym newest);
     }
 
-    records_single : records_held (new, with_single s t v) ≡ records_held (part, s) ++ (slot, Some (records.Window part.id.0 (values_held (entries_of part) + 1) summary)) ∷ []
+    records_single : windows_held (new, with_single s t v) ≡ windows_held (part, s) ++ (slot, Some (records.Window part.id.0 (values_held (entries_of part) + 1) summary)) ∷ []
     records_single =
         let one : Window = single_window (values_in s + 1) t v in
         let spelled : Some (window_record s.number one) ≡ Some (records.Window part.id.0 (values_held (entries_of part) + 1) summary) =
@@ -116,7 +129,7 @@ module _ (part new : StreamParts) (slot t : ℕ) (added : IsAdded part new slot 
         added.own_slot added.entries
         ∙ ap (λ l. (part.slot, Some (stream_record s)) ∷ l)
         (zip-held s.number (entries_of part) (single_entry (values_held (entries_of part) + 1) slot ∷ []) s.windows (one ∷ []) agrees.positions)
-        ∙ ap (λ (r : Option Record). records_held (part, s) ++ (slot, r) ∷ []) spelled
+        ∙ ap (λ (r : Option Record). windows_held (part, s) ++ (slot, r) ∷ []) spelled
 
     IsHeldIn-single : (others : List (ℕ × Option Record)) (image : List ℕ) →
         HasRecords ((slot, Some (records.Window part.id.0 (values_held (entries_of part) + 1) summary)) ∷ (records_held (part, s) ++ others)) image →
@@ -125,26 +138,29 @@ module _ (part new : StreamParts) (slot t : ℕ) (added : IsAdded part new slot 
         let added_record : ℕ × Option Record = (slot, Some (records.Window part.id.0 (values_held (entries_of part) + 1) summary)) in
         record {
           agrees = Agrees-single;
-          stream = IsStream-single;
+          stream = IsStream-added;
           records = HasRecords-permutation (added_record ∷ (records_held (part, s) ++ others)) (records_held (new, with_single s t v) ++ others) image
-              (subst (λ l. IsPermutation (added_record ∷ (records_held (part, s) ++ others)) (l ++ others)) (sym records_single)
-              (IsPermutation-append_left others (added_record ∷ records_held (part, s)) (records_held (part, s) ++ added_record ∷ [])
-              (IsPermutation-sym (records_held (part, s) ++ added_record ∷ []) (added_record ∷ records_held (part, s)) (IsPermutation-to_front (records_held (part, s)) added_record)))) has;
+              (subst (λ l. IsPermutation (added_record ∷ l) (records_held (new, with_single s t v) ++ others)) (sym (records_held-apart part s others))
+              (records_held-changed part new s (s.windows ++ single_window (values_in s + 1) t v ∷ []) (added_record ∷ windows_held (part, s)) others added.landmarks
+              (subst (λ l. IsPermutation (added_record ∷ windows_held (part, s)) l) (sym records_single)
+              (IsPermutation-sym (windows_held (part, s) ++ added_record ∷ []) (added_record ∷ windows_held (part, s))
+              (IsPermutation-to_front (windows_held (part, s)) added_record))))) has;
         }
 
   -- a call that puts the record of the value
   pub Turns-added : {T E : Type 0} (v : ℤ) (summary : Figures) → summary ≡ summary_of ((t, v) ∷ []) → IsPossible summary → values_held (entries_of part) < MOST_VALUES →
-      is_past part.last_time t ≡ false → (others : List (ℕ × Option Record)) (s : Stream) (old after : Told) (result : Result T E) →
+      has_open part.landmarks.landmarks ≡ false → is_past part.last_time t ≡ false →
+      (others : List (ℕ × Option Record)) (s : Stream) (old after : Told) (result : Result T E) →
       AddsRecord slot (records.Window part.id.0 (values_held (entries_of part) + 1) summary) old after result →
       Turns (IsHeldIn others part s) (IsHalfway others part s t v) (IsHeldIn others new (with_single s t v)) old after result
-  Turns-added v summary is possible room later others s old after result adds =
+  Turns-added v summary is possible room plain past others s old after result adds =
       let before = records_held (part, s) ++ others in
       let now : List (ℕ × Option Record) = (slot, Some (records.Window part.id.0 (values_held (entries_of part) + 1) summary)) ∷ before in
       Turns-weaker (HasRecords before) (IsHeldIn others part s) (Either (HasRecords before) (HasRecords now)) (IsHalfway others part s t v) (HasRecords now)
       (IsHeldIn others new (with_single s t v)) old after result (λ held. held.records)
       (λ held image. ⊎_elim (λ stays. inl (record { agrees = held.agrees; stream = held.stream; records = stays }))
-      (λ turned. inr (IsPartlyJoined-none others new (with_single s t v) image (IsHeldIn-single v summary is possible room later s held.agrees held.stream others image turned))))
-      (λ held image has. IsHeldIn-single v summary is possible room later s held.agrees held.stream others image has)
+      (λ turned. inr (IsPartlyJoined-none others new (with_single s t v) image (IsHeldIn-single v summary is possible room plain past s held.agrees held.stream others image turned))))
+      (λ held image has. IsHeldIn-single v summary is possible room plain past s held.agrees held.stream others image has)
       (adds before)
 
 -- closing after a value was put is taking the value

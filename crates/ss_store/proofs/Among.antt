@@ -1,18 +1,25 @@
 -- One stream among others: its records beside theirs, and what stands in its place afterwards.
-use Rattle.std.proofs.Common.{◌≡◌, ℕ, zero, suc, ◌<◌, Bool, List, [], ◌∷◌, ◌++◌, length, flat_map, remove, slice_get, slice_set, zip, refl, ap, sym, subst, ◌∙◌, arith, IsPermutation, Option, Some}
+use Rattle.std.proofs.Common.{◌≡◌, ℕ, zero, suc, ◌<◌, ◌≤◌, Bool, false, List, [], ◌∷◌, ◌++◌, length, flat_map, remove, slice_get, slice_set, zip, refl, ap, sym, subst, ◌∙◌, arith, IsPermutation, Option, None, Some, MatchOption}
+use Rattle.std.specs.Prelude.{⊤}
+use Rattle.std.proofs.lemmas.Bool.Decides.{nat_tests}
 use Rattle.std.proofs.lemmas.List.{length-set, map-set, set-set}
-use Rattle.std.proofs.lemmas.List.Elements.{All-get_or, All-set}
+use Rattle.std.proofs.lemmas.List.Elements.{All-get_or, All-nil, All-set}
 use Rattle.std.proofs.lemmas.List.Sorted.{IsPermutation-sym, IsPermutation-trans}
 use Rattle.std.proofs.lemmas.Option.{get_or_from_slice_get, none-some, same_Some, slice_get_within}
 use Rattle.ss_codec.specs.declared.record.Record.{Record}
 use Rattle.ss_journal.specs.Redo.{SlotMap, StandsFor}
 use Rattle.ss_journal.proofs.RedoLemmas.{StandsFor-parts}
+use Rattle.ss_landmarks.specs.Landmark.{Landmark}
+use Rattle.ss_landmarks.specs.Landmarks.{IsState as AreKnown, LandmarksState}
+use Rattle.ss_landmarks.specs.Order.{AllEndBy, EndsBy}
+use Rattle.ss_landmarks.proofs.TimeLemmas.{AllEndBy-later}
 use Rattle.ss_target.specs.Lengths.{lengths_of}
 use Rattle.ss_model.specs.ClosedState.{closed_state, closed_stream}
+use Rattle.ss_model.specs.Refusals.{is_past}
 use Rattle.ss_model.specs.Standing.{IsState, IsStream}
 use Rattle.ss_model.specs.State.{Stream, values_in}
-use Rattle.ss_model.proofs.JoinLemmas.{AreWindows-JoinsDue}
-use Rattle.ss_recover.specs.Held.{AllAgree, AreHeld, AreWhole, Agrees, TileFrom, entries_of, records_held, slots_held}
+use Rattle.ss_model.proofs.StreamLemmas.{IsStream-joined}
+use Rattle.ss_recover.specs.Held.{AllAgree, AreHeld, AreWhole, Agrees, EndByLast, TileFrom, entries_of, records_held, slots_held}
 use Rattle.ss_recover.specs.declared.parts.StreamParts.{StreamParts}
 use Rattle.ss_recover.specs.Parts.{carried}
 use Rattle.ss_recover.proofs.HeldLemmas.{carried-AreHeld}
@@ -134,17 +141,17 @@ Recovers-partly parts streams place s image each inside state partly =
     let now = with_windows s partly.windows in
     let was = slice_set streams place s in
     let at : slice_get was place ≡ Some s = slice_get-set streams place s (omega (arith, length-AllAgree parts streams each)) in
-    let tiles = (IsStream-at was place s state at).windows in
+    let stream = IsStream-at was place s state at in
     let len = lengths_of s.params in
     let n = values_in s in
-    let joined = AreWindows-JoinsDue len n s.windows partly.windows tiles partly.joins in
+    let joined = IsStream-joined len n s partly.windows stream partly.joins in
     let few = length-JoinsDue len n s.windows partly.windows partly.joins in
     let state_now : IsState (slice_set streams place now) =
     subst IsState (set-set streams place s now) (IsState-shorter was place s partly.windows state at joined few) in
     let has = HasRecords-set parts streams place partly.part now image each inside partly.held in
     let closes : closed_state (slice_set streams place now) ≡ closed_state was =
     map-set closed_stream streams place now
-    ∙ ap (slice_set (closed_state streams) place) (closed_stream-joined s partly.windows tiles partly.joins)
+    ∙ ap (slice_set (closed_state streams) place) (closed_stream-joined s partly.windows stream.windows partly.joins)
     ∙ sym (map-set closed_stream streams place s) in
     subst (λ l. Recovers l image) closes
     (Recovers-held (slice_set parts place partly.part) (slice_set streams place now) image has.0 state_now has.1)
@@ -163,10 +170,19 @@ AreWhole-at parts live place part whole at =
     (All-get_or (λ (p : StreamParts). TileFrom 1 (entries_of p)) parts place part (slice_get_within parts place part at) whole.tiles) in
     (tiles, (flat_map slots_held (remove parts place), slots-parted parts live place part whole at))
 
-pub AreWhole-set : (parts : List StreamParts) (live live_now : List Bool) (place : ℕ) (part now : StreamParts) → AreWhole parts live →
-    slice_get parts place ≡ Some part → IsSameStream part now → TileFrom 1 (entries_of now) →
-    LiveSlotsGo (slots_held part) (slots_held now) live live_now → AreWhole (slice_set parts place now) live_now
-AreWhole-set parts live live_now place part now whole at same tiles go =
+-- the landmarks of one part are in order, and end by its last time
+pub Marks-at : (parts : List StreamParts) (live : List Bool) (place : ℕ) (part : StreamParts) → AreWhole parts live →
+    slice_get parts place ≡ Some part → AreKnown part.landmarks × EndByLast part
+Marks-at parts live place part whole at =
+    let P : StreamParts → Type 0 = λ p. AreKnown p.landmarks × EndByLast p in
+    subst P (get_or_from_slice_get parts place part part at) (All-get_or P parts place part (slice_get_within parts place part at) whole.landmarks)
+
+-- the same stream in its place, however its windows and landmarks have changed
+pub AreWhole-changed : (parts : List StreamParts) (live live_now : List Bool) (place : ℕ) (part now : StreamParts) → AreWhole parts live →
+    slice_get parts place ≡ Some part → now.id ≡ part.id → now.name ≡ part.name → TileFrom 1 (entries_of now) →
+    AreKnown now.landmarks × EndByLast now → LiveSlotsGo (slots_held part) (slots_held now) live live_now →
+    AreWhole (slice_set parts place now) live_now
+AreWhole-changed parts live live_now place part now whole at same_id same_name tiles marks go =
     let inside = slice_get_within parts place part at in
     let others = flat_map slots_held (remove parts place) in
     let parted = slots-parted parts live place part whole at in
@@ -176,9 +192,51 @@ AreWhole-set parts live live_now place part now whole at same tiles go =
     (IsPermutation-parted slots_held changed place now (slice_get-set parts place now inside)) in
     record {
       few = omega (arith, whole.few, length-set parts place now);
-      numbers = rw (map-set_same (λ (p : StreamParts). p.id.0) parts place part now at (ap (λ i. i.0) same.id)) whole.numbers;
-      names = rw (map-set_same (λ (p : StreamParts). p.name) parts place part now at same.name) whole.names;
+      numbers = rw (map-set_same (λ (p : StreamParts). p.id.0) parts place part now at (ap (λ i. i.0) same_id)) whole.numbers;
+      names = rw (map-set_same (λ (p : StreamParts). p.name) parts place part now at same_name) whole.names;
       tiles = All-set (λ (p : StreamParts). TileFrom 1 (entries_of p)) parts place now tiles whole.tiles;
+      landmarks = All-set (λ (p : StreamParts). AreKnown p.landmarks × EndByLast p) parts place now marks whole.landmarks;
       slots = IsPermutation-trans (flat_map slots_held changed) (slots_held now ++ others) (live_slots live_now)
           (IsPermutation-sym (slots_held now ++ others) (flat_map slots_held changed) moved) (go others parted);
     }
+
+-- a last time that isn't before the one from before
+abbrev pub IsNoEarlier : Option ℕ → Option ℕ → Type 0
+IsNoEarlier None now = ⊤
+IsNoEarlier (Some last) None = ⊥
+IsNoEarlier (Some last) (Some t) = last ≤ t
+
+pub IsNoEarlier-same : (was now : Option ℕ) → now ≡ was → IsNoEarlier was now
+IsNoEarlier-same None now same = tt
+IsNoEarlier-same (Some last) None same = cc
+IsNoEarlier-same (Some last) (Some t) same = let is : t ≡ last = cc in omega (arith, is)
+
+pub IsNoEarlier-past : (was now : Option ℕ) (t : ℕ) → now ≡ Some t → is_past was t ≡ false → IsNoEarlier was now
+IsNoEarlier-past was None t same past = absurd (cc)
+IsNoEarlier-past None (Some u) t same past = tt
+IsNoEarlier-past (Some last) (Some u) t same past =
+    let is : u ≡ t = cc in
+    let later : last < t = grind (arith, nat_tests) in
+    omega (arith, is, later)
+
+all_end-later : (was now : Option ℕ) (landmarks : List Landmark) → IsNoEarlier was now →
+    MatchOption was (landmarks ≡ []) (λ last. AllEndBy last landmarks) → MatchOption now (landmarks ≡ []) (λ last. AllEndBy last landmarks)
+all_end-later None None landmarks later end = end
+all_end-later None (Some t) landmarks later end = subst (λ ls. AllEndBy t ls) (sym end) (All-nil (EndsBy t))
+all_end-later (Some last) None landmarks later end = absurd later
+all_end-later (Some last) (Some t) landmarks later end = AllEndBy-later landmarks last t later end
+
+-- the landmarks end by the last time where they are as they were, and it is no earlier
+pub EndByLast-later : (part now : StreamParts) → now.landmarks ≡ part.landmarks → IsNoEarlier part.last_time now.last_time → EndByLast part → EndByLast now
+EndByLast-later part now same later end =
+    all_end-later part.last_time now.last_time now.landmarks.landmarks later
+    (subst (λ (l : LandmarksState). MatchOption part.last_time (l.landmarks ≡ []) (λ last. AllEndBy last l.landmarks)) (sym same) end)
+
+-- with the same landmarks
+pub AreWhole-set : (parts : List StreamParts) (live live_now : List Bool) (place : ℕ) (part now : StreamParts) → AreWhole parts live →
+    slice_get parts place ≡ Some part → IsSameStream part now → IsNoEarlier part.last_time now.last_time → TileFrom 1 (entries_of now) →
+    LiveSlotsGo (slots_held part) (slots_held now) live live_now → AreWhole (slice_set parts place now) live_now
+AreWhole-set parts live live_now place part now whole at same later tiles go =
+    let marks = Marks-at parts live place part whole at in
+    AreWhole-changed parts live live_now place part now whole at same.id same.name tiles
+    (subst AreKnown (sym same.landmarks) marks.0, EndByLast-later part now same.landmarks later marks.1) go

@@ -1,6 +1,6 @@
 -- What windows that are read one after the other say of a range of times.
 use Rattle.std.proofs.Common.{◌≡◌, ◌∙◌, ℕ, zero, suc, ◌+◌, ◌-◌, ◌*◌, ◌^◌, ◌<◌, ◌≤◌, max, min, true, ℤ, ◌+ℤ◌, ◌≤ℤ◌, List, [], ◌∷◌, length, refl, sym, ap, ap₂, subst, arith}
-use Rattle.std.specs.Prelude.{unsigned_abs}
+use Rattle.std.specs.Prelude.{FitsSigned, unsigned_abs}
 use Rattle.std.specs.List.{count_by, range_with_len}
 use Rattle.std.proofs.lemmas.Int.{ints, clamps, to_z-of_z}
 use Rattle.std.specs.Int.{w128}
@@ -63,7 +63,7 @@ module _ (s : SplitFigures) (split : IsSplit s) where
       (omega (arith, lo), omega (arith, hi))
 
 -- and so is the sum of possible figures
-pub sum-near : (f : Figures) → IsPossible f → IsNear f.sum
+pub sum-near : (f : Figures) → IsPossible f → unsigned_abs f.sum < 2 ^ 104
 sum-near f possible =
     let low = possible.sum_low in
     let high = possible.sum_high in
@@ -79,6 +79,26 @@ held-near z near = to_z-of_z w128 z (omega (arith, ints))
 pub near-held : (z : ℤ) → IsNear z → IsNear (held z)
 near-held z near = subst IsNear (sym (held-near z near)) near
 
+-- the sum of a whole window and of values of landmarks, as the code makes it
+module _ (sum marked : ℤ) (near : unsigned_abs sum < 2 ^ 104) (few : unsigned_abs marked ≤ 2 ^ 87) where
+  held-both : (held sum +ℤ held marked) ≡ (sum +ℤ marked)
+  held-both =
+      let sum_near : IsNear sum = omega (arith, ints, near) in
+      let marked_near : IsNear marked = omega (arith, ints, few) in
+      ap₂ (λ p q. p +ℤ q) (held-near sum sum_near) (held-near marked marked_near)
+
+  both-near : IsNear (sum +ℤ marked)
+  both-near = omega (arith, ints, near, few)
+
+  pub known-fits : FitsSigned w128 (held sum +ℤ held marked)
+  known-fits = subst (FitsSigned w128) (sym held-both) (omega (arith, ints, near, few))
+
+  pub known-held : held (held sum +ℤ held marked) ≡ (sum +ℤ marked)
+  known-held = ap held held-both ∙ held-near (sum +ℤ marked) both-near
+
+  pub known-near : IsNear (held (held sum +ℤ held marked))
+  known-near = subst IsNear (sym known-held) both-near
+
 -- a sum of three such numbers as the code makes it
 pub held-three : (a b d : ℤ) → IsNear a → IsNear b → IsNear d → held (held (held a +ℤ held b) +ℤ held d) ≡ ((a +ℤ b) +ℤ d)
 held-three a b d near_a near_b near_d =
@@ -90,59 +110,3 @@ held-three a b d near_a near_b near_d =
 
 pub three : (a b d x y z : ℤ) → a ≡ x → b ≡ y → d ≡ z → ((a +ℤ b) +ℤ d) ≡ ((x +ℤ y) +ℤ z)
 three a b d x y z first second third = ap₂ (λ p q. p +ℤ q) (ap₂ (λ p q. p +ℤ q) first second) third
-
--- each time is free, since no landmark stands
-count_by-all : (ts : List ℕ) → count_by (λ t. true) ts ≡ length ts
-count_by-all [] = refl
-count_by-all (t ∷ ts) = let rest = count_by-all ts in let first = count_by-cons (λ z. true) t ts in omega (arith, rest, first)
-
-times-all : (p q : ℕ) → times (λ t. true) p q ≡ q + 1 - p
-times-all p q = count_by-all (range_with_len p (q + 1 - p)) ∙ length-range_with_len p (q + 1 - p)
-
-pub times_inside-all : (from to first last : ℕ) → times_inside (λ t. true) from to first last ≡ min (last - 1) to + 1 - max (first + 1) from
-times_inside-all from to first last = times_inside-times (λ t. true) from to first last ∙ times-all (max (first + 1) from) (min (last - 1) to)
-
-pub times_outside-all : (from to first last : ℕ) →
-    times_inside (λ t. true) from to first last + times_outside (λ t. true) from to first last ≡ last - 1 + 1 - (first + 1)
-times_outside-all from to first last = times_inside-times_outside (λ t. true) from to first last ∙ times-all (first + 1) (last - 1)
-
-figures-same : (count : ℕ) (sum sum' least least' greatest greatest' : ℤ) (ends ends' inside inside' outside outside' : ℕ) →
-    sum ≡ sum' → least ≡ least' → greatest ≡ greatest' → ends ≡ ends' → inside ≡ inside' → outside ≡ outside' →
-    ◌≡◌ {A = SplitFigures} (record { count = count; sum = sum; min = least; max = greatest; ends = ends; inside = inside; outside = outside })
-    (record { count = count; sum = sum'; min = least'; max = greatest'; ends = ends'; inside = inside'; outside = outside' })
-figures-same count sum sum' least least' greatest greatest' ends ends' inside inside' outside outside' p q r s t u = λ i. record {
-  count = count;
-  sum = p i;
-  min = q i;
-  max = r i;
-  ends = s i;
-  inside = t i;
-  outside = u i;
-}
-
--- the figures of a split window, by those of its summary
-pub split_figures-is : (from to : ℕ) (w : Window) (f : Figures) (sum least greatest : ℤ) (ends inside : ℕ) → f ≡ w.summary →
-    sum ≡ f.sum → least ≡ f.min → greatest ≡ f.max →
-    ends ≡ ends_in from to f.t_first f.t_last → inside ≡ times_inside (λ t. true) from to f.t_first f.t_last → f.t_first + inside < f.t_last →
-    ◌≡◌ {A = SplitFigures} (record {
-      count = f.count;
-      sum = sum;
-      min = least;
-      max = greatest;
-      ends = ends;
-      inside = inside;
-      outside = f.t_last - f.t_first - 1 - inside;
-    }) (split_figures (λ t. true) from to w)
-split_figures-is from to w f sum least greatest ends inside same sum_is least_is greatest_is ends_is inside_is most =
-    let all = times_outside-all from to f.t_first f.t_last in
-    let outside : f.t_last - f.t_first - 1 - inside ≡ times_outside (λ t. true) from to f.t_first f.t_last = omega (arith, all, inside_is) in
-    subst (λ (g : Figures). ◌≡◌ {A = SplitFigures} (record {
-      count = f.count;
-      sum = sum;
-      min = least;
-      max = greatest;
-      ends = ends;
-      inside = inside;
-      outside = f.t_last - f.t_first - 1 - inside;
-    }) (split_of (λ t. true) from to g.count g.sum g.min g.max g.t_first g.t_last)) same
-    (figures-same f.count sum f.sum least f.min greatest f.max ends _ inside _ _ _ sum_is least_is greatest_is ends_is inside_is outside)

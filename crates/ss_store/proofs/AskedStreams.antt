@@ -12,7 +12,7 @@ use Rattle.ss_model.specs.declared.outcome.Outcome.{Outcome}
 use Rattle.ss_recover.specs.Held.{AllAgree}
 use Rattle.ss_recover.specs.declared.parts.StreamParts.{StreamParts}
 use Rattle.ss_store.specs.Asked.{IsAnswered, refuses_query_held}
-use Rattle.ss_store.specs.Causes.{IsAskFirm}
+use Rattle.ss_store.specs.Causes.{IfAskChanged, IfChanged, IsAskFirm}
 use Rattle.ss_store.specs.Errors.{ask_of_fault}
 use Rattle.ss_store.specs.Held.{IsHeldIn}
 use Rattle.ss_store.specs.Kept.{IsKept, SomeAgree, StoreState, part_named}
@@ -29,7 +29,7 @@ use Rattle.ss_store.proofs.Named.{AreFound-named}
 -- what a stream answers, whatever lies beside it
 abbrev pub Answers : StreamParts → Query → List ℕ → Result Outcome Fault → Type 0
 Answers part query content result =
-    (others : List (ℕ × Option Record)) (s : Stream) → IsHeldIn others part s content → IsAnswered (answer_of query s.windows) result
+    (others : List (ℕ × Option Record)) (s : Stream) → IsHeldIn others part s content → IsAnswered (answer_of query s) result
 
 module _ (store : StoreState) (content : List ℕ) (kept : IsKept store content) (query : Query) (part : StreamParts)
     (named : part_named query.name store.streams ≡ Some part) (result : Result Outcome Fault) (answers : Answers part query content result) where
@@ -37,7 +37,7 @@ module _ (store : StoreState) (content : List ℕ) (kept : IsKept store content)
   record IsAsked : Type 0 where
     stream : Stream
     found : stream_named query.name kept.streams ≡ Some stream
-    answered : IsAnswered (answer_of query stream.windows) result
+    answered : IsAnswered (answer_of query stream) result
 
   asked : IsAsked
   asked =
@@ -54,7 +54,7 @@ outcome-kept store content kept query part named outcome answers streams recover
     let is = asked store content kept query part named (Ok outcome) answers in
     let same = Recovers-same kept.streams streams content (Recovers-IsKept store content kept) recovers in
     let found : stream_named query.name streams ≡ Some is.stream = ap (λ l. stream_named query.name l) (sym same) ∙ is.found in
-    ap (option_map (λ (s : Stream). answer_of query s.windows)) found ∙ ap (λ (o : Outcome). Some o) (sym is.answered)
+    ap (option_map (λ (s : Stream). answer_of query s)) found ∙ ap (λ (o : Outcome). Some o) (sym is.answered)
 
 IsAskFirm-answered : (T : Type 0) (outcome : Outcome) (why : Fault) (error : AskError) → IsAnswered outcome (Err why) → error ≡ ask_of_fault why →
     IsAskFirm {T = T} (Err error)
@@ -67,7 +67,13 @@ pub firm-kept : (T : Type 0) (store : StoreState) (content : List ℕ) → IsKep
     IsAskFirm {T = T} (Err error)
 firm-kept T store content kept query part named why error answers from =
     let is = asked store content kept query part named (Err why) answers in
-    IsAskFirm-answered T (answer_of query is.stream.windows) why error is.answered from
+    IsAskFirm-answered T (answer_of query is.stream) why error is.answered from
+
+-- a slot that has changed, as a store says it
+pub ask-changed : (T U : Type 0) (P : ℕ → Type 0) (why : Fault) (error : AskError) → IfChanged {T = T} (Err why) P → error ≡ ask_of_fault why →
+    IfAskChanged {T = U} (Err error) P
+ask-changed T U P fault.Disk error changed is = subst (λ x. IfAskChanged {T = U} (Err x) P) (sym is) tt
+ask-changed T U P (fault.Changed slot) error changed is = subst (λ x. IfAskChanged {T = U} (Err x) P) (sym is) changed
 
 known-alike : (part : Option StreamParts) (s : Option Stream) → SomeAgree part s → is_some part ≡ is_some s
 known-alike None None agree = refl

@@ -1,27 +1,37 @@
 -- A stream whose windows are read one after the other, oldest first.
 use Rattle.std.proofs.Common.{◌≡◌, ◌∙◌, ℕ, zero, suc, ◌+◌, ◌-◌, ◌<◌, ◌≤◌, Bool, true, false, List, [], ◌∷◌, ◌++◌, map, length, refl, sym, ap, ap₂, subst, arith, append_assoc, append-nil, length-append, drop, get_or, Option, Some, None, IsTrue, IsPermutation, Ok, Err, Result}
-use Rattle.std.specs.Prelude.{IfSome, if◌then◌else◌, zip}
+use Rattle.std.specs.Prelude.{IfSome, if◌then◌else◌, option_map, slice_get, zip}
+use Rattle.std.specs.List.{Contains, list_all}
+use Rattle.std.proofs.lemmas.Bool.{and_parts}
 use Rattle.std.proofs.lemmas.List.{map-append}
+use Rattle.std.proofs.lemmas.List.Folds.{list_all-append}
 use Rattle.std.proofs.lemmas.List.Sorted.{IsPermutation-middle}
+use Rattle.std.proofs.lemmas.Option.{get_or_from_slice_get, slice_get-map, slice_get_within}
 use Rattle.ss_codec.specs.declared.record.Record.{Record}
 use Rattle.ss_line.specs.Line.{IsLine, StandsIn, entry_at, index_of, place_at}
 use Rattle.ss_line.specs.declared.entry.At.{At}
 use Rattle.ss_line.specs.declared.entry.Entry.{Entry}
+use Rattle.ss_catalog.specs.declared.query.Kind.{Kind}
+use Rattle.ss_landmarks.specs.Free.{is_free}
+use Rattle.ss_landmarks.specs.ValuesIn.{tally_of, values_in}
+use Rattle.ss_landmarks.specs.declared.tally.Tally.{Tally}
+use Rattle.ss_model.specs.Answers.{answer_of_kind}
 use Rattle.ss_model.specs.Tiling.{StandFrom}
 use Rattle.ss_model.specs.State.{Stream}
 use Rattle.ss_model.specs.declared.outcome.Outcome.{Outcome}
 use Rattle.ss_model.specs.declared.types.Window.{Window}
 use Rattle.ss_model.specs.Interval.{is_whole}
+use Rattle.ss_model.specs.Marks.{lies_free, marked_values}
 use Rattle.ss_outside.proofs.CrashLemmas.{reads-joined, reads-none}
 use Rattle.ss_outside.specs.Crash.{OnlyReads}
 use Rattle.ss_outside.specs.Disk.{Told}
-use Rattle.ss_recover.specs.Held.{Agrees, TileFrom, entries_of, records_held, slots_held, span_held, span_of, stream_record, window_record}
+use Rattle.ss_recover.specs.Held.{Agrees, TileFrom, entries_of, mark_slots, marks_held, records_held, slots_held, span_held, span_of, stream_record, window_record}
 use Rattle.ss_recover.specs.declared.parts.StreamParts.{StreamParts}
 use Rattle.ss_records.specs.Kept.{AreKept, RecordsState}
 use Rattle.ss_summary.specs.Figures.{Figures}
 use Rattle.ss_summary.specs.declared.summary.TheConstants.{GREATEST_COUNT}
-use Rattle.ss_store.specs.Asked.{IsAnswered, joined_with, nothing_seen, seen_with}
-use Rattle.ss_store.specs.Causes.{IsRead}
+use Rattle.ss_store.specs.Asked.{IsAnswered, joined_with, marks_seen, outcome_seen, seen_with, window_slots_of}
+use Rattle.ss_store.specs.Causes.{IfChanged, IsRead}
 use Rattle.ss_store.specs.Held.{IsHeldIn}
 use Rattle.ss_store.specs.Slots.{AreSomeLive, HasRecords}
 use Rattle.ss_store.specs.declared.asking.Seen.{Seen}
@@ -32,9 +42,14 @@ use Rattle.ss_store.proofs.LiveSlots.{AreSomeLive-permutation}
 use Rattle.ss_store.proofs.Pairs.{zip-held}
 use Rattle.ss_store.proofs.Readings.{live-below}
 use Rattle.ss_store.proofs.Slots.{HasRecords-permutation}
-use Rattle.ss_store.proofs.WindowsHeld.{index_of-next}
-use Rattle.ss_store.proofs.Seeing.{IsSeen, IsSeen-more, IsSeen-none}
+use Rattle.ss_store.proofs.WindowsHeld.{index_of-next, slice_get-entry}
+use Rattle.ss_store.proofs.Seeing.{IsSeen, IsSeen-more, IsSeen-none, outcome-seen}
 use Rattle.ss_store.proofs.Walks.{entries_in}
+
+-- what each of some passes, one among them passes
+pub list_all-middle : {X : Type 0} (test : X → Bool) (xs : List X) (x : X) (ys : List X) → list_all test (xs ++ x ∷ ys) ≡ true → test x ≡ true
+list_all-middle test xs x ys all =
+    (and_parts (test x) (list_all test ys) (and_parts (list_all test xs) (list_all test (x ∷ ys)) (sym (list_all-append test xs (x ∷ ys)) ∙ all)).1).0
 
 -- how many entries are left from a place on
 abbrev pub left_from : List (At × Entry) → Option At → ℕ
@@ -57,7 +72,7 @@ pub record IsReadTo (part : StreamParts) (from to : ℕ) (seen : Seen) (next : O
   pub place : next ≡ place_at rest 0
   pub read : List Window
   pub spans : map span_held (entries_in before) ≡ map span_of read
-  pub seen_is : IsSeen from to seen read
+  pub seen_is : IsSeen part.landmarks.landmarks from to seen read
   pub taken : ℕ
   pub few : IfSome seen.whole (λ f. f.count ≤ taken)
   pub tiles : TileFrom (taken + 1) (entries_in rest)
@@ -78,8 +93,9 @@ pub record IsAsking (tells tells_now : Bool) (old now : Told) (faults faults_now
 -- before any record is read
 pub IsAsking-none : (tells : Bool) (old : Told) (faults : ℕ) (records : RecordsState) (part : StreamParts) (from to : ℕ) (next : Option At) →
     next ≡ place_at part.line.entries 0 → TileFrom 1 (entries_of part) → (IsTrue tells → AreKept records old.content) →
-    IsAsking tells tells old old faults faults records records part from to nothing_seen next
-IsAsking-none tells old faults records part from to next place tiles kept = record {
+    (marked : Tally) → marked ≡ tally_of (values_in part.landmarks.landmarks from to) →
+    IsAsking tells tells old old faults faults records records part from to (marks_seen marked) next
+IsAsking-none tells old faults records part from to next place tiles kept marked marked_is = record {
   line = record {
     before = [];
     rest = part.line.entries;
@@ -87,7 +103,7 @@ IsAsking-none tells old faults records part from to next place tiles kept = reco
     place = place;
     read = [];
     spans = refl;
-    seen_is = IsSeen-none from to;
+    seen_is = IsSeen-none part.landmarks.landmarks from to marked marked_is;
     taken = 0;
     few = tt;
     tiles = tiles;
@@ -186,21 +202,24 @@ module _ (part : StreamParts) (from to : ℕ) (seen : Seen) (at : At) (line : Is
         let slots : List Entry → List ℕ = λ es. map (λ (e : Entry). e.slot) es in
         let front : List ℕ = slots (entries_in to_here.before) in
         let back : List ℕ = slots (entries_in after) in
-        let cut : slots_held part ≡ part.slot ∷ (front ++ entry.slot ∷ back) =
-        ap (λ es. part.slot ∷ slots es) entries-here ∙ ap (λ l. part.slot ∷ l) (map-append (λ (e : Entry). e.slot) (entries_in to_here.before) (entry ∷ entries_in after)) in
-        live-below entry.slot (part.slot ∷ (front ++ back)) live
-        (AreSomeLive-permutation (part.slot ∷ (front ++ entry.slot ∷ back)) (entry.slot ∷ part.slot ∷ (front ++ back)) live
-        (IsPermutation-middle (part.slot ∷ front) entry.slot back) (subst (λ l. AreSomeLive l live) cut some))
+        let cut : slots_held part ≡ part.slot ∷ (front ++ entry.slot ∷ (back ++ mark_slots part)) =
+        ap (λ es. (part.slot ∷ slots es) ++ mark_slots part) entries-here
+        ∙ ap (λ l. (part.slot ∷ l) ++ mark_slots part) (map-append (λ (e : Entry). e.slot) (entries_in to_here.before) (entry ∷ entries_in after))
+        ∙ append_assoc (part.slot ∷ front) (entry.slot ∷ back) (mark_slots part) in
+        live-below entry.slot (part.slot ∷ (front ++ (back ++ mark_slots part))) live
+        (AreSomeLive-permutation (part.slot ∷ (front ++ entry.slot ∷ (back ++ mark_slots part))) (entry.slot ∷ part.slot ∷ (front ++ (back ++ mark_slots part))) live
+        (IsPermutation-middle (part.slot ∷ front) entry.slot (back ++ mark_slots part)) (subst (λ l. AreSomeLive l live) cut some))
 
     -- the next window, on a disk that tells
     pub IsNext-here : (s : Stream) → AreLeft s to_here.read (entries_in to_here.rest) seen.next_time → IsNext s to_here.read entry (entries_in after) seen.next_time
     IsNext-here s left =
         IsNext-left s to_here.read entry (entries_in after) seen.next_time (subst (λ es. AreLeft s to_here.read es seen.next_time) rest-entries left)
 
-    -- its record lies beside others
+    -- its record lies beside others, and it lies free among the landmarks
     pub record IsBeside (w : Window) (image : List ℕ) : Type 0 where
       pub others : List (ℕ × Option Record)
       pub has : HasRecords ((entry.slot, Some (window_record part.id.0 w)) ∷ others) image
+      pub free : IsTrue (lies_free part.landmarks.landmarks w)
 
     pub IsBeside-here : (others : List (ℕ × Option Record)) (s : Stream) (image : List ℕ) → IsHeldIn others part s image →
         (next : IsNext s to_here.read entry (entries_in after) seen.next_time) → IsBeside next.window image
@@ -214,15 +233,20 @@ module _ (part : StreamParts) (from to : ℕ) (seen : Seen) (at : At) (line : Is
         let theirs : zip (slots (entries_of part)) (spelled s.windows) ≡ front ++ one ∷ back =
         ap₂ (λ es ws. zip (slots es) (spelled ws)) entries-here next.is
         ∙ zip-held s.number (entries_in to_here.before) (entry ∷ entries_in after) to_here.read (next.window ∷ next.behind) to_here.spans in
-        let all : records_held (part, s) ++ others ≡ (head ∷ front) ++ one ∷ (back ++ others) =
-        ap (λ l. (head ∷ l) ++ others) theirs ∙ append_assoc (head ∷ front) (one ∷ back) others in
-        let beside : List (ℕ × Option Record) = (head ∷ front) ++ (back ++ others) in
+        let behind : List (ℕ × Option Record) = back ++ (marks_held (part, s) ++ others) in
+        let all : records_held (part, s) ++ others ≡ (head ∷ front) ++ one ∷ behind =
+        ap (λ l. ((head ∷ l) ++ marks_held (part, s)) ++ others) theirs ∙ append_assoc ((head ∷ front) ++ one ∷ back) (marks_held (part, s)) others
+        ∙ append_assoc (head ∷ front) (one ∷ back) (marks_held (part, s) ++ others) in
+        let beside : List (ℕ × Option Record) = (head ∷ front) ++ behind in
         let has : HasRecords (one ∷ beside) image =
-        HasRecords-permutation ((head ∷ front) ++ one ∷ (back ++ others)) (one ∷ beside) image (IsPermutation-middle (head ∷ front) one (back ++ others))
+        HasRecords-permutation ((head ∷ front) ++ one ∷ behind) (one ∷ beside) image (IsPermutation-middle (head ∷ front) one behind)
         (subst (λ l. HasRecords l image) all held.records) in
         record {
           others = beside;
           has = subst (λ n. HasRecords ((entry.slot, Some (window_record n next.window)) ∷ beside) image) (sym held.agrees.number) has;
+          free = subst (λ ls. lies_free ls next.window ≡ true) (sym held.agrees.landmarks)
+              (list_all-middle (lies_free s.landmarks) to_here.read next.window next.behind
+              (subst (λ ws. list_all (lies_free s.landmarks) ws ≡ true) next.is held.stream.free));
         }
 
     module _ (f : Figures) (count : entry.first + f.count ≡ entry.last + 1) where
@@ -258,7 +282,7 @@ module _ (part : StreamParts) (from to : ℕ) (seen : Seen) (at : At) (line : Is
           omega (arith, index, stands)
 
       pub IsReadTo-more : (next : Option At) (now : Seen) → next ≡ place_at part.line.entries (index_of part.line.entries at + 1) →
-          now ≡ seen_with from to seen (record { first = entry.first; summary = f }) → seen.next_time ≤ f.t_first → f.t_first ≤ f.t_last → IsReadTo part from to now next
+          now ≡ seen_with part.landmarks.landmarks from to seen (record { first = entry.first; summary = f }) → seen.next_time ≤ f.t_first → f.t_first ≤ f.t_last → IsReadTo part from to now next
       IsReadTo-more next now place is later rises =
           let w : Window = record { first = entry.first; summary = f } in
           let tile = tiles-here in
@@ -271,7 +295,7 @@ module _ (part : StreamParts) (from to : ℕ) (seen : Seen) (at : At) (line : Is
             spans = ap (λ es. map span_held es) (map-append (λ (e : At × Entry). e.1) to_here.before ((at, entry) ∷ []))
                 ∙ map-append span_held (entries_in to_here.before) (entry ∷ []) ∙ ap₂ (λ xs x. xs ++ x ∷ []) to_here.spans span-here
                 ∙ sym (map-append span_of to_here.read (w ∷ []));
-            seen_is = subst (λ x. IsSeen from to x (to_here.read ++ w ∷ [])) (sym is) (IsSeen-more from to seen to_here.read w to_here.seen_is later rises);
+            seen_is = subst (λ x. IsSeen part.landmarks.landmarks from to x (to_here.read ++ w ∷ [])) (sym is) (IsSeen-more part.landmarks.landmarks from to seen to_here.read w to_here.seen_is later rises);
             taken = entry.last;
             few = subst (λ (x : Seen). IfSome x.whole (λ g. g.count ≤ entry.last)) (sym is)
                 (whole-few seen.whole w to_here.taken entry.last (is_whole from to w) to_here.few all-here);
@@ -280,7 +304,7 @@ module _ (part : StreamParts) (from to : ℕ) (seen : Seen) (at : At) (line : Is
 
       -- the windows that are left then
       pub AreLeft-more : (s : Stream) (now : Seen) (next : IsNext s to_here.read entry (entries_in after) seen.next_time) → f ≡ next.window.summary →
-          now ≡ seen_with from to seen (record { first = entry.first; summary = f }) →
+          now ≡ seen_with part.landmarks.landmarks from to seen (record { first = entry.first; summary = f }) →
           AreLeft s (to_here.read ++ record { first = entry.first; summary = f } ∷ []) (entries_in after) now.next_time
       AreLeft-more s now next same is =
           let first : entry.first ≡ next.window.first = ap (λ (p : ℕ × ℕ). p.0) next.span in
@@ -295,6 +319,19 @@ module _ (part : StreamParts) (from to : ℕ) (seen : Seen) (at : At) (line : Is
                 (subst (λ (x : Figures). StandFrom next.first (x.t_last + 1) next.behind) (sym same) next.stand);
           }
 
+-- the slot of a window is one of those of the windows
+pub Contains-slot : (part : StreamParts) (at : At) (entry : Entry) → entry_at part.line.entries at ≡ Some entry → Contains (window_slots_of part) entry.slot
+Contains-slot part at entry read =
+    let i = index_of part.line.entries at in
+    let here : slice_get (window_slots_of part) i ≡ Some entry.slot =
+    slice_get-map (λ (e : Entry). e.slot) (entries_of part) i ∙ ap (option_map (λ (e : Entry). e.slot)) (slice_get-entry part.line.entries at entry read) in
+    (i, slice_get_within (window_slots_of part) i entry.slot here, get_or_from_slice_get (window_slots_of part) i entry.slot entry.slot here)
+
+pub changed-window : (T U : Type 0) (why : Fault) (slot : ℕ) (slots : List ℕ) → IfChanged {T = T} (Err why) (λ at. at ≡ slot) → Contains slots slot →
+    IfChanged {T = U} (Err why) (Contains slots)
+changed-window T U fault.Disk slot slots changed among = tt
+changed-window T U (fault.Changed at) slot slots changed among = subst (Contains slots) (sym changed) among
+
 -- a failure says nothing of the answer
 IsAnswered-err : (summary : Figures) (outcome : Outcome) (why : Fault) → IsRead summary (Err why) → IsAnswered outcome (Err why)
 IsAnswered-err summary outcome fault.Disk read = tt
@@ -308,7 +345,8 @@ module _ (tells tells_mid : Bool) (old mid : Told) (faults faults_mid : ℕ) (re
   abbrev pub ReadsWindow : Result Figures Fault → Type 0
   ReadsWindow result =
       IsTrue tells_mid → (others : List (ℕ × Option Record)) (w : Window) →
-      HasRecords ((entry.slot, Some (window_record part.id.0 w)) ∷ others) mid.content → span_held entry ≡ span_of w → IsRead w.summary result
+      HasRecords ((entry.slot, Some (window_record part.id.0 w)) ∷ others) mid.content → span_held entry ≡ span_of w →
+      IsTrue (lies_free part.landmarks.landmarks w) → IsRead w.summary result
 
   -- the window that was to be read
   record IsReadNext (s : Stream) (result : Result Figures Fault) : Type 0 where
@@ -322,7 +360,7 @@ module _ (tells tells_mid : Bool) (old mid : Told) (faults faults_mid : ℕ) (re
       let beside = IsBeside-here part from to seen at line asking.line entry read others s old.content held next in
       let has = subst (λ image. HasRecords ((entry.slot, Some (window_record part.id.0 next.window)) ∷ beside.others) image)
       (sym (asking.reads told).same.content) beside.has in
-      record { next = next; is = window (subst (λ b. IsTrue b) (sym asking.same_tells) told) beside.others next.window has next.span }
+      record { next = next; is = window (subst (λ b. IsTrue b) (sym asking.same_tells) told) beside.others next.window has next.span beside.free }
 
   pub failed-answer : (why : Fault) → ReadsWindow (Err why) → (outcome : Stream → Outcome) → IsTrue tells → (others : List (ℕ × Option Record)) (s : Stream) →
       IsHeldIn others part s old.content → IsAnswered (outcome s) (Err why)
@@ -339,7 +377,7 @@ module _ (tells tells_mid : Bool) (old mid : Told) (faults faults_mid : ℕ) (re
 
   pub IsAsking-more : (f : Figures) → ReadsWindow (Ok f) → entry.first + f.count ≡ entry.last + 1 → seen.next_time ≤ f.t_first → f.t_first ≤ f.t_last →
       (tells_now : Bool) (new : Told) (faults_now : ℕ) (records_now : RecordsState) (next : Option At) (now : Seen) →
-      next ≡ place_at part.line.entries (index_of part.line.entries at + 1) → now ≡ seen_with from to seen (record { first = entry.first; summary = f }) →
+      next ≡ place_at part.line.entries (index_of part.line.entries at + 1) → now ≡ seen_with part.landmarks.landmarks from to seen (record { first = entry.first; summary = f }) →
       (IsTrue tells_mid → AreKept records_now new.content) → records_now.journal ≡ records_mid.journal → records_now.live ≡ records_mid.live →
       (IsTrue tells_mid → OnlyReads mid new) → tells_now ≡ tells_mid → faults_now ≡ faults_mid →
       IsAsking tells tells_now old new faults faults_now records records_now part from to now next
@@ -361,9 +399,17 @@ no-spans [] none = refl
 no-spans (w ∷ ws) none = absurd (cc)
 
 -- at the end of the line all windows were read
-pub read-all : (part : StreamParts) (from to : ℕ) (seen : Seen) (line : IsReadTo part from to seen None) (s : Stream) →
-    AreLeft s line.read (entries_in line.rest) seen.next_time → IsSeen from to seen s.windows
+read-all : (part : StreamParts) (from to : ℕ) (seen : Seen) (line : IsReadTo part from to seen None) (s : Stream) →
+    AreLeft s line.read (entries_in line.rest) seen.next_time → IsSeen part.landmarks.landmarks from to seen s.windows
 read-all part from to seen line s left =
     let none : line.rest ≡ [] = none-first line.rest line.place in
     let none_left : left.windows ≡ [] = no-spans left.windows (sym left.spans ∙ ap (λ es. map span_held (entries_in es)) none) in
-    subst (λ ws. IsSeen from to seen ws) (sym (left.is ∙ ap (λ ws. line.read ++ ws) none_left ∙ append-nil line.read)) line.seen_is
+    subst (λ ws. IsSeen part.landmarks.landmarks from to seen ws) (sym (left.is ∙ ap (λ ws. line.read ++ ws) none_left ∙ append-nil line.read)) line.seen_is
+
+-- and what is answered then is the answer of the stream
+pub outcome-all : (kind : Kind) (part : StreamParts) (from to : ℕ) (seen : Seen) (line : IsReadTo part from to seen None) (s : Stream) →
+    part.landmarks.landmarks ≡ s.landmarks → AreLeft s line.read (entries_in line.rest) seen.next_time →
+    outcome_seen kind seen ≡ answer_of_kind kind (is_free s.landmarks) from to s.windows (marked_values s.landmarks)
+outcome-all kind part from to seen line s same left =
+    subst (λ ls. outcome_seen kind seen ≡ answer_of_kind kind (is_free ls) from to s.windows (marked_values ls)) same
+    (outcome-seen part.landmarks.landmarks from to seen s.windows (read-all part from to seen line s left) kind)

@@ -1,5 +1,5 @@
 -- What a transaction of puts makes of the records in the slots of an image, and of the slots that are live.
-use Rattle.std.proofs.Common.{Bool, IsPermutation, IsTrue, List, Option, Result, Some, [], ap, arith, cond, false, inl, inr, length, not, refl, set, subst, sym, true, ◌+◌, ◌∷◌, ◌<◌, ◌≡◌, ◌≢◌, ◌≤◌, ◌⊎◌, ◌∙◌, ℕ}
+use Rattle.std.proofs.Common.{Bool, IsPermutation, IsTrue, List, Option, Result, Some, [], ap, arith, cond, false, inl, inr, length, not, refl, set, suc, subst, sym, true, zero, ◌+◌, ◌∷◌, ◌<◌, ◌≡◌, ◌≢◌, ◌≤◌, ◌⊎◌, ◌∙◌, ℕ}
 use borrow.Author.Tests.{ltb-true, ltb-false}
 use Rattle.std.proofs.lemmas.Bool.{cases_Bool, cases_eq, cond-false, cond-true, cond_both, not-false}
 use Rattle.std.proofs.lemmas.Bool.Decides.{nat_tests}
@@ -24,7 +24,7 @@ use Rattle.ss_recover.specs.Held.{IsRecord, occupied}
 use Rattle.ss_recover.proofs.Permutations.{IsPermutation-turn}
 use Rattle.ss_recover.proofs.PutLemmas.{live-IsRecord, occupied-free, occupied-freed, occupied-replaced}
 use Rattle.ss_store.specs.Calls.{Turns}
-use Rattle.ss_store.specs.Slots.{AddsRecord, Either, HasRecords, LiveSlotsGo, ReplacesTwo, live_slots, pair_put, record_put, zeros_put}
+use Rattle.ss_store.specs.Slots.{AddsRecord, Either, HasRecords, LiveSlotsGo, Replaces, ReplacesTwo, live_slots, pair_put, record_put, zeros_put}
 use Rattle.ss_store.proofs.LiveSlots.{AreTwoLive, LiveSlotsGo-freed, LiveSlotsGo-taken, live_slots-freed_first, live_slots-kept_first}
 
 -- a put of a record that isn't free
@@ -63,6 +63,12 @@ zeros-kept : (records : RecordsState) (content : List ℕ) (found : SlotMap) (sl
 zeros-kept records content found slot kept is below free =
     not-false (are_zeros (found.bytes slot)) (sym (kept.free found is slot below) ∙ free)
 
+-- a slot that is live is made live again
+set-live : (live : List Bool) (slot : ℕ) → is_live live slot ≡ true → set live slot true ≡ live
+set-live [] slot is = refl
+set-live (b ∷ bs) zero is = ap (λ (c : Bool). c ∷ bs) (sym is)
+set-live (b ∷ bs) (suc slot) is = ap (λ l. b ∷ l) (set-live bs slot is)
+
 module _ (slot : ℕ) (r : Record) (valid : IsTrue (is_valid r)) (some : r ≢ Free) where
   -- a record in a free slot
   pub AddsRecord-changes : {T E : Type 0} (records : RecordsState) (old new : Told) (result : Result T E) → AreKept records old.content → slot < MOST_SLOTS →
@@ -85,6 +91,31 @@ module _ (slot : ℕ) (r : Record) (valid : IsTrue (is_valid r)) (some : r ≢ F
   pub LiveSlotsGo-added : (live : List Bool) → slot < length live → is_live live slot ≡ false → LiveSlotsGo [] (slot ∷ []) live (live_after (record_put slot r ∷ []) live)
   LiveSlotsGo-added live below free =
       subst (λ (b : Bool). LiveSlotsGo [] (slot ∷ []) live (set live slot b)) (sym live-put) (LiveSlotsGo-taken live slot below free)
+
+  -- a record in place of that of the slot
+  pub Replaces-changes : {T E : Type 0} (old new : Told) (result : Result T E) → ChangesMap (record_put slot r ∷ []) old new result →
+      Replaces slot r old new result
+  Replaces-changes old new result changes was others =
+      Turns-changes ((slot, was) ∷ others) ((slot, Some r) ∷ others) (record_put slot r ∷ []) old new result
+      (λ found is moved. occupied-replaced found (record_put slot r) was others moved r (IsRecord-put slot r valid some)) changes
+
+  -- the slot stays live
+  pub live_after-again : (live : List Bool) → is_live live slot ≡ true → live_after (record_put slot r ∷ []) live ≡ live
+  live_after-again live is = ap (λ (b : Bool). set live slot b) live-put ∙ set-live live slot is
+
+-- a put below the extent
+module _ (slot : ℕ) (r : Record) where
+  pub IsTxn-one : slot < MOST_SLOTS → IsTxn (record_put slot r ∷ [])
+  IsTxn-one below =
+      let least : nat_le 0 slot ≡ true = grind (arith, nat_tests) in
+      let within : nat_lt slot MOST_SLOTS ≡ true = grind (arith, nat_tests) in
+      record { some = omega arith; few = omega arith; rise = rw (least, within) refl }
+
+  pub slots_fit-one : (extent : ℕ) → slot < extent → IsTrue (slots_fit (record_put slot r ∷ []) extent)
+  slots_fit-one extent below = let within : nat_le slot extent ≡ true = grind (arith, nat_tests) in rw within refl
+
+  pub extent_after-one : (extent : ℕ) → slot < extent → extent_after (record_put slot r ∷ []) extent ≡ extent
+  extent_after-one extent below = let other : nat_eq slot extent ≡ false = grind (arith, nat_tests) in rw other refl
 
 module _ (kept freed : ℕ) (r : Record) (valid : IsTrue (is_valid r)) (some : r ≢ Free) where
   -- the two orders of the puts

@@ -13,7 +13,7 @@ use Rattle.ss_model.specs.Standing.{IsState, IsStream}
 use Rattle.ss_model.specs.State.{Stream, values_in}
 use Rattle.ss_model.proofs.JoinLemmas.{JoinsDue-closed}
 use Rattle.ss_model.proofs.StandLemmas.{length-closed_le}
-use Rattle.ss_model.proofs.Tiles.{AreWindows-closed}
+use Rattle.ss_model.proofs.StreamLemmas.{IsStream-joined}
 use Rattle.ss_recover.specs.Held.{AllAgree, records_held}
 use Rattle.ss_recover.specs.declared.parts.StreamParts.{StreamParts}
 use Rattle.ss_store.specs.declared.reading.Fault.{Fault}
@@ -81,7 +81,8 @@ IsState-closed streams place s state at =
     let len = lengths_of s.params in
     let n = values_in s in
     IsState-shorter streams place s (closed len n s.windows) state at
-    (AreWindows-closed len n s.windows (IsStream-at streams place s state at).windows) (length-closed_le len n s.windows)
+    (IsStream-joined len n s (closed len n s.windows) (IsStream-at streams place s state at) (JoinsDue-closed len n s.windows))
+    (length-closed_le len n s.windows)
 
 IsState-until : (n : ℕ) (streams : List Stream) → IsState streams → IsState (closed_until n streams)
 IsState-until zero streams state = state

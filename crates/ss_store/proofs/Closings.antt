@@ -110,4 +110,5 @@ IsSameStream-more part mid new first second = record {
   name = second.name ∙ first.name;
   target = second.target ∙ first.target;
   slot = second.slot ∙ first.slot;
+  landmarks = second.landmarks ∙ first.landmarks;
 }

@@ -20,6 +20,7 @@ use Rattle.ss_catalog.specs.declared.params.Params.{Params}
 use Rattle.ss_catalog.specs.declared.stream_id.StreamId.{StreamId}
 use Rattle.ss_codec.specs.declared.record.Record.{Record}
 use Rattle.ss_codec.specs.declared.record.Record.TheVariants as records
+use Rattle.ss_landmarks.specs.Landmarks.{IsState as AreKnown, LandmarksState}
 use Rattle.ss_target.specs.Targets.{params_of}
 use Rattle.ss_model.specs.ClosedState.{closed_state, closed_stream}
 use Rattle.ss_model.specs.Refusals.{refuses}
@@ -30,7 +31,7 @@ use Rattle.ss_model.specs.declared.types.Ack.{Ack}
 use Rattle.ss_model.proofs.FoundLemmas.{below_next, IsStrictlyIncreasing_push}
 use Rattle.ss_model.proofs.NameLemmas.{same_name-Decides, same_name-same, same_name-swap}
 use Rattle.ss_model.proofs.StandLemmas.{IsState-stepped}
-use Rattle.ss_recover.specs.Held.{AllAgree, AreWhole, Agrees, TileFrom, entries_of, records_held, slots_held}
+use Rattle.ss_recover.specs.Held.{AllAgree, AreWhole, Agrees, EndByLast, TileFrom, entries_of, records_held, slots_held}
 use Rattle.ss_recover.specs.declared.parts.StreamParts.{StreamParts}
 use Rattle.ss_records.specs.Kept.{RecordsState, AreKept}
 use Rattle.ss_journal.specs.Kept.{IsSettled}
@@ -46,15 +47,23 @@ use Rattle.ss_store.proofs.Named.{numbers-AllAgree}
 use Rattle.ss_store.proofs.Slots.{HasRecords-permutation}
 use Rattle.ss_store.proofs.Stepping.{StepsState-turns}
 
+-- no landmarks, and no room for any
+abbrev pub no_landmarks : LandmarksState
+no_landmarks = record { landmarks = []; slots = []; value_slots = []; room = 0; value_room = 0 }
+
+AreKnown-none : AreKnown no_landmarks
+AreKnown-none = record { order = tt; slots = refl; value_slots = refl; most = omega arith; most_values = omega arith }
+
 -- what is held of a stream that was just created
 pub record IsFreshPart (part : StreamParts) (name : List ℕ) (params : Params) : Type 0 where
   pub name_is : part.name ≡ name
   pub params_are : params_of part.target ≡ params
   pub last_time : part.last_time ≡ None
   pub entries : part.line.entries ≡ []
+  pub landmarks : part.landmarks ≡ no_landmarks
 
 abbrev pub created_in : List Stream → List ℕ → Params → Stream
-created_in streams name params = record { number = next_number (numbers_of streams); name = name; params = params; windows = [] }
+created_in streams name params = record { number = next_number (numbers_of streams); name = name; params = params; windows = []; landmarks = [] }
 
 stepped-create : (streams : List Stream) (name : List ℕ) (params : Params) →
     stepped streams (Create name params) ≡ streams ++ created_in streams name params ∷ []
@@ -63,8 +72,15 @@ stepped-create streams name params = refl
 
 Agrees-created : (part : StreamParts) (streams : List Stream) (name : List ℕ) (params : Params) → IsFreshPart part name params →
     part.id.0 ≡ next_number (numbers_of streams) → Agrees part (created_in streams name params)
-Agrees-created part streams name params fresh number =
-    record { number = number; name = fresh.name_is; params = fresh.params_are; positions = rw fresh.entries refl; last_time = fresh.last_time }
+Agrees-created part streams name params fresh number = record {
+  number = number;
+  name = fresh.name_is;
+  params = fresh.params_are;
+  positions = rw fresh.entries refl;
+  landmarks = ap (λ (l : LandmarksState). l.landmarks) fresh.landmarks;
+  known = subst AreKnown (sym fresh.landmarks) AreKnown-none;
+  last_time = fresh.last_time;
+}
 
 AllAgree-push : (parts : List StreamParts) (streams : List Stream) (part : StreamParts) (s : Stream) → AllAgree parts streams → Agrees part s →
     AllAgree (parts ++ part ∷ []) (streams ++ s ∷ [])
@@ -88,7 +104,7 @@ all-pushed parts streams part name params each fresh number =
     let s = created_in streams name params in
     let first : ℕ × Option Record = (part.slot, Some (records.Stream part.id.0 name params)) in
     let all = flat_map records_held (zip parts streams) in
-    let one : records_held (part, s) ≡ first ∷ [] = rw (fresh.entries, number) refl in
+    let one : records_held (part, s) ≡ first ∷ [] = rw (fresh.entries, fresh.landmarks, number) refl in
     let is : flat_map records_held (zip (parts ++ part ∷ []) (stepped streams (Create name params))) ≡ all ++ first ∷ [] =
     ap (λ ss. flat_map records_held (zip (parts ++ part ∷ []) ss)) (stepped-create streams name params)
     ∙ ap (flat_map records_held) (zip-push parts streams part s (length-AllAgree parts streams each))
@@ -184,7 +200,9 @@ AreWhole-created parts live live_now part name params whole fresh number room no
     let less : length numbers < MOST_STREAMS = grind (arith, nat_tests) in
     let rising : IsStrictlyIncreasing (numbers ++ next_number numbers ∷ []) = IsStrictlyIncreasing_push numbers (next_number numbers) whole.numbers (below_next numbers) in
     let apart : list_any (same_name part.name) (map (λ (p : StreamParts). p.name) parts) ≡ false = rw fresh.name_is (none-named name parts none) in
-    let slots : slots_held part ≡ part.slot ∷ [] = rw fresh.entries refl in
+    let slots : slots_held part ≡ part.slot ∷ [] = rw (fresh.entries, fresh.landmarks) refl in
+    let known : AreKnown part.landmarks = subst AreKnown (sym fresh.landmarks) AreKnown-none in
+    let ends : EndByLast part = rw fresh.last_time (ap (λ (l : LandmarksState). l.landmarks) fresh.landmarks) in
     let all = flat_map slots_held parts in
     let is : flat_map slots_held (parts ++ part ∷ []) ≡ all ++ part.slot ∷ [] =
     flat_map-append slots_held parts (part ∷ []) ∙ ap (λ l. all ++ l) (append-nil (slots_held part) ∙ slots) in
@@ -194,6 +212,7 @@ AreWhole-created parts live live_now part name params whole fresh number room no
       names = rw (map-append (λ (p : StreamParts). p.name) parts (part ∷ []))
           (IsDistinct-push same_name-laws (map (λ (p : StreamParts). p.name) parts) part.name whole.names apart);
       tiles = All-push (λ (p : StreamParts). TileFrom 1 (entries_of p)) parts part whole.tiles (rw fresh.entries tt);
+      landmarks = All-push (λ (p : StreamParts). AreKnown p.landmarks × EndByLast p) parts part whole.landmarks (known, ends);
       slots = subst (λ l. IsPermutation l (live_slots live_now)) (sym is)
           (IsPermutation-trans (all ++ part.slot ∷ []) (part.slot ∷ all) (live_slots live_now) (IsPermutation-append_comm all (part.slot ∷ [])) (go all whole.slots));
     }

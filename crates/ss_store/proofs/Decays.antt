@@ -12,7 +12,7 @@ use Rattle.ss_store.specs.Admitted.{IsTaker}
 use Rattle.ss_store.specs.Held.{values_held}
 use Rattle.ss_store.specs.Joining.{NoSpansAreDue}
 use Rattle.ss_store.specs.Kept.{IsSound, StoreState, part_named}
-use Rattle.ss_store.proofs.Appended.{part_named-taker}
+use Rattle.ss_store.proofs.Appended.{part_named-set}
 use Rattle.ss_store.proofs.FewWindows.{length-none_due}
 
 -- of a stream that is held: so many windows are few enough, where it has so many values
@@ -36,4 +36,4 @@ KeepsToTarget-taken store catalog name t place slot now n k sound taker same val
     λ some.
     subst (λ m. k + 1 ≤ 2 * cover len m) (sym values)
     (subst (λ m. m + 1 ≤ 2 * cover len (values_held (entries_of now))) count (length-none_due len (entries_of now) tiles none (subst (λ m. 0 < m) values some))) in
-    subst (λ o. KeepsToTarget o n k) (sym (part_named-taker store catalog name t place slot now sound taker same)) bound
+    subst (λ o. KeepsToTarget o n k) (sym (part_named-set name store.streams place taker.part now sound.numbers taker.named taker.at same)) bound

@@ -1,6 +1,6 @@
 -- A transaction that joins two neighbours, in which a crash may come.
 use Rattle.std.proofs.Common.{◌≡◌, ⊎_elim, ℕ, ◌<◌, Bool, List, [], ◌∷◌, ◌++◌, refl, sym, subst, Option, Some, None, Err, Result}
-use Rattle.std.specs.Prelude.{IsErr}
+use Rattle.std.specs.Prelude.{IsErr, IsTrue}
 use Rattle.std.proofs.lemmas.Result.{on_ok_weaker}
 use Rattle.std.proofs.lemmas.List.Sorted.{IsPermutation-sym}
 use Rattle.ss_outside.specs.Crash.{KnowsNow, OnlyReads}
@@ -8,11 +8,13 @@ use Rattle.ss_outside.specs.Disk.{Told}
 use Rattle.ss_outside.proofs.CrashLemmas.{joined as run_joined, nothing_pending-same, of_content, read_leaves, weaker}
 use Rattle.ss_codec.specs.declared.record.Record.{Record}
 use Rattle.ss_codec.specs.declared.record.Record.TheVariants as records
+use Rattle.ss_landmarks.specs.Landmark.{Landmark}
 use Rattle.ss_line.specs.declared.entry.Entry.{Entry}
 use Rattle.ss_summary.specs.Figures.{Figures}
 use Rattle.ss_summary.specs.Summaries.{joined}
 use Rattle.ss_target.specs.Lengths.{lengths_of}
 use Rattle.ss_target.specs.Targets.{params_of}
+use Rattle.ss_model.specs.Marks.{lies_free}
 use Rattle.ss_model.specs.State.{Stream}
 use Rattle.ss_model.specs.declared.types.Window.{Window}
 use Rattle.ss_recover.specs.Held.{entries_of, records_held, slots_held, span_held, span_of, window_record}
@@ -48,26 +50,26 @@ IsFirm-read T summary fault.Disk read = tt
 IsFirm-read T summary (fault.Changed slot) read = absurd read
 
 -- what reading two records as one answers, for all records that may stand there
-abbrev pub ReadsJoined : ℕ → Entry → Entry → List ℕ → (Figures → Type 0) → Type 0
-ReadsJoined number w v content Reads =
+abbrev pub ReadsJoined : ℕ → List Landmark → Entry → Entry → List ℕ → (Figures → Type 0) → Type 0
+ReadsJoined number landmarks w v content Reads =
     (others : List (ℕ × Option Record)) (one two : Window) →
     HasRecords ((w.slot, Some (window_record number one)) ∷ (v.slot, Some (window_record number two)) ∷ others) content →
-    span_held w ≡ span_of one → span_held v ≡ span_of two → one.summary.t_last < two.summary.t_first → Reads (joined one.summary two.summary)
+    span_held w ≡ span_of one → span_held v ≡ span_of two → IsTrue (lies_free landmarks one) → IsTrue (lies_free landmarks two) → one.summary.t_last < two.summary.t_first → Reads (joined one.summary two.summary)
 
 module _ (others : List (ℕ × Option Record)) (part new : StreamParts) (s : Stream) (w v : Entry) (same : SameButLine part new)
     (pair : AreJoined (lengths_of (params_of part.target)) (values_held (entries_of part)) part.line.entries new.line.entries w v) where
   -- what is read where the stream is held
-  pub read-held : (content : List ℕ) (Reads : Figures → Type 0) → ReadsJoined part.id.0 w v content Reads → (held : IsHeldIn others part s content) →
+  pub read-held : (content : List ℕ) (Reads : Figures → Type 0) → ReadsJoined part.id.0 part.landmarks.landmarks w v content Reads → (held : IsHeldIn others part s content) →
       let j = JoinsHeld-pair others part new s w v same pair held.agrees held.stream in Reads (joined j.one.summary j.two.summary)
   read-held content Reads each held =
       let j = JoinsHeld-pair others part new s w v same pair held.agrees held.stream in
       each j.beside j.one j.two
       (HasRecords-permutation (records_held (part, s) ++ others) ((w.slot, Some (window_record part.id.0 j.one)) ∷ (v.slot, Some (window_record part.id.0 j.two)) ∷ j.beside)
       content j.was held.records)
-      j.first j.second j.later
+      j.first j.second j.first_free j.second_free j.later
 
   module _ {T E : Type 0} (old mid after : Told) (summary : Figures) (result : Result T E) (knows : KnowsNow old) (reads : OnlyReads old mid)
-      (read : ReadsJoined part.id.0 w v old.content (λ is. summary ≡ is))
+      (read : ReadsJoined part.id.0 part.landmarks.landmarks w v old.content (λ is. summary ≡ is))
       (replaces : ReplacesTwo w.slot v.slot (records.Window part.id.0 w.first summary) mid after result) where
     module _ (held : IsHeldIn others part s old.content) where
       j : JoinsHeld others part new s w v

@@ -13,14 +13,19 @@ pub mod Joinings
 pub mod LiveSlots
 pub mod ClosingAll
 pub mod Opens
+pub mod SurveyAnswers
 pub mod Pairs
 pub mod Places
 pub mod Readings
 pub mod Slots
 pub mod Spans
 pub mod Walks
+pub mod Surveys
+pub mod SurveyedStreams
 pub mod PlaceLemmas
 pub mod LiveCounts
+pub mod OpenMarks
+pub mod Marked
 pub mod Named
 pub mod Refusals
 pub mod WindowsHeld
@@ -32,8 +37,11 @@ pub mod Appended
 pub mod Decays
 pub mod WindowsRead
 pub mod Answering
+pub mod MarkedTallies
 pub mod Seeing
+pub mod SplitLemmas
 pub mod AskedWindows
 pub mod AskedStreams
 mod Rows
+mod CallRows
 pub mod FoundAlike

@@ -1,9 +1,9 @@
 -- How many slots are live, and how many records the streams need.
-use Rattle.std.proofs.Common.{◌≡◌, ℕ, ◌<◌, ◌≤◌, Bool, false, List, [], ◌∷◌, length, map, flat_map, refl, ap, sym, ◌∙◌, arith, cond, None, Some}
+use Rattle.std.proofs.Common.{◌≡◌, ℕ, ◌+◌, ◌<◌, ◌≤◌, Bool, false, List, [], ◌∷◌, length, map, flat_map, refl, ap, sym, ◌∙◌, arith, cond, None, Some}
 use Rattle.std.specs.Prelude.{nat_le, count_by, slice_get, Option, IfSome, IsNone, IsTrue, ◌↔◌}
 use Rattle.std.specs.List.{range_with_len}
 use Rattle.std.proofs.lemmas.Bool.Decides.{nat_tests}
-use Rattle.std.proofs.lemmas.List.{get_or_default, length-map, same_lists}
+use Rattle.std.proofs.lemmas.List.{get_or_default, length-append, length-map, same_lists}
 use Rattle.std.proofs.lemmas.List.Concat.{length-flat_map}
 use Rattle.std.proofs.lemmas.List.FromFn.{get_or-map-range_with_len, length-map-range_with_len}
 use Rattle.std.proofs.lemmas.List.Folds.{length-flat_map-take}
@@ -11,10 +11,11 @@ use Rattle.std.proofs.lemmas.List.Sorted.{length_permutation}
 use Rattle.std.proofs.lemmas.List.Sums.{length-filter, sum_by-cons}
 use Rattle.std.proofs.lemmas.Option.{get_or_from_slice_get, slice_get_within}
 use Rattle.ss_journal.specs.declared.format.TheConstants.{MOST_SLOTS}
+use Rattle.ss_landmarks.specs.Landmark.{all_values}
 use Rattle.ss_records.specs.Live.{is_live, live_count}
 use Rattle.ss_model.specs.State.{Stream, live, records_of}
 use Rattle.ss_model.specs.declared.types.TheConstants.{MOST_RECORDS}
-use Rattle.ss_recover.specs.Held.{AllAgree, AreWhole, entries_of, slots_held}
+use Rattle.ss_recover.specs.Held.{Agrees, AllAgree, AreWhole, entries_of, mark_slots, slots_held, window_slots}
 use Rattle.ss_recover.specs.declared.parts.StreamParts.{StreamParts}
 use Rattle.ss_store.specs.Slots.{live_slots}
 use Rattle.ss_store.proofs.HeldCounts.{length-Agrees}
@@ -39,6 +40,31 @@ length-live_slots slots =
     ∙ count_by-map (λ (is : Bool). is) (is_live slots) (range_with_len 0 (length slots))
     ∙ ap (λ l. live_count l) (map-is_live slots)
 
+-- the slots of one stream: its own, and those of its windows, of its landmarks and of the values of these
+pub length-slots_held : (part : StreamParts) →
+    length (slots_held part) ≡ 1 + length part.line.entries + length part.landmarks.slots + length part.landmarks.value_slots
+length-slots_held part =
+    omega (
+      arith,
+      length-append (window_slots part) (mark_slots part),
+      length-append part.landmarks.slots part.landmarks.value_slots,
+      length-map (entries_of part) (λ e. e.slot),
+      length-map part.line.entries (λ e. e.1),
+    )
+
+-- they are as many as the records that the stream needs
+pub length-slots_one : (part : StreamParts) (s : Stream) → Agrees part s → length (slots_held part) ≡ records_of s
+length-slots_one part s agrees =
+    omega (
+      arith,
+      length-slots_held part,
+      length-Agrees part s agrees,
+      agrees.known.slots,
+      agrees.known.value_slots,
+      ap length agrees.landmarks,
+      ap (λ ls. length (all_values ls)) agrees.landmarks,
+    )
+
 -- the slots that are held are as many as the records that the streams need
 pub length-slots : (parts : List StreamParts) (streams : List Stream) → AllAgree parts streams → length (flat_map slots_held parts) ≡ live streams
 length-slots [] [] each = refl
@@ -52,9 +78,7 @@ length-slots (part ∷ parts) (s ∷ ss) each =
       length-flat_map slots_held parts,
       sum_by-cons (λ (p : StreamParts). length (slots_held p)) part parts,
       sum_by-cons records_of s ss,
-      length-map (entries_of part) (λ e. e.slot),
-      length-map part.line.entries (λ e. e.1),
-      length-Agrees part s each.0,
+      length-slots_one part s each.0,
     )
 
 -- each live slot is that of a record
@@ -81,17 +105,29 @@ pub low-slots : (parts : List StreamParts) (slots : List Bool) (o : Option ℕ) 
 low-slots parts slots None whole few = tt
 low-slots parts slots (Some slot) whole few = omega (arith, few.1, live_count-slots parts slots whole)
 
+-- a stream has no more records than all
+pub few-slots : (parts : List StreamParts) (place : ℕ) (part : StreamParts) → slice_get parts place ≡ Some part →
+    length (slots_held part) ≤ length (flat_map slots_held parts)
+few-slots parts place part at =
+    let inside = slice_get_within parts place part at in
+    let one = length-flat_map-take slots_held parts place part inside in
+    omega (arith, one, ap (λ (p : StreamParts). length (slots_held p)) (get_or_from_slice_get parts place part part at))
+
 -- a stream has no more windows than there are slots
 pub few-entries : (parts : List StreamParts) (place : ℕ) (part : StreamParts) → slice_get parts place ≡ Some part →
     nat_le MOST_RECORDS (length (flat_map slots_held parts)) ≡ false → length part.line.entries < MOST_SLOTS
 few-entries parts place part at room =
-    let inside = slice_get_within parts place part at in
-    let one = length-flat_map-take slots_held parts place part inside in
     let less : length (flat_map slots_held parts) < MOST_RECORDS = grind (arith, nat_tests) in
+    omega (arith, less, few-slots parts place part at, length-slots_held part)
+
+-- nor more landmarks and values of these
+pub few-marks : (parts : List StreamParts) (place : ℕ) (part : StreamParts) → slice_get parts place ≡ Some part →
+    length (flat_map slots_held parts) ≤ MOST_RECORDS → length (mark_slots part) < MOST_SLOTS
+few-marks parts place part at room =
     omega (
       arith,
-      one,
-      ap (λ (p : StreamParts). length (slots_held p)) (get_or_from_slice_get parts place part part at),
-      length-map (entries_of part) (λ e. e.slot),
-      length-map part.line.entries (λ e. e.1),
+      room,
+      few-slots parts place part at,
+      length-slots_held part,
+      length-append part.landmarks.slots part.landmarks.value_slots,
     )

@@ -81,7 +81,7 @@ is_some-SomeAgree None (Some s) agree = absurd agree
 is_some-SomeAgree (Some part) None agree = absurd agree
 is_some-SomeAgree (Some part) (Some s) agree = refl
 
-is_some-option_map : {X Y : Type 0} (f : X → Y) (o : Option X) → is_some (option_map f o) ≡ is_some o
+pub is_some-option_map : {X Y : Type 0} (f : X → Y) (o : Option X) → is_some (option_map f o) ≡ is_some o
 is_some-option_map f None = refl
 is_some-option_map f (Some x) = refl
 

@@ -1,14 +1,17 @@
 -- Two neighbours in a line that become one: their places, their positions, their slots and their records.
 use Rattle.std.proofs.Common.{◌≡◌, ◌∙◌, ℕ, ◌+◌, ◌-◌, ◌<◌, ◌≤◌, Bool, true, false, List, [], ◌∷◌, ◌++◌, map, length, refl, sym, ap, ap₂, subst, arith, append_assoc, length-append, set, IsPermutation, Option, Some}
-use Rattle.std.specs.Prelude.{zip}
-use Rattle.std.specs.List.{list_any, remove}
+use Rattle.std.specs.Prelude.{zip, IsTrue}
+use Rattle.std.specs.List.{list_all, list_any, remove}
 use Rattle.std.proofs.Math.Seq.{set-append_seam}
-use Rattle.std.proofs.lemmas.Bool.{or_parts}
+use Rattle.std.proofs.lemmas.Bool.{and_parts, or_parts}
 use Rattle.std.proofs.lemmas.List.{length-map, map-append}
+use Rattle.std.proofs.lemmas.List.Folds.{list_all-append}
 use Rattle.std.proofs.lemmas.List.Sorted.{IsPermutation-append_left, IsPermutation-cons, IsPermutation-middle, IsPermutation-sym, IsPermutation-trans}
 use Rattle.ss_windowing.specs.Windowing.{fits}
 use Rattle.ss_codec.specs.declared.record.Record.{Record}
 use Rattle.ss_codec.specs.declared.record.Record.TheVariants as records
+use Rattle.ss_landmarks.specs.Landmark.{Landmark}
+use Rattle.ss_landmarks.specs.Landmarks.{IsState as AreKnown, LandmarksState}
 use Rattle.ss_line.specs.Line.{StandsIn, entry_at, index_of, is_at}
 use Rattle.ss_line.specs.declared.entry.At.{At}
 use Rattle.ss_line.specs.declared.entry.Entry.{Entry}
@@ -17,13 +20,15 @@ use Rattle.ss_target.specs.Lengths.{lengths_of}
 use Rattle.ss_target.specs.Targets.{params_of}
 use Rattle.ss_model.specs.Closed.{joined_window, last_position}
 use Rattle.ss_model.specs.Joins.{JoinsDue}
+use Rattle.ss_model.specs.Marks.{later, latest_of, lies_free}
 use Rattle.ss_model.specs.Standing.{IsStream}
 use Rattle.ss_model.specs.State.{Stream, values_in}
 use Rattle.ss_model.specs.Tiling.{AreWindows}
 use Rattle.ss_model.specs.declared.types.Window.{Window}
-use Rattle.ss_model.proofs.JoinLemmas.{AreWindows-JoinsDue, JoinsDue-one, newest_time-JoinsDue}
+use Rattle.ss_model.proofs.JoinLemmas.{JoinsDue-one, newest_time-JoinsDue}
+use Rattle.ss_model.proofs.StreamLemmas.{IsStream-joined}
 use Rattle.ss_model.proofs.Tiles.{AreNeighbours-from_AreWindows}
-use Rattle.ss_recover.specs.Held.{Agrees, TileFrom, entries_of, records_held, slots_held, span_held, span_of, stream_record, window_record}
+use Rattle.ss_recover.specs.Held.{Agrees, TileFrom, all_value_records, entries_of, in_slots, landmark_records, mark_slots, marks_held, records_held, slots_held, span_held, span_of, stream_record, window_record, window_slots, windows_held}
 use Rattle.ss_recover.specs.declared.parts.StreamParts.{StreamParts}
 use Rattle.ss_store.specs.Held.{values_held, with_windows}
 use Rattle.ss_store.specs.Joining.{AreDue}
@@ -189,20 +194,27 @@ pub record AreSlots (part new : StreamParts) (w v : Entry) : Type 0 where
   pub was : IsPermutation (slots_held part) (w.slot ∷ v.slot ∷ beside)
   pub is : IsPermutation (slots_held new) (w.slot ∷ beside)
 
-pub AreSlots-joined : (len : ℕ → ℕ) (n : ℕ) (part new : StreamParts) (w v : Entry) → new.slot ≡ part.slot →
+pub AreSlots-joined : (len : ℕ → ℕ) (n : ℕ) (part new : StreamParts) (w v : Entry) → new.slot ≡ part.slot → new.landmarks ≡ part.landmarks →
     AreJoined len n part.line.entries new.line.entries w v → AreSlots part new w v
-AreSlots-joined len n part new w v same pair =
+AreSlots-joined len n part new w v same same_landmarks pair =
     let slots : List Entry → List ℕ = λ es. map (λ (e : Entry). e.slot) es in
     let front : List ℕ = part.slot ∷ slots pair.front in
-    let was : slots_held part ≡ front ++ w.slot ∷ v.slot ∷ slots pair.rest =
+    let marks : List ℕ = mark_slots part in
+    let stay : mark_slots new ≡ marks = ap (λ (l : LandmarksState). l.slots ++ l.value_slots) same_landmarks in
+    let was : window_slots part ≡ front ++ w.slot ∷ v.slot ∷ slots pair.rest =
     ap (λ es. part.slot ∷ slots es) pair.was ∙ ap (λ l. part.slot ∷ l) (map-append (λ (e : Entry). e.slot) pair.front (w ∷ v ∷ pair.rest)) in
-    let is : slots_held new ≡ front ++ w.slot ∷ slots pair.rest =
+    let is : window_slots new ≡ front ++ w.slot ∷ slots pair.rest =
     ap₂ (λ (s : ℕ) (es : List Entry). s ∷ slots es) same pair.is
     ∙ ap (λ l. part.slot ∷ l) (map-append (λ (e : Entry). e.slot) pair.front (joined_entry w v ∷ pair.rest)) in
     record {
-      beside = front ++ slots pair.rest;
-      was = subst (λ l. IsPermutation l (w.slot ∷ v.slot ∷ (front ++ slots pair.rest))) (sym was) (IsPermutation-two front w.slot v.slot (slots pair.rest));
-      is = subst (λ l. IsPermutation l (w.slot ∷ (front ++ slots pair.rest))) (sym is) (IsPermutation-middle front w.slot (slots pair.rest));
+      beside = (front ++ slots pair.rest) ++ marks;
+      was = subst (λ l. IsPermutation (l ++ marks) (w.slot ∷ v.slot ∷ ((front ++ slots pair.rest) ++ marks))) (sym was)
+          (IsPermutation-append_left marks (front ++ w.slot ∷ v.slot ∷ slots pair.rest) (w.slot ∷ v.slot ∷ (front ++ slots pair.rest))
+          (IsPermutation-two front w.slot v.slot (slots pair.rest)));
+      is = subst (λ m. IsPermutation (window_slots new ++ m) (w.slot ∷ ((front ++ slots pair.rest) ++ marks))) (sym stay)
+          (subst (λ l. IsPermutation (l ++ marks) (w.slot ∷ ((front ++ slots pair.rest) ++ marks))) (sym is)
+          (IsPermutation-append_left marks (front ++ w.slot ∷ slots pair.rest) (w.slot ∷ (front ++ slots pair.rest))
+          (IsPermutation-middle front w.slot (slots pair.rest))));
     }
 
 -- the stream with the line that a join leaves
@@ -227,7 +239,7 @@ ArePair-read part left right w v due tiles read_left read_right =
     record {
       joined = pair;
       tiled = subst (λ es. AreTiled w v (values_held es)) (sym pair.was) (AreTiled-seam pair.front w v pair.rest (subst (λ es. TileFrom 1 es) pair.was tiles));
-      slots = AreSlots-joined len n part (one_part part left right w v) w v refl pair;
+      slots = AreSlots-joined len n part (one_part part left right w v) w v refl refl pair;
       stands = StandsIn-set len n part.line.entries left right due w v read_left read_right;
     }
 
@@ -238,6 +250,8 @@ pub record JoinsHeld (others : List (ℕ × Option Record)) (part new : StreamPa
   pub first : span_held w ≡ span_of one
   pub second : span_held v ≡ span_of two
   pub later : one.summary.t_last < two.summary.t_first
+  pub first_free : IsTrue (lies_free part.landmarks.landmarks one)
+  pub second_free : IsTrue (lies_free part.landmarks.landmarks two)
   pub beside : List (ℕ × Option Record)
   pub was : IsPermutation (records_held (part, s) ++ others)
       ((w.slot, Some (window_record part.id.0 one)) ∷ (v.slot, Some (window_record part.id.0 two)) ∷ beside)
@@ -255,6 +269,7 @@ pub record SameButLine (part new : StreamParts) : Type 0 where
   pub target : new.target ≡ part.target
   pub slot : new.slot ≡ part.slot
   pub last_time : new.last_time ≡ part.last_time
+  pub landmarks : new.landmarks ≡ part.landmarks
 
 span-joined : (w v : Entry) (one two : Window) → one.first + one.summary.count ≡ two.first → 1 ≤ two.summary.count → span_held w ≡ span_of one →
     span_held v ≡ span_of two → span_held (joined_entry w v) ≡ span_of (joined_window one two)
@@ -265,7 +280,7 @@ span-joined w v one two next some first second =
     λ i. (start i, last i)
 
 pub one_part-same : (part : StreamParts) (left right : At) (w v : Entry) → SameButLine part (one_part part left right w v)
-one_part-same part left right w v = record { id = refl; name = refl; target = refl; slot = refl; last_time = refl }
+one_part-same part left right w v = record { id = refl; name = refl; target = refl; slot = refl; last_time = refl; landmarks = refl }
 
 pub zip-held : (number : ℕ) (front : List Entry) (es : List Entry) (before : List Window) (ws : List Window) → map span_held front ≡ map span_of before →
     zip (map (λ (e : Entry). e.slot) (front ++ es)) (map (λ x. Some (window_record number x)) (before ++ ws))
@@ -278,6 +293,39 @@ zip-held number front es before ws same =
     omega (arith, length-map front (λ (e : Entry). e.slot), length-map before (λ x. Some (window_record number x)), same-length front before same) in
     ap₂ (λ (xs : List ℕ) (ys : List (Option Record)). zip xs ys) (map-append (λ (e : Entry). e.slot) front es) (map-append (λ x. Some (window_record number x)) before ws)
     ∙ zip-append (slots front) (slots es) (spelled before) (spelled ws) long
+
+-- the records of a stream beside others, those of its windows first
+pub records_held-apart : (part : StreamParts) (s : Stream) (others : List (ℕ × Option Record)) →
+    records_held (part, s) ++ others ≡ windows_held (part, s) ++ (marks_held (part, s) ++ others)
+records_held-apart part s others = append_assoc (windows_held (part, s)) (marks_held (part, s)) others
+
+-- those of the landmarks stay where the stream has other windows
+pub marks_held-same : (part new : StreamParts) (s : Stream) (ws : List Window) → new.landmarks ≡ part.landmarks →
+    marks_held (new, with_windows s ws) ≡ marks_held (part, s)
+marks_held-same part new s ws same =
+    ap (λ (l : LandmarksState).
+    in_slots l.slots (landmark_records s.number 1 s.landmarks) ++ in_slots l.value_slots (all_value_records s.number 1 s.landmarks)) same
+
+-- so records in place of those of the windows lie before those of the landmarks
+pub records_held-changed : (part new : StreamParts) (s : Stream) (ws : List Window) (now others : List (ℕ × Option Record)) → new.landmarks ≡ part.landmarks →
+    IsPermutation now (windows_held (new, with_windows s ws)) →
+    IsPermutation (now ++ (marks_held (part, s) ++ others)) (records_held (new, with_windows s ws) ++ others)
+records_held-changed part new s ws now others same moved =
+    let marks = marks_held (part, s) ++ others in
+    let is : records_held (new, with_windows s ws) ++ others ≡ windows_held (new, with_windows s ws) ++ marks =
+    records_held-apart new (with_windows s ws) others
+    ∙ ap (λ m. windows_held (new, with_windows s ws) ++ (m ++ others)) (marks_held-same part new s ws same) in
+    subst (λ l. IsPermutation (now ++ marks) l) (sym is) (IsPermutation-append_left marks now (windows_held (new, with_windows s ws)) moved)
+
+-- two of some windows that lie free
+lie_free-two : (ls : List Landmark) (before : List Window) (one two : Window) (behind : List Window) →
+    IsTrue (list_all (lies_free ls) (before ++ one ∷ two ∷ behind)) → IsTrue (lies_free ls one) × IsTrue (lies_free ls two)
+lie_free-two ls before one two behind free =
+    let p = lies_free ls in
+    let apart = and_parts (list_all p before) (list_all p (one ∷ two ∷ behind)) (sym (list_all-append p before (one ∷ two ∷ behind)) ∙ free) in
+    let first = and_parts (p one) (list_all p (two ∷ behind)) apart.1 in
+    let second = and_parts (p two) (list_all p behind) first.1 in
+    (first.0, second.0)
 
 module _ (others : List (ℕ × Option Record)) (part new : StreamParts) (s : Stream) (w v : Entry) (same : SameButLine part new)
     (pair : AreJoined (lengths_of (params_of part.target)) (values_held (entries_of part)) part.line.entries new.line.entries w v)
@@ -311,11 +359,6 @@ module _ (others : List (ℕ × Option Record)) (part new : StreamParts) (s : St
     due = due;
   })
 
-  beside_windows : List (ℕ × Option Record)
-  beside_windows =
-      zip (map (λ (e : Entry). e.slot) pair.front) (map (λ x. Some (window_record s.number x)) theirs.before)
-      ++ zip (map (λ (e : Entry). e.slot) pair.rest) (map (λ x. Some (window_record s.number x)) theirs.behind)
-
   front : List (ℕ × Option Record)
   front =
       (part.slot, Some (stream_record s)) ∷ zip (map (λ (e : Entry). e.slot) pair.front) (map (λ x. Some (window_record s.number x)) theirs.before)
@@ -323,7 +366,7 @@ module _ (others : List (ℕ × Option Record)) (part new : StreamParts) (s : St
   back : List (ℕ × Option Record)
   back = zip (map (λ (e : Entry). e.slot) pair.rest) (map (λ x. Some (window_record s.number x)) theirs.behind)
 
-  was_records : records_held (part, s)
+  was_records : windows_held (part, s)
       ≡ front ++ (w.slot, Some (window_record s.number theirs.one)) ∷ (v.slot, Some (window_record s.number theirs.two)) ∷ back
   unfolding front back
   was_records =
@@ -331,7 +374,7 @@ module _ (others : List (ℕ × Option Record)) (part new : StreamParts) (s : St
       pair.was theirs.is
       ∙ ap (λ l. (part.slot, Some (stream_record s)) ∷ l) (zip-held s.number pair.front (w ∷ v ∷ pair.rest) theirs.before (theirs.one ∷ theirs.two ∷ theirs.behind) theirs.fronts)
 
-  is_records : records_held (new, with_windows s ws) ≡ front ++ (w.slot, Some (window_record s.number (joined_window theirs.one theirs.two))) ∷ back
+  is_records : windows_held (new, with_windows s ws) ≡ front ++ (w.slot, Some (window_record s.number (joined_window theirs.one theirs.two))) ∷ back
   unfolding ws front back
   is_records =
       ap₂ (λ (k : ℕ) (es : List Entry). (k, Some (stream_record s)) ∷ zip (map (λ (e : Entry). e.slot) es) (map (λ x. Some (window_record s.number x)) ws))
@@ -353,17 +396,21 @@ module _ (others : List (ℕ × Option Record)) (part new : StreamParts) (s : St
   JoinsHeld-pair =
       let number : part.id.0 ≡ s.number = agrees.number in
       let start : w.first ≡ theirs.one.first = ap (λ (p : ℕ × ℕ). p.0) theirs.first in
-      let rest : List (ℕ × Option Record) = (front ++ back) ++ others in
+      let marks : List (ℕ × Option Record) = marks_held (part, s) ++ others in
+      let rest : List (ℕ × Option Record) = (front ++ back) ++ marks in
+      let free = lie_free-two s.landmarks theirs.before theirs.one theirs.two theirs.behind
+      (subst (λ l. IsTrue (list_all (lies_free s.landmarks) l)) theirs.is stream.free) in
       let was : IsPermutation (records_held (part, s) ++ others)
       ((w.slot, Some (window_record s.number theirs.one)) ∷ (v.slot, Some (window_record s.number theirs.two)) ∷ rest) =
-      subst (λ l. IsPermutation (l ++ others) ((w.slot, Some (window_record s.number theirs.one)) ∷ (v.slot, Some (window_record s.number theirs.two)) ∷ rest)) (sym was_records)
-      (IsPermutation-append_left others (front ++ (w.slot, Some (window_record s.number theirs.one)) ∷ (v.slot, Some (window_record s.number theirs.two)) ∷ back)
+      subst (λ l. IsPermutation l ((w.slot, Some (window_record s.number theirs.one)) ∷ (v.slot, Some (window_record s.number theirs.two)) ∷ rest))
+      (sym (records_held-apart part s others ∙ ap (λ l. l ++ marks) was_records))
+      (IsPermutation-append_left marks (front ++ (w.slot, Some (window_record s.number theirs.one)) ∷ (v.slot, Some (window_record s.number theirs.two)) ∷ back)
       ((w.slot, Some (window_record s.number theirs.one)) ∷ (v.slot, Some (window_record s.number theirs.two)) ∷ (front ++ back))
       (IsPermutation-two front (w.slot, Some (window_record s.number theirs.one)) (v.slot, Some (window_record s.number theirs.two)) back)) in
       let joint : ℕ × Option Record = (w.slot, Some (window_record s.number (joined_window theirs.one theirs.two))) in
       let is : IsPermutation (joint ∷ rest) (records_held (new, with_windows s ws) ++ others) =
-      subst (λ l. IsPermutation (joint ∷ rest) (l ++ others)) (sym is_records)
-      (IsPermutation-append_left others (joint ∷ (front ++ back)) (front ++ joint ∷ back)
+      records_held-changed part new s ws (joint ∷ (front ++ back)) others same.landmarks
+      (subst (λ l. IsPermutation (joint ∷ (front ++ back)) l) (sym is_records)
       (IsPermutation-sym (front ++ joint ∷ back) (joint ∷ (front ++ back)) (IsPermutation-middle front joint back))) in
       record {
         one = theirs.one;
@@ -371,6 +418,8 @@ module _ (others : List (ℕ × Option Record)) (part new : StreamParts) (s : St
         first = theirs.first;
         second = theirs.second;
         later = (AreNeighbours-from_AreWindows theirs.before theirs.behind theirs.one theirs.two stand).times;
+        first_free = subst (λ ls. IsTrue (lies_free ls theirs.one)) (sym agrees.landmarks) free.0;
+        second_free = subst (λ ls. IsTrue (lies_free ls theirs.two)) (sym agrees.landmarks) free.1;
         beside = rest;
         was = subst (λ n. IsPermutation (records_held (part, s) ++ others) ((w.slot, Some (window_record n theirs.one)) ∷ (v.slot, Some (window_record n theirs.two)) ∷ rest)) (sym number) was;
         windows = ws;
@@ -380,9 +429,12 @@ module _ (others : List (ℕ × Option Record)) (part new : StreamParts) (s : St
           name = same.name ∙ agrees.name;
           params = ap (λ t. params_of t) same.target ∙ agrees.params;
           positions = positions;
-          last_time = same.last_time ∙ agrees.last_time ∙ sym (newest_time-JoinsDue (lengths_of s.params) (values_in s) s.windows ws joins);
+          landmarks = ap (λ (l : LandmarksState). l.landmarks) same.landmarks ∙ agrees.landmarks;
+          known = subst AreKnown (sym same.landmarks) agrees.known;
+          last_time = same.last_time ∙ agrees.last_time
+              ∙ ap (λ o. later o (latest_of s.landmarks)) (sym (newest_time-JoinsDue (lengths_of s.params) (values_in s) s.windows ws joins));
         };
-        stream = record { target = stream.target; number = stream.number; windows = AreWindows-JoinsDue (lengths_of s.params) (values_in s) s.windows ws stream.windows joins };
+        stream = IsStream-joined (lengths_of s.params) (values_in s) s ws stream joins;
         is = subst (λ n. IsPermutation ((w.slot, Some (records.Window n w.first (joined theirs.one.summary theirs.two.summary))) ∷ rest) (records_held (new, with_windows s ws) ++ others)) (sym number)
             (subst (λ f. IsPermutation ((w.slot, Some (records.Window s.number f (joined theirs.one.summary theirs.two.summary))) ∷ rest) (records_held (new, with_windows s ws) ++ others)) (sym start) is);
       }

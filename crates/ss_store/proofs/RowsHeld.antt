@@ -17,7 +17,7 @@ pub row_of_held-Agrees : (part : StreamParts) (s : Stream) → IsStream s → Ag
 row_of_held-Agrees part s is agrees =
     let id : StreamId = record { 0 = s.number } in
     let number : part.id ≡ id = ap (λ m. let i : StreamId = record { 0 = m } in i) agrees.number in
-    rw (number, agrees.name, agrees.params, values_held-Agrees part s is agrees, length-Agrees part s agrees) refl
+    rw (number, agrees.name, agrees.params, values_held-Agrees part s is agrees, length-Agrees part s agrees, agrees.landmarks) refl
 
 -- the row at a place is that of the stream there
 pub row-at : (parts : List StreamParts) (streams : List Stream) (place : ℕ) (part : StreamParts) (r : StreamRow) → IsState streams →

@@ -1,10 +1,10 @@
 -- States of which a stream has other windows, no more than before.
-use Rattle.std.proofs.Common.{◌≡◌, ℕ, zero, suc, ◌≤◌, List, [], ◌∷◌, ◌++◌, length, slice_get, slice_set, refl, ap, subst, ◌∙◌, arith, Some}
+use Rattle.std.proofs.Common.{◌≡◌, ℕ, zero, suc, ◌≤◌, List, [], ◌∷◌, ◌++◌, length, slice_get, slice_set, refl, ap, ◌∙◌, arith, Some}
 use Rattle.std.specs.Prelude.{sum_by}
 use Rattle.std.proofs.lemmas.List.{length-append, length-set}
-use Rattle.std.proofs.lemmas.List.Elements.{All-get_or, All-set}
+use Rattle.std.proofs.lemmas.List.Elements.{All-set}
 use Rattle.std.proofs.lemmas.List.Sums.{sum_by-cons}
-use Rattle.std.proofs.lemmas.Option.{get_or_from_slice_get, none-some, same_Some, slice_get_within}
+use Rattle.std.proofs.lemmas.Option.{none-some, same_Some}
 use Rattle.ss_target.specs.Lengths.{lengths_of}
 use Rattle.ss_model.specs.Closed.{closed, joined_window}
 use Rattle.ss_model.specs.ClosedState.{closed_stream}
@@ -30,14 +30,11 @@ sum_by-set_le f (y ∷ ys) (suc i) x now at less =
     omega (arith, sum_by-cons f y ys, sum_by-cons f y (slice_set ys i now))
 
 pub IsState-shorter : (streams : List Stream) (place : ℕ) (s : Stream) (ws : List Window) → IsState streams → slice_get streams place ≡ Some s →
-    AreWindows ws → length ws ≤ length s.windows → IsState (slice_set streams place (with_windows s ws))
-IsState-shorter streams place s ws state at tiles few =
+    IsStream (with_windows s ws) → length ws ≤ length s.windows → IsState (slice_set streams place (with_windows s ws))
+IsState-shorter streams place s ws state at stream few =
     let now = with_windows s ws in
-    let was : IsStream s =
-    subst IsStream (get_or_from_slice_get streams place s s at)
-    (All-get_or IsStream streams place s (slice_get_within streams place s at) state.each) in
     record {
-      each = All-set IsStream streams place now (record { target = was.target; number = was.number; windows = tiles }) state.each;
+      each = All-set IsStream streams place now stream state.each;
       numbers = rw (map-set_same (λ (u : Stream). u.number) streams place s now at refl) state.numbers;
       names = rw (map-set_same (λ (u : Stream). u.name) streams place s now at refl) state.names;
       few = omega (arith, state.few, length-set streams place now);

@@ -14,7 +14,7 @@ use Rattle.ss_line.specs.declared.entry.At.{At}
 use Rattle.ss_line.specs.declared.entry.Entry.{Entry}
 use Rattle.ss_records.specs.Live.{is_live}
 use Rattle.ss_windowing.specs.declared.decay.TheConstants.{MOST_VALUES}
-use Rattle.ss_recover.specs.Held.{AreWhole, TileFrom, entries_of, slots_held}
+use Rattle.ss_recover.specs.Held.{AreWhole, TileFrom, entries_of, mark_slots, slots_held, window_slots}
 use Rattle.ss_recover.specs.declared.parts.StreamParts.{StreamParts}
 use Rattle.ss_recover.proofs.Lists.{range-within}
 use Rattle.ss_store.specs.Kept.{part_numbered}
@@ -66,9 +66,9 @@ IsEntry-at parts live place part at e whole all here is =
     let i = index_of part.line.entries at in
     let read = slice_get-entry part.line.entries at e is in
     let tile = TileFrom-at 1 (entries_of part) i e both.0 read in
-    let slot : slice_get (slots_held part) (suc i) ≡ Some e.slot =
+    let slot : slice_get (window_slots part) (suc i) ≡ Some e.slot =
     slice_get-map (λ (x : Entry). x.slot) (entries_of part) i ∙ ap (option_map (λ (x : Entry). x.slot)) read in
-    record { some = tile.0; most = tile.1; slot = omega (arith, slots-below (slots_held part) live both.1 (suc i) e.slot slot) }
+    record { some = tile.0; most = tile.1; slot = omega (arith, slots-below (slots_held part) live both.1 (suc i) e.slot (first_at (window_slots part) (mark_slots part) (suc i) e.slot slot)) }
 
 -- the same of a stream by its number
 pub IsEntry-numbered : (parts : List StreamParts) (live : List Bool) (number : ℕ) (part : StreamParts) (at : At) (e : Entry) → AreWhole parts live →

@@ -1,7 +1,8 @@
 -- A window that is read: its record among all, and the window that it is of.
-use Rattle.std.proofs.Common.{◌≡◌, ℕ, suc, true, false, List, ◌∷◌, ◌++◌, map, remove, refl, ap, sym, ◌∙◌, subst, None, Some, Option, Result, Ok, Err}
+use Rattle.std.proofs.Common.{◌≡◌, ℕ, zero, suc, Bool, true, false, IsTrue, List, [], ◌∷◌, ◌++◌, map, remove, refl, ap, sym, ◌∙◌, subst, None, Some, Option, Result, Ok, Err}
 use Rattle.std.specs.Prelude.{slice_get, option_map, ◌==◌, IfSome, IsSome, IfOk}
-use Rattle.std.proofs.lemmas.Bool.{eqb-true}
+use Rattle.std.specs.List.{list_all}
+use Rattle.std.proofs.lemmas.Bool.{and_parts, eqb-true}
 use Rattle.std.proofs.lemmas.List.Sorted.{IsPermutation-remove}
 use Rattle.std.proofs.lemmas.Option.{get_or_from_slice_get, none-some, same_Some, slice_get-map, slice_get_within}
 use Rattle.ss_catalog.specs.declared.event.Event.{Event}
@@ -11,6 +12,7 @@ use Rattle.ss_line.specs.declared.entry.At.{At}
 use Rattle.ss_line.specs.declared.entry.Entry.{Entry}
 use Rattle.ss_summary.specs.Figures.{Figures}
 use Rattle.ss_target.specs.Lengths.{lengths_of}
+use Rattle.ss_model.specs.Marks.{lies_free}
 use Rattle.ss_model.specs.Decay.{IsReadWithinTarget}
 use Rattle.ss_model.specs.Refusals.{IsHistory}
 use Rattle.ss_model.specs.Shown.{placed_of}
@@ -18,9 +20,9 @@ use Rattle.ss_model.specs.State.{Stream, state, stream_numbered, values_in}
 use Rattle.ss_model.specs.declared.types.Placed.{Placed}
 use Rattle.ss_model.specs.declared.types.Window.{Window}
 use Rattle.ss_model.proofs.WithinLemmas.{IsReadWithinTarget-read}
-use Rattle.ss_recover.specs.Held.{Agrees, entries_of, records_held, span_held, span_of, window_record}
+use Rattle.ss_recover.specs.Held.{Agrees, entries_of, marks_held, records_held, span_held, span_of, window_record, windows_held}
 use Rattle.ss_recover.specs.declared.parts.StreamParts.{StreamParts}
-use Rattle.ss_store.specs.Causes.{IsAskFirm, IsRead}
+use Rattle.ss_store.specs.Causes.{IfAskChanged, IfChanged, IsAskFirm, IsRead}
 use Rattle.ss_store.specs.Errors.{ask_of_fault}
 use Rattle.ss_store.specs.Kept.{IsKept, StoreState, part_numbered}
 use Rattle.ss_store.specs.Recover.{Recovers}
@@ -36,15 +38,16 @@ use Rattle.ss_store.proofs.OneOfMany.{slice_get-zip}
 use Rattle.ss_store.proofs.Slots.{HasRecords-permutation}
 use Rattle.ss_store.proofs.WindowsHeld.{first_at, slice_get-entry}
 
--- a window of the state that the content stands for, and its record
-pub record IsKeptWindow (content : List ℕ) (streams : List Stream) (number place : ℕ) (e : Entry) : Type 0 where
+-- a window of the state that the content stands for, and its record; it lies free among the landmarks
+pub record IsKeptWindow (content : List ℕ) (streams : List Stream) (number place : ℕ) (e : Entry) (part : StreamParts) : Type 0 where
   pub stream : Stream
   pub found : stream_numbered number streams ≡ Some stream
   pub window : Window
   pub at : slice_get stream.windows place ≡ Some window
   pub span : span_held e ≡ span_of window
   pub others : List (ℕ × Option Record)
-  pub has : HasRecords ((e.slot, Some (window_record number window)) ∷ others) content
+  pub has : HasRecords ((e.slot, Some (window_record part.id.0 window)) ∷ others) content
+  pub free : IsTrue (lies_free part.landmarks.landmarks window)
 
 -- the window whose span an entry has
 some_window : (e : Entry) (o : Option Window) → Some (span_held e) ≡ option_map span_of o → (w : Window) × (o ≡ Some w) × (span_held e ≡ span_of w)
@@ -61,9 +64,16 @@ window-at part s i e agrees at =
 record-at : (part : StreamParts) (s : Stream) (i : ℕ) (e : Entry) (w : Window) → slice_get (entries_of part) i ≡ Some e → slice_get s.windows i ≡ Some w →
     slice_get (records_held (part, s)) (suc i) ≡ Some (e.slot, Some (window_record s.number w))
 record-at part s i e w at window =
-    slice_get-zip (map (λ (x : Entry). x.slot) (entries_of part)) (map (λ x. Some (window_record s.number x)) s.windows) i e.slot (Some (window_record s.number w))
+    first_at (windows_held (part, s)) (marks_held (part, s)) (suc i) (e.slot, Some (window_record s.number w))
+    (slice_get-zip (map (λ (x : Entry). x.slot) (entries_of part)) (map (λ x. Some (window_record s.number x)) s.windows) i e.slot (Some (window_record s.number w))
     (slice_get-map (λ (x : Entry). x.slot) (entries_of part) i ∙ ap (option_map (λ (x : Entry). x.slot)) at)
-    (slice_get-map (λ x. Some (window_record s.number x)) s.windows i ∙ ap (option_map (λ x. Some (window_record s.number x))) window)
+    (slice_get-map (λ x. Some (window_record s.number x)) s.windows i ∙ ap (option_map (λ x. Some (window_record s.number x))) window))
+
+-- what each of some passes, the one at a place passes
+list_all-at : {X : Type 0} (test : X → Bool) (xs : List X) (i : ℕ) (x : X) → slice_get xs i ≡ Some x → list_all test xs ≡ true → test x ≡ true
+list_all-at test [] i x at all = absurd (none-some x at)
+list_all-at test (y ∷ ys) zero x at all = subst (λ z. test z ≡ true) (same_Some y x at) (and_parts (test y) (list_all test ys) all).0
+list_all-at test (y ∷ ys) (suc i) x at all = list_all-at test ys i x at (and_parts (test y) (list_all test ys) all).1
 
 -- one record is first, and the others come after it
 has-first : (all : List (ℕ × Option Record)) (i : ℕ) (r : ℕ × Option Record) (image : List ℕ) → slice_get all i ≡ Some r → HasRecords all image →
@@ -74,7 +84,7 @@ has-first all i r image at has =
 
 pub IsKeptWindow-at : (store : StoreState) (content : List ℕ) (kept : IsKept store content) (number : ℕ) (part : StreamParts) (at : At) (e : Entry) →
     part_numbered number store.streams ≡ Some part → entry_at part.line.entries at ≡ Some e →
-    IsKeptWindow content kept.streams number (index_of part.line.entries at) e
+    IsKeptWindow content kept.streams number (index_of part.line.entries at) e part
 IsKeptWindow-at store content kept number part at e numbered is =
     let found = AreFound-numbered store.streams kept.streams number part kept.agree kept.state numbered in
     let s = found.stream in
@@ -83,8 +93,6 @@ IsKeptWindow-at store content kept number part at e numbered is =
     let held = IsHeldIn-at store.streams kept.streams found.place part s content kept.agree kept.state found.at found.here kept.held in
     let read = slice_get-entry part.line.entries at e is in
     let window = window-at part s i e found.agrees read in
-    let own : number ≡ s.number =
-    eqb-true number part.id.0 (found-passes (λ (p : StreamParts). number == p.id.0) store.streams part numbered) ∙ found.agrees.number in
     let all = records_held (part, s) ++ others in
     let here = first_at (records_held (part, s)) others (suc i) (e.slot, Some (window_record s.number window.0)) (record-at part s i e window.0 read window.1) in
     record {
@@ -94,8 +102,9 @@ IsKeptWindow-at store content kept number part at e numbered is =
       at = window.1;
       span = window.2;
       others = remove all (suc i);
-      has = subst (λ n. HasRecords ((e.slot, Some (window_record n window.0)) ∷ remove all (suc i)) content) (sym own)
+      has = subst (λ n. HasRecords ((e.slot, Some (window_record n window.0)) ∷ remove all (suc i)) content) (sym held.agrees.number)
           (has-first all (suc i) (e.slot, Some (window_record s.number window.0)) content here held.records);
+      free = subst (λ ls. lies_free ls window.0 ≡ true) (sym held.agrees.landmarks) (list_all-at (lies_free s.landmarks) s.windows i window.0 window.1 held.stream.free);
     }
 
 -- what is read of it
@@ -111,8 +120,8 @@ placed-is e w summary span is =
 -- a window is read as it is in the state that the content stands for
 pub window-read : (store : StoreState) (content : List ℕ) (number : ℕ) (part : StreamParts) (at : At) (e : Entry) (summary : Figures) →
     IsKept store content → part_numbered number store.streams ≡ Some part → entry_at part.line.entries at ≡ Some e →
-    ((others : List (ℕ × Option Record)) (w : Window) → HasRecords ((e.slot, Some (window_record number w)) ∷ others) content →
-    span_held e ≡ span_of w → summary ≡ w.summary) →
+    ((others : List (ℕ × Option Record)) (w : Window) → HasRecords ((e.slot, Some (window_record part.id.0 w)) ∷ others) content →
+    span_held e ≡ span_of w → IsTrue (lies_free part.landmarks.landmarks w) → summary ≡ w.summary) →
     (streams : List Stream) → Recovers streams content →
     IfSome (part_numbered number store.streams) (λ p. IfSome (stream_numbered number streams) (λ s.
     slice_get (map placed_of s.windows) (index_of p.line.entries at) ≡ Some (placed e summary)))
@@ -120,7 +129,7 @@ window-read store content number part at e summary kept numbered is reads stream
     let window = IsKeptWindow-at store content kept number part at e numbered is in
     let same = Recovers-same kept.streams streams content (Recovers-IsKept store content kept) recovers in
     let found : stream_numbered number streams ≡ Some window.stream = ap (λ l. stream_numbered number l) (sym same) ∙ window.found in
-    let summary_is = reads window.others window.window window.has window.span in
+    let summary_is = reads window.others window.window window.has window.span window.free in
     let read : slice_get (map placed_of window.stream.windows) (index_of part.line.entries at) ≡ Some (placed e summary) =
     slice_get-map placed_of window.stream.windows (index_of part.line.entries at) ∙ ap (option_map placed_of) window.at
     ∙ ap (λ (p : Placed). Some p) (placed-is e window.window summary window.span summary_is) in
@@ -133,11 +142,11 @@ IsAskFirm-fault T summary (fault.Changed slot) error read is = absurd read
 
 pub firm-read : (T : Type 0) (store : StoreState) (content : List ℕ) (number : ℕ) (part : StreamParts) (at : At) (e : Entry) (f : Fault) (error : AskError) →
     IsKept store content → part_numbered number store.streams ≡ Some part → entry_at part.line.entries at ≡ Some e →
-    ((others : List (ℕ × Option Record)) (w : Window) → HasRecords ((e.slot, Some (window_record number w)) ∷ others) content →
-    span_held e ≡ span_of w → IsRead w.summary (Err f)) → error ≡ ask_of_fault f → IsAskFirm {T = T} (Err error)
+    ((others : List (ℕ × Option Record)) (w : Window) → HasRecords ((e.slot, Some (window_record part.id.0 w)) ∷ others) content →
+    span_held e ≡ span_of w → IsTrue (lies_free part.landmarks.landmarks w) → IsRead w.summary (Err f)) → error ≡ ask_of_fault f → IsAskFirm {T = T} (Err error)
 firm-read T store content number part at e f error kept numbered is reads from =
     let window = IsKeptWindow-at store content kept number part at e numbered is in
-    IsAskFirm-fault T window.window.summary f error (reads window.others window.window window.has window.span) from
+    IsAskFirm-fault T window.window.summary f error (reads window.others window.window window.has window.span window.free) from
 
 -- what is read keeps to the target
 pub within-read : {E : Type 0} (result : Result Placed E) (history : List Event) (o : Option StreamParts) (number : ℕ) (at : At) → IsHistory history → IsSome o →
@@ -149,7 +158,22 @@ within-read (Ok p) history (Some part) number at whole some read =
     IsReadWithinTarget-read history (state history) number (index_of part.line.entries at) p whole refl read
 within-read (Err error) history o number at whole some read = tt
 
--- the part that stands
-pub some_part : (o : Option StreamParts) (P : StreamParts → Type 0) → IsSome o → IfSome o P → (part : StreamParts) × (o ≡ Some part) × P part
-some_part None P some has = (let wrong : false ≡ true = some in cc)
-some_part (Some part) P some has = (part, refl, has)
+-- the entry at a place, in the part that was read
+pub entry-read : (o : Option StreamParts) (read : StreamParts) (at : At) (e : Entry) → o ≡ Some read → IfSome o (λ part. entry_at part.line.entries at ≡ Some e) →
+    entry_at read.line.entries at ≡ Some e
+entry-read o read at e same is = subst (λ (p : Option StreamParts). IfSome p (λ part. entry_at part.line.entries at ≡ Some e)) same is
+
+-- the window that is read is that of the entry at the place
+changed-read : (o : Option StreamParts) (at : At) (e : Entry) (slot : ℕ) → IfSome o (λ part. entry_at part.line.entries at ≡ Some e) →
+    slot ≡ e.slot → IfSome o (λ part. IfSome (entry_at part.line.entries at) (λ entry. slot ≡ entry.slot))
+changed-read None at e slot is same = tt
+changed-read (Some part) at e slot is same = subst (λ (o : Option Entry). IfSome o (λ entry. slot ≡ entry.slot)) (sym is) same
+
+pub changed-reading : (T U : Type 0) (o : Option StreamParts) (at : At) (e : Entry) (why : Fault) (error : AskError) →
+    IfSome o (λ part. entry_at part.line.entries at ≡ Some e) → IfChanged {T = T} (Err why) (λ slot. slot ≡ e.slot) → error ≡ ask_of_fault why →
+    IfAskChanged {T = U} (Err error) (λ slot. IfSome o (λ part. IfSome (entry_at part.line.entries at) (λ entry. slot ≡ entry.slot)))
+changed-reading T U o at e fault.Disk error is changed from =
+    subst (λ x. IfAskChanged {T = U} (Err x) (λ slot. IfSome o (λ part. IfSome (entry_at part.line.entries at) (λ entry. slot ≡ entry.slot)))) (sym from) tt
+changed-reading T U o at e (fault.Changed slot) error is changed from =
+    subst (λ x. IfAskChanged {T = U} (Err x) (λ slot. IfSome o (λ part. IfSome (entry_at part.line.entries at) (λ entry. slot ≡ entry.slot)))) (sym from)
+    (changed-read o at e slot is changed)

@@ -56,6 +56,20 @@ IsRead summary (Ok read) = read ≡ summary
 IsRead summary (Err fault.Disk) = ⊤
 IsRead summary (Err (fault.Changed slot)) = ⊥
 
+-- a fact of the slot whose record has changed, where one has
+abbrev pub IfChanged : {T : Type 0} → Result T Fault → (ℕ → Type 0) → Type 0
+IfChanged (Ok value) P = ⊤
+IfChanged (Err fault.Disk) P = ⊤
+IfChanged (Err (fault.Changed slot)) P = P slot
+
+-- the same of what a query answers
+abbrev pub IfAskChanged : {T : Type 0} → Result T AskError → (ℕ → Type 0) → Type 0
+IfAskChanged (Ok value) P = ⊤
+IfAskChanged (Err (ask.Refused r)) P = ⊤
+IfAskChanged (Err ask.Disk) P = ⊤
+IfAskChanged (Err ask.Stopped) P = ⊤
+IfAskChanged (Err (ask.Changed slot)) P = P slot
+
 -- no record has changed
 abbrev pub IsFirm : {T : Type 0} → Result T Fault → Type 0
 IsFirm (Ok value) = ⊤

@@ -43,9 +43,10 @@ values_held [] = 0
 values_held (e ∷ []) = e.last
 values_held (e ∷ f ∷ es) = values_held (f ∷ es)
 
--- the same stream, perhaps with other windows
+-- the same stream with the same landmarks, perhaps with other windows
 pub record IsSameStream (old new : StreamParts) : Type 0 where
   pub id : new.id ≡ old.id
   pub name : new.name ≡ old.name
   pub target : new.target ≡ old.target
   pub slot : new.slot ≡ old.slot
+  pub landmarks : new.landmarks ≡ old.landmarks

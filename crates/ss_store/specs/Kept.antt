@@ -1,22 +1,24 @@
 -- A store: what it holds in memory, and what it says of its disk.
-use Rattle.std.specs.Prelude.{◌≡◌, ◌≤◌, ℕ, Bool, false, not, ◌==◌, ◌||◌, nat_le, List, [], ◌∷◌, length, map, find, flat_map, zip, Option, Some, None, is_some, option_and_then, ⊤}
+use Rattle.std.specs.Prelude.{◌≡◌, ◌≤◌, ℕ, Bool, true, false, not, ◌==◌, ◌&&◌, ◌||◌, nat_le, List, [], ◌∷◌, length, map, find, flat_map, zip, Option, Some, None, is_some, ⊤}
 use Rattle.std.specs.List.{AllZip, list_any}
 use Rattle.std.specs.Option.{option_map_or}
 use Rattle.std.specs.List.Sorted.{IsStrictlyIncreasing}
 use Rattle.ss_catalog.specs.Names.{same_name}
 use Rattle.ss_catalog.specs.declared.TheConstants.{MOST_STREAMS, LAST_STREAM}
 use Rattle.ss_catalog.specs.declared.event.Event.{Event}
-use Rattle.ss_catalog.specs.declared.event.Event.TheVariants.{Create, Value}
+use Rattle.ss_catalog.specs.declared.event.Event.TheVariants.{Create, Value, Open, Close}
 use Rattle.ss_catalog.specs.declared.refusal.Refusal.{Refusal}
-use Rattle.ss_catalog.specs.declared.refusal.Refusal.TheVariants.{Param, Exists, Streams, Unknown, Time, StreamFull, StoreFull}
+use Rattle.ss_catalog.specs.declared.refusal.Refusal.TheVariants as refusal
 use Rattle.ss_catalog.specs.declared.stream_id.StreamId.{StreamId}
+use Rattle.ss_landmarks.specs.Landmark.{all_values}
 use Rattle.ss_target.specs.Lengths.{has_target}
 use Rattle.ss_target.specs.Targets.{params_of}
 use Rattle.ss_windowing.specs.declared.decay.TheConstants.{MOST_VALUES}
 use Rattle.ss_journal.specs.Kept.{IsSettled}
 use Rattle.ss_records.specs.Kept.{RecordsState, AreKept}
 use Rattle.ss_model.specs.ClosedState.{closed_state}
-use Rattle.ss_model.specs.Refusals.{first_that_applies, is_past}
+use Rattle.ss_model.specs.Marks.{has_open}
+use Rattle.ss_model.specs.Refusals.{first_that_applies, is_before, is_opening, is_past}
 use Rattle.ss_model.specs.Standing.{IsState}
 use Rattle.ss_model.specs.State.{Stream}
 use Rattle.ss_model.specs.declared.types.TheConstants.{MOST_RECORDS}
@@ -66,14 +68,23 @@ SomeAgree None (Some s) = ⊥
 SomeAgree (Some part) None = ⊥
 SomeAgree (Some part) (Some s) = Agrees part s
 
--- a stream as it is held, but for the room that its line has to spare
+-- a stream as it is held, but for the room that its line and its landmarks have to spare
 abbrev pub without_spare : StreamParts → StreamParts
-without_spare part = record part { line = record { entries = part.line.entries; spare = 0 } }
+without_spare part = record part {
+  line = record { entries = part.line.entries; spare = 0 };
+  landmarks = record part.landmarks { room = 0; value_room = 0 };
+}
+
+-- no room to spare falls
+pub record KeepsSpare (was is : StreamParts) : Type 0 where
+  pub line : was.line.spare ≤ is.line.spare
+  pub room : was.landmarks.room ≤ is.landmarks.room
+  pub value_room : was.landmarks.value_room ≤ is.landmarks.value_room
 
 -- stores are the same but for the room to spare, which never falls
 pub record SameButSpare (old new : StoreState) : Type 0 where
   pub streams : map without_spare new.streams ≡ map without_spare old.streams
-  pub spares : AllZip (λ (was is : StreamParts). was.line.spare ≤ is.line.spare) old.streams new.streams
+  pub spares : AllZip KeepsSpare old.streams new.streams
   pub records : new.records ≡ old.records
   pub stopped : new.stopped ≡ old.stopped
 
@@ -85,24 +96,55 @@ numbers_held parts = map (λ (part : StreamParts). part.id.0) parts
 abbrev pub has_all_numbers : List ℕ → Bool
 has_all_numbers numbers = nat_le MOST_STREAMS (length numbers) || list_any (λ number. number == LAST_STREAM) numbers
 
+-- whether a value comes too early for a stream, and whether it would be one too many outside landmarks, by what is held of it
+abbrev pub is_early_held : StreamParts → ℕ → Bool
+is_early_held part t = is_past part.last_time t && not (is_opening part.landmarks.landmarks t)
+
+abbrev pub is_full_held : StreamParts → Bool
+is_full_held part = not (has_open part.landmarks.landmarks) && nat_le MOST_VALUES (values_held (entries_of part))
+
+-- whether no further record has a place
+abbrev pub has_all_slots : List StreamParts → Bool
+has_all_slots parts = nat_le MOST_RECORDS (length (flat_map slots_held parts))
+
+-- whether the stream of a name is held and has this
+abbrev pub of_part : List ℕ → List StreamParts → (StreamParts → Bool) → Bool
+of_part name parts test = option_map_or test (part_named name parts) false
+
+-- whether an event is one of landmarks: it opens or closes one, or is a value while one is open
+abbrev pub is_of_landmark : List StreamParts → Event → Bool
+is_of_landmark parts (Create name params) = false
+is_of_landmark parts (Value name t v) = of_part name parts (λ part. has_open part.landmarks.landmarks)
+is_of_landmark parts (Open name t) = true
+is_of_landmark parts (Close name t) = true
+
 -- the refusals of an event by what is held of the streams, in the order of their numbers, each with whether it applies
 abbrev pub refusals_held : List StreamParts → Event → List (Bool × Refusal)
 refusals_held parts (Create name params) =
-    (not (has_target params), Param)
-    ∷ (is_some (part_named name parts), Exists)
-    ∷ (has_all_numbers (numbers_held parts), Streams)
-    ∷ (nat_le MOST_RECORDS (length (flat_map slots_held parts)), StoreFull) ∷ []
+    (not (has_target params), refusal.Param)
+    ∷ (is_some (part_named name parts), refusal.Exists)
+    ∷ (has_all_numbers (numbers_held parts), refusal.Streams)
+    ∷ (has_all_slots parts, refusal.StoreFull) ∷ []
 refusals_held parts (Value name t v) =
-    (not (is_some (part_named name parts)), Unknown)
-    ∷ (is_past (option_and_then (λ (part : StreamParts). part.last_time) (part_named name parts)) t, Time)
-    ∷ (nat_le MOST_VALUES (option_map_or (λ part. values_held (entries_of part)) (part_named name parts) 0), StreamFull)
-    ∷ (nat_le MOST_RECORDS (length (flat_map slots_held parts)), StoreFull) ∷ []
+    (not (is_some (part_named name parts)), refusal.Unknown)
+    ∷ (of_part name parts (λ part. is_early_held part t), refusal.Time)
+    ∷ (of_part name parts is_full_held, refusal.StreamFull)
+    ∷ (has_all_slots parts, refusal.StoreFull) ∷ []
+refusals_held parts (Open name t) =
+    (not (is_some (part_named name parts)), refusal.Unknown)
+    ∷ (of_part name parts (λ part. has_open part.landmarks.landmarks), refusal.Open)
+    ∷ (of_part name parts (λ part. is_past part.last_time t), refusal.Time)
+    ∷ (has_all_slots parts, refusal.StoreFull) ∷ []
+refusals_held parts (Close name t) =
+    (not (is_some (part_named name parts)), refusal.Unknown)
+    ∷ (of_part name parts (λ part. not (has_open part.landmarks.landmarks)), refusal.NotOpen)
+    ∷ (of_part name parts (λ part. is_before part.last_time t), refusal.Time) ∷ []
 
 -- why an event is refused by what is held of the streams, where it is
 unfoldable pub refuses_held : List StreamParts → Event → Option Refusal
 refuses_held parts event = first_that_applies (refusals_held parts event)
 
--- a stream as it is listed, by what is held of it. No landmarks are kept yet.
+-- a stream as it is listed, by what is held of it
 abbrev pub row_of_held : StreamParts → StreamRow
 row_of_held part = record {
   id = part.id;
@@ -110,6 +152,6 @@ row_of_held part = record {
   params = params_of part.target;
   n = values_held (entries_of part);
   k = length part.line.entries;
-  landmarks = 0;
-  values = 0;
+  landmarks = length part.landmarks.landmarks;
+  values = length (all_values part.landmarks.landmarks);
 }

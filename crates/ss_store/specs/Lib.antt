@@ -4,7 +4,9 @@ pub mod Slots
 pub mod Held
 pub mod Joining
 pub mod Kept
+pub mod Marking
 pub mod Errors
 pub mod Causes
 pub mod Admitted
 pub mod Asked
+pub mod Surveyed

@@ -27,6 +27,14 @@ AddsRecord slot r old new result =
     (others : List (ℕ × Option Record)) →
     Turns (HasRecords others) (Either (HasRecords others) (HasRecords ((slot, Some r) ∷ others))) (HasRecords ((slot, Some r) ∷ others)) old new result
 
+-- a call puts a record in place of that of a slot, or leaves all as it was
+abbrev pub Replaces : {T E : Type 0} → ℕ → Record → Told → Told → Result T E → Type 0
+Replaces slot r old new result =
+    (was : Option Record) (others : List (ℕ × Option Record)) →
+    let before = HasRecords ((slot, was) ∷ others) in
+    let after = HasRecords ((slot, Some r) ∷ others) in
+    Turns before (Either before after) after old new result
+
 -- a call puts a record in place of that of one slot, and frees another, or leaves all as it was
 abbrev pub ReplacesTwo : {T E : Type 0} → ℕ → ℕ → Record → Told → Told → Result T E → Type 0
 ReplacesTwo kept freed r old new result =

@@ -6,6 +6,7 @@ ghost use Rattle.ss_journal.specs.Kept.{IsSettled};
 ghost use Rattle.ss_records.specs.Kept.{AreKept};
 ghost use Rattle.ss_records.specs.Live.{lowest_free};
 ghost use Rattle.ss_codec.specs.declared.record.Record.{Record};
+ghost use Rattle.ss_model.specs.Marks.{has_open};
 ghost use Rattle.ss_model.specs.Refusals.{is_past};
 ghost use Rattle.ss_model.specs.State.{Stream};
 ghost use Rattle.ss_model.specs.Steps.{with_value};
@@ -37,7 +38,7 @@ fn number_of(id: StreamId) -> u32
     id.0
 }
 
-// Puts a value after the windows, as a window of its own in a free slot.
+// Puts a value outside landmarks after the windows, as a window of its own in a free slot.
 fn add_value<D: Disk, L: Ledger>(
     records: &mut Records,
     disk: &mut D,
@@ -51,6 +52,7 @@ fn add_value<D: Disk, L: Ledger>(
     requires free { lowest_free records.old.live ≡ Some slot }
     requires spare { 1 ≤ part.old.line.spare }
     requires room { values_held (entries_of part.old) < MOST_VALUES }
+    requires plain { has_open part.old.landmarks.landmarks ≡ false }
     requires later { is_past part.old.last_time t ≡ false }
     requires time { t ≤ LATEST_TIME }
     requires tiles { TileFrom 1 (entries_of part.old) }
@@ -87,7 +89,7 @@ fn add_value<D: Disk, L: Ledger>(
     Ok(())
 }
 
-/// Puts a value after the windows of a stream, and makes the merges that are due. The line has a place to spare.
+/// Puts a value outside landmarks after the windows of a stream, and makes the merges that are due. The line has a place to spare.
 pub fn append<D: Disk, L: Ledger>(
     records: &mut Records,
     disk: &mut D,
@@ -101,6 +103,7 @@ pub fn append<D: Disk, L: Ledger>(
     requires free { lowest_free records.old.live ≡ Some slot }
     requires spare { 1 ≤ part.old.line.spare }
     requires room { values_held (entries_of part.old) < MOST_VALUES }
+    requires plain { has_open part.old.landmarks.landmarks ≡ false }
     requires later { is_past part.old.last_time t ≡ false }
     requires time { t ≤ LATEST_TIME }
     requires tiles { TileFrom 1 (entries_of part.old) }

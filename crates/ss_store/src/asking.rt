@@ -1,26 +1,31 @@
 // What one stream answers to a query.
-ghost use Rattle.std.specs.Prelude.{◌≡◌, ◌+◌, ◌<◌, ◌≤◌, ℕ, true, List, Option, Some, IsTrue, IfSome, IfOk, OnOk};
+ghost use Rattle.std.specs.Prelude.{◌≡◌, ◌+◌, ◌*◌, ◌<◌, ◌≤◌, ℕ, List, Option, Some, IsTrue, IfSome, IfOk, OnOk};
+ghost use Rattle.std.specs.List.{Contains};
 ghost use Rattle.std.specs.Option.{option_map_or};
+ghost use Rattle.ss_bounds.specs.Either.{greater, lesser};
 ghost use Rattle.ss_bounds.specs.Times.{ends_in, times_inside};
 ghost use Rattle.ss_catalog.specs.declared.query.Query.{Query};
 ghost use Rattle.ss_codec.specs.declared.record.Record.{Record};
 ghost use Rattle.ss_journal.specs.Kept.{IsRunning};
 ghost use Rattle.ss_model.specs.Answers.{IsOfKind, answer_of};
 ghost use Rattle.ss_model.specs.Interval.{is_apart, is_split, is_whole, split_figures};
+ghost use Rattle.ss_landmarks.specs.Free.{is_free};
+ghost use Rattle.ss_model.specs.Marks.{lies_free};
 ghost use Rattle.ss_model.specs.State.{Stream};
 ghost use Rattle.ss_outside.specs.Crash.{OnlyReads};
 ghost use Rattle.ss_recover.specs.Held.{TileFrom, entries_of, slots_held};
 ghost use Rattle.ss_records.specs.Kept.{AreKept};
 ghost use Rattle.ss_summary.specs.Summaries.{joined};
 ghost use Rattle.ss_summary.specs.declared.summary.TheConstants.{GREATEST_COUNT};
-ghost use Rattle.ss_store.specs.Asked.{IsAnswered, IsNear, counts_of, joined_with, known_count, known_sum, left_with, outcome_seen, right_with, seen_with, sums_of, whole_with};
-ghost use Rattle.ss_store.specs.Causes.{FaultCause};
+ghost use Rattle.ss_store.specs.Asked.{IsAnswered, IsFewMarked, IsNear, counts_of, joined_with, known_count, known_sum, left_with, outcome_seen, right_with, seen_with, sums_of, whole_with, window_slots_of};
+ghost use Rattle.ss_store.specs.Causes.{FaultCause, IfChanged};
 ghost use Rattle.ss_store.specs.Held.{IsHeldIn};
 ghost use Rattle.ss_store.specs.Slots.{AreSomeLive};
 
 use crate::reading::{Fault, read_window};
 use ss_bounds::{Split, count_bounds, max_bounds, min_bounds, sum_bounds};
-use ss_catalog::{Kind, Query};
+use ss_catalog::{Kind, LAST_TIME, Query};
+use ss_landmarks::{Landmarks, Tally};
 use ss_model::{Outcome, Window};
 use ss_outside::Disk;
 use ss_records::Records;
@@ -29,9 +34,11 @@ use ss_steps::Steps;
 use ss_summary::Summary;
 use std::sync::ledger::Ledger;
 
-// What the windows that were read so far say of a range of times.
+// What the landmarks and the windows that were read so far say of a range of times.
 #[derive(Clone, Copy)]
 struct Seen {
+    // The values of landmarks in the range.
+    marked: Tally,
     // Those that lie whole in the range, as one.
     whole: Option<Summary>,
     // The one that the range splits and that begins before it, and the one that begins in it.
@@ -71,25 +78,27 @@ fn ends_in(query: &Query, first: u64, last: u64) -> u64
     u64::from(is_first) + u64::from(is_last)
 }
 
-// How many times strictly between two lie in the range. Each is free, since no landmark stands yet.
-fn times_inside(query: &Query, first: u64, last: u64) -> u64
-    requires { first < last }
-    ensures value { result ≡ times_inside (λ t. true) query.now.from query.now.to first last }
-    ensures most { first + result < last }
+// How many free times strictly between two lie in the range.
+fn times_inside(query: &Query, landmarks: &Landmarks, first: u64, last: u64) -> u64
+    requires order { first < last }
+    requires time { last ≤ LAST_TIME }
+    ensures { result ≡ times_inside (is_free landmarks.now.landmarks) query.now.from query.now.to first last }
 {
     let begin = query.from.max(first + 1);
     let end = query.to.min(last - 1);
-    (end + 1).saturating_sub(begin)
+    landmarks.free(begin, end)
 }
 
 // The figures of a window that the range splits.
-fn split_of(query: &Query, window: &Window) -> Split
+fn split_of(query: &Query, landmarks: &Landmarks, window: &Window) -> Split
     requires order { query.now.from ≤ query.now.to }
     requires split { IsTrue (is_split query.now.from query.now.to window.now) }
-    ensures { result ≡ split_figures (λ t. true) query.now.from query.now.to window.now }
+    requires free { IsTrue (lies_free landmarks.now.landmarks window.now) }
+    ensures { result ≡ split_figures (is_free landmarks.now.landmarks) query.now.from query.now.to window.now }
 {
     let summary = window.summary;
-    let inside = times_inside(query, summary.t_first, summary.t_last);
+    let inside = times_inside(query, landmarks, summary.t_first, summary.t_last);
+    let between = landmarks.free(summary.t_first + 1, summary.t_last - 1);
     Split {
         count: summary.count,
         sum: summary.sum,
@@ -97,7 +106,7 @@ fn split_of(query: &Query, window: &Window) -> Split
         max: summary.max,
         ends: ends_in(query, summary.t_first, summary.t_last),
         inside,
-        outside: summary.t_last - summary.t_first - 1 - inside,
+        outside: between - inside,
     }
 }
 
@@ -126,63 +135,101 @@ fn whole_with(whole: Option<Summary>, query: &Query, window: &Window) -> Option<
 }
 
 // The split window that begins before the range, if this is the one.
-fn left_with(left: Option<Split>, query: &Query, window: &Window) -> Option<Split>
-    requires { query.now.from ≤ query.now.to }
-    ensures { result ≡ left_with query.now.from query.now.to left window.now }
+fn left_with(
+    left: Option<Split>,
+    query: &Query,
+    landmarks: &Landmarks,
+    window: &Window,
+) -> Option<Split>
+    requires order { query.now.from ≤ query.now.to }
+    requires free { IsTrue (lies_free landmarks.now.landmarks window.now) }
+    ensures { result ≡ left_with landmarks.now.landmarks query.now.from query.now.to left window.now }
 {
     if is_split(query, window) && window.summary.t_first < query.from {
-        Some(split_of(query, window))
+        Some(split_of(query, landmarks, window))
     } else {
         left
     }
 }
 
 // The split window that begins in the range, if this is the one.
-fn right_with(right: Option<Split>, query: &Query, window: &Window) -> Option<Split>
-    requires { query.now.from ≤ query.now.to }
-    ensures { result ≡ right_with query.now.from query.now.to right window.now }
+fn right_with(
+    right: Option<Split>,
+    query: &Query,
+    landmarks: &Landmarks,
+    window: &Window,
+) -> Option<Split>
+    requires order { query.now.from ≤ query.now.to }
+    requires free { IsTrue (lies_free landmarks.now.landmarks window.now) }
+    ensures { result ≡ right_with landmarks.now.landmarks query.now.from query.now.to right window.now }
 {
     if is_split(query, window) && query.from <= window.summary.t_first {
-        Some(split_of(query, window))
+        Some(split_of(query, landmarks, window))
     } else {
         right
     }
 }
 
 // What is known with one more window, all times of which are later.
-fn with_window(seen: Seen, query: &Query, window: &Window) -> Seen
+fn with_window(seen: Seen, query: &Query, landmarks: &Landmarks, window: &Window) -> Seen
     requires order { query.now.from ≤ query.now.to }
+    requires free { IsTrue (lies_free landmarks.now.landmarks window.now) }
     requires whole { IfSome seen.whole (λ older. (older.t_last < window.now.summary.t_first)
         × (older.count + window.now.summary.count ≤ GREATEST_COUNT)) }
-    ensures { result ≡ seen_with query.now.from query.now.to seen window.now }
+    ensures { result ≡ seen_with landmarks.now.landmarks query.now.from query.now.to seen window.now }
 {
     Seen {
+        marked: seen.marked,
         whole: whole_with(seen.whole, query, window),
-        left: left_with(seen.left, query, window),
-        right: right_with(seen.right, query, window),
+        left: left_with(seen.left, query, landmarks, window),
+        right: right_with(seen.right, query, landmarks, window),
         next_time: window.summary.t_last + 1,
     }
 }
 
-// How many values the windows have that lie whole in the range.
-fn known_count(whole: Option<Summary>) -> u64
-    ensures value { result ≡ known_count whole }
-    ensures few { result ≤ GREATEST_COUNT }
+// How many values are known: those of the windows that lie whole in the range, and those of landmarks.
+fn known_count(whole: Option<Summary>, marked: Tally) -> u64
+    requires { IsFewMarked marked }
+    ensures value { result ≡ known_count whole marked }
+    ensures few { result ≤ 2 * GREATEST_COUNT }
 {
     match whole {
-        None => 0,
-        Some(summary) => summary.count,
+        None => marked.count,
+        Some(summary) => summary.count + marked.count,
     }
 }
 
 // What the sum of these is.
-fn known_sum(whole: Option<Summary>) -> i128
-    ensures value { result ≡ known_sum whole }
+fn known_sum(whole: Option<Summary>, marked: Tally) -> i128
+    requires { IsFewMarked marked }
+    ensures value { result ≡ known_sum whole marked }
     ensures near { IsNear result }
 {
     match whole {
-        None => 0,
-        Some(summary) => summary.sum,
+        None => marked.sum,
+        Some(summary) => summary.sum + marked.sum,
+    }
+}
+
+// The lesser of two numbers, where there are any.
+fn lesser(value: Option<i64>, other: Option<i64>) -> Option<i64>
+    ensures { result ≡ lesser value other }
+{
+    match (value, other) {
+        (Some(value), Some(other)) => Some(value.min(other)),
+        (None, other) => other,
+        (value, None) => value,
+    }
+}
+
+// The greater of two numbers, where there are any.
+fn greater(value: Option<i64>, other: Option<i64>) -> Option<i64>
+    ensures { result ≡ greater value other }
+{
+    match (value, other) {
+        (Some(value), Some(other)) => Some(value.max(other)),
+        (None, other) => other,
+        (value, None) => value,
     }
 }
 
@@ -213,9 +260,10 @@ fn sums_of(split: Option<Split>) -> (i128, i128)
 
 // How many values lie in the range.
 fn count_seen(seen: Seen) -> Outcome
+    requires { IsFewMarked seen.marked }
     ensures { result ≡ outcome_seen Kind.Count seen }
 {
-    let known = known_count(seen.whole);
+    let known = known_count(seen.whole, seen.marked);
     let left = counts_of(seen.left);
     let right = counts_of(seen.right);
     Outcome::Count {
@@ -226,9 +274,10 @@ fn count_seen(seen: Seen) -> Outcome
 
 // What their sum is.
 fn sum_seen(seen: Seen) -> Outcome
+    requires { IsFewMarked seen.marked }
     ensures { result ≡ outcome_seen Kind.Sum seen }
 {
-    let known = known_sum(seen.whole);
+    let known = known_sum(seen.whole, seen.marked);
     let left = sums_of(seen.left);
     let right = sums_of(seen.right);
     Outcome::Sum {
@@ -241,26 +290,27 @@ fn sum_seen(seen: Seen) -> Outcome
 fn least_seen(seen: Seen) -> Outcome
     ensures { result ≡ outcome_seen Kind.Min seen }
 {
-    let known = match seen.whole {
+    let whole = match seen.whole {
         None => None,
         Some(summary) => Some(summary.min),
     };
-    Outcome::Min(min_bounds(known, seen.left, seen.right))
+    Outcome::Min(min_bounds(lesser(whole, seen.marked.least), seen.left, seen.right))
 }
 
 // What the greatest of them is.
 fn greatest_seen(seen: Seen) -> Outcome
     ensures { result ≡ outcome_seen Kind.Max seen }
 {
-    let known = match seen.whole {
+    let whole = match seen.whole {
         None => None,
         Some(summary) => Some(summary.max),
     };
-    Outcome::Max(max_bounds(known, seen.left, seen.right))
+    Outcome::Max(max_bounds(greater(whole, seen.marked.greatest), seen.left, seen.right))
 }
 
 // What is answered from what is known.
 fn outcome_seen(seen: Seen, kind: Kind) -> Outcome
+    requires { IsFewMarked seen.marked }
     ensures { result ≡ outcome_seen kind seen }
 {
     match kind {
@@ -271,7 +321,8 @@ fn outcome_seen(seen: Seen, kind: Kind) -> Outcome
     }
 }
 
-/// What a stream answers to a query. It reads the records of all windows, oldest first.
+/// What a stream answers to a query: it tallies the values of landmarks in the range, and reads the records of all windows, oldest
+/// first.
 pub fn answer<D: Disk, L: Ledger>(
     records: &mut Records,
     disk: &mut D,
@@ -285,9 +336,11 @@ pub fn answer<D: Disk, L: Ledger>(
     requires live { AreSomeLive (slots_held part.now) records.old.live }
     requires one_disk { IsTrue (D.tells disk.old) → AreKept records.old (D.told disk.old).content }
     ensures answer { IsTrue (D.tells disk.old) → (others : List (ℕ × Option Record)) (s : Stream) →
-        IsHeldIn others part.now s (D.told disk.old).content → IsAnswered (answer_of query.now s.windows) result }
+        IsHeldIn others part.now s (D.told disk.old).content → IsAnswered (answer_of query.now s) result }
     // Over every disk it is to what was asked for.
     ensures kind { IfOk result (IsOfKind query.now.kind) }
+    // A slot that has changed is that of a window.
+    ensures changed { IfChanged result (Contains (window_slots_of part.now)) }
     ensures one_disk { IsTrue (D.tells disk.old) → OnOk result (AreKept records.new (D.told disk.new).content) }
     ensures journal { OnOk result (records.new.journal ≡ records.old.journal) }
     ensures live { records.new.live ≡ records.old.live }
@@ -298,7 +351,9 @@ pub fn answer<D: Disk, L: Ledger>(
 {
     let _live = records.live();
     let _len = part.line.len();
+    let _known = part.landmarks.count();
     let mut seen = Seen {
+        marked: part.landmarks.values_in(query.from, query.to),
         whole: None,
         left: None,
         right: None,
@@ -309,12 +364,12 @@ pub fn answer<D: Disk, L: Ledger>(
         let entry = part.line.get(at, steps);
         let window = Window {
             first: entry.first,
-            summary: read_window(records, disk, part.id, entry)?,
+            summary: read_window(records, disk, part, entry)?,
         };
         if window.summary.t_first < seen.next_time {
             return Err(Fault::Changed { slot: entry.slot });
         }
-        seen = with_window(seen, query, &window);
+        seen = with_window(seen, query, &part.landmarks, &window);
         next = part.line.neighbours(at, steps).1;
     }
     Ok(outcome_seen(seen, query.kind))

@@ -10,6 +10,7 @@ ghost use Rattle.ss_summary.specs.Figures.{IsPossible};
 ghost use Rattle.ss_summary.specs.Summaries.{joined};
 ghost use Rattle.ss_codec.specs.declared.record.Record.{Record};
 ghost use Rattle.ss_model.specs.ClosedState.{closed_stream};
+ghost use Rattle.ss_model.specs.Marks.{lies_free};
 ghost use Rattle.ss_model.specs.State.{Stream};
 ghost use Rattle.ss_model.specs.declared.types.Window.{Window};
 ghost use Rattle.ss_recover.specs.Held.{TileFrom, entries_of, slots_held, span_held, span_of, window_record};
@@ -21,7 +22,6 @@ ghost use Rattle.ss_store.specs.Slots.{AreSomeLive, HasRecords, LiveSlotsGo};
 
 use crate::reading::{Fault, read_window};
 use crate::writing::replace_two;
-use ss_catalog::StreamId;
 use ss_codec::Record;
 use ss_line::{At, Entry};
 use ss_outside::Disk;
@@ -72,7 +72,7 @@ fn first_due<L: Ledger>(part: &StreamParts, n: u64, steps: &mut Steps<L>) -> Opt
 fn read_joined<D: Disk>(
     records: &mut Records,
     disk: &mut D,
-    id: StreamId,
+    part: &StreamParts,
     window: Entry,
     next: Entry,
 ) -> Result<Summary, Fault>
@@ -83,8 +83,9 @@ fn read_joined<D: Disk>(
     requires few { next.last ≤ MOST_VALUES }
     requires one_disk { IsTrue (D.tells disk.old) → AreKept records.old (D.told disk.old).content }
     ensures joined { IsTrue (D.tells disk.old) → (others : List (ℕ × Option Record)) (w v : Window) →
-        HasRecords ((window.slot, Some (window_record id.0 w)) ∷ (next.slot, Some (window_record id.0 v)) ∷ others)
+        HasRecords ((window.slot, Some (window_record part.now.id.0 w)) ∷ (next.slot, Some (window_record part.now.id.0 v)) ∷ others)
         (D.told disk.old).content → span_held window ≡ span_of w → span_held next ≡ span_of v →
+        IsTrue (lies_free part.now.landmarks.landmarks w) → IsTrue (lies_free part.now.landmarks.landmarks v) →
         w.summary.t_last < v.summary.t_first → IsRead (joined w.summary v.summary) result }
     ensures count { IfOk result (λ summary. window.first + summary.count ≡ next.last + 1) }
     ensures possible { IfOk result IsPossible }
@@ -97,8 +98,8 @@ fn read_joined<D: Disk>(
 {
     // Each slot that is live is one of those that a disk has.
     let _live = records.live();
-    let older = read_window(records, disk, id, window)?;
-    let newer = read_window(records, disk, id, next)?;
+    let older = read_window(records, disk, part, window)?;
+    let newer = read_window(records, disk, part, next)?;
     if newer.t_first <= older.t_last {
         return Err(Fault::Changed { slot: next.slot });
     }
@@ -143,7 +144,7 @@ fn join<D: Disk, L: Ledger>(
     let joined = Record::Window {
         id: number,
         first: window.first,
-        summary: read_joined(records, disk, part.id, window, next)?,
+        summary: read_joined(records, disk, part, window, next)?,
     };
     replace_two(records, disk, window.slot, next.slot, &joined)?;
     let entry = Entry {

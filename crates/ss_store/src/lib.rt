@@ -6,10 +6,12 @@ mod asking;
 mod closing;
 mod error;
 mod laws;
+mod marking;
 mod opening;
 mod place;
 mod reading;
 mod store;
+mod surveying;
 #[cfg(test)]
 mod tests;
 mod writing;
@@ -21,3 +23,4 @@ pub use laws::{
     what_is_kept_is_the_state,
 };
 pub use store::Store;
+pub use surveying::Survey;

@@ -28,7 +28,7 @@ pub fn place_of(streams: &[StreamParts], id: StreamId) -> usize
 }
 
 // The number of a stream.
-fn number_of(stream: &StreamParts) -> u32
+pub fn number_of(stream: &StreamParts) -> u32
     ensures { result ≡ stream.now.id.0 }
 {
     stream.id.0

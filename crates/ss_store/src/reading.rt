@@ -5,16 +5,19 @@ ghost use Rattle.ss_journal.specs.Kept.{IsRunning};
 ghost use Rattle.ss_journal.specs.declared.format.TheConstants.{MOST_SLOTS};
 ghost use Rattle.ss_records.specs.Kept.{AreKept};
 ghost use Rattle.ss_codec.specs.declared.record.Record.{Record};
+ghost use Rattle.ss_model.specs.Marks.{lies_free};
 ghost use Rattle.ss_model.specs.declared.types.Window.{Window};
 ghost use Rattle.ss_recover.specs.Held.{span_held, span_of, window_record};
-ghost use Rattle.ss_store.specs.Causes.{FaultCause, IsRead};
+ghost use Rattle.ss_store.specs.Causes.{FaultCause, IfChanged, IsRead};
 ghost use Rattle.ss_store.specs.Slots.{HasRecords};
 
 use ss_catalog::StreamId;
 use ss_codec::{Record, decode};
 use ss_line::Entry;
+use ss_model::Window;
 use ss_outside::{Disk, Failed};
 use ss_records::Records;
+use ss_recover::{StreamParts, lies_free};
 use ss_summary::Summary;
 
 /// Why a stream was not read or changed: the disk failed, or a slot gave other bytes than before.
@@ -60,21 +63,33 @@ fn summary_of(spelled: Option<Record>, id: StreamId, entry: Entry) -> Option<Sum
     }
 }
 
+// Whether a window of this summary lies among the landmarks of its stream as one has to.
+fn is_free(part: &StreamParts, entry: Entry, summary: Summary) -> bool
+    ensures { result ≡ lies_free part.now.landmarks.landmarks (record { first = entry.first; summary = summary }) }
+{
+    let first = entry.first;
+    let _count = summary.count;
+    lies_free(&part.landmarks, &Window { first, summary })
+}
+
 /// The summary of a window that is held, read from its record.
 pub fn read_window<D: Disk>(
     records: &mut Records,
     disk: &mut D,
-    id: StreamId,
+    part: &StreamParts,
     entry: Entry,
 ) -> Result<Summary, Fault>
     requires running { IsRunning records.old.journal }
     requires slot { entry.slot < MOST_SLOTS }
     requires one_disk { IsTrue (D.tells disk.old) → AreKept records.old (D.told disk.old).content }
     ensures window { IsTrue (D.tells disk.old) → (others : List (ℕ × Option Record)) (w : Window) →
-        HasRecords ((entry.slot, Some (window_record id.0 w)) ∷ others) (D.told disk.old).content →
-        span_held entry ≡ span_of w → IsRead w.summary result }
-    // Over every disk it has as many values as its positions say.
+        HasRecords ((entry.slot, Some (window_record part.now.id.0 w)) ∷ others) (D.told disk.old).content →
+        span_held entry ≡ span_of w → IsTrue (lies_free part.now.landmarks.landmarks w) → IsRead w.summary result }
+    // Over every disk it has as many values as its positions say, and lies among the landmarks as a window has to.
     ensures count { IfOk result (λ summary. entry.first + summary.count ≡ entry.last + 1) }
+    ensures free { IfOk result (λ summary.
+        IsTrue (lies_free part.now.landmarks.landmarks (record { first = entry.first; summary = summary }))) }
+    ensures changed { IfChanged result (λ slot. slot ≡ entry.slot) }
     ensures one_disk { IsTrue (D.tells disk.old) → OnOk result (AreKept records.new (D.told disk.new).content) }
     ensures journal { OnOk result (records.new.journal ≡ records.old.journal) }
     ensures live { records.new.live ≡ records.old.live }
@@ -84,8 +99,8 @@ pub fn read_window<D: Disk>(
     ensures cause { FaultCause (D.faults disk.old) (D.faults disk.new) result }
 {
     let bytes = records.read(disk, entry.slot)?;
-    match summary_of(decode(&bytes), id, entry) {
-        Some(summary) => Ok(summary),
-        None => Err(Fault::Changed { slot: entry.slot }),
+    match summary_of(decode(&bytes), part.id, entry) {
+        Some(summary) if is_free(part, entry, summary) => Ok(summary),
+        _ => Err(Fault::Changed { slot: entry.slot }),
     }
 }

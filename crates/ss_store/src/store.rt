@@ -1,14 +1,17 @@
 // The store of all streams.
-ghost use Rattle.std.specs.Prelude.{◌≡◌, ◌∷◌, ◌++◌, [], IsTrue, OnOk, OnErr};
+ghost use Rattle.std.specs.Prelude.{◌≡◌, ◌∷◌, ◌++◌, [], IsTrue, IfSome, IfNone, OnOk, OnErr, Some, None};
 ghost use Rattle.ss_codec.specs.Record.{is_valid};
 ghost use Rattle.ss_codec.specs.declared.record.Record.TheVariants as record_kinds;
 ghost use Rattle.ss_target.specs.Lengths.{has_target};
-ghost use Rattle.ss_model.specs.Refusals.{is_past};
+ghost use Rattle.ss_landmarks.specs.Landmark.{open_landmark};
+ghost use Rattle.ss_model.specs.Refusals.{is_before, is_opening, is_past};
 ghost use Rattle.ss_recover.specs.declared.parts.StreamParts.{StreamParts};
+ghost use Rattle.ss_store.specs.Marking.{mark_refusal};
 
 use crate::appending::append;
 use crate::asking::answer;
 use crate::closing::values_held;
+use crate::marking::{Mark, put_mark, reserve};
 use crate::opening::{catalog_of, close_all};
 use crate::place::{next_id, place_of};
 use crate::reading::{Fault, read_window};
@@ -16,6 +19,7 @@ use crate::writing::add_record;
 use crate::{ApplyError, AskError, OpenError};
 use ss_catalog::{Catalog, Event, LAST_TIME, Name, Params, Query, Refusal, StreamId};
 use ss_codec::Record;
+use ss_landmarks::Landmarks;
 use ss_line::{At, Entry, Line};
 use ss_model::{Ack, Outcome, Placed, StreamRow};
 use ss_outside::{Disk, Failed};
@@ -81,6 +85,47 @@ fn is_past(last_time: Option<u64>, t: u64) -> bool
     }
 }
 
+// Whether a time is earlier than the last one.
+fn is_before(last_time: Option<u64>, t: u64) -> bool
+    ensures { result ≡ is_before last_time t }
+{
+    match last_time {
+        None => false,
+        Some(last) => t < last,
+    }
+}
+
+// Whether the open landmark has no value yet and opened at this time.
+fn is_opening(landmarks: &Landmarks, t: u64) -> bool
+    ensures { result ≡ is_opening landmarks.now.landmarks t }
+{
+    match landmarks.opened() {
+        None => false,
+        Some((start, _, values)) => start == t && values == 0,
+    }
+}
+
+// Why the landmarks of a stream don't take a mark at a time.
+fn refuses(stream: &StreamParts, t: u64, mark: Mark) -> Option<Refusal>
+    ensures some { IfSome result (λ r. mark_refusal stream.now t mark ≡ Some r) }
+    ensures none { IfNone result (mark_refusal stream.now t mark ≡ None) }
+{
+    match (mark, stream.landmarks.opened()) {
+        (Mark::Open, Some(_)) => Some(Refusal::Open),
+        (Mark::Close, None) => Some(Refusal::NotOpen),
+        _ => {
+            let is_early = match mark {
+                Mark::Open => is_past(stream.last_time, t),
+                Mark::Value(_) => {
+                    is_past(stream.last_time, t) && !is_opening(&stream.landmarks, t)
+                }
+                Mark::Close => is_before(stream.last_time, t),
+            };
+            if is_early { Some(Refusal::Time) } else { None }
+        }
+    }
+}
+
 // The record of a new stream.
 fn record_of(id: u32, name: &Name, params: Params) -> Record
     requires { IsTrue (has_target params) }
@@ -97,7 +142,7 @@ fn record_of(id: u32, name: &Name, params: Params) -> Record
 
 impl Store {
     ghost use Rattle.std.specs.Prelude.{◌≡◌, ◌≢◌, ◌+◌, ◌*◌, ◌<◌, ◌≤◌, ◌↔◌, ◌∷◌, ◌++◌, [], List, ℕ, true, false, max, nat_le, length, map, flat_map, slice_get, option_map, Some, IsTrue, IsNone, IsSome, IfOk, IfSome, OnOk, OnErr, IfErr, Err, None, ℤ};
-    ghost use Rattle.std.specs.List.{IsDistinct};
+    ghost use Rattle.std.specs.List.{Contains, IsDistinct};
     ghost use Rattle.ss_outside.specs.Crash.{OnlyReads};
     ghost use Rattle.ss_catalog.specs.Events.{event_name, IsInTime};
     ghost use Rattle.ss_catalog.specs.declared.event.Event.{Event};
@@ -111,18 +156,21 @@ impl Store {
     ghost use Rattle.ss_target.specs.Targets.{params_of};
     ghost use Rattle.ss_model.specs.Answers.{HoldsTruth, IsExactOutcome, IsOfKind, outcome_of, split_by};
     ghost use Rattle.ss_model.specs.Decay.{cover, IsReadWithinTarget};
-    ghost use Rattle.ss_model.specs.History.{values_of};
+    ghost use Rattle.ss_landmarks.specs.Landmark.{open_landmark};
+    ghost use Rattle.ss_model.specs.History.{marked_of, values_of};
+    ghost use Rattle.ss_model.specs.Marks.{has_open};
     ghost use Rattle.ss_model.specs.Refusals.{IsHistory};
     ghost use Rattle.ss_model.specs.Shown.{placed_of, row_of};
     ghost use Rattle.ss_model.specs.Standing.{IsState};
     ghost use Rattle.ss_model.specs.State.{state, Stream, stream_named, stream_numbered, values_in};
     ghost use Rattle.ss_recover.specs.Held.{AllAgree, slots_held};
-    ghost use Rattle.ss_store.specs.Asked.{refuses_query_held};
+    ghost use Rattle.ss_store.specs.Asked.{refuses_query_held, window_slots_of};
     ghost use Rattle.ss_store.specs.Calls.{AddsEvent, KeepsHistory, KeepsState, StepsState};
-    ghost use Rattle.ss_store.specs.Causes.{ApplyCause, AskCause, IfRefused, IfUnasked, IfUncalled, IfUnwritten, IsApplyFirm, IsAskFirm, OpenCause, OpensAs, said_of_held, stopped_by_apply, stopped_by_ask};
-    ghost use Rattle.ss_store.specs.Kept.{IsKept, SameButSpare, part_named, part_numbered, refuses_held, row_of_held};
+    ghost use Rattle.ss_store.specs.Causes.{ApplyCause, AskCause, IfAskChanged, IfRefused, IfUnasked, IfUncalled, IfUnwritten, IsApplyFirm, IsAskFirm, OpenCause, OpensAs, said_of_held, stopped_by_apply, stopped_by_ask};
+    ghost use Rattle.ss_store.specs.Kept.{IsKept, SameButSpare, has_all_slots, is_of_landmark, of_part, part_named, part_numbered, refuses_held, row_of_held};
     ghost use Rattle.ss_store.specs.Recover.{Recovers, Stands};
-    ghost use Rattle.ss_store.specs.Admitted.{IsNew, IsTaker};
+    ghost use Rattle.ss_store.specs.Admitted.{IsMarker, IsNew, IsTaker};
+    ghost use Rattle.ss_store.specs.Marking.{IsClosing, IsInOpen, IsItsSlot, event_of, slot_refusal, slots_used};
     ghost use Rattle.ss_steps.specs.Steps.{IsFresh};
 
     /// Opens the store on a disk: it reads and judges all of it before it writes, settles the entries in use, and makes the
@@ -187,8 +235,10 @@ impl Store {
         ensures one_disk { IsTrue (D.tells disk.old) → self.new.stopped ≡ false → IsKept self.new (D.told disk.new).content }
         // The reply is read off the stream as it is held then.
         ensures ack { IfOk result (λ ack. ack ≡ said_of_held (part_named (event_name event.now) self.new.streams)) }
-        // At most 2K - 1 windows stand where K target windows cover the values: over every disk, and whatever was opened.
-        ensures decay { IfOk result (λ ack. IfSome (part_named (event_name event.now) self.new.streams) (λ part.
+        // At most 2K - 1 windows stand where K target windows cover the values: over every disk, and whatever was opened. The
+        // events of landmarks touch no window.
+        ensures decay { is_of_landmark self.old.streams event.now ≡ false →
+            IfOk result (λ ack. IfSome (part_named (event_name event.now) self.new.streams) (λ part.
             0 < ack.n → ack.k + 1 ≤ 2 * cover (lengths_of (params_of part.target)) ack.n)) }
         // Stopped comes first, exactly where the store had stopped, and then each refusal exactly where it applies.
         ensures stopped { (result ≡ Err ApplyError.Stopped) ↔ (self.old.stopped ≡ true) }
@@ -211,8 +261,31 @@ impl Store {
         match *event {
             Event::Create { name, params } => self.create(disk, name, params),
             Event::Value { name, t, v } => {
-                self.append::<D, Brand>(disk, &name, t, v, Blank::new(1))
+                if self.has_open(&name) {
+                    self.mark::<D, Brand>(disk, &name, t, Mark::Value(v), Blank::new(1))
+                } else {
+                    self.append::<D, Brand>(disk, &name, t, v, Blank::new(1))
+                }
             }
+            Event::Open { name, t } => {
+                self.mark::<D, Brand>(disk, &name, t, Mark::Open, Blank::new(1))
+            }
+            Event::Close { name, t } => {
+                self.mark::<D, Brand>(disk, &name, t, Mark::Close, Blank::new(1))
+            }
+        }
+    }
+
+    // Whether the stream of a name stands and a landmark of it is open.
+    fn has_open(&self, name: &Name) -> bool
+        ensures { result ≡ of_part name.now self.now.streams (λ part. has_open part.landmarks.landmarks) }
+    {
+        match self.catalog.find(name) {
+            Some(id) => self.streams[place_of(&self.streams, id)]
+                .landmarks
+                .opened()
+                .is_some(),
+            None => false,
         }
     }
 
@@ -289,6 +362,7 @@ impl Store {
             slot,
             last_time: None,
             line: Line::new(alloc),
+            landmarks: Landmarks::new(alloc),
         };
         match grow(&mut self.streams, &mut self.catalog, stream, name, id) {
             Ok(()) => {}
@@ -308,14 +382,15 @@ impl Store {
         }
     }
 
-    // The place of the stream that takes a value at a time, and the slot of its window, or why it doesn't take it.
+    // The place of the stream that takes a value outside landmarks at a time, and the slot of its window, or why it doesn't take it.
     fn taker<L: Ledger>(
         &self,
         name: &Name,
         t: u64,
         steps: &mut Steps<L>,
     ) -> Result<(usize, u32), Refusal>
-        requires { self.now.stopped ≡ false }
+        requires runs { self.now.stopped ≡ false }
+        requires plain { of_part name.now self.now.streams (λ part. has_open part.landmarks.landmarks) ≡ false }
         ensures refused { (v : ℤ) → IfErr result (λ r. refuses_held self.now.streams (Value name.now t v) ≡ Some r) }
         ensures accepted { (v : ℤ) → OnOk result (refuses_held self.now.streams (Value name.now t v) ≡ None) }
         ensures taker { IfOk result (λ taker. IsTaker self.now name.now t taker.0 taker.1) }
@@ -337,7 +412,7 @@ impl Store {
         }
     }
 
-    // Applies a value.
+    // Applies a value outside landmarks.
     fn append<D: Disk, L: Ledger>(
         &mut self,
         disk: &mut D,
@@ -349,6 +424,7 @@ impl Store {
         requires fresh { IsFresh L.name L.parts blank }
         requires in_time { t ≤ LAST_TIME }
         requires runs { self.old.stopped ≡ false }
+        requires plain { of_part name.now self.old.streams (λ part. has_open part.landmarks.landmarks) ≡ false }
         requires one_disk { IsTrue (D.tells disk.old) → IsKept self.old (D.told disk.old).content }
         ensures step { IsTrue (D.tells disk.old) → StepsState (Value name.now t v) (D.told disk.old) (D.told disk.new) result }
         ensures one_disk { IsTrue (D.tells disk.old) → self.new.stopped ≡ false → IsKept self.new (D.told disk.new).content }
@@ -386,6 +462,98 @@ impl Store {
             Err(fault) => {
                 self.stopped = true;
                 Err(ApplyError::from(fault))
+            }
+        }
+    }
+
+    // The slot for the record that a mark puts, if there is one: a free one, or that of the open landmark.
+    fn slot_for(&self, stream: &StreamParts, mark: Mark) -> Option<u32>
+        requires runs { self.now.stopped ≡ false }
+        requires begun { IsClosing mark → has_open stream.now.landmarks.landmarks ≡ true }
+        ensures in_slot { IfSome result (λ slot. IsItsSlot self.now.records.live stream.now mark slot) }
+        ensures low { IfSome result (λ slot. slots_used mark slot ≤ length (flat_map slots_held self.now.streams) + 1) }
+        ensures some { IfSome result (λ slot. slot_refusal mark (has_all_slots self.now.streams) ≡ None) }
+        ensures none { IsNone result → slot_refusal mark (has_all_slots self.now.streams) ≡ Some Refusal.StoreFull }
+    {
+        match mark {
+            Mark::Open | Mark::Value(_) => self.free_slot(),
+            Mark::Close => match stream.landmarks.opened() {
+                Some((_, slot, _)) => Some(slot),
+                None => None,
+            },
+        }
+    }
+
+    // The place of the stream whose landmarks take a mark at a time, and the slot of its record, or why they don't take it.
+    fn marker(&self, name: &Name, t: u64, mark: Mark) -> Result<(usize, u32), Refusal>
+        requires runs { self.now.stopped ≡ false }
+        requires marked { IsInOpen mark → of_part name.now self.now.streams (λ part. has_open part.landmarks.landmarks) ≡ true }
+        ensures refused { IfErr result (λ r. refuses_held self.now.streams (event_of name.now t mark) ≡ Some r) }
+        ensures accepted { OnOk result (refuses_held self.now.streams (event_of name.now t mark) ≡ None) }
+        ensures marker { IfOk result (λ marker. IsMarker self.now name.now t mark marker.0 marker.1) }
+    {
+        let Some(id) = self.catalog.find(name) else {
+            return Err(Refusal::Unknown);
+        };
+        let place = place_of(&self.streams, id);
+        let stream = &self.streams[place];
+        if let Some(refusal) = refuses(stream, t, mark) {
+            return Err(refusal);
+        }
+        let _live = self.records.live();
+        match self.slot_for(stream, mark) {
+            Some(slot) => Ok((place, slot)),
+            None => Err(Refusal::StoreFull),
+        }
+    }
+
+    // Applies an event of a landmark: it opens, takes a value, or closes.
+    fn mark<D: Disk, L: Ledger>(
+        &mut self,
+        disk: &mut D,
+        name: &Name,
+        t: u64,
+        what: Mark,
+        blank: Blank,
+    ) -> Result<Ack, ApplyError>
+        requires fresh { IsFresh L.name L.parts blank }
+        requires in_time { t ≤ LAST_TIME }
+        requires runs { self.old.stopped ≡ false }
+        requires marked { IsInOpen what → of_part name.now self.old.streams (λ part. has_open part.landmarks.landmarks) ≡ true }
+        requires one_disk { IsTrue (D.tells disk.old) → IsKept self.old (D.told disk.old).content }
+        ensures step { IsTrue (D.tells disk.old) → StepsState (event_of name.now t what) (D.told disk.old) (D.told disk.new) result }
+        ensures one_disk { IsTrue (D.tells disk.old) → self.new.stopped ≡ false → IsKept self.new (D.told disk.new).content }
+        ensures ack { IfOk result (λ ack. ack ≡ said_of_held (part_named name.now self.new.streams)) }
+        ensures running { result ≢ Err ApplyError.Stopped }
+        ensures refused { (r : Refusal) →
+            (result ≡ Err (ApplyError.Refused r)) ↔ (refuses_held self.old.streams (event_of name.now t what) ≡ Some r) }
+        ensures uncalled { IfUncalled result (disk.new ≡ disk.old) }
+        ensures same { IfRefused result (self.new ≡ self.old) }
+        ensures starved { (result ≡ Err ApplyError.OutOfMemory) → SameButSpare self.old self.new }
+        ensures stops { self.new.stopped ≡ stopped_by_apply self.old.stopped result }
+        ensures firm { IsTrue (D.tells disk.old) → IsApplyFirm result }
+        ensures extent { OnOk result (self.new.records.journal.extent
+            ≤ max self.old.records.journal.extent (length (flat_map slots_held self.old.streams) + 1)) }
+        ensures tells { D.tells disk.new ≡ D.tells disk.old }
+        ensures cause { ApplyCause (D.faults disk.old) (D.faults disk.new) result }
+    {
+        let (place, slot) = match self.marker(name, t, what) {
+            Ok(marker) => marker,
+            Err(refusal) => return Err(ApplyError::Refused(refusal)),
+        };
+        let stream = &mut self.streams[place];
+        match reserve(&mut stream.landmarks) {
+            Ok(()) => {}
+            Err(_) => return Err(ApplyError::OutOfMemory),
+        }
+        match put_mark(&mut self.records, disk, stream, slot, t, what) {
+            Ok(()) => Ok(Ack {
+                n: values_held(stream, &mut Steps::<L>::new(blank)),
+                k: stream.line.len(),
+            }),
+            Err(Failed) => {
+                self.stopped = true;
+                Err(ApplyError::Disk)
             }
         }
     }
@@ -439,8 +607,8 @@ impl Store {
             params: stream.target.params(),
             n: values_held(stream, &mut Steps::<L>::new(blank)),
             k: stream.line.len(),
-            landmarks: 0,
-            values: 0,
+            landmarks: stream.landmarks.count(),
+            values: stream.landmarks.values(),
         }
     }
 
@@ -499,14 +667,18 @@ impl Store {
         // The answer of the state that the content recovers to.
         ensures answer { IsTrue (D.tells disk.old) → (streams : List Stream) → Recovers streams (D.told disk.old).content →
             IfOk result (λ outcome. outcome_of streams query.now ≡ Some outcome) }
-        // It holds the truth over all values of the stream, for every history that the content stands for.
+        // It holds the truth over all values of the stream, those of its landmarks among them, for every history that the
+        // content stands for.
         ensures truth { IsTrue (D.tells disk.old) → (history : List Event) → Stands history (D.told disk.old).content →
-            IfOk result (HoldsTruth query.now (values_of history query.now.name) []) }
+            IfOk result (HoldsTruth query.now (values_of history query.now.name) (marked_of history query.now.name)) }
         // It leaves nothing open where the range splits no window.
         ensures exact { IsTrue (D.tells disk.old) → (streams : List Stream) → Recovers streams (D.told disk.old).content →
             split_by streams query.now ≡ [] → IfOk result IsExactOutcome }
         // Over every disk it is to what was asked for.
         ensures kind { IfOk result (IsOfKind query.now.kind) }
+        // A slot that has changed is that of a window of the stream.
+        ensures changed { IfAskChanged result (λ slot. IfSome (part_named query.now.name self.old.streams) (λ part.
+            Contains (window_slots_of part) slot)) }
         ensures one_disk { IsTrue (D.tells disk.old) → self.new.stopped ≡ false → IsKept self.new (D.told disk.new).content }
         ensures streams { self.new.streams ≡ self.old.streams }
         ensures live { self.new.records.live ≡ self.old.records.live }
@@ -567,6 +739,8 @@ impl Store {
         ensures answer { IsTrue (D.tells disk.old) → (streams : List Stream) → Recovers streams (D.told disk.old).content →
             IfOk result (λ outcome. outcome_of streams query.now ≡ Some outcome) }
         ensures kind { IfOk result (IsOfKind query.now.kind) }
+        ensures changed { IfAskChanged result (λ slot. IfSome (part_named query.now.name self.old.streams) (λ part.
+            Contains (window_slots_of part) slot)) }
         ensures one_disk { IsTrue (D.tells disk.old) → self.new.stopped ≡ false → IsKept self.new (D.told disk.new).content }
         ensures streams { self.new.streams ≡ self.old.streams }
         ensures live { self.new.records.live ≡ self.old.records.live }
@@ -613,6 +787,9 @@ impl Store {
         ensures positions { IfSome (part_numbered id.0 self.old.streams) (λ part. IfSome (entry_at part.line.entries at) (λ entry.
             IfOk result (λ placed. (placed.first ≡ entry.first) × (placed.last ≡ entry.last)
             × (placed.first + placed.summary.count ≡ placed.last + 1)))) }
+        // A slot that has changed is that of the window.
+        ensures changed { IfAskChanged result (λ slot. IfSome (part_numbered id.0 self.old.streams) (λ part.
+            IfSome (entry_at part.line.entries at) (λ entry. slot ≡ entry.slot))) }
         ensures one_disk { IsTrue (D.tells disk.old) → self.new.stopped ≡ false → IsKept self.new (D.told disk.new).content }
         ensures streams { self.new.streams ≡ self.old.streams }
         ensures live { self.new.records.live ≡ self.old.records.live }
@@ -667,6 +844,8 @@ impl Store {
         ensures positions { IfSome (part_numbered id.0 self.old.streams) (λ part. IfSome (entry_at part.line.entries at) (λ entry.
             IfOk result (λ placed. (placed.first ≡ entry.first) × (placed.last ≡ entry.last)
             × (placed.first + placed.summary.count ≡ placed.last + 1)))) }
+        ensures changed { IfAskChanged result (λ slot. IfSome (part_numbered id.0 self.old.streams) (λ part.
+            IfSome (entry_at part.line.entries at) (λ entry. slot ≡ entry.slot))) }
         ensures one_disk { IsTrue (D.tells disk.old) → self.new.stopped ≡ false → IsKept self.new (D.told disk.new).content }
         ensures streams { self.new.streams ≡ self.old.streams }
         ensures live { self.new.records.live ≡ self.old.records.live }
@@ -680,7 +859,8 @@ impl Store {
         ensures cause { AskCause (D.faults disk.old) (D.faults disk.new) result }
     {
         let entry = self.entry(id, at, &mut Steps::<L>::new(blank));
-        match read_window(&mut self.records, disk, id, entry) {
+        let part = &self.streams[place_of(&self.streams, id)];
+        match read_window(&mut self.records, disk, part, entry) {
             Ok(summary) => Ok(Placed {
                 first: entry.first,
                 last: entry.last,

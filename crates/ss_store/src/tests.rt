@@ -4,10 +4,11 @@ ghost use Rattle.ss_catalog.specs.Events.{IsInTime};
 ghost use Rattle.ss_outside.specs.MemDisk.{told_by};
 ghost use Rattle.ss_store.specs.Kept.{IsKept};
 
-use crate::{ApplyError, AskError, OpenError, Store};
+use crate::{ApplyError, AskError, OpenError, Store, Survey};
 use ss_bounds::Extreme::{Maybe, Nothing, Sure};
 use ss_catalog::{Event, Kind, LAST_TIME, Name, Params, Query, Refusal};
 use ss_model::Outcome::{self, Count, Max, Min, Sum};
+use ss_model::StreamRow;
 use ss_outside::{Choice, MemDisk};
 use std::alloc::{AllocError, Global};
 use std::test::Fail;
@@ -17,9 +18,11 @@ use std::test::Fail;
 enum Asked {
     Create(Params),
     Value(u64, i64),
+    Open(u64),
+    Close(u64),
 }
 
-use Asked::{Create, Value};
+use Asked::{Close, Create, Open, Value};
 
 // The numbers of values and windows, or why not. `None` is for another error.
 type Answer = Result<(u64, u32), Option<Refusal>>;
@@ -61,13 +64,59 @@ const OTHERS: [Row; 9] = [
     (b'a', Value(LAST_TIME, i64::MIN), Ok((8, 4))),
 ];
 
+// A landmark of one moment. The other times are later.
+const MOMENT: [Row; 6] = [
+    (b'b', Create(DOUBLING), Ok((0, 0))),
+    (b'b', Open(100), Ok((0, 0))),
+    (b'b', Value(100, 7), Ok((0, 0))),
+    (b'b', Close(100), Ok((0, 0))),
+    (b'b', Value(100, 8), Err(Some(Refusal::Time))),
+    (b'b', Value(101, 8), Ok((1, 1))),
+];
+
+// A landmark in the middle of a window.
+const AROUND: [Row; 7] = [
+    (b'c', Create(IN_TWOS), Ok((0, 0))),
+    (b'c', Value(10, 1), Ok((1, 1))),
+    (b'c', Open(20), Ok((1, 1))),
+    (b'c', Value(20, 100), Ok((1, 1))),
+    (b'c', Value(30, 200), Ok((1, 1))),
+    (b'c', Close(40), Ok((1, 1))),
+    (b'c', Value(50, 3), Ok((2, 1))),
+];
+
+// Landmarks and values in turn.
+const IN_TURN: [Row; 9] = [
+    (b'a', Create(DOUBLING), Ok((0, 0))),
+    (b'a', Open(10), Ok((0, 0))),
+    (b'a', Value(10, 1), Ok((0, 0))),
+    (b'a', Value(12, 2), Ok((0, 0))),
+    (b'a', Close(13), Ok((0, 0))),
+    (b'a', Value(14, 3), Ok((1, 1))),
+    (b'a', Open(15), Ok((1, 1))),
+    (b'a', Value(20, 4), Ok((1, 1))),
+    (b'a', Close(20), Ok((1, 1))),
+];
+
 // A refused event makes no call of the disk.
-const REFUSED: [Row; 5] = [
+const REFUSED: [Row; 9] = [
     (b'a', Create(DOUBLING), Err(Some(Refusal::Exists))),
     (b'a', Create(OUT_OF_RANGE), Err(Some(Refusal::Param))),
     (b'x', Value(1, 1), Err(Some(Refusal::Unknown))),
     (b'p', Value(7, 1), Err(Some(Refusal::Time))),
     (b'p', Value(6, 1), Err(Some(Refusal::Time))),
+    (b'x', Open(1), Err(Some(Refusal::Unknown))),
+    (b'p', Open(7), Err(Some(Refusal::Time))),
+    (b'p', Close(8), Err(Some(Refusal::NotOpen))),
+    (b'x', Close(1), Err(Some(Refusal::Unknown))),
+];
+
+// The same while a landmark is open.
+const REFUSED_INSIDE: [Row; 4] = [
+    (b'a', Open(81), Err(Some(Refusal::Open))),
+    (b'a', Open(79), Err(Some(Refusal::Open))),
+    (b'a', Value(79, 1), Err(Some(Refusal::Time))),
+    (b'a', Close(79), Err(Some(Refusal::Time))),
 ];
 
 fn event_of(letter: u8, asked: Asked) -> Option<Event>
@@ -77,7 +126,9 @@ fn event_of(letter: u8, asked: Asked) -> Option<Event>
     match asked {
         Create(params) => Some(Event::Create { name, params }),
         Value(t, v) if t <= LAST_TIME => Some(Event::Value { name, t, v }),
-        Value(_, _) => None,
+        Open(t) if t <= LAST_TIME => Some(Event::Open { name, t }),
+        Close(t) if t <= LAST_TIME => Some(Event::Close { name, t }),
+        _ => None,
     }
 }
 
@@ -132,10 +183,49 @@ fn empty(alloc: Global) -> Result<MemDisk, AllocError> {
 fn worked_rows(rt: HostRuntime) -> Result<(), Fail> {
     let mut running = opened(rt.alloc(), empty(rt.alloc())?)?;
     assert_eq!(rt; play(&mut running, &READINGS), READINGS.len());
+    assert_eq!(rt; play(&mut running, &[(b'a', Open(80), Ok((7, 3)))]), 1);
+    let calls = running.disk.calls();
+    let refused = play(&mut running, &REFUSED_INSIDE);
+    assert_eq!(rt; refused, REFUSED_INSIDE.len());
+    assert_eq!(rt; running.disk.calls(), calls);
+    assert_eq!(rt; play(&mut running, &[(b'a', Close(80), Ok((7, 3)))]), 1);
     assert_eq!(rt; play(&mut running, &OTHERS), OTHERS.len());
     let calls = running.disk.calls();
     assert_eq!(rt; play(&mut running, &REFUSED), REFUSED.len());
     assert_eq!(rt; running.disk.calls(), calls);
+    Ok(())
+}
+
+// A landmark that is open at the end of a run is closed in the next.
+#[test]
+fn landmarks_stay_open(rt: HostRuntime) -> Result<(), Fail> {
+    let mut running = opened(rt.alloc(), empty(rt.alloc())?)?;
+    let (first, rest) = MOMENT.split_at(3);
+    assert_eq!(rt; play(&mut running, first), first.len());
+    let mut running = opened(rt.alloc(), running.disk)?;
+    assert_eq!(rt; play(&mut running, rest), rest.len());
+    assert!(rt;
+        matches!(
+            only(&running.store),
+            Some(StreamRow {
+                n: 1,
+                k: 1,
+                landmarks: 1,
+                values: 1,
+                ..
+            })
+        )
+    );
+    let survey = Store::survey(rt.alloc(), &mut running.disk)?;
+    assert_eq!(rt;
+        survey,
+        Survey {
+            streams: 1,
+            windows: 1,
+            landmarks: 1,
+            values: 1,
+        }
+    );
     Ok(())
 }
 
@@ -172,7 +262,12 @@ const EDGES: [Row; 11] = [
 type Question = (u8, Kind, u64, u64);
 
 // Of `a` the first eight split none of its three windows, the next ones one, and the next ones two.
-const QUERIES: [(Question, Outcome); 21] = [
+// Of `b` and `c` a landmark's values are counted beside the windows.
+const QUERIES: [(Question, Outcome); 25] = [
+    ((b'b', Kind::Sum, 100, 100), Sum { lo: 7, hi: 7 }),
+    ((b'c', Kind::Count, 20, 40), Count { lo: 2, hi: 2 }),
+    ((b'c', Kind::Sum, 20, 40), Sum { lo: 300, hi: 300 }),
+    ((b'c', Kind::Min, 20, 40), Min(Sure { lo: 100, hi: 100 })),
     ((b'a', Kind::Count, 10, 40), Count { lo: 4, hi: 4 }),
     ((b'a', Kind::Sum, 0, 100), Sum { lo: 29, hi: 29 }),
     ((b'a', Kind::Sum, 0, u64::MAX), Sum { lo: 29, hi: 29 }),
@@ -242,6 +337,8 @@ fn queries_are_answered(rt: HostRuntime) -> Result<(), Fail> {
     let mut running = opened(rt.alloc(), empty(rt.alloc())?)?;
     assert_eq!(rt; play(&mut running, &READINGS), READINGS.len());
     assert_eq!(rt; play(&mut running, &EDGES), EDGES.len());
+    assert_eq!(rt; play(&mut running, &MOMENT), MOMENT.len());
+    assert_eq!(rt; play(&mut running, &AROUND), AROUND.len());
     for (question, outcome) in QUERIES {
         assert_eq!(rt; told(&mut running, question), Ok(outcome));
     }
@@ -271,19 +368,38 @@ fn queries_fail(rt: HostRuntime) -> Result<(), Fail> {
     Ok(())
 }
 
-// The numbers of values and windows of the one stream. There is none before its creation.
-fn held(store: &Store) -> Option<(u64, u32)> {
-    if store.streams() != 1 {
-        return None;
+// The row of the one stream. There is none before its creation.
+fn only(store: &Store) -> Option<StreamRow> {
+    if store.streams() == 1 {
+        Some(store.stream(0))
+    } else {
+        None
     }
-    let row = store.stream(0);
-    Some((row.n, row.k))
 }
 
-// The same after so many readings.
-fn held_after(readings: usize) -> Option<(u64, u32)> {
-    let (_, _, answer) = READINGS.get(readings.checked_sub(1)?)?;
-    answer.ok()
+// How many events the one stream has taken since its creation, and how many windows it has.
+fn held(running: &mut Running) -> Option<(u64, u32)>
+    requires { running.old.store.stopped ≡ false → IsKept running.old.store (told_by running.old.disk).content }
+    ensures { running.new.store.stopped ≡ false → IsKept running.new.store (told_by running.new.disk).content }
+{
+    let row = only(&running.store)?;
+    let landmarks = u64::from(row.landmarks) * 2 + u64::from(row.values);
+    let taken = row.n.saturating_add(landmarks);
+    // Of a landmark that is open one event is still to come, and another is refused.
+    let name = row.name;
+    let opening = Event::Open { name, t: LAST_TIME };
+    match running.store.apply(&mut running.disk, &opening) {
+        Err(ApplyError::Refused(Refusal::Open)) => Some((taken.saturating_sub(1), row.k)),
+        _ => Some((taken, row.k)),
+    }
+}
+
+// The same after the first of some rows.
+fn held_after(rows: &[Row], count: usize) -> Option<(u64, u32)> {
+    let taken = count.checked_sub(1)?;
+    let (_, _, answer) = rows.get(taken)?;
+    let (_, windows) = answer.ok()?;
+    Some((taken as u64, windows))
 }
 
 const CRASHES: [Choice; 4] = [
@@ -301,7 +417,7 @@ fn survives(
     that: Option<(u64, u32)>,
 ) -> Result<bool, OpenError> {
     for choice in CRASHES {
-        let found = held(&opened(alloc, disk.crash(choice)?)?.store);
+        let found = held(&mut opened(alloc, disk.crash(choice)?)?);
         if found != this && found != that {
             return Ok(false);
         }
@@ -317,9 +433,9 @@ fn is_quiet(running: &mut Running) -> bool
     answered(running, b'a', Value(99, 0)).is_err() && running.disk.calls() == calls
 }
 
-// Opens and plays on a disk that stops at this call: how many readings were acknowledged, and whether each crash leaves them,
+// Opens and plays on a disk that stops at this call: how many rows were acknowledged, and whether each crash leaves their events,
 // or one more where that was under way.
-fn stopped_at(alloc: Global, stop: u64) -> Result<(usize, bool), OpenError> {
+fn stopped_at(alloc: Global, rows: &[Row], stop: u64) -> Result<(usize, bool), OpenError> {
     let mut disk = empty(alloc)?;
     disk.stop_from(stop);
     let store = match Store::open(alloc, &mut disk) {
@@ -327,25 +443,59 @@ fn stopped_at(alloc: Global, stop: u64) -> Result<(usize, bool), OpenError> {
         Err(_) => return Ok((0, survives(alloc, &disk, None, None)?)),
     };
     let mut running = Running { store, disk };
-    let count = play(&mut running, &READINGS);
-    let left = held_after(count);
-    let next = held_after(count.saturating_add(1)).or(left);
-    let is_quiet = count == READINGS.len() || is_quiet(&mut running);
+    let count = play(&mut running, rows);
+    let left = held_after(rows, count);
+    let next = held_after(rows, count.saturating_add(1)).or(left);
+    let is_quiet = count == rows.len() || is_quiet(&mut running);
     Ok((
         count,
         is_quiet && survives(alloc, &running.disk, left, next)?,
     ))
 }
 
-#[test]
-fn each_stop_leaves_the_first_events(rt: HostRuntime) -> Result<(), Fail> {
-    let mut count = 0;
-    for stop in 0..300 {
-        let answer = stopped_at(rt.alloc(), stop)?;
-        assert!(rt; answer.1, "stop {stop}");
-        count = answer.0;
+// The first stop, of so many, after which other events are left.
+fn lost_at(alloc: Global, rows: &[Row], stops: u64) -> Result<Option<u64>, OpenError> {
+    for stop in 0..stops {
+        if !stopped_at(alloc, rows, stop)?.1 {
+            return Ok(Some(stop));
+        }
     }
-    assert_eq!(rt; count, 8);
+    Ok(None)
+}
+
+#[test]
+fn each_stop_leaves_the_first_readings(rt: HostRuntime) -> Result<(), Fail> {
+    assert_eq!(rt; lost_at(rt.alloc(), &READINGS, 300)?, None);
+    let (count, _) = stopped_at(rt.alloc(), &READINGS, 300)?;
+    assert_eq!(rt; count, READINGS.len());
+    Ok(())
+}
+
+#[test]
+fn each_stop_leaves_the_first_landmarks(rt: HostRuntime) -> Result<(), Fail> {
+    assert_eq!(rt; lost_at(rt.alloc(), &IN_TURN, 100)?, None);
+    let (count, _) = stopped_at(rt.alloc(), &IN_TURN, 100)?;
+    assert_eq!(rt; count, IN_TURN.len());
+    Ok(())
+}
+
+// Of a commit, the call that makes its open gate durable.
+const GATE_SYNC: u64 = 3;
+
+// Where the gate of a landmark's first value was written and isn't durable, either byte may be found there.
+#[test]
+fn a_torn_gate_leaves_either(rt: HostRuntime) -> Result<(), Fail> {
+    let mut running = opened(rt.alloc(), empty(rt.alloc())?)?;
+    let (first, rest) = MOMENT.split_at(2);
+    assert_eq!(rt; play(&mut running, first), first.len());
+    let calls = running.disk.calls();
+    running.disk.stop_from(calls.saturating_add(GATE_SYNC));
+    assert_eq!(rt; play(&mut running, rest), 0);
+    for (byte, taken) in [(0xA5, 2), (0, 1)] {
+        let mut left = opened(rt.alloc(), running.disk.crash(Choice::Fill(byte))?)?;
+        assert_eq!(rt; held(&mut left), Some((taken, 0)));
+        assert_eq!(rt; play(&mut left, &[(b'b', Value(101, 8), Ok((0, 0)))]), 1);
+    }
     Ok(())
 }
 
@@ -397,12 +547,34 @@ fn image(alloc: Global, begin: &[u8], slots: &[Slot]) -> Result<MemDisk, AllocEr
 
 const FORMED: &[u8] = b"\xA5SSTORE01";
 
-// Of three windows of one value two wait for a merge. Whenever its opening stops, the next one makes it.
+// Of three windows of one value two wait for a merge.
+const WAITING: [Slot; 4] = [Stream, Window(0, 1), Window(0, 2), Window(0, 3)];
+
+// A survey counts them as one, and leaves them as they are.
+#[test]
+fn surveys_make_no_merge(rt: HostRuntime) -> Result<(), Fail> {
+    let mut disk = image(rt.alloc(), FORMED, &WAITING)?;
+    let survey = Store::survey(rt.alloc(), &mut disk)?;
+    assert_eq!(rt;
+        survey,
+        Survey {
+            streams: 1,
+            windows: 2,
+            landmarks: 0,
+            values: 0,
+        }
+    );
+    let before = image(rt.alloc(), FORMED, &WAITING)?;
+    assert_eq!(rt; disk.content(), before.content());
+    assert_eq!(rt; disk.syncs(), 0);
+    Ok(())
+}
+
+// Whenever its opening stops, the next one makes the merge.
 #[test]
 fn opening_makes_the_merges_that_are_due(rt: HostRuntime) -> Result<(), Fail> {
-    let waiting = [Stream, Window(0, 1), Window(0, 2), Window(0, 3)];
     for stop in 0..200 {
-        let mut disk = image(rt.alloc(), FORMED, &waiting)?;
+        let mut disk = image(rt.alloc(), FORMED, &WAITING)?;
         disk.stop_from(stop);
         let _ = Store::open(rt.alloc(), &mut disk);
         let merged = Some((3, 2));
@@ -439,6 +611,7 @@ fn damage_is_named(rt: HostRuntime) -> Result<(), Fail> {
     for (begin, slots, error) in rows {
         let mut disk = image(rt.alloc(), begin, slots)?;
         assert_eq!(rt; Store::open(rt.alloc(), &mut disk).err(), Some(error));
+        assert_eq!(rt; Store::survey(rt.alloc(), &mut disk).err(), Some(error));
         assert_eq!(rt; disk.syncs(), 0, "{error}");
         let before = image(rt.alloc(), begin, slots)?;
         assert_eq!(rt; disk.content(), before.content(), "{error}");

@@ -7,7 +7,7 @@ ghost use Rattle.ss_records.specs.Kept.{AreKept};
 ghost use Rattle.ss_records.specs.Live.{lowest_free};
 ghost use Rattle.ss_codec.specs.Record.{is_valid};
 ghost use Rattle.ss_codec.specs.declared.record.Record.TheVariants.{Free};
-ghost use Rattle.ss_store.specs.Slots.{AddsRecord, AreSomeLive, LiveSlotsGo, ReplacesTwo, pair_put};
+ghost use Rattle.ss_store.specs.Slots.{AddsRecord, AreSomeLive, LiveSlotsGo, Replaces, ReplacesTwo, pair_put};
 
 use ss_codec::{Record, SLOT_SIZE, encode};
 use ss_journal::{MOST_SLOTS, Put, Txn};
@@ -36,6 +36,36 @@ pub fn add_record<D: Disk>(
     ensures cause { HasCause (D.faults disk.old) (D.faults disk.new) result }
 {
     prove!(records.lowest_free() == Some(slot));
+    let mut txn = Txn::new();
+    txn.push(Put {
+        slot,
+        bytes: encode(written),
+    });
+    records.apply(disk, &txn)
+}
+
+/// Puts a record in place of another.
+pub fn replace_record<D: Disk>(
+    records: &mut Records,
+    disk: &mut D,
+    slot: u32,
+    written: &Record,
+) -> Result<(), Failed>
+    requires settled { IsSettled records.old.journal }
+    requires valid { IsTrue (is_valid written.now) }
+    requires some { written.now ≢ Free }
+    requires live { AreSomeLive (slot ∷ []) records.old.live }
+    requires one_disk { IsTrue (D.tells disk.old) → AreKept records.old (D.told disk.old).content }
+    ensures replaces { IsTrue (D.tells disk.old) → Replaces slot written.now (D.told disk.old) (D.told disk.new) result }
+    ensures one_disk { IsTrue (D.tells disk.old) → OnOk result (AreKept records.new (D.told disk.new).content) }
+    ensures settled { OnOk result (IsSettled records.new.journal) }
+    ensures live { records.new.live ≡ records.old.live }
+    ensures extent { OnOk result (records.new.journal.extent ≡ records.old.journal.extent) }
+    ensures tells { D.tells disk.new ≡ D.tells disk.old }
+    ensures cause { HasCause (D.faults disk.old) (D.faults disk.new) result }
+{
+    // The records are sound: each slot that is live lies below the extent.
+    prove!(records.live() <= MOST_SLOTS);
     let mut txn = Txn::new();
     txn.push(Put {
         slot,

@@ -35,6 +35,7 @@ added_part-added part slot t = record {
   name = refl;
   target = refl;
   own_slot = refl;
+  landmarks = refl;
   last_time = refl;
   entries = map-append (λ (e : At × Entry). e.1) part.line.entries ((record { 0 = 0 }, single_entry (values_held (entries_of part) + 1) slot) ∷ []);
 }
@@ -46,7 +47,7 @@ returns-in_err-add_record-clause-adds g c = λ told others s.
     Turns-failed (IsHeldIn others c.args.part.now s) (IsHalfway others c.args.part.now s c.args.t c.args.v) (IsHeldIn others new (with_single s c.args.t c.args.v)) _
     (g.D.Disk.told c.args.disk.now) (g.D.Disk.told c.add_record.new.disk) c.add_record.result c.from_residual.result c.from_residual.ensures.0
     (Turns-added c.args.part.now new c.args.slot c.args.t (added_part-added c.args.part.now c.args.slot c.args.t) c.args.v c.one.result single (assumption c.one.type_inv) c.requires.room
-    c.requires.later others s (g.D.Disk.told c.args.disk.now) (g.D.Disk.told c.add_record.new.disk) c.add_record.result
+    c.requires.plain c.requires.later others s (g.D.Disk.told c.args.disk.now) (g.D.Disk.told c.add_record.new.disk) c.add_record.result
     (subst (λ n. AddsRecord c.args.slot (records.Window c.args.part.now.id.0 (n + 1) c.one.result) (g.D.Disk.told c.args.disk.now) (g.D.Disk.told c.add_record.new.disk) c.add_record.result)
     c.values_held-position.ensures
     (subst (λ k. AddsRecord c.args.slot (records.Window k (c.values_held-position.result + 1) c.one.result) (g.D.Disk.told c.args.disk.now) (g.D.Disk.told c.add_record.new.disk) c.add_record.result)
@@ -58,6 +59,7 @@ added g c = record {
   name = refl;
   target = refl;
   own_slot = refl;
+  landmarks = refl;
   last_time = refl;
   entries = ap (λ (es : List (At × Entry)). map (λ (e : At × Entry). e.1) es) c.push.ensures.pushed
       ∙ map-append (λ (e : At × Entry). e.1) c.args.part.now.line.entries ((c.push.result, single_entry (c.values_held-position.result + 1) c.args.slot) ∷ [])
@@ -89,4 +91,4 @@ returns-clause-adds g c = λ told others s.
     Turns-answers {S = Unit {0}} {F = Failed} (IsHeldIn others c.args.part.now s) (IsHalfway others c.args.part.now s c.args.t c.args.v) _ (g.D.Disk.told c.args.disk.now) (g.D.Disk.told c.add_record.new.disk)
     tt _
     (Turns-added c.args.part.now new c.args.slot c.args.t (added g c) c.args.v c.one.result single (assumption c.one.type_inv) c.requires.room
-    c.requires.later others s (g.D.Disk.told c.args.disk.now) (g.D.Disk.told c.add_record.new.disk) (Ok tt) adds)
+    c.requires.plain c.requires.later others s (g.D.Disk.told c.args.disk.now) (g.D.Disk.told c.add_record.new.disk) (Ok tt) adds)

@@ -1,16 +1,20 @@
-use Rattle.std.proofs.Common.{◌∙◌, subst, ap, arith}
+use Rattle.std.proofs.Common.{◌∙◌, subst, sym, ap, arith}
 use Rattle.std.proofs.lemmas.Result.{err_from_is_err_and}
 use Rattle.ss_model.specs.Answers.{answer_of}
 use Rattle.ss_model.specs.State.{Stream}
+use Rattle.ss_model.specs.declared.outcome.Outcome.{Outcome}
 use Rattle.ss_model.specs.declared.types.Window.{Window}
-use Rattle.ss_store.proofs.AskedWindows.{IsAsking, IsAsking-more, IsAsking-none, StandsIn-here, failed-answer, left_from-less, not-early, read-all, slot-here, whole-here}
-use Rattle.ss_store.proofs.Seeing.{outcome-seen}
+use Rattle.ss_summary.specs.Figures.{Figures}
+use Rattle.ss_store.proofs.AskedWindows.{Contains-slot, IsAsking, IsAsking-more, IsAsking-none, StandsIn-here, changed-window, failed-answer, left_from-less, not-early, outcome-all, slot-here, whole-here}
+use Rattle.ss_store.proofs.MarkedTallies.{IsFewMarked-in}
+use Rattle.ss_store.specs.Asked.{IsFewMarked, window_slots_of}
 use Rattle.ss_store.proofs.asking.answer.Goals as goal
 
 pub loop-next-init : goal.loop-next-init
 loop-next-init g c =
     IsAsking-none (g.D.Disk.tells c.args.disk.now) (g.D.Disk.told c.args.disk.now) (g.D.Disk.faults c.args.disk.now) c.args.records.now c.args.part.now
     c.args.query.now.from c.args.query.now.to c.first-next.result c.first-next.ensures.value c.requires.tiles c.requires.one_disk
+    c.values_in.result c.values_in.ensures
 
 pub get-entry-requires : goal.get-entry-requires
 get-entry-requires g c =
@@ -37,7 +41,7 @@ returns-in_err-read_window-clause-answer g c =
     (subst (λ n. IsAsking (g.D.Disk.tells c.args.disk.now) (g.D.Disk.tells c.loop-next.disk) (g.D.Disk.told c.args.disk.now) (g.D.Disk.told c.loop-next.disk)
     (g.D.Disk.faults c.args.disk.now) (g.D.Disk.faults c.loop-next.disk) c.args.records.now c.loop-next.records c.args.part.now
     c.args.query.now.from c.args.query.now.to c.loop-next.seen n) c.in-Some.is c.loop-next.invariant) c.get-entry.result c.get-entry.ensures.entry
-    c.in_err-read_window.field-0.0 c.in_err-read_window.ensures.window (λ (s : Stream). answer_of c.args.query.now s.windows))
+    c.in_err-read_window.field-0.0 c.in_err-read_window.ensures.window (λ (s : Stream). answer_of c.args.query.now s))
 
 pub returns-then-window-seen-clause-answer : goal.returns-then-window-seen-clause-answer
 returns-then-window-seen-clause-answer g c =
@@ -99,5 +103,26 @@ returns-clause-answer g c = λ told others s held.
     (g.D.Disk.faults c.args.disk.now) (g.D.Disk.faults c.loop-next.disk) c.args.records.now c.loop-next.records c.args.part.now
     c.args.query.now.from c.args.query.now.to c.loop-next.seen n) c.in_default.is c.loop-next.invariant in
     c.outcome_seen.ensures
-    ∙ outcome-seen c.args.query.now.kind c.args.query.now.from c.args.query.now.to c.loop-next.seen s.windows
-    (read-all c.args.part.now c.args.query.now.from c.args.query.now.to c.loop-next.seen asking.line s (asking.left told others s held))
+    ∙ outcome-all c.args.query.now.kind c.args.part.now c.args.query.now.from c.args.query.now.to c.loop-next.seen asking.line s held.agrees.landmarks
+    (asking.left told others s held)
+
+pub with_window-seen-requires-clause-free : goal.with_window-seen-requires-clause-free
+with_window-seen-requires-clause-free g c = c.in_ok-read_window.ensures.free
+
+pub outcome_seen-requires : goal.outcome_seen-requires
+outcome_seen-requires g c =
+    let asking = (subst (λ n. IsAsking (g.D.Disk.tells c.args.disk.now) (g.D.Disk.tells c.loop-next.disk) (g.D.Disk.told c.args.disk.now) (g.D.Disk.told c.loop-next.disk)
+    (g.D.Disk.faults c.args.disk.now) (g.D.Disk.faults c.loop-next.disk) c.args.records.now c.loop-next.records c.args.part.now
+    c.args.query.now.from c.args.query.now.to c.loop-next.seen n) c.in_default.is c.loop-next.invariant) in
+    subst IsFewMarked (sym asking.line.seen_is.marked)
+    (IsFewMarked-in c.args.part.now.landmarks c.args.query.now.from c.args.query.now.to c.count-known.ensures.state)
+
+pub returns-in_err-read_window-clause-changed : goal.returns-in_err-read_window-clause-changed
+returns-in_err-read_window-clause-changed g c =
+    let p = err_from_is_err_and c.from_residual.result c.from_residual.ensures.1 in
+    rw (p.1, p.2)
+    (changed-window Figures Outcome c.in_err-read_window.field-0.0 c.get-entry.result.slot (window_slots_of c.args.part.now) c.in_err-read_window.ensures.changed
+    (Contains-slot c.args.part.now c.in-Some.at c.get-entry.result c.get-entry.ensures.entry))
+
+pub returns-then-window-seen-clause-changed : goal.returns-then-window-seen-clause-changed
+returns-then-window-seen-clause-changed g c = Contains-slot c.args.part.now c.in-Some.at c.get-entry.result c.get-entry.ensures.entry

@@ -1,8 +1,9 @@
-use Rattle.std.proofs.Common.{arith}
-use Rattle.ss_store.proofs.Answering.{times_inside-all}
+use Rattle.std.proofs.Common.{◌∙◌}
+use Rattle.ss_store.proofs.SplitLemmas.{times_inside-free}
 use Rattle.ss_store.proofs.asking.times_inside.Goals as goal
 
-pub returns-clause-value : goal.returns-clause-value
-returns-clause-value c =
-    let all = times_inside-all c.args.query.now.from c.args.query.now.to c.args.first c.args.last in
-    omega (arith, all)
+pub returns : goal.returns
+returns c =
+    c.free.ensures
+    ∙ times_inside-free c.args.landmarks.now.landmarks c.args.query.now.from c.args.query.now.to c.args.first c.args.last c.max-begin.result c.min-end.result
+    c.max-begin.ensures c.min-end.ensures

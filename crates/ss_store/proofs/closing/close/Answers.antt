@@ -15,7 +15,7 @@ pub loop-left-init : goal.loop-left-init
 loop-left-init g c = record {
   joins = λ told. JoinsEach-none c.args.part.now (g.D.Disk.told c.args.disk.now) (g.met.D.Disk.knows_now c.args.disk.now told);
   one_disk = c.requires.one_disk;
-  same = record { id = refl; name = refl; target = refl; slot = refl };
+  same = record { id = refl; name = refl; target = refl; slot = refl; landmarks = refl };
   last_time = refl;
   values = refl;
   tiles = c.requires.tiles;

@@ -112,7 +112,7 @@ pub returns-clause-joins : goal.returns-clause-joins
 returns-clause-joins g c = λ told others s.
     Turns-answers (IsHeldIn others c.args.part.now s) (IsPartlyJoined others s) _ (g.D.Disk.told c.args.disk.now) (g.D.Disk.told c.replace_two.new.disk) c.in_ok-replace_two.field-0 _
     (Turns-join others c.args.part.now (record c.args.part.now { line = c.cut_out.new.self }) s c.get-window.result c.get-next.result
-    (record { id = refl; name = refl; target = refl; slot = refl; last_time = refl }) (line g c)
+    (record { id = refl; name = refl; target = refl; slot = refl; last_time = refl; landmarks = refl }) (line g c)
     (g.D.Disk.told c.args.disk.now) (g.D.Disk.told c.read_joined.new.disk) (g.D.Disk.told c.replace_two.new.disk) c.in_ok-read_joined.field-0 _
     (g.met.D.Disk.knows_now c.args.disk.now told) (c.read_joined.ensures.reads told) (c.in_ok-read_joined.ensures.joined told)
     (c.in_ok-replace_two.ensures.replaces (subst (λ b. IsTrue b) (sym c.read_joined.ensures.tells) told)))
@@ -133,7 +133,7 @@ returns-clause-fewer g c = (line g c).fewer
 pub returns-clause-live : goal.returns-clause-live
 returns-clause-live g c =
     let new = record c.args.part.now { line = c.cut_out.new.self } in
-    let slots = AreSlots-joined (lengths_of (params_of c.args.part.now.target)) (values_held (entries_of c.args.part.now)) c.args.part.now new c.get-window.result c.get-next.result refl (line g c) in
+    let slots = AreSlots-joined (lengths_of (params_of c.args.part.now.target)) (values_held (entries_of c.args.part.now)) c.args.part.now new c.get-window.result c.get-next.result refl refl (line g c) in
     LiveSlotsGo-two c.args.part.now new c.get-window.result c.get-next.result c.args.records.now.live c.replace_two.new.records.live slots
     (subst (λ live. LiveSlotsGo (c.get-window.result.slot ∷ c.get-next.result.slot ∷ []) (c.get-window.result.slot ∷ []) live c.replace_two.new.records.live) c.read_joined.ensures.live
     c.in_ok-replace_two.ensures.live)

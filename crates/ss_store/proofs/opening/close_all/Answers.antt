@@ -6,7 +6,7 @@ use Rattle.ss_journal.proofs.TearLemmas.{on_err}
 use Rattle.ss_model.specs.ClosedState.{closed_state}
 use Rattle.ss_store.specs.Kept.{entry_of}
 use Rattle.ss_store.specs.Recover.{Recovers}
-use Rattle.ss_store.proofs.Among.{AreWhole-at, AreWhole-set, length-AllAgree}
+use Rattle.ss_store.proofs.Among.{AreWhole-at, AreWhole-set, IsNoEarlier-same, length-AllAgree}
 use Rattle.ss_store.proofs.Calls.{Turns-failed}
 use Rattle.ss_store.proofs.ClosingAll.{AreHeldIn, ClosesFirst-more, ClosesFirst-none, Turns-all, Turns-open, closed_until, firm-ClosesFirst}
 use Rattle.ss_store.proofs.OneOfMany.{map-set_same}
@@ -88,7 +88,7 @@ loop-place-preserved g c =
     let after = c.in_ok-close.ensures in
     record {
       settled = after.settled;
-      whole = AreWhole-set now c.loop-place.records.live c.close.new.records.live place part new before.whole at same after.tiles after.live;
+      whole = AreWhole-set now c.loop-place.records.live c.close.new.records.live place part new before.whole at same (IsNoEarlier-same part.last_time new.last_time c.close.ensures.last_time) after.tiles after.live;
       entries = map-set_same entry_of now place part new at (λ i. (same.name i, same.id i)) ∙ before.entries;
       tells = after.tells ∙ before.tells;
       faults = after.cause ∙ before.faults;

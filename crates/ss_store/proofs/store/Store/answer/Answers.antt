@@ -1,10 +1,12 @@
 use Rattle.std.proofs.Common.{◌≡◌, ◌∙◌, sym, subst, ap, Some}
 use Rattle.std.specs.Prelude.{IsSome, slice_get}
+use Rattle.std.specs.List.{Contains}
 use Rattle.std.specs.List.Sorted.{IsStrictlyIncreasing}
 use Rattle.ss_model.specs.declared.outcome.Outcome.{Outcome}
+use Rattle.ss_store.specs.Asked.{window_slots_of}
 use Rattle.ss_store.specs.Kept.{StoreState, numbers_held, part_named, part_numbered}
 use Rattle.ss_store.proofs.Among.{AreWhole-at}
-use Rattle.ss_store.proofs.AskedStreams.{firm-kept, outcome-kept, read-at}
+use Rattle.ss_store.proofs.AskedStreams.{ask-changed, firm-kept, outcome-kept, read-at}
 use Rattle.ss_store.proofs.store.Store.answer.Goals as goal
 
 pub place_of-requires-clause-rising : goal.place_of-requires-clause-rising
@@ -50,3 +52,16 @@ returns-clause-firm g c told =
     let content = (g.D.Disk.told c.args.disk.now).content in
     firm-kept Outcome c.args.self.now content (c.requires.one_disk told) c.args.query.now read named c.in-Err.fault c.from-error.result (c.in-Err.ensures.answer told)
     c.from-error.ensures
+
+pub returns-clause-changed : goal.returns-clause-changed
+returns-clause-changed g c =
+    let id = c.args.id.0 in
+    let items = c.self.inside.streams.items in
+    let read = c.index-stream.result.now in
+    let at : slice_get items c.place_of.result ≡ part_numbered id items =
+    subst (λ l. slice_get l c.place_of.result ≡ part_numbered id l) c.deref.ensures.value c.place_of.ensures.at in
+    let stands : IsSome (part_numbered id items) = subst (λ (s : StoreState). IsSome (part_numbered id s.streams)) (sym c.self.view_is) c.requires.stands in
+    let numbered : part_numbered id items ≡ Some read = read-at items c.place_of.result (part_numbered id items) read at stands c.index-stream.ensures in
+    let named : part_named c.args.query.now.name c.args.self.now.streams ≡ Some read =
+    sym c.requires.same ∙ subst (λ (s : StoreState). part_numbered id s.streams ≡ Some read) c.self.view_is numbered in
+    rw named (ask-changed Outcome Outcome (Contains (window_slots_of read)) c.in-Err.fault c.from-error.result c.in-Err.ensures.changed c.from-error.ensures)

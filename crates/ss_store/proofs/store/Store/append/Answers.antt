@@ -7,9 +7,10 @@ use Rattle.ss_model.specs.declared.types.Ack.{Ack}
 use Rattle.ss_recover.specs.Held.{entries_of}
 use Rattle.ss_recover.specs.declared.parts.StreamParts.{StreamParts}
 use Rattle.ss_store.specs.Admitted.{IsTaker}
-use Rattle.ss_store.specs.Held.{IsSameStream, values_held}
+use Rattle.ss_store.specs.Held.{values_held}
+use Rattle.ss_store.proofs.Among.{IsNoEarlier-past}
 use Rattle.ss_store.specs.Kept.{IsKept, StoreState, refuses_held}
-use Rattle.ss_store.proofs.Appended.{AreWhole-IsSpared, IsApplyFirm-fault, IsKept-IsSpared, IsKept-appended, IsSound-set, IsSpared, SameButSpare-IsSpared, StepsState-appended, held-before, live-IsSpared, others, pair, part-read, said_of_taker, same-spared, tiles-IsSpared, whole-appended}
+use Rattle.ss_store.proofs.Appended.{AreWhole-IsSpared, IsApplyFirm-fault, IsKept-IsSpared, IsKept-appended, IsSound-set, IsSpared, IsSpared-line, SameButSpare-IsSpared, StepsState-appended, held-taker, live-IsSpared, others, pair, part-read, said_of_set, tiles-IsSpared, whole-appended}
 use Rattle.ss_store.proofs.Decays.{KeepsToTarget-taken}
 use Rattle.ss_store.proofs.Stepping.{StepsState-answers, StepsState-failed}
 use Rattle.ss_store.proofs.store.Store.append.Goals as goal
@@ -22,21 +23,14 @@ invariant_of-self g c =
     let runs : store.stopped ≡ false = ap (λ (s : StoreState). s.stopped) c.self.view_is ∙ c.requires.runs in
     let was = c.index_mut-stream.result.now in
     let is : taker.part ≡ was = part-read store.streams c.in-Ok.taker.0 taker.part was taker.at c.index_mut-stream.ensures.value in
-    let spared : StreamParts = record {
-      id = was.id;
-      name = was.name;
-      target = was.target;
-      slot = was.slot;
-      last_time = was.last_time;
-      line = c.reserve.new.self;
-    } in
-    let entries : spared.line.entries ≡ was.line.entries = c.reserve.ensures.entries in
+    let spared : StreamParts = record was { line = c.reserve.new.self } in
+    let entries : c.reserve.new.self.entries ≡ was.line.entries = c.reserve.ensures.entries in
     let room : IsSpared taker.part spared =
-    subst (λ (p : StreamParts). IsSpared p spared) (sym is)
-    (record { same = record { id = refl; name = refl; target = refl; slot = refl }; last_time = refl; entries = entries; spare = c.reserve.ensures.grows }) in
+    IsSpared-line store c.in-Ok.taker.0 taker.part was is taker.at (c.self.invariant.whole runs) c.reserve.new.self entries c.reserve.ensures.grows in
     let at = taker.at in
     let whole = c.self.invariant.whole runs in
-    IsSound-set store c.self.inside.catalog c.self.invariant c.in-Ok.taker.0 taker.part spared at room.same store.records store.stopped
+    IsSound-set store c.self.inside.catalog c.self.invariant c.in-Ok.taker.0 taker.part spared at (ap (λ (p : StreamParts). p.id) room.same) (ap (λ (p : StreamParts). p.name) room.same)
+    store.records store.stopped
     (λ run. (c.self.invariant.settled runs, AreWhole-IsSpared store c.in-Ok.taker.0 taker.part spared at room whole))
 
 pub returns-in-Err-reserve-clause-one_disk : goal.returns-in-Err-reserve-clause-one_disk
@@ -47,18 +41,10 @@ returns-in-Err-reserve-clause-one_disk g c told run =
     let runs : store.stopped ≡ false = ap (λ (s : StoreState). s.stopped) c.self.view_is ∙ c.requires.runs in
     let was = c.index_mut-stream.result.now in
     let is : taker.part ≡ was = part-read store.streams c.in-Ok.taker.0 taker.part was taker.at c.index_mut-stream.ensures.value in
-    let spared : StreamParts = record {
-      id = was.id;
-      name = was.name;
-      target = was.target;
-      slot = was.slot;
-      last_time = was.last_time;
-      line = c.reserve.new.self;
-    } in
-    let entries : spared.line.entries ≡ was.line.entries = c.reserve.ensures.entries in
+    let spared : StreamParts = record was { line = c.reserve.new.self } in
+    let entries : c.reserve.new.self.entries ≡ was.line.entries = c.reserve.ensures.entries in
     let room : IsSpared taker.part spared =
-    subst (λ (p : StreamParts). IsSpared p spared) (sym is)
-    (record { same = record { id = refl; name = refl; target = refl; slot = refl }; last_time = refl; entries = entries; spare = c.reserve.ensures.grows }) in
+    IsSpared-line store c.in-Ok.taker.0 taker.part was is taker.at (c.self.invariant.whole runs) c.reserve.new.self entries c.reserve.ensures.grows in
     let at = taker.at in
     let kept : IsKept store (g.D.Disk.told c.args.disk.now).content =
     subst (λ (s : StoreState). IsKept s (g.D.Disk.told c.args.disk.now).content) (sym c.self.view_is) (c.requires.one_disk told) in
@@ -72,18 +58,10 @@ returns-in-Err-reserve-clause-starved g c starved =
     let runs : store.stopped ≡ false = ap (λ (s : StoreState). s.stopped) c.self.view_is ∙ c.requires.runs in
     let was = c.index_mut-stream.result.now in
     let is : taker.part ≡ was = part-read store.streams c.in-Ok.taker.0 taker.part was taker.at c.index_mut-stream.ensures.value in
-    let spared : StreamParts = record {
-      id = was.id;
-      name = was.name;
-      target = was.target;
-      slot = was.slot;
-      last_time = was.last_time;
-      line = c.reserve.new.self;
-    } in
-    let entries : spared.line.entries ≡ was.line.entries = c.reserve.ensures.entries in
+    let spared : StreamParts = record was { line = c.reserve.new.self } in
+    let entries : c.reserve.new.self.entries ≡ was.line.entries = c.reserve.ensures.entries in
     let room : IsSpared taker.part spared =
-    subst (λ (p : StreamParts). IsSpared p spared) (sym is)
-    (record { same = record { id = refl; name = refl; target = refl; slot = refl }; last_time = refl; entries = entries; spare = c.reserve.ensures.grows }) in
+    IsSpared-line store c.in-Ok.taker.0 taker.part was is taker.at (c.self.invariant.whole runs) c.reserve.new.self entries c.reserve.ensures.grows in
     let at = taker.at in
     rw (← c.self.view_is) (SameButSpare-IsSpared store c.in-Ok.taker.0 taker.part spared at room)
 
@@ -95,18 +73,10 @@ append-requires-clause-room g c =
     let runs : store.stopped ≡ false = ap (λ (s : StoreState). s.stopped) c.self.view_is ∙ c.requires.runs in
     let was = c.index_mut-stream.result.now in
     let is : taker.part ≡ was = part-read store.streams c.in-Ok.taker.0 taker.part was taker.at c.index_mut-stream.ensures.value in
-    let spared : StreamParts = record {
-      id = was.id;
-      name = was.name;
-      target = was.target;
-      slot = was.slot;
-      last_time = was.last_time;
-      line = c.reserve.new.self;
-    } in
-    let entries : spared.line.entries ≡ was.line.entries = c.reserve.ensures.entries in
+    let spared : StreamParts = record was { line = c.reserve.new.self } in
+    let entries : c.reserve.new.self.entries ≡ was.line.entries = c.reserve.ensures.entries in
     let room : IsSpared taker.part spared =
-    subst (λ (p : StreamParts). IsSpared p spared) (sym is)
-    (record { same = record { id = refl; name = refl; target = refl; slot = refl }; last_time = refl; entries = entries; spare = c.reserve.ensures.grows }) in
+    IsSpared-line store c.in-Ok.taker.0 taker.part was is taker.at (c.self.invariant.whole runs) c.reserve.new.self entries c.reserve.ensures.grows in
     let at = taker.at in
     let before : values_held (entries_of was) < MOST_VALUES = subst (λ (p : StreamParts). values_held (entries_of p) < MOST_VALUES) is taker.room in
     rw entries before
@@ -119,18 +89,10 @@ append-requires-clause-later g c =
     let runs : store.stopped ≡ false = ap (λ (s : StoreState). s.stopped) c.self.view_is ∙ c.requires.runs in
     let was = c.index_mut-stream.result.now in
     let is : taker.part ≡ was = part-read store.streams c.in-Ok.taker.0 taker.part was taker.at c.index_mut-stream.ensures.value in
-    let spared : StreamParts = record {
-      id = was.id;
-      name = was.name;
-      target = was.target;
-      slot = was.slot;
-      last_time = was.last_time;
-      line = c.reserve.new.self;
-    } in
-    let entries : spared.line.entries ≡ was.line.entries = c.reserve.ensures.entries in
+    let spared : StreamParts = record was { line = c.reserve.new.self } in
+    let entries : c.reserve.new.self.entries ≡ was.line.entries = c.reserve.ensures.entries in
     let room : IsSpared taker.part spared =
-    subst (λ (p : StreamParts). IsSpared p spared) (sym is)
-    (record { same = record { id = refl; name = refl; target = refl; slot = refl }; last_time = refl; entries = entries; spare = c.reserve.ensures.grows }) in
+    IsSpared-line store c.in-Ok.taker.0 taker.part was is taker.at (c.self.invariant.whole runs) c.reserve.new.self entries c.reserve.ensures.grows in
     let at = taker.at in
     ap (λ (p : StreamParts). is_past p.last_time c.args.t) (sym is) ∙ taker.later
 
@@ -142,18 +104,10 @@ append-requires-clause-tiles g c =
     let runs : store.stopped ≡ false = ap (λ (s : StoreState). s.stopped) c.self.view_is ∙ c.requires.runs in
     let was = c.index_mut-stream.result.now in
     let is : taker.part ≡ was = part-read store.streams c.in-Ok.taker.0 taker.part was taker.at c.index_mut-stream.ensures.value in
-    let spared : StreamParts = record {
-      id = was.id;
-      name = was.name;
-      target = was.target;
-      slot = was.slot;
-      last_time = was.last_time;
-      line = c.reserve.new.self;
-    } in
-    let entries : spared.line.entries ≡ was.line.entries = c.reserve.ensures.entries in
+    let spared : StreamParts = record was { line = c.reserve.new.self } in
+    let entries : c.reserve.new.self.entries ≡ was.line.entries = c.reserve.ensures.entries in
     let room : IsSpared taker.part spared =
-    subst (λ (p : StreamParts). IsSpared p spared) (sym is)
-    (record { same = record { id = refl; name = refl; target = refl; slot = refl }; last_time = refl; entries = entries; spare = c.reserve.ensures.grows }) in
+    IsSpared-line store c.in-Ok.taker.0 taker.part was is taker.at (c.self.invariant.whole runs) c.reserve.new.self entries c.reserve.ensures.grows in
     let at = taker.at in
     let whole = c.self.invariant.whole runs in
     tiles-IsSpared store c.in-Ok.taker.0 taker.part spared at room whole
@@ -166,18 +120,10 @@ append-requires-clause-live g c =
     let runs : store.stopped ≡ false = ap (λ (s : StoreState). s.stopped) c.self.view_is ∙ c.requires.runs in
     let was = c.index_mut-stream.result.now in
     let is : taker.part ≡ was = part-read store.streams c.in-Ok.taker.0 taker.part was taker.at c.index_mut-stream.ensures.value in
-    let spared : StreamParts = record {
-      id = was.id;
-      name = was.name;
-      target = was.target;
-      slot = was.slot;
-      last_time = was.last_time;
-      line = c.reserve.new.self;
-    } in
-    let entries : spared.line.entries ≡ was.line.entries = c.reserve.ensures.entries in
+    let spared : StreamParts = record was { line = c.reserve.new.self } in
+    let entries : c.reserve.new.self.entries ≡ was.line.entries = c.reserve.ensures.entries in
     let room : IsSpared taker.part spared =
-    subst (λ (p : StreamParts). IsSpared p spared) (sym is)
-    (record { same = record { id = refl; name = refl; target = refl; slot = refl }; last_time = refl; entries = entries; spare = c.reserve.ensures.grows }) in
+    IsSpared-line store c.in-Ok.taker.0 taker.part was is taker.at (c.self.invariant.whole runs) c.reserve.new.self entries c.reserve.ensures.grows in
     let at = taker.at in
     let whole = c.self.invariant.whole runs in
     live-IsSpared store c.in-Ok.taker.0 taker.part spared at room whole
@@ -190,25 +136,20 @@ invariant_of-self-in-Ok-append g c =
     let runs : store.stopped ≡ false = ap (λ (s : StoreState). s.stopped) c.self.view_is ∙ c.requires.runs in
     let was = c.index_mut-stream.result.now in
     let is : taker.part ≡ was = part-read store.streams c.in-Ok.taker.0 taker.part was taker.at c.index_mut-stream.ensures.value in
-    let spared : StreamParts = record {
-      id = was.id;
-      name = was.name;
-      target = was.target;
-      slot = was.slot;
-      last_time = was.last_time;
-      line = c.reserve.new.self;
-    } in
-    let entries : spared.line.entries ≡ was.line.entries = c.reserve.ensures.entries in
+    let spared : StreamParts = record was { line = c.reserve.new.self } in
+    let entries : c.reserve.new.self.entries ≡ was.line.entries = c.reserve.ensures.entries in
     let room : IsSpared taker.part spared =
-    subst (λ (p : StreamParts). IsSpared p spared) (sym is)
-    (record { same = record { id = refl; name = refl; target = refl; slot = refl }; last_time = refl; entries = entries; spare = c.reserve.ensures.grows }) in
+    IsSpared-line store c.in-Ok.taker.0 taker.part was is taker.at (c.self.invariant.whole runs) c.reserve.new.self entries c.reserve.ensures.grows in
     let at = taker.at in
     let whole = c.self.invariant.whole runs in
-    let same : IsSameStream taker.part c.append.new.part = same-spared taker.part spared c.append.new.part room c.append.ensures.same in
-    IsSound-set store c.self.inside.catalog c.self.invariant c.in-Ok.taker.0 taker.part c.append.new.part at same c.append.new.records store.stopped
+    let same_id : c.append.new.part.id ≡ taker.part.id = c.append.ensures.same.id ∙ ap (λ (p : StreamParts). p.id) room.same in
+    let same : c.append.new.part.name ≡ taker.part.name = c.append.ensures.same.name ∙ ap (λ (p : StreamParts). p.name) room.same in
+    IsSound-set store c.self.inside.catalog c.self.invariant c.in-Ok.taker.0 taker.part c.append.new.part at same_id same c.append.new.records store.stopped
     (λ run. (
       c.in-Ok-append.ensures.settled,
-      whole-appended store c.in-Ok.taker.0 taker.part spared c.append.new.part c.append.new.records at room whole same c.in-Ok-append.ensures.tiles c.in-Ok-append.ensures.live,
+      whole-appended store c.in-Ok.taker.0 taker.part spared c.append.new.part c.append.new.records at room whole c.append.ensures.same
+          (IsNoEarlier-past was.last_time c.append.new.part.last_time c.args.t c.in-Ok-append.ensures.last_time
+          (ap (λ (p : StreamParts). is_past p.last_time c.args.t) (sym is) ∙ taker.later)) c.in-Ok-append.ensures.tiles c.in-Ok-append.ensures.live,
     ))
 
 pub invariant_of-self-in-Err-append : goal.invariant_of-self-in-Err-append
@@ -219,21 +160,14 @@ invariant_of-self-in-Err-append g c =
     let runs : store.stopped ≡ false = ap (λ (s : StoreState). s.stopped) c.self.view_is ∙ c.requires.runs in
     let was = c.index_mut-stream.result.now in
     let is : taker.part ≡ was = part-read store.streams c.in-Ok.taker.0 taker.part was taker.at c.index_mut-stream.ensures.value in
-    let spared : StreamParts = record {
-      id = was.id;
-      name = was.name;
-      target = was.target;
-      slot = was.slot;
-      last_time = was.last_time;
-      line = c.reserve.new.self;
-    } in
-    let entries : spared.line.entries ≡ was.line.entries = c.reserve.ensures.entries in
+    let spared : StreamParts = record was { line = c.reserve.new.self } in
+    let entries : c.reserve.new.self.entries ≡ was.line.entries = c.reserve.ensures.entries in
     let room : IsSpared taker.part spared =
-    subst (λ (p : StreamParts). IsSpared p spared) (sym is)
-    (record { same = record { id = refl; name = refl; target = refl; slot = refl }; last_time = refl; entries = entries; spare = c.reserve.ensures.grows }) in
+    IsSpared-line store c.in-Ok.taker.0 taker.part was is taker.at (c.self.invariant.whole runs) c.reserve.new.self entries c.reserve.ensures.grows in
     let at = taker.at in
-    let same : IsSameStream taker.part c.append.new.part = same-spared taker.part spared c.append.new.part room c.append.ensures.same in
-    IsSound-set store c.self.inside.catalog c.self.invariant c.in-Ok.taker.0 taker.part c.append.new.part at same c.append.new.records true
+    let same_id : c.append.new.part.id ≡ taker.part.id = c.append.ensures.same.id ∙ ap (λ (p : StreamParts). p.id) room.same in
+    let same : c.append.new.part.name ≡ taker.part.name = c.append.ensures.same.name ∙ ap (λ (p : StreamParts). p.name) room.same in
+    IsSound-set store c.self.inside.catalog c.self.invariant c.in-Ok.taker.0 taker.part c.append.new.part at same_id same c.append.new.records true
     (λ run. let wrong : true ≡ false = run in cc)
 
 pub returns-in-Ok-append-clause-step : goal.returns-in-Ok-append-clause-step
@@ -244,18 +178,10 @@ returns-in-Ok-append-clause-step g c told =
     let runs : store.stopped ≡ false = ap (λ (s : StoreState). s.stopped) c.self.view_is ∙ c.requires.runs in
     let was = c.index_mut-stream.result.now in
     let is : taker.part ≡ was = part-read store.streams c.in-Ok.taker.0 taker.part was taker.at c.index_mut-stream.ensures.value in
-    let spared : StreamParts = record {
-      id = was.id;
-      name = was.name;
-      target = was.target;
-      slot = was.slot;
-      last_time = was.last_time;
-      line = c.reserve.new.self;
-    } in
-    let entries : spared.line.entries ≡ was.line.entries = c.reserve.ensures.entries in
+    let spared : StreamParts = record was { line = c.reserve.new.self } in
+    let entries : c.reserve.new.self.entries ≡ was.line.entries = c.reserve.ensures.entries in
     let room : IsSpared taker.part spared =
-    subst (λ (p : StreamParts). IsSpared p spared) (sym is)
-    (record { same = record { id = refl; name = refl; target = refl; slot = refl }; last_time = refl; entries = entries; spare = c.reserve.ensures.grows }) in
+    IsSpared-line store c.in-Ok.taker.0 taker.part was is taker.at (c.self.invariant.whole runs) c.reserve.new.self entries c.reserve.ensures.grows in
     let at = taker.at in
     let kept : IsKept store (g.D.Disk.told c.args.disk.now).content =
     subst (λ (s : StoreState). IsKept s (g.D.Disk.told c.args.disk.now).content) (sym c.self.view_is) (c.requires.one_disk told) in
@@ -275,18 +201,10 @@ returns-clause-step g c told =
     let runs : store.stopped ≡ false = ap (λ (s : StoreState). s.stopped) c.self.view_is ∙ c.requires.runs in
     let was = c.index_mut-stream.result.now in
     let is : taker.part ≡ was = part-read store.streams c.in-Ok.taker.0 taker.part was taker.at c.index_mut-stream.ensures.value in
-    let spared : StreamParts = record {
-      id = was.id;
-      name = was.name;
-      target = was.target;
-      slot = was.slot;
-      last_time = was.last_time;
-      line = c.reserve.new.self;
-    } in
-    let entries : spared.line.entries ≡ was.line.entries = c.reserve.ensures.entries in
+    let spared : StreamParts = record was { line = c.reserve.new.self } in
+    let entries : c.reserve.new.self.entries ≡ was.line.entries = c.reserve.ensures.entries in
     let room : IsSpared taker.part spared =
-    subst (λ (p : StreamParts). IsSpared p spared) (sym is)
-    (record { same = record { id = refl; name = refl; target = refl; slot = refl }; last_time = refl; entries = entries; spare = c.reserve.ensures.grows }) in
+    IsSpared-line store c.in-Ok.taker.0 taker.part was is taker.at (c.self.invariant.whole runs) c.reserve.new.self entries c.reserve.ensures.grows in
     let at = taker.at in
     let kept : IsKept store (g.D.Disk.told c.args.disk.now).content =
     subst (λ (s : StoreState). IsKept s (g.D.Disk.told c.args.disk.now).content) (sym c.self.view_is) (c.requires.one_disk told) in
@@ -306,18 +224,10 @@ returns-in-Ok-append-clause-one_disk g c told run =
     let runs : store.stopped ≡ false = ap (λ (s : StoreState). s.stopped) c.self.view_is ∙ c.requires.runs in
     let was = c.index_mut-stream.result.now in
     let is : taker.part ≡ was = part-read store.streams c.in-Ok.taker.0 taker.part was taker.at c.index_mut-stream.ensures.value in
-    let spared : StreamParts = record {
-      id = was.id;
-      name = was.name;
-      target = was.target;
-      slot = was.slot;
-      last_time = was.last_time;
-      line = c.reserve.new.self;
-    } in
-    let entries : spared.line.entries ≡ was.line.entries = c.reserve.ensures.entries in
+    let spared : StreamParts = record was { line = c.reserve.new.self } in
+    let entries : c.reserve.new.self.entries ≡ was.line.entries = c.reserve.ensures.entries in
     let room : IsSpared taker.part spared =
-    subst (λ (p : StreamParts). IsSpared p spared) (sym is)
-    (record { same = record { id = refl; name = refl; target = refl; slot = refl }; last_time = refl; entries = entries; spare = c.reserve.ensures.grows }) in
+    IsSpared-line store c.in-Ok.taker.0 taker.part was is taker.at (c.self.invariant.whole runs) c.reserve.new.self entries c.reserve.ensures.grows in
     let at = taker.at in
     let kept : IsKept store (g.D.Disk.told c.args.disk.now).content =
     subst (λ (s : StoreState). IsKept s (g.D.Disk.told c.args.disk.now).content) (sym c.self.view_is) (c.requires.one_disk told) in
@@ -327,7 +237,7 @@ returns-in-Ok-append-clause-one_disk g c told run =
     let s = (pair store (g.D.Disk.told c.args.disk.now).content kept c.args.name.now c.args.t c.args.v c.in-Ok.taker.0 c.in-Ok.taker.1 taker none (c.requires.in_time, c.ranges.v)).stream in
     IsKept-appended store (g.D.Disk.told c.args.disk.now).content kept c.args.name.now c.args.t c.args.v c.in-Ok.taker.0 c.in-Ok.taker.1 taker none (c.requires.in_time, c.ranges.v) spared c.append.new.part room c.append.new.records store.stopped (g.D.Disk.told c.append.new.disk).content
     (c.in-Ok-append.ensures.one_disk told)
-    ((rw (to_z-of_z w64 c.args.v c.ranges.v) at (c.in-Ok-append.ensures.appends told others_now s)).content (held-before store (g.D.Disk.told c.args.disk.now).content kept c.args.name.now c.args.t c.args.v c.in-Ok.taker.0 c.in-Ok.taker.1 taker none (c.requires.in_time, c.ranges.v) spared c.append.new.part room))
+    ((rw (to_z-of_z w64 c.args.v c.ranges.v) at (c.in-Ok-append.ensures.appends told others_now s)).content (held-taker store (g.D.Disk.told c.args.disk.now).content kept c.args.name.now c.args.t c.args.v c.in-Ok.taker.0 c.in-Ok.taker.1 taker none (c.requires.in_time, c.ranges.v) spared c.append.new.part room))
 
 pub returns-in-Ok-append-clause-ack : goal.returns-in-Ok-append-clause-ack
 returns-in-Ok-append-clause-ack g c =
@@ -337,22 +247,15 @@ returns-in-Ok-append-clause-ack g c =
     let runs : store.stopped ≡ false = ap (λ (s : StoreState). s.stopped) c.self.view_is ∙ c.requires.runs in
     let was = c.index_mut-stream.result.now in
     let is : taker.part ≡ was = part-read store.streams c.in-Ok.taker.0 taker.part was taker.at c.index_mut-stream.ensures.value in
-    let spared : StreamParts = record {
-      id = was.id;
-      name = was.name;
-      target = was.target;
-      slot = was.slot;
-      last_time = was.last_time;
-      line = c.reserve.new.self;
-    } in
-    let entries : spared.line.entries ≡ was.line.entries = c.reserve.ensures.entries in
+    let spared : StreamParts = record was { line = c.reserve.new.self } in
+    let entries : c.reserve.new.self.entries ≡ was.line.entries = c.reserve.ensures.entries in
     let room : IsSpared taker.part spared =
-    subst (λ (p : StreamParts). IsSpared p spared) (sym is)
-    (record { same = record { id = refl; name = refl; target = refl; slot = refl }; last_time = refl; entries = entries; spare = c.reserve.ensures.grows }) in
+    IsSpared-line store c.in-Ok.taker.0 taker.part was is taker.at (c.self.invariant.whole runs) c.reserve.new.self entries c.reserve.ensures.grows in
     let at = taker.at in
-    let same : IsSameStream taker.part c.append.new.part = same-spared taker.part spared c.append.new.part room c.append.ensures.same in
-    said_of_taker store c.self.inside.catalog c.args.name.now c.args.t c.in-Ok.taker.0 c.in-Ok.taker.1 c.append.new.part c.values_held.result c.len.result
-    c.self.invariant taker same.name c.values_held.ensures c.len.ensures.value
+    let same_id : c.append.new.part.id ≡ taker.part.id = c.append.ensures.same.id ∙ ap (λ (p : StreamParts). p.id) room.same in
+    let same : c.append.new.part.name ≡ taker.part.name = c.append.ensures.same.name ∙ ap (λ (p : StreamParts). p.name) room.same in
+    said_of_set c.args.name.now store.streams c.in-Ok.taker.0 taker.part c.append.new.part c.values_held.result c.len.result
+    c.self.invariant.numbers taker.named taker.at same c.values_held.ensures c.len.ensures.value
 
 pub returns-in-Ok-append-clause-decay : goal.returns-in-Ok-append-clause-decay
 returns-in-Ok-append-clause-decay g c =
@@ -362,22 +265,15 @@ returns-in-Ok-append-clause-decay g c =
     let runs : store.stopped ≡ false = ap (λ (s : StoreState). s.stopped) c.self.view_is ∙ c.requires.runs in
     let was = c.index_mut-stream.result.now in
     let is : taker.part ≡ was = part-read store.streams c.in-Ok.taker.0 taker.part was taker.at c.index_mut-stream.ensures.value in
-    let spared : StreamParts = record {
-      id = was.id;
-      name = was.name;
-      target = was.target;
-      slot = was.slot;
-      last_time = was.last_time;
-      line = c.reserve.new.self;
-    } in
-    let entries : spared.line.entries ≡ was.line.entries = c.reserve.ensures.entries in
+    let spared : StreamParts = record was { line = c.reserve.new.self } in
+    let entries : c.reserve.new.self.entries ≡ was.line.entries = c.reserve.ensures.entries in
     let room : IsSpared taker.part spared =
-    subst (λ (p : StreamParts). IsSpared p spared) (sym is)
-    (record { same = record { id = refl; name = refl; target = refl; slot = refl }; last_time = refl; entries = entries; spare = c.reserve.ensures.grows }) in
+    IsSpared-line store c.in-Ok.taker.0 taker.part was is taker.at (c.self.invariant.whole runs) c.reserve.new.self entries c.reserve.ensures.grows in
     let at = taker.at in
-    let same : IsSameStream taker.part c.append.new.part = same-spared taker.part spared c.append.new.part room c.append.ensures.same in
+    let same_id : c.append.new.part.id ≡ taker.part.id = c.append.ensures.same.id ∙ ap (λ (p : StreamParts). p.id) room.same in
+    let same : c.append.new.part.name ≡ taker.part.name = c.append.ensures.same.name ∙ ap (λ (p : StreamParts). p.name) room.same in
     KeepsToTarget-taken store c.self.inside.catalog c.args.name.now c.args.t c.in-Ok.taker.0 c.in-Ok.taker.1 c.append.new.part c.values_held.result c.len.result
-    c.self.invariant taker same.name c.values_held.ensures c.len.ensures.value c.in-Ok-append.ensures.tiles c.in-Ok-append.ensures.none_due
+    c.self.invariant taker same c.values_held.ensures c.len.ensures.value c.in-Ok-append.ensures.tiles c.in-Ok-append.ensures.none_due
 
 pub returns-clause-firm : goal.returns-clause-firm
 returns-clause-firm g c told =
@@ -387,18 +283,10 @@ returns-clause-firm g c told =
     let runs : store.stopped ≡ false = ap (λ (s : StoreState). s.stopped) c.self.view_is ∙ c.requires.runs in
     let was = c.index_mut-stream.result.now in
     let is : taker.part ≡ was = part-read store.streams c.in-Ok.taker.0 taker.part was taker.at c.index_mut-stream.ensures.value in
-    let spared : StreamParts = record {
-      id = was.id;
-      name = was.name;
-      target = was.target;
-      slot = was.slot;
-      last_time = was.last_time;
-      line = c.reserve.new.self;
-    } in
-    let entries : spared.line.entries ≡ was.line.entries = c.reserve.ensures.entries in
+    let spared : StreamParts = record was { line = c.reserve.new.self } in
+    let entries : c.reserve.new.self.entries ≡ was.line.entries = c.reserve.ensures.entries in
     let room : IsSpared taker.part spared =
-    subst (λ (p : StreamParts). IsSpared p spared) (sym is)
-    (record { same = record { id = refl; name = refl; target = refl; slot = refl }; last_time = refl; entries = entries; spare = c.reserve.ensures.grows }) in
+    IsSpared-line store c.in-Ok.taker.0 taker.part was is taker.at (c.self.invariant.whole runs) c.reserve.new.self entries c.reserve.ensures.grows in
     let at = taker.at in
     let kept : IsKept store (g.D.Disk.told c.args.disk.now).content =
     subst (λ (s : StoreState). IsKept s (g.D.Disk.told c.args.disk.now).content) (sym c.self.view_is) (c.requires.one_disk told) in
@@ -407,4 +295,4 @@ returns-clause-firm g c told =
     let others_now = others store (g.D.Disk.told c.args.disk.now).content kept c.args.name.now c.args.t c.args.v c.in-Ok.taker.0 c.in-Ok.taker.1 taker none (c.requires.in_time, c.ranges.v) in
     let s = (pair store (g.D.Disk.told c.args.disk.now).content kept c.args.name.now c.args.t c.args.v c.in-Ok.taker.0 c.in-Ok.taker.1 taker none (c.requires.in_time, c.ranges.v)).stream in
     IsApplyFirm-fault (Unit {0}) Ack c.in-Err-append.fault c.from.result
-    (c.in-Err-append.ensures.firm told others_now s (held-before store (g.D.Disk.told c.args.disk.now).content kept c.args.name.now c.args.t c.args.v c.in-Ok.taker.0 c.in-Ok.taker.1 taker none (c.requires.in_time, c.ranges.v) spared c.append.new.part room)) c.from.ensures
+    (c.in-Err-append.ensures.firm told others_now s (held-taker store (g.D.Disk.told c.args.disk.now).content kept c.args.name.now c.args.t c.args.v c.in-Ok.taker.0 c.in-Ok.taker.1 taker none (c.requires.in_time, c.ranges.v) spared c.append.new.part room)) c.from.ensures

@@ -27,25 +27,72 @@ returns-in-Create-clause-history g c told runs =
     (subst (λ e. CanBeSaid e) (sym is) tt) steps c.create.ensures.uncalled exactly
     (λ streams is_now. AllAgree-recovered c.args.self.now (g.D.Disk.told c.args.disk.now).content streams (c.requires.one_disk told runs) is_now)
 
--- the value as it is handed on, and its range
-back : (g : _) (c : goal.After-append g) → to_z w64 (of_z w64 c.in-Value.v) ≡ c.in-Value.v
-back g c = search rules
+pub returns-then-has_open-clause-refused : goal.returns-then-has_open-clause-refused
+returns-then-has_open-clause-refused g c runs r =
+    let back : to_z w64 (of_z w64 c.in-Value.v) ≡ c.in-Value.v = search rules in
+    let is = c.in-Value.is ∙ ap (λ x. Value c.in-Value.name c.in-Value.t x) (sym back) in
+    subst (λ e. (c.mark.result ≡ Err (Refused r)) ↔ (refuses_held c.args.self.now.streams e ≡ Some r)) (sym is) (c.mark.ensures.refused r)
 
-fits : (g : _) (c : goal.After-append g) → FitsSigned w64 c.in-Value.v
-fits g c = search rules
+pub returns-then-has_open-clause-history : goal.returns-then-has_open-clause-history
+returns-then-has_open-clause-history g c told runs =
+    let back : to_z w64 (of_z w64 c.in-Value.v) ≡ c.in-Value.v = search rules in
+    let fits : FitsSigned w64 c.in-Value.v = search rules in
+    let is = c.in-Value.is ∙ ap (λ x. Value c.in-Value.name c.in-Value.t x) (sym back) in
+    let steps : StepsState c.args.event.now (g.D.Disk.told c.args.disk.now) (g.D.Disk.told c.mark.new.disk) c.mark.result =
+    subst (λ e. StepsState e (g.D.Disk.told c.args.disk.now) (g.D.Disk.told c.mark.new.disk) c.mark.result) (sym is) (c.mark.ensures.step told) in
+    let exactly : IsRefusedBy (refuses_held c.args.self.now.streams c.args.event.now) c.mark.result =
+    subst (λ e. IsRefusedBy (refuses_held c.args.self.now.streams e) c.mark.result) (sym is) c.mark.ensures.refused in
+    AddsEvent-step c.args.event.now g.D.Disk.told c.args.disk.now c.mark.new.disk c.args.self.now.streams c.mark.result (g.met.D.Disk.knows_now c.args.disk.now told)
+    (subst (λ e. CanBeSaid e) (sym c.in-Value.is) (subst (λ e. IsInTime e) c.in-Value.is c.requires.in_time, fits)) steps c.mark.ensures.uncalled exactly
+    (λ streams is_now. AllAgree-recovered c.args.self.now (g.D.Disk.told c.args.disk.now).content streams (c.requires.one_disk told runs) is_now)
 
-pub returns-in-Value-clause-refused : goal.returns-in-Value-clause-refused
-returns-in-Value-clause-refused g c runs r =
-    let is = c.in-Value.is ∙ ap (λ x. Value c.in-Value.name c.in-Value.t x) (sym (back g c)) in
+pub returns-else-has_open-clause-refused : goal.returns-else-has_open-clause-refused
+returns-else-has_open-clause-refused g c runs r =
+    let back : to_z w64 (of_z w64 c.in-Value.v) ≡ c.in-Value.v = search rules in
+    let is = c.in-Value.is ∙ ap (λ x. Value c.in-Value.name c.in-Value.t x) (sym back) in
     subst (λ e. (c.append.result ≡ Err (Refused r)) ↔ (refuses_held c.args.self.now.streams e ≡ Some r)) (sym is) (c.append.ensures.refused r)
 
-pub returns-in-Value-clause-history : goal.returns-in-Value-clause-history
-returns-in-Value-clause-history g c told runs =
-    let is = c.in-Value.is ∙ ap (λ x. Value c.in-Value.name c.in-Value.t x) (sym (back g c)) in
+pub returns-else-has_open-clause-history : goal.returns-else-has_open-clause-history
+returns-else-has_open-clause-history g c told runs =
+    let back : to_z w64 (of_z w64 c.in-Value.v) ≡ c.in-Value.v = search rules in
+    let fits : FitsSigned w64 c.in-Value.v = search rules in
+    let is = c.in-Value.is ∙ ap (λ x. Value c.in-Value.name c.in-Value.t x) (sym back) in
     let steps : StepsState c.args.event.now (g.D.Disk.told c.args.disk.now) (g.D.Disk.told c.append.new.disk) c.append.result =
     subst (λ e. StepsState e (g.D.Disk.told c.args.disk.now) (g.D.Disk.told c.append.new.disk) c.append.result) (sym is) (c.append.ensures.step told) in
     let exactly : IsRefusedBy (refuses_held c.args.self.now.streams c.args.event.now) c.append.result =
     subst (λ e. IsRefusedBy (refuses_held c.args.self.now.streams e) c.append.result) (sym is) c.append.ensures.refused in
     AddsEvent-step c.args.event.now g.D.Disk.told c.args.disk.now c.append.new.disk c.args.self.now.streams c.append.result (g.met.D.Disk.knows_now c.args.disk.now told)
-    (subst (λ e. CanBeSaid e) (sym c.in-Value.is) (subst (λ e. IsInTime e) c.in-Value.is c.requires.in_time, fits g c)) steps c.append.ensures.uncalled exactly
+    (subst (λ e. CanBeSaid e) (sym c.in-Value.is) (subst (λ e. IsInTime e) c.in-Value.is c.requires.in_time, fits)) steps c.append.ensures.uncalled exactly
+    (λ streams is_now. AllAgree-recovered c.args.self.now (g.D.Disk.told c.args.disk.now).content streams (c.requires.one_disk told runs) is_now)
+
+pub returns-in-Open-clause-refused : goal.returns-in-Open-clause-refused
+returns-in-Open-clause-refused g c runs r =
+    let is = c.in-Open.is in
+    subst (λ e. (c.mark-in-Open.result ≡ Err (Refused r)) ↔ (refuses_held c.args.self.now.streams e ≡ Some r)) (sym is) (c.mark-in-Open.ensures.refused r)
+
+pub returns-in-Open-clause-history : goal.returns-in-Open-clause-history
+returns-in-Open-clause-history g c told runs =
+    let is = c.in-Open.is in
+    let steps : StepsState c.args.event.now (g.D.Disk.told c.args.disk.now) (g.D.Disk.told c.mark-in-Open.new.disk) c.mark-in-Open.result =
+    subst (λ e. StepsState e (g.D.Disk.told c.args.disk.now) (g.D.Disk.told c.mark-in-Open.new.disk) c.mark-in-Open.result) (sym is) (c.mark-in-Open.ensures.step told) in
+    let exactly : IsRefusedBy (refuses_held c.args.self.now.streams c.args.event.now) c.mark-in-Open.result =
+    subst (λ e. IsRefusedBy (refuses_held c.args.self.now.streams e) c.mark-in-Open.result) (sym is) c.mark-in-Open.ensures.refused in
+    AddsEvent-step c.args.event.now g.D.Disk.told c.args.disk.now c.mark-in-Open.new.disk c.args.self.now.streams c.mark-in-Open.result (g.met.D.Disk.knows_now c.args.disk.now told)
+    (subst (λ e. CanBeSaid e) (sym is) (subst (λ e. IsInTime e) is c.requires.in_time)) steps c.mark-in-Open.ensures.uncalled exactly
+    (λ streams is_now. AllAgree-recovered c.args.self.now (g.D.Disk.told c.args.disk.now).content streams (c.requires.one_disk told runs) is_now)
+
+pub returns-in-Close-clause-refused : goal.returns-in-Close-clause-refused
+returns-in-Close-clause-refused g c runs r =
+    let is = c.in-Close.is in
+    subst (λ e. (c.mark-in-Close.result ≡ Err (Refused r)) ↔ (refuses_held c.args.self.now.streams e ≡ Some r)) (sym is) (c.mark-in-Close.ensures.refused r)
+
+pub returns-in-Close-clause-history : goal.returns-in-Close-clause-history
+returns-in-Close-clause-history g c told runs =
+    let is = c.in-Close.is in
+    let steps : StepsState c.args.event.now (g.D.Disk.told c.args.disk.now) (g.D.Disk.told c.mark-in-Close.new.disk) c.mark-in-Close.result =
+    subst (λ e. StepsState e (g.D.Disk.told c.args.disk.now) (g.D.Disk.told c.mark-in-Close.new.disk) c.mark-in-Close.result) (sym is) (c.mark-in-Close.ensures.step told) in
+    let exactly : IsRefusedBy (refuses_held c.args.self.now.streams c.args.event.now) c.mark-in-Close.result =
+    subst (λ e. IsRefusedBy (refuses_held c.args.self.now.streams e) c.mark-in-Close.result) (sym is) c.mark-in-Close.ensures.refused in
+    AddsEvent-step c.args.event.now g.D.Disk.told c.args.disk.now c.mark-in-Close.new.disk c.args.self.now.streams c.mark-in-Close.result (g.met.D.Disk.knows_now c.args.disk.now told)
+    (subst (λ e. CanBeSaid e) (sym is) (subst (λ e. IsInTime e) is c.requires.in_time)) steps c.mark-in-Close.ensures.uncalled exactly
     (λ streams is_now. AllAgree-recovered c.args.self.now (g.D.Disk.told c.args.disk.now).content streams (c.requires.one_disk told runs) is_now)

@@ -1,6 +1,5 @@
-use Rattle.std.specs.Prelude.{[]}
 use Rattle.ss_model.specs.Answers.{HoldsTruth, IsExactOutcome}
-use Rattle.ss_model.specs.History.{values_of}
+use Rattle.ss_model.specs.History.{marked_of, values_of}
 use Rattle.ss_model.specs.State.{state}
 use Rattle.ss_model.specs.declared.outcome.Outcome.{Outcome}
 use Rattle.ss_model.proofs.AnswerLemmas.{answer-exact, answer-holds}
@@ -9,7 +8,7 @@ use Rattle.ss_store.proofs.store.Store.ask.Goals as goal
 
 pub returns-in-Ok-clause-truth : goal.returns-in-Ok-clause-truth
 returns-in-Ok-clause-truth g c told history stands =
-    if_ok_weaker c.answer.result (HoldsTruth c.args.query.now (values_of history c.args.query.now.name) []) (c.answer.ensures.answer told (state history) stands.state)
+    if_ok_weaker c.answer.result (HoldsTruth c.args.query.now (values_of history c.args.query.now.name) (marked_of history c.args.query.now.name)) (c.answer.ensures.answer told (state history) stands.state)
     (λ (outcome : Outcome) is. answer-holds history c.args.query.now outcome stands.is_history is)
 
 pub returns-in-Ok-clause-exact : goal.returns-in-Ok-clause-exact

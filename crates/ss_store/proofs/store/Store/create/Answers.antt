@@ -8,7 +8,7 @@ use Rattle.ss_recover.specs.declared.parts.StreamParts.{StreamParts}
 use Rattle.ss_store.specs.Admitted.{IsNew}
 use Rattle.ss_store.specs.Kept.{IsKept, SameButSpare, StoreState, part_named, refuses_held}
 use Rattle.ss_store.specs.Slots.{HasRecords}
-use Rattle.ss_store.proofs.Appended.{NoLessSpare-same}
+use Rattle.ss_store.proofs.Appended.{KeepsSpare-same}
 use Rattle.ss_store.proofs.Created.{IsFreshPart, IsKept-created, IsSound-created, StepsState-created, said_of_created}
 use Rattle.ss_store.proofs.Decays.{KeepsToTarget-none}
 use Rattle.ss_store.proofs.Refusals.{refuses_held-is}
@@ -25,9 +25,10 @@ invariant_of-self-in-Ok-add_record g c =
       slot = c.in-Ok.new.2;
       last_time = None;
       line = c.new.result;
+      landmarks = c.new-2.result;
     } in
     let fresh : IsFreshPart part c.args.name c.args.params =
-    record { name_is = refl; params_are = c.in-Ok.ensures.target; last_time = refl; entries = ap (λ (l : LineState). l.entries) c.new.ensures } in
+    record { name_is = refl; params_are = c.in-Ok.ensures.target; last_time = refl; entries = ap (λ (l : LineState). l.entries) c.new.ensures; landmarks = c.new-2.ensures } in
     let store : StoreState = record { streams = c.self.inside.streams.items; records = c.self.inside.records; stopped = c.self.inside.stopped } in
     let new : IsNew store c.args.name c.args.params c.in-Ok.new.1.0 c.in-Ok.new.2 =
     subst (λ (s : StoreState). IsNew s c.args.name c.args.params c.in-Ok.new.1.0 c.in-Ok.new.2) (sym c.self.view_is) c.in-Ok.ensures.new in
@@ -45,9 +46,10 @@ invariant_of-self-in-Err-add_record g c =
       slot = c.in-Ok.new.2;
       last_time = None;
       line = c.new.result;
+      landmarks = c.new-2.result;
     } in
     let fresh : IsFreshPart part c.args.name c.args.params =
-    record { name_is = refl; params_are = c.in-Ok.ensures.target; last_time = refl; entries = ap (λ (l : LineState). l.entries) c.new.ensures } in
+    record { name_is = refl; params_are = c.in-Ok.ensures.target; last_time = refl; entries = ap (λ (l : LineState). l.entries) c.new.ensures; landmarks = c.new-2.ensures } in
     let store : StoreState = record { streams = c.self.inside.streams.items; records = c.self.inside.records; stopped = c.self.inside.stopped } in
     let new : IsNew store c.args.name c.args.params c.in-Ok.new.1.0 c.in-Ok.new.2 =
     subst (λ (s : StoreState). IsNew s c.args.name c.args.params c.in-Ok.new.1.0 c.in-Ok.new.2) (sym c.self.view_is) c.in-Ok.ensures.new in
@@ -65,9 +67,10 @@ returns-in-Ok-add_record-clause-step g c told =
       slot = c.in-Ok.new.2;
       last_time = None;
       line = c.new.result;
+      landmarks = c.new-2.result;
     } in
     let fresh : IsFreshPart part c.args.name c.args.params =
-    record { name_is = refl; params_are = c.in-Ok.ensures.target; last_time = refl; entries = ap (λ (l : LineState). l.entries) c.new.ensures } in
+    record { name_is = refl; params_are = c.in-Ok.ensures.target; last_time = refl; entries = ap (λ (l : LineState). l.entries) c.new.ensures; landmarks = c.new-2.ensures } in
     let store : StoreState = record { streams = c.self.inside.streams.items; records = c.self.inside.records; stopped = c.self.inside.stopped } in
     let new : IsNew store c.args.name c.args.params c.in-Ok.new.1.0 c.in-Ok.new.2 =
     subst (λ (s : StoreState). IsNew s c.args.name c.args.params c.in-Ok.new.1.0 c.in-Ok.new.2) (sym c.self.view_is) c.in-Ok.ensures.new in
@@ -91,9 +94,10 @@ returns-in-Err-add_record-clause-step g c told =
       slot = c.in-Ok.new.2;
       last_time = None;
       line = c.new.result;
+      landmarks = c.new-2.result;
     } in
     let fresh : IsFreshPart part c.args.name c.args.params =
-    record { name_is = refl; params_are = c.in-Ok.ensures.target; last_time = refl; entries = ap (λ (l : LineState). l.entries) c.new.ensures } in
+    record { name_is = refl; params_are = c.in-Ok.ensures.target; last_time = refl; entries = ap (λ (l : LineState). l.entries) c.new.ensures; landmarks = c.new-2.ensures } in
     let store : StoreState = record { streams = c.self.inside.streams.items; records = c.self.inside.records; stopped = c.self.inside.stopped } in
     let new : IsNew store c.args.name c.args.params c.in-Ok.new.1.0 c.in-Ok.new.2 =
     subst (λ (s : StoreState). IsNew s c.args.name c.args.params c.in-Ok.new.1.0 c.in-Ok.new.2) (sym c.self.view_is) c.in-Ok.ensures.new in
@@ -117,9 +121,10 @@ returns-in-Ok-add_record-clause-one_disk g c told run =
       slot = c.in-Ok.new.2;
       last_time = None;
       line = c.new.result;
+      landmarks = c.new-2.result;
     } in
     let fresh : IsFreshPart part c.args.name c.args.params =
-    record { name_is = refl; params_are = c.in-Ok.ensures.target; last_time = refl; entries = ap (λ (l : LineState). l.entries) c.new.ensures } in
+    record { name_is = refl; params_are = c.in-Ok.ensures.target; last_time = refl; entries = ap (λ (l : LineState). l.entries) c.new.ensures; landmarks = c.new-2.ensures } in
     let store : StoreState = record { streams = c.self.inside.streams.items; records = c.self.inside.records; stopped = c.self.inside.stopped } in
     let new : IsNew store c.args.name c.args.params c.in-Ok.new.1.0 c.in-Ok.new.2 =
     subst (λ (s : StoreState). IsNew s c.args.name c.args.params c.in-Ok.new.1.0 c.in-Ok.new.2) (sym c.self.view_is) c.in-Ok.ensures.new in
@@ -146,9 +151,10 @@ returns-in-Ok-add_record-clause-ack g c =
       slot = c.in-Ok.new.2;
       last_time = None;
       line = c.new.result;
+      landmarks = c.new-2.result;
     } in
     let fresh : IsFreshPart part c.args.name c.args.params =
-    record { name_is = refl; params_are = c.in-Ok.ensures.target; last_time = refl; entries = ap (λ (l : LineState). l.entries) c.new.ensures } in
+    record { name_is = refl; params_are = c.in-Ok.ensures.target; last_time = refl; entries = ap (λ (l : LineState). l.entries) c.new.ensures; landmarks = c.new-2.ensures } in
     let store : StoreState = record { streams = c.self.inside.streams.items; records = c.self.inside.records; stopped = c.self.inside.stopped } in
     let new : IsNew store c.args.name c.args.params c.in-Ok.new.1.0 c.in-Ok.new.2 =
     subst (λ (s : StoreState). IsNew s c.args.name c.args.params c.in-Ok.new.1.0 c.in-Ok.new.2) (sym c.self.view_is) c.in-Ok.ensures.new in
@@ -161,5 +167,5 @@ returns-in-Ok-add_record-clause-decay g c = KeepsToTarget-none (part_named c.arg
 pub returns-in-Err-grow-clause-starved : goal.returns-in-Err-grow-clause-starved
 returns-in-Err-grow-clause-starved g c starved =
     let store : StoreState = record { streams = c.self.inside.streams.items; records = c.self.inside.records; stopped = c.self.inside.stopped } in
-    let same : SameButSpare store store = record { streams = refl; spares = NoLessSpare-same store.streams; records = refl; stopped = refl } in
+    let same : SameButSpare store store = record { streams = refl; spares = KeepsSpare-same store.streams; records = refl; stopped = refl } in
     rw (← c.self.view_is, c.in-Err-grow.ensures.err_streams) same

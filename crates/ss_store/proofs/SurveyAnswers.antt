@@ -1,0 +1,29 @@
+-- What surveying a disk answers.
+use Rattle.std.proofs.Common.{◌≡◌, ℕ, List, Ok, Err}
+use Rattle.ss_model.specs.ClosedState.{closed_state}
+use Rattle.ss_model.specs.Standing.{IsState}
+use Rattle.ss_model.specs.State.{Stream}
+use Rattle.ss_recover.specs.Held.{AllAgree}
+use Rattle.ss_recover.specs.declared.parts.StreamParts.{StreamParts}
+use Rattle.ss_store.specs.Causes.{OpensAs}
+use Rattle.ss_store.specs.Surveyed.{SurveysAs, survey_of}
+use Rattle.ss_store.specs.declared.error.OpenError.{OpenError}
+use Rattle.ss_store.specs.declared.error.OpenError.TheVariants as opening
+use Rattle.ss_store.specs.declared.surveying.Survey.{Survey}
+use Rattle.ss_store.proofs.Opens.{IsRebuilt, Recovers-rebuilt}
+
+-- why there is nothing to survey is why there is no store
+pub SurveysAs-error : (content : List ℕ) (error : OpenError) → OpensAs content (Err error) → SurveysAs content (Err error)
+SurveysAs-error content opening.Disk opens = tt
+SurveysAs-error content opening.NotAStore opens = opens
+SurveysAs-error content (opening.BadEntry n) opens = opens
+SurveysAs-error content (opening.BadSlot n) opens = opens
+SurveysAs-error content (opening.BadStream id) opens = opens
+SurveysAs-error content opening.OutOfMemory opens = tt
+SurveysAs-error content (opening.Changed slot) opens = opens
+
+-- what was rebuilt closes to the state that is surveyed
+pub SurveysAs-rebuilt : (parts : List StreamParts) (content : List ℕ) (survey : Survey) → IsRebuilt parts content →
+    ((all : List Stream) → IsState all → AllAgree parts all → survey ≡ survey_of (closed_state all)) → SurveysAs content (Ok survey)
+SurveysAs-rebuilt parts content survey is said =
+    (closed_state is.streams, Recovers-rebuilt parts content is, said is.streams is.state is.held.agree)

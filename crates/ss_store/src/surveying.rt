@@ -1,0 +1,107 @@
+// What a disk holds, counted without a write.
+ghost use Rattle.std.specs.Prelude.{◌≡◌, ◌≤◌, All, IsTrue, List, flat_map, length};
+ghost use Rattle.ss_outside.specs.Crash.{OnlyReads};
+ghost use Rattle.ss_journal.specs.declared.format.TheConstants.{MOST_SLOTS};
+ghost use Rattle.ss_steps.specs.Steps.{IsFresh};
+ghost use Rattle.ss_model.specs.ClosedState.{closed_state, closed_stream};
+ghost use Rattle.ss_model.specs.Standing.{IsState, IsStream};
+ghost use Rattle.ss_model.specs.State.{Stream};
+ghost use Rattle.ss_recover.specs.Held.{Agrees, AllAgree, TileFrom, entries_of, slots_held};
+ghost use Rattle.ss_store.specs.Causes.{OpenCause};
+ghost use Rattle.ss_store.specs.Surveyed.{IsUnchanged, SurveysAs, survey_of};
+
+use crate::closing::values_held;
+use crate::{OpenError, Store};
+use ss_line::At;
+use ss_outside::Disk;
+use ss_records::Records;
+use ss_recover::{Parts, StreamParts, rebuild};
+use ss_steps::Steps;
+use std::alloc::Global;
+use std::marker::Brand;
+use std::sync::ledger::{Blank, Ledger};
+
+/// How many streams, windows, landmarks and values of landmarks a store holds once the merges that are due are made.
+#[derive(Clone, Copy, Debug, PartialEq, Eq)]
+pub struct Survey {
+    pub streams: u32,
+    pub windows: u32,
+    pub landmarks: u32,
+    pub values: u32,
+}
+
+// How many windows a stream has once those that are due are joined. No window is read: the positions say which they are.
+fn closed_windows<L: Ledger>(part: &StreamParts, steps: &mut Steps<L>) -> u32
+    requires tiles { TileFrom 1 (entries_of part.now) }
+    ensures windows { (s : Stream) → IsStream s → Agrees part.now s → result ≡ length (closed_stream s).windows }
+    ensures few { result ≤ length part.now.line.entries }
+{
+    let Some(mut at) = part.line.first() else {
+        return 0;
+    };
+    let _len = part.line.len();
+    let n = values_held(part, steps);
+    let mut first = part.line.get(at, steps).first;
+    let mut count = 1;
+    while let Some(next) = part.line.neighbours(at, steps).1 {
+        let entry = part.line.get(next, steps);
+        if !part.target.fits(first, entry.last, n) {
+            first = entry.first;
+            count += 1;
+        }
+        at = next;
+    }
+    count
+}
+
+// What some streams have, once the merges that are due are made.
+fn surveyed<L: Ledger>(streams: &[StreamParts], steps: &mut Steps<L>) -> Survey
+    requires tiles { All (λ part. TileFrom 1 (entries_of part)) streams.now }
+    requires few { length (flat_map slots_held streams.now) ≤ MOST_SLOTS }
+    ensures { (all : List Stream) → IsState all → AllAgree streams.now all → result ≡ survey_of (closed_state all) }
+{
+    let mut survey = Survey {
+        streams: 0,
+        windows: 0,
+        landmarks: 0,
+        values: 0,
+    };
+    for part in streams {
+        survey.streams += 1;
+        survey.windows += closed_windows(part, steps);
+        survey.landmarks += part.landmarks.count();
+        survey.values += part.landmarks.values();
+    }
+    survey
+}
+
+// The same, with a counter.
+fn surveyed_in<L: Ledger>(streams: &[StreamParts], blank: Blank) -> Survey
+    requires fresh { IsFresh L.name L.parts blank }
+    requires tiles { All (λ part. TileFrom 1 (entries_of part)) streams.now }
+    requires few { length (flat_map slots_held streams.now) ≤ MOST_SLOTS }
+    ensures { (all : List Stream) → IsState all → AllAgree streams.now all → result ≡ survey_of (closed_state all) }
+{
+    surveyed(streams, &mut Steps::<L>::new(blank))
+}
+
+impl Store {
+    /// Says what the store on a disk holds once the merges that are due are made, and makes none of them: nothing is
+    /// written. Entries in use count as if they were settled. An error is that of `Store::open`, which it gives in its place.
+    pub fn survey<D: Disk>(alloc: Global, disk: &mut D) -> Result<Survey, OpenError>
+        // What the state has to which the content recovers, or why it recovers to none.
+        ensures surveys { IsTrue (D.tells disk.old) → SurveysAs (D.told disk.old).content result }
+        // Over every disk no record has changed: each was read once.
+        ensures unchanged { IsUnchanged result }
+        // The content and the images are those from before.
+        ensures reads { IsTrue (D.tells disk.old) → OnlyReads (D.told disk.old) (D.told disk.new) }
+        ensures tells { D.tells disk.new ≡ D.tells disk.old }
+        ensures cause { OpenCause (D.faults disk.old) (D.faults disk.new) result }
+    {
+        let mut records = Records::open(alloc, disk)?;
+        let Parts { streams } = rebuild(alloc, &mut records, disk)?;
+        // Each slot that is live is one of those that a disk has.
+        let _live = records.live();
+        Ok(surveyed_in::<Brand>(&streams, Blank::new(1)))
+    }
+}
