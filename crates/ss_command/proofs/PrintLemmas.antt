@@ -15,7 +15,7 @@ use Rattle.ss_catalog.proofs.NameLemmas.{length-is_name}
 use Rattle.ss_catalog.specs.Names.{is_name, is_name_byte}
 use Rattle.ss_catalog.specs.Queries.{kind_name}
 use Rattle.ss_catalog.specs.declared.TheConstants.{LAST_TIME}
-use Rattle.ss_catalog.specs.declared.event.Event.TheVariants.{Create, Value}
+use Rattle.ss_catalog.specs.declared.event.Event.TheVariants.{Create, Value, Open, Close}
 use Rattle.ss_catalog.specs.declared.params.Params.TheVariants.{Exp, Power}
 use Rattle.ss_catalog.specs.declared.query.Kind.{Kind}
 use Rattle.ss_catalog.specs.declared.query.Kind.TheVariants as kinds
@@ -153,6 +153,22 @@ meaning-value name t v is early fits =
     meaning-spaced (codes "append") rest (literal (codes "append") refl) all short refl
     ∙ rw (time_of-decimal t early, value_of-signed v fits, name_of-name name is) refl
 
+-- a printed `landmark` means what its words do
+landmark-words : (name change : List ℕ) (t : ℕ) → is_name name ≡ true → IsWord change → length change ≤ 5 → t ≤ LAST_TIME → meaning (spaced (codes "landmark") (name ∷ change ∷ decimal t ∷ [])) ≡ meaning_of_words (codes "landmark" ∷ name ∷ change ∷ decimal t ∷ [])
+landmark-words name change t is word small early =
+    let rest = name ∷ change ∷ decimal t ∷ [] in
+    let all : AreWords rest = (IsWord-name name is, (word, (IsWord-decimal t (omega arith), tt))) in
+    let short : length (spaced (codes "landmark") rest) ≤ 256 = omega (arith, length-spaced rest (codes "landmark"), length-is_name name is, small, length-decimal_64 t (omega arith)) in
+    meaning-spaced (codes "landmark") rest (literal (codes "landmark") refl) all short refl
+
+meaning-open : (name : List ℕ) (t : ℕ) → is_name name ≡ true → t ≤ LAST_TIME → meaning (spaced (codes "landmark") (name ∷ codes "open" ∷ decimal t ∷ [])) ≡ Ok (Some (commands.Do (Open name t)))
+meaning-open name t is early =
+    landmark-words name (codes "open") t is (literal (codes "open") refl) (omega arith) early ∙ rw (time_of-decimal t early, name_of-name name is) refl
+
+meaning-close : (name : List ℕ) (t : ℕ) → is_name name ≡ true → t ≤ LAST_TIME → meaning (spaced (codes "landmark") (name ∷ codes "close" ∷ decimal t ∷ [])) ≡ Ok (Some (commands.Do (Close name t)))
+meaning-close name t is early =
+    landmark-words name (codes "close") t is (literal (codes "close") refl) (omega arith) early ∙ rw (time_of-decimal t early, name_of-name name is) refl
+
 -- the name of what is asked for
 IsWord-kind : (kind : Kind) → IsWord (kind_name kind)
 IsWord-kind kinds.Count = literal (codes "count") refl
@@ -193,6 +209,8 @@ unfolding printed
 meaning-printed (commands.Do (Create name (Exp b r s))) sayable = meaning-exp name b r s sayable.0 sayable.1.0 sayable.1.1 sayable.1.2
 meaning-printed (commands.Do (Create name (Power p q r s))) sayable = meaning-power name p q r s sayable.0 sayable.1.0 sayable.1.1 sayable.1.2 sayable.1.3
 meaning-printed (commands.Do (Value name t v)) sayable = meaning-value name t v sayable.0 sayable.1 sayable.2
+meaning-printed (commands.Do (Open name t)) sayable = meaning-open name t sayable.0 sayable.1
+meaning-printed (commands.Do (Close name t)) sayable = meaning-close name t sayable.0 sayable.1
 meaning-printed (commands.Ask query) sayable = meaning-query query.name query.kind query.from query.to sayable.0 sayable.1.0 sayable.1.1
 meaning-printed (commands.Windows name) sayable = meaning-windows name sayable
 meaning-printed commands.List sayable = meaning-spaced (codes "list") [] (literal (codes "list") refl) tt (omega arith) refl

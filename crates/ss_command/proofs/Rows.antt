@@ -4,7 +4,7 @@ use Rattle.std.specs.Prelude.{codes, replicate, pos, negsuc}
 use Rattle.std.specs.Fmt.{digits}
 use Rattle.ss_fields.specs.Words.{is_number, number_of, number_up_to, signed_of}
 use Rattle.ss_catalog.specs.Names.{is_name}
-use Rattle.ss_catalog.specs.declared.event.Event.TheVariants.{Create, Value}
+use Rattle.ss_catalog.specs.declared.event.Event.TheVariants.{Create, Value, Open, Close}
 use Rattle.ss_catalog.specs.declared.params.Params.TheVariants.{Exp, Power}
 use Rattle.ss_catalog.specs.declared.query.Kind.TheVariants as kinds
 use Rattle.ss_catalog.specs.declared.refusal.Refusal.{Refusal}
@@ -102,6 +102,22 @@ means-queries_refused :
 unfolding meaning words is_number number_of number_up_to signed_of is_name
 means-queries_refused = refl
 
+means-landmarks :
+    map meaning (codes "landmark a open 80" ∷ codes " landmark a\tclose 0081 " ∷ codes "landmark a open 4611686018427387904" ∷ codes "landmark a close 0" ∷ [])
+    ≡ Ok (Some (commands.Do (Open (codes "a") 80)))
+    ∷ Ok (Some (commands.Do (Close (codes "a") 81)))
+    ∷ Ok (Some (commands.Do (Open (codes "a") 4611686018427387904)))
+    ∷ Ok (Some (commands.Do (Close (codes "a") 0)))
+    ∷ []
+unfolding meaning words is_number number_of number_up_to signed_of is_name
+means-landmarks = refl
+
+means-landmarks_refused :
+    map meaning (codes "landmark" ∷ codes "landmark a open" ∷ codes "landmark a close 1 2" ∷ codes "landmark a shut 1" ∷ codes "landmark x! Open y" ∷ codes "landmark x! open y" ∷ codes "landmark a open 4611686018427387905" ∷ codes "landmark a close -1" ∷ codes "landmark x! close 1" ∷ [])
+    ≡ map refused (refusals.Syntax ∷ refusals.Syntax ∷ refusals.Syntax ∷ refusals.Syntax ∷ refusals.Syntax ∷ refusals.Number ∷ refusals.Number ∷ refusals.Number ∷ refusals.Name ∷ [])
+unfolding meaning words is_number number_of number_up_to signed_of is_name
+means-landmarks_refused = refl
+
 -- `list` with blanks behind it, up to the longest line and one past it
 means-256_bytes : meaning (codes "list" ++ replicate 252 32) ≡ Ok (Some commands.List)
 unfolding meaning words
@@ -116,6 +132,10 @@ printed-commands :
     ≡ codes "create a exp 2 1 1" ∷ codes "create p power 1 0 1 4" ∷ codes "append a 7 -3" ∷ codes "windows a" ∷ codes "list" ∷ []
 unfolding printed digits
 printed-commands = refl
+
+printed-landmarks : map printed (commands.Do (Open (codes "a") 80) ∷ commands.Do (Close (codes "a") 4611686018427387904) ∷ []) ≡ codes "landmark a open 80" ∷ codes "landmark a close 4611686018427387904" ∷ []
+unfolding printed digits
+printed-landmarks = refl
 
 printed-query : printed (commands.Ask (record { name = codes "a"; kind = kinds.Max; from = 45; to = 65 })) ≡ codes "query a max 45 65"
 unfolding printed digits

@@ -7,11 +7,11 @@ use Rattle.ss_fields.specs.Words.{as_negative, as_positive, number_up_to, signed
 use Rattle.ss_fields.specs.declared.number_error.NumberError.{NumberError}
 use Rattle.ss_catalog.specs.Names.{is_name}
 use Rattle.ss_catalog.specs.declared.TheConstants.{LAST_TIME}
-use Rattle.ss_catalog.specs.declared.event.Event.TheVariants.{Create, Value}
+use Rattle.ss_catalog.specs.declared.event.Event.TheVariants.{Create, Value, Open, Close}
 use Rattle.ss_catalog.specs.declared.params.Params.TheVariants.{Exp, Power}
 use Rattle.ss_catalog.specs.declared.refusal.Refusal.{Refusal}
 use Rattle.ss_command.specs.declared.TheConstants.{LONGEST_LINE}
-use Rattle.ss_command.specs.Grammar.{◌>>=◌, append_of, command_of, create_of, exp_of, is_comment, list_of, meaning, meaning_of_words, kind_of, name_of, or_number, parameter_of, power_of, query_of, time_of, value_of, windows_of}
+use Rattle.ss_command.specs.Grammar.{◌>>=◌, append_of, close_of, command_of, create_of, exp_of, is_comment, landmark_of, list_of, meaning, meaning_of_words, kind_of, name_of, open_of, or_number, parameter_of, power_of, query_of, time_of, value_of, windows_of}
 use Rattle.ss_command.specs.Printed.{IsSayable}
 use Rattle.ss_command.specs.Words.{is_word, words}
 use Rattle.ss_command.specs.declared.command.Command.{Command}
@@ -121,6 +121,30 @@ append-sayable (name ∷ time ∷ value ∷ []) c same =
     subst IsSayable is (name-is name stream.0 stream.1, time-le time t.0 t.1, value-fits value v.0 v.1)
 append-sayable (name ∷ time ∷ value ∷ more ∷ rest) c same = cc
 
+open-sayable : (name time : List ℕ) (c : Command) → open_of name time ≡ Ok c → IsSayable c
+open-sayable name time c same =
+    let t = bind-Ok (time_of time) _ c same in
+    let stream = bind-Ok (name_of name) _ c t.2 in
+    let is : commands.Do (Open stream.0 t.0) ≡ c = cc (stream.2) in
+    subst IsSayable is (name-is name stream.0 stream.1, time-le time t.0 t.1)
+
+close-sayable : (name time : List ℕ) (c : Command) → close_of name time ≡ Ok c → IsSayable c
+close-sayable name time c same =
+    let t = bind-Ok (time_of time) _ c same in
+    let stream = bind-Ok (name_of name) _ c t.2 in
+    let is : commands.Do (Close stream.0 t.0) ≡ c = cc (stream.2) in
+    subst IsSayable is (name-is name stream.0 stream.1, time-le time t.0 t.1)
+
+landmark-sayable : (ws : List (List ℕ)) (c : Command) → landmark_of ws ≡ Ok c → IsSayable c
+landmark-sayable [] c same = cc
+landmark-sayable (name ∷ []) c same = cc
+landmark-sayable (name ∷ change ∷ []) c same = cc
+landmark-sayable (name ∷ change ∷ time ∷ []) c same =
+    choice (IsSayable c) (is_word change (codes "open")) _ _ c (open-sayable name time c)
+    (choice (IsSayable c) (is_word change (codes "close")) _ _ c (close-sayable name time c) (λ wrong. cc (wrong)))
+    same
+landmark-sayable (name ∷ change ∷ time ∷ more ∷ rest) c same = cc
+
 query-sayable : (ws : List (List ℕ)) (c : Command) → query_of ws ≡ Ok c → IsSayable c
 query-sayable [] c same = cc
 query-sayable (name ∷ []) c same = cc
@@ -151,9 +175,10 @@ command-sayable : (verb : List ℕ) (rest : List (List ℕ)) (c : Command) → c
 command-sayable verb rest c same =
     choice (IsSayable c) (is_word verb (codes "create")) _ _ c (create-sayable rest c)
     (choice (IsSayable c) (is_word verb (codes "append")) _ _ c (append-sayable rest c)
+    (choice (IsSayable c) (is_word verb (codes "landmark")) _ _ c (landmark-sayable rest c)
     (choice (IsSayable c) (is_word verb (codes "query")) _ _ c (query-sayable rest c)
     (choice (IsSayable c) (is_word verb (codes "windows")) _ _ c (windows-sayable rest c)
-    (choice (IsSayable c) (is_word verb (codes "list")) _ _ c (list-sayable rest c) (λ wrong. cc (wrong))))))
+    (choice (IsSayable c) (is_word verb (codes "list")) _ _ c (list-sayable rest c) (λ wrong. cc (wrong)))))))
     same
 
 words-sayable : (ws : List (List ℕ)) (c : Command) → meaning_of_words ws ≡ Ok (Some c) → IsSayable c

@@ -4,7 +4,7 @@ use Rattle.ss_fields.specs.Words.{number_up_to, signed_of}
 use Rattle.ss_fields.specs.declared.number_error.NumberError.{NumberError}
 use Rattle.ss_catalog.specs.Names.{is_name}
 use Rattle.ss_catalog.specs.declared.TheConstants.{LAST_TIME}
-use Rattle.ss_catalog.specs.declared.event.Event.TheVariants.{Create, Value}
+use Rattle.ss_catalog.specs.declared.event.Event.TheVariants.{Create, Value, Open, Close}
 use Rattle.ss_catalog.specs.declared.params.Params.TheVariants.{Exp, Power}
 use Rattle.ss_catalog.specs.declared.query.Kind.{Kind}
 use Rattle.ss_catalog.specs.declared.query.Kind.TheVariants as kinds
@@ -80,6 +80,28 @@ append_of (name ∷ time ∷ value ∷ []) = do
   Ok (commands.Do (Value stream t v))
 append_of _ = Err refusals.Syntax
 
+-- `landmark NAME open T`, of its name and its time
+abbrev pub open_of : List ℕ → List ℕ → Result Command Refusal
+open_of name time = do
+  t ← time_of time
+  stream ← name_of name
+  Ok (commands.Do (Open stream t))
+
+-- `landmark NAME close T`, of its name and its time
+abbrev pub close_of : List ℕ → List ℕ → Result Command Refusal
+close_of name time = do
+  t ← time_of time
+  stream ← name_of name
+  Ok (commands.Do (Close stream t))
+
+-- a `landmark`, from its name on
+abbrev pub landmark_of : List (List ℕ) → Result Command Refusal
+landmark_of (name ∷ change ∷ time ∷ []) =
+    if is_word change (codes "open") then open_of name time
+    else (if is_word change (codes "close") then close_of name time
+    else Err refusals.Syntax)
+landmark_of _ = Err refusals.Syntax
+
 -- what is asked for: one of these words
 abbrev pub kind_of : List ℕ → Result Kind Refusal
 kind_of word =
@@ -116,10 +138,11 @@ abbrev pub command_of : List ℕ → List (List ℕ) → Result Command Refusal
 command_of verb rest =
     if is_word verb (codes "create") then create_of rest
     else (if is_word verb (codes "append") then append_of rest
+    else (if is_word verb (codes "landmark") then landmark_of rest
     else (if is_word verb (codes "query") then query_of rest
     else (if is_word verb (codes "windows") then windows_of rest
     else (if is_word verb (codes "list") then list_of rest
-    else Err refusals.Syntax))))
+    else Err refusals.Syntax)))))
 
 -- what words mean: nothing, where there are none, or a command
 abbrev pub meaning_of_words : List (List ℕ) → Result (Option Command) Refusal

@@ -6,7 +6,7 @@ use Rattle.ss_catalog.specs.Events.{IsInTime}
 use Rattle.ss_catalog.specs.Names.{is_name}
 use Rattle.ss_catalog.specs.Queries.{IsQueryInTime, kind_name}
 use Rattle.ss_catalog.specs.declared.TheConstants.{LAST_TIME}
-use Rattle.ss_catalog.specs.declared.event.Event.TheVariants.{Create, Value}
+use Rattle.ss_catalog.specs.declared.event.Event.TheVariants.{Create, Value, Open, Close}
 use Rattle.ss_catalog.specs.declared.params.Params.{Params}
 use Rattle.ss_catalog.specs.declared.params.Params.TheVariants.{Exp, Power}
 use Rattle.ss_command.specs.declared.command.Command.{Command}
@@ -29,6 +29,8 @@ spaced first rest = fold with_word first rest
 unfoldable pub printed : Command → List ℕ
 printed (commands.Do (Create name params)) = spaced (codes "create") (name ∷ target_words params)
 printed (commands.Do (Value name t v)) = spaced (codes "append") (name ∷ decimal t ∷ signed_decimal v ∷ [])
+printed (commands.Do (Open name t)) = spaced (codes "landmark") (name ∷ codes "open" ∷ decimal t ∷ [])
+printed (commands.Do (Close name t)) = spaced (codes "landmark") (name ∷ codes "close" ∷ decimal t ∷ [])
 printed (commands.Ask query) = spaced (codes "query") (query.name ∷ kind_name query.kind ∷ decimal query.from ∷ decimal query.to ∷ [])
 printed (commands.Windows name) = spaced (codes "windows") (name ∷ [])
 printed commands.List = codes "list"
@@ -42,6 +44,8 @@ HasParameters (Power p q r s) = (p < 2 ^ 32) × (q < 2 ^ 32) × (r < 2 ^ 32) × 
 abbrev pub IsSayable : Command → Type 0
 IsSayable (commands.Do (Create name params)) = (is_name name ≡ true) × HasParameters params
 IsSayable (commands.Do (Value name t v)) = (is_name name ≡ true) × (t ≤ LAST_TIME) × FitsSigned w64 v
+IsSayable (commands.Do (Open name t)) = (is_name name ≡ true) × (t ≤ LAST_TIME)
+IsSayable (commands.Do (Close name t)) = (is_name name ≡ true) × (t ≤ LAST_TIME)
 IsSayable (commands.Ask query) = (is_name query.name ≡ true) × IsQueryInTime query
 IsSayable (commands.Windows name) = is_name name ≡ true
 IsSayable commands.List = Unit {0}

@@ -1,6 +1,6 @@
 // What a line means.
 ghost use Rattle.std.specs.Prelude.{◌≡◌, ◌≤◌, length, codes, IfOk, IfSome};
-ghost use Rattle.ss_command.specs.Grammar.{append_of, command_of, create_of, exp_of, is_comment, kind_of, list_of, meaning, power_of, query_of, windows_of};
+ghost use Rattle.ss_command.specs.Grammar.{append_of, close_of, command_of, create_of, exp_of, is_comment, kind_of, landmark_of, list_of, meaning, open_of, power_of, query_of, windows_of};
 ghost use Rattle.ss_command.specs.Printed.{IsCommandInTime, IsSayable};
 
 use crate::command::Command;
@@ -76,6 +76,44 @@ fn append(mut words: Words) -> Result<Command, Refusal>
     Ok(Command::Do(Event::Value { name, t, v }))
 }
 
+// Reads `landmark NAME open T`, of its name and its time.
+fn open(name: &[u8], time: &[u8]) -> Result<Command, Refusal>
+    ensures meaning { result ≡ open_of name.now time.now }
+    ensures time { IfOk result IsCommandInTime }
+{
+    let t = read_time(time)?;
+    let name = read_name(name)?;
+    Ok(Command::Do(Event::Open { name, t }))
+}
+
+// Reads `landmark NAME close T`, of its name and its time.
+fn close(name: &[u8], time: &[u8]) -> Result<Command, Refusal>
+    ensures meaning { result ≡ close_of name.now time.now }
+    ensures time { IfOk result IsCommandInTime }
+{
+    let t = read_time(time)?;
+    let name = read_name(name)?;
+    Ok(Command::Do(Event::Close { name, t }))
+}
+
+// Reads a `landmark`, from its name on.
+fn landmark(mut words: Words) -> Result<Command, Refusal>
+    ensures meaning { result ≡ landmark_of words.entry }
+    ensures time { IfOk result IsCommandInTime }
+{
+    let name = words.word()?;
+    let change = words.word()?;
+    let time = words.word()?;
+    words.end()?;
+    if is_word(change, "open") {
+        open(name, time)
+    } else if is_word(change, "close") {
+        close(name, time)
+    } else {
+        Err(Refusal::Syntax)
+    }
+}
+
 // What is asked for.
 fn kind(word: &[u8]) -> Result<Kind, Refusal>
     ensures { result ≡ kind_of word.now }
@@ -142,6 +180,8 @@ fn command(verb: &[u8], words: Words) -> Result<Command, Refusal>
         create(words)
     } else if is_word(verb, "append") {
         append(words)
+    } else if is_word(verb, "landmark") {
+        landmark(words)
     } else if is_word(verb, "query") {
         query(words)
     } else if is_word(verb, "windows") {

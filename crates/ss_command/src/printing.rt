@@ -30,6 +30,18 @@ fn print_event(event: &Event, out: &mut ArrayString<256>)
             put_number(*t, out);
             put_value(*v, out);
         }
+        Event::Open { name, t } => {
+            out.push_str("landmark");
+            put_name(name, out);
+            out.push_str(" open");
+            put_number(*t, out);
+        }
+        Event::Close { name, t } => {
+            out.push_str("landmark");
+            put_name(name, out);
+            out.push_str(" close");
+            put_number(*t, out);
+        }
     }
 }
 

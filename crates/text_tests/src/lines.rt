@@ -8,7 +8,7 @@ use std::test::Fail;
 
 #[test]
 fn lines_without_a_command(rt: HostRuntime) {
-    let rows: [(&[u8], Result<Option<Command>, Refusal>); 46] = [
+    let rows: [(&[u8], Result<Option<Command>, Refusal>); 55] = [
         (b"", Ok(None)),
         (b" \t ", Ok(None)),
         (b"# note", Ok(None)),
@@ -29,12 +29,20 @@ fn lines_without_a_command(rt: HostRuntime) {
         (b"create a exp 2 1 1 1", Err(Refusal::Syntax)),
         (b"create a power 1 0 1", Err(Refusal::Syntax)),
         (b"create a power 1 0 1 1 1", Err(Refusal::Syntax)),
+        (b"landmark a open", Err(Refusal::Syntax)),
+        (b"landmark a open 1 2", Err(Refusal::Syntax)),
+        (b"landmark a shut 1", Err(Refusal::Syntax)),
+        (b"landmark a Open 1", Err(Refusal::Syntax)),
+        (b"landmark x! shut y", Err(Refusal::Syntax)),
         (b"query a sum 1", Err(Refusal::Syntax)),
         (b"query a sum 1 2 3", Err(Refusal::Syntax)),
         (b"query a mean 1 2", Err(Refusal::Syntax)),
         (b"query a MIN 1 2", Err(Refusal::Syntax)),
         (b"query x! mean y 2", Err(Refusal::Syntax)),
         (b"append x! y 1", Err(Refusal::Number)),
+        (b"landmark x! open y", Err(Refusal::Number)),
+        (b"landmark a open 4611686018427387905", Err(Refusal::Number)),
+        (b"landmark a close -1", Err(Refusal::Number)),
         (b"query x! sum 1 y", Err(Refusal::Number)),
         (b"query a sum -1 2", Err(Refusal::Number)),
         (b"query a max 0 4611686018427387905", Err(Refusal::Number)),
@@ -49,6 +57,7 @@ fn lines_without_a_command(rt: HostRuntime) {
         (b"create a power 1 0 1 -1", Err(Refusal::Number)),
         (b"create x! exp 2 1 y", Err(Refusal::Number)),
         (b"append x! 1 1", Err(Refusal::Name)),
+        (b"landmark x! close 1", Err(Refusal::Name)),
         (b"query x! sum 1 2", Err(Refusal::Name)),
         (b"windows a/b", Err(Refusal::Name)),
         (b"windows a\0", Err(Refusal::Name)),
@@ -67,7 +76,7 @@ fn lines_without_a_command(rt: HostRuntime) {
 
 #[test]
 fn commands_are_printed(rt: HostRuntime) -> Result<(), Fail> {
-    let rows: [(&[u8], &str); 15] = [
+    let rows: [(&[u8], &str); 18] = [
         (b"list", "list"),
         (b"\t list \t\t", "list"),
         (
@@ -84,6 +93,12 @@ fn commands_are_printed(rt: HostRuntime) -> Result<(), Fail> {
             "create a power 1 0 4294967295 0",
         ),
         (b"append a 10 5", "append a 10 5"),
+        (b"landmark a open 080", "landmark a open 80"),
+        (b" landmark\ta close 81 ", "landmark a close 81"),
+        (
+            b"landmark abcdefghijklmnopqrstuvwxyz012345 close 4611686018427387904",
+            "landmark abcdefghijklmnopqrstuvwxyz012345 close 4611686018427387904",
+        ),
         (b"query a count 10 040", "query a count 10 40"),
         (
             b" query\ta sum 0 4611686018427387904",

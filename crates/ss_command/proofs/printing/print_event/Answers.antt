@@ -9,3 +9,11 @@ returns-in-Create-clause-text c = search rules
 pub returns-in-Value-clause-text : goal.returns-in-Value-clause-text
 unfolding printed
 returns-in-Value-clause-text c = search rules
+
+pub returns-in-Open-clause-text : goal.returns-in-Open-clause-text
+unfolding printed
+returns-in-Open-clause-text c = search rules
+
+pub returns-in-Close-clause-text : goal.returns-in-Close-clause-text
+unfolding printed
+returns-in-Close-clause-text c = search rules
