@@ -1,0 +1,4 @@
+pub mod NumberLemmas
+pub mod ModeLemmas
+pub mod PlaceLemmas
+mod Rows

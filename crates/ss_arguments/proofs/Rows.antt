@@ -1,0 +1,119 @@
+-- Rows of the constants and of the definitions, each computed.
+use Rattle.std.proofs.Common.{◌≡◌, ℕ, ◌-◌, ◌^◌, List, [], ◌∷◌, ◌++◌, Option, Some, None, refl}
+use Rattle.std.specs.Prelude.{codes, replicate}
+use Rattle.ss_fields.specs.Words.{is_number, number_of, number_up_to}
+use Rattle.ss_arguments.specs.declared.TheConstants.{LONGEST_NUMBER, MOST_COUNT}
+use Rattle.ss_arguments.specs.declared.mode.Mode.{Mode}
+use Rattle.ss_arguments.specs.declared.mode.Mode.TheVariants.{Run, Check, Gen}
+use Rattle.ss_arguments.specs.Modes.{mode_of, number_between}
+
+longest_number : LONGEST_NUMBER ≡ 20
+longest_number = refl
+
+most_count : MOST_COUNT ≡ 100000
+most_count = refl
+
+-- the mode of `p s`, with these words after it
+abbrev mode_after : List (List ℕ) → Option Mode
+mode_after arguments = mode_of (codes "p" ∷ codes "s" ∷ arguments)
+
+-- the mode of `p s gen`, with these words after it
+abbrev gen_after : List ℕ → List ℕ → Option Mode
+gen_after seed count = mode_after (codes "gen" ∷ seed ∷ count ∷ [])
+
+-- a 1 with that many zeros before it
+abbrev padded_one : ℕ → List ℕ
+padded_one zeros = replicate zeros 48 ++ codes "1"
+
+no_words : mode_of [] ≡ None
+no_words = refl
+
+no_path : mode_of (codes "p" ∷ []) ≡ None
+no_path = refl
+
+path_alone : mode_after [] ≡ Some Run
+path_alone = refl
+
+run_word : mode_after (codes "run" ∷ []) ≡ Some Run
+run_word = refl
+
+check_word : mode_after (codes "check" ∷ []) ≡ Some Check
+check_word = refl
+
+-- the path may be any word
+path_with_hyphen : mode_of (codes "p" ∷ codes "-s" ∷ []) ≡ Some Run
+path_with_hyphen = refl
+
+-- other words ask for nothing
+run_in_capitals : mode_after (codes "RUN" ∷ []) ≡ None
+run_in_capitals = refl
+
+empty_word : mode_after ([] ∷ []) ≡ None
+empty_word = refl
+
+help : mode_after (codes "--help" ∷ []) ≡ None
+help = refl
+
+gen_alone : mode_after (codes "gen" ∷ []) ≡ None
+gen_alone = refl
+
+gen_without_count : mode_after (codes "gen" ∷ codes "1" ∷ []) ≡ None
+gen_without_count = refl
+
+check_and_more : mode_after (codes "check" ∷ codes "x" ∷ []) ≡ None
+check_and_more = refl
+
+run_and_numbers : mode_after (codes "run" ∷ codes "1" ∷ codes "1" ∷ []) ≡ None
+run_and_numbers = refl
+
+gen_and_more : mode_after (codes "gen" ∷ codes "1" ∷ codes "1" ∷ codes "1" ∷ []) ≡ None
+gen_and_more = refl
+
+-- the numbers of `gen`
+gen-ones : gen_after (codes "1") (codes "1") ≡ Some (Gen 1 1)
+unfolding number_between number_up_to is_number number_of
+gen-ones = refl
+
+gen-count_zero : gen_after (codes "1") (codes "0") ≡ None
+unfolding number_between number_up_to is_number number_of
+gen-count_zero = refl
+
+gen-most_count : gen_after (codes "0") (codes "100000") ≡ Some (Gen 0 100000)
+unfolding number_between number_up_to is_number number_of
+gen-most_count = refl
+
+gen-count_past_most : gen_after (codes "0") (codes "100001") ≡ None
+unfolding number_between number_up_to is_number number_of
+gen-count_past_most = refl
+
+gen-greatest_seed : gen_after (codes "18446744073709551615") (codes "1") ≡ Some (Gen (2 ^ 64 - 1) 1)
+unfolding number_between number_up_to is_number number_of
+gen-greatest_seed = refl
+
+gen-seed_past_greatest : gen_after (codes "18446744073709551616") (codes "1") ≡ None
+unfolding number_between number_up_to is_number number_of
+gen-seed_past_greatest = refl
+
+gen-twenty_digits : gen_after (padded_one 19) (padded_one 19) ≡ Some (Gen 1 1)
+unfolding number_between number_up_to is_number number_of
+gen-twenty_digits = refl
+
+gen-seed_of_more_digits : gen_after (padded_one 20) (codes "1") ≡ None
+unfolding number_between number_up_to is_number number_of
+gen-seed_of_more_digits = refl
+
+gen-count_of_more_digits : gen_after (codes "1") (padded_one 20) ≡ None
+unfolding number_between number_up_to is_number number_of
+gen-count_of_more_digits = refl
+
+gen-sign : gen_after (codes "+1") (codes "1") ≡ None
+unfolding number_between number_up_to is_number number_of
+gen-sign = refl
+
+gen-minus : gen_after (codes "1") (codes "-1") ≡ None
+unfolding number_between number_up_to is_number number_of
+gen-minus = refl
+
+gen-no_digits : gen_after [] (codes "1") ≡ None
+unfolding number_between number_up_to is_number number_of
+gen-no_digits = refl

@@ -1,0 +1,54 @@
+-- The modes of the program, by the words of the command line.
+use Rattle.std.specs.Prelude.{ℕ, ◌-◌, ◌^◌, nat_le, if◌then◌else◌, List, [], ◌∷◌, length, map, codes, Option, Some, None, Result, Ok, Err, String, string_bytes}
+use Rattle.std.specs.Str.{bytes_eq}
+use Rattle.ss_fields.specs.Words.{number_up_to}
+use Rattle.ss_fields.specs.declared.number_error.NumberError.{NumberError}
+use Rattle.ss_arguments.specs.declared.TheConstants.{LONGEST_NUMBER, MOST_COUNT}
+use Rattle.ss_arguments.specs.declared.mode.Mode.{Mode}
+use Rattle.ss_arguments.specs.declared.mode.Mode.TheVariants.{Run, Check, Gen}
+
+-- the words, as lists of bytes
+abbrev pub words_of : {A : Type 0} → List (String A) → List (List ℕ)
+words_of words = map (λ word. string_bytes word) words
+
+-- what was read, where it is a number from `least` on
+abbrev pub from_least : ℕ → Result ℕ NumberError → Option ℕ
+from_least least (Ok n) = if nat_le least n then Some n else None
+from_least least (Err e) = None
+
+-- the number from `least` to `most` that a word spells with 1 to LONGEST_NUMBER digits
+unfoldable pub number_between : ℕ → ℕ → List ℕ → Option ℕ
+number_between least most word =
+    if nat_le (length word) LONGEST_NUMBER then from_least least (number_up_to most word) else None
+
+-- a seed: 0 to 2^64 - 1
+abbrev pub seed_of : List ℕ → Option ℕ
+seed_of word = number_between 0 (2 ^ 64 - 1) word
+
+-- a count: 1 to MOST_COUNT
+abbrev pub count_of : List ℕ → Option ℕ
+count_of word = number_between 1 MOST_COUNT word
+
+-- `gen`, where both its numbers were read
+abbrev pub gen_of : Option ℕ → Option ℕ → Option Mode
+gen_of (Some seed) (Some count) = Some (Gen seed count)
+gen_of _ _ = None
+
+-- a mode that stands alone: `run` or `check`
+abbrev pub named : List ℕ → Option Mode
+named word =
+    if bytes_eq word (codes "run") then Some Run
+    else (if bytes_eq word (codes "check") then Some Check
+    else None)
+
+-- the mode by what stands after the path: nothing, `run`, `check`, or `gen SEED COUNT`
+abbrev pub asked : List (List ℕ) → Option Mode
+asked [] = Some Run
+asked (mode ∷ []) = named mode
+asked (mode ∷ seed ∷ count ∷ []) = if bytes_eq mode (codes "gen") then gen_of (seed_of seed) (count_of count) else None
+asked _ = None
+
+-- the mode by all the words: the program's name, the store's path, and what asks for a mode
+abbrev pub mode_of : List (List ℕ) → Option Mode
+mode_of (program ∷ path ∷ arguments) = asked arguments
+mode_of _ = None

@@ -1,0 +1,129 @@
+// The arguments of the command line as a mode.
+ghost use Rattle.std.specs.Prelude.{◌≡◌, ◌-◌, ◌^◌, false, codes, option_map, IfOk};
+ghost use Rattle.std.specs.List.{list_any};
+ghost use Rattle.std.specs.Str.Parse.{starts_with_minus};
+ghost use Rattle.clap.specs.Words.{app_of};
+ghost use Rattle.ss_arguments.specs.Modes.{asked, count_of, gen_of, mode_of, named, seed_of, words_of};
+ghost use Rattle.ss_arguments.specs.Places.{by_place, three_words};
+
+use crate::{LONGEST_NUMBER, MOST_COUNT, Mode};
+use clap::error::ErrorKind;
+use clap::{Arg, Command};
+use ss_fields::read_u64;
+use std::alloc::{AllocError, Global};
+
+// Reads a seed.
+#[tactic(auto, using(std::proofs::lemmas::Bool::Decides::nat_tests), unfolding(crate::specs::Modes::number_between, ss_fields::specs::Words::unsigned_of))]
+fn read_seed(word: &str) -> Option<u64>
+    ensures { result ≡ seed_of word.now }
+{
+    if word.len() > LONGEST_NUMBER {
+        return None;
+    }
+    read_u64(word.as_bytes()).ok()
+}
+
+// Reads a count.
+#[tactic(auto, using(std::proofs::lemmas::Bool::Decides::nat_tests, crate::proofs::NumberLemmas::count_by_number))]
+fn read_count(word: &str) -> Option<u32>
+    ensures { result ≡ count_of word.now }
+{
+    let number = read_seed(word)?;
+    if number < 1 || number > u64::from(MOST_COUNT) {
+        return None;
+    }
+    Some(number as u32)
+}
+
+// The mode of one word.
+fn read_name(word: &str) -> Option<Mode>
+    ensures { result ≡ named word.now }
+{
+    match word {
+        "run" => Some(Mode::Run),
+        "check" => Some(Mode::Check),
+        _ => None,
+    }
+}
+
+// The mode of the two words after `gen`.
+fn read_gen(seed: &str, count: &str) -> Option<Mode>
+    ensures { result ≡ gen_of (seed_of seed.now) (count_of count.now) }
+{
+    let seed = read_seed(seed)?;
+    let count = read_count(count)?;
+    Some(Mode::Gen { seed, count })
+}
+
+// The mode of the words by their places.
+fn read_places(mode: Option<&str>, seed: Option<&str>, count: Option<&str>) -> Option<Mode>
+    ensures { result ≡ by_place (option_map (λ word. word.now) mode.entry) (option_map (λ word. word.now) seed.entry)
+        (option_map (λ word. word.now) count.entry) }
+{
+    match (mode, seed, count) {
+        (None, None, None) => Some(Mode::Run),
+        (Some(mode), None, None) => read_name(mode),
+        (Some("gen"), Some(seed), Some(count)) => read_gen(seed, count),
+        _ => None,
+    }
+}
+
+// Whether a word begins with `-`, as an option of a command does.
+fn is_option(word: &str) -> bool
+    ensures { result ≡ starts_with_minus word.now }
+{
+    let bytes = word.as_bytes();
+    !bytes.is_empty() && bytes[0] == b'-'
+}
+
+// Whether one of the words begins with `-`.
+fn has_option(words: &[String]) -> bool
+    ensures { result ≡ list_any starts_with_minus (words_of words.now) }
+{
+    words.iter().any(|word| is_option(word.as_str()))
+}
+
+// A command of three optional words, each by its place.
+fn three_words<'a>(alloc: Global) -> Result<Command<'a>, AllocError>
+    ensures { IfOk result (λ command. app_of command ≡ three_words) }
+{
+    Command::new(alloc, "summarystore")
+        .no_binary_name(true)
+        .arg(Arg::new(alloc, "mode"))?
+        .arg(Arg::new(alloc, "seed"))?
+        .arg(Arg::new(alloc, "count"))
+}
+
+// The mode of the words after the store's path, none of which begins with `-`.
+fn read_words(alloc: Global, words: &[String]) -> Result<Option<Mode>, AllocError>
+    requires { list_any starts_with_minus (words_of words.now) ≡ false }
+    ensures { IfOk result (λ mode. mode ≡ asked (words_of words.now)) }
+{
+    match three_words(alloc)?.try_get_matches_from(words) {
+        Ok(matches) => Ok(read_places(
+            matches.get_str("mode"),
+            matches.get_str("seed"),
+            matches.get_str("count"),
+        )),
+        Err(error) => match error.kind() {
+            ErrorKind::OutOfMemory => Err(AllocError),
+            // A word too many.
+            _ => Ok(None),
+        },
+    }
+}
+
+/// The mode that the words of the command line ask for: the program's name, the store's path, and then none, `run`, `check` or
+/// `gen SEED COUNT`. `None` at all other words.
+pub fn mode_of(alloc: Global, words: &[String]) -> Result<Option<Mode>, AllocError>
+    ensures { IfOk result (λ mode. mode ≡ mode_of (words_of words.now)) }
+{
+    if words.len() < 2 {
+        return Ok(None);
+    }
+    let arguments = &words[2..];
+    if has_option(arguments) {
+        return Ok(None);
+    }
+    read_words(alloc, arguments)
+}
