@@ -21,3 +21,15 @@ pub enum Reply {
     /// A stream.
     Stream(StreamRow),
 }
+
+impl Default for Reply {
+    ghost use Rattle.std.specs.Prelude.{◌≡◌};
+    ghost use Rattle.ss_report.specs.declared.reply.Reply.TheVariants.{ListHead};
+
+    ghost is_default = { λ reply. reply ≡ ListHead 0 };
+
+    // What stands in a list of replies where none was put yet.
+    fn default() -> Reply {
+        Reply::ListHead(0)
+    }
+}

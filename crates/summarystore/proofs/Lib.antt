@@ -4,4 +4,5 @@ pub mod TakeLemmas
 pub mod AnswerLemmas
 pub mod HeldLemmas
 pub mod RunLemmas
+pub mod GenerateLemmas
 pub mod Rows

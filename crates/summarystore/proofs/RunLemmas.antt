@@ -1,5 +1,5 @@
 -- What a run leaves, by how it ends.
-use Rattle.std.proofs.Common.{◌≡◌, ◌⊎◌, inl, inr, take_all, length-drop, ℕ, ◌+◌, ◌<◌, ◌≤◌, ◌++◌, List, [], ◌∷◌, length, take, drop, get_or, map, Bool, true, IsTrue, ◌↔◌, Option, Some, None, Ok, Err, refl, sym, ap, ◌∙◌, subst, codes, arith}
+use Rattle.std.proofs.Common.{◌≡◌, ◌⊎◌, inl, inr, take_all, length-drop, ℕ, ◌+◌, ◌<◌, ◌≤◌, ◌++◌, List, [], ◌∷◌, length, take, drop, map, Bool, true, IsTrue, Option, Some, None, Ok, Err, refl, sym, ap, ◌∙◌, subst, arith}
 use Rattle.std.proofs.Math.Seq.{take-add}
 use Rattle.std.proofs.lemmas.List.{append-nil, drop-drop, drop_all, length-take-le, take-append-drop}
 use Rattle.ss_command.specs.Lines.{lines, lines_so_far, unended, unless_empty, without_return}
@@ -9,12 +9,13 @@ use Rattle.ss_outside.specs.Causes.{Rose}
 use Rattle.ss_outside.specs.Crash.{KnowsNow, LeavesOnly}
 use Rattle.ss_outside.specs.Disk.{Told}
 use Rattle.ss_outside.specs.Source.{Moves}
-use Rattle.ss_model.specs.State.{state}
-use Rattle.ss_store.specs.Causes.{OpenCause, OpensAs}
-use Rattle.ss_store.specs.Kept.{StoreState}
-use Rattle.ss_store.specs.Recover.{Stands, no_store, damaged_entry, damaged_slot, damaged_stream, recovers}
+use Rattle.ss_model.specs.State.{Stream, state}
+use Rattle.ss_store.specs.Causes.{OpensAs}
+use Rattle.ss_store.specs.Recover.{Recovers, Stands, no_store, damaged_entry, damaged_slot, damaged_stream, recovers}
+use Rattle.ss_store.specs.Surveyed.{SurveysAs, survey_of}
 use Rattle.ss_store.specs.declared.error.OpenError.{OpenError}
 use Rattle.ss_store.specs.declared.error.OpenError.TheVariants as opening
+use Rattle.ss_store.specs.declared.surveying.Survey.{Survey}
 use Rattle.summarystore.specs.Line.{History}
 use Rattle.summarystore.specs.Outcome.{Reports, Reads, Serves, Stopped, Took, lines_within}
 use Rattle.summarystore.specs.Progress.{EndsWell, GoesOn, HasReplied, HasTaken, SessionState, StandsWithin, StopsIn}
@@ -22,7 +23,6 @@ use Rattle.summarystore.specs.Refused.{AsRefused, status_of_open}
 use Rattle.summarystore.specs.Sent.{appended, AppendsFront}
 use Rattle.summarystore.specs.Session.{after_lines, report, report_so_far, text_of}
 use Rattle.summarystore.specs.Status.{number_of, IsStop, EndsServing, Counts}
-use Rattle.summarystore.specs.Words.{ArePlain}
 use Rattle.summarystore.specs.declared.run.TheConstants.{LONGEST_INPUT}
 use Rattle.summarystore.specs.declared.status.Status.{Status}
 use Rattle.summarystore.specs.declared.status.Status.TheVariants.{Done, Usage, RefusedStore, DiskFault, SourceFault, SinkFault, OutOfMemory, InputLimit, RecordChanged}
@@ -38,18 +38,6 @@ moved None after count into left moves is = cc
 moved (Some bytes) after count into left moves is =
     let same : bytes ≡ left = cc in
     subst (λ bs. (count ≤ length bs) × (take count into ≡ take count bs) × (after ≡ Some (drop count bs))) same (moves.0, moves.2, moves.3)
-
--- three words are known where the third is `run`
-pub ArePlain-three : {X : Type 0} (bytes_of : X → List ℕ) (words : List X) (mode : X) (text : List ℕ) (b : Bool) → 3 ≤ length words →
-    length words < 4 → mode ≡ get_or words 2 mode → text ≡ bytes_of mode → (IsTrue b ↔ (text ≡ codes "run")) →
-    IsTrue b ↔ ArePlain (map bytes_of words)
-ArePlain-three bytes_of [] mode text b some few third is run = absurd (omega arith)
-ArePlain-three bytes_of (x ∷ []) mode text b some few third is run = absurd (omega arith)
-ArePlain-three bytes_of (x ∷ y ∷ []) mode text b some few third is run = absurd (omega arith)
-ArePlain-three bytes_of (x ∷ y ∷ z ∷ []) mode text b some few third is run =
-    let same = is ∙ ap (λ w. bytes_of w) third in
-    (λ yes. sym same ∙ run.0 yes, λ plain. run.1 (same ∙ plain))
-ArePlain-three bytes_of (x ∷ y ∷ z ∷ w ∷ ws) mode text b some few third is run = absurd (omega arith)
 
 -- so many bytes of the input were taken since a moment, and the lines that end in them are answered
 pub record IsThrough (history : History) (start now : Told) (session : SessionState) (before held left : Option (List ℕ)) (input : List ℕ) (n : ℕ) : Type 0 where
@@ -224,7 +212,7 @@ Reports-stop history input left before after old new SourceFault front has stop 
 Reports-stop history input left before after old new InputLimit front has stop = absurd stop
 
 -- its status isn't 0 or 8
-stop-number : (tells : Bool) (status : Status) → IsStop tells status → (number_of status ≡ 0 → ⊥) × (number_of status ≡ 8 → ⊥)
+pub stop-number : (tells : Bool) (status : Status) → IsStop tells status → (number_of status ≡ 0 → ⊥) × (number_of status ≡ 8 → ⊥)
 stop-number tells DiskFault stop = (λ is. absurd (omega (arith, is)), λ is. absurd (omega (arith, is)))
 stop-number tells SinkFault stop = (λ is. absurd (omega (arith, is)), λ is. absurd (omega (arith, is)))
 stop-number tells OutOfMemory stop = (λ is. absurd (omega (arith, is)), λ is. absurd (omega (arith, is)))
@@ -327,41 +315,12 @@ Reads-end tells input left status fits source (inl is) =
 Reads-end tells input left status fits source (inr stop) =
     record { whole = λ _. (fits, source); limit = λ wrong. absurd ((stop-number tells status stop).1 wrong) }
 
--- and where it didn't
-pub Reads-none : (tells : Bool) (input : List ℕ) (left : Option (List ℕ)) (status : Status) → (status ≡ SourceFault) ⊎ IsStop tells status →
-    Reads input left (number_of status)
-Reads-none tells input left status (inl is) =
-    let n = ap (λ s. number_of s) is in
-    record { whole = λ wrong. absurd (omega (arith, n, wrong)); limit = λ wrong. absurd (omega (arith, n, wrong)) }
-Reads-none tells input left status (inr stop) =
-    record { whole = λ wrong. absurd ((stop-number tells status stop).0 wrong); limit = λ wrong. absurd ((stop-number tells status stop).1 wrong) }
-
 pub Reads-limit : (input : List ℕ) (left : Option (List ℕ)) (n : ℕ) → n ≡ LONGEST_INPUT → 0 < length (drop n input) → left ≡ Some (drop 1 (drop n input)) →
     Reads input left 8
 Reads-limit input left n last some is = record {
   whole = λ wrong. absurd (omega (arith, wrong));
   limit = λ _. (omega (arith, last, some, length-drop n input), is ∙ ap (λ bs. Some bs) (drop-drop 1 n input ∙ ap (λ m. drop (m + 1) input) last));
 }
-
--- how a run ends that serves
-EndsServing-stop : (tells : Bool) (status : Status) → IsStop tells status → EndsServing tells status
-EndsServing-stop tells DiskFault stop = tt
-EndsServing-stop tells SinkFault stop = tt
-EndsServing-stop tells OutOfMemory stop = tt
-EndsServing-stop tells RecordChanged stop = stop
-EndsServing-stop tells Done stop = tt
-EndsServing-stop tells Usage stop = absurd stop
-EndsServing-stop tells RefusedStore stop = absurd stop
-EndsServing-stop tells SourceFault stop = tt
-EndsServing-stop tells InputLimit stop = tt
-
-pub EndsServing-finish : (tells : Bool) (status : Status) → (status ≡ Done) ⊎ IsStop tells status → EndsServing tells status
-EndsServing-finish tells status (inl is) = subst (EndsServing tells) (sym is) tt
-EndsServing-finish tells status (inr stop) = EndsServing-stop tells status stop
-
-pub EndsServing-piece : (tells : Bool) (status : Status) → (status ≡ SourceFault) ⊎ IsStop tells status → EndsServing tells status
-EndsServing-piece tells status (inl is) = subst (EndsServing tells) (sym is) tt
-EndsServing-piece tells status (inr stop) = EndsServing-stop tells status stop
 
 -- What opening the store left comes before what serving leaves.
 pub Serves-opened : (history : History) (input : List ℕ) (left before after : Option (List ℕ)) (old mid new : Told) (status : ℕ) →
@@ -427,7 +386,7 @@ Reads-refused input left (opening.BadSlot n) = record { whole = λ is. absurd (o
 Reads-refused input left (opening.BadStream id) = record { whole = λ is. absurd (omega (arith, is)); limit = λ is. absurd (omega (arith, is)) }
 Reads-refused input left (opening.Changed slot) = record { whole = λ is. absurd (omega (arith, is)); limit = λ is. absurd (omega (arith, is)) }
 
--- How a run ends where nothing fails but memory: of a store that was opened,
+-- How a run ends where nothing fails but memory.
 pub completes : (tells : Bool) (status : Status) (d e s t k l : ℕ) → IsTrue tells → EndsServing tells status →
     Counts DiskFault d e status → Counts SourceFault s t status → Counts SinkFault k l status →
     (Rose d e → ⊥) → (Rose s t → ⊥) → (Rose k l → ⊥) → (number_of status ≡ 8 → ⊥) → (number_of status ≡ 0) ⊎ (number_of status ≡ 7)
@@ -441,17 +400,48 @@ completes tells RecordChanged d e s t k l told ends disk source sink calm_disk c
 completes tells Usage d e s t k l told ends disk source sink calm_disk calm_source calm_sink limit = absurd ends
 completes tells RefusedStore d e s t k l told ends disk source sink calm_disk calm_source calm_sink limit = absurd ends
 
--- and of one that wasn't
-pub completes-refused : (history : History) (content : List ℕ) (d e : ℕ) (error : OpenError) → OpensAs content (Err error) → Stands history content →
-    OpenCause {T = StoreState} d e (Err error) → (Rose d e → ⊥) → (number_of (status_of_open error) ≡ 0) ⊎ (number_of (status_of_open error) ≡ 7)
-completes-refused history content d e opening.Disk opens stands cause calm = absurd (calm cause.1)
-completes-refused history content d e opening.OutOfMemory opens stands cause calm = inr refl
-completes-refused history content d e opening.NotAStore opens stands cause calm =
-    let wrong : no_store ≡ recovers (state history) = sym opens ∙ stands.state in cc
-completes-refused history content d e (opening.BadEntry n) opens stands cause calm =
-    let wrong : damaged_entry n ≡ recovers (state history) = sym opens ∙ stands.state in cc
-completes-refused history content d e (opening.BadSlot n) opens stands cause calm =
-    let wrong : damaged_slot n ≡ recovers (state history) = sym opens ∙ stands.state in cc
-completes-refused history content d e (opening.BadStream id) opens stands cause calm =
-    let wrong : damaged_stream id ≡ recovers (state history) = sym opens ∙ stands.state in cc
-completes-refused history content d e (opening.Changed slot) opens stands cause calm = absurd opens
+-- A run over no input doesn't end by a fault of a source,
+pub stop-unfed : (tells : Bool) (status : Status) → (status ≡ Done) ⊎ IsStop tells status → number_of status ≡ 5 → ⊥
+stop-unfed tells status (inl is) five = let zero = ap (λ s. number_of s) is in absurd (omega (arith, zero, five))
+stop-unfed tells DiskFault (inr stop) five = absurd (omega (arith, five))
+stop-unfed tells SinkFault (inr stop) five = absurd (omega (arith, five))
+stop-unfed tells OutOfMemory (inr stop) five = absurd (omega (arith, five))
+stop-unfed tells RecordChanged (inr stop) five = absurd (omega (arith, five))
+stop-unfed tells Done (inr stop) five = absurd stop
+stop-unfed tells Usage (inr stop) five = absurd stop
+stop-unfed tells RefusedStore (inr stop) five = absurd stop
+stop-unfed tells SourceFault (inr stop) five = absurd stop
+stop-unfed tells InputLimit (inr stop) five = absurd stop
+
+-- and it ends where nothing fails but memory.
+pub completes-alone : (tells : Bool) (status : Status) (d e k l : ℕ) → IsTrue tells → (status ≡ Done) ⊎ IsStop tells status →
+    Counts DiskFault d e status → Counts SinkFault k l status → (Rose d e → ⊥) → (Rose k l → ⊥) → (number_of status ≡ 0) ⊎ (number_of status ≡ 7)
+completes-alone tells status d e k l told (inl is) disk sink calm_disk calm_sink = inl (ap (λ s. number_of s) is)
+completes-alone tells DiskFault d e k l told (inr stop) disk sink calm_disk calm_sink = absurd (calm_disk disk)
+completes-alone tells SinkFault d e k l told (inr stop) disk sink calm_disk calm_sink = absurd (calm_sink sink)
+completes-alone tells OutOfMemory d e k l told (inr stop) disk sink calm_disk calm_sink = inr refl
+completes-alone tells RecordChanged d e k l told (inr stop) disk sink calm_disk calm_sink = absurd (stop told)
+completes-alone tells Done d e k l told (inr stop) disk sink calm_disk calm_sink = absurd stop
+completes-alone tells Usage d e k l told (inr stop) disk sink calm_disk calm_sink = absurd stop
+completes-alone tells RefusedStore d e k l told (inr stop) disk sink calm_disk calm_sink = absurd stop
+completes-alone tells SourceFault d e k l told (inr stop) disk sink calm_disk calm_sink = absurd stop
+completes-alone tells InputLimit d e k l told (inr stop) disk sink calm_disk calm_sink = absurd stop
+
+-- Nothing was said of a store that isn't refused, and the run isn't done, where it wasn't opened.
+pub unopened : (content : List ℕ) (streams : List Stream) (before after : Option (List ℕ)) (k l : ℕ) (error : OpenError) → Recovers streams content →
+    OpensAs content (Err error) → AsRefused error before after k l → (after ≡ before) × (number_of (status_of_open error) ≡ 0 → ⊥)
+unopened content streams before after k l opening.Disk is opens said = (said.0, λ zero. absurd (omega (arith, zero)))
+unopened content streams before after k l opening.OutOfMemory is opens said = (said.0, λ zero. absurd (omega (arith, zero)))
+unopened content streams before after k l opening.NotAStore is opens said = let wrong : no_store ≡ recovers streams = sym opens ∙ is in cc
+unopened content streams before after k l (opening.BadEntry n) is opens said = let wrong : damaged_entry n ≡ recovers streams = sym opens ∙ is in cc
+unopened content streams before after k l (opening.BadSlot n) is opens said = let wrong : damaged_slot n ≡ recovers streams = sym opens ∙ is in cc
+unopened content streams before after k l (opening.BadStream id) is opens said = let wrong : damaged_stream id ≡ recovers streams = sym opens ∙ is in cc
+unopened content streams before after k l (opening.Changed slot) is opens said = absurd opens
+
+-- what is said of the streams to which the content recovers
+pub surveyed : (content : List ℕ) (streams : List Stream) (survey : Survey) → SurveysAs content (Ok survey) → Recovers streams content →
+    survey ≡ survey_of streams
+surveyed content streams survey surveys is =
+    let same : recovers surveys.0 ≡ recovers streams = sym surveys.1 ∙ is in
+    let one : surveys.0 ≡ streams = cc in
+    surveys.2 ∙ ap (λ ss. survey_of ss) one

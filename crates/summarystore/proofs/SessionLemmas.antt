@@ -30,7 +30,7 @@ after_lines-accepted history (l ∷ ls) =
     ∙ append_assoc history (the_event (brings history l).event) (accepted (after_line history l) ls)
 
 -- the replies to more lines, and their text
-replies-append : (history : History) (ls ms : List (List ℕ)) → replies history (ls ++ ms) ≡ replies history ls ++ replies (after_lines history ls) ms
+pub replies-append : (history : History) (ls ms : List (List ℕ)) → replies history (ls ++ ms) ≡ replies history ls ++ replies (after_lines history ls) ms
 replies-append history [] ms = refl
 replies-append history (l ∷ ls) ms =
     ap (λ (rs : List Reply). (brings history l).replies ++ rs) (replies-append (after_line history l) ls ms)

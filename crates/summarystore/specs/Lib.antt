@@ -8,3 +8,7 @@ pub mod Status
 pub mod Held
 pub mod Refused
 pub mod Outcome
+pub mod Checked
+pub mod Generated
+pub mod Tally
+pub mod Ending

@@ -28,8 +28,8 @@ use ss_outside::{Disk, Failed, Sink};
 use ss_report::{Reply, reply_text};
 use ss_store::{ApplyError, AskError, Store};
 
-// The status where a sink failed.
-fn at_sink(sent: Result<(), Failed>) -> Result<(), Status>
+/// The status where a sink failed.
+pub fn at_sink(sent: Result<(), Failed>) -> Result<(), Status>
     ensures { result ≡ at_sink sent }
 {
     match sent {
@@ -38,8 +38,8 @@ fn at_sink(sent: Result<(), Failed>) -> Result<(), Status>
     }
 }
 
-// Sends the text of a reply as one piece.
-fn send_reply<K: Sink>(reply: &Reply, sink: &mut K) -> Result<(), Status>
+/// Sends the text of a reply as one piece.
+pub fn send_reply<K: Sink>(reply: &Reply, sink: &mut K) -> Result<(), Status>
     ensures sends { Sends (K.held sink.old) (K.held sink.new) (reply_line reply.now) result }
     ensures status { IfErr result (λ status. status ≡ Status.SinkFault) }
     ensures cause { CountsIfEnded Status.SinkFault (K.faults sink.old) (K.faults sink.new) result }
@@ -151,8 +151,8 @@ fn list<K: Sink>(store: &Store, sink: &mut K) -> Result<(), Status>
     send_streams(store, count, sink)
 }
 
-// Asks the store, and answers the reply to it.
-fn ask<D: Disk>(store: &mut Store, query: &Query, disk: &mut D) -> Result<Reply, Status>
+/// Asks the store, and answers the reply to it.
+pub fn ask<D: Disk>(store: &mut Store, query: &Query, disk: &mut D) -> Result<Reply, Status>
     requires open { IsOpen (D.tells disk.old) (D.told disk.old) store.old }
     ensures reply { IsTrue (D.tells disk.old) → (history : History) → Stands history (D.told disk.old).content →
         IfOk result (λ reply. (command_brings history (Ask query.now)).replies ≡ reply ∷ []) }
@@ -192,8 +192,8 @@ fn show_answer<D: Disk, K: Sink>(
     send_reply(&reply, sink)
 }
 
-// Applies an event, and answers the reply to it.
-fn apply<D: Disk>(store: &mut Store, event: &Event, disk: &mut D) -> Result<Reply, Status>
+/// Applies an event, and answers the reply to it.
+pub fn apply<D: Disk>(store: &mut Store, event: &Event, disk: &mut D) -> Result<Reply, Status>
     requires in_time { IsInTime event.now }
     requires open { IsOpen (D.tells disk.old) (D.told disk.old) store.old }
     ensures adds { IsTrue (D.tells disk.old) → (history : History) →

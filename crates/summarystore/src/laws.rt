@@ -4,7 +4,7 @@ ghost use Rattle.ss_catalog.specs.declared.query.Query.{Query};
 ghost use Rattle.ss_command.specs.Grammar.{meaning};
 ghost use Rattle.ss_command.specs.declared.command.Command.TheVariants.{Ask};
 ghost use Rattle.ss_model.specs.Answers.{HoldsTruth, refuses_query};
-ghost use Rattle.ss_model.specs.History.{values_of};
+ghost use Rattle.ss_model.specs.History.{marked_of, values_of};
 ghost use Rattle.ss_model.specs.Refusals.{IsHistory};
 ghost use Rattle.ss_model.specs.State.{state};
 ghost use Rattle.ss_model.specs.declared.outcome.Outcome.{Outcome};
@@ -17,5 +17,5 @@ pub fn queries_hold_the_truth()
     ensures { (history : History) (line : List ℕ) (query : Query) → IsHistory history → meaning line ≡ Ok (Some (Ask query)) →
         refuses_query (state history) query ≡ None →
         (outcome : Outcome) × (brings history line ≡ shown (Answered outcome ∷ []))
-        × HoldsTruth query (values_of history query.name) [] outcome }
+        × HoldsTruth query (values_of history query.name) (marked_of history query.name) outcome }
 {}

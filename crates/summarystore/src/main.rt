@@ -5,7 +5,9 @@
 mod adapter_tests;
 mod adapters;
 mod answer;
+mod check;
 mod file_disk;
+mod generate;
 mod laws;
 mod notice;
 mod refuse;

@@ -8,7 +8,11 @@ Reads commands from standard input, one a line, and replies to each on standard
 output. STORE is the file that keeps the streams. It is made where there is none,
 and the next run goes on where the last one ended, also after a crash: each ok
 is on the disk before it is printed. One program at a time can use a store.
-check and gen are not there yet.
+  check  reads no input and writes nothing: it prints how many streams, windows,
+         landmarks and values in these STORE has, or what of it is damaged
+  gen    runs commands of its own in place of the input: they give a stream g
+         COUNT values, 1 to 100000, made from SEED, 0 to 2^64-1. It prints how
+         many were ok and how many refused, and what six queries at the end say
 
   create NAME exp B R S  a new stream: R windows of each of the lengths S, S*B,
                          S*B*B and so on, the longer ones for older values
@@ -17,6 +21,8 @@ check and gen are not there yet.
                          for g = 1, 2, 3 and so on
   append NAME T V        the value V at the time T, later than the last: ok N K
                          says that the stream has N values in K windows
+  landmark NAME open T   from here on the values are kept one by one, until
+  landmark NAME close T  the landmark is closed again
   query NAME count|sum|min|max T1 T2
                          what is known of the values from the time T1 to T2: the
                          least and the greatest that the answer can be

@@ -1,10 +1,11 @@
 // The top call.
-ghost use Rattle.std.specs.Prelude.{◌≡◌, ◌≢◌, ◌↔◌, ◌⊎◌, ◌+◌, ◌-◌, ◌<◌, ◌≤◌, ◌++◌, ℕ, List, [], Option, Some, map, length, take, drop, true, false, IsTrue, IsSome, IfOk, IfErr, OnOk, OnErr, IsErrOf, string_bytes, codes};
+ghost use Rattle.std.specs.Prelude.{◌≡◌, ◌≢◌, ◌↔◌, ◌⊎◌, ◌+◌, ◌-◌, ◌<◌, ◌≤◌, ◌++◌, ℕ, List, [], Option, Some, length, take, drop, true, false, IsTrue, IsSome, IsNone, None, IfOk, IfErr, OnOk, OnErr, IsErrOf};
 ghost use Rattle.ss_command.specs.Lines.{lines, lines_so_far};
 ghost use Rattle.ss_outside.specs.Causes.{Rose, HasCause};
 ghost use Rattle.ss_outside.specs.Disk.{NothingPending};
-ghost use Rattle.ss_store.specs.Recover.{Stands, recover};
+ghost use Rattle.ss_store.specs.Recover.{Recovers, Stands, recover};
 ghost use Rattle.summarystore.specs.Answer.{IsOpen};
+ghost use Rattle.summarystore.specs.Ending.{Ends};
 ghost use Rattle.summarystore.specs.Held.{StandsForFirst};
 ghost use Rattle.summarystore.specs.Line.{History};
 ghost use Rattle.summarystore.specs.Outcome.{HoldsReported, Reports, Reads, Serves};
@@ -13,11 +14,18 @@ ghost use Rattle.summarystore.specs.Refused.{RefusesStore, refusal_line};
 ghost use Rattle.summarystore.specs.Sent.{SaysLine};
 ghost use Rattle.summarystore.specs.Session.{accepted};
 ghost use Rattle.summarystore.specs.Status.{number_of, EndsServing, IsStop, Counts, CountsIfEnded};
-ghost use Rattle.summarystore.specs.Words.{ArePlain, usage};
+ghost use Rattle.summarystore.specs.Words.{usage};
+ghost use Rattle.ss_arguments.specs.Modes.{mode_of, words_of};
+ghost use Rattle.ss_model.specs.State.{Stream};
+ghost use Rattle.summarystore.specs.Checked.{Checks};
+ghost use Rattle.summarystore.specs.Generated.{Generates};
 
+use crate::check::check;
+use crate::generate::generate;
 use crate::refuse::{refuse, say_usage};
 use crate::session::Session;
 use crate::status::Status;
+use ss_arguments::{Mode, mode_of};
 use ss_outside::{Disk, Failed, Sink, Source};
 use ss_store::Store;
 use std::alloc::Global;
@@ -27,24 +35,6 @@ pub const LONGEST_INPUT: u64 = 1 << 36;
 
 // How many bytes a read asks for at the most.
 const BUFFER: usize = 4096;
-
-// Whether a word is `run`.
-fn is_run(word: &str) -> bool
-    ensures { IsTrue result ↔ (word.now ≡ codes "run") }
-{
-    word == "run"
-}
-
-// Whether the words are the program's name and the store's path, and then nothing or `run`.
-fn are_plain(words: &[String]) -> bool
-    ensures { IsTrue result ↔ ArePlain (map (λ w. string_bytes w) words.now) }
-{
-    match words {
-        [_, _] => true,
-        [_, _, mode] => is_run(mode.as_str()),
-        _ => false,
-    }
-}
 
 // Reads at most `room` bytes, answers each line that ends in them, and says how many there were: 0 at the end of the input.
 fn read_piece<D: Disk, S: Source, K: Sink>(
@@ -139,6 +129,32 @@ fn serve<D: Disk, S: Source, K: Sink>(
     }
 }
 
+// Opens the store, and answers each line of the source.
+fn run_source<D: Disk, S: Source, K: Sink>(
+    alloc: Global,
+    disk: &mut D,
+    source: &mut S,
+    sink: &mut K,
+) -> Status
+    ensures ends { Ends (D.tells disk.old) (D.told disk.old) (D.told disk.new) (K.held sink.old) (K.held sink.new)
+        (D.faults disk.old) (D.faults disk.new) (K.faults sink.old) (K.faults sink.new) (number_of result) }
+    ensures source_cause { Counts Status.SourceFault (S.faults source.old) (S.faults source.new) result }
+    ensures unserved { number_of result ≡ 3 → source.new ≡ source.old }
+    ensures reads { (input : List ℕ) → S.left source.old ≡ Some input → Reads input (S.left source.new) (number_of result) }
+    ensures serves { IsTrue (D.tells disk.old) → NothingPending (D.told disk.old) → (history : History) →
+        Stands history (D.told disk.old).content → (input : List ℕ) → S.left source.old ≡ Some input →
+        Serves history input (S.left source.new) (K.held sink.old) (K.held sink.new) (D.told disk.old) (D.told disk.new) (number_of result) }
+    ensures completes { IsTrue (D.tells disk.old) → (history : History) → Stands history (D.told disk.old).content →
+        (input : List ℕ) → S.left source.old ≡ Some input → length input ≤ LONGEST_INPUT →
+        (Rose (D.faults disk.old) (D.faults disk.new) → ⊥) → (Rose (S.faults source.old) (S.faults source.new) → ⊥) →
+        (Rose (K.faults sink.old) (K.faults sink.new) → ⊥) → (number_of result ≡ 0) ⊎ (number_of result ≡ 7) }
+{
+    match Store::open(alloc, disk) {
+        Ok(store) => serve(store, disk, source, sink),
+        Err(error) => refuse(error, sink),
+    }
+}
+
 /// Runs the program over a store, a source of command lines and a sink of replies, and answers its exit status. The words
 /// are those of the command line, the program's name first; the disk is that of the store's path. docs/GUIDE.md has the forms
 /// of lines and replies and the statuses, docs/DEFINITIONS.md what the report of an input is and what an image stands for.
@@ -152,17 +168,19 @@ pub fn run<D: Disk, S: Source, K: Sink>(
     // No other number is answered.
     ensures known { (status : _) × (result ≡ number_of status) }
 
-    // 2 exactly where the words aren't known. The disk and the source are then not called, and the sink gets the usage line.
-    ensures words { result ≡ 2 ↔ (ArePlain (map (λ w. string_bytes w) words.now) → ⊥) }
-    ensures undone { result ≡ 2 → disk.new ≡ disk.old }
-    ensures unread { result ≡ 2 → source.new ≡ source.old }
+    // 2 only where the words aren't known, and there always, or else 7 for out of memory. The disk and the source are then not
+    // called, and at 2 the sink gets the usage line.
+    ensures words { result ≡ 2 → mode_of (words_of words.now) ≡ None }
+    ensures unknown { mode_of (words_of words.now) ≡ None → (result ≡ 2) ⊎ (result ≡ 7) }
+    ensures undone { mode_of (words_of words.now) ≡ None → disk.new ≡ disk.old }
+    ensures unread { (mode_of (words_of words.now) ≡ Some Mode.Run → ⊥) → source.new ≡ source.old }
     ensures usage { result ≡ 2 → SaysLine usage (K.held sink.old) (K.held sink.new) (K.faults sink.old) (K.faults sink.new) }
 
     // 3 exactly where the words are known and the content is no store or is damaged, unless the disk fails before, or memory
     // runs out. The source is then not called, nothing is written, and the sink gets the line of what is found first.
     ensures refused { result ≡ 3 → IsTrue (D.tells disk.old) → RefusesStore (D.told disk.old) (D.told disk.new)
         (K.held sink.old) (K.held sink.new) (K.faults sink.old) (K.faults sink.new) }
-    ensures refuses { ArePlain (map (λ w. string_bytes w) words.now) → IsTrue (D.tells disk.old) →
+    ensures refuses { IsSome (mode_of (words_of words.now)) → IsTrue (D.tells disk.old) →
         IsSome (refusal_line (recover (D.told disk.old).content)) → (result ≡ 3) ⊎ (result ≡ 4) ⊎ (result ≡ 7) }
     ensures unserved { result ≡ 3 → source.new ≡ source.old }
 
@@ -181,46 +199,67 @@ pub fn run<D: Disk, S: Source, K: Sink>(
     // 9 only where the disk doesn't tell what it holds.
     ensures firm { result ≡ 9 → IsTrue (D.tells disk.old) → ⊥ }
 
-    // What is read, at known words and where the source tells.
-    ensures reads { (result ≡ 2 → ⊥) → (input : List ℕ) → S.left source.old ≡ Some input →
+    // A run over the source. What is read, where the source tells.
+    ensures reads { mode_of (words_of words.now) ≡ Some Mode.Run → (input : List ℕ) → S.left source.old ≡ Some input →
         Reads input (S.left source.new) result }
 
     // What is written to the sink, for each history for which the content stands.
-    ensures report { (result ≡ 2 → ⊥) → IsTrue (D.tells disk.old) → NothingPending (D.told disk.old) →
+    ensures report { mode_of (words_of words.now) ≡ Some Mode.Run → IsTrue (D.tells disk.old) → NothingPending (D.told disk.old) →
         (history : History) → Stands history (D.told disk.old).content → (input : List ℕ) → S.left source.old ≡ Some input →
         Reports history input (S.left source.new) (K.held sink.old) (K.held sink.new) (D.told disk.new) result }
 
     // What a crash leaves after the run: the history and the acknowledged events, and at most one more; at 0 all of them.
-    ensures kept { (result ≡ 2 → ⊥) → IsTrue (D.tells disk.old) → NothingPending (D.told disk.old) →
+    ensures kept { mode_of (words_of words.now) ≡ Some Mode.Run → IsTrue (D.tells disk.old) → NothingPending (D.told disk.old) →
         (history : History) → Stands history (D.told disk.old).content → (input : List ℕ) → S.left source.old ≡ Some input →
         HoldsReported history input (K.held sink.old) (K.held sink.new) (D.told disk.new) result }
 
     // What a crash at any moment of the run leaves: the history and some first of the events that are accepted.
-    ensures any_moment { IsTrue (D.tells disk.old) → NothingPending (D.told disk.old) →
+    ensures any_moment { mode_of (words_of words.now) ≡ Some Mode.Run → IsTrue (D.tells disk.old) → NothingPending (D.told disk.old) →
         (history : History) → Stands history (D.told disk.old).content → (input : List ℕ) → S.left source.old ≡ Some input →
         (image : List ℕ) → (D.told disk.new).left_since (D.told disk.old).moment image →
         StandsForFirst history (accepted history (lines input)) image }
 
     // At 0 the content stands for the history and all events that are accepted.
-    ensures done { result ≡ 0 → IsTrue (D.tells disk.old) → NothingPending (D.told disk.old) →
+    ensures done { mode_of (words_of words.now) ≡ Some Mode.Run → result ≡ 0 → IsTrue (D.tells disk.old) →
+        NothingPending (D.told disk.old) →
         (history : History) → Stands history (D.told disk.old).content → (input : List ℕ) → S.left source.old ≡ Some input →
         Stands (history ++ accepted history (lines input)) (D.told disk.new).content }
 
-    // With known words, a content that stands for a history, an input within its limit and no fault, the answer is 0, or 7:
-    // out of memory.
-    ensures completes { ArePlain (map (λ w. string_bytes w) words.now) → IsTrue (D.tells disk.old) →
+    // A check: what is written to the sink, and nothing to the disk, where the content recovers to some streams.
+    ensures checks { mode_of (words_of words.now) ≡ Some Mode.Check → IsTrue (D.tells disk.old) → (streams : List Stream) →
+        Recovers streams (D.told disk.old).content →
+        Checks streams (K.held sink.old) (K.held sink.new) (D.told disk.old) (D.told disk.new) result }
+
+    // A run over a generated file: what is written to the sink, and what a crash leaves, for each history for which the content
+    // stands.
+    ensures generates { (seed count : ℕ) → mode_of (words_of words.now) ≡ Some (Mode.Gen seed count) → IsTrue (D.tells disk.old) →
+        NothingPending (D.told disk.old) → (history : History) → Stands history (D.told disk.old).content →
+        Generates history seed count (K.held sink.old) (K.held sink.new) (D.told disk.old) (D.told disk.new) result }
+
+    // With words of a run over the source, a content that stands for a history, an input within its limit and no fault, the answer
+    // is 0, or 7: out of memory. So it is with those of a check or of a generated file, without an input.
+    ensures completes { mode_of (words_of words.now) ≡ Some Mode.Run → IsTrue (D.tells disk.old) →
         (history : History) → Stands history (D.told disk.old).content → (input : List ℕ) →
         S.left source.old ≡ Some input → length input ≤ LONGEST_INPUT → (Rose (D.faults disk.old) (D.faults disk.new) → ⊥) →
         (Rose (S.faults source.old) (S.faults source.new) → ⊥) → (Rose (K.faults sink.old) (K.faults sink.new) → ⊥) →
         (result ≡ 0) ⊎ (result ≡ 7) }
+    ensures completes_alone { IsSome (mode_of (words_of words.now)) → (mode_of (words_of words.now) ≡ Some Mode.Run → ⊥) →
+        IsTrue (D.tells disk.old) → IsNone (refusal_line (recover (D.told disk.old).content)) →
+        (Rose (D.faults disk.old) (D.faults disk.new) → ⊥) → (Rose (K.faults sink.old) (K.faults sink.new) → ⊥) →
+        (result ≡ 0) ⊎ (result ≡ 7) }
 {
-    if !are_plain(words) {
-        say_usage(sink);
-        return Status::Usage.number();
-    }
-    let status = match Store::open(alloc, disk) {
-        Ok(store) => serve(store, disk, source, sink),
-        Err(error) => refuse(error, sink),
+    let mode = match mode_of(alloc, words) {
+        Ok(Some(mode)) => mode,
+        Ok(None) => {
+            say_usage(sink);
+            return Status::Usage.number();
+        }
+        Err(_) => return Status::OutOfMemory.number(),
+    };
+    let status = match mode {
+        Mode::Run => run_source(alloc, disk, source, sink),
+        Mode::Check => check(alloc, disk, sink),
+        Mode::Gen { seed, count } => generate(alloc, seed, count, disk, sink),
     };
     status.number()
 }

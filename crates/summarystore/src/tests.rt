@@ -91,6 +91,18 @@ const LINES: &str = "\r\n \t \n# note\n #\nLIST\nlist\0\n\tlist  \nlist\r\nlist\
 const LINES_REPORT: &str =
     "refused SYNTAX\nrefused SYNTAX\nrefused SYNTAX\nlist 0\nlist 0\nrefused SYNTAX\nlist 0\n";
 
+// A stream with a value in a landmark and one after it.
+const MARKED: &str =
+    "create b exp 2 1 1\nlandmark b open 100\nappend b 100 7\nlandmark b close 100\nappend b 100 8\nappend b 101 8\n\
+    query b sum 100 100\nlist\n";
+
+const MARKED_REPORT: &str = "ok 0 0\nok 0 0\nok 0 0\nok 0 0\nrefused TIME\nok 1 1\n\
+    sum 7 7\nlist 1\nb exp 2 1 1 1 1 1 1\n";
+
+const CHECK: &[&str] = &["summarystore", "readings.store", "check"];
+
+const GEN: &[&str] = &["summarystore", "readings.store", "gen", "0", "1"];
+
 const USAGE: &str = "usage: summarystore STORE [run | check | gen SEED COUNT]\n";
 
 // A text with so many blanks behind it, and then an end.
@@ -155,6 +167,76 @@ fn run_over<K: Sink>(
     run_on(alloc, &mut empty(alloc)?, input, piece, failing, sink)
 }
 
+// Runs the program by these words on a disk, over no input, and gives what was written.
+fn run_by(alloc: Global, words: &[&str], disk: &mut MemDisk) -> Result<(u8, Vec<u8>), AllocError> {
+    let words = words_of(alloc, words)?;
+    let mut source = MemSource::new(alloc, Vec::new(alloc), 1);
+    let mut sink = MemSink::new(alloc);
+    let status = run(alloc, &words, disk, &mut source, &mut sink);
+    Ok((status, sink.held().to_vec(alloc)?))
+}
+
+#[test]
+fn a_mode_says_what_came_of_it(rt: HostRuntime) -> Result<(), Fail> {
+    let rows: [(&str, &[(&[&str], &str)]); 4] = [
+        (
+            "",
+            &[
+                (CHECK, "sound streams 0 windows 0 landmarks 0 values 0\n"),
+                (
+                    GEN,
+                    "gen 0 1\nlines 8\nok 2\nrefused 0\n\
+                    count 1 1\nsum 874 874\ncount 0 0\nsum 0 0\nmin none\nmax none\n",
+                ),
+                (
+                    GEN,
+                    "gen 0 1\nlines 8\nok 0\nrefused 2\n\
+                    count 1 1\nsum 874 874\ncount 0 0\nsum 0 0\nmin none\nmax none\n",
+                ),
+                (CHECK, "sound streams 1 windows 1 landmarks 0 values 0\n"),
+            ],
+        ),
+        (
+            READINGS,
+            &[(CHECK, "sound streams 1 windows 3 landmarks 0 values 0\n")],
+        ),
+        (
+            MARKED,
+            &[(CHECK, "sound streams 1 windows 1 landmarks 1 values 1\n")],
+        ),
+        (
+            "",
+            &[(
+                &["summarystore", "readings.store", "gen", "1", "1"],
+                "gen 1 1\nlines 8\nok 2\nrefused 0\n\
+                count 1 1\nsum -416 -416\ncount 0 0\nsum 0 0\nmin none\nmax none\n",
+            )],
+        ),
+    ];
+    for (input, steps) in rows {
+        let mut disk = empty(rt.alloc())?;
+        let mut sink = MemSink::new(rt.alloc());
+        assert_eq!(rt;
+            run_on(rt.alloc(), &mut disk, input, 4096, &[], &mut sink)?,
+            0
+        );
+        for (words, text) in steps {
+            let (status, written) = run_by(rt.alloc(), words, &mut disk)?;
+            assert_eq!(rt; (status, written.as_slice()), (0, text.as_bytes()));
+        }
+    }
+    Ok(())
+}
+
+#[test]
+fn a_generated_file_stops_with_the_disk(rt: HostRuntime) -> Result<(), Fail> {
+    let mut disk = empty(rt.alloc())?;
+    disk.stop_from(20);
+    let (status, written) = run_by(rt.alloc(), GEN, &mut disk)?;
+    assert_eq!(rt; (status, written.as_slice()), (4, b"".as_slice()));
+    Ok(())
+}
+
 #[test]
 fn rows_are_reported_in_whatever_pieces(rt: HostRuntime) -> Result<(), Fail> {
     for (input, report) in [
@@ -163,6 +245,7 @@ fn rows_are_reported_in_whatever_pieces(rt: HostRuntime) -> Result<(), Fail> {
         (QUERIES, QUERIES_REPORT),
         (EDGES, EDGES_REPORT),
         (LINES, LINES_REPORT),
+        (MARKED, MARKED_REPORT),
         ("", ""),
     ] {
         for piece in [1, 3, 4096] {
@@ -271,12 +354,19 @@ fn a_slow_sink_gets_all(rt: HostRuntime) -> Result<(), Fail> {
 
 #[test]
 fn words_are_known_or_the_usage_is_said(rt: HostRuntime) -> Result<(), Fail> {
-    let rows: [(&[&str], u8, &str); 6] = [
+    let rows: [(&[&str], u8, &str); 9] = [
         (&["summarystore", "readings.store", "run"], 0, "ok 0 0\n"),
         (&["summarystore"], 2, USAGE),
         (&["summarystore", "readings.store", "Run"], 2, USAGE),
-        (&["summarystore", "readings.store", "check"], 2, USAGE),
+        (&["summarystore", "readings.store", "check", "x"], 2, USAGE),
         (&["summarystore", "readings.store", "run", "run"], 2, USAGE),
+        (&["summarystore", "readings.store", "gen", "1"], 2, USAGE),
+        (
+            &["summarystore", "readings.store", "gen", "1", "0"],
+            2,
+            USAGE,
+        ),
+        (&["summarystore", "readings.store", "--help"], 2, USAGE),
         (&[], 2, USAGE),
     ];
     for (words, status, written) in rows {
@@ -475,6 +565,16 @@ fn a_crash_between_two_merges(rt: HostRuntime) -> Result<(), Fail> {
     // Also where the opening after it stops at each of its calls.
     let seven = [SEVEN.as_bytes().to_vec(rt.alloc())?];
     assert!(rt; shows(rt.alloc(), &disk, &seven)?);
+    // A check counts the windows after the merges that are due, and makes none of them.
+    let mut waiting = disk.crash(Choice::Kept)?;
+    let content = waiting.content().to_vec(rt.alloc())?;
+    let (status, line) = run_by(rt.alloc(), CHECK, &mut waiting)?;
+    assert_eq!(rt; status, 0);
+    assert_eq!(rt;
+        line.as_slice(),
+        b"sound streams 1 windows 3 landmarks 0 values 0\n".as_slice()
+    );
+    assert_eq!(rt; waiting.content(), content.as_slice());
     for stop in 0..200 {
         let mut left = disk.crash(Choice::Kept)?;
         left.stop_from(stop);
@@ -525,12 +625,10 @@ fn a_refused_file_is_named_and_left(rt: HostRuntime) -> Result<(), Fail> {
         ),
     ] {
         let mut disk = MemDisk::new(rt.alloc(), content.as_slice().to_vec(rt.alloc())?)?;
-        let mut sink = MemSink::new(rt.alloc());
-        assert_eq!(rt;
-            run_on(rt.alloc(), &mut disk, READINGS, 64, &[], &mut sink)?,
-            3
-        );
-        assert_eq!(rt; sink.held(), line.as_bytes());
+        for words in [CHECK, GEN, &["summarystore", "readings.store"]] {
+            let (status, written) = run_by(rt.alloc(), words, &mut disk)?;
+            assert_eq!(rt; (status, written.as_slice()), (3, line.as_bytes()));
+        }
         assert_eq!(rt; disk.content(), content.as_slice());
         assert_eq!(rt; disk.syncs(), 0);
     }
