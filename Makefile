@@ -24,9 +24,10 @@ faults: ## tries the program that was built last on files while something goes w
 	@faults/kill $(PROGRAM)
 	@faults/images $(PROGRAM)
 
-install: ## installs the program that was built last: make install PREFIX=/usr/local
+install: ## installs the program that was built last, and its man page: make install PREFIX=/usr/local
 	@test -x $(PROGRAM) || $(MAKE) build
 	install -D -m 755 $(PROGRAM) $(DESTDIR)$(PREFIX)/bin/summarystore
+	install -D -m 644 docs/summarystore.1 $(DESTDIR)$(PREFIX)/share/man/man1/summarystore.1
 
 bench: ## times the programs that were built last: bench/README.md
 	@test -x $(PROGRAM) || $(MAKE) build

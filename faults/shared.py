@@ -17,20 +17,29 @@ LAST_SLOT_END = 134254592
 
 def script(appends):
     """Commands that are all accepted: five streams of all kinds, and so many values to them in turn. With the target
-    `exp 2 1 1` an append makes up to four merges, and the births of streams stand between the values."""
+    `exp 2 1 1` an append makes up to four merges, and the births of streams stand between the values. Two landmarks open
+    and close among them, one of them at the time of its last value, and a third stays open."""
     streams = ["a exp 2 1 1", "b exp 2 1 1", "c exp 3 2 1", "d power 1 1 1 1", "e power 1 0 1 2"]
     made, lines = 0, []
     for t in range(appends):
         if made < len(streams) and t >= 5 * made:
             lines.append("create " + streams[made])
             made += 1
+        if t in LANDMARKS:
+            lines.append("landmark " + LANDMARKS[t])
         # two values of three go to the first stream
         name = "a" if t % 3 else "abcde"[t // 3 % made]
         lines.append(f"append {name} {10 * t + 10} {t * 7919 % 2001 - 1000}")
     return lines
 
 
-SHOW = ["list"] + ["windows " + name for name in "abcde"]
+# What opens and closes before the value of a step.
+LANDMARKS = {17: "b open 175", 26: "b close 265", 40: "a open 405", 44: "a close 440", 50: "d open 505"}
+
+# A closing at 0 is never accepted: it is refused NOT_OPEN where no landmark is open, and TIME where one is.
+SHOW = ["list"]
+for name in "abcde":
+    SHOW += [f"windows {name}", f"query {name} sum 0 1000000", f"query {name} max 0 1000000", f"landmark {name} close 0"]
 
 
 def call(words, lines, **how):
