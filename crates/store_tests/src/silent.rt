@@ -1,0 +1,72 @@
+// A disk that tells nothing.
+ghost use Rattle.std.specs.Prelude.{◌≡◌, ◌+◌, ◌≤◌, length};
+ghost use Rattle.ss_outside.specs.Causes.{HasCause};
+
+use ss_outside::{Disk, Failed, LONGEST_DISK, MemDisk};
+
+/// A disk in memory that tells nothing of its bytes, as a file. A write past its end fails.
+#[derive(Drop)]
+pub struct Silent {
+    inner: MemDisk,
+    faults: u64,
+}
+
+impl Silent {
+    pub fn new(inner: MemDisk) -> Silent {
+        Silent { inner, faults: 0 }
+    }
+
+    // Writes where a disk in memory can.
+    fn write(&mut self, at: u64, bytes: &[u8]) -> Result<(), Failed>
+        requires { at + length bytes.now ≤ LONGEST_DISK }
+        ensures { self.new.faults ≡ self.old.faults }
+    {
+        if at > self.inner.content().len() as u64 {
+            return Err(Failed);
+        }
+        self.inner.write_at(at, bytes)
+    }
+}
+
+// What is answered. A fault is counted.
+fn count<T: Drop>(answer: Result<T, Failed>, faults: &mut u64) -> Result<T, Failed>
+    ensures { HasCause faults.old faults.new result }
+{
+    if answer.is_err() {
+        *faults = faults.saturating_add(1);
+    }
+    answer
+}
+
+impl Disk for Silent {
+    ghost use Rattle.std.specs.Prelude.{[], false};
+    ghost use Rattle.std.proofs.lemmas.Bool.{false≢true};
+
+    ghost tells = { λ _. false };
+
+    ghost told = { λ _. record { content = []; may_leave = λ _. ⊥; moment = 0; left_since = λ _ _. ⊥ } };
+
+    ghost faults = { λ s. s.faults };
+
+    ghost knows_now = { λ _ told. absurd (false≢true told) };
+
+    fn len(&mut self) -> Result<u64, Failed> {
+        let answer = self.inner.len();
+        count(answer, &mut self.faults)
+    }
+
+    fn read_at(&mut self, at: u64, into: &mut [u8]) -> Result<(), Failed> {
+        let answer = self.inner.read_at(at, into);
+        count(answer, &mut self.faults)
+    }
+
+    fn write_at(&mut self, at: u64, bytes: &[u8]) -> Result<(), Failed> {
+        let answer = self.write(at, bytes);
+        count(answer, &mut self.faults)
+    }
+
+    fn sync(&mut self) -> Result<(), Failed> {
+        let answer = self.inner.sync();
+        count(answer, &mut self.faults)
+    }
+}
