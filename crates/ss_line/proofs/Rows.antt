@@ -1,10 +1,10 @@
 -- Worked rows: a line of three, at the places 2, 0 and 1.
-use Rattle.std.proofs.Common.{◌≡◌, ℕ, ◌^◌, true, false, List, [], ◌∷◌, remove, Some, None, refl}
+use Rattle.std.proofs.Common.{◌≡◌, ℕ, ◌^◌, List, map, [], ◌∷◌, remove, Some, None, refl}
 use Rattle.ss_line.specs.declared.entry.At.{At}
 use Rattle.ss_line.specs.declared.entry.Entry.{Entry}
 use Rattle.ss_line.specs.declared.line.TheConstants.{MOST_PLACES}
 use Rattle.ss_line.specs.Line.{index_of, entry_at, place_at, place_before}
-use Rattle.ss_line.specs.Held.{least_free}
+use Rattle.ss_line.specs.Held.{least_free, lower}
 
 abbrev place : ℕ → At
 place n = record { 0 = n }
@@ -40,11 +40,15 @@ place_at-end = refl
 pub remove-second : remove line (index_of line (place 0)) ≡ (place 2, window 1 4) ∷ (place 1, window 7 7) ∷ []
 remove-second = refl
 
-pub least_free-between : least_free (true ∷ false ∷ true ∷ false ∷ []) ≡ 1
+pub least_free-between : least_free (2 ∷ 0 ∷ 1 ∷ 0 ∷ []) ≡ 1
 least_free-between = refl
 
-pub least_free-none : least_free (true ∷ true ∷ []) ≡ 2
+pub least_free-none : least_free (2 ∷ 1 ∷ []) ≡ 2
 least_free-none = refl
+
+-- the second of four is gone
+pub lower-behind : map (lower 2) (4 ∷ 1 ∷ 0 ∷ 3 ∷ []) ≡ 3 ∷ 1 ∷ 0 ∷ 2 ∷ []
+lower-behind = refl
 
 pub MOST_PLACES-is : MOST_PLACES ≡ 2 ^ 24
 MOST_PLACES-is = refl

@@ -1,5 +1,5 @@
 // The line.
-use crate::search::{index_of, least_free, place_at, place_before};
+use crate::search::{close_up, least_free, place_at, place_before};
 use crate::{At, Entry};
 use ss_steps::Steps;
 use std::alloc::{AllocError, Global};
@@ -9,27 +9,28 @@ use std::sync::ledger::Ledger;
 /// The greatest number of places of a line.
 pub const MOST_PLACES: u32 = 1 << 24;
 
-/// A line of entries, and a number of places to spare for more. It is kept as a vector in order, through which each call
-/// with a place goes once. Each call with a counter is one look at the line, and ticks once.
+/// A line of entries, and a number of places to spare for more. It is kept as a vector in order, and where in it a place
+/// stands is found in one step; a `push` and a `cut_out` also go over the places once. Each call with a counter is one look
+/// at the line, and ticks once.
 #[derive(Drop)]
 pub struct Line {
     // The entries in order.
     entries: Vec<(At, Entry)>,
-    // Which places are taken.
-    taken: Vec<bool>,
+    // How far each place stands in the line, counted from 1; 0 where no entry stands at it.
+    ranks: Vec<u32>,
 }
 
 impl Model for Line {
     ghost use Rattle.std.specs.Prelude.{◌≤◌, vec_len};
     ghost use Rattle.std.specs.Vec.{vec_capacity};
     ghost use Rattle.ss_line.specs.Line.{LineState};
-    ghost use Rattle.ss_line.specs.Held.{line_of, AreTaken};
+    ghost use Rattle.ss_line.specs.Held.{line_of, AreRanks};
 
     ghost Value = { LineState };
 
-    ghost view = { λ s. line_of s.entries.items s.taken.items };
+    ghost view = { λ s. line_of s.entries.items s.ranks.items };
 
-    ghost invariant = { λ s. AreTaken s.entries.items s.taken.items × (vec_len s.taken ≤ vec_capacity s.entries) };
+    ghost invariant = { λ s. AreRanks s.entries.items s.ranks.items × (vec_len s.ranks ≤ vec_capacity s.entries) };
 }
 
 impl Line {
@@ -43,7 +44,7 @@ impl Line {
     {
         Line {
             entries: Vec::new(alloc),
-            taken: Vec::new(alloc),
+            ranks: Vec::new(alloc),
         }
     }
 
@@ -63,7 +64,7 @@ impl Line {
         ensures below { All (λ entry. entry.0.0 < result) self.now.entries }
         ensures line { IsLine self.now }
     {
-        self.taken.len() as u32
+        self.ranks.len() as u32
     }
 
     /// Makes `extra` places to spare, if there are fewer. An error leaves the entries, and the spare never falls.
@@ -74,9 +75,9 @@ impl Line {
         ensures entries { self.new.entries ≡ self.old.entries }
     {
         let len = self.entries.len();
-        let places = self.taken.len().max(len + extra as usize);
+        let places = self.ranks.len().max(len + extra as usize);
         self.entries.reserve(places - len)?;
-        self.taken.resize(places, false)
+        self.ranks.resize(places, 0)
     }
 
     /// Puts an entry at the end of the line, and gives its place, at which no other entry stands.
@@ -104,10 +105,10 @@ impl Line {
         ensures look { steps.new ≡ steps.old + 1 }
     {
         steps.tick();
-        let place = least_free(&self.taken);
+        let place = least_free(&self.ranks);
         let at = At(place as u32);
-        self.taken[place] = true;
         self.entries.push((at, entry)).unwrap();
+        self.ranks[place] = self.entries.len() as u32;
         at
     }
 
@@ -127,6 +128,14 @@ impl Line {
         place_before(&self.entries, self.entries.len())
     }
 
+    // Where in the line the place stands, counted from 0.
+    fn index_of(&self, at: At) -> usize
+        requires { StandsIn self.now.entries at }
+        ensures { result ≡ index_of self.now.entries at }
+    {
+        self.ranks[at.0 as usize] as usize - 1
+    }
+
     /// The entry at a place.
     pub fn get<L: Ledger>(&self, at: At, steps: &mut Steps<L>) -> Entry
         requires { StandsIn self.now.entries at }
@@ -134,7 +143,7 @@ impl Line {
         ensures look { steps.new ≡ steps.old + 1 }
     {
         steps.tick();
-        let (_, entry) = self.entries[index_of(&self.entries, at)];
+        let (_, entry) = self.entries[self.index_of(at)];
         entry
     }
 
@@ -146,7 +155,7 @@ impl Line {
         ensures look { steps.new ≡ steps.old + 1 }
     {
         steps.tick();
-        let index = index_of(&self.entries, at);
+        let index = self.index_of(at);
         self.entries[index] = (at, entry);
     }
 
@@ -158,11 +167,13 @@ impl Line {
         ensures look { steps.new ≡ steps.old + 1 }
     {
         steps.tick();
-        self.entries.remove(index_of(&self.entries, at));
-        self.taken[at.0 as usize] = false;
+        let index = self.index_of(at);
+        self.entries.remove(index);
+        self.ranks[at.0 as usize] = 0;
+        close_up(&mut self.ranks, index + 1);
     }
 
-    /// The places before and behind a place.
+    /// The places before and after a place.
     pub fn neighbours<L: Ledger>(&self, at: At, steps: &mut Steps<L>) -> (Option<At>, Option<At>)
         requires { StandsIn self.now.entries at }
         ensures before { result.0 ≡ place_before self.now.entries (index_of self.now.entries at) }
@@ -171,7 +182,7 @@ impl Line {
         ensures look { steps.new ≡ steps.old + 1 }
     {
         steps.tick();
-        let index = index_of(&self.entries, at);
+        let index = self.index_of(at);
         (
             place_before(&self.entries, index),
             place_at(&self.entries, index + 1),

@@ -1,21 +1,9 @@
-// What is looked for in a line, from its front.
-ghost use Rattle.std.specs.Prelude.{◌≡◌, IfSome};
-ghost use Rattle.ss_line.specs.Line.{index_of, place_at, place_before, StandsIn};
-ghost use Rattle.ss_line.specs.Held.{least_free};
+// What is read in a line, and what is done to all of its ranks.
+ghost use Rattle.std.specs.Prelude.{◌≡◌, map, IfSome};
+ghost use Rattle.ss_line.specs.Line.{place_at, place_before, StandsIn};
+ghost use Rattle.ss_line.specs.Held.{least_free, lower};
 
 use crate::{At, Entry};
-
-// Where in the line the place stands, counted from 0; the length of the line if it doesn't.
-pub fn index_of(entries: &[(At, Entry)], at: At) -> usize
-    ensures { result ≡ index_of entries.now at }
-{
-    for (index, entry) in entries.iter().enumerate() {
-        if entry.0.0 == at.0 {
-            return index;
-        }
-    }
-    entries.len()
-}
 
 // The place with this index; none past the end.
 pub fn place_at(entries: &[(At, Entry)], index: usize) -> Option<At>
@@ -39,14 +27,33 @@ pub fn place_before(entries: &[(At, Entry)], index: usize) -> Option<At>
     place_at(entries, index - 1)
 }
 
-// The least place that isn't taken; their number if all are.
-pub fn least_free(taken: &[bool]) -> usize
-    ensures { result ≡ least_free taken.now }
+// The least place without a rank; their number if each has one.
+pub fn least_free(ranks: &[u32]) -> usize
+    ensures { result ≡ least_free ranks.now }
 {
-    for (place, is_taken) in taken.iter().enumerate() {
-        if !*is_taken {
+    for (place, rank) in ranks.iter().enumerate() {
+        if *rank == 0 {
             return place;
         }
     }
-    taken.len()
+    ranks.len()
+}
+
+// The rank, one less if it is above this one.
+fn lower(rank: u32, gone: usize) -> u32
+    ensures { result ≡ lower gone rank }
+{
+    if rank as usize > gone {
+        return rank - 1;
+    }
+    rank
+}
+
+// Each rank above this one falls by one.
+pub fn close_up(ranks: &mut [u32], gone: usize)
+    ensures { ranks.new ≡ map (lower gone) ranks.old }
+{
+    for rank in ranks.iter_mut() {
+        *rank = lower(*rank, gone);
+    }
 }

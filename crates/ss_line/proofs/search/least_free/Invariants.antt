@@ -1,6 +1,6 @@
-use Rattle.std.proofs.Common.{◌≡◌, ◌<◌, ℕ, true, get_or, Bool}
+use Rattle.std.proofs.Common.{◌≤◌, ◌<◌, ℕ, get_or}
 use Rattle.ss_line.proofs.search.least_free.Given as goal
 
--- all before are taken
+-- all before have a rank
 abbrev pub invariant-loop-place : goal.invariant-loop-place
-invariant-loop-place l = (d : Bool) (k : ℕ) → k < l.place → get_or l.taken k d ≡ true
+invariant-loop-place l = (k : ℕ) → k < l.place → 1 ≤ get_or l.ranks k 0
