@@ -228,7 +228,7 @@ carried-landmark_first : carried (map_of (stream_slot 0 a ∷ landmark_slot 0 2 
 unfolding carried spelled is_sound decoded record_in stream_in window_in landmark_in value_in finish_in params_in is_valid spelling Names.is_name Possible.is_possible Fields.with_field Numbers.number_at Numbers.number_bytes Marks.lies_free
 carried-landmark_first = refl
 
--- a landmark that opens as the one before it closes, and a time later; one behind an open one
+-- a landmark that opens as the one before it closes, and a time later; one after an open one
 carried-opens_at_closing : carried (map_of (stream_slot 0 a ∷ landmark_slot 0 1 0 20 (Some 40) ∷ landmark_slot 0 2 0 40 (Some 50) ∷ [])) ≡ bad_stream 0
 unfolding carried spelled is_sound decoded record_in stream_in window_in landmark_in value_in finish_in params_in is_valid spelling Names.is_name Possible.is_possible Fields.with_field Numbers.number_at Numbers.number_bytes Marks.lies_free
 carried-opens_at_closing = refl

@@ -186,7 +186,7 @@ names-created : (ss : List Stream) → names_of ss ≡ map (λ c. c.name) (map c
 names-created [] = refl
 names-created (s ∷ ss) = ap (λ l. s.name ∷ l) (names-created ss)
 
--- records of the number that have places behind the first create no stream of it
+-- records of the number that have places after the first create no stream of it
 no-stream : (n : ℕ) (rs : List Record) → AllByRecursion (λ r. stream_of r ≡ n → 1 ≤ place_of r) rs → AllByRecursion (λ c. c.number ≡ n → ⊥) (filter_map created_by rs)
 no-stream n [] all = tt
 no-stream n (records.Free ∷ rs) all = no-stream n rs all.1
@@ -217,7 +217,7 @@ times-next [] w rest rise = tt
 times-next (v ∷ []) w rest rise = ltb-true v.summary.t_last w.summary.t_first (and_parts (nat_lt v.summary.t_last w.summary.t_first) _ rise).0
 times-next (v ∷ u ∷ us) w rest rise = times-next (u ∷ us) w rest (and_parts (nat_lt v.summary.t_last u.summary.t_first) _ rise).1
 
--- Streams of numbers below n, and records behind them of numbers from n on.
+-- Streams of numbers below n, and records after them of numbers from n on.
 module _ (ss : List Stream) (back : List Record) (n : ℕ) (below : AllByRecursion (λ s. s.number < n) ss) (above : AllByRecursion (λ r. n ≤ stream_of r) back) where
   abbrev all : List Record
   all = all_walked ss ++ back

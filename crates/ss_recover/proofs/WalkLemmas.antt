@@ -116,7 +116,7 @@ AreNames-none = record {
   most = omega arith;
 }
 
--- one more stream is held, whose records come behind those of the others
+-- one more stream is held, whose records come after those of the others
 pub AreHeldSoFar-push : (parts : List StreamParts) (streams : List Stream) (part : StreamParts) (s : Stream) (before own : List Found) →
     AreHeldSoFar parts streams before → Agrees part s → IsStream s → AllByRecursion (λ u. u.number < s.number) streams →
     IsPermutation (records_held (part, s)) (map in_slot own) → records_of own ≡ walked s →

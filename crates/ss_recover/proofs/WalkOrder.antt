@@ -1,4 +1,4 @@
--- Records in the order of their keys: which numbers come before a record, and which behind it.
+-- Records in the order of their keys: which numbers come before a record, and which after it.
 use Rattle.std.proofs.Common.{◌≡◌, ℕ, ◌+◌, ◌*◌, ◌^◌, ◌<◌, ◌≤◌, List, [], ◌∷◌, ◌++◌, filter, refl, ap, arith}
 use Rattle.std.specs.List.{AllByRecursion}
 use Rattle.std.proofs.lemmas.Bool.{ne_eqb}
@@ -23,7 +23,7 @@ key-le a b p q small_p small_q le = omega arith
 key-place : (a b p q : ℕ) → a * 2 ^ 65 + p ≤ b * 2 ^ 65 + q → b ≡ a → p ≤ q
 key-place a b p q le same = let same' : b * 2 ^ 65 ≡ a * 2 ^ 65 = ap (λ (n : ℕ). n * 2 ^ 65) same in omega (arith, le, same')
 
--- what comes in order before and behind an element
+-- what comes in order before and after an element
 front-rises : {X : Type 0} (key : X → ℕ) (front : List X) (x : X) (back : List X) → Rises key (front ++ x ∷ back) → AllByRecursion (λ y. key y ≤ key x) front
 front-rises key [] x back rises = tt
 front-rises {X} key (y ∷ ys) x back rises = (head ys rises.0, front-rises key ys x back rises.1)

@@ -23,7 +23,7 @@ use Rattle.ss_recover.proofs.WalkCurrent.{IsCurrent, IsCurrent-add, IsCurrent-be
 use Rattle.ss_recover.proofs.WalkLemmas.{AreHeldSoFar, AreHeldSoFar-none, AreHeldSoFar-push, AreNames, AreNames-none}
 use Rattle.ss_recover.proofs.WalkOrder.{IsAmid}
 
--- Streams that are done, and the one whose records come behind theirs.
+-- Streams that are done, and the one whose records come after theirs.
 pub record AreComing (stream : Open) (done : List StreamParts) (names : List (List ℕ × StreamId)) (all : List Found) : Type 0 where
   pub streams : List Stream
   pub head : Created

@@ -30,7 +30,7 @@ key_of r = stream_of r * 2 ^ 65 + place_of r
 abbrev pub found_key : Found → ℕ
 found_key f = key_of f.holds
 
--- keys don't fall: each is at most those behind it
+-- keys don't fall: each is at most those after it
 abbrev pub Rises : {X : Type 0} → (X → ℕ) → List X → Type 0
 Rises key [] = ⊤
 Rises key (x ∷ xs) = AllByRecursion (λ y. key x ≤ key y) xs × Rises key xs

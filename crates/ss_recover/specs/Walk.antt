@@ -12,7 +12,7 @@ use Rattle.ss_codec.specs.declared.record.Record.TheVariants.{Free, Stream, Wind
 use Rattle.ss_landmarks.specs.Free.{is_up_to}
 use Rattle.ss_landmarks.specs.Landmark.{Landmark, change_last, closed_at, open_landmark, opened_at, with_value}
 use Rattle.ss_landmarks.specs.Landmarks.{IsState as AreKnown}
-use Rattle.ss_landmarks.specs.declared.landmarks.TheConstants.{LATEST_TIME, MOST_KEPT}
+use Rattle.ss_landmarks.specs.declared.landmarks.TheConstants.{LATEST_TIME, MOST_LANDMARK_SLOTS}
 use Rattle.ss_line.specs.declared.entry.At.{At}
 use Rattle.ss_line.specs.declared.entry.Entry.{Entry}
 use Rattle.ss_summary.specs.Figures.{Figures, IsPossible}
@@ -206,8 +206,8 @@ RefusesNext old (records.Value id number index t v) = ¬ CanAdd old number index
 -- there is room for one more record of the stream whose records come, which is in order of time
 pub record IsReady (stream : Open) : Type 0 where
   pub line : length stream.part.line.entries < MOST_RECORDS
-  pub slots : length stream.part.landmarks.slots < MOST_KEPT
-  pub value_slots : length stream.part.landmarks.value_slots < MOST_KEPT
+  pub slots : length stream.part.landmarks.slots < MOST_LANDMARK_SLOTS
+  pub value_slots : length stream.part.landmarks.value_slots < MOST_LANDMARK_SLOTS
   pub in_time : IsInTime stream
 
 abbrev pub HasRoom : Walk → Type 0

@@ -9,8 +9,6 @@ mod parts;
 mod rebuilding;
 mod recover_error;
 mod sorting;
-#[cfg(test)]
-mod tests;
 mod walking;
 
 pub use free::lies_free;

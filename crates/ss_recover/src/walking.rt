@@ -276,7 +276,7 @@ impl Open {
         Ok(true)
     }
 
-    // A record of the stream behind its own. All landmarks come before its windows. False says that it can't come then.
+    // A record of the stream after its own. All landmarks come before its windows. False says that it can't come then.
     fn take<L: Ledger>(
         &mut self,
         slot: u32,

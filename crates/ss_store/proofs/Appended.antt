@@ -31,7 +31,7 @@ use Rattle.ss_store.specs.Calls.{StepsState, Turns}
 use Rattle.ss_store.specs.Causes.{IsApplyFirm, IsFirm, said_of_held}
 use Rattle.ss_store.specs.Errors.{apply_of_fault}
 use Rattle.ss_store.specs.Held.{IsHalfway, IsHeldIn, IsPartlyJoined, IsSameStream, values_held, with_single}
-use Rattle.ss_store.specs.Kept.{IsKept, IsSound, KeepsSpare, SameButSpare, StoreState, entry_of, numbers_held, part_named, refuses_held, without_spare}
+use Rattle.ss_store.specs.Kept.{IsSound, KeepsSpare, SameButSpare, StoreIsKept, StoreState, entry_of, numbers_held, part_named, refuses_held, without_spare}
 use Rattle.ss_store.specs.Marking.{IsInOpen, IsMarkedIn, IsMarkedOrNot, event_of, with_mark}
 use Rattle.ss_store.specs.Recover.{Recovers}
 use Rattle.ss_store.specs.Slots.{AreSomeLive, Either, HasRecords, LiveSlotsGo}
@@ -41,7 +41,7 @@ use Rattle.ss_store.specs.declared.reading.Fault.{Fault}
 use Rattle.ss_store.specs.declared.reading.Fault.TheVariants as fault
 use Rattle.ss_store.proofs.Among.{AreWhole-at, AreWhole-changed, EndByLast-later, HasRecords-set, IsHeldIn-at, IsNoEarlier, Marks-at, Recovers-held, Recovers-partly, others_of}
 use Rattle.ss_store.proofs.HeldCounts.{values_held-Agrees}
-use Rattle.ss_store.proofs.KeptStates.{Recovers-IsKept}
+use Rattle.ss_store.proofs.KeptStates.{Recovers-StoreIsKept}
 use Rattle.ss_store.proofs.LiveSlots.{LiveSlotsGo-none}
 use Rattle.ss_store.proofs.Named.{IsPair, IsPair-at}
 use Rattle.ss_store.proofs.OneOfMany.{map-set_same, set-same}
@@ -195,9 +195,9 @@ module _ (store : StoreState) (place : ℕ) (was now : StreamParts) (at : slice_
     stopped = refl;
   }
 
-  pub IsKept-IsSpared : (content : List ℕ) → IsKept store content →
-      IsKept (record { streams = slice_set store.streams place now; records = store.records; stopped = store.stopped }) content
-  IsKept-IsSpared content kept =
+  pub StoreIsKept-IsSpared : (content : List ℕ) → StoreIsKept store content →
+      StoreIsKept (record { streams = slice_set store.streams place now; records = store.records; stopped = store.stopped }) content
+  StoreIsKept-IsSpared content kept =
       let pair = IsPair-at store.streams kept.streams place was kept.agree kept.state at in
       let others = others_of place store.streams kept.streams in
       let held = IsHeldIn-at store.streams kept.streams place was pair.stream content kept.agree kept.state at pair.here kept.held in
@@ -240,7 +240,7 @@ whole-appended store place was spared now records_now at room whole same later t
     ) go
 
 -- On a disk that tells a stream at a place takes an event: what is known of it before, and what the call makes of all.
-module _ (store : StoreState) (content : List ℕ) (kept : IsKept store content) (place : ℕ) (was spared now : StreamParts)
+module _ (store : StoreState) (content : List ℕ) (kept : StoreIsKept store content) (place : ℕ) (was spared now : StreamParts)
     (at : slice_get store.streams place ≡ Some was) (room : IsSpared was spared) (s : Stream) (here : slice_get kept.streams place ≡ Some s) where
   -- the records of the other streams
   abbrev beside : List (ℕ × Option Record)
@@ -267,9 +267,9 @@ module _ (store : StoreState) (content : List ℕ) (kept : IsKept store content)
     after : IsState (stepped kept.streams event)
     after = IsState-stepped kept.streams event step.state step.said step.none
 
-    pub IsKept-stepped : (records_now : RecordsState) (stopped : Bool) (image : List ℕ) → AreKept records_now image → IsHeldIn beside now next image →
-        IsKept (record { streams = slice_set store.streams place now; records = records_now; stopped = stopped }) image
-    IsKept-stepped records_now stopped image are held =
+    pub StoreIsKept-stepped : (records_now : RecordsState) (stopped : Bool) (image : List ℕ) → AreKept records_now image → IsHeldIn beside now next image →
+        StoreIsKept (record { streams = slice_set store.streams place now; records = records_now; stopped = stopped }) image
+    StoreIsKept-stepped records_now stopped image are held =
         let both = HasRecords-set store.streams kept.streams place now next image kept.agree inside held in
         record {
           records = are;
@@ -295,13 +295,13 @@ module _ (store : StoreState) (content : List ℕ) (kept : IsKept store content)
         StepsState event old new call
     StepsState-one Left old new call same left turns =
         StepsState-turns event old new call kept.streams (IsHeldIn beside spared s) (Either (IsHeldIn beside spared s) Left)
-        (IsHeldIn beside now next) (subst (λ c. Recovers kept.streams c) (sym same) (Recovers-IsKept store content kept))
+        (IsHeldIn beside now next) (subst (λ c. Recovers kept.streams c) (sym same) (Recovers-StoreIsKept store content kept))
         (subst (λ c. IsHeldIn beside spared s c) (sym same) held-before)
         (λ image either. elim either [ inl before ↦ inl (recovers-before image before) | inr more ↦ inr (left image more) ])
         (λ image held. recovers-after now image held) turns
 
 -- the stream that takes a value outside landmarks
-module _ (store : StoreState) (content : List ℕ) (kept : IsKept store content) (name : List ℕ) (t : ℕ) (v : ℤ) (place slot : ℕ)
+module _ (store : StoreState) (content : List ℕ) (kept : StoreIsKept store content) (name : List ℕ) (t : ℕ) (v : ℤ) (place slot : ℕ)
     (taker : IsTaker store name t place slot) (none : refuses_held store.streams (Value name t v) ≡ None) (said : CanBeSaid (Value name t v)) where
   pub pair : IsPair store.streams kept.streams place taker.part
   pair = IsPair-at store.streams kept.streams place taker.part kept.agree kept.state taker.at
@@ -326,11 +326,11 @@ module _ (store : StoreState) (content : List ℕ) (kept : IsKept store content)
     pub held-taker : IsHeldIn others spared pair.stream content
     held-taker = held-before store content kept place taker.part spared now taker.at room pair.stream pair.here
 
-    pub IsKept-appended : (records_now : RecordsState) (stopped : Bool) (image : List ℕ) → AreKept records_now image →
+    pub StoreIsKept-appended : (records_now : RecordsState) (stopped : Bool) (image : List ℕ) → AreKept records_now image →
         IsHeldIn others now (with_value pair.stream t v) image →
-        IsKept (record { streams = slice_set store.streams place now; records = records_now; stopped = stopped }) image
-    IsKept-appended records_now stopped image are held =
-        IsKept-stepped store content kept place taker.part spared now taker.at room pair.stream pair.here (Value name t v) (with_value pair.stream t v)
+        StoreIsKept (record { streams = slice_set store.streams place now; records = records_now; stopped = stopped }) image
+    StoreIsKept-appended records_now stopped image are held =
+        StoreIsKept-stepped store content kept place taker.part spared now taker.at room pair.stream pair.here (Value name t v) (with_value pair.stream t v)
         (MayStep-valued kept.streams name t v place pair.stream may kept.closed) records_now stopped image are held
 
     recovers-partly : (image : List ℕ) → IsPartlyJoined others (with_single pair.stream t v) image → Recovers (stepped kept.streams (Value name t v)) image
@@ -348,7 +348,7 @@ module _ (store : StoreState) (content : List ℕ) (kept : IsKept store content)
         recovers-partly turns
 
 -- the stream whose landmarks take an event
-module _ (store : StoreState) (content : List ℕ) (kept : IsKept store content) (name : List ℕ) (t : ℕ) (mark : Mark) (place slot : ℕ)
+module _ (store : StoreState) (content : List ℕ) (kept : StoreIsKept store content) (name : List ℕ) (t : ℕ) (mark : Mark) (place slot : ℕ)
     (marker : IsMarker store name t mark place slot) (none : refuses_held store.streams (event_of name t mark) ≡ None) (said : CanBeSaid (event_of name t mark))
     (marked : IsInOpen mark → has_open marker.part.landmarks.landmarks ≡ true) where
   pub marking : IsPair store.streams kept.streams place marker.part
@@ -366,11 +366,11 @@ module _ (store : StoreState) (content : List ℕ) (kept : IsKept store content)
     pub held-marker : IsHeldIn (others_of place store.streams kept.streams) spared marking.stream content
     held-marker = held-before store content kept place marker.part spared now marker.at room marking.stream marking.here
 
-    pub IsKept-marked : (records_now : RecordsState) (stopped : Bool) (image : List ℕ) → AreKept records_now image →
+    pub StoreIsKept-marked : (records_now : RecordsState) (stopped : Bool) (image : List ℕ) → AreKept records_now image →
         IsHeldIn (others_of place store.streams kept.streams) now (with_mark marking.stream t mark) image →
-        IsKept (record { streams = slice_set store.streams place now; records = records_now; stopped = stopped }) image
-    IsKept-marked records_now stopped image are held =
-        IsKept-stepped store content kept place marker.part spared now marker.at room marking.stream marking.here (event_of name t mark)
+        StoreIsKept (record { streams = slice_set store.streams place now; records = records_now; stopped = stopped }) image
+    StoreIsKept-marked records_now stopped image are held =
+        StoreIsKept-stepped store content kept place marker.part spared now marker.at room marking.stream marking.here (event_of name t mark)
         (with_mark marking.stream t mark) may-mark records_now stopped image are held
 
     pub StepsState-marked : {T E : Type 0} (old new : Told) (call : Result T E) → old.content ≡ content →

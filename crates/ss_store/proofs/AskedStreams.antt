@@ -15,7 +15,7 @@ use Rattle.ss_store.specs.Asked.{IsAnswered, refuses_query_held}
 use Rattle.ss_store.specs.Causes.{IfAskChanged, IfChanged, IsAskFirm}
 use Rattle.ss_store.specs.Errors.{ask_of_fault}
 use Rattle.ss_store.specs.Held.{IsHeldIn}
-use Rattle.ss_store.specs.Kept.{IsKept, SomeAgree, StoreState, part_named}
+use Rattle.ss_store.specs.Kept.{SomeAgree, StoreIsKept, StoreState, part_named}
 use Rattle.ss_store.specs.Recover.{Recovers}
 use Rattle.ss_store.specs.declared.error.AskError.{AskError}
 use Rattle.ss_store.specs.declared.reading.Fault.{Fault}
@@ -23,7 +23,7 @@ use Rattle.ss_store.specs.declared.reading.Fault.TheVariants as fault
 use Rattle.ss_store.proofs.Among.{IsHeldIn-at, others_of}
 use Rattle.ss_store.proofs.Appended.{part-read}
 use Rattle.ss_store.proofs.HeldCounts.{SomeAgree-named}
-use Rattle.ss_store.proofs.KeptStates.{Recovers-IsKept, Recovers-same}
+use Rattle.ss_store.proofs.KeptStates.{Recovers-StoreIsKept, Recovers-same}
 use Rattle.ss_store.proofs.Named.{AreFound-named}
 
 -- what a stream answers, whatever lies beside it
@@ -31,7 +31,7 @@ abbrev pub Answers : StreamParts → Query → List ℕ → Result Outcome Fault
 Answers part query content result =
     (others : List (ℕ × Option Record)) (s : Stream) → IsHeldIn others part s content → IsAnswered (answer_of query s) result
 
-module _ (store : StoreState) (content : List ℕ) (kept : IsKept store content) (query : Query) (part : StreamParts)
+module _ (store : StoreState) (content : List ℕ) (kept : StoreIsKept store content) (query : Query) (part : StreamParts)
     (named : part_named query.name store.streams ≡ Some part) (result : Result Outcome Fault) (answers : Answers part query content result) where
   -- the stream that is asked
   record IsAsked : Type 0 where
@@ -47,12 +47,12 @@ module _ (store : StoreState) (content : List ℕ) (kept : IsKept store content)
       record { stream = found.stream; found = found.found_is; answered = answers others found.stream held }
 
 -- the answer of the state that the content recovers to
-pub outcome-kept : (store : StoreState) (content : List ℕ) → IsKept store content → (query : Query) (part : StreamParts) → part_named query.name store.streams ≡ Some part →
+pub outcome-kept : (store : StoreState) (content : List ℕ) → StoreIsKept store content → (query : Query) (part : StreamParts) → part_named query.name store.streams ≡ Some part →
     (outcome : Outcome) → Answers part query content (Ok outcome) → (streams : List Stream) → Recovers streams content → outcome_of streams query ≡ Some outcome
 unfolding outcome_of
 outcome-kept store content kept query part named outcome answers streams recovers =
     let is = asked store content kept query part named (Ok outcome) answers in
-    let same = Recovers-same kept.streams streams content (Recovers-IsKept store content kept) recovers in
+    let same = Recovers-same kept.streams streams content (Recovers-StoreIsKept store content kept) recovers in
     let found : stream_named query.name streams ≡ Some is.stream = ap (λ l. stream_named query.name l) (sym same) ∙ is.found in
     ap (option_map (λ (s : Stream). answer_of query s)) found ∙ ap (λ (o : Outcome). Some o) (sym is.answered)
 
@@ -62,7 +62,7 @@ IsAskFirm-answered T outcome fault.Disk error answered is = subst (λ x. IsAskFi
 IsAskFirm-answered T outcome (fault.Changed slot) error answered is = absurd answered
 
 -- no slot has changed on a disk that tells
-pub firm-kept : (T : Type 0) (store : StoreState) (content : List ℕ) → IsKept store content → (query : Query) (part : StreamParts) →
+pub firm-kept : (T : Type 0) (store : StoreState) (content : List ℕ) → StoreIsKept store content → (query : Query) (part : StreamParts) →
     part_named query.name store.streams ≡ Some part → (why : Fault) (error : AskError) → Answers part query content (Err why) → error ≡ ask_of_fault why →
     IsAskFirm {T = T} (Err error)
 firm-kept T store content kept query part named why error answers from =

@@ -38,11 +38,11 @@ use Rattle.ss_journal.specs.Kept.{IsSettled}
 use Rattle.ss_store.specs.Admitted.{IsNew}
 use Rattle.ss_store.specs.Calls.{StepsState}
 use Rattle.ss_store.specs.Causes.{said_of_held}
-use Rattle.ss_store.specs.Kept.{IsKept, IsSound, StoreState, entry_of, has_all_numbers, numbers_held, part_named}
+use Rattle.ss_store.specs.Kept.{IsSound, StoreIsKept, StoreState, entry_of, has_all_numbers, numbers_held, part_named}
 use Rattle.ss_store.specs.Recover.{Recovers}
 use Rattle.ss_store.specs.Slots.{AddsRecord, Either, HasRecords, LiveSlotsGo, live_slots}
 use Rattle.ss_store.proofs.Among.{Recovers-held, length-AllAgree}
-use Rattle.ss_store.proofs.KeptStates.{Recovers-IsKept}
+use Rattle.ss_store.proofs.KeptStates.{Recovers-StoreIsKept}
 use Rattle.ss_store.proofs.Named.{numbers-AllAgree}
 use Rattle.ss_store.proofs.Slots.{HasRecords-permutation}
 use Rattle.ss_store.proofs.Stepping.{StepsState-turns}
@@ -147,13 +147,13 @@ module _ (parts : List StreamParts) (streams : List Stream) (part : StreamParts)
       (Recovers-held (parts ++ part ∷ []) (stepped streams (Create name params)) image AllAgree-created now (HasRecords-created image has))
 
 -- what is kept after a create, and the step that it makes
-module _ (store : StoreState) (content : List ℕ) (kept : IsKept store content) (part : StreamParts) (name : List ℕ) (params : Params)
+module _ (store : StoreState) (content : List ℕ) (kept : StoreIsKept store content) (part : StreamParts) (name : List ℕ) (params : Params)
     (fresh : IsFreshPart part name params) (number : part.id.0 ≡ next_number (numbers_held store.streams))
     (none : refuses kept.streams (Create name params) ≡ None) where
-  pub IsKept-created : (records_now : RecordsState) (stopped : Bool) (now : List ℕ) → AreKept records_now now →
+  pub StoreIsKept-created : (records_now : RecordsState) (stopped : Bool) (now : List ℕ) → AreKept records_now now →
       HasRecords ((part.slot, Some (records.Stream part.id.0 name params)) ∷ flat_map records_held (zip store.streams kept.streams)) now →
-      IsKept (record { streams = store.streams ++ part ∷ []; records = records_now; stopped = stopped }) now
-  IsKept-created records_now stopped now are has = record {
+      StoreIsKept (record { streams = store.streams ++ part ∷ []; records = records_now; stopped = stopped }) now
+  StoreIsKept-created records_now stopped now are has = record {
     records = are;
     streams = stepped kept.streams (Create name params);
     state = IsState-stepped kept.streams (Create name params) kept.state tt none;
@@ -172,7 +172,7 @@ module _ (store : StoreState) (content : List ℕ) (kept : IsKept store content)
       let before : (image : List ℕ) → HasRecords others image → Recovers kept.streams image =
       λ image has. subst (λ l. Recovers l image) kept.closed (Recovers-held store.streams kept.streams image kept.agree kept.state has) in
       StepsState-turns (Create name params) old new call kept.streams (HasRecords others) (Either (HasRecords others) (HasRecords pushed)) (HasRecords pushed)
-      (subst (λ c. Recovers kept.streams c) (sym same) (Recovers-IsKept store content kept)) (subst (λ c. HasRecords others c) (sym same) kept.held)
+      (subst (λ c. Recovers kept.streams c) (sym same) (Recovers-StoreIsKept store content kept)) (subst (λ c. HasRecords others c) (sym same) kept.held)
       (λ image left. elim left [ inl was ↦ inl (before image was) | inr is ↦ inr (after image is) ]) after (adds others)
 
 -- over every disk

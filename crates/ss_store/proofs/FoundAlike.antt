@@ -14,7 +14,7 @@ use Rattle.ss_model.specs.Steps.{ack_of, said_of}
 use Rattle.ss_recover.specs.Held.{Agrees, AllAgree}
 use Rattle.ss_recover.specs.declared.parts.StreamParts.{StreamParts}
 use Rattle.ss_store.specs.Causes.{said_of_held}
-use Rattle.ss_store.specs.Kept.{IsKept, SomeAgree, StoreState, part_named, part_numbered, refuses_held}
+use Rattle.ss_store.specs.Kept.{SomeAgree, StoreIsKept, StoreState, part_named, part_numbered, refuses_held}
 use Rattle.ss_store.specs.Recover.{Stands}
 use Rattle.ss_store.proofs.Among.{length-AllAgree}
 use Rattle.ss_store.proofs.HeldCounts.{SomeAgree-named, SomeAgree-numbered, length-Agrees, values_held-Agrees}
@@ -44,7 +44,7 @@ said_alike None (Some s) is agree = absurd agree
 said_alike (Some part) None is agree = absurd agree
 said_alike (Some part) (Some s) is agree = let n = values_held-Agrees part s is agree in let k = length-Agrees part s agree in cc
 
-pub said-kept : (store : StoreState) (content : List ℕ) (history : List Event) (name : List ℕ) → IsKept store content → Stands history content →
+pub said-kept : (store : StoreState) (content : List ℕ) (history : List Event) (name : List ℕ) → StoreIsKept store content → Stands history content →
     said_of_held (part_named name store.streams) ≡ ack_of name (state history)
 said-kept store content history name kept stands =
     let both = AllAgree-recovered store content (state history) kept stands.state in
@@ -52,14 +52,14 @@ said-kept store content history name kept stands =
     (SomeAgree-named store.streams (state history) name both.0)
 
 -- what is refused
-pub refuses-kept : (store : StoreState) (content : List ℕ) (history : List Event) (event : Event) → IsKept store content → Stands history content →
+pub refuses-kept : (store : StoreState) (content : List ℕ) (history : List Event) (event : Event) → StoreIsKept store content → Stands history content →
     refuses (state history) event ≡ refuses_held store.streams event
 refuses-kept store content history event kept stands =
     let both = AllAgree-recovered store content (state history) kept stands.state in
     sym (refuses_held-is store.streams (state history) event both.0 both.1)
 
 -- how many streams and windows are held
-pub streams-kept : (store : StoreState) (content : List ℕ) (history : List Event) → IsKept store content → Stands history content →
+pub streams-kept : (store : StoreState) (content : List ℕ) (history : List Event) → StoreIsKept store content → Stands history content →
     length store.streams ≡ length (state history)
 streams-kept store content history kept stands = length-AllAgree store.streams (state history) (AllAgree-recovered store content (state history) kept stands.state).0
 
@@ -69,7 +69,7 @@ windows_alike None o s is agree = tt
 windows_alike (Some part) None s is agree = absurd agree
 windows_alike (Some part) (Some t) s is agree = let same : t ≡ s = cc in subst (λ u. length part.line.entries ≡ length u.windows) same (length-Agrees part t agree)
 
-pub windows-kept : (store : StoreState) (content : List ℕ) (history : List Event) (number : ℕ) (s : Stream) → IsKept store content → Stands history content →
+pub windows-kept : (store : StoreState) (content : List ℕ) (history : List Event) (number : ℕ) (s : Stream) → StoreIsKept store content → Stands history content →
     stream_numbered number (state history) ≡ Some s → IfSome (part_numbered number store.streams) (λ part. length part.line.entries ≡ length s.windows)
 windows-kept store content history number s kept stands is =
     windows_alike (part_numbered number store.streams) (stream_numbered number (state history)) s is
@@ -81,7 +81,7 @@ none_alike None None is agree = refl
 none_alike None (Some s) is agree = absurd agree
 none_alike (Some part) o is agree = cc
 
-pub unknown-kept : (store : StoreState) (content : List ℕ) (history : List Event) (name : List ℕ) → IsKept store content → Stands history content →
+pub unknown-kept : (store : StoreState) (content : List ℕ) (history : List Event) (name : List ℕ) → StoreIsKept store content → Stands history content →
     None ≡ option_map (λ part. part.id) (part_named name store.streams) → stream_named name (state history) ≡ None
 unknown-kept store content history name kept stands none =
     none_alike (part_named name store.streams) (stream_named name (state history)) none
@@ -121,7 +121,7 @@ found_alike parts streams name id (Some part) each named number numbered =
     subst (λ (i : StreamId). (s : Stream) × (stream_named name streams ≡ Some s) × (stream_numbered i.0 streams ≡ Some s)) (sym same)
     (both_found parts streams name part each (sym named) (subst (λ (i : StreamId). part_numbered i.0 parts ≡ Some part) same numbered))
 
-pub found-kept : (store : StoreState) (content : List ℕ) (history : List Event) (name : List ℕ) (id : StreamId) → IsKept store content → Stands history content →
+pub found-kept : (store : StoreState) (content : List ℕ) (history : List Event) (name : List ℕ) (id : StreamId) → StoreIsKept store content → Stands history content →
     Some id ≡ option_map (λ part. part.id) (part_named name store.streams) → part_numbered id.0 store.streams ≡ part_named name store.streams →
     (s : Stream) × (stream_named name (state history) ≡ Some s) × (stream_numbered id.0 (state history) ≡ Some s)
 found-kept store content history name id kept stands number numbered =

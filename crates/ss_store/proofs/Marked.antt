@@ -70,7 +70,7 @@ pushed-first : {X : Type 0} (xs ys : List X) (x : X) → IsPermutation (x ∷ (x
 pushed-first xs ys x =
     IsPermutation-append_left ys (x ∷ xs) (xs ++ x ∷ []) (IsPermutation-sym (xs ++ x ∷ []) (x ∷ xs) (IsPermutation-to_front xs x))
 
--- or behind them
+-- or after them
 pushed-second : {X : Type 0} (xs ys : List X) (x : X) → IsPermutation (x ∷ (xs ++ ys)) (xs ++ (ys ++ x ∷ []))
 pushed-second xs ys x =
     IsPermutation-trans (x ∷ (xs ++ ys)) ((xs ++ ys) ++ x ∷ []) (xs ++ (ys ++ x ∷ []))
@@ -209,7 +209,7 @@ IsAdding Open = ⊤
 IsAdding (Value v) = ⊤
 IsAdding Close = ⊥
 
--- one more that comes to what is behind others, and among others still
+-- one more that comes to what is after others, and among others still
 moved-beside : {X : Type 0} (ws ms now : List X) (x : X) → IsPermutation (x ∷ ms) now → IsPermutation (x ∷ (ws ++ ms)) (ws ++ now)
 moved-beside ws ms now x moved =
     IsPermutation-trans (x ∷ (ws ++ ms)) (ws ++ x ∷ ms) (ws ++ now) (IsPermutation-sym (ws ++ x ∷ ms) (x ∷ (ws ++ ms)) (IsPermutation-middle ws x ms))

@@ -25,7 +25,7 @@ use Rattle.ss_recover.specs.declared.recover_error.RecoverError.TheVariants as r
 use Rattle.ss_store.specs.Calls.{KeepsState, Turns}
 use Rattle.ss_store.specs.Causes.{IsFirm, OpensAs}
 use Rattle.ss_store.specs.Errors.{open_of_fault, open_of_journal, open_of_recover}
-use Rattle.ss_store.specs.Kept.{IsKept, StoreState}
+use Rattle.ss_store.specs.Kept.{StoreIsKept, StoreState}
 use Rattle.ss_store.specs.Recover.{Recovers, recover, recovered_from, recovered_of}
 use Rattle.ss_store.specs.Slots.{HasRecords}
 use Rattle.ss_store.specs.declared.reading.Fault.{Fault}
@@ -179,9 +179,9 @@ module _ (parts now : List StreamParts) (old read settled new : Told) (knows : K
   pub OpensAs-closed : (store : StoreState) → AllAgree store.streams (closed_state is.streams) → OpensAs old.content (Ok store)
   OpensAs-closed store agree = (closed_state is.streams, Recovers-rebuilt parts old.content is, agree, IsState-closed_state is.streams is.state)
 
-  pub IsKept-closed : (store : StoreState) → Closes {T = Unit {0}} {E = Fault} (Ok tt) → AreKept store.records new.content → store.streams ≡ now →
-      AllAgree now (closed_state is.streams) → IsKept store new.content
-  IsKept-closed store closes kept same agree = record {
+  pub StoreIsKept-closed : (store : StoreState) → Closes {T = Unit {0}} {E = Fault} (Ok tt) → AreKept store.records new.content → store.streams ≡ now →
+      AllAgree now (closed_state is.streams) → StoreIsKept store new.content
+  StoreIsKept-closed store closes kept same agree = record {
     records = kept;
     streams = closed_state is.streams;
     state = IsState-closed_state is.streams is.state;

@@ -111,11 +111,11 @@ module _ (entries : List (At × Entry)) (left : At) (window : Entry) (before res
       let cut : entries ≡ (before ++ (left, window) ∷ []) ++ rest = is ∙ sym (append_assoc before ((left, window) ∷ []) rest) in
       ap (place_at entries) seam ∙ ap (λ es. place_at es (length (before ++ (left, window) ∷ []))) cut ∙ place_at-seam (before ++ (left, window) ∷ []) rest
 
-  -- nothing stands behind the last one
+  -- nothing stands after the last one
   pub nothing_behind : None ≡ place_at entries (index_of entries left + 1) → entries ≡ before ++ (left, window) ∷ []
   nothing_behind read = is ∙ ap (λ es. before ++ (left, window) ∷ es) (none-first rest (read ∙ behind))
 
-  -- what stands behind an entry is its neighbour
+  -- what stands after an entry is its neighbour
   pub neighbour : (right : At) (next : Entry) → Some right ≡ place_at entries (index_of entries left + 1) → entry_at entries right ≡ Some next →
       ((at : At) → count_by (is_at at) entries ≤ 1) → (after : List (At × Entry)) × (entries ≡ before ++ (left, window) ∷ (right, next) ∷ after)
       × (list_any (is_at right) (before ++ (left, window) ∷ []) ≡ false)

@@ -23,7 +23,7 @@ use Rattle.ss_store.proofs.Places.{IsAt-first, index-once, neighbour, nothing_be
 use Rattle.ss_store.proofs.Spans.{AreTiled, AreTiled-seam}
 use Rattle.ss_store.proofs.Walks.{entries_in}
 
--- how many windows are left behind one that begins at a position, by the spans of those that stand there
+-- how many windows are left after one that begins at a position, by the spans of those that stand there
 abbrev pub windows_behind : (ℕ → ℕ) → ℕ → ℕ → List (ℕ × ℕ) → ℕ
 windows_behind len n first [] = 0
 windows_behind len n first (span ∷ spans) =
@@ -125,7 +125,7 @@ windows_left-counted len n entries at first count counted read =
       omega (arith, all, some),
     )
 
--- the entry behind it was read
+-- the entry after it was read
 pub record IsCountedNext (len : ℕ → ℕ) (n : ℕ) (entries : List (At × Entry)) (at right : At) (first count : ℕ) (next : Entry) : Type 0 where
   pub some : 1 ≤ first
   pub order : first ≤ next.last

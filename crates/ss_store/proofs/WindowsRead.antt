@@ -24,7 +24,7 @@ use Rattle.ss_recover.specs.Held.{Agrees, entries_of, marks_held, records_held, 
 use Rattle.ss_recover.specs.declared.parts.StreamParts.{StreamParts}
 use Rattle.ss_store.specs.Causes.{IfAskChanged, IfChanged, IsAskFirm, IsRead}
 use Rattle.ss_store.specs.Errors.{ask_of_fault}
-use Rattle.ss_store.specs.Kept.{IsKept, StoreState, part_numbered}
+use Rattle.ss_store.specs.Kept.{StoreIsKept, StoreState, part_numbered}
 use Rattle.ss_store.specs.Recover.{Recovers}
 use Rattle.ss_store.specs.Slots.{HasRecords}
 use Rattle.ss_store.specs.declared.error.AskError.{AskError}
@@ -32,7 +32,7 @@ use Rattle.ss_store.specs.declared.reading.Fault.{Fault}
 use Rattle.ss_store.specs.declared.reading.Fault.TheVariants as fault
 use Rattle.ss_store.proofs.Among.{IsHeldIn-at, others_of}
 use Rattle.ss_store.proofs.Appended.{found-passes}
-use Rattle.ss_store.proofs.KeptStates.{Recovers-IsKept, Recovers-same}
+use Rattle.ss_store.proofs.KeptStates.{Recovers-StoreIsKept, Recovers-same}
 use Rattle.ss_store.proofs.Named.{AreFound-numbered}
 use Rattle.ss_store.proofs.OneOfMany.{slice_get-zip}
 use Rattle.ss_store.proofs.Slots.{HasRecords-permutation}
@@ -82,7 +82,7 @@ has-first all i r image at has =
     HasRecords-permutation all (r ∷ remove all i) image
     (IsPermutation-remove all i r (slice_get_within all i r at) (sym (get_or_from_slice_get all i r r at))) has
 
-pub IsKeptWindow-at : (store : StoreState) (content : List ℕ) (kept : IsKept store content) (number : ℕ) (part : StreamParts) (at : At) (e : Entry) →
+pub IsKeptWindow-at : (store : StoreState) (content : List ℕ) (kept : StoreIsKept store content) (number : ℕ) (part : StreamParts) (at : At) (e : Entry) →
     part_numbered number store.streams ≡ Some part → entry_at part.line.entries at ≡ Some e →
     IsKeptWindow content kept.streams number (index_of part.line.entries at) e part
 IsKeptWindow-at store content kept number part at e numbered is =
@@ -119,7 +119,7 @@ placed-is e w summary span is =
 
 -- a window is read as it is in the state that the content stands for
 pub window-read : (store : StoreState) (content : List ℕ) (number : ℕ) (part : StreamParts) (at : At) (e : Entry) (summary : Figures) →
-    IsKept store content → part_numbered number store.streams ≡ Some part → entry_at part.line.entries at ≡ Some e →
+    StoreIsKept store content → part_numbered number store.streams ≡ Some part → entry_at part.line.entries at ≡ Some e →
     ((others : List (ℕ × Option Record)) (w : Window) → HasRecords ((e.slot, Some (window_record part.id.0 w)) ∷ others) content →
     span_held e ≡ span_of w → IsTrue (lies_free part.landmarks.landmarks w) → summary ≡ w.summary) →
     (streams : List Stream) → Recovers streams content →
@@ -127,7 +127,7 @@ pub window-read : (store : StoreState) (content : List ℕ) (number : ℕ) (part
     slice_get (map placed_of s.windows) (index_of p.line.entries at) ≡ Some (placed e summary)))
 window-read store content number part at e summary kept numbered is reads streams recovers =
     let window = IsKeptWindow-at store content kept number part at e numbered is in
-    let same = Recovers-same kept.streams streams content (Recovers-IsKept store content kept) recovers in
+    let same = Recovers-same kept.streams streams content (Recovers-StoreIsKept store content kept) recovers in
     let found : stream_numbered number streams ≡ Some window.stream = ap (λ l. stream_numbered number l) (sym same) ∙ window.found in
     let summary_is = reads window.others window.window window.has window.span window.free in
     let read : slice_get (map placed_of window.stream.windows) (index_of part.line.entries at) ≡ Some (placed e summary) =
@@ -141,7 +141,7 @@ IsAskFirm-fault T summary fault.Disk error read is = subst (λ x. IsAskFirm {T =
 IsAskFirm-fault T summary (fault.Changed slot) error read is = absurd read
 
 pub firm-read : (T : Type 0) (store : StoreState) (content : List ℕ) (number : ℕ) (part : StreamParts) (at : At) (e : Entry) (f : Fault) (error : AskError) →
-    IsKept store content → part_numbered number store.streams ≡ Some part → entry_at part.line.entries at ≡ Some e →
+    StoreIsKept store content → part_numbered number store.streams ≡ Some part → entry_at part.line.entries at ≡ Some e →
     ((others : List (ℕ × Option Record)) (w : Window) → HasRecords ((e.slot, Some (window_record part.id.0 w)) ∷ others) content →
     span_held e ≡ span_of w → IsTrue (lies_free part.landmarks.landmarks w) → IsRead w.summary (Err f)) → error ≡ ask_of_fault f → IsAskFirm {T = T} (Err error)
 firm-read T store content number part at e f error kept numbered is reads from =

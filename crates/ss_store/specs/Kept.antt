@@ -46,7 +46,7 @@ pub record IsSound (store : StoreState) (catalog : List (List ℕ × StreamId)) 
   pub whole : store.stopped ≡ false → AreWhole store.streams store.records.live
 
 -- One disk: the content has the records of these streams, each in the slot where the store holds it, and no merge is due.
-pub record IsKept (store : StoreState) (content : List ℕ) : Type 0 where
+pub record StoreIsKept (store : StoreState) (content : List ℕ) : Type 0 where
   pub records : AreKept store.records content
   pub streams : List Stream
   pub state : IsState streams

@@ -2,7 +2,6 @@
 ghost use Rattle.std.specs.Prelude.{◌≡◌, ◌+◌, ◌*◌, ◌<◌, ◌≤◌, ℕ, List, Option, Some, IsTrue, IfSome, IfOk, OnOk};
 ghost use Rattle.std.specs.List.{Contains};
 ghost use Rattle.std.specs.Option.{option_map_or};
-ghost use Rattle.ss_bounds.specs.Either.{greater, lesser};
 ghost use Rattle.ss_bounds.specs.Times.{ends_in, times_inside};
 ghost use Rattle.ss_catalog.specs.declared.query.Query.{Query};
 ghost use Rattle.ss_codec.specs.declared.record.Record.{Record};
@@ -23,7 +22,7 @@ ghost use Rattle.ss_store.specs.Held.{IsHeldIn};
 ghost use Rattle.ss_store.specs.Slots.{AreSomeLive};
 
 use crate::reading::{Fault, read_window};
-use ss_bounds::{Split, count_bounds, max_bounds, min_bounds, sum_bounds};
+use ss_bounds::{Split, count_bounds, greater, lesser, max_bounds, min_bounds, sum_bounds};
 use ss_catalog::{Kind, LAST_TIME, Query};
 use ss_landmarks::{Landmarks, Tally};
 use ss_model::{Outcome, Window};
@@ -208,28 +207,6 @@ fn known_sum(whole: Option<Summary>, marked: Tally) -> i128
     match whole {
         None => marked.sum,
         Some(summary) => summary.sum + marked.sum,
-    }
-}
-
-// The lesser of two numbers, where there are any.
-fn lesser(value: Option<i64>, other: Option<i64>) -> Option<i64>
-    ensures { result ≡ lesser value other }
-{
-    match (value, other) {
-        (Some(value), Some(other)) => Some(value.min(other)),
-        (None, other) => other,
-        (value, None) => value,
-    }
-}
-
-// The greater of two numbers, where there are any.
-fn greater(value: Option<i64>, other: Option<i64>) -> Option<i64>
-    ensures { result ≡ greater value other }
-{
-    match (value, other) {
-        (Some(value), Some(other)) => Some(value.max(other)),
-        (None, other) => other,
-        (value, None) => value,
     }
 }
 

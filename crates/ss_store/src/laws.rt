@@ -16,16 +16,16 @@ ghost use Rattle.ss_model.specs.Standing.{IsStream};
 ghost use Rattle.ss_store.specs.Asked.{refuses_query_held};
 ghost use Rattle.ss_store.specs.Held.{values_held};
 ghost use Rattle.ss_store.specs.Joining.{NoSpansAreDue};
-ghost use Rattle.ss_store.specs.Kept.{IsKept, SomeAgree, StoreState, part_named, part_numbered, refuses_held};
+ghost use Rattle.ss_store.specs.Kept.{SomeAgree, StoreIsKept, StoreState, part_named, part_numbered, refuses_held};
 ghost use Rattle.ss_store.specs.Recover.{Recovers, Stands};
 
 /// What a store holds agrees with the state that its content stands for.
 pub fn what_is_kept_is_the_state()
-    ensures state { (store : StoreState) (content : List ℕ) (streams : List Stream) → IsKept store content →
+    ensures state { (store : StoreState) (content : List ℕ) (streams : List Stream) → StoreIsKept store content →
         Recovers streams content → AllAgree store.streams streams × IsState streams }
-    ensures history { (store : StoreState) (content : List ℕ) (history : List Event) → IsKept store content →
+    ensures history { (store : StoreState) (content : List ℕ) (history : List Event) → StoreIsKept store content →
         Stands history content → AllAgree store.streams (state history) × IsState (state history) }
-    ensures recovers { (store : StoreState) (content : List ℕ) → IsKept store content →
+    ensures recovers { (store : StoreState) (content : List ℕ) → StoreIsKept store content →
         (streams : List Stream) × Recovers streams content × AllAgree store.streams streams × IsState streams }
 {}
 

@@ -12,8 +12,6 @@ mod place;
 mod reading;
 mod store;
 mod surveying;
-#[cfg(test)]
-mod tests;
 mod writing;
 
 pub use error::{ApplyError, AskError, OpenError};

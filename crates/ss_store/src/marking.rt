@@ -20,7 +20,7 @@ use crate::place::number_of;
 use crate::writing::{add_record, replace_record};
 use ss_catalog::LAST_TIME;
 use ss_codec::Record;
-use ss_landmarks::{Landmarks, MOST_KEPT};
+use ss_landmarks::{Landmarks, MOST_LANDMARK_SLOTS};
 use ss_outside::{Disk, Failed};
 use ss_records::Records;
 use ss_recover::StreamParts;
@@ -85,8 +85,8 @@ fn record_of(part: &StreamParts, t: u64, mark: Mark) -> Record
 
 /// Makes room for what one more mark leaves in memory. An error leaves what is held, and no room falls.
 pub fn reserve(landmarks: &mut Landmarks) -> Result<(), AllocError>
-    requires landmarks { length landmarks.old.landmarks < MOST_KEPT }
-    requires values { length (all_values landmarks.old.landmarks) < MOST_KEPT }
+    requires landmarks { length landmarks.old.landmarks < MOST_LANDMARK_SLOTS }
+    requires values { length (all_values landmarks.old.landmarks) < MOST_LANDMARK_SLOTS }
     ensures room { OnOk result (1 ≤ landmarks.new.room) }
     ensures value_room { OnOk result (1 ≤ landmarks.new.value_room) }
     ensures room_grows { landmarks.old.room ≤ landmarks.new.room }

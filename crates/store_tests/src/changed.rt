@@ -1,43 +1,27 @@
 // Slots that give other bytes than before, and what the calls of a store answer then.
-ghost use Rattle.std.specs.Prelude.{◌≤◌, IfSome};
-ghost use Rattle.ss_catalog.specs.Events.{IsInTime};
+ghost use Rattle.std.specs.Prelude.{◌≤◌};
 
+use crate::running::Asked::{self, Close, Create, Open, Value};
+use crate::running::{Answer, DOUBLING, IN_TWOS, Running, answered, empty, opened, told};
 use crate::silent::Silent;
-use ss_catalog::{Event, Kind, LAST_TIME, Name, Params, Query};
+use ss_catalog::{Kind, LAST_TIME, Name};
 use ss_model::Outcome::{self, Count};
-use ss_outside::{Disk, Failed, MemDisk};
-use ss_store::{ApplyError, AskError, OpenError, Store};
+use ss_outside::{Disk, Failed};
+use ss_store::{ApplyError, AskError};
 use std::alloc::Global;
 use std::test::Fail;
 
-// What the one stream is asked to take.
-#[derive(Clone, Copy)]
-enum Asked {
-    Create(Params),
-    Value(u64, i64),
-    Open(u64),
-    Close(u64),
-}
-
-use Asked::{Close, Create, Open, Value};
+// A stream of one window of one value, in slot 1.
+const ONE_WINDOW: [Asked; 2] = [Create(DOUBLING), Value(10, 5)];
 
 // A stream of two windows of one value, in slots 1 and 2. A third value joins them.
-const TWO_WINDOWS: [Asked; 3] = [
-    Create(Params::Exp { b: 2, r: 1, s: 1 }),
-    Value(10, 5),
-    Value(20, -3),
-];
+const TWO_WINDOWS: [Asked; 3] = [Create(DOUBLING), Value(10, 5), Value(20, -3)];
 
 const THIRD: Asked = Value(30, 8);
 
 // A stream of one window of two values, in slot 1, with a landmark between them.
 const AROUND_A_LANDMARK: [Asked; 6] = [
-    Create(Params::Power {
-        p: 1,
-        q: 0,
-        r: 1,
-        s: 2,
-    }),
+    Create(IN_TWOS),
     Value(10, 1),
     Open(20),
     Value(30, 100),
@@ -45,72 +29,25 @@ const AROUND_A_LANDMARK: [Asked; 6] = [
     Value(50, 3),
 ];
 
-fn event_of(asked: Asked) -> Option<Event>
-    ensures { IfSome result IsInTime }
-{
-    let name = Name::of(b"a")?;
-    match asked {
-        Create(params) => Some(Event::Create { name, params }),
-        Value(t, v) if t <= LAST_TIME => Some(Event::Value { name, t, v }),
-        Open(t) if t <= LAST_TIME => Some(Event::Open { name, t }),
-        Close(t) if t <= LAST_TIME => Some(Event::Close { name, t }),
-        _ => None,
-    }
-}
-
-// A store with its disk.
-#[derive(Drop)]
-struct Running {
-    store: Store,
-    disk: Silent,
-}
-
-fn opened(alloc: Global, disk: Silent) -> Result<Running, OpenError> {
-    let mut disk = disk;
-    let store = Store::open(alloc, &mut disk)?;
-    Ok(Running { store, disk })
-}
-
-// How many values and windows the stream has then. `None` is for what is no event.
-fn taken(running: &mut Running, asked: Asked) -> Result<(u64, u32), Option<ApplyError>> {
-    match event_of(asked) {
-        None => Err(None),
-        Some(event) => match running.store.apply(&mut running.disk, &event) {
-            Ok(ack) => Ok((ack.n, ack.k)),
-            Err(error) => Err(Some(error)),
-        },
-    }
+fn taken(running: &mut Running, asked: Asked) -> Option<Answer> {
+    answered(running, b'a', asked)
 }
 
 // A store that has taken these, and was opened again, so that it reads each record in its slot.
 fn settled(alloc: Global, rows: &[Asked]) -> Result<Running, Fail> {
-    let disk = Silent::new(MemDisk::new(alloc, Vec::new(alloc))?);
-    let mut running = opened(alloc, disk)?;
+    let mut running = opened(alloc, empty(alloc)?)?;
     for asked in rows {
-        if taken(&mut running, *asked).is_err() {
-            return Err(Fail::from("not taken"));
+        match taken(&mut running, *asked) {
+            Some(Ok(_)) => {}
+            _ => return Err(Fail::from("not taken")),
         }
     }
-    Ok(opened(alloc, running.disk)?)
+    Ok(opened(alloc, running.disk.inner)?)
 }
 
 // How many values there are.
-fn counted(running: &mut Running) -> Result<Outcome, Option<AskError>> {
-    match Name::of(b"a") {
-        None => Err(None),
-        Some(name) => {
-            let query = Query {
-                name,
-                kind: Kind::Count,
-                from: 0,
-                to: LAST_TIME,
-            };
-            match running.store.ask(&mut running.disk, &query) {
-                Ok(outcome) => Ok(outcome),
-                Err(error) => Err(Some(error)),
-            }
-        }
-    }
+fn counted(running: &mut Running) -> Option<Result<Outcome, AskError>> {
+    told(running, (b'a', Kind::Count, 0, LAST_TIME))
 }
 
 // The first and the last position of the oldest window, or of the one after it. `None` is for no such window.
@@ -161,19 +98,20 @@ fn cleared(alloc: Global, slot: u8) -> Result<Running, Fail> {
 
 #[test]
 fn a_query_names_the_slot_and_stops_the_store(rt: HostRuntime) -> Result<(), Fail> {
-    for slot in [1, 2] {
-        let mut running = settled(rt.alloc(), &TWO_WINDOWS)?;
-        assert_eq!(rt; counted(&mut running), Ok(Count { lo: 2, hi: 2 }));
+    let stores: [(&[Asked], u8); 3] = [(&ONE_WINDOW, 1), (&TWO_WINDOWS, 1), (&TWO_WINDOWS, 2)];
+    for (rows, slot) in stores {
+        let mut running = settled(rt.alloc(), rows)?;
+        assert!(rt; matches!(counted(&mut running), Some(Ok(_))));
         clear(&mut running.disk, slot)?;
         let changed = AskError::Changed {
             slot: u32::from(slot),
         };
-        assert_eq!(rt; counted(&mut running), Err(Some(changed)));
-        assert_eq!(rt; counted(&mut running), Err(Some(AskError::Stopped)));
+        assert_eq!(rt; counted(&mut running), Some(Err(changed)));
+        assert_eq!(rt; counted(&mut running), Some(Err(AskError::Stopped)));
         let again = window_read(&mut running, false);
         assert_eq!(rt; again, Err(Some(AskError::Stopped)));
         let third = taken(&mut running, THIRD);
-        assert_eq!(rt; third, Err(Some(ApplyError::Stopped)));
+        assert_eq!(rt; third, Some(Err(ApplyError::Stopped)));
     }
     Ok(())
 }
@@ -197,8 +135,8 @@ fn a_reading_names_the_slot_of_its_window(rt: HostRuntime) -> Result<(), Fail> {
 // A window may end on either side of the landmark, but not in it.
 #[test]
 fn a_window_that_ends_in_a_landmark_has_changed(rt: HostRuntime) -> Result<(), Fail> {
-    let changed = Err(Some(AskError::Changed { slot: 1 }));
-    let three = Ok(Count { lo: 3, hi: 3 });
+    let changed = Some(Err(AskError::Changed { slot: 1 }));
+    let three = Some(Ok(Count { lo: 3, hi: 3 }));
     let rows = [(19, three), (20, changed), (40, changed), (41, three)];
     for (t, answer) in rows {
         let mut running = settled(rt.alloc(), &AROUND_A_LANDMARK)?;
@@ -211,8 +149,8 @@ fn a_window_that_ends_in_a_landmark_has_changed(rt: HostRuntime) -> Result<(), F
 // A window begins after the one before it has ended.
 #[test]
 fn a_window_that_begins_too_early_has_changed(rt: HostRuntime) -> Result<(), Fail> {
-    let changed = Err(Some(AskError::Changed { slot: 2 }));
-    let two = Ok(Count { lo: 2, hi: 2 });
+    let changed = Some(Err(AskError::Changed { slot: 2 }));
+    let two = Some(Ok(Count { lo: 2, hi: 2 }));
     for (t, answer) in [(9, changed), (10, changed), (11, two)] {
         let mut running = settled(rt.alloc(), &TWO_WINDOWS)?;
         move_to(&mut running.disk, 2, t)?;
@@ -228,10 +166,10 @@ fn a_join_names_the_slot_and_stops_the_store(rt: HostRuntime) -> Result<(), Fail
         let changed = ApplyError::Changed {
             slot: u32::from(slot),
         };
-        assert_eq!(rt; taken(&mut running, THIRD), Err(Some(changed)));
+        assert_eq!(rt; taken(&mut running, THIRD), Some(Err(changed)));
         let again = taken(&mut running, THIRD);
-        assert_eq!(rt; again, Err(Some(ApplyError::Stopped)));
-        assert_eq!(rt; counted(&mut running), Err(Some(AskError::Stopped)));
+        assert_eq!(rt; again, Some(Err(ApplyError::Stopped)));
+        assert_eq!(rt; counted(&mut running), Some(Err(AskError::Stopped)));
     }
     Ok(())
 }

@@ -1,8 +1,26 @@
-//! Tests of the store over a disk that tells nothing, as a file. Over one that tells what it holds, no slot gives other bytes
-//! than before. A crate with tests is proved twice, so they stand here, and call the store as a crate above does.
+//! Tests of what opening rebuilds, and of the store. A crate with tests is proved twice, so those of the two crates stand here,
+//! and call them as a crate above does. They run over a disk that tells nothing, as a file does, of which no call asks anything.
 #![tactic(auto)]
 
 #[cfg(test)]
+mod applying;
+#[cfg(test)]
+mod asking;
+#[cfg(test)]
 mod changed;
 #[cfg(test)]
+mod damaged;
+#[cfg(test)]
+mod images;
+#[cfg(test)]
+mod opening;
+#[cfg(test)]
+mod rebuilding;
+#[cfg(test)]
+mod running;
+#[cfg(test)]
 mod silent;
+#[cfg(test)]
+mod stops;
+#[cfg(test)]
+mod texts;

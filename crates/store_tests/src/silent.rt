@@ -7,7 +7,7 @@ use ss_outside::{Disk, Failed, LONGEST_DISK, MemDisk};
 /// A disk in memory that tells nothing of its bytes, as a file. A write past its end fails.
 #[derive(Drop)]
 pub struct Silent {
-    inner: MemDisk,
+    pub inner: MemDisk,
     faults: u64,
 }
 

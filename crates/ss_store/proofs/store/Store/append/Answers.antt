@@ -9,8 +9,8 @@ use Rattle.ss_recover.specs.declared.parts.StreamParts.{StreamParts}
 use Rattle.ss_store.specs.Admitted.{IsTaker}
 use Rattle.ss_store.specs.Held.{values_held}
 use Rattle.ss_store.proofs.Among.{IsNoEarlier-past}
-use Rattle.ss_store.specs.Kept.{IsKept, StoreState, refuses_held}
-use Rattle.ss_store.proofs.Appended.{AreWhole-IsSpared, IsApplyFirm-fault, IsKept-IsSpared, IsKept-appended, IsSound-set, IsSpared, IsSpared-line, SameButSpare-IsSpared, StepsState-appended, held-taker, live-IsSpared, others, pair, part-read, said_of_set, tiles-IsSpared, whole-appended}
+use Rattle.ss_store.specs.Kept.{StoreIsKept, StoreState, refuses_held}
+use Rattle.ss_store.proofs.Appended.{AreWhole-IsSpared, IsApplyFirm-fault, IsSound-set, IsSpared, IsSpared-line, SameButSpare-IsSpared, StepsState-appended, StoreIsKept-IsSpared, StoreIsKept-appended, held-taker, live-IsSpared, others, pair, part-read, said_of_set, tiles-IsSpared, whole-appended}
 use Rattle.ss_store.proofs.Decays.{KeepsToTarget-taken}
 use Rattle.ss_store.proofs.Stepping.{StepsState-answers, StepsState-failed}
 use Rattle.ss_store.proofs.store.Store.append.Goals as goal
@@ -46,9 +46,9 @@ returns-in-Err-reserve-clause-one_disk g c told run =
     let room : IsSpared taker.part spared =
     IsSpared-line store c.in-Ok.taker.0 taker.part was is taker.at (c.self.invariant.whole runs) c.reserve.new.self entries c.reserve.ensures.grows in
     let at = taker.at in
-    let kept : IsKept store (g.D.Disk.told c.args.disk.now).content =
-    subst (λ (s : StoreState). IsKept s (g.D.Disk.told c.args.disk.now).content) (sym c.self.view_is) (c.requires.one_disk told) in
-    IsKept-IsSpared store c.in-Ok.taker.0 taker.part spared at room (g.D.Disk.told c.args.disk.now).content kept
+    let kept : StoreIsKept store (g.D.Disk.told c.args.disk.now).content =
+    subst (λ (s : StoreState). StoreIsKept s (g.D.Disk.told c.args.disk.now).content) (sym c.self.view_is) (c.requires.one_disk told) in
+    StoreIsKept-IsSpared store c.in-Ok.taker.0 taker.part spared at room (g.D.Disk.told c.args.disk.now).content kept
 
 pub returns-in-Err-reserve-clause-starved : goal.returns-in-Err-reserve-clause-starved
 returns-in-Err-reserve-clause-starved g c starved =
@@ -183,8 +183,8 @@ returns-in-Ok-append-clause-step g c told =
     let room : IsSpared taker.part spared =
     IsSpared-line store c.in-Ok.taker.0 taker.part was is taker.at (c.self.invariant.whole runs) c.reserve.new.self entries c.reserve.ensures.grows in
     let at = taker.at in
-    let kept : IsKept store (g.D.Disk.told c.args.disk.now).content =
-    subst (λ (s : StoreState). IsKept s (g.D.Disk.told c.args.disk.now).content) (sym c.self.view_is) (c.requires.one_disk told) in
+    let kept : StoreIsKept store (g.D.Disk.told c.args.disk.now).content =
+    subst (λ (s : StoreState). StoreIsKept s (g.D.Disk.told c.args.disk.now).content) (sym c.self.view_is) (c.requires.one_disk told) in
     let none : refuses_held store.streams (Value c.args.name.now c.args.t c.args.v) ≡ None =
     ap (λ (s : StoreState). refuses_held s.streams (Value c.args.name.now c.args.t c.args.v)) c.self.view_is ∙ c.in-Ok.ensures.accepted c.args.v in
     let others_now = others store (g.D.Disk.told c.args.disk.now).content kept c.args.name.now c.args.t c.args.v c.in-Ok.taker.0 c.in-Ok.taker.1 taker none (c.requires.in_time, c.ranges.v) in
@@ -206,8 +206,8 @@ returns-clause-step g c told =
     let room : IsSpared taker.part spared =
     IsSpared-line store c.in-Ok.taker.0 taker.part was is taker.at (c.self.invariant.whole runs) c.reserve.new.self entries c.reserve.ensures.grows in
     let at = taker.at in
-    let kept : IsKept store (g.D.Disk.told c.args.disk.now).content =
-    subst (λ (s : StoreState). IsKept s (g.D.Disk.told c.args.disk.now).content) (sym c.self.view_is) (c.requires.one_disk told) in
+    let kept : StoreIsKept store (g.D.Disk.told c.args.disk.now).content =
+    subst (λ (s : StoreState). StoreIsKept s (g.D.Disk.told c.args.disk.now).content) (sym c.self.view_is) (c.requires.one_disk told) in
     let none : refuses_held store.streams (Value c.args.name.now c.args.t c.args.v) ≡ None =
     ap (λ (s : StoreState). refuses_held s.streams (Value c.args.name.now c.args.t c.args.v)) c.self.view_is ∙ c.in-Ok.ensures.accepted c.args.v in
     let others_now = others store (g.D.Disk.told c.args.disk.now).content kept c.args.name.now c.args.t c.args.v c.in-Ok.taker.0 c.in-Ok.taker.1 taker none (c.requires.in_time, c.ranges.v) in
@@ -229,13 +229,13 @@ returns-in-Ok-append-clause-one_disk g c told run =
     let room : IsSpared taker.part spared =
     IsSpared-line store c.in-Ok.taker.0 taker.part was is taker.at (c.self.invariant.whole runs) c.reserve.new.self entries c.reserve.ensures.grows in
     let at = taker.at in
-    let kept : IsKept store (g.D.Disk.told c.args.disk.now).content =
-    subst (λ (s : StoreState). IsKept s (g.D.Disk.told c.args.disk.now).content) (sym c.self.view_is) (c.requires.one_disk told) in
+    let kept : StoreIsKept store (g.D.Disk.told c.args.disk.now).content =
+    subst (λ (s : StoreState). StoreIsKept s (g.D.Disk.told c.args.disk.now).content) (sym c.self.view_is) (c.requires.one_disk told) in
     let none : refuses_held store.streams (Value c.args.name.now c.args.t c.args.v) ≡ None =
     ap (λ (s : StoreState). refuses_held s.streams (Value c.args.name.now c.args.t c.args.v)) c.self.view_is ∙ c.in-Ok.ensures.accepted c.args.v in
     let others_now = others store (g.D.Disk.told c.args.disk.now).content kept c.args.name.now c.args.t c.args.v c.in-Ok.taker.0 c.in-Ok.taker.1 taker none (c.requires.in_time, c.ranges.v) in
     let s = (pair store (g.D.Disk.told c.args.disk.now).content kept c.args.name.now c.args.t c.args.v c.in-Ok.taker.0 c.in-Ok.taker.1 taker none (c.requires.in_time, c.ranges.v)).stream in
-    IsKept-appended store (g.D.Disk.told c.args.disk.now).content kept c.args.name.now c.args.t c.args.v c.in-Ok.taker.0 c.in-Ok.taker.1 taker none (c.requires.in_time, c.ranges.v) spared c.append.new.part room c.append.new.records store.stopped (g.D.Disk.told c.append.new.disk).content
+    StoreIsKept-appended store (g.D.Disk.told c.args.disk.now).content kept c.args.name.now c.args.t c.args.v c.in-Ok.taker.0 c.in-Ok.taker.1 taker none (c.requires.in_time, c.ranges.v) spared c.append.new.part room c.append.new.records store.stopped (g.D.Disk.told c.append.new.disk).content
     (c.in-Ok-append.ensures.one_disk told)
     ((rw (to_z-of_z w64 c.args.v c.ranges.v) at (c.in-Ok-append.ensures.appends told others_now s)).content (held-taker store (g.D.Disk.told c.args.disk.now).content kept c.args.name.now c.args.t c.args.v c.in-Ok.taker.0 c.in-Ok.taker.1 taker none (c.requires.in_time, c.ranges.v) spared c.append.new.part room))
 
@@ -288,8 +288,8 @@ returns-clause-firm g c told =
     let room : IsSpared taker.part spared =
     IsSpared-line store c.in-Ok.taker.0 taker.part was is taker.at (c.self.invariant.whole runs) c.reserve.new.self entries c.reserve.ensures.grows in
     let at = taker.at in
-    let kept : IsKept store (g.D.Disk.told c.args.disk.now).content =
-    subst (λ (s : StoreState). IsKept s (g.D.Disk.told c.args.disk.now).content) (sym c.self.view_is) (c.requires.one_disk told) in
+    let kept : StoreIsKept store (g.D.Disk.told c.args.disk.now).content =
+    subst (λ (s : StoreState). StoreIsKept s (g.D.Disk.told c.args.disk.now).content) (sym c.self.view_is) (c.requires.one_disk told) in
     let none : refuses_held store.streams (Value c.args.name.now c.args.t c.args.v) ≡ None =
     ap (λ (s : StoreState). refuses_held s.streams (Value c.args.name.now c.args.t c.args.v)) c.self.view_is ∙ c.in-Ok.ensures.accepted c.args.v in
     let others_now = others store (g.D.Disk.told c.args.disk.now).content kept c.args.name.now c.args.t c.args.v c.in-Ok.taker.0 c.in-Ok.taker.1 taker none (c.requires.in_time, c.ranges.v) in

@@ -6,10 +6,10 @@ use Rattle.ss_model.specs.Refusals.{refuses}
 use Rattle.ss_recover.specs.Held.{records_held}
 use Rattle.ss_recover.specs.declared.parts.StreamParts.{StreamParts}
 use Rattle.ss_store.specs.Admitted.{IsNew}
-use Rattle.ss_store.specs.Kept.{IsKept, SameButSpare, StoreState, part_named, refuses_held}
+use Rattle.ss_store.specs.Kept.{SameButSpare, StoreIsKept, StoreState, part_named, refuses_held}
 use Rattle.ss_store.specs.Slots.{HasRecords}
 use Rattle.ss_store.proofs.Appended.{KeepsSpare-same}
-use Rattle.ss_store.proofs.Created.{IsFreshPart, IsKept-created, IsSound-created, StepsState-created, said_of_created}
+use Rattle.ss_store.proofs.Created.{IsFreshPart, IsSound-created, StepsState-created, StoreIsKept-created, said_of_created}
 use Rattle.ss_store.proofs.Decays.{KeepsToTarget-none}
 use Rattle.ss_store.proofs.Refusals.{refuses_held-is}
 use Rattle.ss_store.proofs.Stepping.{StepsState-answers, StepsState-failed}
@@ -75,8 +75,8 @@ returns-in-Ok-add_record-clause-step g c told =
     let new : IsNew store c.args.name c.args.params c.in-Ok.new.1.0 c.in-Ok.new.2 =
     subst (λ (s : StoreState). IsNew s c.args.name c.args.params c.in-Ok.new.1.0 c.in-Ok.new.2) (sym c.self.view_is) c.in-Ok.ensures.new in
     let runs : store.stopped ≡ false = ap (λ (s : StoreState). s.stopped) c.self.view_is ∙ c.requires.runs in
-    let kept : IsKept store (g.D.Disk.told c.args.disk.now).content =
-    subst (λ (s : StoreState). IsKept s (g.D.Disk.told c.args.disk.now).content) (sym c.self.view_is) (c.requires.one_disk told) in
+    let kept : StoreIsKept store (g.D.Disk.told c.args.disk.now).content =
+    subst (λ (s : StoreState). StoreIsKept s (g.D.Disk.told c.args.disk.now).content) (sym c.self.view_is) (c.requires.one_disk told) in
     let none : refuses kept.streams (Create c.args.name c.args.params) ≡ None =
     sym (refuses_held-is store.streams kept.streams (Create c.args.name c.args.params) kept.agree kept.state)
     ∙ ap (λ (s : StoreState). refuses_held s.streams (Create c.args.name c.args.params)) c.self.view_is ∙ c.in-Ok.ensures.accepted in
@@ -102,8 +102,8 @@ returns-in-Err-add_record-clause-step g c told =
     let new : IsNew store c.args.name c.args.params c.in-Ok.new.1.0 c.in-Ok.new.2 =
     subst (λ (s : StoreState). IsNew s c.args.name c.args.params c.in-Ok.new.1.0 c.in-Ok.new.2) (sym c.self.view_is) c.in-Ok.ensures.new in
     let runs : store.stopped ≡ false = ap (λ (s : StoreState). s.stopped) c.self.view_is ∙ c.requires.runs in
-    let kept : IsKept store (g.D.Disk.told c.args.disk.now).content =
-    subst (λ (s : StoreState). IsKept s (g.D.Disk.told c.args.disk.now).content) (sym c.self.view_is) (c.requires.one_disk told) in
+    let kept : StoreIsKept store (g.D.Disk.told c.args.disk.now).content =
+    subst (λ (s : StoreState). StoreIsKept s (g.D.Disk.told c.args.disk.now).content) (sym c.self.view_is) (c.requires.one_disk told) in
     let none : refuses kept.streams (Create c.args.name c.args.params) ≡ None =
     sym (refuses_held-is store.streams kept.streams (Create c.args.name c.args.params) kept.agree kept.state)
     ∙ ap (λ (s : StoreState). refuses_held s.streams (Create c.args.name c.args.params)) c.self.view_is ∙ c.in-Ok.ensures.accepted in
@@ -129,8 +129,8 @@ returns-in-Ok-add_record-clause-one_disk g c told run =
     let new : IsNew store c.args.name c.args.params c.in-Ok.new.1.0 c.in-Ok.new.2 =
     subst (λ (s : StoreState). IsNew s c.args.name c.args.params c.in-Ok.new.1.0 c.in-Ok.new.2) (sym c.self.view_is) c.in-Ok.ensures.new in
     let runs : store.stopped ≡ false = ap (λ (s : StoreState). s.stopped) c.self.view_is ∙ c.requires.runs in
-    let kept : IsKept store (g.D.Disk.told c.args.disk.now).content =
-    subst (λ (s : StoreState). IsKept s (g.D.Disk.told c.args.disk.now).content) (sym c.self.view_is) (c.requires.one_disk told) in
+    let kept : StoreIsKept store (g.D.Disk.told c.args.disk.now).content =
+    subst (λ (s : StoreState). StoreIsKept s (g.D.Disk.told c.args.disk.now).content) (sym c.self.view_is) (c.requires.one_disk told) in
     let none : refuses kept.streams (Create c.args.name c.args.params) ≡ None =
     sym (refuses_held-is store.streams kept.streams (Create c.args.name c.args.params) kept.agree kept.state)
     ∙ ap (λ (s : StoreState). refuses_held s.streams (Create c.args.name c.args.params)) c.self.view_is ∙ c.in-Ok.ensures.accepted in
@@ -139,7 +139,7 @@ returns-in-Ok-add_record-clause-one_disk g c told run =
     let has : HasRecords ((c.in-Ok.new.2, Some (records.Stream c.in-Ok.new.1.0 c.args.name c.args.params)) ∷ others) now =
     rw c.record_of.ensures.value at ((c.in-Ok-add_record.ensures.adds told others).content kept.held) in
     rw c.in-Ok-grow.ensures.streams
-    (IsKept-created store (g.D.Disk.told c.args.disk.now).content kept part c.args.name c.args.params fresh new.next none c.add_record.new.records
+    (StoreIsKept-created store (g.D.Disk.told c.args.disk.now).content kept part c.args.name c.args.params fresh new.next none c.add_record.new.records
     c.self.inside.stopped now (c.in-Ok-add_record.ensures.one_disk told) has)
 
 pub returns-in-Ok-add_record-clause-ack : goal.returns-in-Ok-add_record-clause-ack

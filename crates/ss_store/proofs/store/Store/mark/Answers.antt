@@ -5,10 +5,10 @@ use Rattle.ss_model.specs.Marks.{has_open}
 use Rattle.ss_recover.specs.Held.{TileFrom, entries_of, mark_slots}
 use Rattle.ss_recover.specs.declared.parts.StreamParts.{StreamParts}
 use Rattle.ss_store.specs.Admitted.{IsMarker}
-use Rattle.ss_store.specs.Kept.{IsKept, StoreState, of_part, refuses_held}
+use Rattle.ss_store.specs.Kept.{StoreIsKept, StoreState, of_part, refuses_held}
 use Rattle.ss_store.specs.Marking.{CanMark, IsInOpen, event_of, mark_refusal}
 use Rattle.ss_store.proofs.Among.{others_of}
-use Rattle.ss_store.proofs.Appended.{AreWhole-IsSpared, IsKept-IsSpared, IsKept-marked, IsSound-set, IsSpared, IsSpared-marks, SameButSpare-IsSpared, StepsState-marked, held-marker, live-IsSpared, marking, part-read, said_of_set, tiles-IsSpared, whole-changed}
+use Rattle.ss_store.proofs.Appended.{AreWhole-IsSpared, IsSound-set, IsSpared, IsSpared-marks, SameButSpare-IsSpared, StepsState-marked, StoreIsKept-IsSpared, StoreIsKept-marked, held-marker, live-IsSpared, marking, part-read, said_of_set, tiles-IsSpared, whole-changed}
 use Rattle.ss_store.proofs.Marked.{CanBeSaid-mark, mark_refusal-same}
 use Rattle.ss_store.proofs.Refusals.{of_part-named}
 use Rattle.ss_store.proofs.Stepping.{StepsState-answers, StepsState-failed}
@@ -47,8 +47,8 @@ returns-in-Err-reserve-clause-one_disk g c told run =
     IsSpared-marks store c.in-Ok.marker.0 marker.part was is marker.at whole c.reserve.new.landmarks kept_marks.landmarks kept_marks.slots kept_marks.value_slots
     kept_marks.room_grows kept_marks.value_room_grows kept_marks.known in
     let content = (g.D.Disk.told c.args.disk.now).content in
-    let kept : IsKept store content = subst (λ (s : StoreState). IsKept s content) (sym c.self.view_is) (c.requires.one_disk told) in
-    IsKept-IsSpared store c.in-Ok.marker.0 marker.part spared marker.at room content kept
+    let kept : StoreIsKept store content = subst (λ (s : StoreState). StoreIsKept s content) (sym c.self.view_is) (c.requires.one_disk told) in
+    StoreIsKept-IsSpared store c.in-Ok.marker.0 marker.part spared marker.at room content kept
 
 pub returns-in-Err-reserve-clause-starved : goal.returns-in-Err-reserve-clause-starved
 returns-in-Err-reserve-clause-starved g c starved =
@@ -190,7 +190,7 @@ returns-in-Ok-put_mark-clause-step g c told =
     IsSpared-marks store c.in-Ok.marker.0 marker.part was is marker.at whole c.reserve.new.landmarks kept_marks.landmarks kept_marks.slots kept_marks.value_slots
     kept_marks.room_grows kept_marks.value_room_grows kept_marks.known in
     let content = (g.D.Disk.told c.args.disk.now).content in
-    let kept : IsKept store content = subst (λ (s : StoreState). IsKept s content) (sym c.self.view_is) (c.requires.one_disk told) in
+    let kept : StoreIsKept store content = subst (λ (s : StoreState). StoreIsKept s content) (sym c.self.view_is) (c.requires.one_disk told) in
     let none : refuses_held store.streams (event_of c.args.name.now c.args.t c.args.what) ≡ None =
     ap (λ (s : StoreState). refuses_held s.streams (event_of c.args.name.now c.args.t c.args.what)) c.self.view_is ∙ c.in-Ok.ensures.accepted in
     let said = CanBeSaid-mark c.args.name.now c.args.t c.args.what c.requires.in_time c.put_mark.ensures.fits in
@@ -221,7 +221,7 @@ returns-in-Err-put_mark-clause-step g c told =
     IsSpared-marks store c.in-Ok.marker.0 marker.part was is marker.at whole c.reserve.new.landmarks kept_marks.landmarks kept_marks.slots kept_marks.value_slots
     kept_marks.room_grows kept_marks.value_room_grows kept_marks.known in
     let content = (g.D.Disk.told c.args.disk.now).content in
-    let kept : IsKept store content = subst (λ (s : StoreState). IsKept s content) (sym c.self.view_is) (c.requires.one_disk told) in
+    let kept : StoreIsKept store content = subst (λ (s : StoreState). StoreIsKept s content) (sym c.self.view_is) (c.requires.one_disk told) in
     let none : refuses_held store.streams (event_of c.args.name.now c.args.t c.args.what) ≡ None =
     ap (λ (s : StoreState). refuses_held s.streams (event_of c.args.name.now c.args.t c.args.what)) c.self.view_is ∙ c.in-Ok.ensures.accepted in
     let said = CanBeSaid-mark c.args.name.now c.args.t c.args.what c.requires.in_time c.put_mark.ensures.fits in
@@ -252,7 +252,7 @@ returns-in-Ok-put_mark-clause-one_disk g c told run =
     IsSpared-marks store c.in-Ok.marker.0 marker.part was is marker.at whole c.reserve.new.landmarks kept_marks.landmarks kept_marks.slots kept_marks.value_slots
     kept_marks.room_grows kept_marks.value_room_grows kept_marks.known in
     let content = (g.D.Disk.told c.args.disk.now).content in
-    let kept : IsKept store content = subst (λ (s : StoreState). IsKept s content) (sym c.self.view_is) (c.requires.one_disk told) in
+    let kept : StoreIsKept store content = subst (λ (s : StoreState). StoreIsKept s content) (sym c.self.view_is) (c.requires.one_disk told) in
     let none : refuses_held store.streams (event_of c.args.name.now c.args.t c.args.what) ≡ None =
     ap (λ (s : StoreState). refuses_held s.streams (event_of c.args.name.now c.args.t c.args.what)) c.self.view_is ∙ c.in-Ok.ensures.accepted in
     let said = CanBeSaid-mark c.args.name.now c.args.t c.args.what c.requires.in_time c.put_mark.ensures.fits in
@@ -265,7 +265,7 @@ returns-in-Ok-put_mark-clause-one_disk g c told run =
     let after = (g.D.Disk.told c.put_mark.new.disk).content in
     let held = held-marker store content kept c.args.name.now c.args.t c.args.what c.in-Ok.marker.0 c.in-Ok.marker.1 marker none said begun spared
     c.put_mark.new.part room in
-    IsKept-marked store content kept c.args.name.now c.args.t c.args.what c.in-Ok.marker.0 c.in-Ok.marker.1 marker none said begun spared
+    StoreIsKept-marked store content kept c.args.name.now c.args.t c.args.what c.in-Ok.marker.0 c.in-Ok.marker.1 marker none said begun spared
     c.put_mark.new.part room c.put_mark.new.records store.stopped after (c.in-Ok-put_mark.ensures.one_disk told)
     ((c.in-Ok-put_mark.ensures.marks told others s).content held)
 

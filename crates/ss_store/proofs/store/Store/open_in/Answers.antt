@@ -8,7 +8,7 @@ use Rattle.ss_recover.specs.declared.parts.StreamParts.{StreamParts}
 use Rattle.ss_store.specs.Kept.{IsSound, StoreState, entry_of}
 use Rattle.ss_store.specs.Causes.{OpensAs}
 use Rattle.ss_store.specs.Errors.{open_of_recover}
-use Rattle.ss_store.proofs.Opens.{IsKept-closed, IsRebuilt-opened, KeepsState-closed, KeepsState-unclosed, KeepsState-unsettled, OpensAs-closed, OpensAs-firm, OpensAs-journal, OpensAs-recover, StandsFor-kept, held_settled}
+use Rattle.ss_store.proofs.Opens.{IsRebuilt-opened, KeepsState-closed, KeepsState-unclosed, KeepsState-unsettled, OpensAs-closed, OpensAs-firm, OpensAs-journal, OpensAs-recover, StandsFor-kept, StoreIsKept-closed, held_settled}
 use Rattle.ss_store.proofs.store.Store.open_in.Goals as goal
 
 -- the streams as closing left them, in their place
@@ -147,7 +147,7 @@ returns-clause-one_disk g c told =
       stopped = false;
     } in
     let closes = c.in_ok-close_all.ensures.closes told_settled is.streams is.state is.held.agree in
-    IsKept-closed parts now old read settled new knows is reads keeps store closes (c.in_ok-close_all.ensures.one_disk told_settled) same agree
+    StoreIsKept-closed parts now old read settled new knows is reads keeps store closes (c.in_ok-close_all.ensures.one_disk told_settled) same agree
 
 pub returns-clause-state : goal.returns-clause-state
 returns-clause-state g c told =

@@ -1,6 +1,6 @@
 use Rattle.std.proofs.Common.{arith}
 use Rattle.ss_codec.proofs.RecordLemmas.{is_valid-IsStream}
-use Rattle.ss_store.proofs.store.record_of.Goals as goal
+use Rattle.ss_store.proofs.store.create.record_of.Goals as goal
 
 pub returns-clause-valid : goal.returns-clause-valid
 returns-clause-valid c =

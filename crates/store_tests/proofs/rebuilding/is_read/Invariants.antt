@@ -1,4 +1,4 @@
-use Rattle.ss_recover.proofs.tests.is_read.Given as goal
+use Rattle.store_tests.proofs.rebuilding.is_read.Given as goal
 
 abbrev pub ghosts-has_entries : goal.ghosts-has_entries
 ghosts-has_entries a = record { name = a.blank.name; parts = a.blank.parts }

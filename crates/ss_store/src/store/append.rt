@@ -1,0 +1,113 @@
+// Applying a value outside landmarks.
+use super::Store;
+use super::times::is_past;
+use crate::ApplyError;
+use crate::appending::append;
+use crate::closing::values_held;
+use crate::place::place_of;
+use ss_catalog::{LAST_TIME, Name, Refusal};
+use ss_model::Ack;
+use ss_outside::Disk;
+use ss_steps::Steps;
+use ss_windowing::MOST_VALUES;
+use std::sync::ledger::{Blank, Ledger};
+
+impl Store {
+    ghost use Rattle.std.specs.Prelude.{◌≡◌, ◌≢◌, ◌+◌, ◌*◌, ◌<◌, ◌≤◌, ◌↔◌, false, max, length, flat_map, Some, IsTrue, IfOk, IfSome, OnOk, IfErr, Err, None, ℤ};
+    ghost use Rattle.ss_catalog.specs.declared.event.Event.TheVariants.{Value};
+    ghost use Rattle.ss_catalog.specs.declared.refusal.Refusal.{Refusal};
+    ghost use Rattle.ss_target.specs.Lengths.{lengths_of};
+    ghost use Rattle.ss_target.specs.Targets.{params_of};
+    ghost use Rattle.ss_model.specs.Decay.{cover};
+    ghost use Rattle.ss_model.specs.Marks.{has_open};
+    ghost use Rattle.ss_recover.specs.Held.{slots_held};
+    ghost use Rattle.ss_store.specs.Calls.{StepsState};
+    ghost use Rattle.ss_store.specs.Causes.{ApplyCause, IfRefused, IfUncalled, IsApplyFirm, said_of_held, stopped_by_apply};
+    ghost use Rattle.ss_store.specs.Kept.{SameButSpare, StoreIsKept, of_part, part_named, refuses_held};
+    ghost use Rattle.ss_store.specs.Admitted.{IsTaker};
+    ghost use Rattle.ss_steps.specs.Steps.{IsFresh};
+
+    // The place of the stream that takes a value outside landmarks at a time, and the slot of its window, or why it doesn't take it.
+    fn taker<L: Ledger>(
+        &self,
+        name: &Name,
+        t: u64,
+        steps: &mut Steps<L>,
+    ) -> Result<(usize, u32), Refusal>
+        requires runs { self.now.stopped ≡ false }
+        requires plain { of_part name.now self.now.streams (λ part. has_open part.landmarks.landmarks) ≡ false }
+        ensures refused { (v : ℤ) → IfErr result (λ r. refuses_held self.now.streams (Value name.now t v) ≡ Some r) }
+        ensures accepted { (v : ℤ) → OnOk result (refuses_held self.now.streams (Value name.now t v) ≡ None) }
+        ensures taker { IfOk result (λ taker. IsTaker self.now name.now t taker.0 taker.1) }
+    {
+        let Some(id) = self.catalog.find(name) else {
+            return Err(Refusal::Unknown);
+        };
+        let place = place_of(&self.streams, id);
+        let stream = &self.streams[place];
+        if is_past(stream.last_time, t) {
+            return Err(Refusal::Time);
+        }
+        if values_held(stream, steps) >= MOST_VALUES {
+            return Err(Refusal::StreamFull);
+        }
+        match self.free_slot() {
+            Some(slot) => Ok((place, slot)),
+            None => Err(Refusal::StoreFull),
+        }
+    }
+
+    // Applies a value outside landmarks.
+    pub(super) fn append<D: Disk, L: Ledger>(
+        &mut self,
+        disk: &mut D,
+        name: &Name,
+        t: u64,
+        v: i64,
+        blank: Blank,
+    ) -> Result<Ack, ApplyError>
+        requires fresh { IsFresh L.name L.parts blank }
+        requires in_time { t ≤ LAST_TIME }
+        requires runs { self.old.stopped ≡ false }
+        requires plain { of_part name.now self.old.streams (λ part. has_open part.landmarks.landmarks) ≡ false }
+        requires one_disk { IsTrue (D.tells disk.old) → StoreIsKept self.old (D.told disk.old).content }
+        ensures step { IsTrue (D.tells disk.old) → StepsState (Value name.now t v) (D.told disk.old) (D.told disk.new) result }
+        ensures one_disk { IsTrue (D.tells disk.old) → self.new.stopped ≡ false → StoreIsKept self.new (D.told disk.new).content }
+        ensures ack { IfOk result (λ ack. ack ≡ said_of_held (part_named name.now self.new.streams)) }
+        ensures decay { IfOk result (λ ack. IfSome (part_named name.now self.new.streams) (λ part.
+            0 < ack.n → ack.k + 1 ≤ 2 * cover (lengths_of (params_of part.target)) ack.n)) }
+        ensures running { result ≢ Err ApplyError.Stopped }
+        ensures refused { (r : Refusal) →
+            (result ≡ Err (ApplyError.Refused r)) ↔ (refuses_held self.old.streams (Value name.now t v) ≡ Some r) }
+        ensures uncalled { IfUncalled result (disk.new ≡ disk.old) }
+        ensures same { IfRefused result (self.new ≡ self.old) }
+        ensures starved { (result ≡ Err ApplyError.OutOfMemory) → SameButSpare self.old self.new }
+        ensures stops { self.new.stopped ≡ stopped_by_apply self.old.stopped result }
+        ensures firm { IsTrue (D.tells disk.old) → IsApplyFirm result }
+        ensures extent { OnOk result (self.new.records.journal.extent
+            ≤ max self.old.records.journal.extent (length (flat_map slots_held self.old.streams) + 1)) }
+        ensures tells { D.tells disk.new ≡ D.tells disk.old }
+        ensures cause { ApplyCause (D.faults disk.old) (D.faults disk.new) result }
+    {
+        let mut steps = Steps::<L>::new(blank);
+        let (place, slot) = match self.taker(name, t, &mut steps) {
+            Ok(taker) => taker,
+            Err(refusal) => return Err(ApplyError::Refused(refusal)),
+        };
+        let stream = &mut self.streams[place];
+        match stream.line.reserve(1) {
+            Ok(()) => {}
+            Err(_) => return Err(ApplyError::OutOfMemory),
+        }
+        match append(&mut self.records, disk, stream, slot, t, v, &mut steps) {
+            Ok(()) => Ok(Ack {
+                n: values_held(stream, &mut steps),
+                k: stream.line.len(),
+            }),
+            Err(fault) => {
+                self.stopped = true;
+                Err(ApplyError::from(fault))
+            }
+        }
+    }
+}

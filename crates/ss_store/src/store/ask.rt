@@ -1,0 +1,132 @@
+// Answering a query.
+use super::Store;
+use crate::AskError;
+use crate::asking::answer;
+use crate::place::place_of;
+use ss_catalog::{Event, Query, Refusal, StreamId};
+use ss_model::Outcome;
+use ss_outside::Disk;
+use ss_steps::Steps;
+use std::marker::Brand;
+use std::sync::ledger::{Blank, Ledger};
+
+impl Store {
+    ghost use Rattle.std.specs.Prelude.{◌≡◌, ◌≢◌, ◌≤◌, ◌↔◌, [], List, true, false, Some, IsTrue, IsSome, IfOk, IfSome, OnOk, IfErr, Err, None};
+    ghost use Rattle.std.specs.List.{Contains};
+    ghost use Rattle.ss_outside.specs.Crash.{OnlyReads};
+    ghost use Rattle.ss_catalog.specs.declared.event.Event.{Event};
+    ghost use Rattle.ss_catalog.specs.declared.refusal.Refusal.{Refusal};
+    ghost use Rattle.ss_model.specs.Answers.{HoldsTruth, IsExactOutcome, IsOfKind, outcome_of, split_by};
+    ghost use Rattle.ss_model.specs.History.{marked_of, values_of};
+    ghost use Rattle.ss_model.specs.State.{Stream};
+    ghost use Rattle.ss_store.specs.Asked.{refuses_query_held, window_slots_of};
+    ghost use Rattle.ss_store.specs.Causes.{AskCause, IfAskChanged, IfUnasked, IsAskFirm, stopped_by_ask};
+    ghost use Rattle.ss_store.specs.Kept.{StoreIsKept, part_named, part_numbered};
+    ghost use Rattle.ss_store.specs.Recover.{Recovers, Stands};
+    ghost use Rattle.ss_steps.specs.Steps.{IsFresh};
+
+    /// Answers a query, by what the windows of its stream say. It writes nothing, and takes no memory. A refusal is the first
+    /// that applies, and makes no call of the disk.
+    pub fn ask<D: Disk>(&mut self, disk: &mut D, query: &Query) -> Result<Outcome, AskError>
+        requires one_disk { IsTrue (D.tells disk.old) → self.old.stopped ≡ false → StoreIsKept self.old (D.told disk.old).content }
+        // The answer of the state that the content recovers to.
+        ensures answer { IsTrue (D.tells disk.old) → (streams : List Stream) → Recovers streams (D.told disk.old).content →
+            IfOk result (λ outcome. outcome_of streams query.now ≡ Some outcome) }
+        // It holds the truth over all values of the stream, those of its landmarks among them, for every history that the
+        // content stands for.
+        ensures truth { IsTrue (D.tells disk.old) → (history : List Event) → Stands history (D.told disk.old).content →
+            IfOk result (HoldsTruth query.now (values_of history query.now.name) (marked_of history query.now.name)) }
+        // It leaves nothing open where the range splits no window.
+        ensures exact { IsTrue (D.tells disk.old) → (streams : List Stream) → Recovers streams (D.told disk.old).content →
+            split_by streams query.now ≡ [] → IfOk result IsExactOutcome }
+        // Over every disk it is to what was asked for.
+        ensures kind { IfOk result (IsOfKind query.now.kind) }
+        // A slot that has changed is that of a window of the stream.
+        ensures changed { IfAskChanged result (λ slot. IfSome (part_named query.now.name self.old.streams) (λ part.
+            Contains (window_slots_of part) slot)) }
+        ensures one_disk { IsTrue (D.tells disk.old) → self.new.stopped ≡ false → StoreIsKept self.new (D.told disk.new).content }
+        ensures streams { self.new.streams ≡ self.old.streams }
+        ensures live { self.new.records.live ≡ self.old.records.live }
+        ensures journal { OnOk result (self.new.records.journal ≡ self.old.records.journal) }
+        // Stopped comes first, exactly where the store had stopped, and then each refusal exactly where it applies.
+        ensures stopped { (result ≡ Err AskError.Stopped) ↔ (self.old.stopped ≡ true) }
+        ensures refused { self.old.stopped ≡ false → (r : Refusal) →
+            (result ≡ Err (AskError.Refused r)) ↔ (refuses_query_held self.old.streams query.now ≡ Some r) }
+        ensures uncalled { IfUnasked result (disk.new ≡ disk.old) }
+        ensures same { IfUnasked result (self.new ≡ self.old) }
+        ensures stops { self.new.stopped ≡ stopped_by_ask self.old.stopped result }
+        ensures firm { IsTrue (D.tells disk.old) → IsAskFirm result }
+        // The content and the images are those from before.
+        ensures reads { IsTrue (D.tells disk.old) → OnlyReads (D.told disk.old) (D.told disk.new) }
+        ensures tells { D.tells disk.new ≡ D.tells disk.old }
+        ensures cause { AskCause (D.faults disk.old) (D.faults disk.new) result }
+    {
+        if self.stopped {
+            return Err(AskError::Stopped);
+        }
+        match self.asked(query) {
+            Ok(id) => self.answer::<D, Brand>(disk, query, id, Blank::new(1)),
+            Err(refusal) => Err(AskError::Refused(refusal)),
+        }
+    }
+
+    // The number of the stream that a query asks, or why it is refused.
+    fn asked(&self, query: &Query) -> Result<StreamId, Refusal>
+        ensures refused { IfErr result (λ r. refuses_query_held self.now.streams query.now ≡ Some r) }
+        ensures accepted { OnOk result (refuses_query_held self.now.streams query.now ≡ None) }
+        ensures order { OnOk result (query.now.from ≤ query.now.to) }
+        ensures stands { IfOk result (λ id. IsSome (part_numbered id.0 self.now.streams)) }
+        ensures same { IfOk result (λ id. part_numbered id.0 self.now.streams ≡ part_named query.now.name self.now.streams) }
+    {
+        let Some(id) = self.find(&query.name) else {
+            return Err(Refusal::Unknown);
+        };
+        if query.to < query.from {
+            return Err(Refusal::Range);
+        }
+        Ok(id)
+    }
+
+    // Answers a query to the stream of a number, where the store hasn't stopped.
+    fn answer<D: Disk, L: Ledger>(
+        &mut self,
+        disk: &mut D,
+        query: &Query,
+        id: StreamId,
+        blank: Blank,
+    ) -> Result<Outcome, AskError>
+        requires fresh { IsFresh L.name L.parts blank }
+        requires order { query.now.from ≤ query.now.to }
+        requires stands { IsSome (part_numbered id.0 self.old.streams) }
+        requires same { part_numbered id.0 self.old.streams ≡ part_named query.now.name self.old.streams }
+        requires runs { self.old.stopped ≡ false }
+        requires one_disk { IsTrue (D.tells disk.old) → StoreIsKept self.old (D.told disk.old).content }
+        ensures answer { IsTrue (D.tells disk.old) → (streams : List Stream) → Recovers streams (D.told disk.old).content →
+            IfOk result (λ outcome. outcome_of streams query.now ≡ Some outcome) }
+        ensures kind { IfOk result (IsOfKind query.now.kind) }
+        ensures changed { IfAskChanged result (λ slot. IfSome (part_named query.now.name self.old.streams) (λ part.
+            Contains (window_slots_of part) slot)) }
+        ensures one_disk { IsTrue (D.tells disk.old) → self.new.stopped ≡ false → StoreIsKept self.new (D.told disk.new).content }
+        ensures streams { self.new.streams ≡ self.old.streams }
+        ensures live { self.new.records.live ≡ self.old.records.live }
+        ensures journal { OnOk result (self.new.records.journal ≡ self.old.records.journal) }
+        ensures running { result ≢ Err AskError.Stopped }
+        ensures unrefused { (r : Refusal) → result ≢ Err (AskError.Refused r) }
+        ensures stops { self.new.stopped ≡ stopped_by_ask self.old.stopped result }
+        ensures firm { IsTrue (D.tells disk.old) → IsAskFirm result }
+        ensures reads { IsTrue (D.tells disk.old) → OnlyReads (D.told disk.old) (D.told disk.new) }
+        ensures tells { D.tells disk.new ≡ D.tells disk.old }
+        ensures cause { AskCause (D.faults disk.old) (D.faults disk.new) result }
+    {
+        let stream = &self.streams[place_of(&self.streams, id)];
+        let mut steps = Steps::<L>::new(blank);
+        match answer(&mut self.records, disk, stream, query, &mut steps) {
+            Ok(outcome) => Ok(outcome),
+            Err(fault) => {
+                let error = AskError::from(fault);
+                self.stopped = true;
+                Err(error)
+            }
+        }
+    }
+}

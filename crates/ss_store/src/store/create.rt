@@ -1,0 +1,151 @@
+// Applying the creation of a stream.
+ghost use Rattle.std.specs.Prelude.{◌≡◌, ◌∷◌, ◌++◌, [], IsTrue, OnOk, OnErr};
+ghost use Rattle.ss_codec.specs.Record.{is_valid};
+ghost use Rattle.ss_codec.specs.declared.record.Record.TheVariants as record_kinds;
+ghost use Rattle.ss_target.specs.Lengths.{has_target};
+
+use super::Store;
+use crate::ApplyError;
+use crate::place::next_id;
+use crate::writing::add_record;
+use ss_catalog::{Catalog, Name, Params, Refusal, StreamId};
+use ss_codec::Record;
+use ss_landmarks::Landmarks;
+use ss_line::Line;
+use ss_model::Ack;
+use ss_outside::{Disk, Failed};
+use ss_recover::StreamParts;
+use ss_target::Target;
+use std::alloc::AllocError;
+
+// Puts a stream last, and its name into the catalog, which is the last to grow. An error leaves both as they were.
+fn grow(
+    streams: &mut Vec<StreamParts>,
+    catalog: &mut Catalog,
+    stream: StreamParts,
+    name: Name,
+    id: StreamId,
+) -> Result<(), AllocError>
+    ensures streams { OnOk result (streams.new.items ≡ streams.old.items ++ stream ∷ []) }
+    ensures catalog { OnOk result (catalog.new ≡ catalog.old ++ (name, id) ∷ []) }
+    ensures err_streams { OnErr result (streams.new.items ≡ streams.old.items) }
+    ensures err_catalog { OnErr result (catalog.new ≡ catalog.old) }
+{
+    streams.reserve(1)?;
+    match catalog.add(name, id) {
+        Ok(()) => {}
+        Err(_) => return Err(AllocError),
+    }
+    streams.push(stream).unwrap();
+    Ok(())
+}
+
+// The record of a new stream.
+fn record_of(id: u32, name: &Name, params: Params) -> Record
+    requires { IsTrue (has_target params) }
+    ensures value { result ≡ record_kinds.Stream id name.now params }
+    ensures valid { IsTrue (is_valid result) }
+{
+    let _word = name.as_bytes();
+    Record::Stream {
+        id,
+        name: *name,
+        params,
+    }
+}
+
+impl Store {
+    ghost use Rattle.std.specs.Prelude.{◌≡◌, ◌≢◌, ◌+◌, ◌*◌, ◌<◌, ◌≤◌, ◌↔◌, false, max, length, flat_map, Some, IsTrue, IfOk, IfSome, OnOk, IfErr, Err, None};
+    ghost use Rattle.ss_catalog.specs.declared.event.Event.TheVariants.{Create};
+    ghost use Rattle.ss_catalog.specs.declared.refusal.Refusal.{Refusal};
+    ghost use Rattle.ss_target.specs.Lengths.{lengths_of};
+    ghost use Rattle.ss_target.specs.Targets.{params_of};
+    ghost use Rattle.ss_model.specs.Decay.{cover};
+    ghost use Rattle.ss_recover.specs.Held.{slots_held};
+    ghost use Rattle.ss_store.specs.Calls.{StepsState};
+    ghost use Rattle.ss_store.specs.Causes.{ApplyCause, IfRefused, IfUncalled, IsApplyFirm, said_of_held, stopped_by_apply};
+    ghost use Rattle.ss_store.specs.Kept.{SameButSpare, StoreIsKept, part_named, refuses_held};
+    ghost use Rattle.ss_store.specs.Admitted.{IsNew};
+
+    // The target, the number and the slot of a stream that is created, or why it isn't.
+    fn admit(&self, name: &Name, params: Params) -> Result<(Target, StreamId, u32), Refusal>
+        requires { self.now.stopped ≡ false }
+        ensures refused { IfErr result (λ r. refuses_held self.now.streams (Create name.now params) ≡ Some r) }
+        ensures accepted { OnOk result (refuses_held self.now.streams (Create name.now params) ≡ None) }
+        ensures target { IfOk result (λ new. params_of new.0 ≡ params) }
+        ensures new { IfOk result (λ new. IsNew self.now name.now params new.1.0 new.2) }
+    {
+        let Ok(target) = Target::of(params) else {
+            return Err(Refusal::Param);
+        };
+        if self.catalog.find(name).is_some() {
+            return Err(Refusal::Exists);
+        }
+        let Some(id) = next_id(&self.streams) else {
+            return Err(Refusal::Streams);
+        };
+        match self.free_slot() {
+            Some(slot) => Ok((target, id, slot)),
+            None => Err(Refusal::StoreFull),
+        }
+    }
+
+    // Applies the creation of a stream.
+    pub(super) fn create<D: Disk>(
+        &mut self,
+        disk: &mut D,
+        name: Name,
+        params: Params,
+    ) -> Result<Ack, ApplyError>
+        requires runs { self.old.stopped ≡ false }
+        requires one_disk { IsTrue (D.tells disk.old) → StoreIsKept self.old (D.told disk.old).content }
+        ensures step { IsTrue (D.tells disk.old) → StepsState (Create name params) (D.told disk.old) (D.told disk.new) result }
+        ensures one_disk { IsTrue (D.tells disk.old) → self.new.stopped ≡ false → StoreIsKept self.new (D.told disk.new).content }
+        ensures ack { IfOk result (λ ack. ack ≡ said_of_held (part_named name self.new.streams)) }
+        ensures decay { IfOk result (λ ack. IfSome (part_named name self.new.streams) (λ part.
+            0 < ack.n → ack.k + 1 ≤ 2 * cover (lengths_of (params_of part.target)) ack.n)) }
+        ensures running { result ≢ Err ApplyError.Stopped }
+        ensures refused { (r : Refusal) →
+            (result ≡ Err (ApplyError.Refused r)) ↔ (refuses_held self.old.streams (Create name params) ≡ Some r) }
+        ensures uncalled { IfUncalled result (disk.new ≡ disk.old) }
+        ensures same { IfRefused result (self.new ≡ self.old) }
+        ensures starved { (result ≡ Err ApplyError.OutOfMemory) → SameButSpare self.old self.new }
+        ensures stops { self.new.stopped ≡ stopped_by_apply self.old.stopped result }
+        ensures firm { IsTrue (D.tells disk.old) → IsApplyFirm result }
+        ensures extent { OnOk result (self.new.records.journal.extent
+            ≤ max self.old.records.journal.extent (length (flat_map slots_held self.old.streams) + 1)) }
+        ensures tells { D.tells disk.new ≡ D.tells disk.old }
+        ensures cause { ApplyCause (D.faults disk.old) (D.faults disk.new) result }
+    {
+        let (target, id, slot) = match self.admit(&name, params) {
+            Ok(new) => new,
+            Err(refusal) => return Err(ApplyError::Refused(refusal)),
+        };
+        let alloc = *self.streams.allocator();
+        let stream = StreamParts {
+            id,
+            name,
+            target,
+            slot,
+            last_time: None,
+            line: Line::new(alloc),
+            landmarks: Landmarks::new(alloc),
+        };
+        match grow(&mut self.streams, &mut self.catalog, stream, name, id) {
+            Ok(()) => {}
+            Err(_) => return Err(ApplyError::OutOfMemory),
+        }
+        match add_record(
+            &mut self.records,
+            disk,
+            slot,
+            &record_of(id.0, &name, params),
+        ) {
+            Ok(()) => Ok(Ack { n: 0, k: 0 }),
+            Err(Failed) => {
+                self.stopped = true;
+                Err(ApplyError::Disk)
+            }
+        }
+    }
+}

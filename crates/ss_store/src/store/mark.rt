@@ -1,0 +1,142 @@
+// Applying an event of a landmark.
+ghost use Rattle.std.specs.Prelude.{◌≡◌, IfSome, IfNone, Some, None};
+ghost use Rattle.ss_store.specs.Marking.{mark_refusal};
+
+use super::Store;
+use super::times::{is_before, is_opening, is_past};
+use crate::ApplyError;
+use crate::closing::values_held;
+use crate::marking::{Mark, put_mark, reserve};
+use crate::place::place_of;
+use ss_catalog::{LAST_TIME, Name, Refusal};
+use ss_model::Ack;
+use ss_outside::{Disk, Failed};
+use ss_recover::StreamParts;
+use ss_steps::Steps;
+use std::sync::ledger::{Blank, Ledger};
+
+// Why the landmarks of a stream don't take a mark at a time.
+fn refuses(stream: &StreamParts, t: u64, mark: Mark) -> Option<Refusal>
+    ensures some { IfSome result (λ r. mark_refusal stream.now t mark ≡ Some r) }
+    ensures none { IfNone result (mark_refusal stream.now t mark ≡ None) }
+{
+    match (mark, stream.landmarks.opened()) {
+        (Mark::Open, Some(_)) => Some(Refusal::Open),
+        (Mark::Close, None) => Some(Refusal::NotOpen),
+        _ => {
+            let is_early = match mark {
+                Mark::Open => is_past(stream.last_time, t),
+                Mark::Value(_) => {
+                    is_past(stream.last_time, t) && !is_opening(&stream.landmarks, t)
+                }
+                Mark::Close => is_before(stream.last_time, t),
+            };
+            if is_early { Some(Refusal::Time) } else { None }
+        }
+    }
+}
+
+impl Store {
+    ghost use Rattle.std.specs.Prelude.{◌≡◌, ◌≢◌, ◌+◌, ◌≤◌, ◌↔◌, true, false, max, length, flat_map, Some, IsTrue, IsNone, IfOk, IfSome, OnOk, IfErr, Err, None};
+    ghost use Rattle.ss_catalog.specs.declared.refusal.Refusal.{Refusal};
+    ghost use Rattle.ss_model.specs.Marks.{has_open};
+    ghost use Rattle.ss_recover.specs.Held.{slots_held};
+    ghost use Rattle.ss_store.specs.Calls.{StepsState};
+    ghost use Rattle.ss_store.specs.Causes.{ApplyCause, IfRefused, IfUncalled, IsApplyFirm, said_of_held, stopped_by_apply};
+    ghost use Rattle.ss_store.specs.Kept.{SameButSpare, StoreIsKept, has_all_slots, of_part, part_named, refuses_held};
+    ghost use Rattle.ss_store.specs.Admitted.{IsMarker};
+    ghost use Rattle.ss_store.specs.Marking.{IsClosing, IsInOpen, IsItsSlot, event_of, slot_refusal, slots_used};
+    ghost use Rattle.ss_steps.specs.Steps.{IsFresh};
+
+    // The slot for the record that a mark puts, if there is one: a free one, or that of the open landmark.
+    fn slot_for(&self, stream: &StreamParts, mark: Mark) -> Option<u32>
+        requires runs { self.now.stopped ≡ false }
+        requires begun { IsClosing mark → has_open stream.now.landmarks.landmarks ≡ true }
+        ensures in_slot { IfSome result (λ slot. IsItsSlot self.now.records.live stream.now mark slot) }
+        ensures low { IfSome result (λ slot. slots_used mark slot ≤ length (flat_map slots_held self.now.streams) + 1) }
+        ensures some { IfSome result (λ slot. slot_refusal mark (has_all_slots self.now.streams) ≡ None) }
+        ensures none { IsNone result → slot_refusal mark (has_all_slots self.now.streams) ≡ Some Refusal.StoreFull }
+    {
+        match mark {
+            Mark::Open | Mark::Value(_) => self.free_slot(),
+            Mark::Close => match stream.landmarks.opened() {
+                Some((_, slot, _)) => Some(slot),
+                None => None,
+            },
+        }
+    }
+
+    // The place of the stream whose landmarks take a mark at a time, and the slot of its record, or why they don't take it.
+    fn marker(&self, name: &Name, t: u64, mark: Mark) -> Result<(usize, u32), Refusal>
+        requires runs { self.now.stopped ≡ false }
+        requires marked { IsInOpen mark → of_part name.now self.now.streams (λ part. has_open part.landmarks.landmarks) ≡ true }
+        ensures refused { IfErr result (λ r. refuses_held self.now.streams (event_of name.now t mark) ≡ Some r) }
+        ensures accepted { OnOk result (refuses_held self.now.streams (event_of name.now t mark) ≡ None) }
+        ensures marker { IfOk result (λ marker. IsMarker self.now name.now t mark marker.0 marker.1) }
+    {
+        let Some(id) = self.catalog.find(name) else {
+            return Err(Refusal::Unknown);
+        };
+        let place = place_of(&self.streams, id);
+        let stream = &self.streams[place];
+        if let Some(refusal) = refuses(stream, t, mark) {
+            return Err(refusal);
+        }
+        let _live = self.records.live();
+        match self.slot_for(stream, mark) {
+            Some(slot) => Ok((place, slot)),
+            None => Err(Refusal::StoreFull),
+        }
+    }
+
+    // Applies an event of a landmark: it opens, takes a value, or closes.
+    pub(super) fn mark<D: Disk, L: Ledger>(
+        &mut self,
+        disk: &mut D,
+        name: &Name,
+        t: u64,
+        what: Mark,
+        blank: Blank,
+    ) -> Result<Ack, ApplyError>
+        requires fresh { IsFresh L.name L.parts blank }
+        requires in_time { t ≤ LAST_TIME }
+        requires runs { self.old.stopped ≡ false }
+        requires marked { IsInOpen what → of_part name.now self.old.streams (λ part. has_open part.landmarks.landmarks) ≡ true }
+        requires one_disk { IsTrue (D.tells disk.old) → StoreIsKept self.old (D.told disk.old).content }
+        ensures step { IsTrue (D.tells disk.old) → StepsState (event_of name.now t what) (D.told disk.old) (D.told disk.new) result }
+        ensures one_disk { IsTrue (D.tells disk.old) → self.new.stopped ≡ false → StoreIsKept self.new (D.told disk.new).content }
+        ensures ack { IfOk result (λ ack. ack ≡ said_of_held (part_named name.now self.new.streams)) }
+        ensures running { result ≢ Err ApplyError.Stopped }
+        ensures refused { (r : Refusal) →
+            (result ≡ Err (ApplyError.Refused r)) ↔ (refuses_held self.old.streams (event_of name.now t what) ≡ Some r) }
+        ensures uncalled { IfUncalled result (disk.new ≡ disk.old) }
+        ensures same { IfRefused result (self.new ≡ self.old) }
+        ensures starved { (result ≡ Err ApplyError.OutOfMemory) → SameButSpare self.old self.new }
+        ensures stops { self.new.stopped ≡ stopped_by_apply self.old.stopped result }
+        ensures firm { IsTrue (D.tells disk.old) → IsApplyFirm result }
+        ensures extent { OnOk result (self.new.records.journal.extent
+            ≤ max self.old.records.journal.extent (length (flat_map slots_held self.old.streams) + 1)) }
+        ensures tells { D.tells disk.new ≡ D.tells disk.old }
+        ensures cause { ApplyCause (D.faults disk.old) (D.faults disk.new) result }
+    {
+        let (place, slot) = match self.marker(name, t, what) {
+            Ok(marker) => marker,
+            Err(refusal) => return Err(ApplyError::Refused(refusal)),
+        };
+        let stream = &mut self.streams[place];
+        match reserve(&mut stream.landmarks) {
+            Ok(()) => {}
+            Err(_) => return Err(ApplyError::OutOfMemory),
+        }
+        match put_mark(&mut self.records, disk, stream, slot, t, what) {
+            Ok(()) => Ok(Ack {
+                n: values_held(stream, &mut Steps::<L>::new(blank)),
+                k: stream.line.len(),
+            }),
+            Err(Failed) => {
+                self.stopped = true;
+                Err(ApplyError::Disk)
+            }
+        }
+    }
+}

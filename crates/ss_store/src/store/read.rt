@@ -1,0 +1,138 @@
+// Reading a window.
+use super::Store;
+use crate::AskError;
+use crate::place::place_of;
+use crate::reading::read_window;
+use ss_catalog::{Event, Refusal, StreamId};
+use ss_line::{At, Entry};
+use ss_model::Placed;
+use ss_outside::Disk;
+use ss_steps::Steps;
+use ss_windowing::MOST_VALUES;
+use std::marker::Brand;
+use std::sync::ledger::{Blank, Ledger};
+
+impl Store {
+    ghost use Rattle.std.specs.Prelude.{◌≡◌, ◌≢◌, ◌+◌, ◌<◌, ◌≤◌, ◌↔◌, List, true, false, map, slice_get, Some, IsTrue, IsSome, IfOk, IfSome, OnOk, Err};
+    ghost use Rattle.ss_outside.specs.Crash.{OnlyReads};
+    ghost use Rattle.ss_catalog.specs.declared.event.Event.{Event};
+    ghost use Rattle.ss_catalog.specs.declared.refusal.Refusal.{Refusal};
+    ghost use Rattle.ss_line.specs.Line.{StandsIn, entry_at, index_of};
+    ghost use Rattle.ss_journal.specs.declared.format.TheConstants.{MOST_SLOTS};
+    ghost use Rattle.ss_target.specs.Lengths.{lengths_of};
+    ghost use Rattle.ss_model.specs.Decay.{IsReadWithinTarget};
+    ghost use Rattle.ss_model.specs.Shown.{placed_of};
+    ghost use Rattle.ss_model.specs.State.{state, Stream, stream_numbered, values_in};
+    ghost use Rattle.ss_store.specs.Causes.{AskCause, IfAskChanged, IsAskFirm, stopped_by_ask};
+    ghost use Rattle.ss_store.specs.Kept.{StoreIsKept, part_numbered};
+    ghost use Rattle.ss_store.specs.Recover.{Recovers, Stands};
+    ghost use Rattle.ss_steps.specs.Steps.{IsFresh};
+
+    /// Reads a window of the stream of a number.
+    pub fn window_read<D: Disk>(
+        &mut self,
+        disk: &mut D,
+        id: StreamId,
+        at: At,
+    ) -> Result<Placed, AskError>
+        requires stands { IsSome (part_numbered id.0 self.old.streams) }
+        requires at { IfSome (part_numbered id.0 self.old.streams) (λ part. StandsIn part.line.entries at) }
+        requires one_disk { IsTrue (D.tells disk.old) → self.old.stopped ≡ false → StoreIsKept self.old (D.told disk.old).content }
+        // The window of the state that the content recovers to.
+        ensures window { IsTrue (D.tells disk.old) → (streams : List Stream) → Recovers streams (D.told disk.old).content →
+            IfOk result (λ placed. IfSome (part_numbered id.0 self.old.streams) (λ part. IfSome (stream_numbered id.0 streams) (λ s.
+            slice_get (map placed_of s.windows) (index_of part.line.entries at) ≡ Some placed))) }
+        // It is at most as long as the target window that holds its newest value.
+        ensures within { IsTrue (D.tells disk.old) → (history : List Event) → Stands history (D.told disk.old).content →
+            IfOk result (λ placed. IfSome (stream_numbered id.0 (state history)) (λ s.
+            IsReadWithinTarget (lengths_of s.params) (values_in s) placed)) }
+        // Over every disk it has the positions that are held, and as many values as they say.
+        ensures positions { IfSome (part_numbered id.0 self.old.streams) (λ part. IfSome (entry_at part.line.entries at) (λ entry.
+            IfOk result (λ placed. (placed.first ≡ entry.first) × (placed.last ≡ entry.last)
+            × (placed.first + placed.summary.count ≡ placed.last + 1)))) }
+        // A slot that has changed is that of the window.
+        ensures changed { IfAskChanged result (λ slot. IfSome (part_numbered id.0 self.old.streams) (λ part.
+            IfSome (entry_at part.line.entries at) (λ entry. slot ≡ entry.slot))) }
+        ensures one_disk { IsTrue (D.tells disk.old) → self.new.stopped ≡ false → StoreIsKept self.new (D.told disk.new).content }
+        ensures streams { self.new.streams ≡ self.old.streams }
+        ensures live { self.new.records.live ≡ self.old.records.live }
+        ensures journal { OnOk result (self.new.records.journal ≡ self.old.records.journal) }
+        ensures stopped { (result ≡ Err AskError.Stopped) ↔ (self.old.stopped ≡ true) }
+        ensures unrefused { (r : Refusal) → result ≢ Err (AskError.Refused r) }
+        ensures uncalled { self.old.stopped ≡ true → disk.new ≡ disk.old }
+        ensures same { self.old.stopped ≡ true → self.new ≡ self.old }
+        ensures stops { self.new.stopped ≡ stopped_by_ask self.old.stopped result }
+        ensures firm { IsTrue (D.tells disk.old) → IsAskFirm result }
+        // The content and the images are those from before.
+        ensures reads { IsTrue (D.tells disk.old) → OnlyReads (D.told disk.old) (D.told disk.new) }
+        ensures tells { D.tells disk.new ≡ D.tells disk.old }
+        ensures cause { AskCause (D.faults disk.old) (D.faults disk.new) result }
+    {
+        if self.stopped {
+            return Err(AskError::Stopped);
+        }
+        self.read_in::<D, Brand>(disk, id, at, Blank::new(1))
+    }
+
+    // The positions and the slot of a window.
+    fn entry<L: Ledger>(&self, id: StreamId, at: At, steps: &mut Steps<L>) -> Entry
+        requires runs { self.now.stopped ≡ false }
+        requires stands { IsSome (part_numbered id.0 self.now.streams) }
+        requires at { IfSome (part_numbered id.0 self.now.streams) (λ part. StandsIn part.line.entries at) }
+        ensures entry { IfSome (part_numbered id.0 self.now.streams) (λ part. entry_at part.line.entries at ≡ Some result) }
+        ensures slot { result.slot < MOST_SLOTS }
+        ensures some { result.first ≤ result.last }
+        ensures most { result.last ≤ MOST_VALUES }
+    {
+        let _live = self.records.live();
+        self.part(id).line.get(at, steps)
+    }
+
+    // Reads a window, where the store hasn't stopped.
+    fn read_in<D: Disk, L: Ledger>(
+        &mut self,
+        disk: &mut D,
+        id: StreamId,
+        at: At,
+        blank: Blank,
+    ) -> Result<Placed, AskError>
+        requires fresh { IsFresh L.name L.parts blank }
+        requires stands { IsSome (part_numbered id.0 self.old.streams) }
+        requires at { IfSome (part_numbered id.0 self.old.streams) (λ part. StandsIn part.line.entries at) }
+        requires runs { self.old.stopped ≡ false }
+        requires one_disk { IsTrue (D.tells disk.old) → StoreIsKept self.old (D.told disk.old).content }
+        ensures window { IsTrue (D.tells disk.old) → (streams : List Stream) → Recovers streams (D.told disk.old).content →
+            IfOk result (λ placed. IfSome (part_numbered id.0 self.old.streams) (λ part. IfSome (stream_numbered id.0 streams) (λ s.
+            slice_get (map placed_of s.windows) (index_of part.line.entries at) ≡ Some placed))) }
+        ensures positions { IfSome (part_numbered id.0 self.old.streams) (λ part. IfSome (entry_at part.line.entries at) (λ entry.
+            IfOk result (λ placed. (placed.first ≡ entry.first) × (placed.last ≡ entry.last)
+            × (placed.first + placed.summary.count ≡ placed.last + 1)))) }
+        ensures changed { IfAskChanged result (λ slot. IfSome (part_numbered id.0 self.old.streams) (λ part.
+            IfSome (entry_at part.line.entries at) (λ entry. slot ≡ entry.slot))) }
+        ensures one_disk { IsTrue (D.tells disk.old) → self.new.stopped ≡ false → StoreIsKept self.new (D.told disk.new).content }
+        ensures streams { self.new.streams ≡ self.old.streams }
+        ensures live { self.new.records.live ≡ self.old.records.live }
+        ensures journal { OnOk result (self.new.records.journal ≡ self.old.records.journal) }
+        ensures running { result ≢ Err AskError.Stopped }
+        ensures unrefused { (r : Refusal) → result ≢ Err (AskError.Refused r) }
+        ensures stops { self.new.stopped ≡ stopped_by_ask self.old.stopped result }
+        ensures firm { IsTrue (D.tells disk.old) → IsAskFirm result }
+        ensures reads { IsTrue (D.tells disk.old) → OnlyReads (D.told disk.old) (D.told disk.new) }
+        ensures tells { D.tells disk.new ≡ D.tells disk.old }
+        ensures cause { AskCause (D.faults disk.old) (D.faults disk.new) result }
+    {
+        let entry = self.entry(id, at, &mut Steps::<L>::new(blank));
+        let part = &self.streams[place_of(&self.streams, id)];
+        match read_window(&mut self.records, disk, part, entry) {
+            Ok(summary) => Ok(Placed {
+                first: entry.first,
+                last: entry.last,
+                summary,
+            }),
+            Err(fault) => {
+                self.stopped = true;
+                Err(AskError::from(fault))
+            }
+        }
+    }
+}

@@ -1,0 +1,144 @@
+// What queries answer.
+use crate::applying::{AROUND, MOMENT, READINGS};
+use crate::running::Asked::{Create, Open, Value};
+use crate::running::{DOUBLING, IN_TWOS, Question, Row, empty, opened, play, told};
+use ss_bounds::Extreme::{Maybe, Nothing, Sure};
+use ss_catalog::{Kind, Params, Refusal};
+use ss_model::Outcome::{self, Count, Max, Min, Sum};
+use ss_store::AskError;
+use std::test::Fail;
+
+const IN_FOURS: Params = Params::Power {
+    p: 1,
+    q: 0,
+    r: 1,
+    s: 4,
+};
+
+// A stream with as many values as times, and two with values at the edges of 64 bits.
+const EDGES: [Row; 11] = [
+    (b'd', Create(IN_FOURS), Ok((0, 0))),
+    (b'd', Value(10, 4), Ok((1, 1))),
+    (b'd', Value(11, 4), Ok((2, 1))),
+    (b'd', Value(12, 6), Ok((3, 1))),
+    (b'd', Value(13, 6), Ok((4, 1))),
+    (b'e', Create(IN_TWOS), Ok((0, 0))),
+    (b'e', Value(10, i64::MAX), Ok((1, 1))),
+    (b'e', Value(20, i64::MAX), Ok((2, 1))),
+    (b'f', Create(IN_TWOS), Ok((0, 0))),
+    (b'f', Value(10, i64::MIN), Ok((1, 1))),
+    (b'f', Value(20, i64::MAX), Ok((2, 1))),
+];
+
+// A stream without values, and one of a window of two values, and then an open landmark.
+const STILL_OPEN: [Row; 7] = [
+    (b'g', Create(DOUBLING), Ok((0, 0))),
+    (b'h', Create(IN_TWOS), Ok((0, 0))),
+    (b'h', Value(10, 5), Ok((1, 1))),
+    (b'h', Value(15, 1), Ok((2, 1))),
+    (b'h', Open(20), Ok((2, 1))),
+    (b'h', Value(20, -3), Ok((2, 1))),
+    (b'h', Value(30, 8), Ok((2, 1))),
+];
+
+// Of `a` the first eight split none of its three windows, the next ones one, and the next ones two.
+// Of `b` and `c` a landmark's values are counted beside the windows.
+const QUERIES: [(Question, Outcome); 38] = [
+    ((b'b', Kind::Sum, 100, 100), Sum { lo: 7, hi: 7 }),
+    ((b'c', Kind::Count, 20, 40), Count { lo: 2, hi: 2 }),
+    ((b'c', Kind::Sum, 20, 40), Sum { lo: 300, hi: 300 }),
+    ((b'c', Kind::Min, 20, 40), Min(Sure { lo: 100, hi: 100 })),
+    ((b'a', Kind::Count, 10, 40), Count { lo: 4, hi: 4 }),
+    ((b'a', Kind::Sum, 0, 100), Sum { lo: 29, hi: 29 }),
+    ((b'a', Kind::Sum, 0, u64::MAX), Sum { lo: 29, hi: 29 }),
+    ((b'a', Kind::Max, 45, 65), Max(Sure { lo: 9, hi: 9 })),
+    ((b'a', Kind::Min, 71, 80), Min(Nothing)),
+    ((b'a', Kind::Count, 41, 49), Count { lo: 0, hi: 0 }),
+    ((b'a', Kind::Count, 70, 70), Count { lo: 1, hi: 1 }),
+    ((b'a', Kind::Min, 10, 40), Min(Sure { lo: -3, hi: -3 })),
+    ((b'a', Kind::Count, 10, 25), Count { lo: 1, hi: 3 }),
+    ((b'a', Kind::Sum, 10, 25), Sum { lo: -5, hi: 16 }),
+    ((b'a', Kind::Min, 10, 25), Min(Sure { lo: -3, hi: 8 })),
+    ((b'a', Kind::Min, 15, 25), Min(Maybe { lo: -3, hi: 8 })),
+    ((b'a', Kind::Count, 15, 25), Count { lo: 0, hi: 2 }),
+    ((b'a', Kind::Count, 25, 55), Count { lo: 2, hi: 4 }),
+    ((b'a', Kind::Sum, 25, 55), Sum { lo: -3, hi: 25 }),
+    ((b'a', Kind::Min, 25, 55), Min(Sure { lo: -3, hi: 8 })),
+    ((b'a', Kind::Max, 25, 55), Max(Sure { lo: 2, hi: 9 })),
+    ((b'd', Kind::Count, 10, 11), Count { lo: 2, hi: 2 }),
+    ((b'd', Kind::Sum, 10, 11), Sum { lo: 8, hi: 12 }),
+    (
+        (b'f', Kind::Sum, 10, 15),
+        Sum {
+            lo: -9223372036854775808,
+            hi: 9223372036854775807,
+        },
+    ),
+    (
+        (b'e', Kind::Sum, 0, 30),
+        Sum {
+            lo: 18446744073709551614,
+            hi: 18446744073709551614,
+        },
+    ),
+    ((b'f', Kind::Sum, 0, 30), Sum { lo: -1, hi: -1 }),
+    // before the first value
+    ((b'a', Kind::Count, 0, 9), Count { lo: 0, hi: 0 }),
+    ((b'a', Kind::Max, 0, 9), Max(Nothing)),
+    // without values
+    ((b'g', Kind::Count, 0, u64::MAX), Count { lo: 0, hi: 0 }),
+    ((b'g', Kind::Sum, 0, u64::MAX), Sum { lo: 0, hi: 0 }),
+    ((b'g', Kind::Min, 0, u64::MAX), Min(Nothing)),
+    // inside the open landmark, over it, and from the middle of the window into it
+    ((b'h', Kind::Sum, 21, 30), Sum { lo: 8, hi: 8 }),
+    ((b'h', Kind::Count, 21, 29), Count { lo: 0, hi: 0 }),
+    ((b'h', Kind::Max, 31, 100), Max(Nothing)),
+    ((b'h', Kind::Count, 0, 100), Count { lo: 4, hi: 4 }),
+    ((b'h', Kind::Min, 0, 100), Min(Sure { lo: -3, hi: -3 })),
+    ((b'h', Kind::Count, 12, 25), Count { lo: 2, hi: 2 }),
+    ((b'h', Kind::Sum, 12, 25), Sum { lo: -2, hi: 2 }),
+];
+
+// No name but `a` has a stream, where only the readings were taken.
+const UNASKED: [(Question, Refusal); 3] = [
+    ((b'x', Kind::Sum, 4, 5), Refusal::Unknown),
+    ((b'x', Kind::Sum, 5, 4), Refusal::Unknown),
+    ((b'a', Kind::Sum, 5, 4), Refusal::Range),
+];
+
+#[test]
+fn queries_are_answered(rt: HostRuntime) -> Result<(), Fail> {
+    let mut running = opened(rt.alloc(), empty(rt.alloc())?)?;
+    assert_eq!(rt; play(&mut running, &READINGS), READINGS.len());
+    assert_eq!(rt; play(&mut running, &EDGES), EDGES.len());
+    assert_eq!(rt; play(&mut running, &MOMENT), MOMENT.len());
+    assert_eq!(rt; play(&mut running, &AROUND), AROUND.len());
+    assert_eq!(rt; play(&mut running, &STILL_OPEN), STILL_OPEN.len());
+    for (question, outcome) in QUERIES {
+        assert_eq!(rt; told(&mut running, question), Some(Ok(outcome)));
+    }
+    Ok(())
+}
+
+// A refused query makes no call of the disk, and a store that has stopped makes none.
+#[test]
+fn queries_fail(rt: HostRuntime) -> Result<(), Fail> {
+    let mut running = opened(rt.alloc(), empty(rt.alloc())?)?;
+    assert_eq!(rt; play(&mut running, &READINGS), READINGS.len());
+    let mut running = opened(rt.alloc(), running.disk.inner)?;
+    let calls = running.disk.inner.calls();
+    running.disk.inner.stop_from(calls);
+    for (question, refusal) in UNASKED {
+        assert_eq!(rt;
+            told(&mut running, question),
+            Some(Err(AskError::Refused(refusal)))
+        );
+    }
+    assert_eq!(rt; running.disk.inner.calls(), calls);
+    let question = (b'a', Kind::Count, 0, 9);
+    assert_eq!(rt; told(&mut running, question), Some(Err(AskError::Disk)));
+    let calls = running.disk.inner.calls();
+    assert_eq!(rt; told(&mut running, question), Some(Err(AskError::Stopped)));
+    assert_eq!(rt; running.disk.inner.calls(), calls);
+    Ok(())
+}
