@@ -1,12 +1,9 @@
-// The real source and sink over made-up streams, and the real disk over a file.
+// The real source and sink over made-up streams.
 use crate::adapters::{StdSink, StdSource};
-use crate::file_disk::FileDisk;
-use ss_outside::{Disk, Failed, Sink, Source};
-use std::alloc::{AllocError, Allocator};
+use ss_outside::{Failed, Sink, Source};
+use std::alloc::Allocator;
 use std::fmt::Display;
-use std::fs;
 use std::io::{self, BufRead, ErrorKind, Lines, Read};
-use std::test::Fail;
 
 // A standard input that holds some bytes.
 #[derive(Drop)]
@@ -111,35 +108,4 @@ fn standard_output_is_written(rt: HostRuntime) {
         let stream = Short(most);
         assert_eq!(rt; StdSink::new(&stream).put(b"abc"), answer);
     }
-}
-
-fn disk_of<'a>(rt: &'a HostRuntime, path: &str) -> Result<FileDisk<'a, HostRuntime>, AllocError> {
-    Ok(FileDisk::new(rt, String::from_str(rt.alloc(), path)?))
-}
-
-#[test]
-fn a_file_is_a_disk(rt: HostRuntime) -> Result<(), Fail> {
-    let path = "adapter_tests.store";
-    let _ = fs::remove_file(&rt, path);
-    let mut disk = disk_of(&rt, path)?;
-    let mut buffer = [7; 4];
-    assert_eq!(rt; disk.len(), Ok(0));
-    assert_eq!(rt; disk.write_at(0, b"abcd"), Ok(()));
-    assert_eq!(rt; disk.write_at(3, b"XY"), Ok(()));
-    assert_eq!(rt; disk.sync(), Ok(()));
-    assert_eq!(rt; disk.len(), Ok(5));
-    assert_eq!(rt; disk.read_at(3, &mut buffer), Ok(()));
-    assert_eq!(rt; buffer, [b'X', b'Y', 0, 0]);
-    // Another disk on the file fails, and goes on failing when the file is free.
-    let mut second = disk_of(&rt, path)?;
-    assert_eq!(rt; second.len(), Err(Failed));
-    drop(disk);
-    assert_eq!(rt; second.len(), Err(Failed));
-    let mut third = disk_of(&rt, path)?;
-    assert_eq!(rt; third.read_at(0, &mut buffer), Ok(()));
-    assert_eq!(rt; buffer, *b"abcX");
-    fs::remove_file(&rt, path)?;
-    // A folder is no disk.
-    assert_eq!(rt; disk_of(&rt, ".")?.sync(), Err(Failed));
-    Ok(())
 }

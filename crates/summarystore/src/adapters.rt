@@ -1,27 +1,7 @@
 // The real source and sink. They tell nothing of their bytes.
-ghost use Rattle.std.specs.Prelude.{◌≡◌, ◌⊎◌, ◌↔◌, ◌<◌, ℕ, IsErr, IsOkAnd, IfOk, OnErr};
-ghost use Rattle.ss_outside.specs.Causes.{HasCause};
-ghost use Rattle.ss_outside.specs.Memory.{one_more};
-
+use crate::judge::{judge, require_some};
 use ss_outside::{Failed, Sink, Source};
-use std::io::{self, Read};
-
-// What a device answers where the system answers this: it fails where the system does, and where fewer bytes were moved
-// than `least`, and counts the fault. Else it passes the number of bytes on.
-fn judge(answer: io::Result<usize>, least: usize, faults: &mut u64) -> Result<usize, Failed>
-    ensures fails { IsErr result ↔ (IsErr answer ⊎ IsOkAnd answer (λ moved. moved < least)) }
-    ensures passes { IfOk result (λ count. IsOkAnd answer (λ moved. moved ≡ count)) }
-    ensures counts { OnErr result (faults.new ≡ one_more faults.old) }
-    ensures cause { HasCause faults.old faults.new result }
-{
-    match answer {
-        Ok(count) if count >= least => Ok(count),
-        _ => {
-            *faults = faults.saturating_add(1);
-            Err(Failed)
-        }
-    }
-}
+use std::io::Read;
 
 /// Standard input.
 #[derive(Drop)]
@@ -44,7 +24,7 @@ impl<R: Input> Source for StdSource<'_, R> {
     ghost faults = { λ s. s.faults };
 
     fn read(&mut self, into: &mut [u8]) -> Result<usize, Failed> {
-        judge(self.rt.reader().read(into), 0, &mut self.faults)
+        judge(self.rt.reader().read(into), &mut self.faults)
     }
 }
 
@@ -69,6 +49,6 @@ impl<R: Print> Sink for StdSink<'_, R> {
     ghost faults = { λ s. s.faults };
 
     fn put(&mut self, piece: &[u8]) -> Result<usize, Failed> {
-        judge(self.rt.write_some(piece), 1, &mut self.faults)
+        judge(require_some(self.rt.write_some(piece)), &mut self.faults)
     }
 }

@@ -1,7 +1,10 @@
 // The real disk: a file. It tells nothing of its bytes.
 ghost use Rattle.std.specs.Prelude.{◌≡◌};
-ghost use Rattle.ss_outside.specs.Causes.{HasCause};
 
+#[cfg(test)]
+mod tests;
+
+use crate::judge::judge;
 use ss_outside::{Disk, Failed};
 use std::fs::{self, File, Metadata, OpenOptions};
 use std::io::{self, ErrorKind};
@@ -129,19 +132,6 @@ fn read(file: &File, at: u64, into: &mut [u8]) -> io::Result<()> {
     }
 }
 
-// What a disk answers where the system answers this. A fault is counted.
-fn count<T: Drop>(answer: io::Result<T>, faults: &mut u64) -> Result<T, Failed>
-    ensures { HasCause faults.old faults.new result }
-{
-    match answer {
-        Ok(value) => Ok(value),
-        Err(_) => {
-            *faults = faults.saturating_add(1);
-            Err(Failed)
-        }
-    }
-}
-
 /// A file. It is opened at the first call, and made where there is none. What it holds then is durable before any of it is
 /// read, unless it may only be read. After a fault each call fails, so a sync that failed is not tried again.
 #[derive(Drop)]
@@ -238,21 +228,21 @@ impl<R: Files<File = File> + AllocGlobal> Disk for FileDisk<'_, R> {
 
     fn len(&mut self) -> Result<u64, Failed> {
         let answer = self.try_len();
-        count(answer, &mut self.faults)
+        judge(answer, &mut self.faults)
     }
 
     fn read_at(&mut self, at: u64, into: &mut [u8]) -> Result<(), Failed> {
         let answer = self.try_read(at, into);
-        count(answer, &mut self.faults)
+        judge(answer, &mut self.faults)
     }
 
     fn write_at(&mut self, at: u64, bytes: &[u8]) -> Result<(), Failed> {
         let answer = self.try_write(at, bytes);
-        count(answer, &mut self.faults)
+        judge(answer, &mut self.faults)
     }
 
     fn sync(&mut self) -> Result<(), Failed> {
         let answer = self.try_sync();
-        count(answer, &mut self.faults)
+        judge(answer, &mut self.faults)
     }
 }

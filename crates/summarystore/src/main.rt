@@ -4,26 +4,16 @@
 #[cfg(test)]
 mod adapter_tests;
 mod adapters;
-mod answer;
-mod check;
 mod file_disk;
-mod generate;
-mod laws;
+mod judge;
 mod notice;
-mod refuse;
-mod run;
-mod send;
-mod session;
-mod status;
 #[cfg(test)]
-mod tests;
+mod notice_tests;
 
 use adapters::{StdSink, StdSource};
 use file_disk::FileDisk;
 use notice::notice;
-use run::run;
-use send::send;
-use status::{Status, complaint, exit_code};
+use ss_program::{Status, complaint, exit_code, run, send};
 use std::alloc::{AllocError, Global};
 use std::fs::File;
 use std::io::ErrorKind;
@@ -31,12 +21,12 @@ use std::process::ExitCode;
 use std::rt::{Env, Files};
 use std::{env, io};
 
-// The words of the command line, the program's name first.
+// The arguments of the command line, the program's name first.
 fn read_words<R: Env + AllocGlobal>(rt: &R) -> io::Result<Vec<String>> {
     env::args(rt)?.collect(rt.alloc()).map_err(io::Error::from)
 }
 
-// The store's path: the second word, or the empty path where there is none.
+// The store's path: the second argument, or the empty path where there is none.
 fn path_of(alloc: Global, words: &[String]) -> Result<String, AllocError> {
     match words {
         [_, path, ..] => String::from_str(alloc, path.as_str()),
@@ -52,8 +42,8 @@ fn print_notice<R: Print>(rt: &R, text: &str) -> u8 {
     }
 }
 
-// The exit status of a run over the store's file, standard input and standard output, or of a notice. Words that can't be
-// read as text count as none.
+// The exit status of a run over the store's file, standard input and standard output, or of a notice. Arguments that
+// can't be read as text count as none.
 fn run_program<R: Env + AllocGlobal + Input + Print + Files<File = File>>(rt: &R) -> u8 {
     let words = match read_words(rt) {
         Ok(words) => words,

@@ -50,7 +50,7 @@ A store with such a name is ./--help. Documents: README.md, docs/GUIDE.md.
 
 const VERSION: &str = "summarystore 0.1.0\n";
 
-// What this word asks for as the only argument.
+// What this asks for as the only argument.
 fn asked_for(word: &str) -> Option<&'static str>
     ensures { IsSome result
         ↔ (word.now ≡ codes "--help") ⊎ (word.now ≡ codes "-h") ⊎ (word.now ≡ codes "--version") }
@@ -64,8 +64,8 @@ fn asked_for(word: &str) -> Option<&'static str>
     None
 }
 
-/// What is printed in the place of a run, where the words of the command line are the program's name and one that asks for
-/// it.
+/// What is printed in the place of a run, where the arguments of the command line are the program's name and one that asks
+/// for it.
 pub fn notice(words: &[String]) -> Option<&'static str> {
     match words {
         [_, word] => asked_for(word.as_str()),

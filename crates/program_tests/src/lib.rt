@@ -1,0 +1,12 @@
+//! Tests of the program over devices in memory. A crate with tests is proved twice, so they stand here, and call the program as
+//! `summarystore` does.
+#![tactic(auto)]
+
+#[cfg(test)]
+mod crashes;
+#[cfg(test)]
+mod devices;
+#[cfg(test)]
+mod modes;
+#[cfg(test)]
+mod rows;

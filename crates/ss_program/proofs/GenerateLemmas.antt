@@ -1,0 +1,250 @@
+-- A session over a generated file: what was answered so far, what is counted of it, and how it ends.
+use Rattle.std.proofs.Common.{◌≡◌, ℕ, zero, suc, ◌+◌, ◌-◌, ◌++◌, List, [], ◌∷◌, length, map, take, Bool, true, false, cond, Option, Ok, Err, Result, refl, sym, ap, ◌∙◌, subst, append_assoc, arith}
+use Rattle.std.specs.Prelude.{count_by, ⊤}
+use Rattle.std.specs.List.{flat_map}
+use Rattle.std.proofs.lemmas.List.{append-nil, length-append, map-append, take-append-le}
+use Rattle.std.proofs.Math.Seq.{take-append-add}
+use Rattle.ss_command.specs.Printed.{IsSayable, printed}
+use Rattle.ss_command.specs.declared.command.Command.{Command}
+use Rattle.ss_command.proofs.PrintLemmas.{meaning-printed}
+use Rattle.ss_generator.specs.Commands.{commands, of_round, of_rounds, opening, queries}
+use Rattle.ss_generator.specs.Numbers.{time, value}
+use Rattle.ss_outside.proofs.CrashLemmas.{at_start, joined, now, of_content, weaker}
+use Rattle.ss_outside.specs.Crash.{KnowsNow, LeavesOnly}
+use Rattle.ss_outside.specs.Disk.{NothingPending, Told}
+use Rattle.ss_report.specs.Text.{reply_line}
+use Rattle.ss_report.specs.declared.reply.Reply.{Reply}
+use Rattle.ss_model.specs.State.{state}
+use Rattle.ss_store.specs.Causes.{OpensAs}
+use Rattle.ss_store.specs.Recover.{Stands}
+use Rattle.ss_store.specs.declared.error.OpenError.{OpenError}
+use Rattle.ss_program.specs.Answer.{Adds, SendsRows}
+use Rattle.ss_program.specs.Generated.{Generates, StandsForAll, StandsForGenerated, generated, counts_of, is_done, is_refused, last_six, summary, summary_of}
+use Rattle.ss_program.specs.Line.{Brought, History, brings, command_brings, history_after, meaning_brings}
+use Rattle.ss_program.specs.Progress.{StandsAround, StandsWithin}
+use Rattle.ss_program.specs.Refused.{AsRefused, status_of_open}
+use Rattle.ss_program.specs.Sent.{appended, AppendsFront, AppendsLess, Sends}
+use Rattle.ss_program.specs.Session.{after_lines, replies}
+use Rattle.ss_program.specs.Status.{number_of}
+use Rattle.ss_program.specs.Tally.{HasRun, IsSingle, Tallies}
+use Rattle.ss_program.specs.declared.generate.Tally.{Tally}
+use Rattle.ss_program.specs.declared.status.Status.{Status}
+use Rattle.ss_program.proofs.RunLemmas.{unopened}
+use Rattle.ss_program.proofs.HeldLemmas.{StandsForFirst-within}
+use Rattle.ss_program.proofs.SendLemmas.{AppendsFront-all, appended-appended, appended-nil}
+use Rattle.ss_program.proofs.SessionLemmas.{StandsWithin-all, after_lines-accepted, after_lines-push, replies-append}
+use Rattle.ss_program.proofs.TakeLemmas.{any_moment-line, any_moment-more}
+
+-- a printed command brings what the command does
+pub brings-printed : (history : History) (command : Command) → IsSayable command → brings history (printed command) ≡ command_brings history command
+brings-printed history command sayable = ap (λ m. meaning_brings history m) (meaning-printed command sayable)
+
+-- each command of the file is a single one
+abbrev pub AreSingle : List Command → Type 0
+AreSingle [] = ⊤
+AreSingle (command ∷ cs) = IsSingle command × AreSingle cs
+
+single-append : (cs ds : List Command) → AreSingle cs → AreSingle ds → AreSingle (cs ++ ds)
+single-append [] ds first second = second
+single-append (c ∷ cs) ds first second = (first.0, single-append cs ds first.1 second)
+
+one_or_none : (b : Bool) (command : Command) → IsSingle command → AreSingle (cond b (command ∷ []) [])
+one_or_none true command single = (single, tt)
+one_or_none false command single = tt
+
+single-rounds : (seed count : ℕ) → AreSingle (of_rounds seed count)
+single-rounds seed zero = tt
+single-rounds seed (suc i) =
+    single-append (of_rounds seed i) (of_round (suc i) (time seed (suc i)) (value seed (suc i))) (single-rounds seed i)
+    (single-append (opening (suc i) (time seed (suc i))) _ (one_or_none _ _ tt) (tt, one_or_none _ _ tt))
+
+pub single-commands : (seed count : ℕ) → AreSingle (commands seed count)
+unfolding commands
+single-commands seed count =
+    (tt, single-append (of_rounds seed count) (queries (time seed count)) (single-rounds seed count) (tt, (tt, (tt, (tt, (tt, (tt, tt)))))))
+
+-- no line was answered yet
+pub HasRun-start : (history : History) (disk : Told) (tally : Tally) → KnowsNow disk → NothingPending disk → Stands history disk.content →
+    Tallies 0 [] tally → HasRun history [] disk disk tally
+HasRun-start history disk tally knows none stands tallies = record {
+  tallied = tallies;
+  stands = stands;
+  durable = none;
+  any_moment = at_start disk (StandsWithin history []) knows
+      (of_content disk (StandsWithin history []) none (StandsWithin-all history [] disk.content stands));
+}
+
+-- a command of the file was done, or a crash came while it was
+pub adds-line : {T : Type 0} (history : History) (old mid new : Told) (ls : List (List ℕ)) (command : Command) (tally : Tally) (result : Result T Status) →
+    HasRun history ls old mid tally → IsSayable command → Adds (after_lines history ls) (command_brings (after_lines history ls) command) mid new result →
+    LeavesOnly old new (StandsWithin history (ls ++ printed command ∷ []))
+adds-line history old mid new ls command tally result ran sayable adds =
+    let here = after_lines history ls in
+    joined old mid new (StandsWithin history (ls ++ printed command ∷ [])) (any_moment-more history old mid ls (printed command ∷ []) ran.any_moment)
+    (any_moment-line history mid new ls (printed command)
+    (subst (λ b. LeavesOnly mid new (StandsAround here b)) (sym (brings-printed here command sayable)) (adds.any_moment ran.durable ran.stands)))
+
+pub HasRun-more : (history : History) (old mid new : Told) (ls : List (List ℕ)) (command : Command) (reply : Reply) (before after : Tally) →
+    HasRun history ls old mid before → IsSayable command →
+    Adds (after_lines history ls) (command_brings (after_lines history ls) command) mid new (Ok reply) →
+    (command_brings (after_lines history ls) command).replies ≡ reply ∷ [] →
+    Tallies (length ls + 1) (replies history ls ++ reply ∷ []) after → HasRun history (ls ++ printed command ∷ []) old new after
+HasRun-more history old mid new ls command reply before after ran sayable adds one tallies =
+    let here = after_lines history ls in
+    let brought : brings here (printed command) ≡ command_brings here command = brings-printed here command sayable in
+    let all : replies history (ls ++ printed command ∷ []) ≡ replies history ls ++ reply ∷ [] =
+    replies-append history ls (printed command ∷ [])
+    ∙ ap (λ rs. replies history ls ++ rs) (append-nil (brings here (printed command)).replies ∙ ap (λ (b : Brought). b.replies) brought ∙ one) in
+    let then : history_after here (command_brings here command) ≡ after_lines history (ls ++ printed command ∷ []) =
+    sym (after_lines-push history ls (printed command) ∙ ap (λ b. history_after here b) brought) in
+    record {
+      tallied = subst (λ n. Tallies n (replies history (ls ++ printed command ∷ [])) after) (sym (length-append ls (printed command ∷ [])))
+          (subst (λ rs. Tallies (length ls + 1) rs after) (sym all) tallies);
+      stands = subst (λ h. Stands h new.content) then (adds.content ran.stands);
+      durable = adds.durable ran.durable;
+      any_moment = adds-line history old mid new ls command before (Ok reply) ran sayable adds;
+    }
+
+-- the commands that were done, and those that are left, are all of the file
+pub record IsAt (history : History) (seed count : ℕ) (left : List Command) (old new : Told) (tally : Tally) : Type 0 where
+  pub done : List Command
+  pub all : commands seed count ≡ done ++ left
+  pub ran : HasRun history (map printed done) old new tally
+
+pub IsAt-start : (history : History) (seed count : ℕ) (left : List Command) (disk : Told) (tally : Tally) → left ≡ commands seed count → KnowsNow disk →
+    NothingPending disk → Stands history disk.content → Tallies 0 [] tally → IsAt history seed count left disk disk tally
+IsAt-start history seed count left disk tally all knows none stands tallies =
+    record { done = []; all = sym all; ran = HasRun-start history disk tally knows none stands tallies }
+
+pub IsAt-more : (history : History) (seed count : ℕ) (left rest : List Command) (command : Command) (old mid new : Told) (reply : Reply) (before after : Tally)
+    (at : IsAt history seed count left old mid before) → left ≡ command ∷ rest → IsSayable command →
+    Adds (after_lines history (map printed at.done)) (command_brings (after_lines history (map printed at.done)) command) mid new (Ok reply) →
+    (command_brings (after_lines history (map printed at.done)) command).replies ≡ reply ∷ [] →
+    ((lines : ℕ) (all : List Reply) → Tallies lines all before → Tallies (lines + 1) (all ++ reply ∷ []) after) → IsAt history seed count rest old new after
+IsAt-more history seed count left rest command old mid new reply before after at next sayable adds one tallies =
+    let ls = map printed at.done in
+    record {
+      done = at.done ++ command ∷ [];
+      all = at.all ∙ ap (λ cs. at.done ++ cs) next ∙ sym (append_assoc at.done (command ∷ []) rest);
+      ran = subst (λ l. HasRun history l old new after) (sym (map-append printed at.done (command ∷ [])))
+          (HasRun-more history old mid new ls command reply before after at.ran sayable adds one (tallies (length ls) (replies history ls) at.ran.tallied));
+    }
+
+-- a crash while a command of the file is done
+pub IsAt-stop : {T : Type 0} (history : History) (seed count : ℕ) (left rest : List Command) (command : Command) (old mid new : Told) (tally : Tally) (result : Result T Status)
+    (at : IsAt history seed count left old mid tally) → left ≡ command ∷ rest → IsSayable command →
+    Adds (after_lines history (map printed at.done)) (command_brings (after_lines history (map printed at.done)) command) mid new result →
+    LeavesOnly old new (StandsWithin history (generated seed count))
+IsAt-stop history seed count left rest command old mid new tally result at next sayable adds =
+    let ls = map printed at.done in
+    let all : generated seed count ≡ (ls ++ printed command ∷ []) ++ map printed rest =
+    ap (λ cs. map printed cs) (at.all ∙ ap (λ cs. at.done ++ cs) next) ∙ map-append printed at.done (command ∷ rest)
+    ∙ sym (append_assoc ls (printed command ∷ []) (map printed rest)) in
+    subst (λ l. LeavesOnly old new (StandsWithin history l)) (sym all)
+    (any_moment-more history old new (ls ++ printed command ∷ []) (map printed rest) (adds-line history old mid new ls command tally result at.ran sayable adds))
+
+-- all commands were done
+pub IsAt-end : (history : History) (seed count : ℕ) (left : List Command) (old new : Told) (tally : Tally) → IsAt history seed count left old new tally → left ≡ [] →
+    HasRun history (generated seed count) old new tally
+IsAt-end history seed count left old new tally at none =
+    subst (λ cs. HasRun history (map printed cs) old new tally) (sym (at.all ∙ ap (λ cs. at.done ++ cs) none ∙ append-nil at.done)) at.ran
+
+-- a text was sent, and then another, or less than it
+pub Sends-then : (before held after : Option (List ℕ)) (a b : List ℕ) (sent : Result (Unit {0}) Status) → held ≡ appended before a → Sends held after b sent →
+    Sends before after (a ++ b) sent
+Sends-then before held after a b (Ok u) is sends = sends ∙ ap (λ o. appended o b) is ∙ appended-appended before a b
+Sends-then before held after a b (Err e) is less = (
+  length a + less.0,
+  omega (arith, less.1, length-append a b),
+  less.2 ∙ ap (λ o. appended o (take less.0 b)) is ∙ appended-appended before a (take less.0 b) ∙ ap (λ bs. appended before bs) (sym (take-append-add a b less.0)),
+)
+
+-- less than the first of two texts was sent
+pub AppendsLess-longer : (before after : Option (List ℕ)) (a b : List ℕ) → AppendsLess before after a → AppendsLess before after (a ++ b)
+AppendsLess-longer before after a b less = (
+  less.0,
+  omega (arith, less.1, length-append a b),
+  less.2 ∙ ap (λ bs. appended before bs) (sym (take-append-le less.0 a b (omega (arith, less.1)))),
+)
+
+-- the counts of a tally are those of its replies
+counts-tallied : (seed count lines : ℕ) (all : List Reply) (tally : Tally) → Tallies lines all tally →
+    counts_of seed count tally.lines tally.done tally.refused ≡ counts_of seed count lines (count_by is_done all) (count_by is_refused all)
+counts-tallied seed count lines all tally tallies =
+    ap (λ n. counts_of seed count n tally.done tally.refused) tallies.lines
+    ∙ ap (λ n. counts_of seed count lines n tally.refused) tallies.done
+    ∙ ap (λ n. counts_of seed count lines (count_by is_done all) n) tallies.refused
+
+-- the counts were sent, and then the last replies, or less than these
+pub Sends-summary : (before held after : Option (List ℕ)) (seed count lines : ℕ) (all : List Reply) (tally : Tally) (sent : Result (Unit {0}) Status) →
+    Tallies lines all tally → held ≡ appended before (counts_of seed count tally.lines tally.done tally.refused) → SendsRows held after tally.last.items sent →
+    Sends before after (summary_of seed count lines all) sent
+Sends-summary before held after seed count lines all tally sent tallies is rows =
+    Sends-then before held after (counts_of seed count lines (count_by is_done all) (count_by is_refused all)) (flat_map reply_line (last_six all)) sent
+    (is ∙ ap (λ bs. appended before bs) (counts-tallied seed count lines all tally tallies))
+    (subst (λ rs. SendsRows held after rs sent) tallies.last rows)
+
+-- or less than the counts
+pub Sends-less : (before after : Option (List ℕ)) (seed count lines : ℕ) (all : List Reply) (tally : Tally) → Tallies lines all tally →
+    AppendsLess before after (counts_of seed count tally.lines tally.done tally.refused) → AppendsLess before after (summary_of seed count lines all)
+Sends-less before after seed count lines all tally tallies less =
+    AppendsLess-longer before after (counts_of seed count lines (count_by is_done all) (count_by is_refused all)) (flat_map reply_line (last_six all))
+    (subst (λ bs. AppendsLess before after bs) (counts-tallied seed count lines all tally tallies) less)
+
+-- an image of the history after some first lines of the file
+pub StandsForGenerated-within : (history : History) (seed count : ℕ) (image : List ℕ) → StandsWithin history (generated seed count) image →
+    StandsForGenerated history seed count image
+StandsForGenerated-within history seed count image within = StandsForFirst-within history (generated seed count) image within
+
+-- the run stopped at a command, or before the first
+pub Generates-stop : (history : History) (seed count : ℕ) (before after : Option (List ℕ)) (old new : Told) (status : ℕ) → (status ≡ 0 → ⊥) → KnowsNow new →
+    AppendsFront before after (summary history seed count) → LeavesOnly old new (StandsWithin history (generated seed count)) →
+    Generates history seed count before after old new status
+Generates-stop history seed count before after old new status going knows front run =
+    let weak = weaker old new (StandsWithin history (generated seed count)) (StandsForGenerated history seed count) (StandsForGenerated-within history seed count) run in
+    record {
+      front = front;
+      whole = λ zero. absurd (going zero);
+      any_moment = weak;
+      kept = now old new (StandsForGenerated history seed count) knows weak;
+      done = λ zero. absurd (going zero);
+      all = λ zero. absurd (going zero);
+    }
+
+-- all commands were done, and the summary was sent
+pub Generates-done : (history : History) (seed count : ℕ) (before after : Option (List ℕ)) (old new : Told) (tally : Tally) → KnowsNow new →
+    HasRun history (generated seed count) old new tally → after ≡ appended before (summary history seed count) → Generates history seed count before after old new 0
+Generates-done history seed count before after old new tally knows ran sent =
+    let weak = weaker old new (StandsWithin history (generated seed count)) (StandsForGenerated history seed count) (StandsForGenerated-within history seed count) ran.any_moment in
+    let all : StandsForAll history seed count new.content = subst (λ h. Stands h new.content) (after_lines-accepted history (generated seed count)) ran.stands in
+    record {
+      front = AppendsFront-all before after (summary history seed count) sent;
+      whole = λ zero. sent;
+      any_moment = weak;
+      kept = now old new (StandsForGenerated history seed count) knows weak;
+      done = λ zero. all;
+      all = λ zero. of_content new (StandsForAll history seed count) ran.durable all;
+    }
+
+-- What opening the store left comes before.
+pub Generates-opened : (history : History) (seed count : ℕ) (before after : Option (List ℕ)) (old mid new : Told) (status : ℕ) → LeavesOnly old mid (Stands history) →
+    Generates history seed count before after mid new status → Generates history seed count before after old new status
+Generates-opened history seed count before after old mid new status opened run = record {
+  front = run.front;
+  whole = run.whole;
+  any_moment = joined old mid new (StandsForGenerated history seed count)
+      (weaker old mid (Stands history) (StandsForGenerated history seed count)
+      (λ image is. StandsForGenerated-within history seed count image ([], generated seed count, refl, is)) opened) run.any_moment;
+  kept = run.kept;
+  done = run.done;
+  all = run.all;
+}
+
+-- the store wasn't opened
+pub Generates-unopened : (history : History) (seed count : ℕ) (before after : Option (List ℕ)) (had has : ℕ) (old new : Told) (error : OpenError) →
+    OpensAs old.content (Err error) → Stands history old.content → AsRefused error before after had has → KnowsNow new → LeavesOnly old new (Stands history) →
+    Generates history seed count before after old new (number_of (status_of_open error))
+Generates-unopened history seed count before after had has old new error opens stands said knows opened =
+    let un = unopened old.content (state history) before after had has error stands.state opens said in
+    Generates-stop history seed count before after old new (number_of (status_of_open error)) un.1 knows (0, un.0 ∙ sym (appended-nil before))
+    (weaker old new (Stands history) (StandsWithin history (generated seed count)) (λ image is. ([], generated seed count, refl, is)) opened)

@@ -1,0 +1,89 @@
+-- What a session makes of a history: another one, over which its queries are answered.
+use Rattle.std.proofs.Common.{◌≡◌, ◌∙◌, ◌++◌, List, [], ◌∷◌, ℕ, Option, Some, None, IsSome, Result, Ok, Err, refl, sym, ap, subst}
+use Rattle.std.proofs.lemmas.List.{append-nil}
+use Rattle.ss_catalog.specs.declared.event.Event.{Event}
+use Rattle.ss_catalog.specs.declared.event.Event.TheVariants.{Create, Value, Open, Close}
+use Rattle.ss_catalog.specs.declared.query.Query.{Query}
+use Rattle.ss_catalog.specs.declared.refusal.Refusal.{Refusal}
+use Rattle.ss_command.proofs.SayLemmas.{meant-sayable}
+use Rattle.ss_command.specs.Grammar.{meaning}
+use Rattle.ss_command.specs.Printed.{IsSayable}
+use Rattle.ss_command.specs.declared.command.Command.{Command}
+use Rattle.ss_command.specs.declared.command.Command.TheVariants.{Do, Ask, Windows, List as ListAll}
+use Rattle.ss_model.proofs.AnswerLemmas.{answer-holds, answer-known}
+use Rattle.ss_model.proofs.HistoryLemmas.{IsHistory_push}
+use Rattle.ss_model.specs.Answers.{HoldsTruth, outcome_of, refuses_query}
+use Rattle.ss_model.specs.History.{CanBeSaid, marked_of, values_of}
+use Rattle.ss_model.specs.Refusals.{IsHistory, refuses}
+use Rattle.ss_model.specs.State.{state}
+use Rattle.ss_model.specs.declared.outcome.Outcome.{Outcome}
+use Rattle.ss_report.specs.declared.reply.Reply.{Reply}
+use Rattle.ss_report.specs.declared.reply.Reply.TheVariants.{Answered}
+use Rattle.ss_program.specs.Line.{Brought, History, accepted_event, brings, command_brings, history_after, meaning_brings, nothing, refused, shown, unless_refused}
+use Rattle.ss_program.specs.Session.{after_line, after_lines, replies}
+use Rattle.ss_program.proofs.AnswerLemmas.{ask-event, brings-answered, history-still, windows-event}
+use Rattle.ss_program.proofs.SessionLemmas.{replies-append}
+
+-- an event of a command that a line can say
+sayable-said : (event : Event) → IsSayable (Do event) → CanBeSaid event
+sayable-said (Create name params) sayable = tt
+sayable-said (Value name t v) sayable = (sayable.1, sayable.2)
+sayable-said (Open name t) sayable = sayable.1
+sayable-said (Close name t) sayable = sayable.1
+
+-- what brings no event leaves the history
+still : (history : History) (brought : Brought) → brought.event ≡ None → IsHistory history → IsHistory (history_after history brought)
+still history brought none whole = subst (λ h. IsHistory h) (sym (history-still history brought none)) whole
+
+event-leaves : (history : History) (event : Event) (refusal : Option Refusal) → refuses (state history) event ≡ refusal → CanBeSaid event →
+    IsHistory history → IsHistory (history_after history (unless_refused refusal (accepted_event history event)))
+event-leaves history event None none said whole = IsHistory_push history event (record { before = whole; said = said; accepted = none })
+event-leaves history event (Some refusal) is said whole = still history (refused refusal) refl whole
+
+command-leaves : (history : History) (command : Command) → IsSayable command → IsHistory history →
+    IsHistory (history_after history (command_brings history command))
+command-leaves history (Do event) sayable whole =
+    event-leaves history event (refuses (state history) event) refl (sayable-said event sayable) whole
+command-leaves history (Ask query) sayable whole = still history (command_brings history (Ask query)) (ask-event history query) whole
+command-leaves history (Windows name) sayable whole = still history (command_brings history (Windows name)) (windows-event history name) whole
+command-leaves history ListAll sayable whole = still history (command_brings history ListAll) refl whole
+
+meaning-leaves : (history : History) (meant : Result (Option Command) Refusal) →
+    ((command : Command) → meant ≡ Ok (Some command) → IsSayable command) → IsHistory history →
+    IsHistory (history_after history (meaning_brings history meant))
+meaning-leaves history (Err refusal) sayable whole = still history (refused refusal) refl whole
+meaning-leaves history (Ok None) sayable whole = still history nothing refl whole
+meaning-leaves history (Ok (Some command)) sayable whole = command-leaves history command (sayable command refl) whole
+
+pub lines-leave : (history : History) (ls : List (List ℕ)) → IsHistory history → IsHistory (after_lines history ls)
+lines-leave history [] whole = whole
+lines-leave history (line ∷ ls) whole =
+    lines-leave (after_line history line) ls (meaning-leaves history (meaning line) (meant-sayable line) whole)
+
+-- what a query brings that has an answer
+answered-query : (history : History) (query : Query) (o : Option Outcome) → IsHistory history → refuses_query (state history) query ≡ None →
+    outcome_of (state history) query ≡ o → IsSome o →
+    (outcome : Outcome) × (command_brings history (Ask query) ≡ shown (Answered outcome ∷ []))
+    × HoldsTruth query (values_of history query.name) (marked_of history query.name) outcome
+answered-query history query None whole none is some = cc
+answered-query history query (Some outcome) whole none is some =
+    (outcome, brings-answered history query outcome none is, answer-holds history query outcome whole is)
+
+-- and a line that means it
+pub answered-line : (history : History) (line : List ℕ) (query : Query) → IsHistory history → meaning line ≡ Ok (Some (Ask query)) →
+    refuses_query (state history) query ≡ None →
+    (outcome : Outcome) × (brings history line ≡ shown (Answered outcome ∷ []))
+    × HoldsTruth query (values_of history query.name) (marked_of history query.name) outcome
+answered-line history line query whole means none =
+    let it = answered-query history query (outcome_of (state history) query) whole none refl (answer-known (state history) query none) in
+    (it.0, ap (λ m. meaning_brings history m) means ∙ it.1, it.2)
+
+-- a line to which one reply comes and no event, among other lines
+pub replies-around : (history : History) (before after : List (List ℕ)) (line : List ℕ) (reply : Reply) →
+    brings (after_lines history before) line ≡ shown (reply ∷ []) →
+    replies history (before ++ line ∷ after) ≡ replies history before ++ reply ∷ replies (after_lines history before) after
+replies-around history before after line reply is =
+    let here = after_lines history before in
+    replies-append history before (line ∷ after)
+    ∙ ap (λ b. replies history before ++ (b.replies ++ replies (history_after here b) after)) is
+    ∙ ap (λ h. replies history before ++ reply ∷ replies h after) (append-nil here)

@@ -1,0 +1,155 @@
+-- Worked rows of the session, and the numbers of its rules.
+use Rattle.std.proofs.Common.{◌≡◌, ◌^◌, ◌++◌, [], ◌∷◌, refl}
+use Rattle.std.specs.Prelude.{ℕ, List, Some, None, codes, pos, negsuc, flat_map}
+use Rattle.std.specs.Fmt.{digits}
+use Rattle.ss_catalog.specs.Names.{is_name}
+use Rattle.ss_catalog.specs.declared.event.Event.{Event}
+use Rattle.ss_catalog.specs.declared.event.Event.TheVariants.{Create, Value}
+use Rattle.ss_catalog.specs.declared.params.Params.TheVariants.{Exp}
+use Rattle.ss_command.specs.Grammar.{meaning}
+use Rattle.ss_command.specs.Lines.{ended_lines, lines, unended}
+use Rattle.ss_command.specs.Words.{words}
+use Rattle.ss_fields.specs.Words.{is_number, number_of, number_up_to, signed_of}
+use Rattle.ss_bounds.specs.Split.{sum_interval}
+use Rattle.ss_model.specs.Answers.{outcome_of, refuses_query}
+use Rattle.ss_model.specs.Refusals.{refuses, refuses_reading}
+use Rattle.ss_model.specs.State.{state}
+use Rattle.ss_power.specs.Power.{power_length}
+use Rattle.ss_windowing.specs.Windowing.{index_of}
+use Rattle.ss_store.specs.Recover.{no_store, damaged_entry, damaged_slot, damaged_stream, recovers}
+use Rattle.ss_program.specs.Held.{acks}
+use Rattle.ss_program.specs.Outcome.{lines_within}
+use Rattle.ss_program.specs.Refused.{refusal_line}
+use Rattle.ss_program.specs.Session.{accepted, after_lines, report}
+use Rattle.ss_program.specs.declared.running.TheConstants.{BUFFER, LONGEST_INPUT}
+
+longest_input : LONGEST_INPUT ≡ 2 ^ 36
+longest_input = refl
+
+buffer : BUFFER ≡ 4096
+buffer = refl
+
+-- lines, each with its line end
+abbrev text : List (List ℕ) → List ℕ
+text ls = flat_map (λ line. line ++ 10 ∷ []) ls
+
+-- a stream and seven readings, and what is shown of them
+abbrev readings : List ℕ
+readings =
+    text (codes "create a exp 2 1 1" ∷ codes "append a 10 5" ∷ codes "append a 20 -3" ∷ codes "append a 30 8" ∷ codes "append a 40 1"
+    ∷ codes "append a 50 9" ∷ codes "append a 60 2" ∷ codes "append a 70 7" ∷ codes "windows a" ∷ codes "list" ∷ [])
+
+report-readings : report [] readings
+    ≡ text (codes "ok 0 0" ∷ codes "ok 1 1" ∷ codes "ok 2 2" ∷ codes "ok 3 2" ∷ codes "ok 4 3" ∷ codes "ok 5 3" ∷ codes "ok 6 4" ∷ codes "ok 7 3"
+    ∷ codes "windows 3" ∷ codes "1 4 4 11 -3 8 10 40" ∷ codes "5 6 2 11 2 9 50 60" ∷ codes "7 7 1 7 7 7 70 70"
+    ∷ codes "list 1" ∷ codes "a exp 2 1 1 7 3 0 0" ∷ [])
+unfolding ended_lines unended meaning words is_number number_of number_up_to signed_of is_name state refuses refuses_reading index_of digits
+report-readings = refl
+
+-- their events
+abbrev history : List Event
+history =
+    Create (codes "a") (Exp 2 1 1) ∷ Value (codes "a") 10 (pos 5) ∷ Value (codes "a") 20 (negsuc 2) ∷ Value (codes "a") 30 (pos 8)
+    ∷ Value (codes "a") 40 (pos 1) ∷ Value (codes "a") 50 (pos 9) ∷ Value (codes "a") 60 (pos 2) ∷ Value (codes "a") 70 (pos 7) ∷ []
+
+accepted-readings : accepted [] (lines readings) ≡ history
+unfolding ended_lines unended meaning words is_number number_of number_up_to signed_of is_name state refuses refuses_reading index_of
+accepted-readings = refl
+
+-- after that history: each refusal, lines that are no command, and two lines that are taken, the last one without a line end
+abbrev mistakes : List ℕ
+mistakes =
+    text (codes "create a exp 2 1 1" ∷ codes "create a exp 1 1 1" ∷ codes "append x 1 1" ∷ codes "append x y 1" ∷ codes "append x! 1 1"
+    ∷ codes "append a 70 1" ∷ codes "windows" ∷ codes "windows x" ∷ [] ∷ codes "# note" ∷ codes "create b exp 2 1 4" ∷ []) ++ codes "append a 80 -1"
+
+report-mistakes : report history mistakes
+    ≡ text (codes "refused EXISTS" ∷ codes "refused PARAM" ∷ codes "refused UNKNOWN" ∷ codes "refused NUMBER" ∷ codes "refused NAME"
+    ∷ codes "refused TIME" ∷ codes "refused SYNTAX" ∷ codes "refused UNKNOWN" ∷ codes "ok 0 0" ∷ codes "ok 8 4" ∷ [])
+unfolding ended_lines unended meaning words is_number number_of number_up_to signed_of is_name state refuses refuses_reading index_of digits
+report-mistakes = refl
+
+after_lines-mistakes : after_lines history (lines mistakes) ≡ history ++ Create (codes "b") (Exp 2 1 4) ∷ Value (codes "a") 80 (negsuc 0) ∷ []
+unfolding ended_lines unended meaning words is_number number_of number_up_to signed_of is_name state refuses refuses_reading index_of
+after_lines-mistakes = refl
+
+-- after that history: queries where no window is split, one is, or two are, and each refusal of a query
+abbrev queries : List ℕ
+queries =
+    text (codes "query a count 10 40" ∷ codes "query a sum 0 100" ∷ codes "query a max 45 65" ∷ codes "query a min 71 80"
+    ∷ codes "query a count 10 25" ∷ codes "query a sum 10 25" ∷ codes "query a min 10 25" ∷ codes "query a min 15 25" ∷ codes "query a count 15 25"
+    ∷ codes "query a count 25 55" ∷ codes "query a sum 25 55" ∷ codes "query a min 25 55" ∷ codes "query a max 25 55"
+    ∷ codes "query a sum 5 4" ∷ codes "query x sum 5 4" ∷ codes "query a mean 5 4" ∷ codes "query a sum 5 x" ∷ codes "query a! sum 5 4" ∷ [])
+
+report-queries : report history queries
+    ≡ text (codes "count 4 4" ∷ codes "sum 29 29" ∷ codes "max 9 9" ∷ codes "min none"
+    ∷ codes "count 1 3" ∷ codes "sum -5 16" ∷ codes "min -3 8" ∷ codes "min -3 8 maybe-none" ∷ codes "count 0 2"
+    ∷ codes "count 2 4" ∷ codes "sum -3 25" ∷ codes "min -3 8" ∷ codes "max 2 9"
+    ∷ codes "refused RANGE" ∷ codes "refused UNKNOWN" ∷ codes "refused SYNTAX" ∷ codes "refused NUMBER" ∷ codes "refused NAME" ∷ [])
+unfolding ended_lines unended meaning words is_number number_of number_up_to signed_of is_name state refuses_query outcome_of sum_interval index_of digits
+report-queries = refl
+
+-- they add no event
+accepted-queries : accepted history (lines queries) ≡ []
+unfolding ended_lines unended meaning words is_number number_of number_up_to signed_of is_name state refuses_query outcome_of sum_interval index_of
+accepted-queries = refl
+
+-- another stream: its window is split, but the free times are used up
+abbrev close_times : List ℕ
+close_times =
+    text (codes "create d power 1 0 1 4" ∷ codes "append d 10 4" ∷ codes "append d 11 4" ∷ codes "append d 12 6" ∷ codes "append d 13 6"
+    ∷ codes "query d count 10 11" ∷ codes "query d sum 10 11" ∷ [])
+
+report-close_times : report [] close_times
+    ≡ text (codes "ok 0 0" ∷ codes "ok 1 1" ∷ codes "ok 2 1" ∷ codes "ok 3 1" ∷ codes "ok 4 1" ∷ codes "count 2 2" ∷ codes "sum 8 12" ∷ [])
+unfolding ended_lines unended meaning words is_number number_of number_up_to signed_of is_name state refuses refuses_query outcome_of sum_interval power_length index_of digits
+report-close_times = refl
+
+-- the last line has ended where nothing is left
+lines_within-rest : lines_within (codes "ab" ++ 10 ∷ codes "c") (codes "d") ≡ codes "ab" ∷ []
+unfolding ended_lines unended
+lines_within-rest = refl
+
+lines_within-end : lines_within (codes "ab" ++ 10 ∷ codes "c") [] ≡ codes "ab" ∷ codes "c" ∷ []
+unfolding ended_lines unended
+lines_within-end = refl
+
+-- each reply to the readings has 7 bytes: an event is acknowledged with the last of them
+acks-none : acks [] (lines readings) 6 ≡ 0
+unfolding ended_lines unended meaning words is_number number_of number_up_to signed_of is_name state refuses refuses_reading index_of digits
+acks-none = refl
+
+acks-some : acks [] (lines readings) 20 ≡ 2
+unfolding ended_lines unended meaning words is_number number_of number_up_to signed_of is_name state refuses refuses_reading index_of digits
+acks-some = refl
+
+acks-all : acks [] (lines readings) 56 ≡ 8
+unfolding ended_lines unended meaning words is_number number_of number_up_to signed_of is_name state refuses refuses_reading index_of digits
+acks-all = refl
+
+-- what is shown after them acknowledges no further event, and refused lines acknowledge none
+acks-shown : acks [] (lines readings) 100 ≡ 8
+unfolding ended_lines unended meaning words is_number number_of number_up_to signed_of is_name state refuses refuses_reading index_of digits
+acks-shown = refl
+
+acks-refused : acks history (lines mistakes) 120 ≡ 0
+unfolding ended_lines unended meaning words is_number number_of number_up_to signed_of is_name state refuses refuses_reading index_of digits
+acks-refused = refl
+
+-- what is said of a store that is refused
+refusal_line-no_store : refusal_line no_store ≡ Some (codes "not a store" ++ 10 ∷ [])
+refusal_line-no_store = refl
+
+refusal_line-entry : refusal_line (damaged_entry 0) ≡ Some (codes "damaged entry 0" ++ 10 ∷ [])
+unfolding digits
+refusal_line-entry = refl
+
+refusal_line-slot : refusal_line (damaged_slot 1048575) ≡ Some (codes "damaged slot 1048575" ++ 10 ∷ [])
+unfolding digits
+refusal_line-slot = refl
+
+refusal_line-stream : refusal_line (damaged_stream 6) ≡ Some (codes "damaged stream 6" ++ 10 ∷ [])
+unfolding digits
+refusal_line-stream = refl
+
+refusal_line-recovers : refusal_line (recovers []) ≡ None
+refusal_line-recovers = refl

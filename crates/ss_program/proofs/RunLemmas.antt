@@ -1,0 +1,447 @@
+-- What a run leaves, by how it ends.
+use Rattle.std.proofs.Common.{◌≡◌, ◌⊎◌, inl, inr, take_all, length-drop, ℕ, ◌+◌, ◌<◌, ◌≤◌, ◌++◌, List, [], ◌∷◌, length, take, drop, map, Bool, true, IsTrue, Option, Some, None, Ok, Err, refl, sym, ap, ◌∙◌, subst, arith}
+use Rattle.std.proofs.Math.Seq.{take-add}
+use Rattle.std.proofs.lemmas.List.{append-nil, drop-drop, drop_all, length-take-le, take-append-drop}
+use Rattle.ss_command.specs.Lines.{lines, lines_so_far, unended, unless_empty, without_return}
+use Rattle.ss_command.proofs.LineLemmas.{lines-front}
+use Rattle.ss_outside.proofs.CrashLemmas.{joined, now, of_content, weaker}
+use Rattle.ss_outside.specs.Causes.{Rose}
+use Rattle.ss_outside.specs.Crash.{KnowsNow, LeavesOnly}
+use Rattle.ss_outside.specs.Disk.{Told}
+use Rattle.ss_outside.specs.Source.{Moves}
+use Rattle.ss_model.specs.State.{Stream, state}
+use Rattle.ss_store.specs.Causes.{OpensAs}
+use Rattle.ss_store.specs.Recover.{Recovers, Stands, no_store, damaged_entry, damaged_slot, damaged_stream, recovers}
+use Rattle.ss_store.specs.Surveyed.{SurveysAs, survey_of}
+use Rattle.ss_store.specs.declared.error.OpenError.{OpenError}
+use Rattle.ss_store.specs.declared.error.OpenError.TheVariants as opening
+use Rattle.ss_store.specs.declared.surveying.Survey.{Survey}
+use Rattle.ss_program.specs.Line.{History}
+use Rattle.ss_program.specs.Outcome.{Reports, Reads, Serves, Stopped, Took, lines_within}
+use Rattle.ss_program.specs.Progress.{EndsWell, GoesOn, HasReplied, HasTaken, SessionState, StandsWithin, StopsIn}
+use Rattle.ss_program.specs.Refused.{AsRefused, status_of_open}
+use Rattle.ss_program.specs.Sent.{appended, AppendsFront}
+use Rattle.ss_program.specs.Session.{after_lines, report, report_so_far, text_of}
+use Rattle.ss_program.specs.Status.{number_of, IsStop, EndsServing, Counts}
+use Rattle.ss_program.specs.declared.running.TheConstants.{LONGEST_INPUT}
+use Rattle.ss_program.specs.declared.status.Status.{Status}
+use Rattle.ss_program.specs.declared.status.Status.TheVariants.{Done, Usage, RefusedStore, DiskFault, SourceFault, SinkFault, OutOfMemory, InputLimit, RecordChanged}
+use Rattle.ss_program.proofs.HeldLemmas.{HoldsReported-done, HoldsReported-stop}
+use Rattle.ss_program.proofs.SendLemmas.{AppendsFront-all, appended-nil}
+use Rattle.ss_program.proofs.SessionLemmas.{after_lines-accepted, front-report, StopsAt-more, StopsAt-front}
+use Rattle.ss_program.proofs.TakeLemmas.{GoesOn-start, GoesOn-then, StopsIn-more, StopsIn-then, any_moment-more}
+
+-- what a read moved
+pub moved : (before after : Option (List ℕ)) (count : ℕ) (into left : List ℕ) → Moves before after (Ok count) into → before ≡ Some left →
+    (count ≤ length left) × (take count into ≡ take count left) × (after ≡ Some (drop count left))
+moved None after count into left moves is = cc
+moved (Some bytes) after count into left moves is =
+    let same : bytes ≡ left = cc in
+    subst (λ bs. (count ≤ length bs) × (take count into ≡ take count bs) × (after ≡ Some (drop count bs))) same (moves.0, moves.2, moves.3)
+
+-- so many bytes of the input were taken since a moment, and the lines that end in them are answered
+pub record IsThrough (history : History) (start now : Told) (session : SessionState) (before held left : Option (List ℕ)) (input : List ℕ) (n : ℕ) : Type 0 where
+  pub within : n ≤ length input
+  pub source : left ≡ Some (drop n input)
+  pub on : GoesOn history start now session before held (take n input)
+
+-- none were
+pub IsThrough-start : (history : History) (disk : Told) (session : SessionState) (before left : Option (List ℕ)) (input : List ℕ) → KnowsNow disk →
+    HasTaken history disk session [] → HasReplied history before before [] → left ≡ Some input → IsThrough history disk disk session before before left input 0
+IsThrough-start history disk session before left input knows at replied source = record {
+  within = omega arith;
+  source = source;
+  on = GoesOn-start history disk session before before [] knows at replied;
+}
+
+-- and so many more
+pub IsThrough-more : (history : History) (start mid now : Told) (first second : SessionState) (before held after old_left left : Option (List ℕ)) (input : List ℕ) (n k : ℕ) →
+    IsThrough history start mid first before held old_left input n → k ≤ length (drop n input) → left ≡ Some (drop k (drop n input)) →
+    GoesOn history mid now second before after (take n input ++ take k (drop n input)) → IsThrough history start now second before after left input (n + k)
+IsThrough-more history start mid now first second before held after old_left left input n k through more source on = record {
+  within = omega (arith, through.within, more, length-drop n input);
+  source = source ∙ ap (λ bs. Some bs) (drop-drop k n input);
+  on = subst (λ bs. GoesOn history start now second before after bs) (sym (take-add n k input))
+      (GoesOn-then history start mid now first second before held after (take n input) (take k (drop n input)) through.on on);
+}
+
+-- all of the input was taken
+pub record IsAtEnd (history : History) (start now : Told) (session : SessionState) (before held left : Option (List ℕ)) (input : List ℕ) : Type 0 where
+  pub fits : length input ≤ LONGEST_INPUT
+  pub source : left ≡ Some []
+  pub on : GoesOn history start now session before held input
+
+-- so many bytes of the input were read
+pub record IsLeft (left : Option (List ℕ)) (input : List ℕ) (n : ℕ) : Type 0 where
+  pub within : n ≤ length input
+  pub source : left ≡ Some (drop n input)
+
+pub IsLeft-more : (left : Option (List ℕ)) (input : List ℕ) (n k : ℕ) → n ≤ length input → k ≤ length (drop n input) → left ≡ Some (drop k (drop n input)) →
+    IsLeft left input (n + k)
+IsLeft-more left input n k within more source = record {
+  within = omega (arith, within, more, length-drop n input);
+  source = source ∙ ap (λ bs. Some bs) (drop-drop k n input);
+}
+
+-- nothing is left of it
+pub length_of-none : (input : List ℕ) (n : ℕ) → drop n input ≡ [] → length input ≤ n
+length_of-none input n none = let short = ap (λ (bs : List ℕ). length bs) none in omega (arith, length-drop n input)
+
+pub left-none : (left : Option (List ℕ)) (rest : List ℕ) (k : ℕ) → rest ≡ [] → left ≡ Some (drop k rest) → left ≡ Some []
+left-none left rest k none is = let short = ap (λ (bs : List ℕ). length bs) none in is ∙ ap (λ bs. Some bs) (drop_all k rest (omega (arith, short)))
+
+pub IsThrough-end : {history : History} {start now : Told} {session : SessionState} {before held left : Option (List ℕ)} {input : List ℕ} {n : ℕ}
+    (after_left : Option (List ℕ)) → IsThrough history start now session before held left input n → length input ≤ n → length input ≤ LONGEST_INPUT →
+    after_left ≡ Some [] → IsAtEnd history start now session before held after_left input
+IsThrough-end {history = history} {start = start} {now = now} {session = session} {before = before} {held = held} {input = input} {n = n} after_left through all fits none = record {
+  fits = fits;
+  source = none;
+  on = subst (λ bs. GoesOn history start now session before held bs) (take_all n input all) through.on;
+}
+
+-- what was taken of the input, and what is left
+pub Took-at : (input : List ℕ) (left : Option (List ℕ)) (n : ℕ) → n ≤ length input → n ≤ LONGEST_INPUT → left ≡ Some (drop n input) →
+    Took input left (take n input) (drop n input)
+Took-at input left n within few is = record {
+  all = take-append-drop n input;
+  others = is;
+  few = omega (arith, few, length-take-le n input within);
+}
+
+-- the lines so far are a front of those of the input
+lines_within-front : (taken rest : List ℕ) → (more : List (List ℕ)) × (lines (taken ++ rest) ≡ lines_within taken rest ++ more)
+lines_within-front taken [] = ([], ap (λ bs. lines bs) (append-nil taken) ∙ sym (append-nil (lines taken)))
+lines_within-front taken (b ∷ rest) = lines-front taken (b ∷ rest)
+
+-- a line that a line end ended within the bytes taken is one of those so far
+StopsIn-within : (history : History) (old new : Told) (before after : Option (List ℕ)) (status : Status) (taken rest : List ℕ) →
+    StopsIn history (lines_so_far taken) old new before after status → StopsIn history (lines_within taken rest) old new before after status
+StopsIn-within history old new before after status taken [] stops =
+    StopsIn-more history old new before after (lines_so_far taken) (map without_return (unless_empty (unended taken))) status stops
+StopsIn-within history old new before after status taken (b ∷ rest) stops = stops
+
+-- a run stopped at a line that had ended within the bytes taken
+pub record HasStopped (history : History) (input : List ℕ) (left before after : Option (List ℕ)) (old new : Told) (status : Status) : Type 0 where
+  pub taken : List ℕ
+  pub rest : List ℕ
+  pub took : Took input left taken rest
+  pub stops : StopsIn history (lines_within taken rest) old new before after status
+
+-- it stopped at a line of the piece that came next
+pub HasStopped-piece : (history : History) (start mid new : Told) (session : SessionState) (input : List ℕ) (old_left left before held after : Option (List ℕ)) (status : Status)
+    (n room : ℕ) → IsThrough history start mid session before held old_left input n → n + room ≤ LONGEST_INPUT →
+    (count : ℕ) × (count ≤ room) × (count ≤ length (drop n input)) × (left ≡ Some (drop count (drop n input)))
+    × StopsIn history (lines_so_far (take n input ++ take count (drop n input))) mid new before after status →
+    HasStopped history input left before after start new status
+HasStopped-piece history start mid new session input old_left left before held after status n room through few piece =
+    let m = n + piece.0 in
+    let stops = StopsIn-then history start mid new session before held after status (take n input) (take piece.0 (drop n input)) through.on piece.4 in
+    record {
+      taken = take m input;
+      rest = drop m input;
+      took = Took-at input left m (omega (arith, through.within, piece.2, length-drop n input)) (omega (arith, few, piece.1)) (piece.3 ∙ ap (λ bs. Some bs) (drop-drop piece.0 n input));
+      stops = StopsIn-within history start new before after status (take m input) (drop m input)
+          (subst (λ bs. StopsIn history (lines_so_far bs) start new before after status) (sym (take-add n piece.0 input)) stops);
+    }
+
+-- what was left in a crash of a session before its last line is a front of all lines
+any_moment-lines : (history : History) (old new : Told) (input : List ℕ) → LeavesOnly old new (StandsWithin history (lines_so_far input)) →
+    LeavesOnly old new (StandsWithin history (lines input))
+any_moment-lines history old new input run =
+    any_moment-more history old new (lines_so_far input) (map without_return (unless_empty (unended input))) run
+
+-- or at the last line of the input
+pub HasStopped-end : {history : History} {start mid : Told} {session : SessionState} {before held left : Option (List ℕ)} {input : List ℕ} (new : Told) (after : Option (List ℕ))
+    (status : Status) → IsAtEnd history start mid session before held left input → StopsIn history (lines input) mid new before after status →
+    HasStopped history input left before after start new status
+HasStopped-end {history = history} {start = start} {mid = mid} {input = input} new after status end stops = record {
+  taken = input;
+  rest = [];
+  took = record { all = append-nil input; others = end.source; few = end.fits };
+  stops = record {
+    at = stops.at;
+    any_moment = joined start mid new (StandsWithin history (lines input)) (any_moment-lines history start mid input end.on.any_moment) stops.any_moment;
+  };
+}
+
+-- the lines within the bytes taken are the first of all
+lines-all : (input taken rest : List ℕ) → taken ++ rest ≡ input → (more : List (List ℕ)) × (lines input ≡ lines_within taken rest ++ more)
+lines-all input taken rest all =
+    let more = lines_within-front taken rest in (more.0, ap (λ bs. lines bs) (sym all) ∙ more.1)
+
+-- the run stopped at a line
+Stopped-as : (history : History) (input : List ℕ) (left before after : Option (List ℕ)) (old new : Told) (status : Status) →
+    HasStopped history input left before after old new status → Stopped history input left before after new status
+Stopped-as history input left before after old new status has = (has.taken, has.rest, has.took, has.stops.at)
+
+Reports-stop : (history : History) (input : List ℕ) (left before after : Option (List ℕ)) (old new : Told) (status : Status) →
+    AppendsFront before after (report history input) → HasStopped history input left before after old new status → IsStop true status →
+    Reports history input left before after new (number_of status)
+Reports-stop history input left before after old new DiskFault front has stop = record {
+  front = front;
+  whole = λ is. absurd (omega (arith, is));
+  broken = λ is. inr (Stopped-as history input left before after old new DiskFault has);
+  faulted = λ is. absurd (omega (arith, is));
+  cut = λ is. absurd (omega (arith, is));
+  starved = λ is. absurd (omega (arith, is));
+  limited = λ is. absurd (omega (arith, is));
+}
+Reports-stop history input left before after old new SinkFault front has stop = record {
+  front = front;
+  whole = λ is. absurd (omega (arith, is));
+  broken = λ is. absurd (omega (arith, is));
+  faulted = λ is. absurd (omega (arith, is));
+  cut = λ is. Stopped-as history input left before after old new SinkFault has;
+  starved = λ is. absurd (omega (arith, is));
+  limited = λ is. absurd (omega (arith, is));
+}
+Reports-stop history input left before after old new OutOfMemory front has stop = record {
+  front = front;
+  whole = λ is. absurd (omega (arith, is));
+  broken = λ is. absurd (omega (arith, is));
+  faulted = λ is. absurd (omega (arith, is));
+  cut = λ is. absurd (omega (arith, is));
+  starved = λ is. inr (Stopped-as history input left before after old new OutOfMemory has);
+  limited = λ is. absurd (omega (arith, is));
+}
+Reports-stop history input left before after old new RecordChanged front has stop = absurd (stop refl)
+Reports-stop history input left before after old new Done front has stop = absurd stop
+Reports-stop history input left before after old new Usage front has stop = absurd stop
+Reports-stop history input left before after old new RefusedStore front has stop = absurd stop
+Reports-stop history input left before after old new SourceFault front has stop = absurd stop
+Reports-stop history input left before after old new InputLimit front has stop = absurd stop
+
+-- its status isn't 0 or 8
+pub stop-number : (tells : Bool) (status : Status) → IsStop tells status → (number_of status ≡ 0 → ⊥) × (number_of status ≡ 8 → ⊥)
+stop-number tells DiskFault stop = (λ is. absurd (omega (arith, is)), λ is. absurd (omega (arith, is)))
+stop-number tells SinkFault stop = (λ is. absurd (omega (arith, is)), λ is. absurd (omega (arith, is)))
+stop-number tells OutOfMemory stop = (λ is. absurd (omega (arith, is)), λ is. absurd (omega (arith, is)))
+stop-number tells RecordChanged stop = (λ is. absurd (omega (arith, is)), λ is. absurd (omega (arith, is)))
+stop-number tells Done stop = absurd stop
+stop-number tells Usage stop = absurd stop
+stop-number tells RefusedStore stop = absurd stop
+stop-number tells SourceFault stop = absurd stop
+stop-number tells InputLimit stop = absurd stop
+
+pub Serves-stop : (history : History) (input : List ℕ) (left before after : Option (List ℕ)) (old new : Told) (tells : Bool) (status : Status) → IsTrue tells →
+    IsStop tells status → HasStopped history input left before after old new status → Serves history input left before after old new (number_of status)
+Serves-stop history input left before after old new tells status told stop has =
+    let all = lines-all input has.taken has.rest has.took.all in
+    let ls = lines_within has.taken has.rest in
+    record {
+      report = Reports-stop history input left before after old new status
+          (subst (λ l. AppendsFront before after (text_of history l)) (sym all.1) (StopsAt-front (StopsAt-more all.0 has.stops.at))) has
+          (subst (λ b. IsStop b status) told stop);
+      kept = HoldsReported-stop history input before after new (number_of status) status ls all.0 all.1 has.stops.at (stop-number tells status stop).0;
+      any_moment = subst (λ l. LeavesOnly old new (StandsWithin history l)) (sym all.1) (any_moment-more history old new ls all.0 has.stops.any_moment);
+      whole = λ is. absurd ((stop-number tells status stop).0 is);
+    }
+
+-- the session came to its end
+pub Serves-done : {history : History} {start mid : Told} {session : SessionState} {before held left : Option (List ℕ)} {input : List ℕ} (new : Told) (after : Option (List ℕ)) →
+    IsAtEnd history start mid session before held left input → EndsWell history (lines input) mid new before after →
+    Serves history input left before after start new 0
+Serves-done {history = history} {start = start} {mid = mid} {before = before} {input = input} new after end ends = record {
+  report = record {
+    front = AppendsFront-all before after (report history input) ends.replied;
+    whole = λ _. ends.replied;
+    broken = λ is. absurd (omega (arith, is));
+    faulted = λ is. absurd (omega (arith, is));
+    cut = λ is. absurd (omega (arith, is));
+    starved = λ is. absurd (omega (arith, is));
+    limited = λ is. absurd (omega (arith, is));
+  };
+  kept = HoldsReported-done history input before after new 0 (lines input) [] (sym (append-nil (lines input))) ends.replied
+      (of_content new (Stands (after_lines history (lines input))) ends.durable ends.stands) (λ _. refl);
+  any_moment = joined start mid new (StandsWithin history (lines input)) (any_moment-lines history start mid input end.on.any_moment) ends.any_moment;
+  whole = λ _. subst (λ h. Stands h new.content) (after_lines-accepted history (lines input)) ends.stands;
+}
+
+-- the session was finished
+pub Serves-finish : {history : History} {start mid : Told} {session : SessionState} {before held left : Option (List ℕ)} {input : List ℕ} (new : Told) (after : Option (List ℕ))
+    (tells : Bool) (status : Status) → IsTrue tells → IsAtEnd history start mid session before held left input → (status ≡ Done) ⊎ IsStop tells status →
+    (status ≡ Done → EndsWell history (lines input) mid new before after) → (IsStop tells status → StopsIn history (lines input) mid new before after status) →
+    Serves history input left before after start new (number_of status)
+Serves-finish {history = history} {start = start} {before = before} {left = left} {input = input} new after tells status told end (inl is) done stops =
+    subst (λ s. Serves history input left before after start new (number_of s)) (sym is) (Serves-done new after end (done is))
+Serves-finish {history = history} {start = start} {before = before} {left = left} {input = input} new after tells status told end (inr stop) done stops =
+    Serves-stop history input left before after start new tells status told stop (HasStopped-end new after status end (stops stop))
+
+-- by which of the two statuses
+part-number : {A B : Type 0} {status : ℕ} → (status ≡ 5) × A ⊎ (status ≡ 8) × B → (4 < status) × (status ≡ 6 → ⊥) × (status ≡ 7 → ⊥)
+part-number (inl how) = (omega (arith, how.0), λ is. absurd (omega (arith, is, how.0)), λ is. absurd (omega (arith, is, how.0)))
+part-number (inr how) = (omega (arith, how.0), λ is. absurd (omega (arith, is, how.0)), λ is. absurd (omega (arith, is, how.0)))
+
+part-left : {A B : Type 0} {status : ℕ} → (status ≡ 5) × A ⊎ (status ≡ 8) × B → status ≡ 5 → A
+part-left (inl how) is = how.1
+part-left (inr how) is = absurd (omega (arith, is, how.0))
+
+part-limit : {A B : Type 0} {status : ℕ} → (status ≡ 5) × A ⊎ (status ≡ 8) × B → status ≡ 8 → B
+part-limit (inl how) is = absurd (omega (arith, is, how.0))
+part-limit (inr how) is = how.1
+
+-- the source failed, or more is left than an input may have
+pub Serves-part : {history : History} {start now : Told} {session : SessionState} {before held left : Option (List ℕ)} {input : List ℕ} {n : ℕ} (status : ℕ)
+    (after_left : Option (List ℕ)) → IsThrough history start now session before held left input n → n ≤ LONGEST_INPUT →
+    (status ≡ 5) × (after_left ≡ left) ⊎ (status ≡ 8) × (n ≡ LONGEST_INPUT) → Serves history input after_left before held start now status
+Serves-part {history = history} {start = start} {now = now} {before = before} {held = held} {input = input} {n = n} status after_left through few how =
+    let more = lines-front (take n input) (drop n input) in
+    let all : lines input ≡ lines_so_far (take n input) ++ more.0 = ap (λ bs. lines bs) (sym (take-append-drop n input)) ∙ more.1 in
+    let ls = lines_so_far (take n input) in
+    let late = part-number how in
+    record {
+      report = record {
+        front = subst (λ bs. AppendsFront before held (report history bs)) (take-append-drop n input)
+            (front-report history before held (take n input) (drop n input) (AppendsFront-all before held (report_so_far history (take n input)) through.on.replied));
+        whole = λ is. absurd (omega (arith, is, late.0));
+        broken = λ is. absurd (omega (arith, is, late.0));
+        faulted = λ is. (take n input, drop n input, Took-at input after_left n through.within few (part-left how is ∙ through.source), through.on.replied);
+        cut = λ is. absurd (late.1 is);
+        starved = λ is. absurd (late.2 is);
+        limited = λ is. through.on.replied ∙ ap (λ m. appended before (report_so_far history (take m input))) (part-limit how is);
+      };
+      kept = HoldsReported-done history input before held now status ls more.0 all through.on.replied
+          (of_content now (Stands (after_lines history ls)) through.on.at.durable through.on.at.stands) (λ is. absurd (omega (arith, is, late.0)));
+      any_moment = subst (λ l. LeavesOnly start now (StandsWithin history l)) (sym all) (any_moment-more history start now ls more.0 through.on.any_moment);
+      whole = λ is. absurd (omega (arith, is, late.0));
+    }
+
+-- what was read, where the session came to its end
+pub Reads-end : (tells : Bool) (input : List ℕ) (left : Option (List ℕ)) (status : Status) → length input ≤ LONGEST_INPUT → left ≡ Some [] →
+    (status ≡ Done) ⊎ IsStop tells status → Reads input left (number_of status)
+Reads-end tells input left status fits source (inl is) =
+    let n = ap (λ s. number_of s) is in
+    record { whole = λ _. (fits, source); limit = λ wrong. absurd (omega (arith, n, wrong)) }
+Reads-end tells input left status fits source (inr stop) =
+    record { whole = λ _. (fits, source); limit = λ wrong. absurd ((stop-number tells status stop).1 wrong) }
+
+pub Reads-limit : (input : List ℕ) (left : Option (List ℕ)) (n : ℕ) → n ≡ LONGEST_INPUT → 0 < length (drop n input) → left ≡ Some (drop 1 (drop n input)) →
+    Reads input left 8
+Reads-limit input left n last some is = record {
+  whole = λ wrong. absurd (omega (arith, wrong));
+  limit = λ _. (omega (arith, last, some, length-drop n input), is ∙ ap (λ bs. Some bs) (drop-drop 1 n input ∙ ap (λ m. drop (m + 1) input) last));
+}
+
+-- What opening the store left comes before what serving leaves.
+pub Serves-opened : (history : History) (input : List ℕ) (left before after : Option (List ℕ)) (old mid new : Told) (status : ℕ) →
+    LeavesOnly old mid (Stands history) → Serves history input left before after mid new status → Serves history input left before after old new status
+Serves-opened history input left before after old mid new status opened serves = record {
+  report = serves.report;
+  kept = serves.kept;
+  any_moment = joined old mid new (StandsWithin history (lines input))
+      (weaker old mid (Stands history) (StandsWithin history (lines input)) (λ image is. ([], lines input, refl, is)) opened) serves.any_moment;
+  whole = serves.whole;
+}
+
+unopened-number : {status : ℕ} → (status ≡ 4) ⊎ (status ≡ 7) → (status ≡ 0 → ⊥) × (status ≡ 5 → ⊥) × (status ≡ 6 → ⊥) × (status ≡ 8 → ⊥)
+unopened-number (inl four) = (λ is. absurd (omega (arith, is, four)), λ is. absurd (omega (arith, is, four)), λ is. absurd (omega (arith, is, four)), λ is. absurd (omega (arith, is, four)))
+unopened-number (inr seven) = (λ is. absurd (omega (arith, is, seven)), λ is. absurd (omega (arith, is, seven)), λ is. absurd (omega (arith, is, seven)), λ is. absurd (omega (arith, is, seven)))
+
+-- the store wasn't opened, and nothing was said of it
+Serves-unopened : (history : History) (input : List ℕ) (left before after : Option (List ℕ)) (old new : Told) (status : ℕ) → (status ≡ 4) ⊎ (status ≡ 7) →
+    left ≡ Some input → after ≡ before → KnowsNow new → LeavesOnly old new (Stands history) → Serves history input left before after old new status
+Serves-unopened history input left before after old new status how still same knows opened =
+    let held = same ∙ sym (appended-nil before) in
+    let number = unopened-number how in
+    record {
+      report = record {
+        front = (0, held);
+        whole = λ is. absurd (number.0 is);
+        broken = λ _. inl (still, same);
+        faulted = λ is. absurd (number.1 is);
+        cut = λ is. absurd (number.2 is);
+        starved = λ _. inl (still, same);
+        limited = λ is. absurd (number.3 is);
+      };
+      kept = HoldsReported-done history input before after new status [] (lines input) refl held (now old new (Stands history) knows opened) (λ is. absurd (number.0 is));
+      any_moment = weaker old new (Stands history) (StandsWithin history (lines input)) (λ image is. ([], lines input, refl, is)) opened;
+      whole = λ is. absurd (number.0 is);
+    }
+
+-- a content that stands for a history isn't refused
+pub Serves-refused : (history : History) (input : List ℕ) (left before after : Option (List ℕ)) (had has : ℕ) (old new : Told) (error : OpenError) →
+    OpensAs old.content (Err error) → Stands history old.content → AsRefused error before after had has → left ≡ Some input → KnowsNow new →
+    LeavesOnly old new (Stands history) → Serves history input left before after old new (number_of (status_of_open error))
+Serves-refused history input left before after had has old new opening.Disk opens stands said still knows opened =
+    Serves-unopened history input left before after old new 4 (inl refl) still said.0 knows opened
+Serves-refused history input left before after had has old new opening.OutOfMemory opens stands said still knows opened =
+    Serves-unopened history input left before after old new 7 (inr refl) still said.0 knows opened
+Serves-refused history input left before after had has old new opening.NotAStore opens stands said still knows opened =
+    let wrong : no_store ≡ recovers (state history) = sym opens ∙ stands.state in cc
+Serves-refused history input left before after had has old new (opening.BadEntry n) opens stands said still knows opened =
+    let wrong : damaged_entry n ≡ recovers (state history) = sym opens ∙ stands.state in cc
+Serves-refused history input left before after had has old new (opening.BadSlot n) opens stands said still knows opened =
+    let wrong : damaged_slot n ≡ recovers (state history) = sym opens ∙ stands.state in cc
+Serves-refused history input left before after had has old new (opening.BadStream id) opens stands said still knows opened =
+    let wrong : damaged_stream id ≡ recovers (state history) = sym opens ∙ stands.state in cc
+Serves-refused history input left before after had has old new (opening.Changed slot) opens stands said still knows opened = absurd opens
+
+-- and what was read then: nothing
+pub Reads-refused : (input : List ℕ) (left : Option (List ℕ)) (error : OpenError) → Reads input left (number_of (status_of_open error))
+Reads-refused input left opening.Disk = record { whole = λ is. absurd (omega (arith, is)); limit = λ is. absurd (omega (arith, is)) }
+Reads-refused input left opening.OutOfMemory = record { whole = λ is. absurd (omega (arith, is)); limit = λ is. absurd (omega (arith, is)) }
+Reads-refused input left opening.NotAStore = record { whole = λ is. absurd (omega (arith, is)); limit = λ is. absurd (omega (arith, is)) }
+Reads-refused input left (opening.BadEntry n) = record { whole = λ is. absurd (omega (arith, is)); limit = λ is. absurd (omega (arith, is)) }
+Reads-refused input left (opening.BadSlot n) = record { whole = λ is. absurd (omega (arith, is)); limit = λ is. absurd (omega (arith, is)) }
+Reads-refused input left (opening.BadStream id) = record { whole = λ is. absurd (omega (arith, is)); limit = λ is. absurd (omega (arith, is)) }
+Reads-refused input left (opening.Changed slot) = record { whole = λ is. absurd (omega (arith, is)); limit = λ is. absurd (omega (arith, is)) }
+
+-- How a run ends where nothing fails but memory.
+pub completes : (tells : Bool) (status : Status) (d e s t k l : ℕ) → IsTrue tells → EndsServing tells status →
+    Counts DiskFault d e status → Counts SourceFault s t status → Counts SinkFault k l status →
+    (Rose d e → ⊥) → (Rose s t → ⊥) → (Rose k l → ⊥) → (number_of status ≡ 8 → ⊥) → (number_of status ≡ 0) ⊎ (number_of status ≡ 7)
+completes tells Done d e s t k l told ends disk source sink calm_disk calm_source calm_sink limit = inl refl
+completes tells OutOfMemory d e s t k l told ends disk source sink calm_disk calm_source calm_sink limit = inr refl
+completes tells DiskFault d e s t k l told ends disk source sink calm_disk calm_source calm_sink limit = absurd (calm_disk disk)
+completes tells SourceFault d e s t k l told ends disk source sink calm_disk calm_source calm_sink limit = absurd (calm_source source)
+completes tells SinkFault d e s t k l told ends disk source sink calm_disk calm_source calm_sink limit = absurd (calm_sink sink)
+completes tells InputLimit d e s t k l told ends disk source sink calm_disk calm_source calm_sink limit = absurd (limit refl)
+completes tells RecordChanged d e s t k l told ends disk source sink calm_disk calm_source calm_sink limit = absurd (ends told)
+completes tells Usage d e s t k l told ends disk source sink calm_disk calm_source calm_sink limit = absurd ends
+completes tells RefusedStore d e s t k l told ends disk source sink calm_disk calm_source calm_sink limit = absurd ends
+
+-- A run over no input doesn't end by a fault of a source,
+pub stop-unfed : (tells : Bool) (status : Status) → (status ≡ Done) ⊎ IsStop tells status → number_of status ≡ 5 → ⊥
+stop-unfed tells status (inl is) five = let zero = ap (λ s. number_of s) is in absurd (omega (arith, zero, five))
+stop-unfed tells DiskFault (inr stop) five = absurd (omega (arith, five))
+stop-unfed tells SinkFault (inr stop) five = absurd (omega (arith, five))
+stop-unfed tells OutOfMemory (inr stop) five = absurd (omega (arith, five))
+stop-unfed tells RecordChanged (inr stop) five = absurd (omega (arith, five))
+stop-unfed tells Done (inr stop) five = absurd stop
+stop-unfed tells Usage (inr stop) five = absurd stop
+stop-unfed tells RefusedStore (inr stop) five = absurd stop
+stop-unfed tells SourceFault (inr stop) five = absurd stop
+stop-unfed tells InputLimit (inr stop) five = absurd stop
+
+-- and it ends where nothing fails but memory.
+pub completes-alone : (tells : Bool) (status : Status) (d e k l : ℕ) → IsTrue tells → (status ≡ Done) ⊎ IsStop tells status →
+    Counts DiskFault d e status → Counts SinkFault k l status → (Rose d e → ⊥) → (Rose k l → ⊥) → (number_of status ≡ 0) ⊎ (number_of status ≡ 7)
+completes-alone tells status d e k l told (inl is) disk sink calm_disk calm_sink = inl (ap (λ s. number_of s) is)
+completes-alone tells DiskFault d e k l told (inr stop) disk sink calm_disk calm_sink = absurd (calm_disk disk)
+completes-alone tells SinkFault d e k l told (inr stop) disk sink calm_disk calm_sink = absurd (calm_sink sink)
+completes-alone tells OutOfMemory d e k l told (inr stop) disk sink calm_disk calm_sink = inr refl
+completes-alone tells RecordChanged d e k l told (inr stop) disk sink calm_disk calm_sink = absurd (stop told)
+completes-alone tells Done d e k l told (inr stop) disk sink calm_disk calm_sink = absurd stop
+completes-alone tells Usage d e k l told (inr stop) disk sink calm_disk calm_sink = absurd stop
+completes-alone tells RefusedStore d e k l told (inr stop) disk sink calm_disk calm_sink = absurd stop
+completes-alone tells SourceFault d e k l told (inr stop) disk sink calm_disk calm_sink = absurd stop
+completes-alone tells InputLimit d e k l told (inr stop) disk sink calm_disk calm_sink = absurd stop
+
+-- Nothing was said of a store that isn't refused, and the run isn't done, where it wasn't opened.
+pub unopened : (content : List ℕ) (streams : List Stream) (before after : Option (List ℕ)) (k l : ℕ) (error : OpenError) → Recovers streams content →
+    OpensAs content (Err error) → AsRefused error before after k l → (after ≡ before) × (number_of (status_of_open error) ≡ 0 → ⊥)
+unopened content streams before after k l opening.Disk is opens said = (said.0, λ zero. absurd (omega (arith, zero)))
+unopened content streams before after k l opening.OutOfMemory is opens said = (said.0, λ zero. absurd (omega (arith, zero)))
+unopened content streams before after k l opening.NotAStore is opens said = let wrong : no_store ≡ recovers streams = sym opens ∙ is in cc
+unopened content streams before after k l (opening.BadEntry n) is opens said = let wrong : damaged_entry n ≡ recovers streams = sym opens ∙ is in cc
+unopened content streams before after k l (opening.BadSlot n) is opens said = let wrong : damaged_slot n ≡ recovers streams = sym opens ∙ is in cc
+unopened content streams before after k l (opening.BadStream id) is opens said = let wrong : damaged_stream id ≡ recovers streams = sym opens ∙ is in cc
+unopened content streams before after k l (opening.Changed slot) is opens said = absurd opens
+
+-- what is said of the streams to which the content recovers
+pub surveyed : (content : List ℕ) (streams : List Stream) (survey : Survey) → SurveysAs content (Ok survey) → Recovers streams content →
+    survey ≡ survey_of streams
+surveyed content streams survey surveys is =
+    let same : recovers surveys.0 ≡ recovers streams = sym surveys.1 ∙ is in
+    let one : surveys.0 ≡ streams = cc in
+    surveys.2 ∙ ap (λ ss. survey_of ss) one

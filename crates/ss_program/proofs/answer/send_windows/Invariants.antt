@@ -1,0 +1,33 @@
+use Rattle.std.proofs.Common.{◌≡◌, take, Some, IfSome}
+use Rattle.std.specs.Bool.{IsTrue}
+use Rattle.std.specs.List.{flat_map}
+use Rattle.std.specs.Option.{option_map}
+use Rattle.ss_line.specs.Line.{StandsIn}
+use Rattle.ss_model.specs.State.{Stream, state, stream_numbered}
+use Rattle.ss_outside.specs.Crash.{OnlyReads}
+use Rattle.ss_report.specs.Text.{reply_line}
+use Rattle.ss_store.specs.Kept.{part_numbered}
+use Rattle.ss_store.specs.Recover.{Stands}
+use Rattle.ss_program.specs.Answer.{IsOpen}
+use Rattle.ss_program.specs.Line.{History, window_rows}
+use Rattle.ss_program.specs.Sent.{appended}
+use Rattle.ss_program.proofs.AnswerLemmas.{rows_done, rows_left}
+use Rattle.ss_program.proofs.answer.send_windows.Given as goal
+
+-- the rows of the windows before the next one were sent, and the disk was only read
+abbrev pub invariant-loop-next : goal.invariant-loop-next
+invariant-loop-next g l = record {
+  is_open : IsOpen (g.D.Disk.tells l.disk) (g.D.Disk.told l.disk) l.store;
+  tells : g.D.Disk.tells l.disk ≡ g.D.Disk.tells l.fn.disk;
+  streams : l.store.streams ≡ l.fn.store.streams;
+  reads : IsTrue (g.D.Disk.tells l.fn.disk) → OnlyReads (g.D.Disk.told l.fn.disk) (g.D.Disk.told l.disk);
+  at : IfSome (part_numbered l.id.0 l.fn.store.streams) (λ part. IfSome l.next (StandsIn part.line.entries));
+  held : IsTrue (g.D.Disk.tells l.fn.disk) → (history : History) → Stands history (g.D.Disk.told l.fn.disk).content →
+      (s : Stream) → stream_numbered l.id.0 (state history) ≡ Some s → IfSome (part_numbered l.id.0 l.fn.store.streams) (λ part.
+      g.K.Sink.held l.sink ≡ appended (g.K.Sink.held l.fn.sink) (flat_map reply_line (take (rows_done part.line.entries l.next) (window_rows s))));
+  disk_faults : g.D.Disk.faults l.disk ≡ g.D.Disk.faults l.fn.disk;
+  sink_faults : g.K.Sink.faults l.sink ≡ g.K.Sink.faults l.fn.sink;
+}
+
+abbrev pub decreases-loop-next : goal.decreases-loop-next
+decreases-loop-next g l = rows_left (option_map (λ part. part.line.entries) (part_numbered l.id.0 l.fn.store.streams)) l.next

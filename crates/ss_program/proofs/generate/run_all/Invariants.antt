@@ -1,0 +1,25 @@
+use Rattle.std.proofs.Common.{◌≡◌, ◌+◌, ◌*◌, ◌≤◌, length}
+use Rattle.std.specs.Bool.{IsTrue}
+use Rattle.ss_outside.specs.Disk.{NothingPending}
+use Rattle.ss_store.specs.Recover.{Stands}
+use Rattle.ss_program.specs.Answer.{IsOpen}
+use Rattle.ss_program.specs.Line.{History}
+use Rattle.ss_program.proofs.GenerateLemmas.{AreSingle, IsAt}
+use Rattle.ss_program.proofs.generate.run_all.Given as goal
+
+-- some first commands were done, and the replies to them are counted
+abbrev pub invariant-loop-command : goal.invariant-loop-command
+invariant-loop-command g l = record {
+  single : AreSingle l.generator;
+  lines : l.tally.lines + length l.generator ≤ 3 * l.fn.count + 7;
+  done : l.tally.done ≤ l.tally.lines;
+  refused : l.tally.refused ≤ l.tally.lines;
+  is_open : IsOpen (g.D.Disk.tells l.disk) (g.D.Disk.told l.disk) l.store;
+  tells : g.D.Disk.tells l.disk ≡ g.D.Disk.tells l.fn.disk;
+  at : IsTrue (g.D.Disk.tells l.fn.disk) → NothingPending (g.D.Disk.told l.fn.disk) → (history : History) → Stands history (g.D.Disk.told l.fn.disk).content →
+      IsAt history l.fn.seed l.fn.count l.generator (g.D.Disk.told l.fn.disk) (g.D.Disk.told l.disk) l.tally;
+  faults : g.D.Disk.faults l.disk ≡ g.D.Disk.faults l.fn.disk;
+}
+
+abbrev pub decreases-loop-command : goal.decreases-loop-command
+decreases-loop-command g l = length l.generator

@@ -1,0 +1,82 @@
+-- A generated command file: its lines, and what is said of a session over them.
+use Rattle.std.specs.Prelude.{◌≡◌, ℕ, ◌-◌, Bool, true, false, List, [], ◌∷◌, ◌++◌, codes, drop, flat_map, length, map, count_by, Option}
+use Rattle.std.specs.Fmt.{decimal}
+use Rattle.ss_command.specs.Printed.{printed}
+use Rattle.ss_generator.specs.Commands.{commands}
+use Rattle.ss_outside.specs.Crash.{LeavesOnly}
+use Rattle.ss_outside.specs.Disk.{Told}
+use Rattle.ss_report.specs.Text.{reply_line}
+use Rattle.ss_report.specs.declared.reply.Reply.{Reply}
+use Rattle.ss_report.specs.declared.reply.Reply.TheVariants.{Done, Answered, Refused, WindowsHead, Window, ListHead, Stream}
+use Rattle.ss_store.specs.Recover.{Stands}
+use Rattle.ss_program.specs.Held.{StandsForFirst}
+use Rattle.ss_program.specs.Line.{History}
+use Rattle.ss_program.specs.Sent.{appended, AppendsFront}
+use Rattle.ss_program.specs.Session.{accepted, replies}
+
+-- the lines of the file
+abbrev pub generated : ℕ → ℕ → List (List ℕ)
+generated seed count = map printed (commands seed count)
+
+-- whether a reply says that an event was accepted, and whether it says that a command was refused
+abbrev pub is_done : Reply → Bool
+is_done (Done ack) = true
+is_done (Answered outcome) = false
+is_done (Refused refusal) = false
+is_done (WindowsHead count) = false
+is_done (Window placed) = false
+is_done (ListHead count) = false
+is_done (Stream row) = false
+
+abbrev pub is_refused : Reply → Bool
+is_refused (Done ack) = false
+is_refused (Answered outcome) = false
+is_refused (Refused refusal) = true
+is_refused (WindowsHead count) = false
+is_refused (Window placed) = false
+is_refused (ListHead count) = false
+is_refused (Stream row) = false
+
+-- a line of a word and a number
+abbrev pub counted_line : List ℕ → ℕ → List ℕ
+counted_line word number = word ++ 32 ∷ decimal number ++ 10 ∷ []
+
+-- the last six of some replies: those to the queries at the end of the file
+abbrev pub last_six : List Reply → List Reply
+last_six all = drop (length all - 6) all
+
+-- the first four lines of the summary
+abbrev pub counts_of : ℕ → ℕ → ℕ → ℕ → ℕ → List ℕ
+counts_of seed count lines done refused =
+    counted_line (codes "gen" ++ 32 ∷ decimal seed) count
+    ++ counted_line (codes "lines") lines
+    ++ counted_line (codes "ok") done
+    ++ counted_line (codes "refused") refused
+
+-- the summary of a file of so many lines, to which these replies came
+abbrev pub summary_of : ℕ → ℕ → ℕ → List Reply → List ℕ
+summary_of seed count lines all =
+    counts_of seed count lines (count_by is_done all) (count_by is_refused all) ++ flat_map reply_line (last_six all)
+
+-- the summary of a session over the file, after a history
+abbrev pub summary : History → ℕ → ℕ → List ℕ
+summary history seed count =
+    summary_of seed count (length (generated seed count)) (replies history (generated seed count))
+
+-- the image stands for the history and some first of the events that are accepted of the file
+abbrev pub StandsForGenerated : History → ℕ → ℕ → List ℕ → Type 0
+StandsForGenerated history seed count image = StandsForFirst history (accepted history (generated seed count)) image
+
+-- the image stands for the history and all of them
+abbrev pub StandsForAll : History → ℕ → ℕ → List ℕ → Type 0
+StandsForAll history seed count image = Stands (history ++ accepted history (generated seed count)) image
+
+-- What a run over the file leaves. The sink's new bytes are a front of the summary, and at status 0 all of it. A crash at any moment
+-- leaves the history and some first of the accepted events, and so does one after the run; at status 0 it leaves all of them.
+pub record Generates (history : History) (seed count : ℕ) (before after : Option (List ℕ)) (old new : Told) (status : ℕ) : Type 0 where
+  pub front : AppendsFront before after (summary history seed count)
+  pub whole : status ≡ 0 → after ≡ appended before (summary history seed count)
+  pub any_moment : LeavesOnly old new (StandsForGenerated history seed count)
+  pub kept : (image : List ℕ) → new.may_leave image → StandsForGenerated history seed count image
+  pub done : status ≡ 0 → StandsForAll history seed count new.content
+  pub all : status ≡ 0 → (image : List ℕ) → new.may_leave image → StandsForAll history seed count image

@@ -1,0 +1,26 @@
+-- Which accepted events the disk holds, by how much of the report was taken.
+use Rattle.std.specs.Prelude.{◌≡◌, ℕ, ◌+◌, ◌-◌, ◌≤◌, ◌++◌, nat_le, cond, List, [], ◌∷◌, take, length}
+use Rattle.ss_catalog.specs.declared.event.Event.{Event}
+use Rattle.ss_store.specs.Recover.{Stands}
+use Rattle.ss_program.specs.Line.{History, brings, line_text, the_event}
+use Rattle.ss_program.specs.Session.{accepted, after_line}
+
+-- the image stands for the history and some first of these events
+abbrev pub StandsForFirst : History → List Event → List ℕ → Type 0
+StandsForFirst history events image = (j : ℕ) × (j ≤ length events) × Stands (history ++ take j events) image
+
+-- how many events are accepted of these lines whose replies are whole within so many bytes of the report
+abbrev pub acks : History → List (List ℕ) → ℕ → ℕ
+acks history [] bytes = 0
+acks history (line ∷ ls) bytes = cond (nat_le (length (line_text history line)) bytes)
+    (length (the_event (brings history line).event) + acks (after_line history line) ls (bytes - length (line_text history line))) 0
+
+-- The image stands for the history and the first accepted events: those whose replies are whole within so many bytes of the
+-- report, and at most one more. At status 0 it holds all of them.
+pub record HoldsAcked (history : History) (ls : List (List ℕ)) (bytes : ℕ) (status : ℕ) (image : List ℕ) : Type 0 where
+  pub j : ℕ
+  pub stands : Stands (history ++ take j (accepted history ls)) image
+  pub few : j ≤ length (accepted history ls)
+  pub acked : acks history ls bytes ≤ j
+  pub at_most : j ≤ acks history ls bytes + 1
+  pub all : status ≡ 0 → j ≡ length (accepted history ls)

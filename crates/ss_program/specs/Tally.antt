@@ -1,0 +1,35 @@
+-- What is counted of a session over a generated file.
+use Rattle.std.specs.Prelude.{◌≡◌, ℕ, List, length, count_by, ⊤}
+use Rattle.ss_command.specs.declared.command.Command.{Command}
+use Rattle.ss_command.specs.declared.command.Command.TheVariants as commands
+use Rattle.ss_outside.specs.Crash.{LeavesOnly}
+use Rattle.ss_outside.specs.Disk.{NothingPending, Told}
+use Rattle.ss_report.specs.declared.reply.Reply.{Reply}
+use Rattle.ss_store.specs.Recover.{Stands}
+use Rattle.ss_program.specs.Generated.{is_done, is_refused, last_six}
+use Rattle.ss_program.specs.Line.{History}
+use Rattle.ss_program.specs.Progress.{StandsWithin}
+use Rattle.ss_program.specs.Session.{after_lines, replies}
+use Rattle.ss_program.specs.declared.generate.Tally.{Tally}
+
+-- a command to which exactly one reply comes
+abbrev pub IsSingle : Command → Type 0
+IsSingle (commands.Do event) = ⊤
+IsSingle (commands.Ask query) = ⊤
+IsSingle (commands.Windows name) = ⊥
+IsSingle commands.List = ⊥
+
+-- the tally is that of so many lines to which these replies came
+pub record Tallies (count : ℕ) (all : List Reply) (tally : Tally) : Type 0 where
+  pub lines : tally.lines ≡ count
+  pub done : tally.done ≡ count_by is_done all
+  pub refused : tally.refused ≡ count_by is_refused all
+  pub last : tally.last.items ≡ last_six all
+
+-- From one moment on to another these lines were answered, and their replies counted: the disk stands for the history after
+-- them, with nothing pending, and a crash left only images of some first lines.
+pub record HasRun (history : History) (ls : List (List ℕ)) (old new : Told) (tally : Tally) : Type 0 where
+  pub tallied : Tallies (length ls) (replies history ls) tally
+  pub stands : Stands (after_lines history ls) new.content
+  pub durable : NothingPending new
+  pub any_moment : LeavesOnly old new (StandsWithin history ls)

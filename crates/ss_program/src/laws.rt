@@ -1,0 +1,30 @@
+// Laws of what lines bring, each the contract of a function that does nothing.
+ghost use Rattle.std.specs.Prelude.{◌≡◌, ◌++◌, ◌∷◌, ℕ, List, Some, None, Ok};
+ghost use Rattle.ss_catalog.specs.declared.query.Query.{Query};
+ghost use Rattle.ss_command.specs.Grammar.{meaning};
+ghost use Rattle.ss_command.specs.declared.command.Command.TheVariants.{Ask};
+ghost use Rattle.ss_model.specs.Answers.{HoldsTruth, refuses_query};
+ghost use Rattle.ss_model.specs.History.{marked_of, values_of};
+ghost use Rattle.ss_model.specs.Refusals.{IsHistory};
+ghost use Rattle.ss_model.specs.State.{state};
+ghost use Rattle.ss_model.specs.declared.outcome.Outcome.{Outcome};
+ghost use Rattle.ss_report.specs.declared.reply.Reply.TheVariants.{Answered};
+ghost use Rattle.ss_program.specs.Line.{History};
+ghost use Rattle.ss_program.specs.Session.{after_lines, replies};
+
+/// After a history the lines of a session leave one: each event that they add can be said, and isn't refused.
+pub fn sessions_leave_a_history()
+    ensures { (history : History) (ls : List (List ℕ)) → IsHistory history → IsHistory (after_lines history ls) }
+{}
+
+/// Each line of a session that asks a query which isn't refused then has one reply, in its place among the others: an answer
+/// that holds the truth over all values that the stream has of the history and of the lines before. So each interval in a
+/// report does.
+pub fn queries_hold_the_truth()
+    ensures { (history : History) (ls before after : List (List ℕ)) (line : List ℕ) (query : Query) → IsHistory history →
+        ls ≡ before ++ line ∷ after → meaning line ≡ Ok (Some (Ask query)) →
+        refuses_query (state (after_lines history before)) query ≡ None →
+        (outcome : Outcome)
+        × (replies history ls ≡ replies history before ++ Answered outcome ∷ replies (after_lines history before) after)
+        × HoldsTruth query (values_of (after_lines history before) query.name) (marked_of (after_lines history before) query.name) outcome }
+{}

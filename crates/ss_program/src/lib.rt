@@ -1,0 +1,18 @@
+//! The program over devices: from the arguments of the command line and the bytes read to the bytes written, the store and the
+//! exit status.
+#![tactic(auto)]
+
+mod answer;
+mod check;
+mod generate;
+mod laws;
+mod refuse;
+mod running;
+mod sending;
+mod session;
+mod status;
+
+pub use laws::{queries_hold_the_truth, sessions_leave_a_history};
+pub use running::{LONGEST_INPUT, run};
+pub use sending::send;
+pub use status::{Status, complaint, exit_code};

@@ -1,6 +1,0 @@
--- What is said where the words of the command line aren't known.
-use Rattle.std.specs.Prelude.{ℕ, List, [], ◌∷◌, ◌++◌, codes}
-
--- what is said where the words aren't known
-abbrev pub usage : List ℕ
-usage = codes "usage: summarystore STORE [run | check | gen SEED COUNT]" ++ 10 ∷ []
