@@ -1,8 +1,12 @@
-//! Tests of the devices in memory and of the journal over them. A crate with tests is proved twice, so those of the two crates
-//! stand here, and call them as a crate above does.
+//! Tests of the devices in memory, of the journal and the records over them, and of what the bytes of a slot say. A crate with
+//! tests is proved twice, so those of four crates stand here, and call them as a crate above does.
 #![tactic(auto)]
 
+#[cfg(test)]
+mod codec;
 #[cfg(test)]
 mod devices;
 #[cfg(test)]
 mod journal;
+#[cfg(test)]
+mod records;

@@ -2,7 +2,9 @@
 ghost use Rattle.std.specs.Prelude.{◌≤◌, IfOk};
 ghost use Rattle.ss_landmarks.specs.Order.{AllEndBy};
 
-use ss_landmarks::{LATEST_TIME, Landmarks, MOST_KEPT, last_times_rise, times_may_follow};
+use ss_landmarks::{
+    LATEST_TIME, Landmarks, MOST_LANDMARK_SLOTS, last_times_rise, times_may_follow,
+};
 use std::alloc::{AllocError, Global};
 
 /// The most values.
@@ -30,7 +32,10 @@ fn take(landmarks: &mut Landmarks, last: u64, change: Change) -> Result<u64, All
 {
     times_may_follow();
     last_times_rise();
-    if landmarks.count() >= MOST_KEPT || landmarks.values() >= MOST_KEPT || last >= LATEST_TIME {
+    if landmarks.count() >= MOST_LANDMARK_SLOTS
+        || landmarks.values() >= MOST_LANDMARK_SLOTS
+        || last >= LATEST_TIME
+    {
         return Ok(last);
     }
     landmarks.reserve()?;

@@ -4,7 +4,7 @@ use Rattle.std.specs.List.{list_any}
 use Rattle.std.specs.Str.{bytes_eq}
 use Rattle.std.specs.Prelude.{codes, String}
 use Rattle.std.specs.Str.Parse.{starts_with_minus}
-use Rattle.ss_arguments.specs.declared.TheConstants.{MOST_COUNT}
+use Rattle.ss_generator.specs.declared.TheConstants.{MOST_COUNT}
 use Rattle.ss_arguments.specs.declared.mode.Mode.{Mode}
 use Rattle.ss_arguments.specs.declared.mode.Mode.TheVariants.{Run, Check, Gen}
 use Rattle.ss_arguments.specs.Modes.{asked, count_of, gen_of, mode_of, named, seed_of, words_of}

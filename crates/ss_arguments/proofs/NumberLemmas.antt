@@ -4,7 +4,7 @@ use Rattle.std.specs.Prelude.{nat_le, if◌then◌else◌}
 use Rattle.std.proofs.lemmas.Bool.Decides.{nat_tests}
 use Rattle.std.specs.Str.Parse.{starts_with_minus}
 use Rattle.ss_fields.specs.Words.{is_number, number_up_to}
-use Rattle.ss_arguments.specs.declared.TheConstants.{MOST_COUNT}
+use Rattle.ss_generator.specs.declared.TheConstants.{MOST_COUNT}
 use Rattle.ss_arguments.specs.Modes.{count_of, number_between, seed_of}
 
 -- a number that was read, where it is in a range

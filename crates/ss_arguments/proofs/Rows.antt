@@ -2,16 +2,13 @@
 use Rattle.std.proofs.Common.{◌≡◌, ℕ, ◌-◌, ◌^◌, List, [], ◌∷◌, ◌++◌, Option, Some, None, refl}
 use Rattle.std.specs.Prelude.{codes, replicate}
 use Rattle.ss_fields.specs.Words.{is_number, number_of, number_up_to}
-use Rattle.ss_arguments.specs.declared.TheConstants.{LONGEST_NUMBER, MOST_COUNT}
+use Rattle.ss_arguments.specs.declared.TheConstants.{MOST_DIGITS}
 use Rattle.ss_arguments.specs.declared.mode.Mode.{Mode}
 use Rattle.ss_arguments.specs.declared.mode.Mode.TheVariants.{Run, Check, Gen}
 use Rattle.ss_arguments.specs.Modes.{mode_of, number_between}
 
-longest_number : LONGEST_NUMBER ≡ 20
-longest_number = refl
-
-most_count : MOST_COUNT ≡ 100000
-most_count = refl
+most_digits : MOST_DIGITS ≡ 20
+most_digits = refl
 
 -- the mode of `p s`, with these words after it
 abbrev mode_after : List (List ℕ) → Option Mode

@@ -3,7 +3,8 @@ use Rattle.std.specs.Prelude.{ℕ, ◌-◌, ◌^◌, nat_le, if◌then◌else◌
 use Rattle.std.specs.Str.{bytes_eq}
 use Rattle.ss_fields.specs.Words.{number_up_to}
 use Rattle.ss_fields.specs.declared.number_error.NumberError.{NumberError}
-use Rattle.ss_arguments.specs.declared.TheConstants.{LONGEST_NUMBER, MOST_COUNT}
+use Rattle.ss_generator.specs.declared.TheConstants.{MOST_COUNT}
+use Rattle.ss_arguments.specs.declared.TheConstants.{MOST_DIGITS}
 use Rattle.ss_arguments.specs.declared.mode.Mode.{Mode}
 use Rattle.ss_arguments.specs.declared.mode.Mode.TheVariants.{Run, Check, Gen}
 
@@ -16,10 +17,10 @@ abbrev pub from_least : ℕ → Result ℕ NumberError → Option ℕ
 from_least least (Ok n) = if nat_le least n then Some n else None
 from_least least (Err e) = None
 
--- the number from `least` to `most` that a word spells with 1 to LONGEST_NUMBER digits
+-- the number from `least` to `most` that a word spells with 1 to MOST_DIGITS digits
 unfoldable pub number_between : ℕ → ℕ → List ℕ → Option ℕ
 number_between least most word =
-    if nat_le (length word) LONGEST_NUMBER then from_least least (number_up_to most word) else None
+    if nat_le (length word) MOST_DIGITS then from_least least (number_up_to most word) else None
 
 -- a seed: 0 to 2^64 - 1
 abbrev pub seed_of : List ℕ → Option ℕ

@@ -4,7 +4,8 @@ ghost use Rattle.std.specs.List.{list_any};
 ghost use Rattle.std.specs.Str.Parse.{starts_with_minus};
 ghost use Rattle.ss_arguments.specs.Modes.{mode_of};
 
-use crate::{MOST_COUNT, Mode};
+use crate::Mode;
+use ss_generator::MOST_COUNT;
 
 /// Where the arguments ask for a generated command file, the seed fits 64 bits, and the count is from 1 to `MOST_COUNT`.
 pub fn numbers_of_gen_are_in_range()

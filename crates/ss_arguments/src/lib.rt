@@ -10,10 +10,4 @@ pub use mode::Mode;
 pub use reading::mode_of;
 
 /// A number among the arguments has at most this many digits.
-pub const LONGEST_NUMBER: usize = 20;
-
-/// A generated command file has at least one round and at most so many.
-pub const MOST_COUNT: u32 = 100_000;
-
-#[cfg(test)]
-mod tests;
+pub const MOST_DIGITS: usize = 20;

@@ -6,10 +6,11 @@ ghost use Rattle.clap.specs.Words.{app_of};
 ghost use Rattle.ss_arguments.specs.Modes.{asked, count_of, gen_of, mode_of, named, seed_of, words_of};
 ghost use Rattle.ss_arguments.specs.Places.{by_place, three_words};
 
-use crate::{LONGEST_NUMBER, MOST_COUNT, Mode};
+use crate::{MOST_DIGITS, Mode};
 use clap::error::ErrorKind;
 use clap::{Arg, Command};
 use ss_fields::read_u64;
+use ss_generator::MOST_COUNT;
 use std::alloc::{AllocError, Global};
 
 // Reads a seed.
@@ -17,7 +18,7 @@ use std::alloc::{AllocError, Global};
 fn read_seed(word: &str) -> Option<u64>
     ensures { result ≡ seed_of word.now }
 {
-    if word.len() > LONGEST_NUMBER {
+    if word.len() > MOST_DIGITS {
         return None;
     }
     read_u64(word.as_bytes()).ok()

@@ -5,7 +5,8 @@ use Rattle.std.proofs.Common.{ap, arith, refl, sym, ◌∙◌, subst, zero-add}
 use Rattle.std.proofs.lemmas.List.Sums.{sum_by-cons}
 use Rattle.ss_bounds.specs.Split.{SplitFigures, least_count, greatest_count}
 use Rattle.ss_bounds.specs.Times.{lies_in}
-use Rattle.ss_bounds.specs.Truth.{asked, values_alone, last_time, RiseFree, AreSplit}
+use Rattle.ss_summary.specs.Summaries.{last_time}
+use Rattle.ss_bounds.specs.Truth.{asked, values_alone, RiseFree, AreSplit}
 
 -- 1 for what is true
 abbrev pub one_if : Bool → ℕ

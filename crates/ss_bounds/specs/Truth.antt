@@ -1,6 +1,7 @@
 -- What is true of the values of split windows, which a store no longer has one by one. Values are a list of (time, value).
 use Rattle.std.specs.Prelude.{◌≡◌, ℕ, ◌+◌, ◌≤◌, Bool, true, ℤ, pos, ◌+ℤ◌, ◌≤ℤ◌, List, [], ◌∷◌, length, map, Option, MatchOption}
 use Rattle.std.specs.List.{filter, flat_map}
+use Rattle.ss_summary.specs.Summaries.{last_time}
 use Rattle.ss_bounds.specs.declared.extreme.Extreme.{Extreme}
 use Rattle.ss_bounds.specs.declared.extreme.Extreme.TheVariants.{Nothing, Sure, Maybe}
 use Rattle.ss_bounds.specs.Split.{SplitFigures, least_count, greatest_count}
@@ -17,11 +18,6 @@ values_alone values = map (λ p. p.1) values
 
 abbrev pub asked : ℕ → ℕ → List (ℕ × ℤ) → List ℤ
 asked from to values = values_alone (filter (λ p. lies_in from to p.0) values)
-
--- the time of the last value, after one at time t
-abbrev pub last_time : ℕ → List (ℕ × ℤ) → ℕ
-last_time t [] = t
-last_time t (p ∷ ps) = last_time p.0 ps
 
 -- values from m to M at rising times, free ones, the first at `start` or later
 abbrev pub RiseFree : (ℕ → Bool) → ℤ → ℤ → ℕ → List (ℕ × ℤ) → Type 0

@@ -64,8 +64,8 @@ fn max_of(values: Option<Values>) -> Option<i64>
     Some(values?.1)
 }
 
-// The lesser of two, or the one that is there.
-fn lesser(a: Option<i64>, b: Option<i64>) -> Option<i64>
+/// The lesser of two, or the one that is there.
+pub fn lesser(a: Option<i64>, b: Option<i64>) -> Option<i64>
     ensures { result ≡ lesser a b }
 {
     match (a, b) {
@@ -75,8 +75,8 @@ fn lesser(a: Option<i64>, b: Option<i64>) -> Option<i64>
     }
 }
 
-// The greater of two, or the one that is there.
-fn greater(a: Option<i64>, b: Option<i64>) -> Option<i64>
+/// The greater of two, or the one that is there.
+pub fn greater(a: Option<i64>, b: Option<i64>) -> Option<i64>
     ensures { result ≡ greater a b }
 {
     match (a, b) {

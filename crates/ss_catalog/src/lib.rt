@@ -8,8 +8,6 @@ mod params;
 mod query;
 mod refusal;
 mod stream_id;
-#[cfg(test)]
-mod tests;
 
 pub use catalog::{Catalog, CatalogError};
 pub use event::Event;

@@ -7,6 +7,7 @@ use Rattle.ss_catalog.specs.Params.{in_range}
 use Rattle.ss_catalog.specs.declared.TheConstants.{LAST_TIME}
 use Rattle.ss_catalog.specs.declared.params.Params.{Params}
 use Rattle.ss_catalog.specs.declared.params.Params.TheVariants.{Exp, Power}
+use Rattle.ss_codec.specs.declared.record.TheConstants.{SLOT_SIZE}
 use Rattle.ss_codec.specs.declared.record.Record.{Record}
 use Rattle.ss_codec.specs.declared.record.Record.TheVariants.{Free, Stream, Window, Landmark, Value}
 use Rattle.ss_codec.specs.Fields.{Field, u8, u32, u64, i64, i128, text, with_fields}
@@ -94,7 +95,7 @@ fields (Value id number index t v) =
 
 -- the bytes of a record: its fields, and zeros wherever no field is
 unfoldable pub spelling : Record → List ℕ
-spelling r = with_fields (replicate 128 0) (fields r)
+spelling r = with_fields (replicate SLOT_SIZE 0) (fields r)
 
 -- the bytes are those of a valid record
 pub record Spells (bytes : List ℕ) (r : Record) : Type 0 where

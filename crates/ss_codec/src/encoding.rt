@@ -32,7 +32,7 @@ fn parameters(params: &Params) -> (u32, u32, u32, u32)
 
 // Writes the fields of a stream.
 fn write_stream(bytes: &mut [u8], id: u32, name: &Name, params: &Params)
-    requires long { 128 ≤ length bytes.old }
+    requires long { SLOT_SIZE ≤ length bytes.old }
     requires short_name { length name.now ≤ LONGEST_NAME }
     ensures { bytes.new ≡ with_fields bytes.old (fields (Record.Stream id name.now params.now)) }
 {
@@ -51,7 +51,7 @@ fn write_stream(bytes: &mut [u8], id: u32, name: &Name, params: &Params)
 
 // Writes the fields of a window.
 fn write_window(bytes: &mut [u8], id: u32, first: u64, summary: Summary)
-    requires { 128 ≤ length bytes.old }
+    requires { SLOT_SIZE ≤ length bytes.old }
     ensures { bytes.new ≡ with_fields bytes.old (fields (Record.Window id first summary)) }
 {
     write_u8(bytes, 0, WINDOW);
@@ -94,7 +94,7 @@ fn write_landmark(
     start: u64,
     finish: Option<u64>,
 )
-    requires { 128 ≤ length bytes.old }
+    requires { SLOT_SIZE ≤ length bytes.old }
     ensures { bytes.new ≡ with_fields bytes.old (fields (Record.Landmark id number values start finish)) }
 {
     write_u8(bytes, 0, LANDMARK);
@@ -108,7 +108,7 @@ fn write_landmark(
 
 // Writes the fields of a landmark's value.
 fn write_value(bytes: &mut [u8], id: u32, number: u32, index: u32, t: u64, v: i64)
-    requires { 128 ≤ length bytes.old }
+    requires { SLOT_SIZE ≤ length bytes.old }
     ensures { bytes.new ≡ with_fields bytes.old (fields (Record.Value id number index t v)) }
 {
     write_u8(bytes, 0, VALUE);

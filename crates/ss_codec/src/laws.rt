@@ -7,6 +7,7 @@ ghost use Rattle.ss_catalog.specs.Names.{is_name};
 ghost use Rattle.ss_catalog.specs.Params.{in_range};
 ghost use Rattle.ss_catalog.specs.declared.TheConstants.{LAST_TIME};
 ghost use Rattle.ss_catalog.specs.declared.params.Params.{Params};
+ghost use Rattle.ss_codec.specs.declared.record.TheConstants.{SLOT_SIZE};
 ghost use Rattle.ss_codec.specs.declared.record.Record.{Record};
 ghost use Rattle.ss_codec.specs.declared.record.Record.TheVariants.{Free, Stream, Window, Landmark, Value};
 ghost use Rattle.ss_codec.specs.Record.{is_valid, spelling, Spells};
@@ -29,7 +30,7 @@ pub fn one_spelling()
 
 /// A slot is free exactly where it is zeros.
 pub fn free_slots_are_zeros()
-    ensures { (bytes : List ℕ) → (decoded bytes ≡ Some Free) ↔ (bytes ≡ replicate 128 0) }
+    ensures { (bytes : List ℕ) → (decoded bytes ≡ Some Free) ↔ (bytes ≡ replicate SLOT_SIZE 0) }
 {}
 
 /// What a valid stream is.

@@ -6,8 +6,6 @@ mod encoding;
 mod fields;
 mod laws;
 mod record;
-#[cfg(test)]
-mod tests;
 
 pub use decoding::decode;
 pub use encoding::encode;

@@ -10,7 +10,7 @@ use Rattle.ss_command.specs.declared.TheConstants.{LINE_END, CARRIAGE_RETURN}
 use Rattle.ss_command.specs.Lines.{all_but_last, ended_lines, is_line_end, last_of, lines, unended, unless_empty, without_return}
 use Rattle.ss_command.proofs.LineLemmas.{SomeParts, some_parts}
 
--- lists, all but the last with a line end behind them
+-- lists, all but the last with a line end after them
 abbrev written : List (List ℕ) → List ℕ
 written parts = flat_map (λ line. line ++ LINE_END ∷ []) (all_but_last parts) ++ last_of parts
 
@@ -23,7 +23,7 @@ onto_first-written x [] = refl
 onto_first-written x (part ∷ []) = refl
 onto_first-written x (part ∷ p ∷ ps) = refl
 
--- the lines with their line ends, and what stands behind, are the input
+-- the lines with their line ends, and what stands after, are the input
 pub ended_lines-written : (xs : List ℕ) → flat_map (λ line. line ++ LINE_END ∷ []) (ended_lines xs) ++ unended xs ≡ xs
 unfolding ended_lines unended
 ended_lines-written [] = refl

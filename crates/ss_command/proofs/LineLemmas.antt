@@ -45,7 +45,7 @@ onto_first-joined x (part ∷ []) [] some = refl
 onto_first-joined x (part ∷ []) (m ∷ ms) some = refl
 onto_first-joined x (part ∷ p ∷ ps) more some = refl
 
--- what stands behind goes on with the last part
+-- what stands after goes on with the last part
 slice_split-append : (xs ys : List ℕ) → slice_split is_line_end (xs ++ ys) ≡ joined (slice_split is_line_end xs) (slice_split is_line_end ys)
 slice_split-append [] ys = let some = some_parts ys in rw some.2 refl
 slice_split-append (x ∷ xs) ys =
@@ -78,7 +78,7 @@ unfolding ended_lines unended
 slice_split-no_end xs ys none =
     slice_split-append xs ys ∙ ap (joined (slice_split is_line_end xs)) (slice_split_none is_line_end ys (no_line_end ys none))
 
--- a line end behind them ends that part, and begins one more
+-- a line end after them ends that part, and begins one more
 slice_split-line_end : (xs ys : List ℕ) → position_or_len is_line_end ys ≡ length ys → slice_split is_line_end (xs ++ ys ++ LINE_END ∷ []) ≡ ended_lines xs ++ (unended xs ++ ys) ∷ [] ∷ []
 unfolding ended_lines unended
 slice_split-line_end xs ys none =
@@ -95,7 +95,7 @@ unfolding unended
 unended-no_end xs ys none =
     ap last_of (slice_split-no_end xs ys none) ∙ last_of-append (ended_lines xs) (unended xs ++ ys) []
 
--- a line end behind such bytes ends one line
+-- a line end after such bytes ends one line
 pub ended_lines-line_end : (xs ys : List ℕ) → position_or_len is_line_end ys ≡ length ys → ended_lines (xs ++ ys ++ LINE_END ∷ []) ≡ ended_lines xs ++ (unended xs ++ ys) ∷ []
 unfolding ended_lines
 ended_lines-line_end xs ys none =
@@ -166,7 +166,7 @@ onto_first-length x [] n short = omega arith
 onto_first-length x (part ∷ []) n short = omega arith
 onto_first-length x (part ∷ p ∷ ps) n short = omega arith
 
--- the number of ended lines, and the bytes behind them
+-- the number of ended lines, and the bytes after them
 pub length-ended_lines : (xs : List ℕ) → length (ended_lines xs) + length (unended xs) ≤ length xs
 unfolding ended_lines unended
 length-ended_lines [] = omega arith
@@ -176,7 +176,7 @@ length-ended_lines (x ∷ xs) =
     (λ no. rw (slice_split-cons_no is_line_end x xs no) (onto_first-length x (slice_split is_line_end xs) (length xs) (length-ended_lines xs)))
     (cases_Bool (is_line_end x))
 
--- more input ends more lines only behind those that have ended
+-- more input ends more lines only after those that have ended
 pub ended_lines-append : (xs ys : List ℕ) → (more : List (List ℕ)) × (ended_lines (xs ++ ys) ≡ ended_lines xs ++ more)
 unfolding ended_lines unended
 ended_lines-append xs ys =

@@ -42,7 +42,7 @@ abbrev AreWords : List (List ℕ) → Type 0
 AreWords [] = Unit {0}
 AreWords (word ∷ rest) = IsWord word × AreWords rest
 
--- what is put behind a space is one word more
+-- what is put after a space is one word more
 words-with_word : (text word : List ℕ) → IsWord word → words (with_word text word) ≡ words text ++ word ∷ []
 words-with_word text word is = words-blank text word 32 refl ∙ ap (λ ws. words text ++ ws) (words-one word is.some is.plain)
 

@@ -14,7 +14,7 @@ use Rattle.ss_command.specs.Lines.{ended_lines, lines, unended}
 use Rattle.ss_command.specs.Printed.{printed}
 use Rattle.ss_command.specs.Words.{words}
 use Rattle.ss_command.specs.declared.TheConstants.{LINE_END, CARRIAGE_RETURN, LONGEST_LINE, COMMENT}
-use Rattle.ss_command.specs.declared.line_reader.TheConstants.{MOST_KEPT}
+use Rattle.ss_command.specs.declared.line_reader.TheConstants.{MOST_BYTES_KEPT}
 use Rattle.ss_command.specs.declared.command.Command.{Command}
 use Rattle.ss_command.specs.declared.command.Command.TheVariants as commands
 
@@ -27,8 +27,8 @@ carriage_return = refl
 longest_line : LONGEST_LINE ≡ 256
 longest_line = refl
 
-most_kept : MOST_KEPT ≡ 257
-most_kept = refl
+most_bytes_kept : MOST_BYTES_KEPT ≡ 257
+most_bytes_kept = refl
 
 comment : COMMENT ≡ 35
 comment = refl
@@ -118,7 +118,7 @@ means-landmarks_refused :
 unfolding meaning words is_number number_of number_up_to signed_of is_name
 means-landmarks_refused = refl
 
--- `list` with blanks behind it, up to the longest line and one past it
+-- `list` with blanks after it, up to the longest line and one past it
 means-256_bytes : meaning (codes "list" ++ replicate 252 32) ≡ Ok (Some commands.List)
 unfolding meaning words
 means-256_bytes = refl

@@ -26,7 +26,7 @@ onto_first-append : (x : ℕ) (parts more : List (List ℕ)) → HasParts parts 
 onto_first-append x [] more some = cc (some.2)
 onto_first-append x (part ∷ parts) more some = refl
 
--- a blank cuts what stands before it from what stands behind it
+-- a blank cuts what stands before it from what stands after it
 slice_split-blank : (xs : List ℕ) (b : ℕ) (ys : List ℕ) → is_blank b ≡ true → slice_split is_blank (xs ++ b ∷ ys) ≡ slice_split is_blank xs ++ slice_split is_blank ys
 slice_split-blank [] b ys blank = slice_split-cons_yes is_blank b ys blank
 slice_split-blank (x ∷ xs) b ys blank =

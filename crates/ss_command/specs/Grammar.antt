@@ -128,12 +128,12 @@ windows_of (name ∷ []) = do
   Ok (commands.Windows stream)
 windows_of _ = Err refusals.Syntax
 
--- `list`, with nothing behind it
+-- `list`, with nothing after it
 abbrev pub list_of : List (List ℕ) → Result Command Refusal
 list_of [] = Ok commands.List
 list_of _ = Err refusals.Syntax
 
--- the forms of a command: its first word says which one the words behind it are to have
+-- the forms of a command: its first word says which one the words after it are to have
 abbrev pub command_of : List ℕ → List (List ℕ) → Result Command Refusal
 command_of verb rest =
     if is_word verb (codes "create") then create_of rest

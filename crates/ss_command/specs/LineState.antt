@@ -3,7 +3,7 @@ use Rattle.std.specs.Prelude.{◌≡◌, ℕ, List, [], ◌∷◌, ◌++◌, len
 use Rattle.ss_command.specs.Lines.{unended, without_return}
 use Rattle.ss_command.specs.declared.TheConstants.{LONGEST_LINE}
 use Rattle.ss_command.specs.declared.line_reader.Ended.{Ended}
-use Rattle.ss_command.specs.declared.line_reader.TheConstants.{MOST_KEPT}
+use Rattle.ss_command.specs.declared.line_reader.TheConstants.{MOST_BYTES_KEPT}
 
 -- a line as it is kept: its bytes, or nothing of a line that has too many
 abbrev pub Kept : Type 0
@@ -11,7 +11,7 @@ Kept = Option (List ℕ)
 
 -- a line under way: its bytes, with room for a carriage return
 abbrev pub kept : List ℕ → Kept
-kept bytes = if nat_le (length bytes) MOST_KEPT then Some bytes else None
+kept bytes = if nat_le (length bytes) MOST_BYTES_KEPT then Some bytes else None
 
 -- a line under way with more bytes at its end
 abbrev pub extended : Kept → List ℕ → Kept
@@ -36,7 +36,7 @@ pub record LineState : Type 0 where
 abbrev pub under_way : LineState → Kept
 under_way s = if s.ended then Some [] else s.line
 
--- a reader that has taken this input: it keeps what stands behind the last line end
+-- a reader that has taken this input: it keeps what stands after the last line end
 abbrev pub HasTaken : List ℕ → LineState → Type 0
 HasTaken input s = under_way s ≡ kept (unended input)
 

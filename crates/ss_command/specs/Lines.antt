@@ -28,7 +28,7 @@ unless_empty (b ∷ bs) = (b ∷ bs) ∷ []
 unfoldable pub ended_lines : List ℕ → List (List ℕ)
 ended_lines input = all_but_last (slice_split is_line_end input)
 
--- what stands behind the last line end
+-- what stands after the last line end
 unfoldable pub unended : List ℕ → List ℕ
 unended input = last_of (slice_split is_line_end input)
 

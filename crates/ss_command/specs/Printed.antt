@@ -12,7 +12,7 @@ use Rattle.ss_catalog.specs.declared.params.Params.TheVariants.{Exp, Power}
 use Rattle.ss_command.specs.declared.command.Command.{Command}
 use Rattle.ss_command.specs.declared.command.Command.TheVariants as commands
 
--- a text with one more word, behind one space
+-- a text with one more word, after one space
 abbrev pub with_word : List ℕ → List ℕ → List ℕ
 with_word text word = text ++ 32 ∷ word
 

@@ -163,7 +163,7 @@ fn windows(mut words: Words) -> Result<Command, Refusal>
     Ok(Command::Windows(name))
 }
 
-// Reads `list`, with nothing behind it.
+// Reads `list`, with nothing after it.
 fn list(words: Words) -> Result<Command, Refusal>
     ensures { result ≡ list_of words.entry }
 {
@@ -171,7 +171,7 @@ fn list(words: Words) -> Result<Command, Refusal>
     Ok(Command::List)
 }
 
-// Reads a command from its first word and those behind it.
+// Reads a command from its first word and those after it.
 fn command(verb: &[u8], words: Words) -> Result<Command, Refusal>
     ensures meaning { result ≡ command_of verb.now words.entry }
     ensures time { IfOk result IsCommandInTime }

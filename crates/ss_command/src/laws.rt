@@ -10,7 +10,7 @@ ghost use Rattle.ss_command.specs.Words.{is_blank, words};
 
 use crate::{LINE_END, LONGEST_LINE};
 
-/// The lines that a line end ends, each with it, and what stands behind the last one are the input.
+/// The lines that a line end ends, each with it, and what stands after the last one are the input.
 pub fn lines_give_the_input_back()
     ensures { (input : List ℕ) → flat_map (λ line. line ++ LINE_END ∷ []) (ended_lines input) ++ unended input ≡ input }
 {}

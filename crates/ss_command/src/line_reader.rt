@@ -7,7 +7,7 @@ use arrayvec::ArrayVec;
 use std::marker::Model;
 
 /// Of a line that is under way so many bytes are kept: one more than a line may have, for a carriage return at its end.
-pub const MOST_KEPT: usize = LONGEST_LINE + 1;
+pub const MOST_BYTES_KEPT: usize = LONGEST_LINE + 1;
 
 /// How a line ended: with its bytes kept, or with more bytes than a line may have, none of which are kept.
 #[derive(Clone, Copy, Debug, PartialEq, Eq)]
@@ -20,7 +20,7 @@ pub enum Ended {
 /// end before it counts its bytes.
 #[derive(Drop)]
 pub struct LineReader {
-    line: ArrayVec<u8, MOST_KEPT>,
+    line: ArrayVec<u8, MOST_BYTES_KEPT>,
     long: bool,
     ended: bool,
 }
@@ -42,7 +42,7 @@ fn first_line_end(piece: &[u8]) -> Option<usize>
 }
 
 // Drops one carriage return at the end of a line.
-fn drop_return(line: &mut ArrayVec<u8, MOST_KEPT>)
+fn drop_return(line: &mut ArrayVec<u8, MOST_BYTES_KEPT>)
     ensures { line.new.items ≡ without_return line.old.items }
 {
     if line.as_slice().last() == Some(&CARRIAGE_RETURN) {

@@ -1,4 +1,4 @@
-// Words put behind a text.
+// Words put after a text.
 ghost use Rattle.std.specs.Prelude.{◌≡◌, ◌≤◌, ◌+◌, length, true};
 ghost use Rattle.std.specs.Fmt.{decimal, signed_decimal};
 ghost use Rattle.ss_catalog.specs.Names.{is_name};

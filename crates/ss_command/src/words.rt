@@ -37,7 +37,7 @@ fn without_blanks(line: &[u8]) -> &[u8]
     }
 }
 
-// The word that a line begins with, and what stands behind it.
+// The word that a line begins with, and what stands after it.
 fn cut_word(line: &[u8]) -> (&[u8], &[u8])
     requires some { 0 < length line.now }
     requires front { is_blank (slice_index line.now 0) ≡ false }

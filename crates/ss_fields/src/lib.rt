@@ -14,5 +14,5 @@ pub use laws::{
     written_i128_reads_back, written_number_reads_back,
 };
 pub use number_error::NumberError;
-pub use print::{LONGEST_NUMBER, print_i64, print_i128, print_u64};
+pub use print::{LONGEST_PRINTED_NUMBER, print_i64, print_i128, print_u64};
 pub use read::{read_i64, read_u64};

@@ -25,7 +25,7 @@ opening i t = if i % LANDMARK_ROUNDS == OPENING_ROUND then command.Do (Open stre
 abbrev pub closing : ℕ → ℕ → List Command
 closing i t = if i % LANDMARK_ROUNDS == CLOSING_ROUND then command.Do (Close stream t) ∷ [] else []
 
--- the commands of round i: `append g T V`, with a landmark opened ahead of it or closed behind it
+-- the commands of round i: `append g T V`, with a landmark opened before it or closed after it
 abbrev pub of_round : ℕ → ℕ → ℤ → List Command
 of_round i t v = opening i t ++ command.Do (Value stream t v) ∷ closing i t
 

@@ -11,17 +11,17 @@ use Rattle.ss_generator.specs.declared.phase.Question.{Question}
 use Rattle.ss_generator.specs.declared.phase.Question.TheVariants as questions
 use Rattle.ss_generator.specs.declared.round.Round.{Round}
 
--- what comes behind round i, which has the number x and the time t, where n more rounds come
-abbrev pub behind : ℕ → ℕ → ℕ → ℕ → List Command
-behind i x t zero = queries t
-behind i x t (suc n) =
+-- what comes after round i, which has the number x and the time t, where n more rounds come
+abbrev pub after : ℕ → ℕ → ℕ → ℕ → List Command
+after i x t zero = queries t
+after i x t (suc n) =
     let y = number_after x in
     let u = t + delay y in
-    of_round (suc i) u (value_of y) ++ behind (suc i) y u n
+    of_round (suc i) u (value_of y) ++ after (suc i) y u n
 
--- what comes behind a round
-abbrev pub behind_round : Round → List Command
-behind_round round = behind round.place round.number round.time round.left
+-- what comes after a round
+abbrev pub after_round : Round → List Command
+after_round round = after round.place round.number round.time round.left
 
 -- a query and those after it
 abbrev pub from_question : Question → ℕ → List Command
@@ -34,13 +34,13 @@ from_question questions.Max t = drop 5 (queries t)
 
 -- what comes from the value of a round on
 abbrev pub from_value : Round → List Command
-from_value round = commands.Do (Value stream round.time (value_of round.number)) ∷ closing round.place round.time ++ behind_round round
+from_value round = commands.Do (Value stream round.time (value_of round.number)) ∷ closing round.place round.time ++ after_round round
 
 -- what comes from a phase of a round on
 abbrev pub left : Round → Phase → List Command
-left round phases.Create = create ∷ behind_round round
+left round phases.Create = create ∷ after_round round
 left round phases.Open = commands.Do (Open stream round.time) ∷ from_value round
 left round phases.Append = from_value round
-left round phases.Close = commands.Do (Close stream round.time) ∷ behind_round round
+left round phases.Close = commands.Do (Close stream round.time) ∷ after_round round
 left round (phases.Ask question) = from_question question round.time
 left round phases.Done = []

@@ -2,7 +2,7 @@
 use Rattle.std.specs.Prelude.{ℕ, zero, suc, ◌+◌, ◌*◌, ◌/◌, ◌%◌, ◌^◌, ℤ, pos, ◌-ℤ◌}
 use Rattle.ss_generator.specs.declared.TheConstants.{DIFFERENT_VALUES, GREATEST_VALUE, INCREMENT, MULTIPLIER}
 
--- the number behind this one
+-- the number after this one
 unfoldable pub number_after : ℕ → ℕ
 number_after x = (x * MULTIPLIER + INCREMENT) % 2 ^ 64
 

@@ -6,8 +6,6 @@ mod generator;
 mod numbers;
 mod phase;
 mod round;
-#[cfg(test)]
-mod tests;
 
 pub use generator::Generator;
 
@@ -29,8 +27,8 @@ pub const DIFFERENT_VALUES: u64 = 2001;
 /// Once in so many rounds a landmark is opened, and closed again.
 pub const LANDMARK_ROUNDS: u32 = 1000;
 
-/// A round opens a landmark ahead of its value where its place modulo `LANDMARK_ROUNDS` is this.
+/// A round opens a landmark before its value where its place modulo `LANDMARK_ROUNDS` is this.
 pub const OPENING_ROUND: u32 = 500;
 
-/// A round closes the landmark behind its value where its place modulo `LANDMARK_ROUNDS` is this.
+/// A round closes the landmark after its value where its place modulo `LANDMARK_ROUNDS` is this.
 pub const CLOSING_ROUND: u32 = 509;

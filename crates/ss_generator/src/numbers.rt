@@ -4,7 +4,7 @@ ghost use Rattle.ss_generator.specs.Numbers.{delay, number_after, value_of};
 
 use crate::{DIFFERENT_VALUES, GREATEST_VALUE, INCREMENT, MULTIPLIER};
 
-/// The number behind this one.
+/// The number after this one.
 pub fn number_after(number: u64) -> u64
     ensures { result ≡ number_after number }
 {

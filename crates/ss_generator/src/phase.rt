@@ -5,11 +5,11 @@
 pub enum Phase {
     /// The stream is created.
     Create,
-    /// A landmark is opened, ahead of the value of the round.
+    /// A landmark is opened, before the value of the round.
     Open,
     /// The value of the round is appended.
     Append,
-    /// A landmark is closed, behind the value of the round.
+    /// A landmark is closed, after the value of the round.
     Close,
     /// A query comes, after all rounds.
     Ask(Question),
@@ -33,7 +33,7 @@ impl Question {
     ghost use Rattle.ss_generator.specs.Left.{from_question, left};
     ghost use Rattle.ss_generator.specs.declared.round.Round.{Round};
 
-    /// The phase behind this query.
+    /// The phase after this query.
     pub fn after(self) -> Phase
         ensures { (round : Round) → left round result ≡ drop 1 (from_question self round.time) }
     {

@@ -24,17 +24,17 @@ impl Round {
     ghost use Rattle.std.specs.Prelude.{◌≡◌, ◌%◌, ◌==◌, ◌<◌, [], ◌∷◌, ◌++◌, drop, IfSome, MatchOption};
     ghost use Rattle.ss_command.specs.Printed.{IsCommandInTime, IsSayable};
     ghost use Rattle.ss_generator.specs.Commands.{closing, of_round};
-    ghost use Rattle.ss_generator.specs.Left.{behind_round, from_question, from_value, left};
+    ghost use Rattle.ss_generator.specs.Left.{after_round, from_question, from_value, left};
     ghost use Rattle.ss_generator.specs.Numbers.{delay, number_after, value_of};
 
-    // Whether a landmark is opened ahead of the value.
+    // Whether a landmark is opened before the value.
     fn opens(&self) -> bool
         ensures { result ≡ (self.now.place % LANDMARK_ROUNDS == OPENING_ROUND) }
     {
         self.place % LANDMARK_ROUNDS == OPENING_ROUND
     }
 
-    // Whether a landmark is closed behind the value.
+    // Whether a landmark is closed after the value.
     fn closes(&self) -> bool
         ensures { result ≡ (self.now.place % LANDMARK_ROUNDS == CLOSING_ROUND) }
     {
@@ -60,7 +60,7 @@ impl Round {
 
     // The phase with which a round begins.
     fn begin(&self) -> Phase
-        ensures { left self.now result ≡ of_round self.now.place self.now.time (value_of self.now.number) ++ behind_round self.now }
+        ensures { left self.now result ≡ of_round self.now.place self.now.time (value_of self.now.number) ++ after_round self.now }
     {
         if self.opens() {
             Phase::Open
@@ -71,7 +71,7 @@ impl Round {
 
     // Goes on to the next round, or to the queries where there is none.
     fn go_on(&mut self) -> Phase
-        ensures { left self.new result ≡ behind_round self.old }
+        ensures { left self.new result ≡ after_round self.old }
     {
         if self.left == 0 {
             return Phase::Ask(Question::CountOfAll);
@@ -80,9 +80,9 @@ impl Round {
         self.begin()
     }
 
-    // Goes on behind the value of the round.
+    // Goes on after the value of the round.
     fn end(&mut self) -> Phase
-        ensures { left self.new result ≡ closing self.old.place self.old.time ++ behind_round self.old }
+        ensures { left self.new result ≡ closing self.old.place self.old.time ++ after_round self.old }
     {
         if self.closes() {
             Phase::Close
@@ -107,7 +107,7 @@ impl Round {
         }
     }
 
-    /// Goes on behind the command of a phase.
+    /// Goes on after the command of a phase.
     pub fn step(&mut self, phase: Phase) -> Phase
         ensures { left self.new result ≡ drop 1 (left self.old phase) }
     {

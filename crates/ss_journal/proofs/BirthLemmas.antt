@@ -19,7 +19,7 @@ use Rattle.ss_journal.proofs.RangeLemmas.{SameRest-differs, DiffersIn-append, Di
 use Rattle.ss_journal.proofs.RedoLemmas.{StandsFor-from, redo-unborn}
 use Rattle.ss_journal.proofs.TearLemmas.{keeps-failed, tears-after_read, tears-joined}
 
--- unformed files with as many slots stand for one map
+-- unformatted files with as many slots stand for one map
 StandsFor-unborn : (content image : List ℕ) (found : SlotMap) → IsTrue (is_unborn content) → StandsFor content found → IsTrue (is_unborn image)
     → slots_in (length image) ≡ slots_in (length content) → StandsFor image found
 StandsFor-unborn content image found unborn is still slots =
@@ -41,7 +41,7 @@ IsBegun-short content short =
     let gate = get_or-overwrite_inside content (0 ∷ []) 0 within 0 (omega arith) in
     record { unborn = is_unborn-zero (overwrite content 0 (0 ∷ [])) gate; gate = inl gate; some = omega (arith, length-overwrite content (0 ∷ []) 0 within) }
 
--- and so does any longer one that isn't formed, unless the magic stands there
+-- and so does any longer one that isn't formatted, unless the magic stands there
 pub IsBegun-long : (content : List ℕ) → IsTrue (is_unborn content) → 1 < length content → IsBegun content
 IsBegun-long content unborn long = record {
   unborn = unborn;
@@ -223,7 +223,7 @@ module _ (content image : List ℕ) (formed : IsFormed content) (differs : Diffe
   blank-image : (place : ℕ) → 9 ≤ place → place < 134254592 → slice_index image place ≡ 0
   blank-image place low high = beside place (omega (arith, low)) ∙ formed.blank place low high
 
-  -- the gate is open: the file is formed, and no other gate is open
+  -- the gate is open: the file is formatted, and no other gate is open
   pub born-opened : IsTrue (opens (slice_index image 0)) → IsTrue (is_born image)
   born-opened opened = is_born-from image (omega (arith, formed.long, length-image)) opened magic-image
 

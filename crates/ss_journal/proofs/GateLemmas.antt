@@ -106,7 +106,7 @@ module _ (content : List ℕ) (n : ℕ) (old new : Told) (low : 0 < n) (high : n
         | inr from ↦ let here : n ≡ k = omega (arith, from, lt) in subst (λ (m : ℕ). IsFalse (opens (slice_index old.content (entry_place m)))) here gate.0
       ])
 
--- a formed file whose other gates differ is formed, and its first gate is closed
+-- a formatted file whose other gates differ is formatted, and its first gate is closed
 pub born-others : (content image : List ℕ) → IsTrue (is_born content) → IsClosed 0 content → DiffersIn other_gates content image
     → IsTrue (is_born image) × IsClosed 0 image
 born-others content image born closed differs =

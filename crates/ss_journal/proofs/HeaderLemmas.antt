@@ -1,4 +1,4 @@
--- The header: whether a file is formed, and how that is read.
+-- The header: whether a file is formatted, and how that is read.
 use Rattle.std.proofs.Common.{IsFalse, IsTrue, List, [], ap, arith, drop, eqb, inl, inr, length, nat_eq, nat_le, not, refl, rules, subst, suc, sym, take, ℕ, ◌&&◌, ◌+◌, ◌<◌, ◌==◌, ◌||◌, ◌∙◌, ◌∷◌, ◌≡◌, ◌≤◌, ◌⊎◌}
 use Rattle.std.proofs.Math.Nat.{zero-add}
 use Rattle.std.proofs.lemmas.Bool.Decides.{nat_tests}
@@ -34,7 +34,7 @@ has_magic-same old new fits also same =
 pub long-has_magic : (image : List ℕ) → IsTrue (has_magic image) → 9 ≤ length image
 long-has_magic image there = omega (arith, pointwise_long nat_eq magic (take 8 (drop 1 image)) there, length-take 8 (drop 1 image), length-drop 1 image)
 
--- the parts of a formed file
+-- the parts of a formatted file
 pub is_born-parts : (image : List ℕ) → IsTrue (is_born image)
     → (36864 ≤ length image) × IsTrue (opens (slice_index image 0)) × IsTrue (has_magic image)
 unfolding is_born
@@ -48,7 +48,7 @@ unfolding is_born
 is_born-from image long gate magic =
     and_from _ _ (and_from _ _ (le-leb 36864 (length image) long) gate) magic
 
--- a formed file whose first places stay is formed
+-- a formatted file whose first places stay is formatted
 pub is_born-same : (content image : List ℕ) → IsTrue (is_born content) → length image ≡ length content
     → ((place : ℕ) → place < 9 → slice_index image place ≡ slice_index content place) → IsTrue (is_born image)
 is_born-same content image born long same =
@@ -57,16 +57,16 @@ is_born-same content image born long same =
     (subst (λ (byte : ℕ). IsTrue (opens byte)) (sym (same 0 (omega arith))) was.1)
     (has_magic-same content image (omega (arith, was.0)) (omega (arith, long, was.0)) (λ place low high. same place high) ∙ was.2)
 
--- a formed file isn't an unformed one
+-- a formatted file isn't an unformatted one
 pub is_unborn-born : (image : List ℕ) → IsTrue (is_born image) → IsFalse (is_unborn image)
 unfolding is_unborn is_born
 is_unborn-born image born = grind (arith, nat_tests, born)
 
--- an unformed file isn't a formed one
+-- an unformatted file isn't a formatted one
 pub is_born-unborn : (content : List ℕ) → IsTrue (is_unborn content) → IsFalse (is_born content)
 is_born-unborn content unborn = false_from_ne_true (is_born content) (λ born. both_ways (is_unborn content) (is_unborn-born content born) unborn)
 
--- the ways in which a file isn't formed
+-- the ways in which a file isn't formatted
 pub is_unborn-short : (image : List ℕ) → length image ≤ 1 → IsTrue (is_unborn image)
 unfolding is_unborn
 is_unborn-short image short = or_left _ _ (or_left _ _ (le-leb (length image) 1 short))
@@ -125,7 +125,7 @@ has_magic-head size first image head =
     let same = head.bytes (1 + k) (omega (arith, head.nine)) ∙ ap (slice_index image) (zero-add (1 + k)) in
     get_or-take 8 (drop 1 first) k 0 below ∙ get_or_after_one first k 0 ∙ same ∙ sym (get_or_after_one image k 0))
 
--- and the rest that tells whether the file is formed
+-- and the rest that tells whether the file is formatted
 pub is_born-head : (size : ℕ) (first image : List ℕ) → IsHead size first image
     → is_born image ≡ (nat_le 36864 size && opens (slice_index first 0) && has_magic image)
 unfolding is_born

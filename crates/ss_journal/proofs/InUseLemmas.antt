@@ -3,7 +3,7 @@ use Rattle.std.proofs.Common.{IsFalse, IsTrue, List, [], ap, arith, inl, inr, le
 use Rattle.std.proofs.lemmas.Bool.{cases_Bool, cases_eq, cases_lt, eqb-true}
 use Rattle.std.proofs.lemmas.List.{ext_get_or}
 use Rattle.std.specs.Prelude.{flat_map, slice_index}
-use Rattle.ss_outside.proofs.DiskLemmas.{get_or-overwrite_inside, get_or-overwrite_outside}
+use Rattle.ss_outside.proofs.DiskLemmas.{get_or-overwrite_inside}
 use Rattle.ss_outside.specs.Disk.{IsOutside, overwrite}
 use Rattle.ss_journal.specs.Entries.{entries, open_prefix, puts_of}
 use Rattle.ss_journal.specs.Format.{is_born, slots_in}

@@ -1,15 +1,14 @@
 -- A journal and the content of its disk: opened, settled, read and committed.
-use Rattle.std.proofs.Common.{◌++◌, ◌+◌, IsFalse, Result, IsTrue, List, [], ap, arith, inl, inr, length, nat_lt, refl, subst, suc, sym, zero, ℕ, ⊎_elim, ◌<◌, ◌^◌, ◌∙◌, ◌≡◌, ◌≢◌, ◌≤◌, ◌⊎◌}
+use Rattle.std.proofs.Common.{◌++◌, ◌+◌, Result, IsTrue, List, [], ap, arith, inl, inr, length, nat_lt, refl, subst, sym, ℕ, ⊎_elim, ◌<◌, ◌^◌, ◌∙◌, ◌≡◌, ◌≢◌, ◌≤◌, ◌⊎◌}
 use Rattle.std.proofs.lemmas.Bool.{both_ways, cond-false, cond-true, le-ltb, lt-ltb}
 use Rattle.std.proofs.lemmas.List.{length-append}
-use Rattle.std.proofs.lemmas.List.Elements.{All-weaker}
 use Rattle.ss_journal.specs.Commit.{AddsEntry, IsReady}
 use Rattle.std.specs.Prelude.{OnOk, flat_map}
 use Rattle.ss_outside.specs.Disk.{NothingPending, Told}
 use Rattle.ss_journal.specs.Calls.{MakesDurable}
 use Rattle.ss_journal.specs.Entries.{puts_of}
 use Rattle.ss_journal.specs.Format.{is_born, is_unborn, slot_at, slots_in}
-use Rattle.ss_journal.specs.Gates.{ClosedFrom, IsClosed, opens}
+use Rattle.ss_journal.specs.Gates.{ClosedFrom}
 use Rattle.ss_journal.specs.Kept.{IsBounded, IsInPhase, IsKept, JournalState}
 use Rattle.ss_journal.specs.Opening.{AreEntries}
 use Rattle.ss_journal.specs.Puts.{IsTxn, extent_after, slots_fit, with_puts}
@@ -18,12 +17,12 @@ use Rattle.ss_journal.specs.declared.phase.Phase.TheVariants.{Born, Settled, Sto
 use Rattle.ss_journal.specs.declared.phase.Phase.{Phase}
 use Rattle.ss_journal.specs.declared.put.Put.{Put}
 use Rattle.ss_journal.proofs.GateLemmas.{file_map-first_closed}
-use Rattle.ss_journal.proofs.HeaderLemmas.{is_born-parts, is_born-unborn}
+use Rattle.ss_journal.proofs.HeaderLemmas.{is_born-unborn}
 use Rattle.ss_journal.proofs.MapLemmas.{SameMap-refl}
-use Rattle.ss_journal.proofs.PutLemmas.{below_extent, extent_after-most, is_put-none, le-extent_after, past_extent, waiting-below, with_puts-beside}
+use Rattle.ss_journal.proofs.PutLemmas.{below_extent, extent_after-most, is_put-none, past_extent, waiting-below, with_puts-beside}
 use Rattle.ss_journal.proofs.RedoLemmas.{StandsFor-from, StandsFor-parts, entries_in_use-unborn, redo-born, redo-first_closed, redo-unborn}
 
--- the file of a journal that has not failed is formed or not
+-- the file of a journal that has not failed is formatted or not
 pub cases_phase : (phase : Phase) (in_use : ℕ) (content : List ℕ) → IsInPhase phase in_use content → IsTrue (is_unborn content) ⊎ IsTrue (is_born content)
 cases_phase Unborn in_use content is = inl is
 cases_phase Born in_use content is = inr is
@@ -36,7 +35,7 @@ born_phase Born in_use content other is = is
 born_phase Settled in_use content other is = is.0
 born_phase Stopped in_use content other is = absurd is
 
--- a birth makes what was pending durable; of a formed file it says nothing
+-- a birth makes what was pending durable; of a formatted file it says nothing
 pub durable-unborn : {T E : Type 0} (old new : Told) (result : Result T E) → IsTrue (is_unborn old.content) → OnOk result (NothingPending new)
     → MakesDurable old new result
 durable-unborn old new result unborn durable = record {
@@ -44,7 +43,7 @@ durable-unborn old new result unborn durable = record {
   any_moment = λ born found is. absurd (both_ways (is_born old.content) (is_born-unborn old.content unborn) born);
 }
 
--- a journal over an unformed file
+-- a journal over an unformatted file
 pub IsKept-unborn : (size slots : ℕ) (waiting : List Put) (content : List ℕ) → size ≡ length content → slots ≡ slots_in size → waiting ≡ []
     → IsTrue (is_unborn content) → IsKept (record { phase = Unborn; extent = slots; in_use = 0; waiting = waiting }) content
 IsKept-unborn size slots waiting content long counted none unborn = record {
@@ -56,7 +55,7 @@ IsKept-unborn size slots waiting content long counted none unborn = record {
   extent = sym (counted ∙ ap slots_in long);
 }
 
--- a journal over a formed file, of which the entries were read
+-- a journal over a formatted file, of which the entries were read
 pub IsKept-born : (content : List ℕ) (in_use : ℕ) (waiting : List Put) (extent : ℕ) → IsTrue (is_born content) → AreEntries content in_use waiting extent
     → IsKept (record { phase = Born; extent = extent; in_use = in_use; waiting = waiting }) content
 IsKept-born content in_use waiting extent born read = record {
@@ -68,7 +67,7 @@ IsKept-born content in_use waiting extent born read = record {
   extent = read.extent;
 }
 
--- the file of a journal in any phase but the first is formed, since nothing is kept of a stopped one
+-- the file of a journal in any phase but the first is formatted, since nothing is kept of a stopped one
 pub born_formed : (phase : Phase) (in_use : ℕ) (content : List ℕ) → (phase ≡ Born) ⊎ ((phase ≡ Settled) ⊎ (phase ≡ Stopped)) → IsInPhase phase in_use content
     → IsTrue (is_born content)
 born_formed phase in_use content (inl is) now = subst (λ p. IsInPhase p in_use content) is now
@@ -123,7 +122,7 @@ module _ (journal : JournalState) (content : List ℕ) (found : SlotMap) (slot :
       slot_bytes =
           sym (leaves (file_map content).bytes ∙ cond-true (nat_lt slot (slots_in (length content))) _ _ (lt-ltb slot (slots_in (length content)) slot_lies)) ∙ born_bytes
 
-  -- a slot of an unformed file, or from the extent on
+  -- a slot of an unformatted file, or from the extent on
   pub unused_bytes : IsTrue (is_unborn content) ⊎ (journal.extent ≤ slot) → zeros ≡ found.bytes slot
   unused_bytes (inl unborn) = unborn_bytes unborn
   unused_bytes (inr past) = ⊎_elim unborn_bytes (λ born. past_bytes born past) (cases_phase journal.phase journal.in_use content kept.phase)

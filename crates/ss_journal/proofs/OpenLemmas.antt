@@ -1,4 +1,4 @@
--- How the entries of a formed file are read one after another.
+-- How the entries of a formatted file are read one after another.
 use Rattle.std.proofs.Common.{Err, IsFalse, IsTrue, List, None, Ok, Some, [], ap, append_assoc, arith, drop, length, subst, sym, ℕ, ◌++◌, ◌+◌, ◌<◌, ◌∙◌, ◌∷◌, ◌≡◌}
 use Rattle.std.proofs.lemmas.Bool.{cond-false, cond-true}
 use Rattle.std.proofs.lemmas.List.FromFn.{length-map-range_with_len}

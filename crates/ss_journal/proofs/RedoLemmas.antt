@@ -45,7 +45,7 @@ StandsFor-also image first second is same =
     let parts = StandsFor-parts image first is in
     StandsFor-from image parts.0 second parts.1 (SameMap-trans _ _ _ parts.2 same)
 
--- what a formed file stands for
+-- what a formatted file stands for
 pub redo-formed : (image : List ℕ) → IsTrue (is_born image) → redo image ≡ redo_entries 0 (open_prefix (entries image)) (file_map image)
 unfolding redo
 redo-formed image born = cond-true _ _ _ born
@@ -71,7 +71,7 @@ pub redo-neither : (content : List ℕ) → IsFalse (is_born content) → IsFals
 unfolding redo
 redo-neither content unborn other = cond-false (is_born content) _ _ unborn ∙ cond-false (is_unborn content) _ _ other
 
--- a file that is the same below the slots has the same entries, and is formed too
+-- a file that is the same below the slots has the same entries, and is formatted too
 pub redo-same_header : (old new : List ℕ) → IsTrue (is_born old) → length old ≤ length new
     → ((place : ℕ) → place < 36864 → slice_index new place ≡ slice_index old place) → IsTrue (is_born new) × (entries new ≡ entries old)
 redo-same_header old new born long same =
@@ -115,7 +115,7 @@ AreWhole-entries n (entry ∷ rest) found its long is =
     All-append (λ (put : Put). length put.bytes ≡ 128) (puts_of entry) (flat_map puts_of rest)
     (AreWhole-puts_of entry (All-head (λ (e : List ℕ). length e ≡ 544) entry rest long) sound.few) later
 
--- and so does a formed file
+-- and so does a formatted file
 pub redo-born : (image : List ℕ) (its : SlotMap) → IsTrue (is_born image) → redo image ≡ stands its
     → (its ≡ changed (file_map image) (puts_in_use image)) × IsTrue (slots_fit (puts_in_use image) (slots_in (length image))) × AreSlots (puts_in_use image) × AreWhole (puts_in_use image)
 redo-born image its born is =
@@ -163,7 +163,7 @@ redo_entries-idempotent n list old found new is part =
     } in
     subst (λ (r : Redone). Gives r found) (sym (redo_entries-again n list old new found is part.no_less)) (subst (SameMap (changed new puts)) (sym stood.0) same)
 
--- with the first gate closed a formed file stands for its slots, and no entry is in use
+-- with the first gate closed a formatted file stands for its slots, and no entry is in use
 pub redo-first_closed : (image : List ℕ) → IsTrue (is_born image) → IsClosed 0 image
     → (redo image ≡ stands (file_map image)) × (puts_in_use image ≡ []) × (entries_in_use image ≡ [])
 redo-first_closed image born closed =

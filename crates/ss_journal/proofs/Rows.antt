@@ -8,7 +8,7 @@ use Rattle.ss_journal.specs.Gates.{entry_place, other_gates}
 use Rattle.ss_journal.specs.Entries.{puts_of, is_good, open_prefix, entries, entry_body}
 use Rattle.ss_journal.specs.Redo.{SlotMap, Redone, stands, bad_entry, not_a_store, redo_entries, redo, changed, zeros, entries_in_use}
 
--- a file of no byte, of any one byte, or that begins with 0 isn't formed
+-- a file that is empty, of any one byte, or that begins with 0 isn't formatted
 pub is_unborn-none : is_unborn [] ≡ true
 unfolding is_unborn
 is_unborn-none = refl
@@ -172,7 +172,7 @@ the_first_slot = refl
 pub the_file_end : FILE_END ≡ 134254592
 the_file_end = refl
 
--- a whole formed image: its first two entries, and what stands from its first slot on
+-- a whole formatted image: its first two entries, and what stands from its first slot on
 abbrev pub image_of : List ℕ → List ℕ → List ℕ → List ℕ
 image_of first second slots = 165 ∷ magic ++ replicate 503 0 ++ first ++ second ++ replicate 35264 0 ++ slots
 

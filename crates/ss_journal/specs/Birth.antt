@@ -1,4 +1,4 @@
--- The steps in which a file is formed.
+-- The steps in which a file is formatted.
 use Rattle.std.specs.Prelude.{◌≡◌, ◌⊎◌, ℕ, ◌-◌, ◌<◌, ◌≤◌, max, min, List, [], ◌∷◌, length, slice_index, nat_eq, if◌then◌else◌, IsTrue, IsFalse}
 use Rattle.ss_journal.specs.declared.format.TheConstants.{MAGIC_END, FIRST_SLOT, FILE_END}
 use Rattle.ss_journal.specs.Gates.{opens}

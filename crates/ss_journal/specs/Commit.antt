@@ -6,7 +6,7 @@ use Rattle.ss_journal.specs.Format.{is_born}
 use Rattle.ss_journal.specs.Puts.{slots_fit}
 use Rattle.ss_journal.specs.Redo.{SlotMap, stands, redo, entries_in_use, puts_in_use}
 
--- a formed content with n entries in use, each later gate closed, that stands for a map into which these puts fit
+-- a formatted content with n entries in use, each later gate closed, that stands for a map into which these puts fit
 pub record IsReady (n : ℕ) (puts : List Put) (content : List ℕ) : Type 0 where
   pub born : IsTrue (is_born content)
   pub closed : ClosedFrom n content

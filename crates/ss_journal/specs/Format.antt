@@ -1,4 +1,4 @@
--- The file: its places, and whether it is formed.
+-- The file: its places, and whether it is formatted.
 use Rattle.std.specs.Prelude.{ℕ, ◌+◌, ◌-◌, ◌*◌, ◌/◌, min, Bool, not, ◌&&◌, ◌||◌, ◌==◌, nat_eq, nat_le, List, [], ◌∷◌, length, take, drop, slice_index}
 use Rattle.std.specs.List.{starts_with}
 use Rattle.ss_journal.specs.declared.format.TheConstants.{ENTRY_SIZE, FIRST_SLOT, SLOT_SIZE, MOST_SLOTS}
@@ -12,12 +12,12 @@ magic = 83 ∷ 83 ∷ 84 ∷ 79 ∷ 82 ∷ 69 ∷ 48 ∷ 49 ∷ []
 abbrev pub has_magic : List ℕ → Bool
 has_magic image = starts_with nat_eq (drop 1 image) magic
 
--- whether the file isn't formed: it is empty, or one byte, or begins with 0, or the birth gate is closed before the magic
+-- whether the file isn't formatted: it is empty, or one byte, or begins with 0, or the birth gate is closed before the magic
 unfoldable pub is_unborn : List ℕ → Bool
 is_unborn image =
     nat_le (length image) 1 || slice_index image 0 == 0 || (has_magic image && not (opens (slice_index image 0)))
 
--- whether the file is formed
+-- whether the file is formatted
 unfoldable pub is_born : List ℕ → Bool
 is_born image = nat_le FIRST_SLOT (length image) && opens (slice_index image 0) && has_magic image
 

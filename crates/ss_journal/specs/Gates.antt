@@ -1,5 +1,5 @@
 -- The gates: of the file, and of its entries, each the entry's first byte.
-use Rattle.std.specs.Prelude.{◌≡◌, ℕ, ◌+◌, ◌*◌, ◌<◌, ◌≤◌, Bool, true, false, ◌==◌, List, [], ◌∷◌, slice_index, Result, Ok, Err, IsTrue, IsFalse, ⊤, map}
+use Rattle.std.specs.Prelude.{◌≡◌, ℕ, ◌+◌, ◌-◌, ◌*◌, ◌<◌, ◌≤◌, Bool, true, false, ◌==◌, List, [], ◌∷◌, slice_index, Result, Ok, Err, IsTrue, IsFalse, ⊤, map}
 use Rattle.std.specs.List.{range_with_len}
 use Rattle.ss_outside.specs.Disk.{Told, StaysSame, overwrite}
 use Rattle.ss_outside.specs.declared.source.Failed.{Failed}
@@ -27,7 +27,7 @@ ClosedFrom n content = (k : ℕ) → n ≤ k → k < ENTRIES → IsClosed k cont
 
 -- the place of each gate but the first
 abbrev pub other_gates : List (ℕ × ℕ)
-other_gates = map (λ n. (entry_place n, 1)) (range_with_len 1 63)
+other_gates = map (λ n. (entry_place n, 1)) (range_with_len 1 (ENTRIES - 1))
 
 -- the gate of entry n is closed, if it was open, and whether it was
 abbrev pub ClosesGate : ℕ → Told → Told → Result Bool Failed → Type 0

@@ -33,11 +33,11 @@ IsRunning journal = journal.phase ≢ Stopped
 abbrev pub HasStopped : JournalState → Type 0
 HasStopped journal = journal.phase ≡ Stopped
 
--- the file is formed, and each gate after the entries in use is closed
+-- the file is formatted, and each gate after the entries in use is closed
 abbrev pub IsSettled : JournalState → Type 0
 IsSettled journal = journal.phase ≡ Settled
 
--- the content is formed as the phase says, with so many entries in use
+-- the content is formatted as the phase says, with so many entries in use
 abbrev pub IsInPhase : Phase → ℕ → List ℕ → Type 0
 IsInPhase Unborn in_use content = IsTrue (is_unborn content)
 IsInPhase Born in_use content = IsTrue (is_born content)

@@ -63,7 +63,7 @@ Gives (stands its) found = SameMap its found
 abbrev pub StandsFor : List ℕ → SlotMap → Type 0
 StandsFor image found = Gives (redo image) found
 
--- the entries in use: those of the open prefix of a formed file
+-- the entries in use: those of the open prefix of a formatted file
 unfoldable pub entries_in_use : List ℕ → List (List ℕ)
 entries_in_use image = if is_born image then open_prefix (entries image) else []
 

@@ -1,4 +1,4 @@
-// How an unborn file is formed. It stays unborn until the birth gate opens, and no other gate is open then.
+// How an unborn file is formatted. It stays unborn until the birth gate opens, and no other gate is open then.
 ghost use Rattle.std.specs.Prelude.{◌≡◌, [], ◌∷◌, length, IsTrue, OnOk};
 ghost use Rattle.ss_outside.specs.Causes.{HasCause};
 ghost use Rattle.ss_outside.specs.Disk.{overwrite, NothingPending};
@@ -58,7 +58,7 @@ fn form<D: Disk>(disk: &mut D) -> Result<(), Failed>
     disk.sync()
 }
 
-// Opens the birth gate of a formed file.
+// Opens the birth gate of a formatted file.
 fn open_gate<D: Disk>(disk: &mut D) -> Result<(), Failed>
     requires formed { IsTrue (D.tells disk.old) → IsFormed (D.told disk.old).content }
     ensures keeps_map { IsTrue (D.tells disk.old) → KeepsMap (D.told disk.old) (D.told disk.new) result }
@@ -72,7 +72,7 @@ fn open_gate<D: Disk>(disk: &mut D) -> Result<(), Failed>
     write_through(disk, 0, &[GATE_OPEN])
 }
 
-// Forms an unborn file. Every slot is zeros before and after. What lies after the last slot that a file can have stays.
+// Formats an unborn file. Every slot is zeros before and after. What lies after the last slot that a file can have stays.
 pub fn give_birth<D: Disk>(disk: &mut D) -> Result<(), Failed>
     requires unborn { IsTrue (D.tells disk.old) → IsTrue (is_unborn (D.told disk.old).content) }
     ensures keeps_map { IsTrue (D.tells disk.old) → KeepsMap (D.told disk.old) (D.told disk.new) result }

@@ -108,7 +108,7 @@ pub fn is_good(entry: &[u8; ENTRY_SIZE], extent: u32) -> bool
     ensures value { result ≡ is_good entry.now extent }
     ensures few { IsTrue result → count_of entry.now ≤ MOST_PUTS }
 {
-    if entry[1] < 1 || entry[1] > MOST_PUTS {
+    if entry[1] < 1 || usize::from(entry[1]) > MOST_PUTS {
         return false;
     }
     let puts = puts_of(entry);

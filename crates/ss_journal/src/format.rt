@@ -18,14 +18,16 @@ pub const ENTRY_SIZE: usize = 544;
 
 pub const FIRST_ENTRY: u64 = 512;
 
-// How many puts an entry holds at most, and the size of each: the number of the slot, then its bytes.
-pub const MOST_PUTS: u8 = 4;
+/// How many puts a transaction has at most. An entry holds one transaction.
+pub const MOST_PUTS: usize = 4;
 
+// The size of a put in an entry: the number of the slot, then its bytes.
 pub const PUT_SIZE: usize = 132;
 
 // How many puts all entries hold at most.
 pub const MOST_WAITING: usize = 256;
 
+/// How many bytes a slot has.
 pub const SLOT_SIZE: usize = 128;
 
 /// How many slots a file has at most. They are numbered from 0.

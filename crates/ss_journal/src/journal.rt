@@ -47,7 +47,7 @@ impl Journal {
     ghost use Rattle.ss_journal.specs.Format.{is_unborn};
     ghost use Rattle.ss_journal.specs.Writes.{SameRest};
 
-    /// Opens a disk, formed or not. It reads the entries in use and writes nothing.
+    /// Opens a disk, formatted or not. It reads the entries in use and writes nothing.
     pub fn open<D: Disk>(alloc: Global, disk: &mut D) -> Result<Journal, JournalError>
         // The map of the content, or why it has none.
         ensures map { IsTrue (D.tells disk.old) → OpensAs (D.told disk.old).content result }
@@ -88,7 +88,7 @@ impl Journal {
         self.extent
     }
 
-    /// Forms a file that isn't formed. Of a formed one it makes durable what is pending, by a sync, and then brings the
+    /// Formats a file that isn't formatted. Of a formatted one it makes durable what is pending, by a sync, and then brings the
     /// entries in use into their slots and closes their gates. It leaves the map as it is, also in a crash.
     pub fn settle<D: Disk>(&mut self, disk: &mut D) -> Result<(), Failed>
         requires running { IsRunning self.old }

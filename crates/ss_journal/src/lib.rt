@@ -16,7 +16,7 @@ mod settling;
 mod waiting;
 mod writing;
 
-pub use format::MOST_SLOTS;
+pub use format::{MOST_PUTS, MOST_SLOTS, SLOT_SIZE};
 pub use journal::Journal;
 pub use journal_error::JournalError;
 pub use laws::redo_is_idempotent;

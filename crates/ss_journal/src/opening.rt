@@ -32,14 +32,14 @@ impl Head {
         self.bytes[1..].starts_with(&MAGIC)
     }
 
-    // Whether the file isn't formed.
+    // Whether the file isn't formatted.
     pub fn is_unborn(&self) -> bool
         ensures { (image : List ℕ) → IsHead self.now.length self.now.bytes image → result ≡ is_unborn image }
     {
         self.length <= 1 || self.bytes[0] == 0 || (self.has_magic() && self.bytes[0] != GATE_OPEN)
     }
 
-    // Whether the file is formed.
+    // Whether the file is formatted.
     pub fn is_born(&self) -> bool
         ensures { (image : List ℕ) → IsHead self.now.length self.now.bytes image → result ≡ is_born image }
     {
@@ -61,7 +61,7 @@ pub fn read_head<D: Disk>(disk: &mut D) -> Result<Head, Failed>
     Ok(Head { length, bytes })
 }
 
-// Reads an entry of a formed file.
+// Reads an entry of a formatted file.
 pub fn read_entry<D: Disk>(disk: &mut D, n: u32) -> Result<[u8; ENTRY_SIZE], Failed>
     requires { n < ENTRIES }
     ensures entry { IsTrue (D.tells disk.old) → FIRST_SLOT ≤ length (D.told disk.old).content
@@ -96,7 +96,7 @@ fn next_entry<D: Disk>(disk: &mut D, n: u32, extent: u32) -> Result<Option<Txn>,
     Ok(Some(puts_of(&entry)))
 }
 
-// The entries in use of a formed file.
+// The entries in use of a formatted file.
 #[derive(Drop)]
 pub struct EntriesRead {
     // How many they are, and their puts in order.
@@ -106,7 +106,7 @@ pub struct EntriesRead {
     pub extent: u32,
 }
 
-// Reads the entries in use of a formed file of so many slots.
+// Reads the entries in use of a formatted file of so many slots.
 pub fn read_entries<D: Disk>(
     alloc: Global,
     disk: &mut D,

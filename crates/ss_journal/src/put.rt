@@ -1,6 +1,7 @@
 // What is put into a slot.
 ghost use Rattle.std.specs.Prelude.{◌≡◌, replicate};
 
+use crate::format::{MOST_PUTS, SLOT_SIZE};
 use arrayvec::ArrayVec;
 
 /// Bytes for a slot.
@@ -9,20 +10,22 @@ pub struct Put {
     /// The number of the slot.
     pub slot: u32,
     /// All of its bytes.
-    pub bytes: [u8; 128],
+    pub bytes: [u8; SLOT_SIZE],
 }
 
 impl Default for Put {
-    ghost is_default = { λ put. put ≡ record { slot = 0; bytes = replicate 128 0 } };
+    ghost use Rattle.ss_journal.specs.declared.format.TheConstants.{SLOT_SIZE};
+
+    ghost is_default = { λ put. put ≡ record { slot = 0; bytes = replicate SLOT_SIZE 0 } };
 
     // Zeros for slot 0.
     fn default() -> Put {
         Put {
             slot: 0,
-            bytes: [0; 128],
+            bytes: [0; SLOT_SIZE],
         }
     }
 }
 
 /// Puts that come to the disk all together or not at all.
-pub type Txn = ArrayVec<Put, 4>;
+pub type Txn = ArrayVec<Put, MOST_PUTS>;

@@ -1,4 +1,4 @@
-// How the entries of a formed file come into their slots, and how their gates close.
+// How the entries of a formatted file come into their slots, and how their gates close.
 ghost use Rattle.std.specs.Prelude.{◌≡◌, ◌≤◌, ◌<◌, [], ◌∷◌, length, IsTrue, OnOk};
 ghost use Rattle.ss_outside.specs.Causes.{HasCause};
 ghost use Rattle.ss_outside.specs.Disk.{NothingPending};
@@ -86,7 +86,7 @@ fn close_others<D: Disk>(disk: &mut D) -> Result<(), Failed>
     Ok(())
 }
 
-// Brings the entries of a formed file into their slots, and closes all gates.
+// Brings the entries of a formatted file into their slots, and closes all gates.
 pub fn settle_entries<D: Disk>(disk: &mut D, puts: &[Put]) -> Result<(), Failed>
     requires slots { AreSlots puts.now }
     requires born { IsTrue (D.tells disk.old) → IsTrue (is_born (D.told disk.old).content) }

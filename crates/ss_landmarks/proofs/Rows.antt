@@ -5,13 +5,13 @@ use Rattle.ss_landmarks.specs.Landmarks.{opened}
 use Rattle.ss_landmarks.specs.Free.{free}
 use Rattle.ss_landmarks.specs.Order.{CanOpen, CanTake, CanClose}
 use Rattle.ss_landmarks.specs.ValuesIn.{values_in, tally_of}
-use Rattle.ss_landmarks.specs.declared.landmarks.TheConstants.{LATEST_TIME, MOST_KEPT}
+use Rattle.ss_landmarks.specs.declared.landmarks.TheConstants.{LATEST_TIME, MOST_LANDMARK_SLOTS}
 
 pub LATEST_TIME-is : LATEST_TIME ≡ 2 ^ 62
 LATEST_TIME-is = refl
 
-pub MOST_KEPT-is : MOST_KEPT ≡ 2 ^ 24
-MOST_KEPT-is = refl
+pub MOST_LANDMARK_SLOTS-is : MOST_LANDMARK_SLOTS ≡ 2 ^ 24
+MOST_LANDMARK_SLOTS-is = refl
 
 abbrev open_at : ℕ → List Landmark → List Landmark
 open_at t landmarks = landmarks ++ opened_at t ∷ []

@@ -12,7 +12,7 @@ use Rattle.ss_landmarks.specs.Landmarks.{IsState}
 use Rattle.ss_landmarks.specs.Free.{is_free}
 use Rattle.ss_landmarks.specs.Order.{CanOpen, CanTake, CanClose, AreLandmarks}
 use Rattle.ss_landmarks.specs.Stored.{landmarks_of, closed_values, one_open, slots_of, free_before, Apart, KnowFree, AreStored}
-use Rattle.ss_landmarks.specs.declared.landmarks.TheConstants.{LATEST_TIME, MOST_KEPT}
+use Rattle.ss_landmarks.specs.declared.landmarks.TheConstants.{LATEST_TIME, MOST_LANDMARK_SLOTS}
 use Rattle.ss_landmarks.specs.declared.stored.Closed.{Closed}
 use Rattle.ss_landmarks.specs.declared.stored.Opened.{Opened}
 use Rattle.ss_landmarks.proofs.Counting.{among-same}
@@ -134,8 +134,8 @@ opened-some cs o values =
 
 -- what is true of all that is seen
 pub IsState-stored : (cs : List Closed) (current : Option Opened) (values : List LandmarkValue) (value_slots : List ℕ) (room value_room : ℕ)
-    → AreStored cs current values → length value_slots ≡ length values → length cs + one_open current + room ≤ MOST_KEPT
-    → length values + value_room ≤ MOST_KEPT
+    → AreStored cs current values → length value_slots ≡ length values → length cs + one_open current + room ≤ MOST_LANDMARK_SLOTS
+    → length values + value_room ≤ MOST_LANDMARK_SLOTS
     → IsState (record { landmarks = landmarks_of cs current values; slots = slots_of cs current; value_slots = value_slots; room = room; value_room = value_room })
 IsState-stored cs current values value_slots room value_room stored same most most_values = record {
   order = stored.order;

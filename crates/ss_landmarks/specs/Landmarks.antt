@@ -3,7 +3,7 @@ use Rattle.std.specs.Prelude.{◌≡◌, ℕ, ◌+◌, ◌-◌, ◌≤◌, List,
 use Rattle.std.specs.Option.{option_map}
 use Rattle.ss_landmarks.specs.Landmark.{Landmark, all_values, open_landmark}
 use Rattle.ss_landmarks.specs.Order.{AreLandmarks}
-use Rattle.ss_landmarks.specs.declared.landmarks.TheConstants.{MOST_KEPT}
+use Rattle.ss_landmarks.specs.declared.landmarks.TheConstants.{MOST_LANDMARK_SLOTS}
 
 -- landmarks in order, the slots of their records, the slots of the records of all their values, and how many more
 -- landmarks and values there is room for
@@ -28,5 +28,5 @@ pub record IsState (state : LandmarksState) : Type 0 where
   pub slots : length state.slots ≡ length state.landmarks
   pub value_slots : length state.value_slots ≡ length (all_values state.landmarks)
   -- there are at most 2^24 of each, with those that there is room for
-  pub most : length state.landmarks + state.room ≤ MOST_KEPT
-  pub most_values : length state.value_slots + state.value_room ≤ MOST_KEPT
+  pub most : length state.landmarks + state.room ≤ MOST_LANDMARK_SLOTS
+  pub most_values : length state.value_slots + state.value_room ≤ MOST_LANDMARK_SLOTS

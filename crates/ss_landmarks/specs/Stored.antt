@@ -8,7 +8,7 @@ use Rattle.ss_landmarks.specs.declared.stored.StoredValue.{StoredValue}
 use Rattle.ss_landmarks.specs.Landmark.{Landmark, LandmarkValue}
 use Rattle.ss_landmarks.specs.Free.{is_free}
 use Rattle.ss_landmarks.specs.Order.{AreLandmarks}
-use Rattle.ss_landmarks.specs.declared.landmarks.TheConstants.{LATEST_TIME, MOST_KEPT}
+use Rattle.ss_landmarks.specs.declared.landmarks.TheConstants.{LATEST_TIME, MOST_LANDMARK_SLOTS}
 
 -- the value, without its slot
 abbrev pub value_of : StoredValue → LandmarkValue
@@ -69,4 +69,4 @@ pub record AreStored (cs : List Closed) (current : Option Opened) (values : List
 -- so many, and room for so many more, fit in this memory, and are no more than are kept
 pub record HasRoom (count room capacity : ℕ) : Type 0 where
   pub fits : count + room ≤ capacity
-  pub most : count + room ≤ MOST_KEPT
+  pub most : count + room ≤ MOST_LANDMARK_SLOTS

@@ -13,7 +13,7 @@ use std::marker::Model;
 pub const LATEST_TIME: u64 = 1 << 62;
 
 /// The most landmarks, and the most values, that are kept, with those that there is room for.
-pub const MOST_KEPT: u32 = 1 << 24;
+pub const MOST_LANDMARK_SLOTS: u32 = 1 << 24;
 
 /// The landmarks of one stream in order of time, with their values, and the slot of the record of each. At most the last is
 /// open. What is asked of a range of time is looked up by halves.
@@ -81,8 +81,8 @@ impl Landmarks {
 
     /// Makes room for a landmark and for a value, where there is none. An error leaves what is kept, and no room falls.
     pub fn reserve(&mut self) -> Result<(), AllocError>
-        requires landmarks { length self.old.landmarks < MOST_KEPT }
-        requires values { length (all_values self.old.landmarks) < MOST_KEPT }
+        requires landmarks { length self.old.landmarks < MOST_LANDMARK_SLOTS }
+        requires values { length (all_values self.old.landmarks) < MOST_LANDMARK_SLOTS }
         ensures ok { OnOk result ((1 ≤ self.new.room) × (1 ≤ self.new.value_room)) }
         ensures grows { (self.old.room ≤ self.new.room) × (self.old.value_room ≤ self.new.value_room) }
         ensures landmarks { self.new.landmarks ≡ self.old.landmarks }

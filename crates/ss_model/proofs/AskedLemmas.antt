@@ -9,11 +9,11 @@ use Rattle.std.proofs.lemmas.Int.{ints, clamps}
 use Rattle.std.proofs.lemmas.List.Elements.{filter-append}
 use Rattle.std.proofs.lemmas.List.{map-append}
 use Rattle.ss_summary.specs.Figures.{Figures}
-use Rattle.ss_summary.specs.Summaries.{summary_of, least, greatest}
+use Rattle.ss_summary.specs.Summaries.{summary_of, least, greatest, last_time}
 use Rattle.ss_summary.specs.Summaries as summaries
 use Rattle.ss_bounds.specs.Extremes.{chosen}
 use Rattle.ss_bounds.specs.Times.{lies_in, split_of}
-use Rattle.ss_bounds.specs.Truth.{asked, values_alone, total, last_time, RiseFree, AreSplit}
+use Rattle.ss_bounds.specs.Truth.{asked, values_alone, total, RiseFree, AreSplit}
 use Rattle.ss_model.specs.Interval.{is_whole, is_split, split_figures}
 use Rattle.ss_model.specs.Truth.{RiseAtFree}
 use Rattle.ss_model.specs.declared.types.Window.{Window}
@@ -30,10 +30,6 @@ least-alone v (p ∷ ps) = ap (int_min v) (least-alone p.1 ps)
 pub greatest-alone : (v : ℤ) (ps : List (ℕ × ℤ)) → greatest v ps ≡ chosen int_max v (values_alone ps)
 greatest-alone v [] = refl
 greatest-alone v (p ∷ ps) = ap (int_max v) (greatest-alone p.1 ps)
-
-pub last_time-same : (t : ℕ) (ps : List (ℕ × ℤ)) → summaries.last_time t ps ≡ last_time t ps
-last_time-same t [] = refl
-last_time-same t (p ∷ ps) = last_time-same p.0 ps
 
 last_time-after : (free : ℕ → Bool) (p : ℕ × ℤ) (ps : List (ℕ × ℤ)) → RiseAtFree free (p.0 + 1) ps → p.0 ≤ last_time p.0 ps
 last_time-after free p [] rising = omega arith
@@ -111,7 +107,7 @@ module _ (free : ℕ → Bool) (from to : ℕ) where
       let min = ap (λ (f : Figures). f.min) is in
       let max = ap (λ (f : Figures). f.max) is in
       let sum = ap (λ (f : Figures). f.sum) is ∙ total-alone (p ∷ q ∷ qs) in
-      let last = ap (λ (f : Figures). f.t_last) is ∙ last_time-same p.0 (q ∷ qs) in
+      let last = ap (λ (f : Figures). f.t_last) is in
       let count = ap (λ (f : Figures). f.count) is in
       let first = ap (λ (f : Figures). f.t_first) is in
       record {
@@ -122,7 +118,7 @@ module _ (free : ℕ → Bool) (from to : ℕ) where
 
   pub asked-of : (w : Window) (p : ℕ × ℤ) (ps : List (ℕ × ℤ)) → w.summary ≡ summary_of (p ∷ ps) → RiseAtFree free p.0 (p ∷ ps) → Asked w p ps
   asked-of w p ps is rising =
-      let last = ap (λ (f : Figures). f.t_last) is ∙ last_time-same p.0 ps in
+      let last = ap (λ (f : Figures). f.t_last) is in
       let first = ap (λ (f : Figures). f.t_first) is in
       let order = last_time-after free p ps rising.2 in
       elim (cases_lt p.0 from) [

@@ -170,7 +170,7 @@ pub length-closed : (len : ℕ → ℕ) (n : ℕ) (ws : List Window) → AreWind
 length-closed len n ws tiles all some =
     length_tiles len n (closed len n ws) (TileFrom-closed len n ws (TileFrom-StandFrom 1 0 ws tiles.stand)) (NoneIsDue-closed len n ws tiles) some
 
--- what holds of some values, and stays when one more is put behind, holds whatever is put behind
+-- what holds of some values, and stays when one more is put after, holds whatever is put after
 by_pushes : (P : List (ℕ × ℤ) → Type 0) → ((us : List (ℕ × ℤ)) (p : ℕ × ℤ) → P us → P (us ++ p ∷ [])) →
     (us vs : List (ℕ × ℤ)) → P us → P (us ++ vs)
 by_pushes P step us [] given = rw append-nil given

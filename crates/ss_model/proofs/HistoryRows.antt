@@ -73,7 +73,7 @@ reading-readings : map (refuses_reading (state readings)) (a ∷ codes "x" ∷ [
 unfolding refuses_reading state index_of readings a
 reading-readings = refl
 
--- behind the greatest time, every later append is past it
+-- after the greatest time, every later append is past it
 greatest_time : List Event
 greatest_time = readings ++ Value a (2 ^ 62) (negsuc (2 ^ 63 - 1)) ∷ []
 

@@ -23,8 +23,8 @@ chosen f s false x y left right same if_true if_false = rw same (if_false refl)
 pub index_of_between : (len : ℕ → ℕ) (a b c : ℕ) → a ≤ b → b ≤ c → index_of len c ≡ index_of len a → index_of len c ≡ index_of len b
 index_of_between len a b c low high same = omega (arith, index_of-monotone len a b low, index_of-monotone len b c high)
 
--- One test. The window from behind `a` to b lies in one target window or is one old window from behind `c`, and that
--- behind it ends at d.
+-- One test. The window from after `a` to b lies in one target window or is one old window from after `c`, and that
+-- after it ends at d.
 closed_onto_step : (len : ℕ → ℕ) (n a c b d : ℕ) (cs : List ℕ) (xs front ys : List (ℕ × ℤ)) (vs : List Window) →
     a ≤ c → c < b → b < d → d ≤ n → a + length xs ≡ b → b + length front ≡ d →
     index_of len (n - (a + 1)) ≡ index_of len (n - (c + 1)) →

@@ -104,7 +104,7 @@ free-around : map (λ (w : Window). lies_free (landmarks_of around c) w)
 unfolding lies_free around c
 free-around = refl
 
--- what is refused, and what isn't, before the landmark, at its opening, at its values and behind its closing
+-- what is refused, and what isn't, before the landmark, at its opening, at its values and after its closing
 why_at : ℕ → List Event → List (Option Refusal)
 why_at k events = map (refuses (state (take k around))) events
 
@@ -131,7 +131,7 @@ refusals-values : why_at 5 (Close c 29 ∷ Close c 30 ∷ Value c 30 (pos 0) ∷
 unfolding why_at refuses state index_of around c
 refusals-values = refl
 
--- the next landmark opens behind the closing
+-- the next landmark opens after the closing
 refusals-closed : why_at 6 (Close c 41 ∷ Close c 39 ∷ Open c 40 ∷ Open c 41 ∷ Value c 40 (pos 0) ∷ Value c 41 (pos 0) ∷ []) ≡
     Some refusal.NotOpen ∷ Some refusal.NotOpen ∷ Some refusal.Time ∷ None ∷ Some refusal.Time ∷ None ∷ []
 unfolding why_at refuses state index_of around c

@@ -1,4 +1,4 @@
--- What the windows cut behind each boundary hold.
+-- What the windows cut after each boundary hold.
 use Rattle.std.proofs.Common.{◌≡◌, ℕ, ◌+◌, ◌-◌, ◌<◌, ◌≤◌, ℤ, List, [], ◌∷◌, ◌++◌, length, take, drop, Some, refl, ap, sym, ◌∙◌, arith, length-drop, length-take}
 use Rattle.std.proofs.lemmas.List.{take-append-le, drop-append-le, take-append-drop, take_at, drop_at}
 use Rattle.std.proofs.lemmas.List.Sums.{sum_by-cons}
@@ -16,7 +16,7 @@ count-summary_of (p ∷ ps) = refl
 pub taken-cons : (w : Window) (ws : List Window) → taken (w ∷ ws) ≡ w.summary.count + taken ws
 taken-cons w ws = sum_by-cons (λ (w : Window). w.summary.count) w ws
 
--- how many values stand from behind `before` to b, and behind b
+-- how many values stand from after `before` to b, and after b
 pub length-front : (before b end : ℕ) (values : List (ℕ × ℤ)) → before + length values ≡ end → before < b → b < end →
     length (take (b + 1 - (before + 1)) values) ≡ b - before
 length-front before b end values count above below = omega (arith, length-take (b + 1 - (before + 1)) values)

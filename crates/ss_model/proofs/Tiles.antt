@@ -52,7 +52,7 @@ StandFrom-append first time (u ∷ us) ws stands =
     rw (taken-cons u us, ← add_assoc first u.summary.count (taken us))
     (StandFrom-append (first + u.summary.count) (u.summary.t_last + 1) us ws stands.3)
 
--- a window stands behind those before it, and its summary is possible
+-- a window stands after those before it, and its summary is possible
 pub first-from_AreWindows : (us vs : List Window) (w : Window) → AreWindows (us ++ w ∷ vs) → w.first ≡ taken us + 1
 first-from_AreWindows us vs w tiles = let stands = StandFrom-append 1 0 us (w ∷ vs) tiles.stand in let first = stands.0 in omega arith
 

@@ -7,7 +7,7 @@ abbrev pub next_boundary : List ℕ → ℕ → ℕ
 next_boundary [] end = end
 next_boundary (b ∷ bs) end = b
 
--- of boundaries behind `before`, those that stay at n: one goes where the stretches on its two sides fit together
+-- of boundaries after `before`, those that stay at n: one goes where the stretches on its two sides fit together
 abbrev pub staying : (ℕ → ℕ) → ℕ → ℕ → List ℕ → List ℕ
 staying len n before [] = []
 staying len n before (b ∷ bs) =

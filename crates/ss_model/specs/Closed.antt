@@ -8,11 +8,11 @@ use Rattle.ss_model.specs.declared.types.Window.{Window}
 abbrev pub last_position : Window → ℕ
 last_position w = w.first + w.summary.count - 1
 
--- a window, and the one behind it, as one
+-- a window, and the one after it, as one
 abbrev pub joined_window : Window → Window → Window
 joined_window w v = record { first = w.first; summary = joined w.summary v.summary }
 
--- a window and those behind it, where each run that lies together in one target window at n is joined
+-- a window and those after it, where each run that lies together in one target window at n is joined
 abbrev pub closed_onto : (ℕ → ℕ) → ℕ → Window → List Window → List Window
 closed_onto len n w [] = w ∷ []
 closed_onto len n w (v ∷ vs) =

@@ -4,7 +4,7 @@ use Rattle.ss_summary.specs.Summaries.{summary_of, last_time}
 use Rattle.ss_model.specs.Boundaries.{boundaries}
 use Rattle.ss_model.specs.declared.types.Window.{Window}
 
--- the windows of values from a position on, cut behind each boundary
+-- the windows of values from a position on, cut after each boundary
 abbrev pub stretches : ℕ → List ℕ → List (ℕ × ℤ) → List Window
 stretches first bs [] = []
 stretches first [] (p ∷ ps) = record { first = first; summary = summary_of (p ∷ ps) } ∷ []

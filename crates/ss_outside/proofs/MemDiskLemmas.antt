@@ -40,6 +40,6 @@ module _ (start : List ℕ) (calls after : List DiskCall) (held : List ℕ) (sou
   kept_synced is holds = kept_more Synced is holds (sound_fresh _ sound.own.bytes)
 
 -- the calls up to the last good sync and those since
-pub replay_settled : (start : List ℕ) (calls : List DiskCall) (settled : ℕ) → CountsToSync settled calls → replay (fresh start) calls ≡ replay (fresh (replay (fresh start) calls).synced) (drop settled calls)
-replay_settled start calls settled is =
-    ap (replay (fresh start)) (sym (take-append-drop settled calls)) ∙ replay-append (fresh start) (take settled calls) (drop settled calls) ∙ ap (λ (s : DiskState). replay s (drop settled calls)) (is.nothing_pending start)
+pub replay_synced : (start : List ℕ) (calls : List DiskCall) (synced : ℕ) → CountsToSync synced calls → replay (fresh start) calls ≡ replay (fresh (replay (fresh start) calls).synced) (drop synced calls)
+replay_synced start calls synced is =
+    ap (replay (fresh start)) (sym (take-append-drop synced calls)) ∙ replay-append (fresh start) (take synced calls) (drop synced calls) ∙ ap (λ (s : DiskState). replay s (drop synced calls)) (is.nothing_pending start)

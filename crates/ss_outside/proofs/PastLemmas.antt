@@ -52,8 +52,8 @@ synced-write s (Wrote at bytes) is = refl
 synced-write s (Tore at count) is = refl
 synced-write s Synced is = absurd is
 
-pub settled_sync : (calls : List DiskCall) → CountsToSync (length calls + 1) (calls ++ Synced ∷ [])
-settled_sync calls = record {
+pub counts_sync : (calls : List DiskCall) → CountsToSync (length calls + 1) (calls ++ Synced ∷ [])
+counts_sync calls = record {
   within = omega (arith, length_push calls Synced);
   since = subst AreWrites (sym (drop_all (length calls + 1) (calls ++ Synced ∷ []) (omega (arith, length_push calls Synced)))) tt;
   nothing_pending = λ start.
@@ -61,12 +61,12 @@ settled_sync calls = record {
       ∙ ap (λ (s : DiskState). fresh s.synced) (sym (replay-append (fresh start) calls (Synced ∷ [])));
 }
 
-pub settled_write : (settled : ℕ) (calls : List DiskCall) (call : DiskCall) → CountsToSync settled calls → AreWrites (call ∷ []) → CountsToSync settled (calls ++ call ∷ [])
-settled_write settled calls call is write = record {
+pub counts_write : (synced : ℕ) (calls : List DiskCall) (call : DiskCall) → CountsToSync synced calls → AreWrites (call ∷ []) → CountsToSync synced (calls ++ call ∷ [])
+counts_write synced calls call is write = record {
   within = omega (arith, is.within, length_push calls call);
-  since = subst AreWrites (sym (drop-append-le settled calls (call ∷ []) is.within)) (AreWrites-push (drop settled calls) call is.since write);
+  since = subst AreWrites (sym (drop-append-le synced calls (call ∷ []) is.within)) (AreWrites-push (drop synced calls) call is.since write);
   nothing_pending = λ start.
-      ap (replay (fresh start)) (take-append-le settled calls (call ∷ []) is.within) ∙ is.nothing_pending start
+      ap (replay (fresh start)) (take-append-le synced calls (call ∷ []) is.within) ∙ is.nothing_pending start
       ∙ ap fresh (sym (ap (λ (s : DiskState). s.synced) (replay-append (fresh start) calls (call ∷ [])) ∙ synced-write (replay (fresh start) calls) call write));
 }
 
@@ -119,11 +119,11 @@ module _ (pool : List ℕ) (changes : List Change) (calls : List DiskCall) (kept
   replay_more s change is =
       ap (replay s) calls_more ∙ replay-append s (take k calls) (call_of pool (get_or changes k d) ∷ []) ∙ ap (λ (c : Change). step (replay s (take k calls)) (call_of pool c)) is
 
-  pub settled_more_sync : get_or changes k d ≡ Sync → CountsToSync (k + 1) (take (k + 1) calls)
-  settled_more_sync is =
+  pub counts_more_sync : get_or changes k d ≡ Sync → CountsToSync (k + 1) (take (k + 1) calls)
+  counts_more_sync is =
       let more : take (k + 1) calls ≡ take k calls ++ Synced ∷ [] = calls_more ∙ ap (λ (c : Change). take k calls ++ call_of pool c ∷ []) is in
       let size : length (take k calls) ≡ k = length-take-le k calls (omega (arith, lt, ap length kept, length-map changes (call_of pool))) in
-      subst (λ (l : List DiskCall). CountsToSync (k + 1) l) (sym more) (subst (λ (n : ℕ). CountsToSync (n + 1) (take k calls ++ Synced ∷ [])) size (settled_sync (take k calls)))
+      subst (λ (l : List DiskCall). CountsToSync (k + 1) l) (sym more) (subst (λ (n : ℕ). CountsToSync (n + 1) (take k calls ++ Synced ∷ [])) size (counts_sync (take k calls)))
 
   pub syncs_more_sync : get_or changes k d ≡ Sync → good_syncs (take (k + 1) calls) ≡ good_syncs (take k calls) + 1
   syncs_more_sync is = ap good_syncs (calls_more ∙ ap (λ (c : Change). take k calls ++ call_of pool c ∷ []) is) ∙ good_syncs-push (take k calls) Synced
@@ -138,9 +138,9 @@ module _ (pool : List ℕ) (changes : List Change) (calls : List DiskCall) (kept
       none (Torn at count) other = refl
       none Sync other = absurd (other refl)
 
-  pub settled_more_write : (settled : ℕ) → CountsToSync settled (take k calls) → (get_or changes k d ≡ Sync → ⊥) → CountsToSync settled (take (k + 1) calls)
-  settled_more_write settled is other =
-      subst (λ (l : List DiskCall). CountsToSync settled l) (sym calls_more) (settled_write settled (take k calls) (call_of pool (get_or changes k d)) is (write-unless_sync (get_or changes k d) other))
+  pub counts_more_write : (synced : ℕ) → CountsToSync synced (take k calls) → (get_or changes k d ≡ Sync → ⊥) → CountsToSync synced (take (k + 1) calls)
+  counts_more_write synced is other =
+      subst (λ (l : List DiskCall). CountsToSync synced l) (sym calls_more) (counts_write synced (take k calls) (call_of pool (get_or changes k d)) is (write-unless_sync (get_or changes k d) other))
     where
       write-unless_sync : (change : Change) → (change ≡ Sync → ⊥) → AreWrites (call_of pool change ∷ [])
       write-unless_sync (Bytes at from count) other = tt

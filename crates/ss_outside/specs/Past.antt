@@ -25,8 +25,8 @@ AreWrites (Tore at count ∷ calls) = AreWrites calls
 AreWrites (Synced ∷ calls) = ⊥
 
 -- so many of the calls came up to the last good sync
-pub record CountsToSync (settled : ℕ) (calls : List DiskCall) : Type 0 where
-  pub within : settled ≤ length calls
-  pub since : AreWrites (drop settled calls)
+pub record CountsToSync (synced : ℕ) (calls : List DiskCall) : Type 0 where
+  pub within : synced ≤ length calls
+  pub since : AreWrites (drop synced calls)
   -- nothing was pending then
-  pub nothing_pending : (start : List ℕ) → replay (fresh start) (take settled calls) ≡ fresh (replay (fresh start) calls).synced
+  pub nothing_pending : (start : List ℕ) → replay (fresh start) (take synced calls) ≡ fresh (replay (fresh start) calls).synced

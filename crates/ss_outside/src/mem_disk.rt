@@ -311,15 +311,15 @@ fn put(content: &mut Vec<u8>, past: &mut Past, at: usize, bytes: &[u8]) -> Resul
 fn lost(alloc: Global, start: &[u8], past: &Past) -> Result<Vec<u8>, AllocError>
     ensures { IfOk result (λ image. image.items ≡ (replay (fresh start.now) past.now).synced) }
 {
-    past.content_after(alloc, start, past.settled())
+    past.content_after(alloc, start, past.synced())
 }
 
 // The image with this byte at every free place.
 fn filled(alloc: Global, start: &[u8], past: &Past, byte: u8) -> Result<Vec<u8>, AllocError>
     ensures { IfOk result (λ image. IsFilled (replay (fresh start.now) past.now) byte image.items) }
 {
-    let settled = past.settled();
-    let mut image = past.content_after(alloc, start, settled)?;
-    past.fill(settled, &mut image, byte)?;
+    let synced = past.synced();
+    let mut image = past.content_after(alloc, start, synced)?;
+    past.fill(synced, &mut image, byte)?;
     Ok(image)
 }

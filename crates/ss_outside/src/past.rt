@@ -84,16 +84,16 @@ impl Past {
     }
 
     // How many of the calls came up to the last good sync.
-    pub(crate) fn settled(&self) -> usize
+    pub(crate) fn synced(&self) -> usize
         ensures { CountsToSync result self.now }
     {
-        let mut settled = 0;
+        let mut synced = 0;
         for (k, change) in self.changes.iter().enumerate() {
             if let Change::Sync = change {
-                settled = k + 1;
+                synced = k + 1;
             }
         }
-        settled
+        synced
     }
 
     // How many of the calls were good syncs.
@@ -128,17 +128,17 @@ impl Past {
         Ok(content)
     }
 
-    // Puts the byte at the places that the calls past the first `settled` leave free.
+    // Puts the byte at the places that the calls past the first `synced` leave free.
     pub(crate) fn fill(
         &self,
-        settled: usize,
+        synced: usize,
         image: &mut Vec<u8>,
         byte: u8,
     ) -> Result<(), AllocError>
-        requires { CountsToSync settled self.now }
-        ensures { OnOk result (IsFilled (replay (fresh image.old.items) (drop settled self.now)) byte image.new.items) }
+        requires { CountsToSync synced self.now }
+        ensures { OnOk result (IsFilled (replay (fresh image.old.items) (drop synced self.now)) byte image.new.items) }
     {
-        for change in &self.changes[settled..] {
+        for change in &self.changes[synced..] {
             match *change {
                 Change::Bytes { at, count, .. } => fill_at(image, at, count, byte)?,
                 Change::Torn { at, count } => fill_at(image, at, count, byte)?,

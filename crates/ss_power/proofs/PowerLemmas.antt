@@ -77,7 +77,7 @@ module _ {p q r s : ℕ} {group : Group} (h : IsPower p q r s) (at : IsGroup p q
       let order = Groups.group_le_age (group_size p r) (group_length q s) sizes lengths (in-group {age = group.start} (omega arith)) in
       (order.0, order.1)
 
-  -- the group behind one that ends at the greatest age or before it
+  -- the group after one that ends at the greatest age or before it
   module _ (ends : group.start + group.windows * group.len ≤ MOST_VALUES) where
     pub windows-next : ((group.newer + 2) ^ (p - 1) ≤ r * (group.newer + 2) ^ (p - 1)) × (r * (group.newer + 2) ^ (p - 1) ≤ 8 * group.windows) × (group.windows ≤ 2 ^ 40)
     windows-next =
@@ -89,7 +89,7 @@ module _ {p q r s : ℕ} {group : Group} (h : IsPower p q r s) (at : IsGroup p q
         let next = scaled-next s q group.newer h.scale_low h.widening_high in
         (next.0, rw at.len next.1, omega (arith, factors.1))
 
-    pub IsGroup-behind : IsGroup p q r s (record {
+    pub IsGroup-after : IsGroup p q r s (record {
       newer = group.newer + 1;
       index = group.index + group.windows;
       start = group.start + group.windows * group.len;
@@ -97,7 +97,7 @@ module _ {p q r s : ℕ} {group : Group} (h : IsPower p q r s) (at : IsGroup p q
       len = s * (group.newer + 2) ^ q;
     })
     unfolding power_length
-    IsGroup-behind =
+    IsGroup-after =
         let number : group.newer + 2 ≡ group.newer + 1 + 1 = omega arith in
         let next = Groups.InGroup-next (group_size p r) (group_length q s) sizes lengths (in-group {age = MOST_VALUES} (omega arith))
         (rw (at.windows, at.len) at ends) in
@@ -134,10 +134,10 @@ module _ {p q r s : ℕ} {group : Group} (h : IsPower p q r s) (at : IsGroup p q
     short-next short j inside =
         Groups.short-next (group_size p r) (group_length q s) sizes lengths (in-group {age = group.start} (omega arith)) before (rw at.len at short) j (rw at.windows at inside)
 
-    pub NoneOfLength-behind : group.len < wanted → group.start ≤ MOST_VALUES → MOST_VALUES - group.start < group.windows * group.len →
+    pub NoneOfLength-after : group.len < wanted → group.start ≤ MOST_VALUES → MOST_VALUES - group.start < group.windows * group.len →
         NoneOfLength (power_length p q r s) 0 wanted
     unfolding power_length
-    NoneOfLength-behind short begun past =
+    NoneOfLength-after short begun past =
         Groups.NoneOfLength-next (group_size p r) (group_length q s) sizes lengths (in-group {age = MOST_VALUES} begun) before (rw at.len at short)
         refl (rw (at.windows, at.len) at past)
 

@@ -31,8 +31,8 @@ pub fn newest(power: u32, widening: u32, repeat: u32, scale: u32) -> Group
     }
 }
 
-// The group behind a group that ends at the greatest age or before it.
-pub fn behind(power: u32, widening: u32, repeat: u32, scale: u32, group: Group) -> Group
+// The group after a group that ends at the greatest age or before it.
+pub fn after(power: u32, widening: u32, repeat: u32, scale: u32, group: Group) -> Group
     requires in_range { IsPower power widening repeat scale }
     requires group { IsGroup power widening repeat scale group }
     requires ends { group.start + group.windows * group.len ≤ MOST_VALUES }

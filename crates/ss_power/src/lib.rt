@@ -9,6 +9,3 @@ mod power_sum;
 pub use laws::{groups_start_at_power_sums, power_lengths_never_fall, sums_at_caps_pass_every_age};
 pub use power::{GREATEST_POWER, GREATEST_WIDENING, LEAST_POWER, Power};
 pub use power_sum::{GREATEST_EXPONENT, PowerSum, power_sum_upto};
-
-#[cfg(test)]
-mod tests;

@@ -3,7 +3,7 @@ ghost use Rattle.std.specs.Prelude.{◌≡◌, ◌≤◌, ◌↔◌, ℕ, IsOk, 
 ghost use Rattle.ss_windowing.specs.Windowing.{cut, Holds};
 ghost use Rattle.ss_power.specs.Power.{IsPower, power_length};
 
-use crate::group::{behind, newest};
+use crate::group::{after, newest};
 use ss_windowing::{Decay, GREATEST_SCALE, MOST_REPEAT, MOST_VALUES, Param, Spot};
 
 /// The least P of a power-law target, by which group g has g^(P-1) times the windows of the first.
@@ -84,7 +84,7 @@ impl Power {
     {
         let mut group = newest(self.power, self.widening, self.repeat, self.scale);
         while group.windows * group.len <= age - group.start {
-            group = behind(self.power, self.widening, self.repeat, self.scale, group);
+            group = after(self.power, self.widening, self.repeat, self.scale, group);
         }
         let place = (age - group.start) / group.len;
         Spot {
@@ -122,7 +122,7 @@ impl Decay for Power {
             if MOST_VALUES - group.start < group.windows * group.len {
                 return None;
             }
-            group = behind(self.power, self.widening, self.repeat, self.scale, group);
+            group = after(self.power, self.widening, self.repeat, self.scale, group);
         }
         Some(Spot {
             index: group.index,

@@ -9,6 +9,3 @@ mod slot_set;
 
 pub use laws::zeros_alone_are_free;
 pub use records::Records;
-
-#[cfg(test)]
-mod tests;

@@ -34,7 +34,7 @@ pub fn read_live<D: Disk>(
     ensures slots { IfOk result (λ live. length live ≡ MOST_SLOTS) }
     ensures below { IfOk result (λ live. (slot : ℕ) → is_live live slot ≡ true → slot < journal.old.extent) }
     ensures journal { OnOk result (journal.new ≡ journal.old) }
-    // Only the disk or want of memory refuses it, and neither says anything of the content.
+    // It fails only where the disk does or the memory runs out, and neither says anything of the content.
     ensures refused { (content : List ℕ) → IfErr result (λ error. OpensAs content (Err error)) }
     ensures reads { IsTrue (D.tells disk.old) → OnlyReads (D.told disk.old) (D.told disk.new) }
     ensures tells { D.tells disk.new ≡ D.tells disk.old }

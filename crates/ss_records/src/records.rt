@@ -1,7 +1,7 @@
 // The records.
 use crate::live::{note_puts, read_live};
 use crate::slot_set::SlotSet;
-use ss_journal::{Journal, JournalError, MOST_SLOTS, Txn};
+use ss_journal::{Journal, JournalError, MOST_SLOTS, SLOT_SIZE, Txn};
 use ss_outside::{Disk, Failed};
 use std::alloc::Global;
 use std::marker::Model;
@@ -37,7 +37,7 @@ impl Records {
     ghost use Rattle.ss_records.specs.Live.{is_live, live_count, lowest_free, live_after};
     ghost use Rattle.ss_records.specs.Kept.{AreKept, AreSound, journal_of};
 
-    /// Opens a disk, formed or not. It reads the entries in use, and each slot below the extent once, and writes nothing.
+    /// Opens a disk, formatted or not. It reads the entries in use, and each slot below the extent once, and writes nothing.
     pub fn open<D: Disk>(alloc: Global, disk: &mut D) -> Result<Records, JournalError>
         // The map of the content, or why it has none.
         ensures map { IsTrue (D.tells disk.old) → OpensAs (D.told disk.old).content (journal_of result) }
@@ -91,7 +91,7 @@ impl Records {
         self.live.least_outside()
     }
 
-    /// Forms a file that isn't formed, or brings the entries in use into their slots and closes their gates. It leaves
+    /// Formats a file that isn't formatted, or brings the entries in use into their slots and closes their gates. It leaves
     /// the map as it is, also in a crash.
     pub fn settle<D: Disk>(&mut self, disk: &mut D) -> Result<(), Failed>
         requires running { IsRunning self.old.journal }
@@ -112,7 +112,7 @@ impl Records {
     }
 
     /// The bytes of a slot: zeros where none were put.
-    pub fn read<D: Disk>(&mut self, disk: &mut D, slot: u32) -> Result<[u8; 128], Failed>
+    pub fn read<D: Disk>(&mut self, disk: &mut D, slot: u32) -> Result<[u8; SLOT_SIZE], Failed>
         requires running { IsRunning self.old.journal }
         requires slot { slot < MOST_SLOTS }
         requires one_disk { IsTrue (D.tells disk.old) → AreKept self.old (D.told disk.old).content }

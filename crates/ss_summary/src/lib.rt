@@ -4,8 +4,6 @@
 mod laws;
 mod possible;
 mod summary;
-#[cfg(test)]
-mod tests;
 
 pub use laws::{
     joined_is_of_the_joined_list, joining_is_associative, possible_figures_are_those_of_values,

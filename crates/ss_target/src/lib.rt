@@ -6,6 +6,3 @@ mod target;
 
 pub use laws::lengths_of_a_target_never_fall;
 pub use target::Target;
-
-#[cfg(test)]
-mod tests;

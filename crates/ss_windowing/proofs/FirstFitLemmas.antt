@@ -18,18 +18,18 @@ lengths-monotone len i (suc j) never order = elim (cases_lt j i) [
       omega arith)
 ]
 
--- the window that begins where another ends is the one behind it
-index-behind : (len : ℕ → ℕ) (i k : ℕ) → ArePositive len → Holds len k (cut len i + len i) → k ≡ i + 1
-index-behind len i k full holds =
-    let behind : Holds len (suc i) (cut len i + len i) = record { start = omega arith; end = omega (arith, full (suc i)) } in
-    rw add-one (sym (index_of-holds len k _ full holds) ∙ index_of-holds len (suc i) _ full behind)
+-- the window that begins where another ends is the one after it
+index-after : (len : ℕ → ℕ) (i k : ℕ) → ArePositive len → Holds len k (cut len i + len i) → k ≡ i + 1
+index-after len i k full holds =
+    let after : Holds len (suc i) (cut len i + len i) = record { start = omega arith; end = omega (arith, full (suc i)) } in
+    rw add-one (sym (index_of-holds len k _ full holds) ∙ index_of-holds len (suc i) _ full after)
 
 module _ {len : ℕ → ℕ} {spot next : Spot} (full : ArePositive len) (at : IsWindow len spot)
     (holds : Holds len next.index (spot.start + spot.len)) (window : IsWindow len next) where
   next-index : next.index ≡ spot.index + 1
-  next-index = index-behind len spot.index next.index full (rw (at.start, at.len) at holds)
+  next-index = index-after len spot.index next.index full (rw (at.start, at.len) at holds)
 
-  -- the window behind is the next one where it is long enough
+  -- the window after it is the next one where it is long enough
   pub FindsOfLength-next : (wanted : ℕ) → spot.start + spot.len ≤ MOST_VALUES → wanted ≤ next.len → FindsOfLength len (spot.index + 1) wanted next
   FindsOfLength-next wanted early long = record {
     window = window;
@@ -62,7 +62,7 @@ module _ {len : ℕ → ℕ} {spot next : Spot} (full : ArePositive len) (at : I
   IfSome-skip wanted None never short finds = tt
   IfSome-skip wanted (Some spot') never short finds = FindsOfLength-skip wanted spot' never short finds
 
--- where the window behind begins past the greatest age, so does each later one
+-- where the window after it begins past the greatest age, so does each later one
 pub NoneOfLength-last : (len : ℕ → ℕ) (spot : Spot) (wanted : ℕ) → IsWindow len spot → MOST_VALUES < spot.start + spot.len →
     NoneOfLength len (spot.index + 1) wanted
 NoneOfLength-last len spot wanted at past j after enough =
@@ -80,7 +80,7 @@ long-later len l r n m i full order taken unfit later begun ends =
     let same_window = index_of-holds len i (m - r) full (record { start = begun; end = omega arith }) in
     let no_younger = index_of-monotone len (n - r) (m - r) (omega arith) in
     elim (cases_lt (index_of len (n - r)) i) [
-      | inl behind ↦ (omega arith, omega arith)
+      | inl after ↦ (omega arith, omega arith)
       | inr same ↦
           (let one : index_of len (n - r) ≡ i = omega arith in
           absurd (unfit (i, (rw one at newest).start, omega arith)))
@@ -91,7 +91,7 @@ pub IsFirstFit-later : (len : ℕ → ℕ) (l r n k : ℕ) → ArePositive len �
     IsFirstOfLength len (index_of len (n - r) + 1) (r - l + 1) k → IsFirstFit len l r n (r + cut len k)
 IsFirstFit-later len l r n k full order taken unfit next =
     let newest = holds-index_of len (n - r) full in
-    let behind = cut-monotone len (suc (index_of len (n - r))) k (omega (arith, next.reached)) in
+    let after = cut-monotone len (suc (index_of len (n - r))) k (omega (arith, next.reached)) in
     record {
       reached = omega (arith, newest.end);
       fits = (k, omega arith, omega (arith, next.long));

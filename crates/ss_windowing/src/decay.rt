@@ -35,7 +35,7 @@ pub trait Decay {
         ensures some { IfSome result (FindsOfLength (length_of self.now) 0 len) }
         ensures none { IfNone result (NoneOfLength (length_of self.now) 0 len) };
 
-    /// The first window behind `spot`, which is a target window, that has at least a length. None says that each such
+    /// The first window after `spot`, which is a target window, that has at least a length. None says that each such
     /// window begins past the greatest age.
     fn next_at_least(&self, spot: Spot, len: u64) -> Option<Spot>
         requires window { IsWindow (length_of self.now) spot }

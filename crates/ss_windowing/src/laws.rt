@@ -24,7 +24,7 @@ pub fn exp_lengths_never_fall()
 
 /// Positions that lie in one target window first fit at once. Others first fit when the least later window that is long
 /// enough begins at the newest of them, and never where there is no such window.
-pub fn first_fit_is_now_or_behind_a_longer_window()
+pub fn first_fit_is_now_or_in_a_longer_window()
     ensures now { (len : ℕ → ℕ) (l r n : ℕ) → Fits len l r n → IsFirstFit len l r n n }
     ensures later { (len : ℕ → ℕ) (l r n k : ℕ) → ArePositive len → l ≤ r → r ≤ n → ¬ Fits len l r n →
         IsFirstOfLength len (index_of len (n - r) + 1) (r - l + 1) k → IsFirstFit len l r n (r + cut len k) }

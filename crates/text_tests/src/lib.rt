@@ -1,7 +1,13 @@
-//! Tests of numbers, commands and replies as text. A crate with tests is proved twice, so those of three crates stand here, and
-//! call them as a crate above does.
+//! Tests of names, numbers, arguments, commands and replies as text. A crate with tests is proved twice, so they stand here, and
+//! call the crates below as one above them does.
 #![tactic(auto)]
 
+#[cfg(test)]
+mod arguments;
+#[cfg(test)]
+mod catalog;
+#[cfg(test)]
+mod generator;
 #[cfg(test)]
 mod lines;
 #[cfg(test)]

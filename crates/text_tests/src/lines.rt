@@ -129,7 +129,7 @@ fn commands_are_printed(rt: HostRuntime) -> Result<(), Fail> {
     Ok(())
 }
 
-// Writes the line that has ended with a ';' behind, or '!' for one that was too long.
+// Writes the line that has ended with a ';' after, or '!' for one that was too long.
 fn write_line(reader: &LineReader, ended: Option<Ended>, out: &mut ArrayVec<u8, 300>)
     requires state { reader.now.ended ≡ is_some ended }
     requires whole { IfSome ended (λ e. e ≡ Ended.Whole ↔ IsSome reader.now.line) }

@@ -27,7 +27,7 @@ const ROWS: [Row; 4] = [
         zeros: &[0, 10, 11, 4, 0, 0],
         filled: &[0xA5, 10, 11, 4, 0xA5, 0xA5],
     },
-    // The first write is listed: it writes nothing, and the sync settles that.
+    // The first write is listed: it writes nothing, and after the sync nothing of it is pending.
     Row {
         failing: &[0],
         stop: None,

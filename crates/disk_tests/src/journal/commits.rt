@@ -113,7 +113,7 @@ fn commits_in_a_row_are_stopped_at_each_call(rt: HostRuntime) -> Result<(), Jour
     Ok(())
 }
 
-// A formed file without slots, with so many open entries, of which each puts its number and one more into slot 0.
+// A formatted file without slots, with so many open entries, of which each puts its number and one more into slot 0.
 fn open_entries(alloc: Global, count: u8) -> Result<Vec<u8>, AllocError> {
     let mut bytes = bytes_of(alloc, &File::Formed(&[], &[]))?;
     for n in 0..count {

@@ -33,7 +33,7 @@ fn another_file_is_refused(rt: HostRuntime) -> Result<(), JournalError> {
     Ok(())
 }
 
-// A formed file of the slots 3 and 4, cut to any length from the first to the last: its map, or no store.
+// A formatted file of the slots 3 and 4, cut to any length from the first to the last: its map, or no store.
 type Cut = (usize, usize, Result<Map<'static>, JournalError>);
 
 const CUTS: [Cut; 5] = [

@@ -92,7 +92,7 @@ pub const SHARED: Row = Row {
 };
 
 // An entry after a closed gate isn't in use.
-const BEHIND: Row = Row {
+const AFTER_CLOSED: Row = Row {
     file: File::Formed(
         &[Entry {
             place: 1056,
@@ -155,4 +155,4 @@ const TWO: Row = Row {
     in_use: 1,
 };
 
-pub const ROWS: [Row; 5] = [SHARED, BEHIND, THREE, ONE, TWO];
+pub const ROWS: [Row; 5] = [SHARED, AFTER_CLOSED, THREE, ONE, TWO];

@@ -127,7 +127,7 @@ fn a_second_stop_leaves_the_map_too(rt: HostRuntime) -> Result<(), JournalError>
     Ok(())
 }
 
-// A file that isn't formed: what it begins with, its length, and its map.
+// A file that isn't formatted: what it begins with, its length, and its map.
 type Unborn = (&'static [u8], usize, Map<'static>);
 
 const UNBORN: [Unborn; 10] = [
@@ -146,7 +146,7 @@ const UNBORN: [Unborn; 10] = [
     (b"\xFFSSTORE01", 37120, &[0, 0]),
 ];
 
-// Settling forms the file, and leaves its map.
+// Settling formats the file, and leaves its map.
 fn birth_of(unborn: &Unborn) -> Row {
     Row {
         file: File::Begun(unborn.0, unborn.1),

@@ -1,4 +1,4 @@
-use Rattle.std.proofs.Common.{◌⊎◌, inl, inr, ℕ, List, [], ◌∷◌, ◌≡◌, ◌+◌, length, sym, ◌∙◌, ap, subst, arith}
+use Rattle.std.proofs.Common.{◌⊎◌, inl, ℕ, List, [], ◌∷◌, ◌≡◌, ◌+◌, length, sym, ◌∙◌, ap, subst, arith}
 use Rattle.std.proofs.lemmas.Result.{on_ok_weaker}
 use Rattle.ss_outside.specs.Disk.{overwrite}
 use Rattle.ss_outside.proofs.CrashLemmas.{joined, weaker}

@@ -4,7 +4,7 @@ use Rattle.ss_outside.specs.Disk.{overwrite}
 use Rattle.ss_journal.specs.Entries.{entry_body}
 use Rattle.ss_journal.specs.Gates.{entry_place}
 use Rattle.ss_journal.specs.Writes.{DiffersAt, Tears}
-use Rattle.ss_journal.proofs.EntryLemmas.{body-entry, length-entry_body}
+use Rattle.ss_journal.proofs.EntryLemmas.{body-entry}
 use Rattle.ss_journal.proofs.CommitLemmas.{within-ready, StandsFor-spelled}
 use Rattle.ss_journal.proofs.RangeLemmas.{DiffersIn-overwrite}
 use Rattle.ss_journal.proofs.TearLemmas.{keeps-torn}

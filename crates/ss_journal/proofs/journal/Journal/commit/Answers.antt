@@ -1,4 +1,4 @@
-use Rattle.std.proofs.Common.{◌≡◌, ◌++◌, ◌<◌, List, IsTrue, ℕ, refl, sym, ◌∙◌, ap, subst, arith}
+use Rattle.std.proofs.Common.{◌≡◌, ◌++◌, ◌<◌, List, IsTrue, ℕ, refl, sym, ◌∙◌, ap, subst}
 use Rattle.ss_journal.specs.declared.put.Put.{Put}
 use Rattle.ss_journal.specs.Kept.{JournalState, IsKept}
 use Rattle.ss_journal.specs.Puts.{extent_after, slots_fit}

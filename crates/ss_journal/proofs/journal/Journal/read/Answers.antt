@@ -1,12 +1,10 @@
-use Rattle.std.proofs.Common.{◌≡◌, ◌≢◌, inl, inr, ℕ, List, sym, ◌∙◌, ap, subst, rules}
+use Rattle.std.proofs.Common.{◌≡◌, ◌≢◌, inl, inr, sym, ◌∙◌, ap, subst, rules}
 use denote.Enum.Bare.{same_true, sameb}
 use Rattle.std.proofs.lemmas.Bool.{both_ways}
 use Rattle.ss_journal.specs.contracts.phase.Phase.{the_type}
-use Rattle.ss_journal.specs.declared.put.Put.{Put}
 use Rattle.ss_journal.specs.declared.phase.Phase.{Phase}
 use Rattle.ss_journal.specs.declared.phase.Phase.TheVariants.{Unborn}
 use Rattle.ss_journal.specs.Kept.{IsInPhase, IsKept, JournalState}
-use Rattle.ss_journal.specs.Puts.{with_puts}
 use Rattle.ss_journal.specs.Redo.{file_map}
 use Rattle.ss_journal.proofs.KeptLemmas.{unused_bytes, born_phase, born_bytes, slot_lies, slot_bytes}
 use Rattle.ss_journal.proofs.journal.Journal.read.Goals as goal

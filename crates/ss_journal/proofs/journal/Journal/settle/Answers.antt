@@ -1,4 +1,4 @@
-use Rattle.std.proofs.Common.{List, ℕ, ◌⊎◌, IsTrue, Result, Ok, inr, sym, subst}
+use Rattle.std.proofs.Common.{Result, Ok, sym, subst}
 use Rattle.ss_outside.specs.declared.source.Failed.{Failed}
 use Rattle.ss_journal.proofs.TearLemmas.{on_err}
 use Rattle.std.proofs.lemmas.Bool.{both_ways}
@@ -6,7 +6,6 @@ use Rattle.ss_journal.specs.declared.phase.Phase.TheVariants.{Settled}
 use Rattle.ss_journal.specs.declared.phase.Phase.{Phase}
 use Rattle.ss_journal.specs.Calls.{MakesDurable}
 use Rattle.ss_journal.specs.Writes.{SameRest}
-use Rattle.ss_journal.specs.Format.{is_unborn}
 use Rattle.ss_journal.specs.Kept.{JournalState, IsInPhase, IsKept}
 use Rattle.ss_journal.proofs.HeaderLemmas.{is_born-unborn}
 use Rattle.ss_journal.proofs.KeptLemmas.{IsKept-settled, born_formed, durable-unborn}

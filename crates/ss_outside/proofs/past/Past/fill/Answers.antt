@@ -14,15 +14,15 @@ use Rattle.ss_outside.proofs.past.Past.fill.Goals as goal
 pub loop-change-preserved : goal.loop-change-preserved
 loop-change-preserved c =
     let pool = c.self.inside.pool.items in
-    let changes = take (length c.deref.result.now - c.args.settled) (drop c.args.settled c.deref.result.now) in
-    let calls = drop c.args.settled c.args.self.now in
+    let changes = take (length c.deref.result.now - c.args.synced) (drop c.args.synced c.deref.result.now) in
+    let calls = drop c.args.synced c.args.self.now in
     let kept : map (call_of pool) changes ≡ calls =
-    ap (map (call_of pool)) (take_rest c.deref.result.now c.args.settled) ∙ sym (drop-map (call_of pool) c.args.settled c.deref.result.now)
-    ∙ ap (drop c.args.settled) (ap (map (call_of pool)) c.deref.ensures.value ∙ c.self.view_is) in
+    ap (map (call_of pool)) (take_rest c.deref.result.now c.args.synced) ∙ sym (drop-map (call_of pool) c.args.synced c.deref.result.now)
+    ∙ ap (drop c.args.synced) (ap (map (call_of pool)) c.deref.ensures.value ∙ c.self.view_is) in
     let before = replay (fresh c.args.image.now.items) (take c.loop-change.change-index calls) in
     let short : length before.synced ≤ before.longest = synced_no_longer (fresh c.args.image.now.items) (take c.loop-change.change-index calls) (omega arith) in
     let all : All (LiesWithin (length pool)) changes =
-    All-take (LiesWithin (length pool)) (length c.deref.result.now - c.args.settled) (drop c.args.settled c.deref.result.now) (All-drop (LiesWithin (length pool)) c.args.settled c.deref.result.now (All-same (LiesWithin (length pool)) c.deref.result.now c.self.inside.changes.items c.deref.ensures.value c.self.invariant)) in
+    All-take (LiesWithin (length pool)) (length c.deref.result.now - c.args.synced) (drop c.args.synced c.deref.result.now) (All-drop (LiesWithin (length pool)) c.args.synced c.deref.result.now (All-same (LiesWithin (length pool)) c.deref.result.now c.self.inside.changes.items c.deref.ensures.value c.self.invariant)) in
     elim c.match-change.branch [
       | in-Bytes+in_ok-fill_at-in-Bytes w ↦
           let more = replay_more pool changes calls kept c.loop-change.change-index c.loop-change-test.true (Bytes 0 0 0) (fresh c.args.image.now.items) (Bytes w.in-Bytes.at w.in-Bytes.from w.in-Bytes.count) w.in-Bytes.is in

@@ -1,5 +1,5 @@
 use Rattle.std.proofs.Common.{arith}
-use Rattle.ss_power.proofs.PowerLemmas.{span-positive, short-next, NoneOfLength-behind, FindsOfLength-group, NoneOfLength-even}
+use Rattle.ss_power.proofs.PowerLemmas.{span-positive, short-next, NoneOfLength-after, FindsOfLength-group, NoneOfLength-even}
 use Rattle.ss_power.proofs.power.PowerDecay.first_at_least.Goals as goal
 
 pub returns-then-from-len-clause-none : goal.returns-then-from-len-clause-none
@@ -9,7 +9,7 @@ returns-then-from-len-clause-none c =
 
 pub returns-then-group-clause-none : goal.returns-then-group-clause-none
 returns-then-group-clause-none c =
-    NoneOfLength-behind c.args.self.now.in_range c.loop-group.invariant.is_group c.loop-group.invariant.short c.loop-group-test.true
+    NoneOfLength-after c.args.self.now.in_range c.loop-group.invariant.is_group c.loop-group.invariant.short c.loop-group-test.true
     c.loop-group.invariant.begun c.if-group.true
 
 pub loop-group-smaller : goal.loop-group-smaller
@@ -17,9 +17,9 @@ loop-group-smaller c = omega (arith, span-positive c.args.self.now.in_range c.lo
 
 pub loop-group-preserved : goal.loop-group-preserved
 loop-group-preserved c = record {
-  is_group = c.behind-group.ensures.group;
+  is_group = c.after-group.ensures.group;
   begun = omega arith;
-  short = rw c.behind-group.ensures.index
+  short = rw c.after-group.ensures.index
       (short-next c.args.self.now.in_range c.loop-group.invariant.is_group c.loop-group.invariant.short c.loop-group-test.true);
 }
 

@@ -1,4 +1,4 @@
-use Rattle.std.proofs.Common.{◌≡◌, ◌∙◌, ◌*◌, ◌<◌, sym, ap, arith, false, Bool, List, ℕ, length}
+use Rattle.std.proofs.Common.{◌∙◌, ◌*◌, ◌<◌, sym, ap, arith, false, Bool, List, ℕ, length}
 use Rattle.std.specs.List.{slice_index_or}
 use Rattle.ss_records.specs.Bits.{is_set}
 use Rattle.ss_records.proofs.TreeLemmas.{get_or-members, length-members}

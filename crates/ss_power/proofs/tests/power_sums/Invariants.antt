@@ -1,4 +1,0 @@
-use Rattle.ss_power.proofs.tests.power_sums.Given as goal
-
-abbrev pub ghosts-sums : goal.ghosts-sums
-ghosts-sums g a = record { name = a.blank.name; parts = a.blank.parts }

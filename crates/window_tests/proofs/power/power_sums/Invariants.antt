@@ -1,0 +1,4 @@
+use Rattle.window_tests.proofs.power.power_sums.Given as goal
+
+abbrev pub ghosts-sums : goal.ghosts-sums
+ghosts-sums g a = record { name = a.blank.name; parts = a.blank.parts }
