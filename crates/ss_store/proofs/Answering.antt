@@ -1,19 +1,12 @@
 -- What windows that are read one after the other say of a range of times.
-use Rattle.std.proofs.Common.{◌≡◌, ◌∙◌, ℕ, zero, suc, ◌+◌, ◌-◌, ◌*◌, ◌^◌, ◌<◌, ◌≤◌, max, min, true, ℤ, ◌+ℤ◌, ◌≤ℤ◌, List, [], ◌∷◌, length, refl, sym, ap, ap₂, subst, arith}
+use Rattle.std.proofs.Common.{◌≡◌, ◌∙◌, ℕ, zero, suc, ◌+◌, ◌-◌, ◌^◌, ◌<◌, ◌≤◌, ℤ, ◌+ℤ◌, sym, ap, ap₂, subst, arith}
 use Rattle.std.specs.Prelude.{FitsSigned, unsigned_abs}
-use Rattle.std.specs.List.{count_by, range_with_len}
 use Rattle.std.proofs.lemmas.Int.{ints, clamps, to_z-of_z}
 use Rattle.std.specs.Int.{w128}
-use Rattle.std.proofs.lemmas.List.FromFn.{length-range_with_len}
 use Rattle.ss_bounds.specs.Split.{IsSplit, SplitFigures, greatest_count, greatest_of, high_sum, least_count, least_of, low_sum, sum_interval}
-use Rattle.ss_bounds.specs.Times.{ends_in, split_of, times, times_inside, times_outside}
 use Rattle.ss_bounds.proofs.Held.{held, held-is, low_sum-small, sum-small}
 use Rattle.ss_bounds.proofs.LeastLemmas.{high_sum-rest}
 use Rattle.ss_bounds.proofs.Numbers.{times-down, times-up}
-use Rattle.ss_bounds.proofs.RangeLemmas.{times_inside-times, times_inside-times_outside}
-use Rattle.ss_bounds.proofs.TimeLemmas.{count_by-cons}
-use Rattle.ss_model.specs.Interval.{split_figures}
-use Rattle.ss_model.specs.declared.types.Window.{Window}
 use Rattle.ss_summary.specs.Figures.{Figures, IsPossible}
 use Rattle.ss_store.specs.Asked.{IsNear}
 

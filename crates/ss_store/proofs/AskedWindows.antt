@@ -1,5 +1,5 @@
 -- A stream whose windows are read one after the other, oldest first.
-use Rattle.std.proofs.Common.{◌≡◌, ◌∙◌, ℕ, zero, suc, ◌+◌, ◌-◌, ◌<◌, ◌≤◌, Bool, true, false, List, [], ◌∷◌, ◌++◌, map, length, refl, sym, ap, ap₂, subst, arith, append_assoc, append-nil, length-append, drop, get_or, Option, Some, None, IsTrue, IsPermutation, Ok, Err, Result}
+use Rattle.std.proofs.Common.{◌≡◌, ◌∙◌, ℕ, ◌+◌, ◌-◌, ◌<◌, ◌≤◌, Bool, true, false, List, [], ◌∷◌, ◌++◌, map, length, refl, sym, ap, ap₂, subst, arith, append_assoc, append-nil, length-append, drop, get_or, Option, Some, None, IsTrue, Ok, Err, Result}
 use Rattle.std.specs.Prelude.{IfSome, if◌then◌else◌, option_map, slice_get, zip}
 use Rattle.std.specs.List.{Contains, list_all}
 use Rattle.std.proofs.lemmas.Bool.{and_parts}
@@ -25,7 +25,7 @@ use Rattle.ss_model.specs.Marks.{lies_free, marked_values}
 use Rattle.ss_outside.proofs.CrashLemmas.{reads-joined, reads-none}
 use Rattle.ss_outside.specs.Crash.{OnlyReads}
 use Rattle.ss_outside.specs.Disk.{Told}
-use Rattle.ss_recover.specs.Held.{Agrees, TileFrom, entries_of, mark_slots, marks_held, records_held, slots_held, span_held, span_of, stream_record, window_record}
+use Rattle.ss_recover.specs.Held.{TileFrom, entries_of, mark_slots, marks_held, records_held, slots_held, span_held, span_of, stream_record, window_record}
 use Rattle.ss_recover.specs.declared.parts.StreamParts.{StreamParts}
 use Rattle.ss_records.specs.Kept.{AreKept, RecordsState}
 use Rattle.ss_summary.specs.Figures.{Figures}

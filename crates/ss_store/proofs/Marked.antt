@@ -1,8 +1,7 @@
 -- A stream whose landmarks take an event: what it is afterwards, and which records and slots it has.
-use Rattle.std.proofs.Common.{◌≡◌, ◌∙◌, ℕ, zero, suc, ℤ, ◌+◌, ◌-◌, ◌<◌, ◌≤◌, Bool, true, false, not, ◌&&◌, is_some, List, [], ◌∷◌, ◌++◌, length, map, zip, refl, ap, ap₂, sym, subst, arith, append-nil, append_assoc, length-append, IsPermutation, Option, None, Some, MatchOption, inl, inr, ⊎_elim, IsTrue, Result}
+use Rattle.std.proofs.Common.{◌≡◌, ◌∙◌, ℕ, zero, suc, ℤ, ◌+◌, ◌-◌, ◌≤◌, Bool, true, not, ◌&&◌, is_some, List, [], ◌∷◌, ◌++◌, length, map, zip, refl, ap, ap₂, sym, subst, arith, append-nil, append_assoc, length-append, IsPermutation, Option, None, Some, MatchOption, inl, inr, ⊎_elim, IsTrue, Result}
 use Rattle.std.specs.Prelude.{◌⊎◌, ⊤, option_map, slice_index}
-use Rattle.std.proofs.lemmas.Bool.{cases_Bool, not-false}
-use Rattle.std.proofs.lemmas.List.Sorted.{IsPermutation-append_left, IsPermutation-append_right, IsPermutation-cons, IsPermutation-middle, IsPermutation-refl, IsPermutation-sym, IsPermutation-to_front, IsPermutation-trans}
+use Rattle.std.proofs.lemmas.List.Sorted.{IsPermutation-append_left, IsPermutation-append_right, IsPermutation-middle, IsPermutation-refl, IsPermutation-sym, IsPermutation-to_front, IsPermutation-trans}
 use Rattle.ss_outside.specs.Disk.{Told}
 use Rattle.ss_catalog.specs.declared.TheConstants.{LAST_TIME}
 use Rattle.ss_catalog.specs.declared.stream_id.StreamId.{StreamId}
@@ -12,27 +11,26 @@ use Rattle.ss_codec.specs.declared.record.Record.TheVariants as records
 use Rattle.ss_codec.proofs.RecordLemmas.{IsValue-is_valid}
 use Rattle.ss_landmarks.specs.Landmark.{Landmark, LandmarkValue, all_values, change_last, closed_at, open_landmark, opened_at, with_value}
 use Rattle.ss_landmarks.specs.Landmarks.{IsState as AreKnown, opened}
-use Rattle.ss_landmarks.specs.Order.{AreLandmarks, CanClose, CanTake}
+use Rattle.ss_landmarks.specs.Order.{CanClose}
 use Rattle.ss_landmarks.proofs.OrderLemmas.{AreLandmarks-close, AreLandmarks-take, FollowFrom-open}
 use Rattle.ss_landmarks.proofs.TimeLemmas.{all_values-close, all_values-open, all_values-take}
 use Rattle.ss_line.specs.declared.entry.Entry.{Entry}
 use Rattle.ss_target.specs.Targets.{params_of}
 use Rattle.ss_model.specs.History.{CanBeSaid}
-use Rattle.ss_model.specs.Marks.{has_open, later, latest_of, with_closed, with_marked, with_opened}
+use Rattle.ss_model.specs.Marks.{has_open, latest_of, with_closed, with_marked, with_opened}
 use Rattle.ss_model.specs.Refusals.{is_before, is_early, is_opening, is_past}
 use Rattle.ss_model.specs.Standing.{IsStream}
-use Rattle.ss_model.specs.State.{Stream, last_time}
+use Rattle.ss_model.specs.State.{Stream}
 use Rattle.ss_model.specs.Windows.{newest_time}
-use Rattle.ss_model.specs.declared.types.Window.{Window}
 use Rattle.ss_model.proofs.StreamLemmas.{IsStream-closed, IsStream-marked, IsStream-opened, newest-past}
-use Rattle.ss_recover.specs.Held.{Agrees, all_value_records, entries_of, in_slots, landmark_record, landmark_records, mark_slots, marks_held, records_held, slots_held, span_held, span_of, stream_record, value_records, values_said, window_record, window_slots, windows_held}
+use Rattle.ss_recover.specs.Held.{Agrees, all_value_records, entries_of, in_slots, landmark_record, landmark_records, mark_slots, marks_held, records_held, slots_held, span_held, stream_record, value_records, values_said, window_record, window_slots, windows_held}
 use Rattle.ss_recover.specs.declared.parts.StreamParts.{StreamParts}
 use Rattle.ss_recover.proofs.Marks.{all_value_records-append, landmark_records-append, length-all_value_records, length-landmark_records, value_records-append}
 use Rattle.ss_recover.proofs.Permutations.{IsPermutation-same}
 use Rattle.ss_store.specs.Calls.{Turns}
 use Rattle.ss_store.specs.Held.{IsHeldIn}
 use Rattle.ss_store.specs.Kept.{is_early_held, without_spare}
-use Rattle.ss_store.specs.Marking.{CanMark, FitsMark, IsItsSlot, IsMarkedOrNot, event_of, landmarks_after, mark_record, mark_refusal, slots_after, start_open, value_slots_after, values_open, with_mark}
+use Rattle.ss_store.specs.Marking.{CanMark, FitsMark, IsItsSlot, IsMarkedOrNot, event_of, landmarks_after, mark_record, mark_refusal, slots_after, value_slots_after, values_open, with_mark}
 use Rattle.ss_store.specs.Slots.{AddsRecord, AreSomeLive, Either, HasRecords, LiveSlotsGo, Replaces, live_slots}
 use Rattle.ss_store.specs.declared.marking.Mark.{Mark}
 use Rattle.ss_store.specs.declared.marking.Mark.TheVariants.{Open, Value, Close}

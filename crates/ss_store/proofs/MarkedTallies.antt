@@ -1,5 +1,5 @@
 -- The tally of the values of landmarks in a range is that of the values that are asked for, one by one, and it is of few values.
-use Rattle.std.proofs.Common.{◌≡◌, ◌∙◌, ℕ, zero, suc, ◌+◌, ◌*◌, ◌^◌, ◌≤◌, Bool, true, false, List, [], ◌∷◌, map, length, refl, sym, ap, arith, get_or, inl, inr, Option, Some, None}
+use Rattle.std.proofs.Common.{◌≡◌, ◌∙◌, ℕ, ◌*◌, ◌^◌, ◌≤◌, List, [], ◌∷◌, map, length, refl, sym, ap, arith, inl, inr, Some}
 use Rattle.std.specs.Prelude.{FitsSigned, ℤ, ◌+ℤ◌, unsigned_abs}
 use Rattle.std.specs.Int.{w64}
 use Rattle.std.specs.List.{All, filter}

@@ -1,9 +1,9 @@
 -- The open landmark among landmarks in order, and their times once one opens, takes a value or closes.
-use Rattle.std.proofs.Common.{◌≡◌, ◌∙◌, ℕ, ℤ, ◌+◌, ◌<◌, ◌≤◌, Bool, true, false, not, ◌&&◌, ◌||◌, List, [], ◌∷◌, ◌++◌, length, max, refl, ap, sym, subst, arith, length-append, Option, None, Some, IfSome, IsNone, IsSome, MatchOption, is_none, is_some, inl, inr}
-use Rattle.std.specs.Prelude.{All, nat_le, nat_lt, ◌==◌}
-use Rattle.std.specs.List.{list_all, list_any}
+use Rattle.std.proofs.Common.{◌≡◌, ◌∙◌, ℕ, ◌+◌, ◌<◌, ◌≤◌, Bool, true, false, not, ◌&&◌, List, [], ◌∷◌, ◌++◌, length, max, refl, ap, sym, subst, arith, length-append, Option, None, Some, IfSome, IsNone, MatchOption, is_none, is_some, inl, inr}
+use Rattle.std.specs.Prelude.{All, nat_le, ◌==◌}
+use Rattle.std.specs.List.{list_all}
 use Rattle.std.specs.Option.{option_map_or}
-use Rattle.std.proofs.lemmas.Bool.{and_parts, and_right, both_ways, cases_Bool, cond-false, cond-true, eqb-true, le-leb, not-false}
+use Rattle.std.proofs.lemmas.Bool.{and_parts, cases_Bool, cond-false, cond-true, eqb-true, not-false}
 use Rattle.std.proofs.lemmas.Bool.Decides.{nat_tests}
 use Rattle.std.proofs.lemmas.List.Elements.{All-cons, All-head, All-nil, All-push, All-tail}
 use Rattle.ss_catalog.specs.declared.refusal.Refusal.{Refusal}

@@ -1,9 +1,8 @@
 -- What opening reads, and what it leaves of the disk.
-use Rattle.std.proofs.Common.{◌≡◌, ℕ, List, flat_map, zip, ap, subst, ◌∙◌, Result, Ok, Err}
+use Rattle.std.proofs.Common.{◌≡◌, ℕ, List, flat_map, zip, ap, subst, sym, ◌∙◌, Result, Ok, Err}
 use Rattle.std.specs.Prelude.{IsErr}
 use Rattle.ss_outside.specs.Crash.{KnowsNow, OnlyReads}
 use Rattle.ss_outside.specs.Disk.{Told}
-use Rattle.ss_outside.specs.declared.source.Failed.{Failed}
 use Rattle.ss_journal.specs.Calls.{KeepsMap}
 use Rattle.ss_journal.specs.Kept as Journals
 use Rattle.ss_journal.specs.Kept.{JournalState}
@@ -26,13 +25,13 @@ use Rattle.ss_store.specs.Calls.{KeepsState, Turns}
 use Rattle.ss_store.specs.Causes.{IsFirm, OpensAs}
 use Rattle.ss_store.specs.Errors.{open_of_fault, open_of_journal, open_of_recover}
 use Rattle.ss_store.specs.Kept.{StoreIsKept, StoreState}
+use Rattle.ss_store.specs.Rebuilt.{HasRebuilt, IsRebuilt}
 use Rattle.ss_store.specs.Recover.{Recovers, recover, recovered_from, recovered_of}
-use Rattle.ss_store.specs.Slots.{HasRecords}
 use Rattle.ss_store.specs.declared.reading.Fault.{Fault}
 use Rattle.ss_store.specs.declared.reading.Fault.TheVariants as fault
 use Rattle.ss_store.proofs.Among.{Recovers-held, recover-StandsFor}
-use Rattle.ss_store.proofs.Calls.{Turns-answers, Turns-failed, Turns-joined, Turns-reads, Turns-then, Turns-weaker}
-use Rattle.ss_store.proofs.ClosingAll.{AreHeldIn, IsState-closed_state, closed_state-again}
+use Rattle.ss_store.proofs.Calls.{Turns-answers, Turns-failed, Turns-reads, Turns-then, Turns-weaker}
+use Rattle.ss_store.proofs.ClosingAll.{IsState-closed_state, closed_state-again}
 use Rattle.ss_store.proofs.KeptStates.{Recovers-same}
 use Rattle.ss_store.proofs.Slots.{Turns-settle}
 
@@ -60,12 +59,7 @@ pub StandsFor-kept : (records : RecordsState) (content : List ℕ) (kept : AreKe
 StandsFor-kept records content kept =
     StandsFor-from content kept.journal.found kept.journal.found kept.journal.map (SameMap-refl kept.journal.found)
 
--- What was rebuilt is held, and stands for a state.
-pub record IsRebuilt (parts : List StreamParts) (content : List ℕ) : Type 0 where
-  pub streams : List Stream
-  pub state : IsState streams
-  pub held : AreHeldIn parts streams content
-
+-- What was rebuilt of the records that are kept.
 pub IsRebuilt-from : (records : RecordsState) (parts : Parts) (content : List ℕ) → AreKept records content →
     ((found : SlotMap) → StandsFor content found → RebuildsAs found (Ok parts)) → IsRebuilt parts.streams.items content
 IsRebuilt-from records parts content kept rebuilds =
@@ -75,7 +69,8 @@ IsRebuilt-from records parts content kept rebuilds =
     record {
       streams = built.0;
       state = built.2.state;
-      held = record { agree = built.2.each; records = record { found = found; map = is; occupied = built.2.records } };
+      agree = built.2.each;
+      records = record { found = found; map = is; occupied = built.2.records };
     }
 
 -- what was rebuilt of a disk that was only read
@@ -85,12 +80,8 @@ pub IsRebuilt-opened : (records : RecordsState) (parts : Parts) (held : List Str
 IsRebuilt-opened records parts held old opened reads kept rebuilds is =
     rw (is, ← reads.same.content) (IsRebuilt-from records parts opened.content kept rebuilds)
 
--- the records of what was rebuilt
-abbrev pub HasRebuilt : List StreamParts → List Stream → List ℕ → Type 0
-HasRebuilt parts streams = HasRecords (flat_map records_held (zip parts streams))
-
 pub Recovers-rebuilt : (parts : List StreamParts) (content : List ℕ) (is : IsRebuilt parts content) → Recovers (closed_state is.streams) content
-Recovers-rebuilt parts content is = Recovers-held parts is.streams content is.held.agree is.state is.held.records
+Recovers-rebuilt parts content is = Recovers-held parts is.streams content is.agree is.state is.records
 
 -- what holds of closed streams that are held
 pub Recovers-closed : (now : List StreamParts) (streams : List Stream) (image : List ℕ) → IsState streams → AllAgree now (closed_state streams) →
@@ -99,25 +90,27 @@ Recovers-closed now streams image state agree has =
     subst (λ l. Recovers l image) (closed_state-again streams state)
     (Recovers-held now (closed_state streams) image agree (IsState-closed_state streams state) has)
 
--- reading, and settling, leave the records
-pub Turns-settled : {T E : Type 0} (parts : List StreamParts) (streams : List Stream) (old read new : Told) (result : Result T E) → KnowsNow old →
-    OnlyReads old read → KeepsMap read new result →
-    Turns (HasRebuilt parts streams) (HasRebuilt parts streams) (HasRebuilt parts streams) old new result
-Turns-settled {T} {E} parts streams old read new result knows reads keeps =
-    let has = HasRebuilt parts streams in
-    Turns-joined {S = Unit {0}} {F = E} has has has has old read new tt result (Turns-reads has has old read (Ok tt) knows reads (λ is. is))
-    (Turns-settle (flat_map records_held (zip parts streams)) read new result keeps)
-
--- and closing leaves the state
-pub Turns-opened : {F T E : Type 0} (parts now : List StreamParts) (streams : List Stream) (old settled new : Told) (result : Result T E) →
-    AllAgree parts streams → IsState streams →
-    Turns {T = Unit {0}} {E = F} (HasRebuilt parts streams) (HasRebuilt parts streams) (HasRebuilt parts streams) old settled (Ok tt) →
-    Turns (HasRebuilt parts streams) (Recovers (closed_state streams)) (HasRebuilt now (closed_state streams)) settled new result →
+-- settling failed: the records are those from before, and recover to the closed state
+pub Turns-unsettled : {S F T E : Type 0} (parts now : List StreamParts) (streams : List Stream) (old new : Told) (step : Result S F) (result : Result T E) →
+    AllAgree parts streams → IsState streams → KeepsMap old new step → IsErr result →
     Turns (HasRebuilt parts streams) (Recovers (closed_state streams)) (HasRebuilt now (closed_state streams)) old new result
-Turns-opened {F} parts now streams old settled new result agree state first second =
+Turns-unsettled parts now streams old new step result agree state keeps failed =
+    let has = HasRebuilt parts streams in
+    let closed = HasRebuilt now (closed_state streams) in
+    Turns-weaker has has has (Recovers (closed_state streams)) closed closed old new result (λ held. held)
+    (λ held image left. Recovers-held parts streams image agree state left) (λ held image left. left)
+    (Turns-failed has has has closed old new step result failed (Turns-settle (flat_map records_held (zip parts streams)) old new step keeps))
+
+-- a call that leaves the records, and then one that closes the streams
+pub Turns-opened : {F T E : Type 0} (parts now : List StreamParts) (streams : List Stream) (old mid new : Told) (result : Result T E) →
+    AllAgree parts streams → IsState streams →
+    Turns {T = Unit {0}} {E = F} (HasRebuilt parts streams) (HasRebuilt parts streams) (HasRebuilt parts streams) old mid (Ok tt) →
+    Turns (HasRebuilt parts streams) (Recovers (closed_state streams)) (HasRebuilt now (closed_state streams)) mid new result →
+    Turns (HasRebuilt parts streams) (Recovers (closed_state streams)) (HasRebuilt now (closed_state streams)) old new result
+Turns-opened {F} parts now streams old mid new result agree state first second =
     let has = HasRebuilt parts streams in
     let is = Recovers (closed_state streams) in
-    Turns-then {S = Unit {0}} {F = F} has has has is (HasRebuilt now (closed_state streams)) is old settled new tt result first second
+    Turns-then {S = Unit {0}} {F = F} has has has is (HasRebuilt now (closed_state streams)) is old mid new tt result first second
     (λ image held. Recovers-held parts streams image agree state held) (λ image left. left)
 
 -- a call that leaves the state of what was rebuilt keeps the state
@@ -129,33 +122,22 @@ KeepsState-rebuilt parts old new result is M Q crash after turns streams =
     let same : Recovers streams old.content → (image : List ℕ) → Recovers (closed_state is.streams) image → Recovers streams image =
     λ has image left. subst (λ l. Recovers l image) (Recovers-same (closed_state is.streams) streams old.content (Recovers-rebuilt parts old.content is) has) left in
     Turns-weaker (HasRebuilt parts is.streams) (Recovers streams) M (Recovers streams) Q (Recovers streams) old new result
-    (λ has. is.held.records) (λ has image left. same has image (crash image left)) (λ has image left. same has image (after image left)) turns
+    (λ has. is.records) (λ has image left. same has image (crash image left)) (λ has image left. same has image (after image left)) turns
 
--- settling failed
-pub KeepsState-unsettled : {S F T E : Type 0} (parts : List StreamParts) (old read new : Told) (step : Result S F) (result : Result T E) → KnowsNow old →
-    IsRebuilt parts old.content → OnlyReads old read → KeepsMap read new step → IsErr result → KeepsState old new result
-KeepsState-unsettled parts old read new step result knows is reads keeps failed =
-    let has = HasRebuilt parts is.streams in
-    let recovers : (image : List ℕ) → has image → Recovers (closed_state is.streams) image =
-    λ image held. Recovers-held parts is.streams image is.held.agree is.state held in
-    KeepsState-rebuilt parts old new result is has has recovers recovers
-    (Turns-failed has has has has old new step result failed (Turns-settled parts is.streams old read new step knows reads keeps))
-
--- the streams were rebuilt, and settling went well
-module _ (parts now : List StreamParts) (old read settled new : Told) (knows : KnowsNow old) (is : IsRebuilt parts old.content) (reads : OnlyReads old read)
-    (keeps : KeepsMap {T = Unit {0}} {E = Failed} read settled (Ok tt)) where
+-- the streams were rebuilt, and then the store was settled and the streams closed
+module _ (parts now : List StreamParts) (old read new : Told) (knows : KnowsNow old) (is : IsRebuilt parts old.content) (reads : OnlyReads old read) where
   abbrev Closes : {T E : Type 0} → Result T E → Type 0
-  Closes step =
-      Turns (HasRebuilt parts is.streams) (Recovers (closed_state is.streams)) (HasRebuilt now (closed_state is.streams)) settled new step
+  Closes step = Turns (HasRebuilt parts is.streams) (Recovers (closed_state is.streams)) (HasRebuilt now (closed_state is.streams)) read new step
 
-  pub held_settled : HasRebuilt parts is.streams settled.content
-  held_settled = (Turns-settled parts is.streams old read settled (Ok tt) knows reads keeps).content is.held.records
+  pub held_read : HasRebuilt parts is.streams read.content
+  held_read = subst (HasRebuilt parts is.streams) (sym reads.same.content) is.records
 
   closed-from_start : {T E : Type 0} (step : Result T E) → Closes step →
       Turns (HasRebuilt parts is.streams) (Recovers (closed_state is.streams)) (HasRebuilt now (closed_state is.streams)) old new step
   closed-from_start step closes =
-      Turns-opened parts now is.streams old settled new step is.held.agree is.state
-      (Turns-settled parts is.streams old read settled (Ok tt) knows reads keeps) closes
+      let has = HasRebuilt parts is.streams in
+      Turns-opened {F = Unit {0}} parts now is.streams old read new step is.agree is.state
+      (Turns-reads has has old read (Ok tt) knows reads (λ held. held)) closes
 
   -- closing failed
   pub KeepsState-unclosed : {S F T E : Type 0} (step : Result S F) (result : Result T E) → Closes step → IsErr result → KeepsState old new result
@@ -186,6 +168,6 @@ module _ (parts now : List StreamParts) (old read settled new : Told) (knows : K
     streams = closed_state is.streams;
     state = IsState-closed_state is.streams is.state;
     agree = rw same agree;
-    held = rw same (closes.content held_settled);
+    held = rw same (closes.content held_read);
     closed = closed_state-again is.streams is.state;
   }

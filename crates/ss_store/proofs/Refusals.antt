@@ -1,7 +1,6 @@
 -- Why an event is refused, by the tests that are made over what is held.
 use Rattle.std.proofs.Common.{◌≡◌, ℕ, ℤ, Bool, true, false, not, ◌&&◌, List, [], ◌∷◌, length, flat_map, refl, ap, sym, ◌∙◌, None, Some, is_some}
 use Rattle.std.specs.Prelude.{Option, if◌then◌else◌, nat_le}
-use Rattle.std.specs.Option.{option_map_or}
 use Rattle.ss_catalog.specs.declared.event.Event.{Event}
 use Rattle.ss_catalog.specs.declared.event.Event.TheVariants as events
 use Rattle.ss_catalog.specs.declared.params.Params.{Params}
@@ -13,7 +12,7 @@ use Rattle.ss_windowing.specs.declared.decay.TheConstants.{MOST_VALUES}
 use Rattle.ss_model.specs.Marks.{has_open}
 use Rattle.ss_model.specs.Refusals.{first_that_applies, refuses, has_all_records, is_before, is_early, is_full, is_opening, is_past, of_named}
 use Rattle.ss_model.specs.Standing.{IsState, IsStream}
-use Rattle.ss_model.specs.State.{Stream, stream_named, last_time, values_in}
+use Rattle.ss_model.specs.State.{Stream, stream_named, last_time}
 use Rattle.ss_model.specs.declared.types.TheConstants.{MOST_RECORDS}
 use Rattle.ss_recover.specs.Held.{AllAgree, Agrees, entries_of, slots_held}
 use Rattle.ss_recover.specs.declared.parts.StreamParts.{StreamParts}

@@ -1,6 +1,6 @@
 -- What is known of a range of times once the windows are read is what their answer is made of.
-use Rattle.std.proofs.Common.{◌≡◌, ◌∙◌, ℕ, zero, suc, ◌+◌, ◌<◌, ◌≤◌, Bool, true, false, List, [], ◌∷◌, ◌++◌, map, refl, sym, ap, ap₂, subst, arith, Option, Some, None, inl, inr, add-zero, append-nil}
-use Rattle.std.specs.Prelude.{◌&&◌, ◌||◌, not, nat_le, nat_lt, if◌then◌else◌, ℤ, pos, ◌+ℤ◌, sum_by, option_map, IfSome, ⊤}
+use Rattle.std.proofs.Common.{◌≡◌, ◌∙◌, ℕ, ◌+◌, ◌<◌, ◌≤◌, Bool, true, false, List, [], ◌∷◌, ◌++◌, map, refl, sym, ap, ap₂, subst, arith, Option, Some, None, inl, inr, append-nil}
+use Rattle.std.specs.Prelude.{◌&&◌, ◌||◌, not, nat_le, nat_lt, if◌then◌else◌, ℤ, pos, ◌+ℤ◌, sum_by, option_map, IfSome}
 use Rattle.std.specs.List.{filter}
 use Rattle.std.specs.Option.{option_map_or}
 use Rattle.std.specs.Int.{int_max, int_min}
@@ -22,9 +22,8 @@ use Rattle.ss_landmarks.specs.Landmark.{Landmark}
 use Rattle.ss_landmarks.specs.ValuesIn.{tally_of, values_in}
 use Rattle.ss_landmarks.specs.declared.tally.Tally.{Tally}
 use Rattle.ss_model.specs.Answers.{IsOfKind, answer_of_kind}
-use Rattle.ss_model.specs.Interval.{is_apart, is_split, is_whole, known_maxs, known_mins, split_figures, split_windows, whole_windows}
+use Rattle.ss_model.specs.Interval.{is_split, is_whole, known_maxs, known_mins, split_figures, split_windows, whole_windows}
 use Rattle.ss_model.specs.Marks.{marked_values}
-use Rattle.ss_model.specs.declared.outcome.Outcome.{Outcome}
 use Rattle.ss_model.specs.declared.outcome.Outcome.TheVariants.{Count, Max, Min, Sum}
 use Rattle.ss_model.specs.declared.types.Window.{Window}
 use Rattle.ss_summary.specs.Figures.{Figures}

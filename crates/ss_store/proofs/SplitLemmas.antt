@@ -1,5 +1,5 @@
 -- A window that lies free among landmarks, and that a range splits: its figures, by counts of free times.
-use Rattle.std.proofs.Common.{◌≡◌, ◌∙◌, ℕ, suc, ◌+◌, ◌-◌, ◌<◌, ◌≤◌, max, min, List, refl, sym, ap₂, subst, arith, inl, inr, IsTrue}
+use Rattle.std.proofs.Common.{◌≡◌, ◌∙◌, ℕ, ◌+◌, ◌-◌, ◌<◌, ◌≤◌, max, min, List, sym, ap₂, subst, arith, inl, inr, IsTrue}
 use Rattle.std.specs.Prelude.{ℤ}
 use Rattle.std.proofs.lemmas.Bool.{cases_lt}
 use Rattle.ss_bounds.specs.Split.{IsSplit, SplitFigures}
@@ -11,9 +11,9 @@ use Rattle.ss_landmarks.proofs.TimeLemmas.{free-add, free-le}
 use Rattle.ss_model.specs.Interval.{is_split, split_figures}
 use Rattle.ss_model.specs.Marks.{lies_free}
 use Rattle.ss_model.specs.declared.types.Window.{Window}
-use Rattle.ss_model.proofs.MarkLemmas.{LiesFree, LiesFree-lies_free}
+use Rattle.ss_model.proofs.MarkLemmas.{LiesFree-lies_free}
 use Rattle.ss_summary.specs.Figures.{Figures, IsPossible}
-use Rattle.ss_store.proofs.Seeing.{Lies, lies}
+use Rattle.ss_store.proofs.Seeing.{lies}
 
 module _ (landmarks : List Landmark) (from to : ℕ) where
   -- the free times of the range between two times

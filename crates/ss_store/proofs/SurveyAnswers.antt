@@ -6,11 +6,12 @@ use Rattle.ss_model.specs.State.{Stream}
 use Rattle.ss_recover.specs.Held.{AllAgree}
 use Rattle.ss_recover.specs.declared.parts.StreamParts.{StreamParts}
 use Rattle.ss_store.specs.Causes.{OpensAs}
+use Rattle.ss_store.specs.Rebuilt.{IsRebuilt}
 use Rattle.ss_store.specs.Surveyed.{SurveysAs, survey_of}
 use Rattle.ss_store.specs.declared.error.OpenError.{OpenError}
 use Rattle.ss_store.specs.declared.error.OpenError.TheVariants as opening
 use Rattle.ss_store.specs.declared.surveying.Survey.{Survey}
-use Rattle.ss_store.proofs.Opens.{IsRebuilt, Recovers-rebuilt}
+use Rattle.ss_store.proofs.Opens.{Recovers-rebuilt}
 
 -- why there is nothing to survey is why there is no store
 pub SurveysAs-error : (content : List ℕ) (error : OpenError) → OpensAs content (Err error) → SurveysAs content (Err error)
@@ -26,4 +27,4 @@ SurveysAs-error content (opening.Changed slot) opens = opens
 pub SurveysAs-rebuilt : (parts : List StreamParts) (content : List ℕ) (survey : Survey) → IsRebuilt parts content →
     ((all : List Stream) → IsState all → AllAgree parts all → survey ≡ survey_of (closed_state all)) → SurveysAs content (Ok survey)
 SurveysAs-rebuilt parts content survey is said =
-    (closed_state is.streams, Recovers-rebuilt parts content is, said is.streams is.state is.held.agree)
+    (closed_state is.streams, Recovers-rebuilt parts content is, said is.streams is.state is.agree)

@@ -1,20 +1,19 @@
 -- What a survey says of the first of some streams that are held.
-use Rattle.std.proofs.Common.{◌≡◌, ◌∙◌, ℕ, zero, suc, ◌+◌, ◌<◌, ◌≤◌, List, [], ◌∷◌, ◌++◌, length, map, flat_map, take, get_or, refl, sym, ap, subst, arith}
+use Rattle.std.proofs.Common.{◌≡◌, ◌∙◌, ℕ, zero, suc, ◌+◌, ◌<◌, ◌≤◌, List, [], ◌∷◌, length, flat_map, take, get_or, refl, sym, ap, subst, arith}
 use Rattle.std.specs.Prelude.{All, sum_by}
 use Rattle.std.proofs.Math.Numerals.{add-one}
 use Rattle.std.proofs.Math.Seq.{take-length}
-use Rattle.std.proofs.lemmas.List.{length-append, length-map}
+use Rattle.std.proofs.lemmas.List.{length-map}
 use Rattle.std.proofs.lemmas.List.Concat.{length-flat_map}
 use Rattle.std.proofs.lemmas.List.Elements.{All-head, All-tail}
 use Rattle.std.proofs.lemmas.List.Folds.{length-flat_map-take}
 use Rattle.std.proofs.lemmas.List.Sums.{sum_by-cons, sum_by_more}
 use Rattle.ss_landmarks.specs.Landmark.{all_values}
 use Rattle.ss_landmarks.specs.Landmarks.{IsState as AreKnown}
-use Rattle.ss_line.specs.declared.entry.Entry.{Entry}
 use Rattle.ss_model.specs.ClosedState.{closed_state, closed_stream}
 use Rattle.ss_model.specs.Standing.{IsState, IsStream}
 use Rattle.ss_model.specs.State.{Stream}
-use Rattle.ss_recover.specs.Held.{Agrees, AllAgree, entries_of, slots_held}
+use Rattle.ss_recover.specs.Held.{Agrees, AllAgree, slots_held}
 use Rattle.ss_recover.specs.declared.parts.StreamParts.{StreamParts}
 use Rattle.ss_store.proofs.LiveCounts.{length-slots_held}
 use Rattle.ss_store.specs.Surveyed.{survey_of}

@@ -1,8 +1,8 @@
 -- A window that is read: its record among all, and the window that it is of.
 use Rattle.std.proofs.Common.{◌≡◌, ℕ, zero, suc, Bool, true, false, IsTrue, List, [], ◌∷◌, ◌++◌, map, remove, refl, ap, sym, ◌∙◌, subst, None, Some, Option, Result, Ok, Err}
-use Rattle.std.specs.Prelude.{slice_get, option_map, ◌==◌, IfSome, IsSome, IfOk}
+use Rattle.std.specs.Prelude.{slice_get, option_map, IfSome, IsSome, IfOk}
 use Rattle.std.specs.List.{list_all}
-use Rattle.std.proofs.lemmas.Bool.{and_parts, eqb-true}
+use Rattle.std.proofs.lemmas.Bool.{and_parts}
 use Rattle.std.proofs.lemmas.List.Sorted.{IsPermutation-remove}
 use Rattle.std.proofs.lemmas.Option.{get_or_from_slice_get, none-some, same_Some, slice_get-map, slice_get_within}
 use Rattle.ss_catalog.specs.declared.event.Event.{Event}
@@ -31,7 +31,6 @@ use Rattle.ss_store.specs.declared.error.AskError.{AskError}
 use Rattle.ss_store.specs.declared.reading.Fault.{Fault}
 use Rattle.ss_store.specs.declared.reading.Fault.TheVariants as fault
 use Rattle.ss_store.proofs.Among.{IsHeldIn-at, others_of}
-use Rattle.ss_store.proofs.Appended.{found-passes}
 use Rattle.ss_store.proofs.KeptStates.{Recovers-StoreIsKept, Recovers-same}
 use Rattle.ss_store.proofs.Named.{AreFound-numbered}
 use Rattle.ss_store.proofs.OneOfMany.{slice_get-zip}

@@ -1,10 +1,9 @@
 -- What a query makes of the landmarks of a stream, and of its windows, read one after the other.
-use Rattle.std.specs.Prelude.{◌≡◌, ℕ, ◌+◌, ◌^◌, ◌<◌, ◌≤◌, Bool, not, ◌&&◌, nat_le, nat_lt, if◌then◌else◌, ℤ, pos, ◌+ℤ◌, unsigned_abs, List, [], ◌∷◌, map, is_some, sum_by, Option, None, Some, Result, Ok, Err, ⊤}
+use Rattle.std.specs.Prelude.{◌≡◌, ℕ, ◌+◌, ◌^◌, ◌<◌, ◌≤◌, Bool, not, ◌&&◌, nat_le, nat_lt, if◌then◌else◌, ℤ, pos, ◌+ℤ◌, unsigned_abs, List, [], ◌∷◌, map, is_some, Option, None, Some, Result, Ok, Err, ⊤}
 use Rattle.std.specs.Option.{option_map, option_map_or}
 use Rattle.ss_bounds.specs.Either.{greater, lesser}
 use Rattle.ss_bounds.specs.Extremes.{listed, max_interval, min_interval}
-use Rattle.ss_bounds.specs.Split.{SplitFigures, count_interval, greatest_count, least_count, sum_interval}
-use Rattle.ss_bounds.specs.Truth.{total}
+use Rattle.ss_bounds.specs.Split.{SplitFigures, count_interval, sum_interval}
 use Rattle.ss_landmarks.specs.Free.{is_free}
 use Rattle.ss_landmarks.specs.Landmark.{Landmark}
 use Rattle.ss_landmarks.specs.declared.tally.Tally.{Tally}

@@ -10,3 +10,4 @@ pub mod Causes
 pub mod Admitted
 pub mod Asked
 pub mod Surveyed
+pub mod Rebuilt

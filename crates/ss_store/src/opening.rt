@@ -1,30 +1,56 @@
 // The steps of opening a store.
-ghost use Rattle.std.specs.Prelude.{◌≡◌, ◌≤◌, map, flat_map, zip, List, length, IsTrue, IfOk, OnOk};
+ghost use Rattle.std.specs.Prelude.{◌≡◌, ◌≤◌, map, List, length, Err, IsTrue, IfOk, IfErr, OnOk};
 ghost use Rattle.ss_catalog.specs.declared.TheConstants.{MOST_STREAMS};
 ghost use Rattle.std.specs.List.{IsDistinct};
 ghost use Rattle.ss_catalog.specs.Names.{same_name};
-ghost use Rattle.ss_journal.specs.Kept.{IsSettled};
+ghost use Rattle.ss_outside.specs.Crash.{OnlyReads};
+ghost use Rattle.ss_journal.specs.Kept.{IsRunning, IsSettled};
 ghost use Rattle.ss_records.specs.Kept.{AreKept};
 ghost use Rattle.ss_model.specs.ClosedState.{closed_state};
 ghost use Rattle.ss_model.specs.Standing.{IsState};
 ghost use Rattle.ss_model.specs.State.{Stream};
-ghost use Rattle.ss_recover.specs.Held.{AllAgree, AreWhole, records_held};
+ghost use Rattle.ss_recover.specs.Held.{AllAgree, AreWhole};
 ghost use Rattle.ss_recover.specs.declared.parts.StreamParts.{StreamParts};
 ghost use Rattle.ss_store.specs.Calls.{Turns};
-ghost use Rattle.ss_store.specs.Causes.{FaultCause, IsFirm};
-ghost use Rattle.ss_store.specs.Kept.{entry_of, numbers_held};
+ghost use Rattle.ss_store.specs.Causes.{FaultCause, IsFirm, OpenCause, OpensAs};
+ghost use Rattle.ss_store.specs.Kept.{entry_of};
+ghost use Rattle.ss_store.specs.Rebuilt.{HasRebuilt, IsRebuilt};
 ghost use Rattle.ss_store.specs.Recover.{Recovers};
-ghost use Rattle.ss_store.specs.Slots.{HasRecords};
+ghost use Rattle.ss_store.specs.Surveyed.{IsUnchanged};
 
+use crate::OpenError;
 use crate::closing::close;
 use crate::reading::Fault;
 use ss_catalog::Catalog;
 use ss_outside::Disk;
 use ss_records::Records;
-use ss_recover::StreamParts;
+use ss_recover::{Parts, StreamParts, rebuild};
 use ss_steps::Steps;
 use std::alloc::{AllocError, Global};
 use std::sync::ledger::Ledger;
+
+// Reads and judges all that a disk holds, and writes nothing.
+pub fn read_all<D: Disk>(
+    alloc: Global,
+    disk: &mut D,
+) -> Result<(Records, Vec<StreamParts>), OpenError>
+    // On a disk that tells: the streams that the records of the content carry, or why it recovers to none.
+    ensures rebuilt { IsTrue (D.tells disk.old) → IfOk result (λ read. IsRebuilt read.1.items (D.told disk.old).content) }
+    ensures opens { IsTrue (D.tells disk.old) → IfErr result (λ error. OpensAs (D.told disk.old).content (Err error)) }
+    ensures one_disk { IsTrue (D.tells disk.old) → IfOk result (λ read. AreKept read.0 (D.told disk.new).content) }
+    // The content and the images are those from before.
+    ensures reads { IsTrue (D.tells disk.old) → OnlyReads (D.told disk.old) (D.told disk.new) }
+    // Over every disk.
+    ensures whole { IfOk result (λ read. AreWhole read.1.items read.0.live) }
+    ensures running { IfOk result (λ read. IsRunning read.0.journal) }
+    ensures unchanged { IsUnchanged result }
+    ensures tells { D.tells disk.new ≡ D.tells disk.old }
+    ensures cause { OpenCause (D.faults disk.old) (D.faults disk.new) result }
+{
+    let mut records = Records::open(alloc, disk)?;
+    let Parts { streams } = rebuild(alloc, &mut records, disk)?;
+    Ok((records, streams))
+}
 
 // The names and numbers of streams.
 pub fn catalog_of(alloc: Global, streams: &[StreamParts]) -> Result<Catalog, AllocError>
@@ -54,10 +80,10 @@ pub fn close_all<D: Disk, L: Ledger>(
     requires one_disk { IsTrue (D.tells disk.old) → AreKept records.old (D.told disk.old).content }
     // On a disk that tells: each stream is closed, and a crash leaves what closes to the same.
     ensures closes { IsTrue (D.tells disk.old) → (all : List Stream) → IsState all → AllAgree streams.old all →
-        Turns (HasRecords (flat_map records_held (zip streams.old all))) (Recovers (closed_state all))
-        (HasRecords (flat_map records_held (zip streams.new (closed_state all)))) (D.told disk.old) (D.told disk.new) result }
+        Turns (HasRebuilt streams.old all) (Recovers (closed_state all)) (HasRebuilt streams.new (closed_state all))
+        (D.told disk.old) (D.told disk.new) result }
     ensures agree { IsTrue (D.tells disk.old) → (all : List Stream) → IsState all → AllAgree streams.old all →
-        HasRecords (flat_map records_held (zip streams.old all)) (D.told disk.old).content →
+        HasRebuilt streams.old all (D.told disk.old).content →
         OnOk result (AllAgree streams.new (closed_state all)) × IsFirm result }
     ensures one_disk { IsTrue (D.tells disk.old) → OnOk result (AreKept records.new (D.told disk.new).content) }
     // Over every disk.
@@ -71,4 +97,33 @@ pub fn close_all<D: Disk, L: Ledger>(
         close(records, disk, &mut streams[place], steps)?;
     }
     Ok(())
+}
+
+// Settles the entries in use, and makes the merges that are due in each stream.
+pub fn settle_all<D: Disk, L: Ledger>(
+    records: &mut Records,
+    disk: &mut D,
+    streams: &mut [StreamParts],
+    steps: &mut Steps<L>,
+) -> Result<(), Fault>
+    requires running { IsRunning records.old.journal }
+    requires whole { AreWhole streams.old records.old.live }
+    requires one_disk { IsTrue (D.tells disk.old) → AreKept records.old (D.told disk.old).content }
+    // On a disk that tells: each stream is closed, and a crash leaves what closes to the same.
+    ensures closes { IsTrue (D.tells disk.old) → (all : List Stream) → IsState all → AllAgree streams.old all →
+        Turns (HasRebuilt streams.old all) (Recovers (closed_state all)) (HasRebuilt streams.new (closed_state all))
+        (D.told disk.old) (D.told disk.new) result }
+    ensures agree { IsTrue (D.tells disk.old) → (all : List Stream) → IsState all → AllAgree streams.old all →
+        HasRebuilt streams.old all (D.told disk.old).content →
+        OnOk result (AllAgree streams.new (closed_state all)) × IsFirm result }
+    ensures one_disk { IsTrue (D.tells disk.old) → OnOk result (AreKept records.new (D.told disk.new).content) }
+    // Over every disk.
+    ensures entries { map entry_of streams.new ≡ map entry_of streams.old }
+    ensures whole { OnOk result (AreWhole streams.new records.new.live) }
+    ensures settled { OnOk result (IsSettled records.new.journal) }
+    ensures tells { D.tells disk.new ≡ D.tells disk.old }
+    ensures cause { FaultCause (D.faults disk.old) (D.faults disk.new) result }
+{
+    records.settle(disk)?;
+    close_all(records, disk, streams, steps)
 }

@@ -11,11 +11,10 @@ ghost use Rattle.ss_store.specs.Causes.{OpenCause};
 ghost use Rattle.ss_store.specs.Surveyed.{IsUnchanged, SurveysAs, survey_of};
 
 use crate::closing::values_held;
+use crate::opening::read_all;
 use crate::{OpenError, Store};
-use ss_line::At;
 use ss_outside::Disk;
-use ss_records::Records;
-use ss_recover::{Parts, StreamParts, rebuild};
+use ss_recover::StreamParts;
 use ss_steps::Steps;
 use std::alloc::Global;
 use std::marker::Brand;
@@ -98,8 +97,7 @@ impl Store {
         ensures tells { D.tells disk.new ≡ D.tells disk.old }
         ensures cause { OpenCause (D.faults disk.old) (D.faults disk.new) result }
     {
-        let mut records = Records::open(alloc, disk)?;
-        let Parts { streams } = rebuild(alloc, &mut records, disk)?;
+        let (records, streams) = read_all(alloc, disk)?;
         // Each slot that is live is one of those that a disk has.
         let _live = records.live();
         Ok(surveyed_in::<Brand>(&streams, Blank::new(1)))

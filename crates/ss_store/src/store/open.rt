@@ -1,10 +1,8 @@
 // Opening a store.
 use super::Store;
 use crate::OpenError;
-use crate::opening::{catalog_of, close_all};
+use crate::opening::{catalog_of, read_all, settle_all};
 use ss_outside::Disk;
-use ss_records::Records;
-use ss_recover::{Parts, rebuild};
 use ss_steps::Steps;
 use std::alloc::Global;
 use std::marker::Brand;
@@ -52,12 +50,10 @@ impl Store {
         ensures tells { D.tells disk.new ≡ D.tells disk.old }
         ensures cause { OpenCause (D.faults disk.old) (D.faults disk.new) result }
     {
-        let mut records = Records::open(alloc, disk)?;
-        let Parts { mut streams } = rebuild(alloc, &mut records, disk)?;
+        let (mut records, mut streams) = read_all(alloc, disk)?;
         let catalog = catalog_of(alloc, &streams)?;
-        records.settle(disk)?;
         let mut steps = Steps::<L>::new(blank);
-        close_all(&mut records, disk, &mut streams, &mut steps)?;
+        settle_all(&mut records, disk, &mut streams, &mut steps)?;
         Ok(Store {
             streams,
             catalog,

@@ -1,4 +1,4 @@
-use Rattle.std.proofs.Common.{◌≡◌, Ok, Some, refl, subst, sym}
+use Rattle.std.proofs.Common.{Ok, Some, refl, subst, sym}
 use Rattle.ss_outside.specs.declared.source.Failed.{Failed}
 use Rattle.ss_codec.specs.Record.{is_valid}
 use Rattle.ss_codec.specs.declared.record.Record.{Record}

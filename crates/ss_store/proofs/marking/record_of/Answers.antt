@@ -1,4 +1,4 @@
-use Rattle.std.proofs.Common.{◌≡◌, ◌+◌, ◌<◌, ◌≤◌, arith, refl, rules, subst}
+use Rattle.std.proofs.Common.{◌+◌, arith, refl, rules, subst}
 use Rattle.ss_codec.proofs.RecordLemmas.{is_valid-IsLandmark, is_valid-IsValue}
 use Rattle.ss_store.specs.Marking.{CanMark}
 use Rattle.ss_store.proofs.OpenMarks.{HasOpen-can, closes, count-has, few-marks, open-has, start-has, takes}

@@ -1,4 +1,4 @@
-use Rattle.std.proofs.Common.{Bool, Err, IsTrue, List, Ok, OnErr, OnOk, Result, [], ap, ap₂, arith, refl, subst, sym, ◌++◌, ◌∷◌, ◌<◌, ◌≡◌, ◌∙◌, ℕ}
+use Rattle.std.proofs.Common.{Err, IsTrue, List, Ok, OnErr, OnOk, Result, [], ap, ap₂, arith, subst, sym, ◌++◌, ◌∷◌, ◌<◌, ◌≡◌, ◌∙◌, ℕ}
 use Rattle.std.proofs.lemmas.Result.{on_ok_weaker}
 use Rattle.ss_journal.specs.Calls.{ChangesMap}
 use Rattle.ss_journal.specs.Puts.{IsTxn, extent_after, slots_fit}

@@ -1,8 +1,7 @@
-use Rattle.std.proofs.Common.{◌≡◌, ◌∙◌, Option, None, Some, Bool, false, ap, refl, sym}
-use Rattle.std.specs.Prelude.{is_some, option_map}
-use Rattle.ss_landmarks.specs.Landmark.{Landmark, open_landmark}
+use Rattle.std.proofs.Common.{◌≡◌, ◌∙◌, None, false, ap, refl, sym}
+use Rattle.std.specs.Prelude.{is_some}
+use Rattle.ss_landmarks.specs.Landmark.{open_landmark}
 use Rattle.ss_model.specs.Marks.{has_open}
-use Rattle.ss_recover.specs.declared.parts.StreamParts.{StreamParts}
 use Rattle.ss_store.specs.Kept.{StoreState, of_part, part_named}
 use Rattle.ss_store.proofs.Named.{IsAtPlace, IsAtPlace-listed, IsListed-catalog, is_some-listed, is_some-option_map}
 use Rattle.ss_store.proofs.Refusals.{none_is_some}

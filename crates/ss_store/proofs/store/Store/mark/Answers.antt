@@ -6,7 +6,7 @@ use Rattle.ss_recover.specs.Held.{TileFrom, entries_of, mark_slots}
 use Rattle.ss_recover.specs.declared.parts.StreamParts.{StreamParts}
 use Rattle.ss_store.specs.Admitted.{IsMarker}
 use Rattle.ss_store.specs.Kept.{StoreIsKept, StoreState, of_part, refuses_held}
-use Rattle.ss_store.specs.Marking.{CanMark, IsInOpen, event_of, mark_refusal}
+use Rattle.ss_store.specs.Marking.{CanMark, IsInOpen, event_of}
 use Rattle.ss_store.proofs.Among.{others_of}
 use Rattle.ss_store.proofs.Appended.{AreWhole-IsSpared, IsSound-set, IsSpared, IsSpared-marks, SameButSpare-IsSpared, StepsState-marked, StoreIsKept-IsSpared, StoreIsKept-marked, held-marker, live-IsSpared, marking, part-read, said_of_set, tiles-IsSpared, whole-changed}
 use Rattle.ss_store.proofs.Marked.{CanBeSaid-mark, mark_refusal-same}
