@@ -1,11 +1,15 @@
 // What queries answer.
-use crate::applying::{AROUND, MOMENT, READINGS};
-use crate::running::Asked::{Create, Open, Value};
-use crate::running::{DOUBLING, IN_TWOS, Question, Row, empty, opened, play, told};
+use crate::applying::READINGS;
+use crate::passing::pass;
+use crate::running::Asked::{Close, Create, Open, Value};
+use crate::running::{DOUBLING, IN_TWOS, Question, Row};
+use crate::steps::Step::{self, Play, Reopen, Stop, Tell, Untold};
+use crate::steps::first_wrong;
 use ss_bounds::Extreme::{Maybe, Nothing, Sure};
 use ss_catalog::{Kind, Params, Refusal};
 use ss_model::Outcome::{self, Count, Max, Min, Sum};
-use ss_store::AskError;
+use ss_store::ApplyError;
+use ss_store::AskError::{self, Disk, Refused, Stopped};
 use std::test::Fail;
 
 const IN_FOURS: Params = Params::Power {
@@ -15,8 +19,9 @@ const IN_FOURS: Params = Params::Power {
     s: 4,
 };
 
-// A stream with as many values as times, and two with values at the edges of 64 bits.
-const EDGES: [Row; 11] = [
+// What other streams take after the readings.
+const OTHERS: [Row; 31] = [
+    // as many values as times, and two streams with values at the edges of 64 bits
     (b'd', Create(IN_FOURS), Ok((0, 0))),
     (b'd', Value(10, 4), Ok((1, 1))),
     (b'd', Value(11, 4), Ok((2, 1))),
@@ -28,10 +33,22 @@ const EDGES: [Row; 11] = [
     (b'f', Create(IN_TWOS), Ok((0, 0))),
     (b'f', Value(10, i64::MIN), Ok((1, 1))),
     (b'f', Value(20, i64::MAX), Ok((2, 1))),
-];
-
-// A stream without values, and one of a window of two values, and then an open landmark.
-const STILL_OPEN: [Row; 7] = [
+    // a landmark of one moment
+    (b'b', Create(DOUBLING), Ok((0, 0))),
+    (b'b', Open(100), Ok((0, 0))),
+    (b'b', Value(100, 7), Ok((0, 0))),
+    (b'b', Close(100), Ok((0, 0))),
+    (b'b', Value(100, 8), Err(ApplyError::Refused(Refusal::Time))),
+    (b'b', Value(101, 8), Ok((1, 1))),
+    // a landmark in the middle of a window
+    (b'c', Create(IN_TWOS), Ok((0, 0))),
+    (b'c', Value(10, 1), Ok((1, 1))),
+    (b'c', Open(20), Ok((1, 1))),
+    (b'c', Value(20, 100), Ok((1, 1))),
+    (b'c', Value(30, 200), Ok((1, 1))),
+    (b'c', Close(40), Ok((1, 1))),
+    (b'c', Value(50, 3), Ok((2, 1))),
+    // a stream without values, and one of a window of two values, and then an open landmark
     (b'g', Create(DOUBLING), Ok((0, 0))),
     (b'h', Create(IN_TWOS), Ok((0, 0))),
     (b'h', Value(10, 5), Ok((1, 1))),
@@ -99,46 +116,26 @@ const QUERIES: [(Question, Outcome); 38] = [
     ((b'h', Kind::Sum, 12, 25), Sum { lo: -2, hi: 2 }),
 ];
 
-// No name but `a` has a stream, where only the readings were taken.
-const UNASKED: [(Question, Refusal); 3] = [
-    ((b'x', Kind::Sum, 4, 5), Refusal::Unknown),
-    ((b'x', Kind::Sum, 5, 4), Refusal::Unknown),
-    ((b'a', Kind::Sum, 5, 4), Refusal::Range),
-];
+const ANSWERED: [Step; 3] = [Play(&READINGS), Play(&OTHERS), Tell(&QUERIES)];
 
 #[test]
 fn queries_are_answered(rt: HostRuntime) -> Result<(), Fail> {
-    let mut running = opened(rt.alloc(), empty(rt.alloc())?)?;
-    assert_eq!(rt; play(&mut running, &READINGS), READINGS.len());
-    assert_eq!(rt; play(&mut running, &EDGES), EDGES.len());
-    assert_eq!(rt; play(&mut running, &MOMENT), MOMENT.len());
-    assert_eq!(rt; play(&mut running, &AROUND), AROUND.len());
-    assert_eq!(rt; play(&mut running, &STILL_OPEN), STILL_OPEN.len());
-    for (question, outcome) in QUERIES {
-        assert_eq!(rt; told(&mut running, question), Some(Ok(outcome)));
-    }
-    Ok(())
+    pass(first_wrong(rt.alloc(), &ANSWERED)?)
 }
 
-// A refused query makes no call of the disk, and a store that has stopped makes none.
+// No name but `a` has a stream. A query that is not refused finds that the disk fails, and the next one that the store has
+// stopped.
+const UNANSWERED: [(Question, AskError); 5] = [
+    ((b'x', Kind::Sum, 4, 5), Refused(Refusal::Unknown)),
+    ((b'x', Kind::Sum, 5, 4), Refused(Refusal::Unknown)),
+    ((b'a', Kind::Sum, 5, 4), Refused(Refusal::Range)),
+    ((b'a', Kind::Count, 0, 9), Disk),
+    ((b'a', Kind::Count, 0, 9), Stopped),
+];
+
+const FAILING: [Step; 4] = [Play(&READINGS), Reopen, Stop(0), Untold(&UNANSWERED)];
+
 #[test]
 fn queries_fail(rt: HostRuntime) -> Result<(), Fail> {
-    let mut running = opened(rt.alloc(), empty(rt.alloc())?)?;
-    assert_eq!(rt; play(&mut running, &READINGS), READINGS.len());
-    let mut running = opened(rt.alloc(), running.disk.inner)?;
-    let calls = running.disk.inner.calls();
-    running.disk.inner.stop_from(calls);
-    for (question, refusal) in UNASKED {
-        assert_eq!(rt;
-            told(&mut running, question),
-            Some(Err(AskError::Refused(refusal)))
-        );
-    }
-    assert_eq!(rt; running.disk.inner.calls(), calls);
-    let question = (b'a', Kind::Count, 0, 9);
-    assert_eq!(rt; told(&mut running, question), Some(Err(AskError::Disk)));
-    let calls = running.disk.inner.calls();
-    assert_eq!(rt; told(&mut running, question), Some(Err(AskError::Stopped)));
-    assert_eq!(rt; running.disk.inner.calls(), calls);
-    Ok(())
+    pass(first_wrong(rt.alloc(), &FAILING)?)
 }

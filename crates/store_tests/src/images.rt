@@ -1,4 +1,5 @@
 // Files with slots of a choice.
+use crate::silent::Silent;
 use ss_outside::MemDisk;
 use std::alloc::{AllocError, Global};
 
@@ -21,41 +22,57 @@ pub enum Slot {
 /// What a formatted file begins with.
 pub const FORMATTED: &[u8] = b"\xA5SSTORE01";
 
+// Puts a field into the bytes of a slot.
+fn put(bytes: &mut [u8; 128], at: usize, field: &[u8]) {
+    for (place, byte) in field.iter().enumerate() {
+        if let Some(to) = bytes.get_mut(at.saturating_add(place)) {
+            *to = *byte;
+        }
+    }
+}
+
+fn put_u32(bytes: &mut [u8; 128], at: usize, field: u32) {
+    put(bytes, at, &field.to_be_bytes());
+}
+
+fn put_u64(bytes: &mut [u8; 128], at: usize, field: u64) {
+    put(bytes, at, &field.to_be_bytes());
+}
+
 // The bytes of a slot: those of a stream have the target `exp 2 1 1`, and those of a window only the value 0.
 fn spelled(slot: Slot) -> [u8; 128] {
     let mut bytes = [0; 128];
     match slot {
         Slot::Free => {}
         Slot::Stream(id, letter) => {
-            bytes[..3].copy_from_slice(&[1, 1, 1]);
-            bytes[4..8].copy_from_slice(&id.to_be_bytes());
-            bytes[8..20].copy_from_slice(&[0, 0, 0, 2, 0, 0, 0, 1, 0, 0, 0, 1]);
-            bytes[24] = letter;
+            put(&mut bytes, 0, &[1, 1, 1]);
+            put_u32(&mut bytes, 4, id);
+            put(&mut bytes, 8, &[0, 0, 0, 2, 0, 0, 0, 1, 0, 0, 0, 1]);
+            put(&mut bytes, 24, &[letter]);
         }
         Slot::Window(id, first, count, t_first, t_last) => {
-            bytes[0] = 2;
-            bytes[4..8].copy_from_slice(&id.to_be_bytes());
-            bytes[8..16].copy_from_slice(&first.to_be_bytes());
-            bytes[16..24].copy_from_slice(&count.to_be_bytes());
-            bytes[56..64].copy_from_slice(&t_first.to_be_bytes());
-            bytes[64..72].copy_from_slice(&t_last.to_be_bytes());
+            put(&mut bytes, 0, &[2]);
+            put_u32(&mut bytes, 4, id);
+            put_u64(&mut bytes, 8, first);
+            put_u64(&mut bytes, 16, count);
+            put_u64(&mut bytes, 56, t_first);
+            put_u64(&mut bytes, 64, t_last);
         }
         Slot::Landmark(id, number, values, start, finish) => {
-            bytes[0] = 3;
-            bytes[1] = if finish.is_some() { 2 } else { 1 };
-            bytes[4..8].copy_from_slice(&id.to_be_bytes());
-            bytes[8..12].copy_from_slice(&number.to_be_bytes());
-            bytes[12..16].copy_from_slice(&values.to_be_bytes());
-            bytes[16..24].copy_from_slice(&start.to_be_bytes());
-            bytes[24..32].copy_from_slice(&finish.unwrap_or(0).to_be_bytes());
+            put(&mut bytes, 0, &[3, if finish.is_some() { 2 } else { 1 }]);
+            put_u32(&mut bytes, 4, id);
+            put_u32(&mut bytes, 8, number);
+            put_u32(&mut bytes, 12, values);
+            put_u64(&mut bytes, 16, start);
+            put_u64(&mut bytes, 24, finish.unwrap_or(0));
         }
         Slot::Value(id, number, index, t, v) => {
-            bytes[0] = 4;
-            bytes[4..8].copy_from_slice(&id.to_be_bytes());
-            bytes[8..12].copy_from_slice(&number.to_be_bytes());
-            bytes[12..16].copy_from_slice(&index.to_be_bytes());
-            bytes[16..24].copy_from_slice(&t.to_be_bytes());
-            bytes[24..32].copy_from_slice(&v.to_be_bytes());
+            put(&mut bytes, 0, &[4]);
+            put_u32(&mut bytes, 4, id);
+            put_u32(&mut bytes, 8, number);
+            put_u32(&mut bytes, 12, index);
+            put_u64(&mut bytes, 16, t);
+            put(&mut bytes, 24, &v.to_be_bytes());
         }
         Slot::Bad => bytes = [7; 128],
     }
@@ -63,7 +80,7 @@ fn spelled(slot: Slot) -> [u8; 128] {
 }
 
 /// A file that begins so and has these slots. Without slots it has no more bytes.
-pub fn image(alloc: Global, begin: &[u8], slots: &[Slot]) -> Result<MemDisk, AllocError> {
+pub fn image(alloc: Global, begin: &[u8], slots: &[Slot]) -> Result<Silent, AllocError> {
     let mut bytes = begin.to_vec(alloc)?;
     if !slots.is_empty() {
         bytes.resize(36864, 0)?;
@@ -71,5 +88,5 @@ pub fn image(alloc: Global, begin: &[u8], slots: &[Slot]) -> Result<MemDisk, All
     for slot in slots {
         bytes.extend_from_slice(&spelled(*slot))?;
     }
-    MemDisk::new(alloc, bytes)
+    Ok(Silent::new(MemDisk::new(alloc, bytes)?))
 }

@@ -15,11 +15,15 @@ mod images;
 #[cfg(test)]
 mod opening;
 #[cfg(test)]
+mod passing;
+#[cfg(test)]
 mod rebuilding;
 #[cfg(test)]
 mod running;
 #[cfg(test)]
 mod silent;
+#[cfg(test)]
+mod steps;
 #[cfg(test)]
 mod stops;
 #[cfg(test)]

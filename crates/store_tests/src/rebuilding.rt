@@ -3,7 +3,7 @@ ghost use Rattle.ss_steps.specs.Steps.{IsFresh};
 
 use crate::images::Slot::{self, Free, Landmark, Stream, Value, Window};
 use crate::images::{FORMATTED, image};
-use crate::silent::Silent;
+use crate::passing::pass;
 use ss_journal::JournalError;
 use ss_landmarks::Landmarks;
 use ss_line::{Entry, Line};
@@ -65,18 +65,42 @@ fn is_read(part: &StreamParts, want: &Read) -> bool {
 }
 
 fn are_read(parts: &Parts, want: &[Read]) -> bool {
+    for (place, row) in want.iter().enumerate() {
+        match parts.streams.get(place) {
+            Some(part) if is_read(part, row) => {}
+            _ => return false,
+        }
+    }
     parts.streams.len() == want.len()
-        && parts
-            .streams
-            .iter()
-            .zip(want)
-            .all(|(part, row)| is_read(part, row))
 }
 
-pub fn rebuilt(alloc: Global, slots: &[Slot]) -> Result<Result<Parts, RecoverError>, JournalError> {
-    let mut disk = Silent::new(image(alloc, FORMATTED, slots)?);
+fn rebuilt(alloc: Global, slots: &[Slot]) -> Result<Result<Parts, RecoverError>, JournalError> {
+    let mut disk = image(alloc, FORMATTED, slots)?;
     let mut records = Records::open(alloc, &mut disk)?;
     Ok(rebuild(alloc, &mut records, &mut disk))
+}
+
+/// The damage that is told of an image.
+pub fn damage(alloc: Global, slots: &[Slot]) -> Result<Option<RecoverError>, JournalError> {
+    Ok(rebuilt(alloc, slots)?.err())
+}
+
+// Whether an image is read as this.
+fn is_rebuilt(alloc: Global, slots: &[Slot], want: &[Read]) -> Result<bool, JournalError> {
+    match rebuilt(alloc, slots)? {
+        Ok(parts) => Ok(are_read(&parts, want)),
+        Err(_) => Ok(false),
+    }
+}
+
+// The first image that is read as something else.
+fn unread(alloc: Global, rows: &[(&[Slot], &[Read])]) -> Result<Option<usize>, JournalError> {
+    for (row, (slots, want)) in rows.iter().enumerate() {
+        if !is_rebuilt(alloc, slots, want)? {
+            return Ok(Some(row));
+        }
+    }
+    Ok(None)
 }
 
 const WHOLE: [(&[Slot], &[Read]); 10] = [
@@ -214,11 +238,5 @@ const WHOLE: [(&[Slot], &[Read]); 10] = [
 
 #[test]
 fn whole_images_are_read(rt: HostRuntime) -> Result<(), Fail> {
-    for (slots, want) in WHOLE {
-        match rebuilt(rt.alloc(), slots)? {
-            Ok(parts) => assert!(rt; are_read(&parts, want)),
-            Err(error) => assert!(rt; false, "{error}"),
-        }
-    }
-    Ok(())
+    pass(unread(rt.alloc(), &WHOLE)?)
 }

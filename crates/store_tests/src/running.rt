@@ -1,12 +1,12 @@
-// A store with its disk, and what it is asked.
+// A store with its disk, and what it is asked. Each call of the store stands here once.
 ghost use Rattle.std.specs.Prelude.{IfSome};
 ghost use Rattle.ss_catalog.specs.Events.{IsInTime};
 
 use crate::silent::Silent;
-use ss_catalog::{Event, Kind, LAST_TIME, Name, Params, Query};
+use ss_catalog::{Event, Kind, LAST_TIME, Name, Params, Query, Refusal};
 use ss_model::Outcome;
 use ss_outside::MemDisk;
-use ss_store::{ApplyError, AskError, OpenError, Store};
+use ss_store::{ApplyError, AskError, OpenError, Store, Survey};
 use std::alloc::{AllocError, Global};
 
 /// What a stream is asked to take.
@@ -45,15 +45,35 @@ pub struct Running {
     pub disk: Silent,
 }
 
-pub fn empty(alloc: Global) -> Result<MemDisk, AllocError> {
-    MemDisk::new(alloc, Vec::new(alloc))
+pub fn empty(alloc: Global) -> Result<Silent, AllocError> {
+    Ok(Silent::new(MemDisk::new(alloc, Vec::new(alloc))?))
 }
 
-/// The store that a disk in memory holds. What was listed of its calls as failing stays listed.
-pub fn opened(alloc: Global, disk: MemDisk) -> Result<Running, OpenError> {
-    let mut disk = Silent::new(disk);
-    let store = Store::open(alloc, &mut disk)?;
+/// The store that a disk holds.
+pub fn store_on(alloc: Global, disk: &mut Silent) -> Result<Store, OpenError> {
+    Store::open(alloc, disk)
+}
+
+/// What a survey of a disk finds.
+pub fn surveyed(alloc: Global, disk: &mut Silent) -> Result<Survey, OpenError> {
+    Store::survey(alloc, disk)
+}
+
+/// The store that a disk holds, with the disk.
+pub fn opened(alloc: Global, mut disk: Silent) -> Result<Running, OpenError> {
+    let store = store_on(alloc, &mut disk)?;
     Ok(Running { store, disk })
+}
+
+/// A store on an empty disk.
+pub fn fresh(alloc: Global) -> Result<Running, OpenError> {
+    opened(alloc, empty(alloc)?)
+}
+
+/// Opens the store that the disk holds now.
+pub fn reopen(alloc: Global, running: &mut Running) -> Result<(), OpenError> {
+    running.store = store_on(alloc, &mut running.disk)?;
+    Ok(())
 }
 
 fn event_of(letter: u8, asked: Asked) -> Option<Event>
@@ -69,12 +89,22 @@ fn event_of(letter: u8, asked: Asked) -> Option<Event>
     }
 }
 
-/// What an event is answered. `None` is for what is no event.
+fn applied(running: &mut Running, event: &Event) -> Answer
+    requires { IsInTime event.now }
+{
+    let ack = running.store.apply(&mut running.disk, event)?;
+    Ok((ack.n, ack.k))
+}
+
+/// What an event is answered. `None` is for what is no event, and for a call of the disk where the event is refused or the store
+/// has stopped.
 pub fn answered(running: &mut Running, letter: u8, asked: Asked) -> Option<Answer> {
     let event = event_of(letter, asked)?;
-    match running.store.apply(&mut running.disk, &event) {
-        Ok(ack) => Some(Ok((ack.n, ack.k))),
-        Err(error) => Some(Err(error)),
+    let before = running.disk.calls();
+    let answer = applied(running, &event);
+    match answer {
+        Err(ApplyError::Refused(_) | ApplyError::Stopped) if running.disk.calls() != before => None,
+        _ => Some(answer),
     }
 }
 
@@ -88,7 +118,8 @@ pub fn play(running: &mut Running, rows: &[Row]) -> usize {
     rows.len()
 }
 
-/// What a query is answered. `None` is for what is no query.
+/// What a query is answered. `None` is for what is no query, and for a call of the disk where it is refused or the store has
+/// stopped.
 pub fn told(running: &mut Running, question: Question) -> Option<Result<Outcome, AskError>> {
     let (letter, kind, from, to) = question;
     let name = Name::of(&[letter])?;
@@ -98,5 +129,61 @@ pub fn told(running: &mut Running, question: Question) -> Option<Result<Outcome,
         from,
         to,
     };
-    Some(running.store.ask(&mut running.disk, &query))
+    let before = running.disk.calls();
+    let answer = running.store.ask(&mut running.disk, &query);
+    match answer {
+        Err(AskError::Refused(_) | AskError::Stopped) if running.disk.calls() != before => None,
+        _ => Some(answer),
+    }
+}
+
+/// The first and the last position of the oldest window of `a`, or of the one after it. `None` is for no such window.
+pub fn window_read(running: &mut Running, is_second: bool) -> Option<Result<(u64, u64), AskError>> {
+    let name = Name::of(b"a")?;
+    let id = running.store.find(&name)?;
+    let first = running.store.window_first(id)?;
+    let at = if is_second {
+        running.store.window_after(id, first)?
+    } else {
+        first
+    };
+    match running.store.window_read(&mut running.disk, id, at) {
+        Ok(placed) => Some(Ok((placed.first, placed.last))),
+        Err(error) => Some(Err(error)),
+    }
+}
+
+/// What is said of a stream: the first letter of its name, its numbers of values and windows, and its numbers of landmarks and
+/// of their values.
+pub type Said = (u8, u64, u32, u32, u32);
+
+/// What is said of the one stream. There is none before its creation.
+pub fn only(store: &Store) -> Option<Said> {
+    if store.streams() != 1 {
+        return None;
+    }
+    let row = store.stream(0);
+    let letter = *row.name.as_bytes().first()?;
+    Some((letter, row.n, row.k, row.landmarks, row.values))
+}
+
+// Whether the next landmark of a stream is refused, since one is open.
+fn is_inside(running: &mut Running, letter: u8) -> bool {
+    let refused = Some(Err(ApplyError::Refused(Refusal::Open)));
+    answered(running, letter, Open(LAST_TIME)) == refused
+}
+
+/// How many events the one stream has taken since its creation, and how many windows it has.
+pub type Held = Option<(u64, u32)>;
+
+/// The same of a store.
+pub fn held(running: &mut Running) -> Held {
+    let (letter, values, windows, landmarks, inside) = only(&running.store)?;
+    let taken = values.saturating_add(u64::from(landmarks) * 2 + u64::from(inside));
+    // Of a landmark that is open one event is still to come.
+    if is_inside(running, letter) {
+        Some((taken.saturating_sub(1), windows))
+    } else {
+        Some((taken, windows))
+    }
 }

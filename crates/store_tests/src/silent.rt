@@ -2,18 +2,45 @@
 ghost use Rattle.std.specs.Prelude.{◌≡◌, ◌+◌, ◌≤◌, length};
 ghost use Rattle.ss_outside.specs.Causes.{HasCause};
 
-use ss_outside::{Disk, Failed, LONGEST_DISK, MemDisk};
+use ss_outside::{Choice, Disk, Failed, LONGEST_DISK, MemDisk};
+use std::alloc::AllocError;
 
 /// A disk in memory that tells nothing of its bytes, as a file. A write past its end fails.
 #[derive(Drop)]
 pub struct Silent {
-    pub inner: MemDisk,
+    inner: MemDisk,
     faults: u64,
 }
 
 impl Silent {
     pub fn new(inner: MemDisk) -> Silent {
         Silent { inner, faults: 0 }
+    }
+
+    /// How many calls were made, and how many of them were syncs that worked.
+    pub fn calls(&self) -> (u64, u64) {
+        (self.inner.calls(), self.inner.syncs())
+    }
+
+    /// Whether both have the same bytes.
+    pub fn is_like(&self, other: &Silent) -> bool {
+        self.inner.content() == other.inner.content()
+    }
+
+    /// After so many calls more each one fails.
+    pub fn stop_after(&mut self, calls: u64) {
+        let first = self.inner.calls().saturating_add(calls);
+        self.inner.stop_from(first);
+    }
+
+    /// What a crash leaves.
+    pub fn crash(&self, choice: Choice) -> Result<Silent, AllocError> {
+        Ok(Silent::new(self.inner.crash(choice)?))
+    }
+
+    /// Overwrites bytes near the beginning, as another program may, and says whether it did.
+    pub fn spoil(&mut self, at: u32, bytes: &[u8]) -> bool {
+        at < 1_000_000 && bytes.len() <= 128 && self.write_at(u64::from(at), bytes).is_ok()
     }
 
     // Writes where a disk in memory can.

@@ -1,30 +1,20 @@
 // What each stop of the disk leaves of the events.
-use crate::applying::{IN_TURN, MOMENT, READINGS, only};
-use crate::running::Asked::Value;
-use crate::running::{Row, Running, answered, empty, opened, play};
+use crate::applying::{IN_TURN, READINGS};
+use crate::passing::pass;
+use crate::running::Asked::{Create, Open, Value};
+use crate::running::{
+    DOUBLING, Held, Row, Running, answered, empty, fresh, held, opened, play, reopen,
+};
 use crate::silent::Silent;
-use ss_catalog::{Event, LAST_TIME, Refusal};
-use ss_outside::{Choice, MemDisk};
-use ss_store::{ApplyError, OpenError, Store};
+use crate::steps::Step::{self, Apply, Crash, Fresh, Holds, Stop};
+use crate::steps::first_wrong;
+use ss_outside::Choice;
+use ss_store::{ApplyError, OpenError};
 use std::alloc::Global;
 use std::test::Fail;
 
-// How many events the one stream has taken since its creation, and how many windows it has.
-fn held(running: &mut Running) -> Option<(u64, u32)> {
-    let row = only(&running.store)?;
-    let landmarks = u64::from(row.landmarks) * 2 + u64::from(row.values);
-    let taken = row.n.saturating_add(landmarks);
-    // Of a landmark that is open one event is still to come, and another is refused.
-    let name = row.name;
-    let opening = Event::Open { name, t: LAST_TIME };
-    match running.store.apply(&mut running.disk, &opening) {
-        Err(ApplyError::Refused(Refusal::Open)) => Some((taken.saturating_sub(1), row.k)),
-        _ => Some((taken, row.k)),
-    }
-}
-
-// The same after the first of some rows.
-fn held_after(rows: &[Row], count: usize) -> Option<(u64, u32)> {
+// What the one stream holds after the first of some rows.
+fn held_after(rows: &[Row], count: usize) -> Held {
     let taken = count.checked_sub(1)?;
     let (_, _, answer) = rows.get(taken)?;
     let (_, windows) = answer.ok()?;
@@ -38,15 +28,24 @@ const CRASHES: [Choice; 4] = [
     Choice::Fill(0xA5),
 ];
 
+fn stop_after(disk: &mut Silent, calls: u64) {
+    disk.stop_after(calls);
+}
+
+fn after(alloc: Global, disk: &Silent, choice: Choice) -> Result<Running, OpenError> {
+    opened(alloc, disk.crash(choice)?)
+}
+
+// What a crash leaves.
+fn held_by(alloc: Global, disk: &Silent, choice: Choice) -> Result<Held, OpenError> {
+    let mut running = after(alloc, disk, choice)?;
+    Ok(held(&mut running))
+}
+
 /// Whether each crash leaves a store of this, or of that.
-pub fn survives(
-    alloc: Global,
-    disk: &MemDisk,
-    this: Option<(u64, u32)>,
-    that: Option<(u64, u32)>,
-) -> Result<bool, OpenError> {
+pub fn survives(alloc: Global, disk: &Silent, this: Held, that: Held) -> Result<bool, OpenError> {
     for choice in CRASHES {
-        let found = held(&mut opened(alloc, disk.crash(choice)?)?);
+        let found = held_by(alloc, disk, choice)?;
         if found != this && found != that {
             return Ok(false);
         }
@@ -54,78 +53,91 @@ pub fn survives(
     Ok(true)
 }
 
-// Whether a store that has stopped makes no call.
-fn is_quiet(running: &mut Running) -> bool {
-    let calls = running.disk.inner.calls();
-    let again = answered(running, b'a', Value(99, 0));
-    again == Some(Err(ApplyError::Stopped)) && running.disk.inner.calls() == calls
+// Whether a store that has stopped answers so.
+fn is_stopped(running: &mut Running) -> bool {
+    answered(running, b'a', Value(99, 0)) == Some(Err(ApplyError::Stopped))
 }
 
-// Opens and plays on a disk that stops at this call: how many rows were acknowledged, and whether each crash leaves their events,
-// or one more where that was under way.
-fn stopped_at(alloc: Global, rows: &[Row], stop: u64) -> Result<(usize, bool), OpenError> {
-    let mut disk = Silent::new(empty(alloc)?);
-    disk.inner.stop_from(stop);
-    let store = match Store::open(alloc, &mut disk) {
-        Ok(store) => store,
-        Err(_) => return Ok((0, survives(alloc, &disk.inner, None, None)?)),
-    };
-    let mut running = Running { store, disk };
-    let count = play(&mut running, rows);
+// Plays: how many rows were acknowledged, and whether each crash leaves their events, or one more where that was under way.
+fn left_by(alloc: Global, running: &mut Running, rows: &[Row]) -> Result<(usize, bool), OpenError> {
+    let count = play(running, rows);
     let left = held_after(rows, count);
     let next = held_after(rows, count.saturating_add(1)).or(left);
-    let is_quiet = count == rows.len() || is_quiet(&mut running);
+    let is_over = count == rows.len() || is_stopped(running);
     Ok((
         count,
-        is_quiet && survives(alloc, &running.disk.inner, left, next)?,
+        is_over && survives(alloc, &running.disk, left, next)?,
     ))
 }
 
-// The first stop, of so many, after which other events are left.
-fn lost_at(alloc: Global, rows: &[Row], stops: u64) -> Result<Option<u64>, OpenError> {
+// The same, opened first on an empty disk that stops at this call.
+fn stopped_in(
+    alloc: Global,
+    running: &mut Running,
+    rows: &[Row],
+    stop: u64,
+) -> Result<(usize, bool), OpenError> {
+    running.disk = empty(alloc)?;
+    stop_after(&mut running.disk, stop);
+    if reopen(alloc, running).is_ok() {
+        left_by(alloc, running, rows)
+    } else {
+        Ok((0, survives(alloc, &running.disk, None, None)?))
+    }
+}
+
+fn stopped_at(alloc: Global, rows: &[Row], stop: u64) -> Result<(usize, bool), OpenError> {
+    let mut running = fresh(alloc)?;
+    stopped_in(alloc, &mut running, rows, stop)
+}
+
+// The first stop, of so many, after which other events are left, or these many where the rows need more calls.
+fn lost_at(alloc: Global, rows: &[Row], stops: usize) -> Result<Option<usize>, OpenError> {
     for stop in 0..stops {
-        if !stopped_at(alloc, rows, stop)?.1 {
+        if !stopped_at(alloc, rows, stop as u64)?.1 {
             return Ok(Some(stop));
         }
     }
-    Ok(None)
+    let is_whole = stopped_at(alloc, rows, stops as u64)? == (rows.len(), true);
+    Ok(if is_whole { None } else { Some(stops) })
+}
+
+fn first_lost(alloc: Global) -> Result<Option<usize>, OpenError> {
+    match lost_at(alloc, &READINGS, 300)? {
+        None => lost_at(alloc, &IN_TURN, 100),
+        lost => Ok(lost),
+    }
 }
 
 #[test]
-fn each_stop_leaves_the_first_readings(rt: HostRuntime) -> Result<(), Fail> {
-    assert_eq!(rt; lost_at(rt.alloc(), &READINGS, 300)?, None);
-    let (count, _) = stopped_at(rt.alloc(), &READINGS, 300)?;
-    assert_eq!(rt; count, READINGS.len());
-    Ok(())
-}
-
-#[test]
-fn each_stop_leaves_the_first_landmarks(rt: HostRuntime) -> Result<(), Fail> {
-    assert_eq!(rt; lost_at(rt.alloc(), &IN_TURN, 100)?, None);
-    let (count, _) = stopped_at(rt.alloc(), &IN_TURN, 100)?;
-    assert_eq!(rt; count, IN_TURN.len());
-    Ok(())
+fn each_stop_leaves_the_first_readings_and_landmarks(rt: HostRuntime) -> Result<(), Fail> {
+    pass(first_lost(rt.alloc())?)
 }
 
 // Of a commit, the call that makes its open gate durable.
 const GATE_SYNC: u64 = 3;
 
 // Where the gate of a landmark's first value was written and isn't durable, either byte may be found there.
+const TORN: [Step; 16] = [
+    Fresh,
+    Apply(b'b', Create(DOUBLING), Ok((0, 0))),
+    Apply(b'b', Open(100), Ok((0, 0))),
+    Stop(GATE_SYNC),
+    Apply(b'b', Value(100, 7), Err(ApplyError::Disk)),
+    Crash(Choice::Fill(0xA5)),
+    Holds(2, 0),
+    Apply(b'b', Value(101, 8), Ok((0, 0))),
+    Fresh,
+    Apply(b'b', Create(DOUBLING), Ok((0, 0))),
+    Apply(b'b', Open(100), Ok((0, 0))),
+    Stop(GATE_SYNC),
+    Apply(b'b', Value(100, 7), Err(ApplyError::Disk)),
+    Crash(Choice::Fill(0)),
+    Holds(1, 0),
+    Apply(b'b', Value(101, 8), Ok((0, 0))),
+];
+
 #[test]
 fn a_torn_gate_leaves_either(rt: HostRuntime) -> Result<(), Fail> {
-    let mut running = opened(rt.alloc(), empty(rt.alloc())?)?;
-    let (first, rest) = MOMENT.split_at(2);
-    assert_eq!(rt; play(&mut running, first), first.len());
-    let calls = running.disk.inner.calls();
-    running
-        .disk
-        .inner
-        .stop_from(calls.saturating_add(GATE_SYNC));
-    assert_eq!(rt; play(&mut running, rest), 0);
-    for (byte, taken) in [(0xA5, 2), (0, 1)] {
-        let mut left = opened(rt.alloc(), running.disk.inner.crash(Choice::Fill(byte))?)?;
-        assert_eq!(rt; held(&mut left), Some((taken, 0)));
-        assert_eq!(rt; play(&mut left, &[(b'b', Value(101, 8), Ok((0, 0)))]), 1);
-    }
-    Ok(())
+    pass(first_wrong(rt.alloc(), &TORN)?)
 }
