@@ -1,9 +1,6 @@
 # Needs the toolchain's `rt` on the PATH. `make help` lists the targets.
 PROGRAM = crates/summarystore/out/summarystore
-BENCH = crates/journal_bench/out/journal_bench
-RECORDS_BENCH = crates/records_bench/out/records_bench
-TARGET_BENCH = crates/target_bench/out/target_bench
-LANDMARKS = crates/landmarks_bench/out/landmarks_bench
+BENCH = crates/calls_bench/out/calls_bench
 PREFIX = /usr/local
 
 .PHONY: build demo test faults install bench help
@@ -31,16 +28,13 @@ install: ## installs the program that was built last, and its man page: make ins
 
 bench: ## times the programs that were built last: bench/README.md
 	@test -x $(PROGRAM) || $(MAKE) build
-	@test -x $(BENCH) || tools/build journal_bench
-	@test -x $(RECORDS_BENCH) || tools/build records_bench
-	@test -x $(TARGET_BENCH) || tools/build target_bench
-	@test -x $(LANDMARKS) || tools/build landmarks_bench
+	@test -x $(BENCH) || tools/build calls_bench all
 	@bench/durable $(PROGRAM)
 	@bench/queries $(PROGRAM)
 	@bench/commits $(BENCH)
-	@bench/records $(RECORDS_BENCH)
-	@bench/targets $(TARGET_BENCH)
-	@bench/landmarks $(LANDMARKS)
+	@bench/records $(BENCH)
+	@bench/targets $(BENCH)
+	@bench/landmarks $(BENCH)
 
 help: ## lists the targets
 	@awk -F ':.*## ' '/^[a-z]+:.*## / { printf "make %-8s  %s\n", $$1, $$2 }' Makefile

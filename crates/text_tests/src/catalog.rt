@@ -1,25 +1,40 @@
 use ss_catalog::{Catalog, CatalogError, Name, Params, Refusal, StreamId};
-use std::test::Fail;
+
+fn is_name(word: &[u8]) -> bool {
+    Name::of(word).is_some()
+}
+
+// Words, and whether they are names.
+fn words() -> [(&'static str, bool); 11] {
+    [
+        ("a", true),
+        ("azAZ09_-.", true),
+        ("abcdefghijklmnopqrstuvwxyz012345", true),
+        ("abcdefghijklmnopqrstuvwxyz0123456", false),
+        ("", false),
+        ("a/b", false),
+        ("a b", false),
+        ("a\0", false),
+        ("@", false),
+        ("[", false),
+        ("x!", false),
+    ]
+}
 
 #[test]
 fn words_are_names(rt: HostRuntime) {
-    let rows: [(&[u8], bool); 12] = [
-        (b"a", true),
-        (b"azAZ09_-.", true),
-        (b"abcdefghijklmnopqrstuvwxyz012345", true),
-        (b"abcdefghijklmnopqrstuvwxyz0123456", false),
-        (b"", false),
-        (b"a/b", false),
-        (b"a b", false),
-        (b"a\0", false),
-        (b"a\x80", false),
-        (b"@", false),
-        (b"[", false),
-        (b"x!", false),
-    ];
-    for (word, want) in rows {
-        assert_eq!(rt; Name::of(word).is_some(), want);
+    for (word, want) in words() {
+        assert_eq!(rt; is_name(word.as_bytes()), want);
     }
+}
+
+#[test]
+fn bytes_past_ascii_are_no_names(rt: HostRuntime) {
+    assert!(rt; !is_name(b"a\x80"));
+}
+
+fn in_range(params: Params) -> bool {
+    params.in_range()
 }
 
 #[test]
@@ -45,8 +60,12 @@ fn parameters_have_their_ranges(rt: HostRuntime) {
         (power(1, 0, 1, 0), false),
         (power(1, 0, 1, 65537), false),
     ] {
-        assert_eq!(rt; params.in_range(), want);
+        assert_eq!(rt; in_range(params), want);
     }
+}
+
+fn said(refusal: Refusal) -> (u8, &'static str) {
+    (refusal.number(), refusal.text())
 }
 
 #[test]
@@ -67,22 +86,52 @@ fn refusals_have_numbers_and_names(rt: HostRuntime) {
         (Refusal::StreamFull, 13, "STREAM_FULL"),
         (Refusal::StoreFull, 14, "STORE_FULL"),
     ] {
-        assert_eq!(rt; refusal.number(), number);
-        assert_eq!(rt; refusal.text(), name);
+        assert_eq!(rt; said(refusal), (number, name));
     }
 }
 
+// Whether a name is added under a number, and not refused since it stands. None for another error.
+fn add(catalog: &mut Catalog, word: &[u8], number: u32) -> Option<bool> {
+    let name = Name::of(word)?;
+    match catalog.add(name, StreamId(number)) {
+        Ok(()) => Some(true),
+        Err(CatalogError::Exists) => Some(false),
+        Err(_) => None,
+    }
+}
+
+// The number of a name.
+fn find(catalog: &Catalog, word: &[u8]) -> Option<u32> {
+    let name = Name::of(word)?;
+    match catalog.find(&name) {
+        Some(id) => Some(id.0),
+        None => None,
+    }
+}
+
+// Adds `room` as 0, `Room` as 7 and `room` as 8, and answers which were added.
+fn add_three(catalog: &mut Catalog) -> [Option<bool>; 3] {
+    let first = add(catalog, b"room", 0);
+    let second = add(catalog, b"Room", 7);
+    [first, second, add(catalog, b"room", 8)]
+}
+
+// The numbers of both names, and how many names there are.
+fn seen(catalog: &Catalog) -> (Option<u32>, Option<u32>, u32) {
+    (
+        find(catalog, b"room"),
+        find(catalog, b"Room"),
+        catalog.len(),
+    )
+}
+
 #[test]
-fn names_are_found_by_their_bytes(rt: HostRuntime) -> Result<(), Fail> {
+fn names_are_found_by_their_bytes(rt: HostRuntime) {
     let mut catalog = Catalog::new(rt.alloc());
-    let first = Name::of(b"room").ok_or("a name")?;
-    let second = Name::of(b"Room").ok_or("a name")?;
-    assert_eq!(rt; catalog.find(&first), None);
-    assert_eq!(rt; catalog.add(first, StreamId(0)), Ok(()));
-    assert_eq!(rt; catalog.add(second, StreamId(7)), Ok(()));
-    assert_eq!(rt; catalog.add(first, StreamId(8)), Err(CatalogError::Exists));
-    assert_eq!(rt; catalog.find(&first), Some(StreamId(0)));
-    assert_eq!(rt; catalog.find(&second), Some(StreamId(7)));
-    assert_eq!(rt; catalog.len(), 2);
-    Ok(())
+    assert_eq!(rt; seen(&catalog), (None, None, 0));
+    assert_eq!(rt;
+        add_three(&mut catalog),
+        [Some(true), Some(true), Some(false)]
+    );
+    assert_eq!(rt; seen(&catalog), (Some(0), Some(7), 2));
 }

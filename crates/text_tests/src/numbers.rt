@@ -6,102 +6,179 @@ use ss_fields::{
 };
 use std::test::Fail;
 
+fn reason(error: NumberError) -> &'static str {
+    match error {
+        NumberError::NotNumber => "none",
+        NumberError::OutOfRange => "range",
+    }
+}
+
+// What a word reads as without sign, printed, or why it doesn't.
+fn unsigned(word: &str) -> ArrayString<256> {
+    let mut out = ArrayString::new();
+    match read_u64(word.as_bytes()) {
+        Ok(value) => print_u64(value, &mut out),
+        Err(error) => {
+            let _ = out.try_push_str(reason(error));
+        }
+    }
+    out
+}
+
+// What a word reads as with its sign, printed, or why it doesn't.
+fn signed(word: &str) -> ArrayString<256> {
+    let mut out = ArrayString::new();
+    match read_i64(word.as_bytes()) {
+        Ok(value) => print_i64(value, &mut out),
+        Err(error) => {
+            let _ = out.try_push_str(reason(error));
+        }
+    }
+    out
+}
+
+// Words, each with what it reads as without sign.
+fn words() -> [(&'static str, &'static str); 11] {
+    [
+        ("0", "0"),
+        ("007", "7"),
+        ("18446744073709551615", "18446744073709551615"),
+        ("18446744073709551616", "range"),
+        ("0000000000000000000000000000005", "5"),
+        ("", "none"),
+        ("+5", "none"),
+        ("-5", "none"),
+        ("5 ", "none"),
+        ("5x", "none"),
+        ("99999999999999999999999x", "none"),
+    ]
+}
+
 #[test]
 fn words_read_as_numbers_without_sign(rt: HostRuntime) {
-    let rows: [(&[u8], Result<u64, NumberError>); 11] = [
-        (b"0", Ok(0)),
-        (b"007", Ok(7)),
-        (b"18446744073709551615", Ok(u64::MAX)),
-        (b"18446744073709551616", Err(NumberError::OutOfRange)),
-        (b"0000000000000000000000000000005", Ok(5)),
-        (b"", Err(NumberError::NotNumber)),
-        (b"+5", Err(NumberError::NotNumber)),
-        (b"-5", Err(NumberError::NotNumber)),
-        (b"5 ", Err(NumberError::NotNumber)),
-        (b"5x", Err(NumberError::NotNumber)),
-        (b"99999999999999999999999x", Err(NumberError::NotNumber)),
-    ];
-    for (word, want) in rows {
-        assert_eq!(rt; read_u64(word), want);
+    for (word, want) in words() {
+        assert_eq!(rt; unsigned(word).as_str(), want);
     }
+}
+
+// Words, each with what it reads as with its sign.
+fn signed_words() -> [(&'static str, &'static str); 8] {
+    [
+        ("-9223372036854775808", "-9223372036854775808"),
+        ("9223372036854775807", "9223372036854775807"),
+        ("9223372036854775808", "range"),
+        ("-9223372036854775809", "range"),
+        ("--5", "none"),
+        ("-", "none"),
+        ("+5", "none"),
+        ("-0", "0"),
+    ]
 }
 
 #[test]
 fn words_read_as_signed_numbers(rt: HostRuntime) {
-    let rows: [(&[u8], Result<i64, NumberError>); 8] = [
-        (b"-9223372036854775808", Ok(i64::MIN)),
-        (b"9223372036854775807", Ok(i64::MAX)),
-        (b"9223372036854775808", Err(NumberError::OutOfRange)),
-        (b"-9223372036854775809", Err(NumberError::OutOfRange)),
-        (b"--5", Err(NumberError::NotNumber)),
-        (b"-", Err(NumberError::NotNumber)),
-        (b"+5", Err(NumberError::NotNumber)),
-        (b"-0", Ok(0)),
-    ];
-    for (word, want) in rows {
-        assert_eq!(rt; read_i64(word), want);
+    for (word, want) in signed_words() {
+        assert_eq!(rt; signed(word).as_str(), want);
     }
+}
+
+// A number without sign as it is printed after a text. `unsigned` prints after none.
+fn unsigned_after_max(value: u64) -> ArrayString<256> {
+    let mut out = ArrayString::new();
+    out.push_str("max ");
+    print_u64(value, &mut out);
+    out
 }
 
 #[test]
 fn numbers_print_after_a_text(rt: HostRuntime) {
-    let mut out = ArrayString::<256>::new();
-    out.push_str("max ");
-    print_u64(u64::MAX, &mut out);
-    assert_eq!(rt; out.as_str(), "max 18446744073709551615");
-    out.clear();
-    print_u64(0, &mut out);
-    assert_eq!(rt; out.as_str(), "0");
+    assert_eq!(rt;
+        unsigned_after_max(u64::MAX).as_str(),
+        "max 18446744073709551615"
+    );
+}
+
+// A signed number as it is printed after a 'z'.
+fn signed_after_z(value: i64) -> ArrayString<256> {
+    let mut out = ArrayString::new();
+    out.push('z');
+    print_i64(value, &mut out);
+    out
 }
 
 #[test]
 fn signed_numbers_print_after_a_text(rt: HostRuntime) {
-    for (value, want) in [(-1, "z-1"), (i64::MIN, "z-9223372036854775808")] {
-        let mut out = ArrayString::<256>::new();
-        out.push('z');
-        print_i64(value, &mut out);
-        assert_eq!(rt; out.as_str(), want);
-    }
+    assert_eq!(rt; signed_after_z(-1).as_str(), "z-1");
+    assert_eq!(rt; signed_after_z(i64::MIN).as_str(), "z-9223372036854775808");
+}
+
+// A wide number as it is printed after a 'z'.
+fn wide_after_z(value: i128) -> ArrayString<256> {
+    let mut out = ArrayString::new();
+    out.push('z');
+    print_i128(value, &mut out);
+    out
 }
 
 #[test]
 fn wide_numbers_print_after_a_text(rt: HostRuntime) {
-    let rows = [
-        (i128::MIN, "z-170141183460469231731687303715884105728"),
-        (i128::MAX, "z170141183460469231731687303715884105727"),
-    ];
-    for (value, want) in rows {
-        let mut out = ArrayString::<256>::new();
-        out.push('z');
-        print_i128(value, &mut out);
-        assert_eq!(rt; out.as_str(), want);
-    }
+    assert_eq!(rt;
+        wide_after_z(i128::MIN).as_str(),
+        "z-170141183460469231731687303715884105728"
+    );
+    assert_eq!(rt;
+        wide_after_z(i128::MAX).as_str(),
+        "z170141183460469231731687303715884105727"
+    );
+}
+
+// A field among other bytes, and what is read of it.
+fn field_of_u32(value: u32) -> ([u8; 6], u32) {
+    let mut bytes = [9; 6];
+    put_u32(&mut bytes, 1, value);
+    (bytes, get_u32(&bytes, 1))
+}
+
+fn field_of_u64(value: u64) -> ([u8; 9], u64) {
+    let mut bytes = [0; 9];
+    put_u64(&mut bytes, 1, value);
+    (bytes, get_u64(&bytes, 1))
+}
+
+fn field_of_i64(value: i64) -> ([u8; 8], i64) {
+    let mut bytes = [0; 8];
+    put_i64(&mut bytes, 0, value);
+    (bytes, get_i64(&bytes, 0))
+}
+
+fn field_of_i128(value: i128) -> ([u8; 16], i128) {
+    let mut bytes = [9; 16];
+    put_i128(&mut bytes, 0, value);
+    (bytes, get_i128(&bytes, 0))
 }
 
 #[test]
 fn fields_are_written_and_read(rt: HostRuntime) {
-    let mut bytes = [9; 6];
-    put_u32(&mut bytes, 1, 0x0102_0304);
-    assert_eq!(rt; bytes, [9, 1, 2, 3, 4, 9]);
-    assert_eq!(rt; get_u32(&bytes, 1), 0x0102_0304);
-
-    let mut bytes = [0; 9];
-    put_u64(&mut bytes, 1, 0x0102_0304_0506_0708);
-    assert_eq!(rt; bytes, [0, 1, 2, 3, 4, 5, 6, 7, 8]);
-    assert_eq!(rt; get_u64(&bytes, 1), 0x0102_0304_0506_0708);
+    assert_eq!(rt;
+        field_of_u32(0x0102_0304),
+        ([9, 1, 2, 3, 4, 9], 0x0102_0304)
+    );
+    assert_eq!(rt;
+        field_of_u64(0x0102_0304_0506_0708),
+        ([0, 1, 2, 3, 4, 5, 6, 7, 8], 0x0102_0304_0506_0708)
+    );
 }
 
 #[test]
 fn signed_fields_are_written_and_read(rt: HostRuntime) {
-    let mut bytes = [0; 8];
-    put_i64(&mut bytes, 0, -3);
-    assert_eq!(rt; bytes, [255, 255, 255, 255, 255, 255, 255, 253]);
-    assert_eq!(rt; get_i64(&bytes, 0), -3);
-
-    let mut bytes = [9; 16];
-    put_i128(&mut bytes, 0, 11);
-    assert_eq!(rt; bytes, [0, 0, 0, 0, 0, 0, 0, 0, 0, 0, 0, 0, 0, 0, 0, 11]);
-    assert_eq!(rt; get_i128(&bytes, 0), 11);
+    assert_eq!(rt;
+        field_of_i64(-3),
+        ([255, 255, 255, 255, 255, 255, 255, 253], -3)
+    );
+    assert_eq!(rt;
+        field_of_i128(11),
+        ([0, 0, 0, 0, 0, 0, 0, 0, 0, 0, 0, 0, 0, 0, 0, 11], 11)
+    );
 }
 
 #[test]

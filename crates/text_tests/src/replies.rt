@@ -7,60 +7,72 @@ use ss_report::{Reply, reply_text};
 use ss_summary::Summary;
 use std::test::Fail;
 
-#[test]
-fn each_reply_has_its_line(rt: HostRuntime) -> Result<(), Fail> {
-    let name = Name::of(b"a").ok_or("a name")?;
-    let long = Name::of(b"abcdefghijklmnopqrstuvwxyz012345").ok_or("a name")?;
-    let most = u32::MAX;
-    let exp = Params::Exp { b: 2, r: 1, s: 1 };
-    let power = Params::Power {
-        p: most,
-        q: most,
-        r: most,
-        s: most,
-    };
-    let short = StreamRow {
+fn text_of(reply: &Reply) -> ArrayString<256> {
+    let mut text = ArrayString::new();
+    reply_text(reply, &mut text);
+    text
+}
+
+// A stream with a short name and small numbers.
+fn short_stream() -> Option<Reply> {
+    Some(Reply::Stream(StreamRow {
         id: StreamId(0),
-        name,
-        params: exp,
+        name: Name::of(b"a")?,
+        params: Params::Exp { b: 2, r: 1, s: 1 },
         n: 7,
         k: 3,
         landmarks: 0,
         values: 0,
-    };
-    let widest = StreamRow {
+    }))
+}
+
+// A stream with the longest name and the greatest numbers.
+fn longest_stream() -> Option<Reply> {
+    let most = u32::MAX;
+    Some(Reply::Stream(StreamRow {
         id: StreamId(most),
-        name: long,
-        params: power,
+        name: Name::of(b"abcdefghijklmnopqrstuvwxyz012345")?,
+        params: Params::Power {
+            p: most,
+            q: most,
+            r: most,
+            s: most,
+        },
         n: u64::MAX,
         k: most,
         landmarks: most,
         values: most,
-    };
-    let joined = Summary::join(Summary::one(10, i64::MIN), Summary::one(20, i64::MIN));
+    }))
+}
+
+// A window of two values.
+fn window() -> Reply {
+    Reply::Window(Placed {
+        first: 5,
+        last: 6,
+        summary: Summary::join(Summary::one(10, i64::MIN), Summary::one(20, i64::MIN)),
+    })
+}
+
+#[test]
+fn each_reply_has_its_line(rt: HostRuntime) -> Result<(), Fail> {
     for (reply, line) in [
         (Reply::Done(Ack { n: 7, k: 3 }), "ok 7 3\n"),
         (Reply::Refused(Refusal::Time), "refused TIME\n"),
         (Reply::Refused(Refusal::StreamFull), "refused STREAM_FULL\n"),
         (Reply::WindowsHead(3), "windows 3\n"),
         (Reply::ListHead(4096), "list 4096\n"),
-        (Reply::Stream(short), "a exp 2 1 1 7 3 0 0\n"),
+        (short_stream().ok_or("a name")?, "a exp 2 1 1 7 3 0 0\n"),
         (
-            Reply::Stream(widest),
+            longest_stream().ok_or("a name")?,
             "abcdefghijklmnopqrstuvwxyz012345 power 4294967295 4294967295 4294967295 4294967295 18446744073709551615 4294967295 4294967295 4294967295\n",
         ),
         (
-            Reply::Window(Placed {
-                first: 5,
-                last: 6,
-                summary: joined,
-            }),
+            window(),
             "5 6 2 -18446744073709551616 -9223372036854775808 -9223372036854775808 10 20\n",
         ),
     ] {
-        let mut text = ArrayString::new();
-        reply_text(&reply, &mut text);
-        assert_eq!(rt; text.as_str(), line);
+        assert_eq!(rt; text_of(&reply).as_str(), line);
     }
     Ok(())
 }
@@ -102,8 +114,6 @@ fn each_answer_has_its_line(rt: HostRuntime) {
         ),
         (Outcome::Max(Extreme::Nothing), "max none\n"),
     ] {
-        let mut text = ArrayString::new();
-        reply_text(&Reply::Answered(outcome), &mut text);
-        assert_eq!(rt; text.as_str(), line);
+        assert_eq!(rt; text_of(&Reply::Answered(outcome)).as_str(), line);
     }
 }

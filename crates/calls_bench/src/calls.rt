@@ -1,0 +1,61 @@
+// How often a disk was called.
+ghost use Rattle.std.specs.Prelude.{◌≡◌, ◌+◌, ◌*◌, ◌≤◌};
+ghost use Rattle.calls_bench.specs.Settlings.{settlings};
+
+/// Calls of a disk, and the bytes of the writes. Each number stands still at its greatest.
+#[derive(Clone, Copy)]
+pub struct Calls {
+    /// Calls of `len` and `read_at`.
+    pub reads: u64,
+    pub writes: u64,
+    pub syncs: u64,
+    pub bytes: u64,
+}
+
+fn sum(a: u64, b: u64) -> u64 {
+    a.saturating_add(b)
+}
+
+impl Calls {
+    /// None yet.
+    pub fn none() -> Calls {
+        Calls {
+            reads: 0,
+            writes: 0,
+            syncs: 0,
+            bytes: 0,
+        }
+    }
+
+    /// How many calls there were.
+    pub fn number(&self) -> u64 {
+        sum(sum(self.reads, self.writes), self.syncs)
+    }
+
+    /// Whether all four numbers are those of the other.
+    pub fn agree(&self, other: &Calls) -> bool {
+        let own = (self.reads, self.writes, self.syncs, self.bytes);
+        own == (other.reads, other.writes, other.syncs, other.bytes)
+    }
+
+    /// Those of so many commits of so many puts each on an empty journal, by the steps in docs/FORMAT.md: the entry after
+    /// its gate and the gate, each with a sync. Where all 64 entries are in use, first the puts' slots, the first gate
+    /// and the other gates, each with a sync; the other gates are read.
+    pub fn of_commits(commits: u32, puts: u32) -> Calls
+        requires few { puts ≤ 4 }
+        ensures reads { result.reads ≡ 63 * settlings commits }
+        ensures writes { result.writes ≡ 2 * commits + (64 * puts + 64) * settlings commits }
+        ensures syncs { result.syncs ≡ 2 * commits + 3 * settlings commits }
+        ensures bytes { result.bytes ≡ 544 * commits + (128 * (64 * puts) + 64) * settlings commits }
+    {
+        let settlings = u64::from(commits.saturating_sub(1) / 64);
+        let commits = u64::from(commits);
+        let puts = u64::from(puts);
+        Calls {
+            reads: 63 * settlings,
+            writes: 2 * commits + (64 * puts + 64) * settlings,
+            syncs: 2 * commits + 3 * settlings,
+            bytes: 544 * commits + (128 * (64 * puts) + 64) * settlings,
+        }
+    }
+}

@@ -1,0 +1,141 @@
+// Records on a disk in memory.
+ghost use Rattle.std.specs.Prelude.{◌<◌, ◌≤◌, IsTrue, IfOk};
+ghost use Rattle.ss_journal.specs.Kept.{IsSettled};
+ghost use Rattle.ss_records.specs.Kept.{AreKept};
+
+use crate::puts::txn_of;
+use crate::timing::micros_since;
+use anyhow::{Result, ensure};
+use ss_journal::{JournalError, MOST_SLOTS};
+use ss_outside::{Disk, Failed, MemDisk};
+use ss_records::Records;
+use std::alloc::{AllocError, Global};
+use std::rt::Clock;
+use std::time::Instant;
+
+/// The disk in memory holds each slot twice: 256 MB for so many.
+pub const MOST_RECORDS: u32 = 1_000_000;
+
+/// How many transactions are timed.
+pub const APPLIES: u32 = 100_000;
+
+/// How many times the lowest free slot is asked for.
+pub const LOOKS: u32 = 1_000_000;
+
+// The bytes before the first slot of a formed file.
+const SLOTS_BEGIN: usize = 36_864;
+
+// Fills the bytes up to this length.
+fn fill(bytes: &mut Vec<u8>, length: usize, byte: u8) -> Result<(), AllocError> {
+    bytes.resize(length, byte)
+}
+
+/// A formed file of so many slots, all of them live.
+pub fn image(alloc: Global, count: u32) -> Result<MemDisk, AllocError>
+    requires { count ≤ MOST_RECORDS }
+{
+    let mut bytes = Vec::new(alloc);
+    bytes.extend_from_slice(b"\xA5SSTORE01")?;
+    fill(&mut bytes, SLOTS_BEGIN, 0)?;
+    fill(&mut bytes, SLOTS_BEGIN + 128 * count as usize, 1)?;
+    MemDisk::new(alloc, bytes)
+}
+
+// Records on the disk, ready for transactions.
+fn start<D: Disk>(alloc: Global, disk: &mut D) -> Result<Records, JournalError>
+    ensures settled { IfOk result (λ records. IsSettled records.journal) }
+    ensures one_disk { IsTrue (D.tells disk.old) → IfOk result (λ records. AreKept records (D.told disk.new).content) }
+{
+    let mut records = Records::open(alloc, disk)?;
+    records.settle(disk)?;
+    Ok(records)
+}
+
+// A slot below the count: the slots from 0 on, far apart.
+fn nth_slot(n: u32, count: u32) -> u32
+    requires some { 0 < count }
+    ensures { result < count }
+{
+    (u64::from(n) * 7919 % u64::from(count)) as u32
+}
+
+// Applies so many transactions of one put each. Every second one frees a slot, and the next takes it again.
+fn apply_many<D: Disk>(
+    records: &mut Records,
+    disk: &mut D,
+    slots: u32,
+    count: u32,
+) -> Result<(), Failed>
+    requires some { 0 < slots }
+    requires few { slots ≤ MOST_RECORDS }
+    requires settled { IsSettled records.old.journal }
+    requires one_disk { IsTrue (D.tells disk.old) → AreKept records.old (D.told disk.old).content }
+{
+    for k in 0..count {
+        let slot = nth_slot(k / 2, slots).min(records.extent());
+        records.apply(disk, &txn_of(slot, 1, (k % 2) as u8))?;
+    }
+    Ok(())
+}
+
+/// How many of 1,000 records are live after so many transactions, the extent, and the lowest free slot.
+pub fn seen_after(alloc: Global, count: u32) -> Result<(u32, u32, u32), JournalError> {
+    let mut disk = image(alloc, 1000)?;
+    let mut records = start(alloc, &mut disk)?;
+    apply_many(&mut records, &mut disk, 1000, count)?;
+    let lowest = records.lowest_free().unwrap_or(MOST_SLOTS);
+    Ok((records.live(), records.extent(), lowest))
+}
+
+// Asks so often for the lowest free slot, and answers the sum. Which of the two is asked hangs on the sum so far, so that
+// no answer can be used again.
+fn sum_of_lowest_free(records: &[Records; 2]) -> u64 {
+    let mut sum = 0u64;
+    for k in 0..LOOKS {
+        let lowest = records[(sum % 2) as usize].lowest_free().unwrap_or(0);
+        sum = sum.saturating_add(u64::from(lowest | (k & 1)));
+    }
+    sum
+}
+
+// The records of a disk.
+fn open<D: Disk>(alloc: Global, disk: &mut D) -> Result<Records, JournalError> {
+    Records::open(alloc, disk)
+}
+
+fn live(records: &Records) -> u32 {
+    records.live()
+}
+
+/// The microseconds of opening the records of a disk.
+pub fn open_time<R: AllocGlobal + Clock>(rt: &R, disk: &mut MemDisk) -> Result<f64> {
+    let begin = Instant::now(rt)?;
+    let records = open(rt.alloc(), disk)?;
+    let micros = micros_since(rt, &begin)?;
+    ensure!(records.live() > 0, "every slot is free");
+    Ok(micros)
+}
+
+/// The microseconds of looks for the lowest free slot.
+pub fn look_time<R: AllocGlobal + Clock>(rt: &R, disk: &mut MemDisk) -> Result<f64> {
+    let pair = [open(rt.alloc(), disk)?, open(rt.alloc(), disk)?];
+    let begin = Instant::now(rt)?;
+    let sum = sum_of_lowest_free(&pair);
+    let micros = micros_since(rt, &begin)?;
+    ensure!(sum > 0, "every slot is free");
+    Ok(micros)
+}
+
+/// The microseconds of transactions over so many live records.
+pub fn apply_time<R: AllocGlobal + Clock>(rt: &R, disk: &mut MemDisk, count: u32) -> Result<f64>
+    requires some { 0 < count }
+    requires few { count ≤ MOST_RECORDS }
+{
+    let mut records = start(rt.alloc(), disk)?;
+    let begin = Instant::now(rt)?;
+    apply_many(&mut records, disk, count, APPLIES).map_err(JournalError::from)?;
+    let micros = micros_since(rt, &begin)?;
+    let live = live(&records);
+    ensure!(live == count, "{live} live in place of {count}");
+    Ok(micros)
+}

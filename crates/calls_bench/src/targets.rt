@@ -1,0 +1,88 @@
+// Look-ups of target windows.
+ghost use Rattle.std.specs.Prelude.{◌≤◌};
+
+use crate::timing::micros_since;
+use anyhow::{Result, anyhow, ensure};
+use ss_catalog::Params;
+use ss_target::Target;
+use ss_windowing::{Decay, MOST_VALUES};
+use std::rt::Clock;
+use std::time::Instant;
+
+/// The targets, with their names.
+pub const TARGETS: [(&str, Params); 3] = [
+    ("exp 2 1 1", Params::Exp { b: 2, r: 1, s: 1 }),
+    (
+        "power 1 1 4 1",
+        Params::Power {
+            p: 1,
+            q: 1,
+            r: 4,
+            s: 1,
+        },
+    ),
+    (
+        "power 4 3 1 1",
+        Params::Power {
+            p: 4,
+            q: 3,
+            r: 1,
+            s: 1,
+        },
+    ),
+];
+
+/// How many values were taken. The oldest has one less as its age.
+pub const TAKEN: [u64; 3] = [1_000, 1_000_000, 1_000_000_000];
+
+// How many look-ups are timed.
+const LOOK_UPS: u32 = 1_000;
+
+/// How many windows of a target cover so many values, how many windows stand at most, and how long the oldest target
+/// window is.
+#[derive(Clone, Copy)]
+pub struct Cover {
+    pub windows: u64,
+    pub most: u64,
+    pub oldest: u64,
+}
+
+fn target_of(params: Params) -> Result<Target> {
+    match Target::of(params) {
+        Ok(target) => Ok(target),
+        Err(_) => Err(anyhow!("no such target")),
+    }
+}
+
+/// The cover of so many values.
+pub fn cover_of(params: Params, taken: u64) -> Result<Cover> {
+    let oldest = target_of(params)?.window_at(MOST_VALUES.min(taken.saturating_sub(1)));
+    ensure!(oldest.index < MOST_VALUES, "no such index");
+    let windows = oldest.index + 1;
+    Ok(Cover {
+        windows,
+        most: 2 * windows - 1,
+        oldest: oldest.len,
+    })
+}
+
+// Looks up an age and the seven before it in turn, and answers the indices in one number.
+fn indices(target: &Target, age: u64) -> u64
+    requires { age ≤ MOST_VALUES }
+{
+    let mut found = 0u64;
+    for k in 0..LOOK_UPS {
+        found ^= target.window_at(age.saturating_sub(u64::from(k % 8))).index;
+    }
+    found
+}
+
+/// The nanoseconds of a look-up of an age.
+pub fn look_up_time<R: AllocGlobal + Clock>(rt: &R, params: Params, age: u64) -> Result<f64> {
+    let target = target_of(params)?;
+    let begin = Instant::now(rt)?;
+    let found = indices(&target, MOST_VALUES.min(age));
+    let nanos = micros_since(rt, &begin)? * 1e3;
+    ensure!(found < u64::MAX, "no such index");
+    Ok(nanos / f64::from(LOOK_UPS))
+}
