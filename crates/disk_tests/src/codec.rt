@@ -1,12 +1,10 @@
 // The worked records: each is spelled so and read again, and what differs from them in one byte is no record.
-ghost use Rattle.std.specs.Prelude.{◌≤◌, length};
-
-use ss_catalog::Params;
 use ss_codec::{
     Record, SLOT_SIZE, decode, decoded_is_what_is_spelled, encode, free_slots_are_zeros,
     one_spelling, spelling_reads_back, which_landmarks_are_valid, which_streams_are_valid,
     which_values_are_valid, which_windows_are_valid,
 };
+use std::alloc::{AllocError, Global};
 
 // The stream `a` with the target `exp 2 1 1` and the number 0.
 const STREAM: [u8; 25] = [
@@ -66,186 +64,191 @@ const LEAST_VALUE: [u8; 32] = [
     0, 128, 0, 0, 0, 0, 0, 0, 0,
 ];
 
-// A slot that begins with these bytes and has zeros after them.
-fn slot(bytes: &[u8]) -> [u8; SLOT_SIZE]
-    requires { length bytes.now ≤ SLOT_SIZE }
-{
+// A slot that begins with some bytes and has zeros after them, the text of the record that it holds, and at which places
+// another byte leaves none.
+struct Row {
+    bytes: &'static [u8],
+    text: &'static str,
+    wrong: &'static [(u8, u8)],
+}
+
+const ROWS: [Row; 11] = [
+    Row {
+        bytes: &STREAM,
+        text: "0 a Exp { b: 2, r: 1, s: 1 }",
+        wrong: &[
+            // a kind that isn't there
+            (0, 5),
+            (0, 0),
+            // a byte that isn't zero where no field is
+            (3, 1),
+            (127, 1),
+            // a family whose fourth parameter isn't 0, and no family
+            (1, 2),
+            (1, 0),
+            // an empty name, one with a byte after its length, of too many, of another letter
+            (2, 0),
+            (25, 98),
+            (2, 33),
+            (24, 32),
+            // a parameter out of range, and a fourth one
+            (11, 17),
+            (23, 1),
+        ],
+    },
+    Row {
+        bytes: &POWER_STREAM,
+        text: "1 p Power { p: 1, q: 1, r: 4, s: 2 }",
+        // a parameter out of range
+        wrong: &[(11, 5)],
+    },
+    Row {
+        bytes: &WINDOW,
+        text: "Window { id: 0, first: 1, summary: Summary { count: 4, sum: 11, min: -3, max: 8, t_first: 10, t_last: 40 } }",
+        wrong: &[
+            // another kind
+            (0, 1),
+            // a byte that isn't zero where no field is
+            (1, 1),
+            (72, 1),
+            // no values, a sum that is too large, before the first position, after the last one
+            (23, 0),
+            (39, 22),
+            (15, 0),
+            (10, 1),
+        ],
+    },
+    Row {
+        bytes: &ONE_VALUE,
+        text: "Window { id: 7, first: 1, summary: Summary { count: 1, sum: -1, min: -1, max: -1, t_first: 10, t_last: 10 } }",
+        // at two times, with another sum, at a time that is too late
+        wrong: &[(71, 11), (39, 254), (64, 128)],
+    },
+    Row {
+        bytes: &LANDMARK,
+        text: "Landmark { id: 0, number: 1, values: 1, start: 100, finish: Some(100) }",
+        wrong: &[
+            // neither open nor closed
+            (1, 0),
+            (1, 3),
+            // open with a closing time
+            (1, 1),
+            // closed before it opens, with the number 0
+            (31, 99),
+            (11, 0),
+            // a byte that isn't zero where no field is
+            (2, 1),
+            (32, 1),
+        ],
+    },
+    Row {
+        bytes: &OPEN_LANDMARK,
+        text: "Landmark { id: 0, number: 1, values: 0, start: 100, finish: None }",
+        wrong: &[
+            // neither open nor closed
+            (1, 0),
+            // with a closing time, and with a value
+            (31, 100),
+            (15, 1),
+            // closed before it opens, with the number 0, too late
+            (1, 2),
+            (11, 0),
+            (16, 64),
+            // a byte that isn't zero where no field is
+            (127, 1),
+        ],
+    },
+    Row {
+        bytes: &LAST_LANDMARK,
+        text: "Landmark { id: 4294967295, number: 4294967295, values: 4294967295, start: 4611686018427387904, \
+            finish: Some(4611686018427387904) }",
+        // too late
+        wrong: &[(31, 1)],
+    },
+    Row {
+        bytes: &VALUE,
+        text: "Value { id: 0, number: 1, index: 1, t: 100, v: 7 }",
+        wrong: &[
+            // a byte that isn't zero where no field is
+            (1, 1),
+            (32, 1),
+            // of the landmark 0, with the index 0, of another kind
+            (11, 0),
+            (15, 0),
+            (0, 3),
+        ],
+    },
+    Row {
+        bytes: &GREATEST_VALUE,
+        text: "Value { id: 4294967295, number: 4294967295, index: 4294967295, t: 4611686018427387904, v: 9223372036854775807 }",
+        // too late
+        wrong: &[(23, 1)],
+    },
+    Row {
+        bytes: &LEAST_VALUE,
+        text: "Value { id: 4294967295, number: 4294967295, index: 4294967295, t: 4611686018427387904, v: -9223372036854775808 }",
+        wrong: &[],
+    },
+    Row {
+        bytes: &[],
+        text: "Free",
+        // a byte that isn't zero
+        wrong: &[(1, 1), (127, 1)],
+    },
+];
+
+fn slot(bytes: &[u8]) -> [u8; SLOT_SIZE] {
     let mut slot = [0; SLOT_SIZE];
-    slot[..bytes.len()].copy_from_slice(bytes);
+    if bytes.len() <= SLOT_SIZE {
+        slot[..bytes.len()].copy_from_slice(bytes);
+    }
     slot
 }
 
-#[test]
-fn worked_records_are_read_and_spelled_again(rt: HostRuntime) {
-    let slots = [
-        slot(&STREAM),
-        slot(&POWER_STREAM),
-        slot(&WINDOW),
-        slot(&ONE_VALUE),
-        slot(&LANDMARK),
-        slot(&OPEN_LANDMARK),
-        slot(&LAST_LANDMARK),
-        slot(&VALUE),
-        slot(&GREATEST_VALUE),
-        slot(&LEAST_VALUE),
-        slot(&[]),
-    ];
-    for bytes in slots {
-        match decode(&bytes) {
-            Some(record) => assert_eq!(rt; encode(&record), bytes),
-            None => assert!(rt; false, "no record in {bytes:?}"),
+// The record in a slot, and whether the slot is how it is spelled.
+fn read(bytes: &[u8; SLOT_SIZE]) -> Option<(Record, bool)> {
+    let record = decode(bytes)?;
+    Some((record, encode(&record) == *bytes))
+}
+
+// The fields of a record, where a name is its word.
+fn text_of(alloc: Global, record: &Record) -> Result<String, AllocError> {
+    match record {
+        Record::Stream { id, name, params } => {
+            format!(in alloc; "{id} {} {params:?}", name.as_str())
         }
+        _ => format!(in alloc; "{record:?}"),
     }
 }
 
-#[test]
-fn the_stream_has_its_fields(rt: HostRuntime) {
-    match &decode(&slot(&STREAM)) {
-        Some(Record::Stream { id, name, params }) => {
-            assert_eq!(rt; *id, 0);
-            assert_eq!(rt; name.as_bytes(), b"a".as_slice());
-            assert_eq!(rt; *params, Params::Exp { b: 2, r: 1, s: 1 });
-        }
-        _ => assert!(rt; false),
+// Whether a row's slot has the record of its text, and is how this is spelled.
+fn is_so(alloc: Global, row: &Row) -> Result<bool, AllocError> {
+    match read(&slot(row.bytes)) {
+        Some((record, true)) => Ok(text_of(alloc, &record)?.as_str() == row.text),
+        _ => Ok(false),
     }
 }
 
-#[test]
-fn the_window_has_its_fields(rt: HostRuntime) {
-    match &decode(&slot(&WINDOW)) {
-        Some(Record::Window { id, first, summary }) => {
-            assert_eq!(rt; (*id, *first, summary.count, summary.sum), (0, 1, 4, 11));
-            assert_eq!(rt; (summary.min, summary.max), (-3, 8));
-            assert_eq!(rt; (summary.t_first, summary.t_last), (10, 40));
+// Whether each other byte of the row leaves no record.
+fn is_none(row: &Row) -> bool {
+    for (place, byte) in row.wrong {
+        let mut bytes = slot(row.bytes);
+        bytes[usize::from(*place) % SLOT_SIZE] = *byte;
+        if read(&bytes).is_some() {
+            return false;
         }
-        _ => assert!(rt; false),
     }
+    true
 }
 
 #[test]
-fn the_landmark_has_its_fields(rt: HostRuntime) {
-    match &decode(&slot(&LANDMARK)) {
-        Some(
-            Record::Landmark {
-                id,
-                number,
-                values,
-                start,
-                finish,
-            },
-        ) => {
-            assert_eq!(rt; (*id, *number, *values), (0, 1, 1));
-            assert_eq!(rt; (*start, *finish), (100, Some(100)));
-        }
-        _ => assert!(rt; false),
+fn each_record_is_spelled_as_it_is_read_and_another_byte_leaves_none(
+    rt: HostRuntime,
+) -> Result<(), AllocError> {
+    for (k, row) in ROWS.iter().enumerate() {
+        assert!(rt; is_so(rt.alloc(), row)? && is_none(row), "row {k}");
     }
-}
-
-#[test]
-fn the_open_landmark_has_no_closing_time(rt: HostRuntime) {
-    match &decode(&slot(&OPEN_LANDMARK)) {
-        Some(
-            Record::Landmark {
-                id,
-                number,
-                values,
-                start,
-                finish,
-            },
-        ) => {
-            assert_eq!(rt; (*id, *number, *values), (0, 1, 0));
-            assert_eq!(rt; (*start, *finish), (100, None));
-        }
-        _ => assert!(rt; false),
-    }
-}
-
-#[test]
-fn the_value_of_a_landmark_has_its_fields(rt: HostRuntime) {
-    match &decode(&slot(&VALUE)) {
-        Some(
-            Record::Value {
-                id,
-                number,
-                index,
-                t,
-                v,
-            },
-        ) => {
-            assert_eq!(rt; (*id, *number, *index), (0, 1, 1));
-            assert_eq!(rt; (*t, *v), (100, 7));
-        }
-        _ => assert!(rt; false),
-    }
-}
-
-#[test]
-fn what_is_no_record_in_one_byte(rt: HostRuntime) {
-    let rows: [(&[u8; SLOT_SIZE], u8, u8); 46] = [
-        // a kind that isn't there
-        (&slot(&STREAM), 0, 5),
-        (&slot(&STREAM), 0, 0),
-        (&slot(&WINDOW), 0, 1),
-        // a byte that isn't zero where no field is
-        (&slot(&STREAM), 3, 1),
-        (&slot(&STREAM), 127, 1),
-        (&slot(&WINDOW), 1, 1),
-        (&slot(&WINDOW), 72, 1),
-        (&slot(&[]), 1, 1),
-        (&slot(&[]), 127, 1),
-        // a family whose fourth parameter isn't 0, and no family
-        (&slot(&STREAM), 1, 2),
-        (&slot(&STREAM), 1, 0),
-        // an empty name, one with a byte after its length, of too many, of another letter
-        (&slot(&STREAM), 2, 0),
-        (&slot(&STREAM), 25, 98),
-        (&slot(&STREAM), 2, 33),
-        (&slot(&STREAM), 24, 32),
-        // a parameter out of range, and a fourth one
-        (&slot(&STREAM), 11, 17),
-        (&slot(&POWER_STREAM), 11, 5),
-        (&slot(&STREAM), 23, 1),
-        // a window of no values, of a sum that is too large, before the first position, after the last one
-        (&slot(&WINDOW), 23, 0),
-        (&slot(&WINDOW), 39, 22),
-        (&slot(&WINDOW), 15, 0),
-        (&slot(&WINDOW), 10, 1),
-        // one value at two times, with another sum, at a time that is too late
-        (&slot(&ONE_VALUE), 71, 11),
-        (&slot(&ONE_VALUE), 39, 254),
-        (&slot(&ONE_VALUE), 64, 128),
-        // a landmark that is neither open nor closed
-        (&slot(&LANDMARK), 1, 0),
-        (&slot(&LANDMARK), 1, 3),
-        (&slot(&OPEN_LANDMARK), 1, 0),
-        // an open landmark with a closing time, and with a value
-        (&slot(&LANDMARK), 1, 1),
-        (&slot(&OPEN_LANDMARK), 31, 100),
-        (&slot(&OPEN_LANDMARK), 15, 1),
-        // a landmark that closes before it opens, with the number 0, too late
-        (&slot(&OPEN_LANDMARK), 1, 2),
-        (&slot(&LANDMARK), 31, 99),
-        (&slot(&LANDMARK), 11, 0),
-        (&slot(&OPEN_LANDMARK), 11, 0),
-        (&slot(&LAST_LANDMARK), 31, 1),
-        (&slot(&OPEN_LANDMARK), 16, 64),
-        // a byte that isn't zero where no field is
-        (&slot(&LANDMARK), 2, 1),
-        (&slot(&LANDMARK), 32, 1),
-        (&slot(&OPEN_LANDMARK), 127, 1),
-        (&slot(&VALUE), 1, 1),
-        (&slot(&VALUE), 32, 1),
-        // a value of the landmark 0, with the index 0, too late, of another kind
-        (&slot(&VALUE), 11, 0),
-        (&slot(&VALUE), 15, 0),
-        (&slot(&GREATEST_VALUE), 23, 1),
-        (&slot(&VALUE), 0, 3),
-    ];
-    for (bytes, place, value) in rows {
-        let mut changed = *bytes;
-        changed[usize::from(place) % SLOT_SIZE] = value;
-        assert!(rt; decode(&changed).is_none(), "byte {place} is {value}");
-    }
+    Ok(())
 }
 
 #[test]

@@ -1,5 +1,5 @@
 mod commits;
-mod files;
+pub mod files;
 mod opening;
 mod runs;
 mod stops;

@@ -4,10 +4,11 @@ ghost use Rattle.ss_journal.specs.Puts.{slots_fit, IsTxn};
 ghost use Rattle.ss_journal.specs.Kept.{IsSettled};
 ghost use Rattle.ss_records.specs.Kept.{AreKept};
 
+use crate::journal::files::{File, Map, disk_of, disk_with};
 use ss_journal::{JournalError, Put, SLOT_SIZE, Txn};
 use ss_outside::{Disk, Failed, MemDisk};
 use ss_records::Records;
-use std::alloc::{AllocError, Global};
+use std::alloc::Global;
 
 #[derive(Clone, Copy)]
 enum Step {
@@ -30,7 +31,7 @@ fn seen(records: &Records) -> Seen {
     (records.live(), records.extent(), records.lowest_free())
 }
 
-fn put_of(slot: u32, byte: u8) -> Put
+fn put_into(slot: u32, byte: u8) -> Put
     ensures { result.slot ≡ slot }
 {
     Put {
@@ -45,22 +46,22 @@ fn txn_of(step: Step, extent: u32) -> Option<Txn>
 {
     let mut txn = Txn::new();
     match (step, extent) {
-        (Step::First, 0) => txn.push(put_of(0, 1)),
+        (Step::First, 0) => txn.push(put_into(0, 1)),
         (Step::Next, 1) => {
-            txn.push(put_of(1, 2));
-            txn.push(put_of(2, 3));
-            txn.push(put_of(3, 4));
+            txn.push(put_into(1, 2));
+            txn.push(put_into(2, 3));
+            txn.push(put_into(3, 4));
         }
         (Step::Free, 4) => {
-            txn.push(put_of(1, 0));
-            txn.push(put_of(3, 0));
+            txn.push(put_into(1, 0));
+            txn.push(put_into(3, 0));
         }
-        (Step::Again, 4) => txn.push(put_of(1, 5)),
+        (Step::Again, 4) => txn.push(put_into(1, 5)),
         (Step::Fourth, 4) => {
-            txn.push(put_of(0, 0));
-            txn.push(put_of(1, 0));
-            txn.push(put_of(2, 0));
-            txn.push(put_of(3, 9));
+            txn.push(put_into(0, 0));
+            txn.push(put_into(1, 0));
+            txn.push(put_into(2, 0));
+            txn.push(put_into(3, 9));
         }
         _ => return None,
     }
@@ -101,50 +102,54 @@ fn first_wrong<D: Disk>(alloc: Global, disk: &mut D) -> Result<Option<usize>, Jo
     Ok(None)
 }
 
-// What is seen after opening again, and the first bytes of slots 2 and 3.
-fn reopened<D: Disk>(alloc: Global, disk: &mut D) -> Result<(Seen, u8, u8), JournalError> {
+// What is seen after opening, and the first byte of a slot.
+fn opened<D: Disk>(alloc: Global, disk: &mut D, slot: u8) -> Result<(Seen, u8), JournalError> {
     let mut records = Records::open(alloc, disk)?;
-    let third = records.read(disk, 2)?;
-    let fourth = records.read(disk, 3)?;
-    Ok((seen(&records), third[0], fourth[0]))
+    let bytes = records.read(disk, u32::from(slot))?;
+    Ok((seen(&records), bytes[0]))
+}
+
+// Whether what the steps left is seen after opening again.
+fn is_reopened<D: Disk>(alloc: Global, disk: &mut D) -> Result<bool, JournalError> {
+    let seen = (1, 4, Some(0));
+    Ok(opened(alloc, disk, 2)? == (seen, 0) && opened(alloc, disk, 3)? == (seen, 9))
 }
 
 #[test]
 fn slots_are_freed_and_taken_again(rt: HostRuntime) -> Result<(), JournalError> {
-    let mut disk = MemDisk::new(rt.alloc(), Vec::new(rt.alloc()))?;
-    assert_eq!(rt; first_wrong(rt.alloc(), &mut disk)?, None);
-    assert_eq!(rt; reopened(rt.alloc(), &mut disk)?, ((1, 4, Some(0)), 0, 9));
+    let mut disk = disk_of(rt.alloc(), &[])?;
+    assert!(rt; first_wrong(rt.alloc(), &mut disk)?.is_none());
+    assert!(rt; is_reopened(rt.alloc(), &mut disk)?);
     Ok(())
 }
 
-// A formatted file of as many of these slots as are asked for, each filled with one byte.
-fn image(alloc: Global, slots: usize) -> Result<MemDisk, AllocError> {
-    let mut bytes = vec![in alloc; 0; 36864]?;
-    bytes[..9].copy_from_slice(b"\xA5SSTORE01");
-    for byte in [7, 0, 7].iter().take(slots) {
-        bytes.extend_from_slice(&[*byte; SLOT_SIZE])?;
-    }
-    MemDisk::new(alloc, bytes)
-}
+// The slots of a formatted file, and what is seen of them.
+type Opening = (Map<'static>, Seen);
+
+const OPENINGS: [Opening; 3] = [
+    (&[], (0, 0, Some(0))),
+    (&[7], (1, 1, Some(1))),
+    (&[7, 0, 7], (2, 3, Some(1))),
+];
 
 // How many calls of the disk opening takes, and what is seen then.
-fn opening(alloc: Global, slots: usize) -> Result<(u64, Seen), JournalError> {
-    let mut disk = image(alloc, slots)?;
+fn opening(alloc: Global, slots: Map<'static>) -> Result<(u64, Seen), JournalError> {
+    let mut disk = disk_with(alloc, &File::Formed(&[], slots))?;
     let records = Records::open(alloc, &mut disk)?;
     Ok((disk.calls(), seen(&records)))
 }
 
+// Whether opening takes a call more for each slot, and all is seen as the row says.
+fn opens(alloc: Global, none: u64, row: &Opening) -> Result<bool, JournalError> {
+    let (calls, seen) = opening(alloc, row.0)?;
+    Ok(calls == none.saturating_add(row.0.len() as u64) && seen == row.1)
+}
+
 #[test]
 fn opening_reads_each_slot_once(rt: HostRuntime) -> Result<(), JournalError> {
-    let (none, seen) = opening(rt.alloc(), 0)?;
-    assert_eq!(rt; seen, (0, 0, Some(0)));
-    assert_eq!(rt;
-        opening(rt.alloc(), 1)?,
-        (none.saturating_add(1), (1, 1, Some(1)))
-    );
-    assert_eq!(rt;
-        opening(rt.alloc(), 3)?,
-        (none.saturating_add(3), (2, 3, Some(1)))
-    );
+    let (none, _) = opening(rt.alloc(), &[])?;
+    for (k, row) in OPENINGS.iter().enumerate() {
+        assert!(rt; opens(rt.alloc(), none, row)?, "row {k}");
+    }
     Ok(())
 }

@@ -9,6 +9,3 @@ mod search;
 pub use entry::{At, Entry};
 pub use laws::{places_change, places_stay};
 pub use line::{Line, MOST_PLACES};
-
-#[cfg(test)]
-mod tests;

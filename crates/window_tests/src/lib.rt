@@ -1,11 +1,13 @@
-//! Tests of windows, their targets, summaries and intervals, and of landmarks. A crate with tests is proved twice, so they stand
-//! here, and call the crates below as one above them does.
+//! Tests of windows, their targets, lines, summaries and intervals, and of landmarks. A crate with tests is proved twice, so they
+//! stand here, and call the crates below as one above them does.
 #![tactic(auto)]
 
 #[cfg(test)]
 mod bounds;
 #[cfg(test)]
 mod landmarks;
+#[cfg(test)]
+mod line;
 #[cfg(test)]
 mod power;
 #[cfg(test)]

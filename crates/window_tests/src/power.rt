@@ -1,98 +1,93 @@
 // Worked rows: tables of windows and of power sums, and the edges of the parameters.
 ghost use Rattle.ss_steps.specs.Steps.{IsFresh};
 
+use super::windowing::{Window, at, next};
 use ss_power::{
     Power, PowerSum, groups_start_at_power_sums, power_lengths_never_fall, power_sum_upto,
     sums_at_caps_pass_every_age,
 };
 use ss_steps::Steps;
-use ss_windowing::{Decay, MOST_VALUES, Param, Spot};
+use ss_windowing::Param;
 use std::marker::Brand;
 use std::sync::ledger::{Blank, Ledger};
 use std::test::Fail;
 
-// Calls through the bound, of ages up to the greatest.
-fn at<D: Decay>(target: &D, age: u64) -> Spot {
-    target.window_at(age.min(MOST_VALUES))
-}
+// The parameters, an age, and the window that holds it.
+type Row = (u32, u32, u32, u32, u64, Window);
 
-fn next<D: Decay>(target: &D, age: u64, len: u64) -> Option<Spot> {
-    let spot = target.window_at(age.min(MOST_VALUES));
-    if spot.start <= MOST_VALUES {
-        target.next_at_least(spot, len)
-    } else {
-        None
-    }
-}
-
-// The parameters, an age, and the index, the start and the length of its window.
-const WINDOWS: [(u32, u32, u32, u32, u64, u64, u64, u64); 34] = [
-    (1, 1, 1, 1, 0, 0, 0, 1),
-    (1, 1, 1, 1, 1, 1, 1, 2),
-    (1, 1, 1, 1, 5, 2, 3, 3),
-    (1, 1, 1, 1, 6, 3, 6, 4),
-    (1, 1, 1, 1, 14, 4, 10, 5),
-    (2, 1, 1, 1, 0, 0, 0, 1),
-    (2, 1, 1, 1, 2, 1, 1, 2),
-    (2, 1, 1, 1, 3, 2, 3, 2),
-    (2, 1, 1, 1, 5, 3, 5, 3),
-    (2, 1, 1, 1, 8, 4, 8, 3),
-    (2, 1, 1, 1, 11, 5, 11, 3),
-    (1, 0, 1, 2, 1, 0, 0, 2),
-    (1, 0, 1, 2, 2, 1, 2, 2),
-    (1, 0, 1, 2, 9, 4, 8, 2),
-    (1, 0, 1, 1, 0, 0, 0, 1),
-    (1, 0, 1, 1, 1, 1, 1, 1),
-    (1, 0, 1, 1, 1 << 20, 1 << 20, 1 << 20, 1),
-    (1, 0, 1, 1, 1 << 40, 1 << 40, 1 << 40, 1),
-    (1, 1, 1, 1, 1 << 20, 1447, 1_047_628, 1448),
-    (1, 1, 1, 1, 1 << 40, 1_482_909, 1_099_510_292_595, 1_482_910),
-    (4, 3, 1, 1, 0, 0, 0, 1),
-    (4, 3, 1, 1, 1, 1, 1, 8),
-    (4, 3, 1, 1, 1 << 20, 2095, 1_048_405, 1000),
-    (4, 3, 1, 1, 1 << 40, 5_774_405, 1_099_511_402_455, 328_509),
-    (4, 3, 65536, 65536, 0, 0, 0, 65536),
-    (4, 3, 65536, 65536, 1, 0, 0, 65536),
-    (4, 3, 65536, 65536, 1 << 20, 16, 1 << 20, 65536),
-    (4, 3, 65536, 65536, 1 << 32, 65536, 1 << 32, 1 << 19),
+const WINDOWS: [Row; 34] = [
+    (1, 1, 1, 1, 0, (0, 0, 1)),
+    (1, 1, 1, 1, 1, (1, 1, 2)),
+    (1, 1, 1, 1, 5, (2, 3, 3)),
+    (1, 1, 1, 1, 6, (3, 6, 4)),
+    (1, 1, 1, 1, 14, (4, 10, 5)),
+    (2, 1, 1, 1, 0, (0, 0, 1)),
+    (2, 1, 1, 1, 2, (1, 1, 2)),
+    (2, 1, 1, 1, 3, (2, 3, 2)),
+    (2, 1, 1, 1, 5, (3, 5, 3)),
+    (2, 1, 1, 1, 8, (4, 8, 3)),
+    (2, 1, 1, 1, 11, (5, 11, 3)),
+    (1, 0, 1, 2, 1, (0, 0, 2)),
+    (1, 0, 1, 2, 2, (1, 2, 2)),
+    (1, 0, 1, 2, 9, (4, 8, 2)),
+    (1, 0, 1, 1, 0, (0, 0, 1)),
+    (1, 0, 1, 1, 1, (1, 1, 1)),
+    (1, 0, 1, 1, 1 << 20, (1 << 20, 1 << 20, 1)),
+    (1, 0, 1, 1, 1 << 40, (1 << 40, 1 << 40, 1)),
+    (1, 1, 1, 1, 1 << 20, (1447, 1_047_628, 1448)),
+    (
+        1,
+        1,
+        1,
+        1,
+        1 << 40,
+        (1_482_909, 1_099_510_292_595, 1_482_910),
+    ),
+    (4, 3, 1, 1, 0, (0, 0, 1)),
+    (4, 3, 1, 1, 1, (1, 1, 8)),
+    (4, 3, 1, 1, 1 << 20, (2095, 1_048_405, 1000)),
+    (4, 3, 1, 1, 1 << 40, (5_774_405, 1_099_511_402_455, 328_509)),
+    (4, 3, 65536, 65536, 0, (0, 0, 65536)),
+    (4, 3, 65536, 65536, 1, (0, 0, 65536)),
+    (4, 3, 65536, 65536, 1 << 20, (16, 1 << 20, 65536)),
+    (4, 3, 65536, 65536, 1 << 32, (65536, 1 << 32, 1 << 19)),
     (
         4,
         3,
         65536,
         65536,
         1 << 40,
-        1_053_430,
-        1_099_510_710_272,
-        1_769_472,
+        (1_053_430, 1_099_510_710_272, 1_769_472),
     ),
-    (4, 0, 65536, 1, 1 << 40, 1 << 40, 1 << 40, 1),
-    (1, 3, 65536, 1, 1, 1, 1, 1),
-    (1, 3, 65536, 1, 1 << 20, 148_062, 1_048_554, 27),
+    (4, 0, 65536, 1, 1 << 40, (1 << 40, 1 << 40, 1)),
+    (1, 3, 65536, 1, 1, (1, 1, 1)),
+    (1, 3, 65536, 1, 1 << 20, (148_062, 1_048_554, 27)),
     (
         1,
         3,
         65536,
         1,
         1 << 40,
-        5_898_952,
-        1_099_511_364_952,
-        753_571,
+        (5_898_952, 1_099_511_364_952, 753_571),
     ),
-    (1, 1, 4, 1, 86_299, 828, 86_112, 208),
+    (1, 1, 4, 1, 86_299, (828, 86_112, 208)),
 ];
+
+fn holds(row: &Row) -> Result<bool, Param> {
+    let target = Power::new(row.0, row.1, row.2, row.3)?;
+    Ok(at(&target, row.4) == row.5)
+}
 
 #[test]
 fn windows_of_ages(rt: HostRuntime) -> Result<(), Fail> {
-    for (p, q, r, s, age, index, start, len) in WINDOWS {
-        let found = at(&Power::new(p, q, r, s)?, age);
-        assert_eq!(rt; (found.index, found.start, found.len), (index, start, len));
+    for (k, row) in WINDOWS.iter().enumerate() {
+        assert!(rt; holds(row)?, "row {k}");
     }
     Ok(())
 }
 
-// The parameters, an age and a length, and the index, the start and the length of the next window of that length, or its
-// absence.
-type Next = (u32, u32, u32, u32, u64, u64, Option<(u64, u64, u64)>);
+// The parameters, an age and a length, and the next window of that length, or its absence.
+type Next = (u32, u32, u32, u32, u64, u64, Option<Window>);
 
 const NEXT: [Next; 14] = [
     (1, 1, 1, 1, 0, 1, Some((1, 1, 2))),
@@ -127,14 +122,15 @@ const NEXT: [Next; 14] = [
     (4, 3, 65536, 65536, 1 << 32, 1 << 30, None),
 ];
 
+fn follows(row: &Next) -> Result<bool, Param> {
+    let target = Power::new(row.0, row.1, row.2, row.3)?;
+    Ok(next(&target, row.4, row.5) == row.6)
+}
+
 #[test]
 fn next_windows_of_a_length(rt: HostRuntime) -> Result<(), Fail> {
-    for (p, q, r, s, age, wanted, expected) in NEXT {
-        let found = next(&Power::new(p, q, r, s)?, age, wanted);
-        assert_eq!(rt;
-            found.map(|spot| (spot.index, spot.start, spot.len)),
-            expected
-        );
+    for (k, row) in NEXT.iter().enumerate() {
+        assert!(rt; follows(row)?, "row {k}");
     }
     Ok(())
 }
@@ -156,38 +152,49 @@ fn sums<L: Ledger>(blank: Blank) -> [(u64, u64, u64); 7]
     sums
 }
 
+const SUMS: [(u64, u64, u64); 7] = [
+    (0, 1, 10),
+    (0, 1, 55),
+    (0, 1, 385),
+    (0, 1, 3025),
+    (0, 1, 25333),
+    (0, 1, 220_825),
+    (0, 1, 1_978_405),
+];
+
 #[test]
 fn power_sums(rt: HostRuntime) {
-    let last = [10, 55, 385, 3025, 25333, 220_825, 1_978_405];
-    for ((none, one, ten), expected) in sums::<Brand>(Blank::new(1)).into_iter().zip(last) {
-        assert_eq!(rt; (none, one, ten), (0, 1, expected));
+    assert!(rt; sums::<Brand>(Blank::new(1)) == SUMS);
+    assert!(rt; PowerSum::<0>::cap() == 1 << 42);
+    assert!(rt; PowerSum::<6>::cap() == 1 << 7);
+}
+
+// Parameters, and whether they are in range.
+type Ranged = (u32, u32, u32, u32, bool);
+
+const PARAMETERS: [Ranged; 9] = [
+    (0, 0, 1, 1, false),
+    (5, 0, 1, 1, false),
+    (1, 4, 1, 1, false),
+    (1, 0, 0, 1, false),
+    (1, 0, 65537, 1, false),
+    (1, 0, 1, 0, false),
+    (1, 0, 1, 65537, false),
+    (1, 0, 1, 1, true),
+    (4, 3, 65536, 65536, true),
+];
+
+fn is_ranged(row: &Ranged) -> bool {
+    match Power::new(row.0, row.1, row.2, row.3) {
+        Ok(target) => row.4 && target.parameters() == (row.0, row.1, row.2, row.3),
+        Err(Param) => !row.4,
     }
-    assert_eq!(rt; PowerSum::<0>::cap(), 1 << 42);
-    assert_eq!(rt; PowerSum::<6>::cap(), 1 << 7);
 }
 
 #[test]
 fn parameters_in_range(rt: HostRuntime) {
-    let refused = [
-        (0, 0, 1, 1),
-        (5, 0, 1, 1),
-        (1, 4, 1, 1),
-        (1, 0, 0, 1),
-        (1, 0, 65537, 1),
-        (1, 0, 1, 0),
-        (1, 0, 1, 65537),
-    ];
-    for (p, q, r, s) in refused {
-        assert!(rt;
-            matches!(Power::new(p, q, r, s), Err(Param)),
-            "{p} {q} {r} {s}"
-        );
-    }
-    for (p, q, r, s) in [(1, 0, 1, 1), (4, 3, 65536, 65536)] {
-        match Power::new(p, q, r, s) {
-            Ok(target) => assert_eq!(rt; target.parameters(), (p, q, r, s)),
-            Err(Param) => assert!(rt; false, "{p} {q} {r} {s}"),
-        }
+    for (k, row) in PARAMETERS.iter().enumerate() {
+        assert!(rt; is_ranged(row), "row {k}");
     }
 }
 

@@ -1,125 +1,205 @@
 // Worked rows: which parameters have a target, and when a pair of windows fits.
+ghost use Rattle.std.specs.Prelude.{◌≤◌, IsTrue};
+
+use super::windowing::at;
 use ss_catalog::Params;
 use ss_target::{Target, lengths_of_a_target_never_fall};
-use ss_windowing::{Decay, MOST_VALUES, Param};
+use ss_windowing::{MOST_VALUES, Param};
 use std::test::Fail;
+
+fn exp(b: u32, r: u32, s: u32) -> Params {
+    Params::Exp { b, r, s }
+}
 
 fn power(p: u32, q: u32, r: u32, s: u32) -> Params {
     Params::Power { p, q, r, s }
 }
 
-#[test]
-fn parameters_that_have_a_target(rt: HostRuntime) {
-    let rows = [
-        (Params::Exp { b: 2, r: 1, s: 1 }, true),
-        (
-            Params::Exp {
-                b: 16,
-                r: 65536,
-                s: 65536,
-            },
-            true,
-        ),
-        (Params::Exp { b: 1, r: 1, s: 1 }, false),
-        (Params::Exp { b: 0, r: 1, s: 1 }, false),
-        (Params::Exp { b: 2, r: 0, s: 1 }, false),
-        (
-            Params::Exp {
-                b: 2,
-                r: 1,
-                s: 65537,
-            },
-            false,
-        ),
-        (power(1, 0, 1, 1), true),
-        (power(4, 3, 65536, 65536), true),
-        (power(0, 0, 1, 1), false),
-        (power(5, 0, 1, 1), false),
-        (power(1, 4, 1, 1), false),
-        (power(1, 0, 65537, 1), false),
-    ];
-    for (params, has) in rows {
-        match Target::of(params) {
-            Ok(target) => assert!(rt; has && target.params() == params),
-            Err(Param) => assert!(rt; !has),
-        }
+// Whether parameters have a target, and it keeps them, or have none.
+fn is_so(params: Params, has: bool) -> bool {
+    match Target::of(params) {
+        Ok(target) => has && target.params() == params,
+        Err(Param) => !has,
     }
+}
+
+const EXPONENTIAL: [(u32, u32, u32, bool); 6] = [
+    (2, 1, 1, true),
+    (16, 65536, 65536, true),
+    (1, 1, 1, false),
+    (0, 1, 1, false),
+    (2, 0, 1, false),
+    (2, 1, 65537, false),
+];
+
+#[test]
+fn exponential_parameters_that_have_a_target(rt: HostRuntime) {
+    for (k, row) in EXPONENTIAL.iter().enumerate() {
+        assert!(rt; is_so(exp(row.0, row.1, row.2), row.3), "row {k}");
+    }
+}
+
+const POWER_LAW: [(u32, u32, u32, u32, bool); 6] = [
+    (1, 0, 1, 1, true),
+    (4, 3, 65536, 65536, true),
+    (0, 0, 1, 1, false),
+    (5, 0, 1, 1, false),
+    (1, 4, 1, 1, false),
+    (1, 0, 65537, 1, false),
+];
+
+#[test]
+fn power_law_parameters_that_have_a_target(rt: HostRuntime) {
+    for (k, row) in POWER_LAW.iter().enumerate() {
+        assert!(rt; is_so(power(row.0, row.1, row.2, row.3), row.4), "row {k}");
+    }
+}
+
+// Whether positions can be l to r seen at n.
+fn are_positions(l: u64, r: u64, n: u64) -> bool
+    ensures { IsTrue result → (1 ≤ l) × (l ≤ r) × (r ≤ n) × (n ≤ MOST_VALUES) }
+{
+    1 <= l && l <= r && r <= n && n <= MOST_VALUES
+}
+
+const DOUBLING: Params = Params::Exp { b: 2, r: 1, s: 1 };
+
+// Positions l to r of doubling windows seen at n, and whether they fit then.
+const FITS: [(u64, u64, u64, bool); 9] = [
+    (1, 2, 2, false),
+    (1, 2, 3, true),
+    (1, 2, 4, false),
+    (1, 2, 5, true),
+    (1, 4, 6, false),
+    (1, 4, 7, true),
+    (3, 5, 8, true),
+    (1, 1 << 39, MOST_VALUES, false),
+    (2, 1 << 39, MOST_VALUES - 1, true),
+];
+
+fn fits(row: &(u64, u64, u64, bool)) -> Result<bool, Param> {
+    let target = Target::of(DOUBLING)?;
+    let (l, r, n, expected) = *row;
+    Ok(are_positions(l, r, n) && target.fits(l, r, n) == expected)
 }
 
 #[test]
 fn pairs_fit_where_they_stand(rt: HostRuntime) -> Result<(), Fail> {
-    let target = Target::of(Params::Exp { b: 2, r: 1, s: 1 })?;
-    assert!(rt; !target.fits(1, 2, 2));
-    assert!(rt; target.fits(1, 2, 3));
-    assert!(rt; !target.fits(1, 2, 4));
-    assert!(rt; target.fits(1, 2, 5));
-    assert!(rt; !target.fits(1, 4, 6));
-    assert!(rt; target.fits(1, 4, 7));
-    assert!(rt; target.fits(3, 5, 8));
-    assert!(rt; !target.fits(1, 1 << 39, MOST_VALUES));
-    assert!(rt; target.fits(2, 1 << 39, MOST_VALUES - 1));
+    for (k, row) in FITS.iter().enumerate() {
+        assert!(rt; fits(row)?, "row {k}");
+    }
     Ok(())
 }
 
-// The first fit of the positions l to r seen at n, which are few.
-fn first_fit(params: Params, l: u8, r: u8, n: u8) -> Result<Option<u64>, Param> {
+const LINEAR: Params = Params::Power {
+    p: 1,
+    q: 1,
+    r: 1,
+    s: 1,
+};
+
+const CONSTANT: Params = Params::Power {
+    p: 1,
+    q: 0,
+    r: 1,
+    s: 2,
+};
+
+// Positions l to r seen at n, and when they first fit.
+type FirstFit = (Params, u64, u64, u64, Option<u64>);
+
+const FIRST_FITS: [FirstFit; 10] = [
+    (DOUBLING, 1, 2, 2, Some(3)),
+    (DOUBLING, 1, 2, 3, Some(3)),
+    (DOUBLING, 1, 2, 4, Some(5)),
+    (DOUBLING, 1, 4, 5, Some(7)),
+    (DOUBLING, 3, 5, 5, Some(8)),
+    (DOUBLING, 5, 6, 6, Some(7)),
+    (LINEAR, 1, 2, 2, Some(3)),
+    (LINEAR, 1, 4, 5, Some(10)),
+    (CONSTANT, 1, 4, 4, None),
+    (DOUBLING, 1, 1 << 39, MOST_VALUES, None),
+];
+
+fn first_fits_so(row: &FirstFit) -> Result<bool, Param> {
+    let (params, l, r, n, expected) = *row;
     let target = Target::of(params)?;
-    if 1 <= l && l <= r && r <= n {
-        Ok(target.first_fit(u64::from(l), u64::from(r), u64::from(n)))
-    } else {
-        Ok(None)
-    }
+    Ok(are_positions(l, r, n) && target.first_fit(l, r, n) == expected)
 }
 
 #[test]
 fn first_fits(rt: HostRuntime) -> Result<(), Fail> {
-    let doubling = Params::Exp { b: 2, r: 1, s: 1 };
-    let rows = [
-        (doubling, 1, 2, 2, Some(3)),
-        (doubling, 1, 2, 3, Some(3)),
-        (doubling, 1, 2, 4, Some(5)),
-        (doubling, 1, 4, 5, Some(7)),
-        (doubling, 3, 5, 5, Some(8)),
-        (doubling, 5, 6, 6, Some(7)),
-        (power(1, 1, 1, 1), 1, 2, 2, Some(3)),
-        (power(1, 1, 1, 1), 1, 4, 5, Some(10)),
-        (power(1, 0, 1, 2), 1, 4, 4, None),
-    ];
-    for (params, l, r, n, expected) in rows {
-        assert_eq!(rt; first_fit(params, l, r, n)?, expected, "{l}..{r} at {n}");
+    for (k, row) in FIRST_FITS.iter().enumerate() {
+        assert!(rt; first_fits_so(row)?, "row {k}");
     }
-    let target = Target::of(doubling)?;
-    assert!(rt; target.first_fit(1, 1 << 39, MOST_VALUES).is_none());
     Ok(())
 }
 
-// A reading a second for a day, for 30 days and for 365 days: the index of the oldest target window, and its length.
+// The index and the length of a window.
+type Oldest = (u64, u64);
+
+// Of a reading a second for a day, for 30 days and for 365 days: the oldest target window.
+const OLDEST: [(Params, Oldest, Oldest, Oldest); 5] = [
+    (DOUBLING, (16, 65536), (21, 2_097_152), (24, 16_777_216)),
+    (
+        Params::Exp { b: 2, r: 60, s: 1 },
+        (624, 1024),
+        (919, 32768),
+        (1140, 524_288),
+    ),
+    (
+        Params::Power {
+            p: 1,
+            q: 3,
+            r: 60,
+            s: 1,
+        },
+        (491, 729),
+        (1193, 8000),
+        (2254, 54872),
+    ),
+    (
+        Params::Power {
+            p: 1,
+            q: 2,
+            r: 60,
+            s: 1,
+        },
+        (946, 256),
+        (3006, 2601),
+        (6953, 13456),
+    ),
+    (
+        Params::Power {
+            p: 1,
+            q: 1,
+            r: 4,
+            s: 1,
+        },
+        (829, 208),
+        (4551, 1138),
+        (15881, 3971),
+    ),
+];
+
+fn is_oldest(target: &Target, age: u64, expected: Oldest) -> bool {
+    let (index, _, len) = at(target, age);
+    (index, len) == expected
+}
+
+fn are_oldest(row: &(Params, Oldest, Oldest, Oldest)) -> Result<bool, Param> {
+    let target = Target::of(row.0)?;
+    Ok(
+        is_oldest(&target, 86_399, row.1)
+            && is_oldest(&target, 2_591_999, row.2)
+            && is_oldest(&target, 31_535_999, row.3),
+    )
+}
+
 #[test]
 fn windows_of_a_day_a_month_and_a_year(rt: HostRuntime) -> Result<(), Fail> {
-    let exp = |b, r, s| Params::Exp { b, r, s };
-    let rows = [
-        (
-            exp(2, 1, 1),
-            [(16, 65536), (21, 2_097_152), (24, 16_777_216)],
-        ),
-        (exp(2, 60, 1), [(624, 1024), (919, 32768), (1140, 524_288)]),
-        (
-            power(1, 3, 60, 1),
-            [(491, 729), (1193, 8000), (2254, 54872)],
-        ),
-        (
-            power(1, 2, 60, 1),
-            [(946, 256), (3006, 2601), (6953, 13456)],
-        ),
-        (power(1, 1, 4, 1), [(829, 208), (4551, 1138), (15881, 3971)]),
-    ];
-    let oldest = [86_399, 2_591_999, 31_535_999];
-    for (params, expected) in rows {
-        let target = Target::of(params)?;
-        for (age, (index, len)) in oldest.into_iter().zip(expected) {
-            let spot = target.window_at(MOST_VALUES.min(age));
-            assert_eq!(rt; (spot.index, spot.len), (index, len), "{age}");
-        }
+    for (k, row) in OLDEST.iter().enumerate() {
+        assert!(rt; are_oldest(row)?, "row {k}");
     }
     Ok(())
 }

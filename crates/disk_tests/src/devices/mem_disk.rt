@@ -80,36 +80,55 @@ fn disk_of(alloc: Global, row: &Row) -> Result<MemDisk, AllocError> {
     Ok(disk)
 }
 
-// Which part of the row is not what stands on the disk, or "" where all is.
-fn mismatch(alloc: Global, row: &Row) -> Result<&'static str, AllocError> {
+fn leaves(disk: &MemDisk, choice: Choice, image: &[u8]) -> Result<bool, AllocError> {
+    Ok(disk.crash(choice)?.content() == image)
+}
+
+// Whether each crash leaves the row's image.
+fn leaves_images(disk: &MemDisk, row: &Row) -> Result<bool, AllocError> {
+    Ok(
+        leaves(disk, Choice::Lost, row.lost)?
+            && leaves(disk, Choice::Kept, row.content)?
+            && leaves(disk, Choice::Fill(0), row.zeros)?
+            && leaves(disk, Choice::Fill(0xA5), row.filled)?,
+    )
+}
+
+// How many bytes it holds, calls it had, syncs that succeeded, and calls that found no memory.
+fn counts(disk: &MemDisk) -> (usize, u64, u64, u64) {
+    (
+        disk.content().len(),
+        disk.calls(),
+        disk.syncs(),
+        disk.short(),
+    )
+}
+
+fn is_content(disk: &MemDisk, bytes: &[u8]) -> bool {
+    disk.content() == bytes
+}
+
+// Whether the calls, and what stands on the disk after them, are as the row says.
+fn goes(disk: &mut MemDisk, row: &Row) -> Result<bool, AllocError> {
+    let failed = run(disk);
+    let syncs = u64::from(!row.failed[1]);
+    Ok(
+        failed == row.failed
+            && counts(disk) == (row.content.len(), 4, syncs, 0)
+            && is_content(disk, row.content)
+            && leaves_images(disk, row)?,
+    )
+}
+
+fn is_so(alloc: Global, row: &Row) -> Result<bool, AllocError> {
     let mut disk = disk_of(alloc, row)?;
-    if run(&mut disk) != row.failed || disk.calls() != 4 {
-        return Ok("calls");
-    }
-    if disk.syncs() != u64::from(!row.failed[1]) {
-        return Ok("syncs");
-    }
-    for (part, choice, image) in [
-        ("lost", Choice::Lost, row.lost),
-        ("kept", Choice::Kept, row.content),
-        ("zeros", Choice::Fill(0), row.zeros),
-        ("filled", Choice::Fill(0xA5), row.filled),
-    ] {
-        if disk.crash(choice)?.content() != image {
-            return Ok(part);
-        }
-    }
-    Ok(if disk.content() == row.content {
-        ""
-    } else {
-        "content"
-    })
+    goes(&mut disk, row)
 }
 
 #[test]
 fn a_crash_leaves_the_chosen_image(rt: HostRuntime) -> Result<(), Fail> {
     for (k, row) in ROWS.iter().enumerate() {
-        assert_eq!(rt; mismatch(rt.alloc(), row)?, "", "row {k}");
+        assert!(rt; is_so(rt.alloc(), row)?, "row {k}");
     }
     Ok(())
 }
@@ -124,30 +143,42 @@ fn replace<D: Disk>(disk: &mut D, bytes: &[u8], rest: &mut [u8]) -> Result<u64, 
     disk.len()
 }
 
+fn reads_zeros<D: Disk>(disk: &mut D) -> bool {
+    let mut rest = [9; 5];
+    replace(disk, &[7], &mut rest) == Ok(4) && rest == [3, 4, 0, 0, 0]
+}
+
+// Whether these calls fail: a write, a read past the end, the length.
+fn has_stopped<D: Disk>(disk: &mut D) -> bool {
+    let mut rest = [9; 5];
+    replace(disk, &[7], &mut rest) == Err(Failed)
+        && disk.read_at(1 << 40, &mut rest) == Err(Failed)
+        && disk.len() == Err(Failed)
+}
+
 #[test]
 fn a_read_past_the_end_gives_zeros(rt: HostRuntime) -> Result<(), Fail> {
-    let mut disk = MemDisk::new(rt.alloc(), [1, 2, 3, 4].to_vec(rt.alloc())?)?;
-    let mut rest = [9; 5];
-    assert_eq!(rt; replace(&mut disk, &[7], &mut rest), Ok(4));
-    assert_eq!(rt; rest, [3, 4, 0, 0, 0]);
+    let mut disk = disk_of(rt.alloc(), &ROWS[0])?;
+    assert!(rt; reads_zeros(&mut disk));
     disk.stop_from(4);
-    assert_eq!(rt; replace(&mut disk, &[7], &mut rest), Err(Failed));
-    assert_eq!(rt; disk.read_at(1 << 40, &mut rest), Err(Failed));
-    assert_eq!(rt; disk.len(), Err(Failed));
+    assert!(rt; has_stopped(&mut disk));
     Ok(())
+}
+
+// Whether a write of 64 bytes and a sync after it succeed.
+fn overwritten<D: Disk>(disk: &mut D) -> (bool, bool) {
+    let wrote = disk.write_at(0, &[7; 64]).is_ok();
+    (wrote, disk.sync().is_ok())
 }
 
 // Passes with and without memory: run it with each allocation failing in turn.
 #[test]
 fn a_call_without_memory_leaves_the_disk(rt: HostRuntime) {
-    let Ok(bytes) = [1, 2].to_vec(rt.alloc()) else {
+    let Ok(mut disk) = disk_of(rt.alloc(), &ROWS[0]) else {
         return;
     };
-    let Ok(mut disk) = MemDisk::new(rt.alloc(), bytes) else {
-        return;
-    };
-    let wrote = disk.write_at(0, &[7; 64]).is_ok();
-    let synced = disk.sync().is_ok();
-    assert_eq!(rt; disk.content().len(), if wrote { 64 } else { 2 });
-    assert_eq!(rt; disk.short(), u64::from(!wrote) + u64::from(!synced));
+    let (wrote, synced) = overwritten(&mut disk);
+    let length = if wrote { 64 } else { 4 };
+    let short = u64::from(!wrote) + u64::from(!synced);
+    assert!(rt; counts(&disk) == (length, 2, u64::from(synced), short));
 }

@@ -2,11 +2,11 @@
 ghost use Rattle.std.specs.Prelude.{◌≡◌, IsTrue, OnOk};
 ghost use Rattle.ss_journal.specs.Kept.{IsKept, IsSettled};
 
-use super::files::{Entry, File, bytes_of, disk_of, holds, set_entries};
+use super::files::{Entry, File, Map, bytes_of, disk_of, holds, set_entries};
 use super::runs::{Commit, put_of, run, settled};
-use super::stops::{CRASHES, survives};
+use super::stops::{CRASHES, is_file, stopped_disk, survives};
 use ss_journal::{Journal, JournalError, Txn};
-use ss_outside::{Disk, Failed, MemDisk};
+use ss_outside::{Choice, Disk, Failed, MemDisk};
 use std::alloc::{AllocError, Global};
 
 // So many that the entries are all in use once, and settled.
@@ -60,12 +60,17 @@ fn survives_after(alloc: Global, disk: &MemDisk, commits: u8) -> Result<bool, Jo
     survives(alloc, disk, &[&next[..next_used], &now[..now_used]])
 }
 
-// The disk after a run that stops at this call, and how many commits came before.
-fn stopped_at(alloc: Global, bytes: &[u8], stop: u64) -> Result<(MemDisk, u8), JournalError> {
-    let mut disk = disk_of(alloc, bytes)?;
-    disk.stop_from(stop);
-    let commits = commits_before_failure(alloc, &mut disk);
-    Ok((disk, commits))
+// The disk after a crash and a settling of what it left that stops at this call.
+fn crashed_and_stopped(
+    alloc: Global,
+    disk: &MemDisk,
+    choice: Choice,
+    stop: u64,
+) -> Result<MemDisk, AllocError> {
+    let mut left = disk.crash(choice)?;
+    left.stop_from(stop);
+    let _ = run(alloc, &mut left, Commit::Nothing);
+    Ok(left)
 }
 
 // Whether a crash of a settling that stops, after a first crash, leaves one of the same two maps.
@@ -76,9 +81,7 @@ fn survives_twice(
     stop: u64,
 ) -> Result<bool, JournalError> {
     for choice in CRASHES {
-        let mut left = disk.crash(choice)?;
-        left.stop_from(stop);
-        let _ = run(alloc, &mut left, Commit::Nothing);
+        let left = crashed_and_stopped(alloc, disk, choice, stop)?;
         if !survives_after(alloc, &left, commits)? {
             return Ok(false);
         }
@@ -86,30 +89,32 @@ fn survives_twice(
     Ok(true)
 }
 
-// The first stop that doesn't leave the map before the commit or after it, or the number of calls.
-fn calls_or_bad_stop(alloc: Global, bytes: &[u8]) -> Result<Result<u64, u64>, JournalError> {
-    for stop in 0..1000u64 {
-        let (disk, commits) = stopped_at(alloc, bytes, stop)?;
-        // Over all stops the second comes at each call of a settling.
-        let second = stop * 7 % 270;
-        if disk.short() > 0
-            || !survives_after(alloc, &disk, commits)?
-            || !survives_twice(alloc, &disk, commits, second)?
-        {
-            return Ok(Err(stop));
-        }
-        if commits == COMMITS {
-            return Ok(Ok(stop));
+// How many commits come before a stop, if it leaves the map before the next commit or after it, and so does a second stop.
+fn safe_commits(alloc: Global, bytes: &[u8], stop: u64) -> Result<Option<u8>, JournalError> {
+    let mut disk = stopped_disk(alloc, bytes, stop)?;
+    let commits = commits_before_failure(alloc, &mut disk);
+    // Over all stops the second comes at each call of a settling.
+    let second = stop % 270 * 7 % 270;
+    let safe = survives_after(alloc, &disk, commits)?
+        && survives_twice(alloc, &disk, commits, second)?;
+    Ok(if safe { Some(commits) } else { None })
+}
+
+fn are_safe(alloc: Global, bytes: &[u8]) -> Result<bool, JournalError> {
+    for stop in 0..1000 {
+        match safe_commits(alloc, bytes, stop)? {
+            Some(COMMITS) => return Ok(true),
+            Some(_) => {}
+            None => return Ok(false),
         }
     }
-    Ok(Err(1000))
+    Ok(false)
 }
 
 #[test]
 fn commits_in_a_row_are_stopped_at_each_call(rt: HostRuntime) -> Result<(), JournalError> {
     let bytes = bytes_of(rt.alloc(), &File::Formed(&[], &[0]))?;
-    let calls = calls_or_bad_stop(rt.alloc(), &bytes)?;
-    assert!(rt; calls.is_ok(), "{calls:?}");
+    assert!(rt; are_safe(rt.alloc(), &bytes)?);
     Ok(())
 }
 
@@ -127,15 +132,24 @@ fn open_entries(alloc: Global, count: u8) -> Result<Vec<u8>, AllocError> {
     Ok(bytes)
 }
 
+// Whether a disk stands for this map, and still does once it is settled.
+fn settles<D: Disk>(alloc: Global, disk: &mut D, map: Map<'_>) -> Result<bool, JournalError> {
+    let before = holds(alloc, disk, map)?;
+    run(alloc, disk, Commit::Nothing)?;
+    let after = holds(alloc, disk, map)?;
+    Ok(before && after)
+}
+
+// The same of a file with so many open entries, which stands for the last of them.
+fn entries_settle(alloc: Global, count: u8) -> Result<bool, JournalError> {
+    let mut disk = disk_of(alloc, &open_entries(alloc, count)?)?;
+    Ok(settles(alloc, &mut disk, &[count])? && is_file(&disk, 36992, 0))
+}
+
 #[test]
 fn each_number_of_entries_may_be_in_use(rt: HostRuntime) -> Result<(), JournalError> {
     for count in 1..65u8 {
-        let mut disk = disk_of(rt.alloc(), &open_entries(rt.alloc(), count)?)?;
-        assert!(rt; holds(rt.alloc(), &mut disk, &[count])?, "{count} open");
-        run(rt.alloc(), &mut disk, Commit::Nothing)?;
-        assert!(rt; holds(rt.alloc(), &mut disk, &[count])?, "{count} settled");
-        assert_eq!(rt; disk.content().len(), 36992, "{count}");
-        assert_eq!(rt; disk.content().get(512), Some(&0), "{count}");
+        assert!(rt; entries_settle(rt.alloc(), count)?, "{count} open");
     }
     Ok(())
 }

@@ -60,8 +60,16 @@ pub fn disk_of(alloc: Global, bytes: &[u8]) -> Result<MemDisk, AllocError> {
     MemDisk::new(alloc, bytes.to_vec(alloc)?)
 }
 
-fn byte_in(map: Map<'_>, slot: usize) -> u8 {
-    map.get(slot).copied().unwrap_or(0)
+pub fn disk_with(alloc: Global, file: &File) -> Result<MemDisk, AllocError> {
+    MemDisk::new(alloc, bytes_of(alloc, file)?)
+}
+
+fn byte_at(map: Map<'_>, slot: usize) -> u8 {
+    if slot < map.len() { map[slot] } else { 0 }
+}
+
+fn is_filled(bytes: &[u8; 128], byte: u8) -> bool {
+    *bytes == [byte; 128]
 }
 
 // Whether the disk opens with this map, of at most two slots.
@@ -71,7 +79,7 @@ pub fn holds<D: Disk>(alloc: Global, disk: &mut D, map: Map<'_>) -> Result<bool,
     let second = journal.read(disk, 1)?;
     Ok(
         journal.extent() as usize == map.len()
-            && first == [byte_in(map, 0); 128]
-            && second == [byte_in(map, 1); 128],
+            && is_filled(&first, byte_at(map, 0))
+            && is_filled(&second, byte_at(map, 1)),
     )
 }

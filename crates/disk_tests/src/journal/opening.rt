@@ -1,7 +1,7 @@
 // Files that open or don't.
-use super::files::{Entry, File, Map, bytes_of, disk_of, holds};
+use super::files::{Entry, File, Map, bytes_of, disk_of, disk_with, holds};
 use ss_journal::JournalError;
-use std::alloc::Global;
+use std::alloc::{AllocError, Global};
 
 // Files that don't open, and why not.
 const REFUSED: [(File, JournalError); 6] = [
@@ -23,36 +23,35 @@ const REFUSED: [(File, JournalError); 6] = [
     ),
 ];
 
+fn is_refused(alloc: Global, file: &File, error: JournalError) -> Result<bool, AllocError> {
+    let mut disk = disk_with(alloc, file)?;
+    Ok(holds(alloc, &mut disk, &[]) == Err(error))
+}
+
 #[test]
-fn another_file_is_refused(rt: HostRuntime) -> Result<(), JournalError> {
+fn another_file_is_refused(rt: HostRuntime) -> Result<(), AllocError> {
     for (k, (file, error)) in REFUSED.iter().enumerate() {
-        let bytes = bytes_of(rt.alloc(), file)?;
-        let opened = holds(rt.alloc(), &mut disk_of(rt.alloc(), &bytes)?, &[]);
-        assert_eq!(rt; opened, Err(*error), "row {k}");
+        assert!(rt; is_refused(rt.alloc(), file, *error)?, "row {k}");
     }
     Ok(())
 }
 
-// A formatted file of the slots 3 and 4, cut to any length from the first to the last: its map, or no store.
-type Cut = (usize, usize, Result<Map<'static>, JournalError>);
+// The map of a formatted file of the slots 3 and 4, cut to a length, or no store.
+fn map_when_cut(length: usize) -> Result<Map<'static>, JournalError> {
+    match length {
+        0..=1 | 36864..=36991 => Ok(&[]),
+        36992..=37119 => Ok(&[3]),
+        37120 => Ok(&[3, 4]),
+        _ => Err(JournalError::NotAStore),
+    }
+}
 
-const CUTS: [Cut; 5] = [
-    (0, 1, Ok(&[])),
-    (2, 36863, Err(JournalError::NotAStore)),
-    (36864, 36991, Ok(&[])),
-    (36992, 37119, Ok(&[3])),
-    (37120, 37120, Ok(&[3, 4])),
-];
-
-// Whether the cut file opens as the table says of its length.
+// Whether the cut file opens as is said of its length.
 fn is_as_cut(alloc: Global, bytes: &[u8]) -> Result<bool, JournalError> {
-    let length = bytes.len();
-    let cut = CUTS.iter().find(|cut| cut.0 <= length && length <= cut.1);
     let mut disk = disk_of(alloc, bytes)?;
-    match cut {
-        Some((_, _, Ok(map))) => holds(alloc, &mut disk, map),
-        Some((_, _, Err(error))) => Ok(holds(alloc, &mut disk, &[]) == Err(*error)),
-        None => Ok(false),
+    match map_when_cut(bytes.len()) {
+        Ok(map) => holds(alloc, &mut disk, map),
+        Err(error) => Ok(holds(alloc, &mut disk, &[]) == Err(error)),
     }
 }
 
@@ -65,15 +64,21 @@ fn a_formed_file_is_cut_to_each_length(rt: HostRuntime) -> Result<(), JournalErr
     Ok(())
 }
 
+const TEXTS: [(JournalError, &str); 4] = [
+    (JournalError::Disk, "disk failed"),
+    (JournalError::NotAStore, "not a store"),
+    (JournalError::BadEntry { n: 5 }, "damaged entry 5"),
+    (JournalError::OutOfMemory, "out of memory"),
+];
+
+fn says(alloc: Global, error: JournalError, text: &str) -> Result<bool, AllocError> {
+    Ok(format!(in alloc; "{error}")?.as_str() == text)
+}
+
 #[test]
-fn an_error_says_what_is_wrong(rt: HostRuntime) -> Result<(), JournalError> {
-    for (error, text) in [
-        (JournalError::Disk, "disk failed"),
-        (JournalError::NotAStore, "not a store"),
-        (JournalError::BadEntry { n: 5 }, "damaged entry 5"),
-        (JournalError::OutOfMemory, "out of memory"),
-    ] {
-        assert_eq!(rt; format!(in rt.alloc(); "{error}")?.as_str(), text);
+fn an_error_says_what_is_wrong(rt: HostRuntime) -> Result<(), AllocError> {
+    for (error, text) in &TEXTS {
+        assert!(rt; says(rt.alloc(), *error, text)?, "{text}");
     }
     Ok(())
 }

@@ -3,7 +3,7 @@ ghost use Rattle.std.specs.Prelude.{◌≡◌, ◌+◌, ◌≤◌, ◌<◌, leng
 ghost use Rattle.ss_line.specs.Line.{StandsIn};
 ghost use Rattle.ss_steps.specs.Steps.{IsFresh};
 
-use crate::{At, Entry, Line};
+use ss_line::{At, Entry, Line};
 use ss_steps::Steps;
 use std::alloc::{AllocError, Global};
 use std::marker::Brand;
@@ -76,8 +76,11 @@ fn walk<L: Ledger>(
     Ok(all)
 }
 
-// A line with three places to spare: each step, and what it leaves.
-const STEPS: [(Step, &[(u32, u64)]); 11] = [
+// A step, and what it leaves.
+type Row = (Step, &'static [(u32, u64)]);
+
+// A line with three places to spare.
+const STEPS: [Row; 11] = [
     (Step::Push(10), &[(0, 10)]),
     (Step::Set(0, 11), &[(0, 11)]),
     (Step::Cut(0), &[]),
@@ -91,29 +94,54 @@ const STEPS: [(Step, &[(u32, u64)]); 11] = [
     (Step::Set(1, 51), &[(2, 40), (0, 51), (1, 60)]),
 ];
 
-// The first row that leaves something else.
-fn first_wrong<L: Ledger>(alloc: Global, blank: Blank) -> Result<Option<usize>, AllocError>
+// Whether a line has these entries, in order, and as many places as at first.
+fn has<L: Ledger>(
+    alloc: Global,
+    line: &Line,
+    left: &[(u32, u64)],
+    steps: &mut Steps<L>,
+) -> Result<bool, AllocError> {
+    let found = walk(alloc, line, steps)?;
+    Ok(found.as_slice() == left && line.places() == 3)
+}
+
+// Whether the last place of a line is that of the last of these entries.
+fn ends_so(line: &Line, left: &[(u32, u64)]) -> bool {
+    match (line.last(), left.last()) {
+        (Some(at), Some(pair)) => at.0 == pair.0,
+        (None, None) => true,
+        _ => false,
+    }
+}
+
+// Takes the step of a row. Whether this leaves what the row says.
+fn leaves<L: Ledger>(
+    alloc: Global,
+    line: &mut Line,
+    row: &Row,
+    steps: &mut Steps<L>,
+) -> Result<bool, AllocError> {
+    take(line, row.0, steps);
+    Ok(has(alloc, line, row.1, steps)? && ends_so(line, row.1))
+}
+
+// Whether each step leaves what its row says.
+fn all_leave<L: Ledger>(alloc: Global, blank: Blank, rows: &[Row]) -> Result<bool, AllocError>
     requires { IsFresh L.name L.parts blank }
 {
     let mut steps = Steps::<L>::new(blank);
     let mut line = Line::new(alloc);
     line.reserve(3)?;
-    for (row, (step, left)) in STEPS.iter().enumerate() {
-        take(&mut line, *step, &mut steps);
-        let found = walk(alloc, &line, &mut steps)?;
-        let last = line.last().map(|at| at.0);
-        if found.as_slice() != *left
-            || last != left.last().map(|pair| pair.0)
-            || line.places() != 3
-        {
-            return Ok(Some(row));
+    for row in rows {
+        if !leaves(alloc, &mut line, row, &mut steps)? {
+            return Ok(false);
         }
     }
-    Ok(None)
+    Ok(true)
 }
 
 #[test]
 fn places_are_used_again_in_another_order(rt: HostRuntime) -> Result<(), AllocError> {
-    assert_eq!(rt; first_wrong::<Brand>(rt.alloc(), Blank::new(1))?, None);
+    assert!(rt; all_leave::<Brand>(rt.alloc(), Blank::new(1), &STEPS)?);
     Ok(())
 }

@@ -1,6 +1,6 @@
 use Rattle.std.proofs.Common.{IfSome}
 use Rattle.ss_line.specs.Line.{StandsIn}
-use Rattle.ss_line.proofs.tests.nth.Given as goal
+use Rattle.window_tests.proofs.line.nth.Given as goal
 
 abbrev pub invariant-walk : goal.invariant-walk
 invariant-walk g l = IfSome l.place (StandsIn l.line.entries)
