@@ -1,39 +1,23 @@
-// What a store holds after runs, and after runs that stop at each call of the disk.
-use crate::devices::{CHECK, READINGS, REPORT, empty, front, run_by, run_on};
-use ss_outside::{Choice, MemDisk, MemSink};
+// What a store holds after runs that stop at each call of the disk.
+use crate::devices::{CHECK, GEN, READINGS, RUN, answer_on, disk_of, front};
+use ss_outside::{Choice, MemDisk};
 use std::alloc::{AllocError, Global};
 use std::test::Fail;
 
-// What is shown of the stream on a disk, by a run of its own.
-fn shown(alloc: Global, disk: &mut MemDisk) -> Result<Vec<u8>, AllocError> {
-    let mut sink = MemSink::new(alloc);
-    let status = run_on(alloc, disk, "windows a\nlist\n", 4096, &[], &mut sink)?;
-    if status == 0 {
-        sink.held().to_vec(alloc)
-    } else {
-        Ok(Vec::new(alloc))
-    }
-}
-
-// The input of the worked row up to its line of so many.
-fn first_lines(count: usize) -> &'static str {
-    let ends = [0, 19, 33, 48, 62, 76, 90, 104, 118];
-    READINGS
-        .get(..*ends.get(count).unwrap_or(&118))
-        .unwrap_or("")
-}
-
 // What is shown after each number of events of the worked row, from none to all eight.
-fn shown_after_each(alloc: Global) -> Result<Vec<Vec<u8>>, AllocError> {
-    let mut all = Vec::new(alloc);
-    for count in 0..9 {
-        let mut disk = empty(alloc)?;
-        let mut sink = MemSink::new(alloc);
-        run_on(alloc, &mut disk, first_lines(count), 4096, &[], &mut sink)?;
-        all.push(shown(alloc, &mut disk)?)?;
-    }
-    Ok(all)
-}
+const SHOWN: [&str; 9] = [
+    "refused UNKNOWN\nlist 0\n",
+    "windows 0\nlist 1\na exp 2 1 1 0 0 0 0\n",
+    "windows 1\n1 1 1 5 5 5 10 10\nlist 1\na exp 2 1 1 1 1 0 0\n",
+    "windows 2\n1 1 1 5 5 5 10 10\n2 2 1 -3 -3 -3 20 20\nlist 1\na exp 2 1 1 2 2 0 0\n",
+    "windows 2\n1 2 2 2 -3 5 10 20\n3 3 1 8 8 8 30 30\nlist 1\na exp 2 1 1 3 2 0 0\n",
+    "windows 3\n1 2 2 2 -3 5 10 20\n3 3 1 8 8 8 30 30\n4 4 1 1 1 1 40 40\n\
+    list 1\na exp 2 1 1 4 3 0 0\n",
+    "windows 3\n1 2 2 2 -3 5 10 20\n3 4 2 9 1 8 30 40\n5 5 1 9 9 9 50 50\n\
+    list 1\na exp 2 1 1 5 3 0 0\n",
+    SIX,
+    SEVEN,
+];
 
 const SIX: &str =
     "windows 4\n1 2 2 2 -3 5 10 20\n3 4 2 9 1 8 30 40\n5 5 1 9 9 9 50 50\n6 6 1 2 2 2 60 60\n\
@@ -42,40 +26,48 @@ const SIX: &str =
 const SEVEN: &str = "windows 3\n1 4 4 11 -3 8 10 40\n5 6 2 11 2 9 50 60\n7 7 1 7 7 7 70 70\n\
     list 1\na exp 2 1 1 7 3 0 0\n";
 
-#[test]
-fn a_store_outlives_the_run(rt: HostRuntime) -> Result<(), Fail> {
-    let mut disk = empty(rt.alloc())?;
-    for (input, report) in [
-        ("", ""),
-        (first_lines(7), &REPORT[..49]),
-        ("windows a\nlist\n", SIX),
-        (&READINGS[104..], &REPORT[49..]),
-        ("windows a\nlist", SEVEN),
-    ] {
-        let mut sink = MemSink::new(rt.alloc());
-        assert_eq!(rt;
-            run_on(rt.alloc(), &mut disk, input, 64, &[], &mut sink)?,
-            0
-        );
-        assert_eq!(rt; sink.held(), report.as_bytes());
-        assert!(rt; disk.content().starts_with(b"\xA5SSTORE01"));
-    }
-    Ok(())
+// What is shown after so many events, or one more.
+fn shown_after(events: usize) -> &'static [&'static str] {
+    let end = events.saturating_add(2).min(9);
+    SHOWN.get(events..end).unwrap_or(&[])
 }
 
-// A disk on which the worked row stopped at a call, with the status and the report.
-fn stopped_at(alloc: Global, stop: u64) -> Result<(MemDisk, u8, MemSink), AllocError> {
-    let mut disk = empty(alloc)?;
+// What is shown of the stream on a disk, by a run of its own.
+fn shown(alloc: Global, disk: &mut MemDisk) -> Result<Vec<u8>, AllocError> {
+    let (status, written) = answer_on(alloc, RUN, disk, "windows a\nlist\n")?;
+    if status == 0 {
+        Ok(written)
+    } else {
+        Ok(Vec::new(alloc))
+    }
+}
+
+// The same after a crash.
+fn shown_at(alloc: Global, disk: &MemDisk, choice: Choice) -> Result<Vec<u8>, AllocError> {
+    shown(alloc, &mut disk.crash(choice)?)
+}
+
+// The disk, the status and what was written where the program over the worked row stops at a call.
+fn stopped_at(
+    alloc: Global,
+    words: &[&str],
+    stop: u64,
+) -> Result<(MemDisk, u8, Vec<u8>), AllocError> {
+    let mut disk = disk_of(alloc, &[])?;
     disk.stop_from(stop);
-    let mut sink = MemSink::new(alloc);
-    let status = run_on(alloc, &mut disk, READINGS, 4096, &[], &mut sink)?;
-    Ok((disk, status, sink))
+    let (status, written) = answer_on(alloc, words, &mut disk, READINGS)?;
+    Ok((disk, status, written))
+}
+
+// The disk alone, where it's a run.
+fn disk_at(alloc: Global, stop: u64) -> Result<MemDisk, AllocError> {
+    Ok(stopped_at(alloc, RUN, stop)?.0)
 }
 
 // The first call at which the worked row stops after so many good syncs.
 fn call_after(alloc: Global, syncs: u64) -> Result<u64, AllocError> {
     for stop in 0..300 {
-        if stopped_at(alloc, stop)?.0.syncs() >= syncs {
+        if disk_at(alloc, stop)?.syncs() >= syncs {
             return Ok(stop);
         }
     }
@@ -95,73 +87,132 @@ const CRASHES: [Choice; 4] = [
     Choice::Fill(0xA5),
 ];
 
+fn is_one_of(found: &[u8], texts: &[&str]) -> bool {
+    for text in texts {
+        if found == text.as_bytes() {
+            return true;
+        }
+    }
+    false
+}
+
 // Whether each crash shows one of these.
-fn shows(alloc: Global, disk: &MemDisk, texts: &[Vec<u8>]) -> Result<bool, AllocError> {
+fn shows(alloc: Global, disk: &MemDisk, texts: &[&str]) -> Result<bool, AllocError> {
     for choice in CRASHES {
-        let found = shown(alloc, &mut disk.crash(choice)?)?;
-        if !texts.contains(&found) {
+        if !is_one_of(shown_at(alloc, disk, choice)?.as_slice(), texts) {
             return Ok(false);
         }
     }
     Ok(true)
 }
 
+// Whether the worked row that stops at a call says so, and each crash shows what it acknowledged, or one event more.
+fn keeps_its_word(alloc: Global, stop: u64) -> Result<bool, AllocError> {
+    let (disk, status, written) = stopped_at(alloc, RUN, stop)?;
+    let replies = written.len() / 7;
+    if written.as_slice() != front(replies) || status != if replies < 8 { 4 } else { 0 } {
+        return Ok(false);
+    }
+    shows(alloc, &disk, shown_after(replies))
+}
+
 #[test]
 fn each_stop_leaves_what_was_acknowledged(rt: HostRuntime) -> Result<(), Fail> {
-    let texts = shown_after_each(rt.alloc())?;
     for stop in 0..300 {
-        let (disk, status, sink) = stopped_at(rt.alloc(), stop)?;
-        let replies = sink.held().len() / 7;
-        assert_eq!(rt; sink.held(), front(replies), "stop {stop}");
-        let one_more = replies.saturating_add(2).min(9);
-        assert!(rt;
-            shows(
-                rt.alloc(),
-                &disk,
-                texts.get(replies..one_more).unwrap_or(&[])
-            )?,
-            "stop {stop}"
-        );
-        assert_eq!(rt; status, if replies < 8 { 4 } else { 0 }, "stop {stop}");
+        assert!(rt; keeps_its_word(rt.alloc(), stop)?, "stop {stop}");
     }
     Ok(())
+}
+
+// The call at which the worked row stops between the merges of the seventh append.
+fn merge_call(alloc: Global) -> Result<u64, AllocError> {
+    call_after(alloc, FIRST_MERGE)
+}
+
+// The sync of that gate.
+fn gate_call(alloc: Global) -> Result<u64, AllocError> {
+    Ok(call_after(alloc, SEVENTH_GATE)?.saturating_sub(1))
+}
+
+// Whether a run that stops at a call says so after so many replies.
+fn stops_with(
+    alloc: Global,
+    words: &[&str],
+    stop: u64,
+    replies: usize,
+) -> Result<bool, AllocError> {
+    let (_, status, written) = stopped_at(alloc, words, stop)?;
+    Ok(status == 4 && written.as_slice() == front(replies))
+}
+
+#[test]
+fn a_run_stops_with_the_disk(rt: HostRuntime) -> Result<(), Fail> {
+    assert!(rt; stops_with(rt.alloc(), RUN, merge_call(rt.alloc())?, 7)?);
+    assert!(rt; stops_with(rt.alloc(), RUN, gate_call(rt.alloc())?, 7)?);
+    assert!(rt; stops_with(rt.alloc(), GEN, 20, 0)?);
+    Ok(())
+}
+
+// Whether each crash still shows all seven values where the opening after a crash stops at a call.
+fn survives_an_opening(alloc: Global, disk: &MemDisk, stop: u64) -> Result<bool, AllocError> {
+    let mut left = disk.crash(Choice::Kept)?;
+    left.stop_from(stop);
+    let _ = shown(alloc, &mut left)?;
+    shows(alloc, &left, &[SEVEN])
+}
+
+// The first call of 200 at which it doesn't.
+fn fatal_call(alloc: Global, disk: &MemDisk) -> Result<u64, AllocError> {
+    for stop in 0..200 {
+        if !survives_an_opening(alloc, disk, stop)? {
+            return Ok(stop);
+        }
+    }
+    Ok(200)
+}
+
+// Whether each crash between the merges shows all seven values, and that call.
+fn crashes_between_merges(alloc: Global) -> Result<(bool, u64), AllocError> {
+    let disk = disk_at(alloc, merge_call(alloc)?)?;
+    Ok((shows(alloc, &disk, &[SEVEN])?, fatal_call(alloc, &disk)?))
 }
 
 #[test]
 fn a_crash_between_two_merges(rt: HostRuntime) -> Result<(), Fail> {
-    let stop = call_after(rt.alloc(), FIRST_MERGE)?;
-    let (disk, status, sink) = stopped_at(rt.alloc(), stop)?;
-    assert_eq!(rt; (status, sink.held()), (4, front(7)));
-    // Also where the opening after it stops at each of its calls.
-    let seven = [SEVEN.as_bytes().to_vec(rt.alloc())?];
-    assert!(rt; shows(rt.alloc(), &disk, &seven)?);
-    // A check counts the windows after the merges that are due, and makes none of them.
-    let mut waiting = disk.crash(Choice::Kept)?;
-    let content = waiting.content().to_vec(rt.alloc())?;
-    let (status, line) = run_by(rt.alloc(), CHECK, &mut waiting)?;
-    assert_eq!(rt; status, 0);
-    assert_eq!(rt;
-        line.as_slice(),
-        b"sound streams 1 windows 3 landmarks 0 values 0\n".as_slice()
-    );
-    assert_eq!(rt; waiting.content(), content.as_slice());
-    for stop in 0..200 {
-        let mut left = disk.crash(Choice::Kept)?;
-        left.stop_from(stop);
-        let _ = shown(rt.alloc(), &mut left)?;
-        assert!(rt; shows(rt.alloc(), &left, &seven)?, "stop {stop}");
-    }
+    assert_eq!(rt; crashes_between_merges(rt.alloc())?, (true, 200));
     Ok(())
+}
+
+// The disk after a crash between the merges.
+fn waiting(alloc: Global) -> Result<MemDisk, AllocError> {
+    let disk = disk_at(alloc, merge_call(alloc)?)?;
+    disk.crash(Choice::Kept)
+}
+
+// Whether a check of it answers by this line.
+fn is_checked(alloc: Global, line: &str) -> Result<bool, AllocError> {
+    let (status, written) = answer_on(alloc, CHECK, &mut waiting(alloc)?, "")?;
+    Ok(status == 0 && written.as_slice() == line.as_bytes())
+}
+
+#[test]
+fn a_check_counts_windows_after_the_merges(rt: HostRuntime) -> Result<(), Fail> {
+    let line = "sound streams 1 windows 3 landmarks 0 values 0\n";
+    assert!(rt; is_checked(rt.alloc(), line)?);
+    Ok(())
+}
+
+// Whether a crash shows this that fills what was not synced, the gate, with this byte.
+fn shows_by_gate(alloc: Global, byte: u8, text: &str) -> Result<bool, AllocError> {
+    let disk = disk_at(alloc, gate_call(alloc)?)?;
+    let found = shown_at(alloc, &disk, Choice::Fill(byte))?;
+    Ok(found.as_slice() == text.as_bytes())
 }
 
 #[test]
 fn the_gate_of_an_append_decides(rt: HostRuntime) -> Result<(), Fail> {
-    let stop = call_after(rt.alloc(), SEVENTH_GATE)?.saturating_sub(1);
-    let (disk, status, sink) = stopped_at(rt.alloc(), stop)?;
-    assert_eq!(rt; (status, sink.held()), (4, front(7)));
     for (byte, text) in [(0xA5, SEVEN), (0, SIX), (0x7F, SIX)] {
-        let found = shown(rt.alloc(), &mut disk.crash(Choice::Fill(byte))?)?;
-        assert_eq!(rt; found.as_slice(), text.as_bytes(), "{byte}");
+        assert!(rt; shows_by_gate(rt.alloc(), byte, text)?, "{byte}");
     }
     Ok(())
 }

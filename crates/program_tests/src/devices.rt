@@ -1,7 +1,7 @@
 // The program on devices in memory, and the inputs that several tests run.
 ghost use Rattle.std.specs.Prelude.{◌<◌};
 
-use ss_outside::{Disk, MemDisk, MemSink, MemSource, Sink, Source};
+use ss_outside::{MemDisk, MemSink, MemSource, Sink};
 use ss_program::run;
 use std::alloc::{AllocError, Global};
 
@@ -12,18 +12,17 @@ pub const READINGS: &str =
 
 pub const REPORT: &str = "ok 0 0\nok 1 1\nok 2 2\nok 3 2\nok 4 3\nok 5 3\nok 6 4\nok 7 3\n";
 
-// A stream with a value in a landmark and one after it.
-pub const MARKED: &str =
-    "create b exp 2 1 1\nlandmark b open 100\nappend b 100 7\nlandmark b close 100\nappend b 100 8\nappend b 101 8\n\
-    query b sum 100 100\nlist\n";
-
-pub const CHECK: &[&str] = &["summarystore", "readings.store", "check"];
-
-// The front of its report that has so many replies.
+// The front of the worked row's report that has so many replies.
 pub fn front(replies: usize) -> &'static [u8] {
     let end = replies.saturating_mul(7).min(REPORT.len());
     &REPORT.as_bytes()[..end]
 }
+
+pub const RUN: &[&str] = &["summarystore", "readings.store"];
+
+pub const CHECK: &[&str] = &["summarystore", "readings.store", "check"];
+
+pub const GEN: &[&str] = &["summarystore", "readings.store", "gen", "0", "1"];
 
 pub fn words_of(alloc: Global, words: &[&str]) -> Result<Vec<String>, AllocError> {
     let mut owned = Vec::new(alloc);
@@ -33,62 +32,72 @@ pub fn words_of(alloc: Global, words: &[&str]) -> Result<Vec<String>, AllocError
     Ok(owned)
 }
 
-// A disk that holds nothing.
-pub fn empty(alloc: Global) -> Result<MemDisk, AllocError> {
-    MemDisk::new(alloc, Vec::new(alloc))
+// A disk that holds these bytes.
+pub fn disk_of(alloc: Global, content: &[u8]) -> Result<MemDisk, AllocError> {
+    MemDisk::new(alloc, content.to_vec(alloc)?)
 }
 
-// The program over any devices, with nothing promised of it: what `run` promises is read once here, for all devices, and not
-// again for those in memory, of which so many clauses take the prover minutes.
-pub fn run_any<D: Disk, S: Source, K: Sink>(
+// A source that gives an input in pieces, with a list of reads that fail.
+pub fn source_of(
     alloc: Global,
-    words: &[String],
-    disk: &mut D,
-    source: &mut S,
-    sink: &mut K,
-) -> u8 {
-    run(alloc, words, disk, source, sink)
-}
-
-// Runs the program on a disk, over an input that is given in pieces, with a list of failing reads.
-pub fn run_on<K: Sink>(
-    alloc: Global,
-    disk: &mut MemDisk,
     input: &str,
     piece: usize,
     failing: &[u64],
-    sink: &mut K,
-) -> Result<u8, AllocError>
+) -> Result<MemSource, AllocError>
     requires { 0 < piece }
 {
-    let words = words_of(alloc, &["summarystore", "readings.store"])?;
     let mut source = MemSource::new(alloc, input.as_bytes().to_vec(alloc)?, piece);
     source.fail_at(failing.to_vec(alloc)?);
-    Ok(run_any(alloc, &words, disk, &mut source, sink))
+    Ok(source)
 }
 
-// The same on a disk that holds nothing.
-pub fn run_over<K: Sink>(
-    alloc: Global,
-    input: &str,
-    piece: usize,
-    failing: &[u64],
-    sink: &mut K,
-) -> Result<u8, AllocError>
-    requires { 0 < piece }
-{
-    run_on(alloc, &mut empty(alloc)?, input, piece, failing, sink)
-}
-
-// Runs the program by these arguments on a disk, over no input, and gives what was written.
-pub fn run_by(
+// The program over these devices. Nothing is promised of it, and it's called here alone: what `run` promises is read once.
+pub fn run_on<K: Sink>(
     alloc: Global,
     words: &[&str],
     disk: &mut MemDisk,
-) -> Result<(u8, Vec<u8>), AllocError> {
+    source: &mut MemSource,
+    sink: &mut K,
+) -> Result<u8, AllocError> {
     let words = words_of(alloc, words)?;
-    let mut source = MemSource::new(alloc, Vec::new(alloc), 1);
+    Ok(run(alloc, &words, disk, source, sink))
+}
+
+// The status of a run on a disk, over an input, and what was written.
+pub fn answer_on(
+    alloc: Global,
+    words: &[&str],
+    disk: &mut MemDisk,
+    input: &str,
+) -> Result<(u8, Vec<u8>), AllocError> {
+    let mut source = source_of(alloc, input, 4096, &[])?;
     let mut sink = MemSink::new(alloc);
-    let status = run_any(alloc, &words, disk, &mut source, &mut sink);
+    let status = run_on(alloc, words, disk, &mut source, &mut sink)?;
     Ok((status, sink.held().to_vec(alloc)?))
+}
+
+// The program on a disk that holds nothing.
+pub fn run_anew<K: Sink>(
+    alloc: Global,
+    words: &[&str],
+    source: &mut MemSource,
+    sink: &mut K,
+) -> Result<u8, AllocError> {
+    let mut disk = disk_of(alloc, &[])?;
+    run_on(alloc, words, &mut disk, source, sink)
+}
+
+// Whether a run on a disk that holds nothing, over a source and with a list of puts that fail, ends in this way.
+pub fn ends_in(
+    alloc: Global,
+    words: &[&str],
+    source: &mut MemSource,
+    puts: &[u64],
+    status: u8,
+    written: &[u8],
+) -> Result<bool, AllocError> {
+    let mut sink = MemSink::new(alloc);
+    sink.fail_at(puts.to_vec(alloc)?);
+    let answer = run_anew(alloc, words, source, &mut sink)?;
+    Ok(answer == status && sink.held() == written)
 }

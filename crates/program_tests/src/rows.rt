@@ -1,8 +1,8 @@
-// Reports of inputs, in whatever pieces they are read and written, and arguments.
-ghost use Rattle.std.specs.Prelude.{Some};
+// Reports of inputs, in whatever pieces they are read and written.
+ghost use Rattle.std.specs.Prelude.{◌<◌, Some};
 
-use crate::devices::{MARKED, READINGS, REPORT, empty, front, run_any, run_over, words_of};
-use ss_outside::{Failed, MemSink, MemSource, Sink};
+use crate::devices::{READINGS, REPORT, RUN, ends_in, front, run_anew, source_of};
+use ss_outside::{Failed, MemSink, Sink};
 use ss_program::complaint;
 use std::alloc::{AllocError, Global};
 use std::test::Fail;
@@ -77,116 +77,138 @@ const LINES: &str = "\r\n \t \n# note\n #\nLIST\nlist\0\n\tlist  \nlist\r\nlist\
 const LINES_REPORT: &str =
     "refused SYNTAX\nrefused SYNTAX\nrefused SYNTAX\nlist 0\nlist 0\nrefused SYNTAX\nlist 0\n";
 
+// A stream with a value in a landmark and one after it.
+const MARKED: &str =
+    "create b exp 2 1 1\nlandmark b open 100\nappend b 100 7\nlandmark b close 100\nappend b 100 8\nappend b 101 8\n\
+    query b sum 100 100\nlist\n";
+
 const MARKED_REPORT: &str = "ok 0 0\nok 0 0\nok 0 0\nok 0 0\nrefused TIME\nok 1 1\n\
     sum 7 7\nlist 1\nb exp 2 1 1 1 1 1 1\n";
 
 const USAGE: &str = "usage: summarystore STORE [run | check | gen SEED COUNT]\n";
 
-// A text with so many blanks after it, and then an end.
-fn padded(alloc: Global, text: &str, blanks: usize, end: &str) -> Result<String, AllocError> {
-    let mut line = String::from_str(alloc, text)?;
-    for _ in 0..blanks {
-        line.push(' ')?;
-    }
-    line.push_str(end)?;
-    Ok(line)
+// Whether an input in pieces has this report.
+fn has_report(alloc: Global, input: &str, piece: usize, report: &str) -> Result<bool, AllocError>
+    requires { 0 < piece }
+{
+    let mut source = source_of(alloc, input, piece, &[])?;
+    ends_in(alloc, RUN, &mut source, &[], 0, report.as_bytes())
 }
 
-// So many lines `create sN exp 2 1 1`.
+// The same, in whatever pieces.
+fn is_reported(alloc: Global, input: &str, report: &str) -> Result<bool, AllocError> {
+    for piece in [1, 3, 4096] {
+        if !has_report(alloc, input, piece, report)? {
+            return Ok(false);
+        }
+    }
+    Ok(true)
+}
+
+const ROWS: [(&str, &str); 7] = [
+    (READINGS, REPORT),
+    (ORDER, ORDER_REPORT),
+    (QUERIES, QUERIES_REPORT),
+    (EDGES, EDGES_REPORT),
+    (LINES, LINES_REPORT),
+    (MARKED, MARKED_REPORT),
+    ("", ""),
+];
+
+#[test]
+fn rows_are_reported_in_whatever_pieces(rt: HostRuntime) -> Result<(), Fail> {
+    for (input, report) in ROWS {
+        assert!(rt; is_reported(rt.alloc(), input, report)?, "{input}");
+    }
+    Ok(())
+}
+
+// So many lines `create sN exp 2 1 1`, and two values.
 fn creates(alloc: Global, count: usize) -> Result<String, AllocError> {
     let mut lines = String::new(alloc);
     for stream in 0..count {
         write!(lines, "create s{stream} exp 2 1 1\n")?;
     }
+    lines.push_str("append s4095 1 1\nappend s4096 1 1\n")?;
     Ok(lines)
 }
 
-#[test]
-fn rows_are_reported_in_whatever_pieces(rt: HostRuntime) -> Result<(), Fail> {
-    for (input, report) in [
-        (READINGS, REPORT),
-        (ORDER, ORDER_REPORT),
-        (QUERIES, QUERIES_REPORT),
-        (EDGES, EDGES_REPORT),
-        (LINES, LINES_REPORT),
-        (MARKED, MARKED_REPORT),
-        ("", ""),
-    ] {
-        for piece in [1, 3, 4096] {
-            let mut sink = MemSink::new(rt.alloc());
-            let status = run_over(rt.alloc(), input, piece, &[], &mut sink)?;
-            assert_eq!(rt; status, 0, "{input} by {piece}");
-            assert_eq!(rt; sink.held(), report.as_bytes(), "{input} by {piece}");
-        }
-    }
-    Ok(())
-}
-
-#[test]
-fn a_line_is_measured_without_its_return(rt: HostRuntime) -> Result<(), Fail> {
-    for (blanks, end, report) in [
-        (252, "", "list 0\n"),
-        (252, "\r\nlist", "list 0\nlist 0\n"),
-        (253, "", "refused LINE\n"),
-        (253, "\r\nlist", "refused LINE\nlist 0\n"),
-        (5000, "\nlist", "refused LINE\nlist 0\n"),
-    ] {
-        let input = padded(rt.alloc(), "list", blanks, end)?;
-        let mut sink = MemSink::new(rt.alloc());
-        assert_eq!(rt;
-            run_over(rt.alloc(), &input, 100, &[], &mut sink)?,
-            0,
-            "{blanks}"
-        );
-        assert_eq!(rt; sink.held(), report.as_bytes(), "{blanks}");
-    }
-    Ok(())
-}
-
-#[test]
-fn so_many_streams_stand_and_no_more(rt: HostRuntime) -> Result<(), Fail> {
-    let mut input = creates(rt.alloc(), 4097)?;
-    input.push_str("append s4095 1 1\nappend s4096 1 1\n")?;
-    let mut report = String::new(rt.alloc());
+// Their report where 4096 streams stand.
+fn created(alloc: Global) -> Result<String, AllocError> {
+    let mut report = String::new(alloc);
     for _ in 0..4096 {
         report.push_str("ok 0 0\n")?;
     }
     report.push_str("refused STREAMS\nok 1 1\nrefused UNKNOWN\n")?;
-    let mut sink = MemSink::new(rt.alloc());
-    assert_eq!(rt; run_over(rt.alloc(), &input, 4096, &[], &mut sink)?, 0);
-    assert_eq!(rt; sink.held(), report.as_bytes());
+    Ok(report)
+}
+
+#[test]
+fn so_many_streams_stand_and_no_more(rt: HostRuntime) -> Result<(), Fail> {
+    let input = creates(rt.alloc(), 4097)?;
+    let report = created(rt.alloc())?;
+    assert!(rt; has_report(rt.alloc(), &input, 4096, &report)?);
     Ok(())
+}
+
+// How many replies are out before each read: a read gives 9 bytes, and the lines end after 19, 33, 48, 62, 76, 90, 104 and 118.
+const REPLIES: [usize; 15] = [0, 0, 0, 1, 2, 2, 3, 4, 4, 5, 6, 6, 7, 7, 8];
+
+// Whether the worked row ends at a read that fails.
+fn ends_at_read(alloc: Global, call: usize) -> Result<bool, AllocError>
+    requires { call < 15 }
+{
+    let mut source = source_of(alloc, READINGS, 9, &[call as u64])?;
+    ends_in(alloc, RUN, &mut source, &[], 5, front(REPLIES[call]))
 }
 
 #[test]
 fn each_failing_read_ends_the_run(rt: HostRuntime) -> Result<(), Fail> {
-    // How many replies are out before each read: a read gives 9 bytes, and the lines end after 19, 33, 48, 62, 76, 90,
-    // 104 and 118.
-    let rows = [0, 0, 0, 1, 2, 2, 3, 4, 4, 5, 6, 6, 7, 7, 8];
-    for (call, replies) in rows.into_iter().enumerate() {
-        let mut sink = MemSink::new(rt.alloc());
-        let status = run_over(rt.alloc(), READINGS, 9, &[call as u64], &mut sink)?;
-        assert_eq!(rt; status, 5, "read {call}");
-        assert_eq!(rt; sink.held(), front(replies), "read {call}");
+    for call in 0..15 {
+        assert!(rt; ends_at_read(rt.alloc(), call)?, "read {call}");
     }
     Ok(())
 }
 
+// So many lines of the report with rows.
+fn shown_lines(alloc: Global, count: usize) -> Result<String, AllocError> {
+    let mut lines = String::new(alloc);
+    for line in SHOWN_LINES.iter().take(count) {
+        lines.push_str(line)?;
+    }
+    Ok(lines)
+}
+
+// Whether a run ends at a put that fails.
+fn ends_at_put(
+    alloc: Global,
+    words: &[&str],
+    put: u64,
+    status: u8,
+    written: &str,
+) -> Result<bool, AllocError> {
+    let mut source = source_of(alloc, SHOWN, 9, &[])?;
+    ends_in(
+        alloc,
+        words,
+        &mut source,
+        &[put],
+        status,
+        written.as_bytes(),
+    )
+}
+
+// Whether the input with rows in its report ends at a put that fails. There is no put 14.
+fn shows_until(alloc: Global, put: usize) -> Result<bool, AllocError> {
+    let status = if put < 14 { 6 } else { 0 };
+    ends_at_put(alloc, RUN, put as u64, status, &shown_lines(alloc, put)?)
+}
+
 #[test]
 fn each_failing_put_ends_the_run(rt: HostRuntime) -> Result<(), Fail> {
-    // Also between the rows of a report with rows.
-    let mut front = String::new(rt.alloc());
-    for (call, line) in SHOWN_LINES.into_iter().enumerate() {
-        let mut sink = MemSink::new(rt.alloc());
-        sink.fail_at([call as u64].to_vec(rt.alloc())?);
-        let status = run_over(rt.alloc(), SHOWN, 9, &[], &mut sink)?;
-        assert_eq!(rt; status, 6, "put {call}");
-        assert_eq!(rt; sink.held(), front.as_bytes(), "put {call}");
-        front.push_str(line)?;
+    for put in 0..15 {
+        assert!(rt; shows_until(rt.alloc(), put)?, "put {put}");
     }
-    let mut sink = MemSink::new(rt.alloc());
-    assert_eq!(rt; run_over(rt.alloc(), SHOWN, 9, &[], &mut sink)?, 0);
-    assert_eq!(rt; sink.held(), front.as_bytes());
     Ok(())
 }
 
@@ -206,56 +228,31 @@ impl Sink for ByteSink {
     }
 }
 
+// Whether such a sink gets the report of the worked row.
+fn gets_all_by_bytes(alloc: Global) -> Result<bool, AllocError> {
+    let mut sink = ByteSink {
+        inner: MemSink::new(alloc),
+    };
+    let mut source = source_of(alloc, READINGS, 4096, &[])?;
+    let status = run_anew(alloc, RUN, &mut source, &mut sink)?;
+    Ok(status == 0 && sink.inner.held() == REPORT.as_bytes())
+}
+
 #[test]
 fn a_slow_sink_gets_all(rt: HostRuntime) -> Result<(), Fail> {
-    let mut sink = ByteSink {
-        inner: MemSink::new(rt.alloc()),
-    };
-    assert_eq!(rt; run_over(rt.alloc(), READINGS, 4096, &[], &mut sink)?, 0);
-    assert_eq!(rt; sink.inner.held(), REPORT.as_bytes());
+    assert!(rt; gets_all_by_bytes(rt.alloc())?);
     Ok(())
 }
 
-#[test]
-fn words_are_known_or_the_usage_is_said(rt: HostRuntime) -> Result<(), Fail> {
-    let rows: [(&[&str], u8, &str); 9] = [
-        (&["summarystore", "readings.store", "run"], 0, "ok 0 0\n"),
-        (&["summarystore"], 2, USAGE),
-        (&["summarystore", "readings.store", "Run"], 2, USAGE),
-        (&["summarystore", "readings.store", "check", "x"], 2, USAGE),
-        (&["summarystore", "readings.store", "run", "run"], 2, USAGE),
-        (&["summarystore", "readings.store", "gen", "1"], 2, USAGE),
-        (
-            &["summarystore", "readings.store", "gen", "1", "0"],
-            2,
-            USAGE,
-        ),
-        (&["summarystore", "readings.store", "--help"], 2, USAGE),
-        (&[], 2, USAGE),
-    ];
-    for (words, status, written) in rows {
-        let words = words_of(rt.alloc(), words)?;
-        let input = "create s exp 2 1 1".as_bytes().to_vec(rt.alloc())?;
-        let mut disk = empty(rt.alloc())?;
-        let mut source = MemSource::new(rt.alloc(), input, 4096);
-        let mut sink = MemSink::new(rt.alloc());
-        let answer = run_any(rt.alloc(), &words, &mut disk, &mut source, &mut sink);
-        assert_eq!(rt; answer, status);
-        assert_eq!(rt; sink.held(), written.as_bytes());
-        assert_eq!(rt; disk.calls() == 0, status == 2);
-    }
-    Ok(())
+// Whether a run without arguments ends with the usage status, also where the usage line doesn't go out.
+fn says_usage(alloc: Global, put: u64, written: &str) -> Result<bool, AllocError> {
+    ends_at_put(alloc, &[], put, 2, written)
 }
 
 #[test]
-fn a_failing_sink_leaves_the_usage_status(rt: HostRuntime) -> Result<(), Fail> {
-    let mut disk = empty(rt.alloc())?;
-    let mut source = MemSource::new(rt.alloc(), Vec::new(rt.alloc()), 1);
-    let mut sink = MemSink::new(rt.alloc());
-    sink.fail_at([0].to_vec(rt.alloc())?);
-    let answer = run_any(rt.alloc(), &[], &mut disk, &mut source, &mut sink);
-    assert_eq!(rt; answer, 2);
-    assert_eq!(rt; sink.held(), b"".as_slice());
+fn no_arguments_get_the_usage_status(rt: HostRuntime) -> Result<(), Fail> {
+    assert!(rt; says_usage(rt.alloc(), 1, USAGE)?);
+    assert!(rt; says_usage(rt.alloc(), 0, "")?);
     Ok(())
 }
 

@@ -5,40 +5,21 @@ use std::alloc::Allocator;
 use std::fmt::Display;
 use std::io::{self, BufRead, ErrorKind, Lines, Read};
 
-// A standard input that holds some bytes.
+// A reader of which each read is filled with a byte, or fails.
 #[derive(Drop)]
-struct Bytes(&'static [u8]);
+struct Filling(Option<u8>);
 
-impl Input for Bytes {
-    type Reader = &'static [u8];
-
-    fn read_line<A: Allocator + Clone>(&self, buf: &mut String<A>) -> io::Result<usize> {
-        self.reader().read_line(buf)
-    }
-
-    fn lines<A: Allocator>(&self, alloc: A) -> Lines<&'static [u8], A> {
-        self.reader().lines(alloc)
-    }
-
-    fn reader(&self) -> &'static [u8] {
-        self.0
+impl Read for Filling {
+    fn read(&mut self, into: &mut [u8]) -> io::Result<usize> {
+        let Some(byte) = self.0 else {
+            return Err(io::Error::from(ErrorKind::Other));
+        };
+        into.fill(byte);
+        Ok(into.len())
     }
 }
 
-// A reader whose reads fail, and a standard input over it.
-#[derive(Drop)]
-struct BrokenReader;
-
-#[derive(Drop)]
-struct Broken;
-
-impl Read for BrokenReader {
-    fn read(&mut self, _into: &mut [u8]) -> io::Result<usize> {
-        Err(io::Error::from(ErrorKind::Other))
-    }
-}
-
-impl BufRead for BrokenReader {
+impl BufRead for Filling {
     fn fill_buf(&mut self) -> io::Result<&[u8]> {
         Err(io::Error::from(ErrorKind::Other))
     }
@@ -46,30 +27,33 @@ impl BufRead for BrokenReader {
     fn consume(&mut self, _amount: usize) {}
 }
 
-impl Input for Broken {
-    type Reader = BrokenReader;
+// A standard input over such a reader.
+#[derive(Drop)]
+struct FillingInput(Option<u8>);
 
-    fn read_line<A: Allocator + Clone>(&self, buf: &mut String<A>) -> io::Result<usize> {
-        self.reader().read_line(buf)
+impl Input for FillingInput {
+    type Reader = Filling;
+
+    fn read_line<A: Allocator + Clone>(&self, _buf: &mut String<A>) -> io::Result<usize> {
+        Err(io::Error::from(ErrorKind::Other))
     }
 
-    fn lines<A: Allocator>(&self, alloc: A) -> Lines<BrokenReader, A> {
+    fn lines<A: Allocator>(&self, alloc: A) -> Lines<Filling, A> {
         self.reader().lines(alloc)
     }
 
-    fn reader(&self) -> BrokenReader {
-        BrokenReader
+    fn reader(&self) -> Filling {
+        Filling(self.0)
     }
 }
 
 #[test]
 fn standard_input_is_read(rt: HostRuntime) {
-    let stream = Bytes(b"abc");
-    let mut source = StdSource::new(&stream);
-    let mut buffer = [0; 2];
-    assert_eq!(rt; source.read(&mut buffer), Ok(2));
-    assert_eq!(rt; buffer, [97, 98]);
-    assert_eq!(rt; StdSource::new(&Broken).read(&mut buffer), Err(Failed));
+    for (byte, answer, bytes) in [(Some(9), Ok(2), [9, 9]), (None, Err(Failed), [1, 1])] {
+        let mut buffer = [1; 2];
+        let count = StdSource::new(&FillingInput(byte)).read(&mut buffer);
+        assert_eq!(rt; (count, buffer), (answer, bytes));
+    }
 }
 
 // A standard output that takes at most so many bytes of a piece, or whose writes fail.
