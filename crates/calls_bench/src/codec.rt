@@ -2,15 +2,13 @@
 ghost use Rattle.std.specs.Prelude.{IsTrue};
 ghost use Rattle.ss_codec.specs.Record.{is_valid};
 
-use crate::timing::micros_since;
-use anyhow::{Result, ensure};
+use crate::timing::{micros_since, now};
 use ss_codec::{Record, decode, encode, which_windows_are_valid};
 use ss_summary::Summary;
 use std::rt::Clock;
-use std::time::Instant;
 
-/// How many windows are encoded and decoded.
-pub const CODINGS: u32 = 1_000_000;
+// How many windows are encoded and decoded.
+const CODINGS: u32 = 1_000_000;
 
 // The window of one value, whose stream, position, time and value the number gives.
 fn window_of(k: u32) -> Record
@@ -47,14 +45,16 @@ fn decode_many() -> u32 {
     found
 }
 
-/// The microseconds of encoding windows, and those of decoding them.
-pub fn codec_times<R: Clock>(rt: &R) -> Result<(f64, f64)> {
-    let begin = Instant::now(rt)?;
+/// The microseconds of encoding a window.
+pub fn encode_time<R: Clock>(rt: &R) -> f64 {
+    let begin = now(rt);
     let sum = encode_many();
-    let encode = micros_since(rt, &begin)?;
-    let begin = Instant::now(rt)?;
+    micros_since(rt, &begin, sum > 0) / f64::from(CODINGS)
+}
+
+/// The microseconds of decoding a window.
+pub fn decode_time<R: Clock>(rt: &R) -> f64 {
+    let begin = now(rt);
     let found = decode_many();
-    let decode = micros_since(rt, &begin)?;
-    ensure!(sum > 0 && found == CODINGS, "{found} records, sum {sum}");
-    Ok((encode, decode))
+    micros_since(rt, &begin, found == CODINGS) / f64::from(CODINGS)
 }

@@ -5,13 +5,11 @@ ghost use Rattle.ss_journal.specs.Kept.{IsKept, IsRunning, IsSettled};
 use crate::calls::Calls;
 use crate::counted::Counted;
 use crate::puts::txn_of;
-use crate::timing::micros_since;
-use anyhow::{Result, ensure};
+use crate::timing::{FAILED, micros_since, now};
 use ss_journal::{Journal, JournalError};
-use ss_outside::{Disk, Failed, MemDisk};
+use ss_outside::{Disk, MemDisk};
 use std::alloc::Global;
 use std::rt::Clock;
-use std::time::Instant;
 
 /// How many commits are counted.
 pub const COUNTED: u32 = 10_000;
@@ -19,24 +17,27 @@ pub const COUNTED: u32 = 10_000;
 /// The most commits that are timed. The disk in memory keeps about 900 bytes for each.
 pub const MOST_COMMITS: u32 = 1_000_000;
 
-/// How many reads are timed, round all slots.
-pub const READS: u32 = 100_000;
+// How many reads are timed, round all slots.
+const READS: u32 = 100_000;
 
 // The commits that come before the timed ones: the first in a process take longer.
 const WARM_UP: u32 = 64;
+
+// How often opening and settling call an empty disk.
+const CALLS_OF_BIRTH: u64 = 20;
 
 // The commits go round this many slots.
 const SLOTS: u32 = 1024;
 
 // Brings the entries in use into their slots.
-fn settle<D: Disk>(journal: &mut Journal, disk: &mut D) -> Result<(), Failed>
+fn settle<D: Disk>(journal: &mut Journal, disk: &mut D) -> Result<(), JournalError>
     requires running { IsRunning journal.old }
     requires one_disk { IsTrue (D.tells disk.old) → IsKept journal.old (D.told disk.old).content }
     ensures settled { OnOk result (IsSettled journal.new) }
     ensures one_disk { IsTrue (D.tells disk.old) → OnOk result (IsKept journal.new (D.told disk.new).content) }
     ensures tells { D.tells disk.new ≡ D.tells disk.old }
 {
-    journal.settle(disk)
+    Ok(journal.settle(disk)?)
 }
 
 // A journal on the disk, ready for commits.
@@ -57,7 +58,7 @@ fn commit_many<D: Disk>(
     disk: &mut D,
     count: u32,
     puts: u32,
-) -> Result<(), Failed>
+) -> Result<(), JournalError>
     requires some { 0 < puts }
     requires few { puts ≤ 4 }
     requires settled { IsSettled journal.old }
@@ -73,51 +74,77 @@ fn commit_many<D: Disk>(
     Ok(())
 }
 
+// The calls of the disk that the counted commits make, once the journal is ready.
+fn calls_on<D: Disk>(alloc: Global, disk: &mut Counted<D>, puts: u32) -> Result<Calls, JournalError>
+    requires some { 0 < puts }
+    requires few { puts ≤ 4 }
+{
+    let mut journal = start(alloc, disk)?;
+    disk.calls = Calls::none();
+    commit_many(&mut journal, disk, COUNTED, puts)?;
+    Ok(disk.calls)
+}
+
 /// The calls of the disk that the counted commits make, of so many puts each.
 pub fn calls_of(alloc: Global, puts: u32) -> Result<Calls, JournalError>
     requires some { 0 < puts }
     requires few { puts ≤ 4 }
 {
-    let mut disk = Counted {
-        inner: MemDisk::new(alloc, Vec::new(alloc))?,
-        calls: Calls::none(),
-    };
-    let mut journal = start(alloc, &mut disk)?;
-    disk.calls = Calls::none();
-    commit_many(&mut journal, &mut disk, COUNTED, puts)?;
-    Ok(disk.calls)
+    let inner = MemDisk::new(alloc, Vec::new(alloc))?;
+    let calls = Calls::none();
+    calls_on(alloc, &mut Counted { inner, calls }, puts)
 }
 
-// How many calls of the disk so many commits of one put each make by the format.
+// The microseconds of so many commits of one put each.
+fn time_of_commits<R: Clock, D: Disk>(
+    rt: &R,
+    journal: &mut Journal,
+    disk: &mut D,
+    commits: u32,
+) -> f64
+    requires settled { IsSettled journal.old }
+    requires one_disk { IsTrue (D.tells disk.old) → IsKept journal.old (D.told disk.old).content }
+{
+    let begin = now(rt);
+    let made = commit_many(journal, disk, commits, 1).is_ok();
+    micros_since(rt, &begin, made)
+}
+
+// The same, on an empty disk.
+fn time_on<R: AllocGlobal + Clock, D: Disk>(
+    rt: &R,
+    disk: &mut D,
+    commits: u32,
+) -> Result<f64, JournalError> {
+    let mut journal = start(rt.alloc(), disk)?;
+    Ok(time_of_commits(rt, &mut journal, disk, commits))
+}
+
+// How many calls of an empty disk the birth of a journal and so many commits of one put each make by the format.
 fn wanted_calls(commits: u32) -> u64 {
-    Calls::of_commits(commits, 1).number()
+    Calls::of_commits(commits, 1)
+        .number()
+        .saturating_add(CALLS_OF_BIRTH)
 }
 
 // Makes so many commits of one put each on a new disk in memory, and answers the microseconds that they took.
-fn commit_time<R: AllocGlobal + Clock>(rt: &R, commits: u32) -> Result<f64> {
+fn commit_time<R: AllocGlobal + Clock>(rt: &R, commits: u32) -> Result<f64, JournalError> {
     let mut disk = MemDisk::new(rt.alloc(), Vec::new(rt.alloc()))?;
-    let mut journal = start(rt.alloc(), &mut disk)?;
-    let before = disk.calls();
-    let begin = Instant::now(rt)?;
-    commit_many(&mut journal, &mut disk, commits, 1).map_err(JournalError::from)?;
-    let micros = micros_since(rt, &begin)?;
-    let calls = disk.calls().saturating_sub(before);
-    let wanted = wanted_calls(commits);
-    ensure!(
-        calls == wanted,
-        "{calls} calls of the disk in place of {wanted}"
-    );
-    Ok(micros)
+    let micros = time_on(rt, &mut disk, commits);
+    if disk.calls() != wanted_calls(commits) {
+        return Ok(FAILED);
+    }
+    micros
 }
 
-/// The microseconds of so many commits of one put each, after a few others.
-pub fn warm_commit_time<R: AllocGlobal + Clock>(rt: &R, commits: u32) -> Result<f64> {
+/// The microseconds of one of so many commits of one put each, after a few others.
+pub fn warm_commit_time<R: AllocGlobal + Clock>(rt: &R, commits: u32) -> Result<f64, JournalError> {
     commit_time(rt, WARM_UP)?;
-    commit_time(rt, commits)
+    Ok(commit_time(rt, commits)? / f64::from(commits))
 }
 
-// Gives the file all slots, and leaves no entry in use.
-fn fill<D: Disk>(journal: &mut Journal, disk: &mut D) -> Result<(), Failed>
+// Gives the file all slots, and leaves so many entries in use.
+fn fill<D: Disk>(journal: &mut Journal, disk: &mut D, in_use: u32) -> Result<(), JournalError>
     requires settled { IsSettled journal.old }
     requires one_disk { IsTrue (D.tells disk.old) → IsKept journal.old (D.told disk.old).content }
     ensures settled { OnOk result (IsSettled journal.new) }
@@ -125,22 +152,12 @@ fn fill<D: Disk>(journal: &mut Journal, disk: &mut D) -> Result<(), Failed>
     ensures tells { D.tells disk.new ≡ D.tells disk.old }
 {
     commit_many(journal, disk, SLOTS, 1)?;
-    settle(journal, disk)
-}
-
-// A journal whose file has all slots, with so many entries in use.
-fn with_in_use<D: Disk>(alloc: Global, disk: &mut D, in_use: u32) -> Result<Journal, JournalError>
-    ensures settled { IfOk result (λ journal. IsSettled journal) }
-    ensures one_disk { IsTrue (D.tells disk.old) → IfOk result (λ journal. IsKept journal (D.told disk.new).content) }
-{
-    let mut journal = start(alloc, disk)?;
-    fill(&mut journal, disk)?;
-    commit_many(&mut journal, disk, in_use, 1)?;
-    Ok(journal)
+    settle(journal, disk)?;
+    commit_many(journal, disk, in_use, 1)
 }
 
 // Reads round the slots, and answers the sum of the first bytes.
-fn read_many<D: Disk>(journal: &mut Journal, disk: &mut D) -> Result<u64, Failed>
+fn read_many<D: Disk>(journal: &mut Journal, disk: &mut D) -> Result<u64, JournalError>
     requires running { IsRunning journal.old }
     requires one_disk { IsTrue (D.tells disk.old) → IsKept journal.old (D.told disk.old).content }
 {
@@ -152,13 +169,29 @@ fn read_many<D: Disk>(journal: &mut Journal, disk: &mut D) -> Result<u64, Failed
     Ok(sum)
 }
 
-/// The microseconds that the reads take with so many entries in use.
-pub fn read_time<R: AllocGlobal + Clock>(rt: &R, in_use: u32) -> Result<f64> {
+// The microseconds that a read takes of a journal whose file has all slots.
+fn time_of_reads<R: Clock, D: Disk>(rt: &R, journal: &mut Journal, disk: &mut D) -> f64
+    requires settled { IsSettled journal.old }
+    requires one_disk { IsTrue (D.tells disk.old) → IsKept journal.old (D.told disk.old).content }
+{
+    let begin = now(rt);
+    let sum = read_many(journal, disk).unwrap_or(0);
+    micros_since(rt, &begin, sum > 0) / f64::from(READS)
+}
+
+// The same, on an empty disk, with so many entries in use.
+fn read_time_on<R: AllocGlobal + Clock, D: Disk>(
+    rt: &R,
+    disk: &mut D,
+    in_use: u32,
+) -> Result<f64, JournalError> {
+    let mut journal = start(rt.alloc(), disk)?;
+    fill(&mut journal, disk, in_use)?;
+    Ok(time_of_reads(rt, &mut journal, disk))
+}
+
+/// The microseconds that a read takes with so many entries in use.
+pub fn read_time<R: AllocGlobal + Clock>(rt: &R, in_use: u32) -> Result<f64, JournalError> {
     let mut disk = MemDisk::new(rt.alloc(), Vec::new(rt.alloc()))?;
-    let mut journal = with_in_use(rt.alloc(), &mut disk, in_use)?;
-    let begin = Instant::now(rt)?;
-    let sum = read_many(&mut journal, &mut disk).map_err(JournalError::from)?;
-    let micros = micros_since(rt, &begin)?;
-    ensure!(sum > 0, "every slot reads as zeros");
-    Ok(micros)
+    read_time_on(rt, &mut disk, in_use)
 }

@@ -2,14 +2,12 @@
 ghost use Rattle.std.specs.Prelude.{◌<◌, ◌≤◌, IfOk};
 ghost use Rattle.ss_landmarks.specs.Order.{AllEndBy};
 
-use crate::timing::micros_since;
-use anyhow::{Result, ensure};
+use crate::timing::{micros_since, now};
 use ss_landmarks::{
     LATEST_TIME, Landmarks, MOST_LANDMARK_SLOTS, Tally, last_times_rise, times_may_follow,
 };
 use std::alloc::{AllocError, Global};
 use std::rt::Clock;
-use std::time::Instant;
 
 /// The most values.
 pub const MOST_VALUES: u32 = 10_000_000;
@@ -147,34 +145,51 @@ fn sum_of_walks(landmarks: &Landmarks) -> i128 {
     sum
 }
 
-/// The times of the calls over so many values.
-pub fn landmark_times<R: AllocGlobal + Clock>(rt: &R, values: u32) -> Result<Times>
-    requires some { 0 < values }
+// The microseconds of a call of `free`.
+fn time_of_free<R: Clock>(rt: &R, landmarks: &Landmarks, times: u64) -> f64
+    requires some { 0 < times }
+    requires early { times ≤ LATEST_TIME }
+{
+    let begin = now(rt);
+    let sum = sum_of_free(landmarks, times);
+    micros_since(rt, &begin, sum > 0) / f64::from(CALLS)
+}
+
+// The microseconds of a tally of ten values.
+fn time_of_ranges<R: Clock>(rt: &R, landmarks: &Landmarks, times: u64) -> f64
+    requires { 0 < times }
+{
+    let begin = now(rt);
+    let sum = sum_of_values(landmarks, times);
+    micros_since(rt, &begin, sum > 0) / f64::from(CALLS)
+}
+
+// The microseconds of a tally of nearly all values.
+fn time_of_walks<R: Clock>(rt: &R, landmarks: &Landmarks) -> f64 {
+    let begin = now(rt);
+    let sum = sum_of_walks(landmarks);
+    micros_since(rt, &begin, sum > 0) / f64::from(WALKS)
+}
+
+// The times of the calls over landmarks of so many values, which were made in so many microseconds.
+fn times_of<R: Clock>(rt: &R, micros: f64, landmarks: &Landmarks, values: u32) -> Times
     requires few { values ≤ MOST_VALUES }
 {
-    let begin = Instant::now(rt)?;
-    let landmarks = landmarks_with(rt.alloc(), values)?;
-    let change = micros_since(rt, &begin)? / f64::from(values);
-    let made = landmarks.values();
-    ensure!(made == values, "{made} values in place of {values}");
     let times = u64::from(values / EACH + 1) * SPAN;
-    let begin = Instant::now(rt)?;
-    let sum = sum_of_free(&landmarks, times);
-    let free = micros_since(rt, &begin)? / f64::from(CALLS);
-    let begin = Instant::now(rt)?;
-    let found = sum_of_values(&landmarks, times);
-    let range = micros_since(rt, &begin)? / f64::from(CALLS);
-    let begin = Instant::now(rt)?;
-    let walked = sum_of_walks(&landmarks);
-    let value = micros_since(rt, &begin)? / f64::from(WALKS) / f64::from(values);
-    ensure!(
-        sum > 0 && found > 0 && walked > 0,
-        "{sum} free, {found} found, {walked} walked"
-    );
-    Ok(Times {
-        change,
-        free,
-        range,
-        value,
-    })
+    Times {
+        change: micros / f64::from(values),
+        free: time_of_free(rt, landmarks, times),
+        range: time_of_ranges(rt, landmarks, times),
+        value: time_of_walks(rt, landmarks) / f64::from(values),
+    }
+}
+
+/// The times of the calls over so many values.
+pub fn landmark_times<R: AllocGlobal + Clock>(rt: &R, values: u32) -> Result<Times, AllocError>
+    requires few { values ≤ MOST_VALUES }
+{
+    let begin = now(rt);
+    let landmarks = landmarks_with(rt.alloc(), values)?;
+    let micros = micros_since(rt, &begin, landmarks.values() == values);
+    Ok(times_of(rt, micros, &landmarks, values))
 }

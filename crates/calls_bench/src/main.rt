@@ -12,12 +12,12 @@ mod report;
 mod targets;
 mod timing;
 
-ghost use Rattle.std.specs.Prelude.{◌<◌, ◌≤◌, IfSome};
+ghost use Rattle.std.specs.Prelude.{◌≤◌};
 
-use anyhow::Result;
 use journal::MOST_COMMITS;
 use landmarks::MOST_VALUES;
 use records::MOST_RECORDS;
+use ss_journal::JournalError;
 use std::env;
 use std::process::ExitCode;
 use std::rt::{Clock, Env};
@@ -25,76 +25,153 @@ use std::rt::{Clock, Env};
 const USAGE: &str =
     "usage: calls_bench all | journal [COMMITS | reads] | records [RECORDS | codec] | targets [time] | landmarks [VALUES]";
 
-// How many commits, records or values a word asks for.
-fn count_of(word: &str, most: u32) -> Option<u32>
-    ensures { IfSome result (λ count. (0 < count) × (count ≤ most)) }
+// One more than the last number that calls have.
+const UNKNOWN: u32 = 4;
+
+// How many commits, records or values a word asks for: 0 where it asks for none.
+fn count_of(word: &str, most: u32) -> u32
+    ensures { result ≤ most }
 {
     match word.parse::<u32>() {
-        Ok(count) if count > 0 && count <= most => Some(count),
-        _ => None,
+        Ok(count) if count <= most => count,
+        _ => 0,
     }
 }
 
-// Prints what is the same each time. The exit status: 1 where the counts differ from the format's. None where these calls
-// aren't known.
-fn show<R: AllocGlobal + Print>(rt: &R, calls: &str) -> Result<Option<u8>> {
-    let mut agree = true;
-    match calls {
-        "journal" => agree = report::print_commits(rt)?,
-        "records" => report::print_records(rt)?,
-        "targets" => report::print_targets(rt)?,
-        "landmarks" => report::print_landmarks(rt)?,
-        "all" => {
-            agree = report::print_commits(rt)?;
-            report::print_records(rt)?;
-            report::print_targets(rt)?;
-            report::print_landmarks(rt)?;
-        }
-        _ => return Ok(None),
+// The number of the calls that the word names.
+fn calls_of(word: &str) -> u32 {
+    match word {
+        "journal" => 0,
+        "records" => 1,
+        "targets" => 2,
+        "landmarks" => 3,
+        _ => UNKNOWN,
     }
-    Ok(Some(u8::from(!agree)))
 }
 
-// Prints times of the calls. None where the words aren't known.
-fn time<R: AllocGlobal + Print + Clock>(rt: &R, calls: &str, word: &str) -> Result<Option<u8>> {
+// Prints what is the same each time. The exit status: 1 where the counts differ from the format's.
+fn show_one<R: AllocGlobal + Print>(rt: &R, calls: u32) -> Result<u8, JournalError> {
     match calls {
-        "journal" if word == "reads" => report::print_read_times(rt)?,
-        "journal" => match count_of(word, MOST_COMMITS) {
-            Some(count) => report::print_commit_time(rt, count)?,
-            None => return Ok(None),
-        },
-        "records" if word == "codec" => report::print_codec_times(rt)?,
-        "records" => match count_of(word, MOST_RECORDS) {
-            Some(count) => report::print_record_times(rt, count)?,
-            None => return Ok(None),
-        },
-        "targets" if word == "time" => report::print_look_up_times(rt)?,
-        "landmarks" => match count_of(word, MOST_VALUES) {
-            Some(count) => report::print_landmark_times(rt, count)?,
-            None => return Ok(None),
-        },
-        _ => return Ok(None),
+        0 => report::print_commits(rt),
+        1 => report::print_records(rt),
+        2 => Ok(report::print_targets(rt)),
+        _ => report::print_landmarks(rt),
     }
-    Ok(Some(0))
+}
+
+// The same of some, and the greatest of their statuses.
+fn show_some<R: AllocGlobal + Print>(rt: &R, first: u32, end: u32) -> Result<u8, JournalError> {
+    let mut worst = 0;
+    for calls in first..end {
+        worst = worst.max(show_one(rt, calls)?);
+    }
+    Ok(worst)
+}
+
+// Prints what is the same each time. The exit status: 2 where these calls aren't known.
+fn show<R: AllocGlobal + Print>(rt: &R, word: &str) -> Result<u8, JournalError> {
+    let calls = calls_of(word);
+    if calls < UNKNOWN {
+        return show_some(rt, calls, calls + 1);
+    }
+    if word == "all" {
+        return show_some(rt, 0, UNKNOWN);
+    }
+    Ok(2)
+}
+
+// Prints the times of commits or of reads.
+fn time_journal<R: AllocGlobal + Print + Clock>(rt: &R, word: &str) -> Result<u8, JournalError> {
+    if word == "reads" {
+        return report::print_read_times(rt);
+    }
+    match count_of(word, MOST_COMMITS) {
+        0 => Ok(2),
+        count => report::print_commit_time(rt, count),
+    }
+}
+
+// Prints the times of the records or of the codec.
+fn time_records<R: AllocGlobal + Print + Clock>(rt: &R, word: &str) -> Result<u8, JournalError> {
+    if word == "codec" {
+        return Ok(report::print_codec_times(rt));
+    }
+    match count_of(word, MOST_RECORDS) {
+        0 => Ok(2),
+        count => report::print_record_times(rt, count),
+    }
+}
+
+// Prints the times of look-ups.
+fn time_targets<R: Print + Clock>(rt: &R, word: &str) -> u8 {
+    if word == "time" {
+        report::print_look_up_times(rt)
+    } else {
+        2
+    }
+}
+
+// Prints the times of landmarks.
+fn time_landmarks<R: AllocGlobal + Print + Clock>(rt: &R, word: &str) -> Result<u8, JournalError> {
+    match count_of(word, MOST_VALUES) {
+        0 => Ok(2),
+        count => report::print_landmark_times(rt, count),
+    }
+}
+
+// Prints times of the calls. The exit status: 2 where the words aren't known.
+fn time<R: AllocGlobal + Print + Clock>(
+    rt: &R,
+    calls: u32,
+    word: &str,
+) -> Result<u8, JournalError> {
+    match calls {
+        0 => time_journal(rt, word),
+        1 => time_records(rt, word),
+        2 => Ok(time_targets(rt, word)),
+        3 => time_landmarks(rt, word),
+        _ => Ok(2),
+    }
 }
 
 // The exit status: 2 where the words aren't known.
-fn answer<R: Env + AllocGlobal + Print + Eprint + Clock>(rt: &R) -> Result<u8> {
-    let words: Vec<String> = env::args(rt)?.collect(rt.alloc())?;
-    let status = match words.as_slice() {
-        [_, calls] => show(rt, calls.as_str())?,
-        [_, calls, word] => time(rt, calls.as_str(), word.as_str())?,
-        _ => None,
-    };
-    if status.is_none() {
-        rt.eprintln(USAGE)?;
+fn status_of<R: AllocGlobal + Print + Clock>(rt: &R, words: &[String]) -> Result<u8, JournalError> {
+    match words {
+        [_, calls] => show(rt, calls.as_str()),
+        [_, calls, word] => time(rt, calls_of(calls.as_str()), word.as_str()),
+        _ => Ok(2),
     }
-    Ok(status.unwrap_or(2))
+}
+
+// The program's words.
+fn words_of<R: Env + AllocGlobal>(rt: &R) -> Result<Vec<String>, JournalError> {
+    match env::args(rt) {
+        Ok(args) => Ok(args.collect(rt.alloc())?),
+        Err(_) => Err(JournalError::OutOfMemory),
+    }
+}
+
+// The exit status of the program's words.
+fn answer<R: Env + AllocGlobal + Print + Clock>(rt: &R) -> Result<u8, JournalError> {
+    let words = words_of(rt)?;
+    status_of(rt, words.as_slice())
+}
+
+// Says what there is to say of an exit status.
+fn explain(rt: &impl Eprint, status: u8) {
+    let _ = match status {
+        2 => rt.eprintln(USAGE),
+        3 => rt.eprintln("calls_bench: a call, the clock or the output failed"),
+        _ => Ok(()),
+    };
 }
 
 fn main(rt: HostRuntime) -> ExitCode {
     match answer(&rt) {
-        Ok(status) => ExitCode::from(status),
+        Ok(status) => {
+            explain(&rt, status);
+            ExitCode::from(status)
+        }
         Err(error) => {
             let _ = eprintln!(rt; "calls_bench: {error}");
             ExitCode::from(3)

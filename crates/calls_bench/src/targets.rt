@@ -1,13 +1,11 @@
 // Look-ups of target windows.
 ghost use Rattle.std.specs.Prelude.{◌≤◌};
 
-use crate::timing::micros_since;
-use anyhow::{Result, anyhow, ensure};
+use crate::timing::{FAILED, micros_since, now};
 use ss_catalog::Params;
 use ss_target::Target;
 use ss_windowing::{Decay, MOST_VALUES};
 use std::rt::Clock;
-use std::time::Instant;
 
 /// The targets, with their names.
 pub const TARGETS: [(&str, Params); 3] = [
@@ -47,23 +45,26 @@ pub struct Cover {
     pub oldest: u64,
 }
 
-fn target_of(params: Params) -> Result<Target> {
-    match Target::of(params) {
-        Ok(target) => Ok(target),
-        Err(_) => Err(anyhow!("no such target")),
+// The cover of so many values in a target.
+fn cover_in(target: &Target, taken: u64) -> Option<Cover> {
+    let oldest = target.window_at(MOST_VALUES.min(taken.saturating_sub(1)));
+    if oldest.index >= MOST_VALUES {
+        return None;
     }
-}
-
-/// The cover of so many values.
-pub fn cover_of(params: Params, taken: u64) -> Result<Cover> {
-    let oldest = target_of(params)?.window_at(MOST_VALUES.min(taken.saturating_sub(1)));
-    ensure!(oldest.index < MOST_VALUES, "no such index");
     let windows = oldest.index + 1;
-    Ok(Cover {
+    Some(Cover {
         windows,
         most: 2 * windows - 1,
         oldest: oldest.len,
     })
+}
+
+/// The cover of so many values, if there is such a target.
+pub fn cover_of(params: Params, taken: u64) -> Option<Cover> {
+    match Target::of(params) {
+        Ok(target) => cover_in(&target, taken),
+        Err(_) => None,
+    }
 }
 
 // Looks up an age and the seven before it in turn, and answers the indices in one number.
@@ -77,12 +78,19 @@ fn indices(target: &Target, age: u64) -> u64
     found
 }
 
+// The nanoseconds of a look-up of an age in the target.
+fn time_in<R: Clock>(rt: &R, target: &Target, age: u64) -> f64
+    requires { age ≤ MOST_VALUES }
+{
+    let begin = now(rt);
+    let found = indices(target, age);
+    micros_since(rt, &begin, found < u64::MAX) * 1e3 / f64::from(LOOK_UPS)
+}
+
 /// The nanoseconds of a look-up of an age.
-pub fn look_up_time<R: AllocGlobal + Clock>(rt: &R, params: Params, age: u64) -> Result<f64> {
-    let target = target_of(params)?;
-    let begin = Instant::now(rt)?;
-    let found = indices(&target, MOST_VALUES.min(age));
-    let nanos = micros_since(rt, &begin)? * 1e3;
-    ensure!(found < u64::MAX, "no such index");
-    Ok(nanos / f64::from(LOOK_UPS))
+pub fn look_up_time<R: Clock>(rt: &R, params: Params, age: u64) -> f64 {
+    match Target::of(params) {
+        Ok(target) => time_in(rt, &target, MOST_VALUES.min(age)),
+        Err(_) => FAILED,
+    }
 }
