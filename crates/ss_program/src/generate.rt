@@ -182,7 +182,7 @@ fn send_summary<K: Sink>(seed: u64, count: u32, tally: &Tally, sink: &mut K) -> 
 
 // Runs the commands of the file over a store, and sends what came of them.
 fn summarize<D: Disk, K: Sink>(
-    store: Store,
+    store: &mut Store,
     seed: u64,
     count: u32,
     disk: &mut D,
@@ -190,7 +190,7 @@ fn summarize<D: Disk, K: Sink>(
 ) -> Status
     requires some { 1 ≤ count }
     requires few { count ≤ MOST_COUNT }
-    requires open { IsOpen (D.tells disk.old) (D.told disk.old) store }
+    requires open { IsOpen (D.tells disk.old) (D.told disk.old) store.old }
     ensures generates { IsTrue (D.tells disk.old) → NothingPending (D.told disk.old) → (history : History) →
         Stands history (D.told disk.old).content →
         Generates history seed count (K.held sink.old) (K.held sink.new) (D.told disk.old) (D.told disk.new) (number_of result) }
@@ -198,8 +198,7 @@ fn summarize<D: Disk, K: Sink>(
     ensures disk_cause { Counts Status.DiskFault (D.faults disk.old) (D.faults disk.new) result }
     ensures sink_cause { Counts Status.SinkFault (K.faults sink.old) (K.faults sink.new) result }
 {
-    let mut store = store;
-    match run_all(&mut store, seed, count, disk) {
+    match run_all(store, seed, count, disk) {
         Ok(tally) => match send_summary(seed, count, &tally, sink) {
             Ok(()) => Status::Done,
             Err(status) => status,
@@ -229,7 +228,7 @@ pub fn generate<D: Disk, K: Sink>(
         (number_of result ≡ 0) ⊎ (number_of result ≡ 7) }
 {
     match Store::open(alloc, disk) {
-        Ok(store) => summarize(store, seed, count, disk, sink),
+        Ok(mut store) => summarize(&mut store, seed, count, disk, sink),
         Err(error) => refuse(error, sink),
     }
 }

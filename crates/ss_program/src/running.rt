@@ -1,6 +1,7 @@
 // The top call.
 ghost use Rattle.std.specs.Prelude.{◌≡◌, ◌≢◌, ◌↔◌, ◌⊎◌, ◌+◌, ◌-◌, ◌<◌, ◌≤◌, ◌++◌, ℕ, List, [], Option, Some, length, take, drop, true, false, IsTrue, IsSome, IsNone, None, IfOk, IfErr, OnOk, OnErr, IsErrOf};
-ghost use Rattle.ss_command.specs.Lines.{lines, lines_so_far};
+ghost use Rattle.ss_command.specs.Lines.{lines, lines_so_far, unended};
+ghost use Rattle.ss_command.specs.LineState.{kept};
 ghost use Rattle.ss_outside.specs.Causes.{Rose, HasCause};
 ghost use Rattle.ss_outside.specs.Disk.{NothingPending};
 ghost use Rattle.ss_store.specs.Recover.{Recovers, Stands, recover};
@@ -97,12 +98,13 @@ fn is_at_end<S: Source>(source: &mut S) -> Result<bool, Failed>
 
 // Reads the source to its end, and answers each of its lines.
 fn serve<D: Disk, S: Source, K: Sink>(
-    store: Store,
+    session: &mut Session,
     disk: &mut D,
     source: &mut S,
     sink: &mut K,
 ) -> Status
-    requires { IsOpen (D.tells disk.old) (D.told disk.old) store }
+    requires open { IsOpen (D.tells disk.old) (D.told disk.old) session.old.store }
+    requires front { session.old.line ≡ kept (unended []) }
     ensures known { EndsServing (D.tells disk.old) result }
     ensures disk_cause { Counts Status.DiskFault (D.faults disk.old) (D.faults disk.new) result }
     ensures source_cause { Counts Status.SourceFault (S.faults source.old) (S.faults source.new) result }
@@ -113,10 +115,9 @@ fn serve<D: Disk, S: Source, K: Sink>(
         Stands history (D.told disk.old).content → (input : List ℕ) → S.left source.old ≡ Some input →
         Serves history input (S.left source.new) (K.held sink.old) (K.held sink.new) (D.told disk.old) (D.told disk.new) (number_of result) }
 {
-    let mut session = Session::start(store);
     let mut done = 0;
     while done < LONGEST_INPUT {
-        match read_piece(&mut session, LONGEST_INPUT - done, disk, source, sink) {
+        match read_piece(session, LONGEST_INPUT - done, disk, source, sink) {
             Ok(0) => return session.finish(disk, sink),
             Ok(count) => done += count,
             Err(status) => return status,
@@ -150,7 +151,7 @@ fn run_source<D: Disk, S: Source, K: Sink>(
         (Rose (K.faults sink.old) (K.faults sink.new) → ⊥) → (number_of result ≡ 0) ⊎ (number_of result ≡ 7) }
 {
     match Store::open(alloc, disk) {
-        Ok(store) => serve(store, disk, source, sink),
+        Ok(store) => serve(&mut Session::start(store), disk, source, sink),
         Err(error) => refuse(error, sink),
     }
 }

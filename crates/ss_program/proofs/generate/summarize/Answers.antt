@@ -16,8 +16,8 @@ returns-in-Ok-send_summary-clause-generates g c told none history stands =
     (g.D.Disk.told c.run_all.new.disk) c.in-Ok.tally (g.met.D.Disk.knows_now c.run_all.new.disk (c.run_all.ensures.tells ∙ told)) ran
     (c.in-Ok-send_summary.ensures.sends (length ls) (replies history ls) ran.tallied)
 
-pub returns-in-Ok-clause-generates : goal.returns-in-Ok-clause-generates
-returns-in-Ok-clause-generates g c told none history stands =
+pub returns-in-Err-send_summary-clause-generates : goal.returns-in-Err-send_summary-clause-generates
+returns-in-Err-send_summary-clause-generates g c told none history stands =
     let ran = c.in-Ok.ensures.ok told none history stands in
     let ls = generated c.args.seed c.args.count in
     let less = c.in-Err-send_summary.ensures.sends (length ls) (replies history ls) ran.tallied in
@@ -26,8 +26,8 @@ returns-in-Ok-clause-generates g c told none history stands =
     (g.D.Disk.told c.run_all.new.disk) (number_of c.in-Err-send_summary.status) (λ zero. absurd (omega (arith, six, zero)))
     (g.met.D.Disk.knows_now c.run_all.new.disk (c.run_all.ensures.tells ∙ told)) (less.0, less.2) ran.any_moment
 
-pub returns-clause-generates : goal.returns-clause-generates
-returns-clause-generates g c told none history stands =
+pub returns-in-Err-clause-generates : goal.returns-in-Err-clause-generates
+returns-in-Err-clause-generates g c told none history stands =
     let stop = stop-number (g.D.Disk.tells c.args.disk.now) c.in-Err.status (IsStop-apply (g.D.Disk.tells c.args.disk.now) c.in-Err.status c.in-Err.ensures.status) in
     Generates-stop history c.args.seed c.args.count (g.K.Sink.held c.args.sink.now) (g.K.Sink.held c.args.sink.now) (g.D.Disk.told c.args.disk.now)
     (g.D.Disk.told c.run_all.new.disk) (number_of c.in-Err.status) stop.0 (g.met.D.Disk.knows_now c.run_all.new.disk (c.run_all.ensures.tells ∙ told))

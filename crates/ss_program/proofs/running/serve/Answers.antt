@@ -1,6 +1,5 @@
 use Rattle.std.proofs.Common.{◌-◌, take, drop, Err, refl, sym, ap, ◌∙◌, subst, arith, inl, inr}
 use Rattle.ss_command.specs.Lines.{ended_lines}
-use Rattle.ss_program.specs.Answer.{IsOpen}
 use Rattle.ss_program.specs.Outcome.{Serves}
 use Rattle.ss_program.specs.Status.{number_of}
 use Rattle.ss_program.proofs.SendLemmas.{appended-nil}
@@ -11,12 +10,12 @@ pub loop-done-init : goal.loop-done-init
 unfolding ended_lines
 loop-done-init g c = record {
   fits = omega arith;
-  is_open = subst (λ s. IsOpen (g.D.Disk.tells c.args.disk.now) (g.D.Disk.told c.args.disk.now) s) (sym c.start-session.ensures.store) c.requires;
+  is_open = c.requires.open;
   tells = refl;
   left = λ input is. record { within = omega arith; source = is };
   through = λ told none history stands input is.
-      IsThrough-start history (g.D.Disk.told c.args.disk.now) c.start-session.result (g.K.Sink.held c.args.sink.now) (g.S.Source.left c.args.source.now) input
-      (g.met.D.Disk.knows_now c.args.disk.now told) (record { stands = stands; durable = none; line = c.start-session.ensures.line })
+      IsThrough-start history (g.D.Disk.told c.args.disk.now) c.args.session.now (g.K.Sink.held c.args.sink.now) (g.S.Source.left c.args.source.now) input
+      (g.met.D.Disk.knows_now c.args.disk.now told) (record { stands = stands; durable = none; line = c.requires.front })
       (sym (appended-nil (g.K.Sink.held c.args.sink.now))) is;
   disk_faults = refl;
   source_faults = refl;
@@ -121,12 +120,12 @@ returns-in-Ok-true-clause-serves g c told none history stands input is =
     c.finish-in-Ok-true.ensures.status (λ is_done. c.finish-in-Ok-true.ensures.done is_done told_then history before input end.on.at end.on.replied)
     (λ stop. c.finish-in-Ok-true.ensures.stops stop told_then history before input end.on.at end.on.replied)
 
-pub returns-clause-reads : goal.returns-clause-reads
-returns-clause-reads g c input is =
+pub returns-in-Ok-false-clause-reads : goal.returns-in-Ok-false-clause-reads
+returns-in-Ok-false-clause-reads g c input is =
     let more = c.in-Ok-false.ensures.goes_on (drop c.loop-done.done input) (c.loop-done.invariant.left input is).source c.in-Ok-false.field-0-test in
     Reads-limit input (g.S.Source.left c.is_at_end.new.source) c.loop-done.done (omega (arith, c.loop-done.invariant.fits, c.loop-done-test.false)) more.0 more.1
 
-pub returns-clause-serves : goal.returns-clause-serves
-returns-clause-serves g c told none history stands input is =
+pub returns-in-Ok-false-clause-serves : goal.returns-in-Ok-false-clause-serves
+returns-in-Ok-false-clause-serves g c told none history stands input is =
     Serves-part 8 (g.S.Source.left c.is_at_end.new.source) (c.loop-done.invariant.through told none history stands input is) c.loop-done.invariant.fits
     (inr (refl, omega (arith, c.loop-done.invariant.fits, c.loop-done-test.false)))
