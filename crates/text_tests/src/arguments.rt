@@ -1,37 +1,49 @@
 // Lists of words, each with the mode that it asks for.
+ghost use Rattle.std.specs.Prelude.{◌<◌};
+
+use crate::tables::pass;
 use ss_arguments::{Mode, mode_of, numbers_of_gen_are_in_range, options_ask_for_no_mode};
 use std::alloc::{AllocError, Global};
 use std::test::Fail;
 
-// A word, with the number that it spells in at most 20 digits.
-type Word = (&'static str, Option<u64>);
-
 // Right words, wrong ones, numbers at the ends of their ranges and past them, with signs, and of 20 and 21 digits.
-fn words() -> [Word; 22] {
-    [
-        ("run", None),
-        ("gen", None),
-        ("1", Some(1)),
-        ("-1", None),
-        ("", None),
-        ("check", None),
-        ("RUN", None),
-        ("runs", None),
-        ("x", None),
-        ("-", None),
-        ("--", None),
-        ("--help", None),
-        ("+1", None),
-        ("1 ", None),
-        ("0", Some(0)),
-        ("100000", Some(100_000)),
-        ("100001", Some(100_001)),
-        ("18446744073709551615", Some(u64::MAX)),
-        ("18446744073709551616", None),
-        ("00000000000000000001", Some(1)),
-        ("000000000000000000001", None),
-        ("00000000000000000000", Some(0)),
-    ]
+const WORDS: [&'static str; 22] = [
+    "run",
+    "gen",
+    "1",
+    "-1",
+    "",
+    "check",
+    "RUN",
+    "runs",
+    "x",
+    "-",
+    "--",
+    "--help",
+    "+1",
+    "1 ",
+    "0",
+    "100000",
+    "100001",
+    "18446744073709551615",
+    "18446744073709551616",
+    "00000000000000000001",
+    "000000000000000000001",
+    "00000000000000000000",
+];
+
+// The number that a word spells in at most 20 digits.
+fn number_of(word: &str) -> Option<u64> {
+    match word {
+        "1" => Some(1),
+        "0" => Some(0),
+        "100000" => Some(100_000),
+        "100001" => Some(100_001),
+        "18446744073709551615" => Some(u64::MAX),
+        "00000000000000000001" => Some(1),
+        "00000000000000000000" => Some(0),
+        _ => None,
+    }
 }
 
 // The mode that one word asks for.
@@ -45,104 +57,148 @@ fn mode_of_word(word: &str) -> Option<Mode> {
 
 // The mode of a seed and a count: a count is from 1 to 100,000.
 fn mode_of_numbers(seed: Option<u64>, count: Option<u64>) -> Option<Mode> {
-    let seed = seed?;
-    let count = u32::try_from(count?).ok()?;
-    if count == 0 || count > 100_000 {
-        return None;
-    }
-    Some(Mode::Gen { seed, count })
-}
-
-// The mode that the words after the path ask for, by the table of modes.
-fn expected(words: &[Word]) -> Option<Mode> {
-    match words {
-        [] => Some(Mode::Run),
-        [word] => mode_of_word(word.0),
-        [name, seed, count] if name.0 == "gen" => mode_of_numbers(seed.1, count.1),
+    match (seed, count) {
+        (Some(seed), Some(count)) => {
+            if count == 0 || count > 100_000 {
+                return None;
+            }
+            Some(Mode::Gen {
+                seed,
+                count: count as u32,
+            })
+        }
         _ => None,
     }
 }
 
-// What is read of the words after a path.
-fn read(alloc: Global, words: &[Word]) -> Result<Option<Mode>, AllocError> {
-    let mut all = Vec::new(alloc);
-    all.push(String::from_str(alloc, "summarystore")?)?;
-    all.push(String::from_str(alloc, "-s")?)?;
-    for word in words {
-        all.push(String::from_str(alloc, word.0)?)?;
+// The mode that all the words ask for, by the table of modes.
+fn expected(words: &[String]) -> Option<Mode> {
+    match words {
+        [_, _] => Some(Mode::Run),
+        [_, _, word] => mode_of_word(word.as_str()),
+        [_, _, name, seed, count] => {
+            if name.as_str() == "gen" {
+                return mode_of_numbers(number_of(seed.as_str()), number_of(count.as_str()));
+            }
+            None
+        }
+        _ => None,
     }
-    mode_of(alloc, &all)
 }
 
-// Whether words are read as the table says.
-fn agrees(alloc: Global, words: &[Word]) -> Result<bool, AllocError> {
-    Ok(read(alloc, words)? == expected(words))
+fn push(alloc: Global, words: &mut Vec<String>, word: &str) -> Result<(), AllocError> {
+    words.push(String::from_str(alloc, word)?)?;
+    Ok(())
 }
 
-// Whether two words, and three that begin with them, are read as the table says.
-fn agree_after(alloc: Global, a: Word, b: Word) -> Result<bool, AllocError> {
-    let mut agree = agrees(alloc, &[a, b])?;
-    for c in words() {
-        agree &= agrees(alloc, &[a, b, c])?;
+fn push_nth(alloc: Global, words: &mut Vec<String>, place: u32) -> Result<(), AllocError> {
+    if place >= 22 {
+        return Ok(());
     }
-    Ok(agree)
+    push(alloc, words, WORDS[place as usize])
+}
+
+// Lists of `count` of the first `base` words. The digits of a list's number to this base are the places of its words.
+#[derive(Clone, Copy)]
+struct Lists {
+    base: u32,
+    count: u32,
+}
+
+// Adds the words of the list with this number.
+fn push_all(
+    alloc: Global,
+    words: &mut Vec<String>,
+    lists: Lists,
+    number: u32,
+) -> Result<(), AllocError>
+    requires { 0 < lists.base }
+{
+    let mut rest = number;
+    for _ in 0..lists.count {
+        push_nth(alloc, words, rest % lists.base)?;
+        rest /= lists.base;
+    }
+    Ok(())
+}
+
+// Whether the words are read as the table says.
+fn agrees(alloc: Global, words: &Vec<String>) -> Result<bool, AllocError> {
+    Ok(mode_of(alloc, words)? == expected(words))
+}
+
+// Whether a list after a path is read as the table says.
+fn add_and_read(
+    alloc: Global,
+    words: &mut Vec<String>,
+    lists: Lists,
+    number: u32,
+) -> Result<bool, AllocError>
+    requires { 0 < lists.base }
+{
+    push(alloc, words, "summarystore")?;
+    push(alloc, words, "-s")?;
+    push_all(alloc, words, lists, number)?;
+    agrees(alloc, words)
+}
+
+fn is_right(alloc: Global, lists: Lists, number: u32) -> Result<bool, AllocError>
+    requires { 0 < lists.base }
+{
+    let mut words = Vec::new(alloc);
+    add_and_read(alloc, &mut words, lists, number)
+}
+
+// The number of the first list, below `end`, that is read otherwise.
+fn first_wrong(alloc: Global, lists: Lists, end: u32) -> Result<Option<u32>, AllocError>
+    requires { 0 < lists.base }
+{
+    for number in 0..end {
+        if !is_right(alloc, lists, number)? {
+            return Ok(Some(number));
+        }
+    }
+    Ok(None)
+}
+
+// The same of all lists of up to `most` of the first `base` words.
+fn first_wrong_of_all(alloc: Global, base: u32, most: u32) -> Result<Option<u32>, AllocError>
+    requires { 0 < base }
+{
+    let mut end: u32 = 1;
+    for count in 0..most {
+        let wrong = first_wrong(alloc, Lists { base, count }, end)?;
+        if wrong.is_some() {
+            return Ok(wrong);
+        }
+        end = end.wrapping_mul(base);
+    }
+    first_wrong(alloc, Lists { base, count: most }, end)
 }
 
 #[test]
 fn up_to_three_words(rt: HostRuntime) -> Result<(), Fail> {
-    assert!(rt; agrees(rt.alloc(), &[])?);
-    for a in words() {
-        assert!(rt; agrees(rt.alloc(), &[a])?, "{}", a.0);
-        for b in words() {
-            assert!(rt; agree_after(rt.alloc(), a, b)?, "{} {}", a.0, b.0);
-        }
-    }
-    Ok(())
-}
-
-// The first five words, of which four or five ask for nothing.
-fn few() -> [Word; 5] {
-    let words = words();
-    [words[0], words[1], words[2], words[3], words[4]]
-}
-
-// Whether four words ask for nothing, and five that begin with them.
-fn ask_for_nothing(alloc: Global, words: [Word; 4]) -> Result<bool, AllocError> {
-    let [a, b, c, d] = words;
-    let mut nothing = read(alloc, &words)?.is_none();
-    for e in few() {
-        nothing &= read(alloc, &[a, b, c, d, e])?.is_none();
-    }
-    Ok(nothing)
-}
-
-// Whether no four or five words that begin with these two ask for anything.
-fn nothing_after(alloc: Global, a: Word, b: Word) -> Result<bool, AllocError> {
-    let mut nothing = true;
-    for c in few() {
-        for d in few() {
-            nothing &= ask_for_nothing(alloc, [a, b, c, d])?;
-        }
-    }
-    Ok(nothing)
+    pass(first_wrong_of_all(rt.alloc(), 22, 3)?)
 }
 
 #[test]
-fn four_and_five_words(rt: HostRuntime) -> Result<(), Fail> {
-    for a in few() {
-        for b in few() {
-            assert!(rt; nothing_after(rt.alloc(), a, b)?, "{} {}", a.0, b.0);
-        }
+fn up_to_five_of_the_first_five_words(rt: HostRuntime) -> Result<(), Fail> {
+    pass(first_wrong_of_all(rt.alloc(), 5, 5)?)
+}
+
+// Whether no word, and the program's name alone, ask for no mode.
+fn ask_for_nothing(alloc: Global, words: &mut Vec<String>) -> Result<bool, AllocError> {
+    if !agrees(alloc, words)? {
+        return Ok(false);
     }
-    Ok(())
+    push(alloc, words, "summarystore")?;
+    agrees(alloc, words)
 }
 
 #[test]
 fn no_path(rt: HostRuntime) -> Result<(), Fail> {
     let mut words = Vec::new(rt.alloc());
-    assert_eq!(rt; mode_of(rt.alloc(), &words)?, None);
-    words.push(String::from_str(rt.alloc(), "summarystore")?)?;
-    assert_eq!(rt; mode_of(rt.alloc(), &words)?, None);
+    assert!(rt; ask_for_nothing(rt.alloc(), &mut words)?);
     Ok(())
 }
 

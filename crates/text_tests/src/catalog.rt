@@ -1,137 +1,185 @@
+// Names, parameters, refusals, and a catalog.
+use crate::tables::{Subject, Text, cut, numbers_of, pass, small, test, write, write_number};
 use ss_catalog::{Catalog, CatalogError, Name, Params, Refusal, StreamId};
+use std::test::Fail;
 
-fn is_name(word: &[u8]) -> bool {
-    Name::of(word).is_some()
+fn write_answer(answer: bool, out: &mut Text) {
+    if answer {
+        write(b"yes", out);
+    } else {
+        write(b"no", out);
+    }
 }
 
-// Words, and whether they are names.
-fn words() -> [(&'static str, bool); 11] {
-    [
-        ("a", true),
-        ("azAZ09_-.", true),
-        ("abcdefghijklmnopqrstuvwxyz012345", true),
-        ("abcdefghijklmnopqrstuvwxyz0123456", false),
-        ("", false),
-        ("a/b", false),
-        ("a b", false),
-        ("a\0", false),
-        ("@", false),
-        ("[", false),
-        ("x!", false),
-    ]
+// Whether a word is a name.
+pub fn name(word: &[u8], out: &mut Text) {
+    write_answer(Name::of(word).is_some(), out);
 }
 
 #[test]
-fn words_are_names(rt: HostRuntime) {
-    for (word, want) in words() {
-        assert_eq!(rt; is_name(word.as_bytes()), want);
-    }
-}
-
-#[test]
-fn bytes_past_ascii_are_no_names(rt: HostRuntime) {
-    assert!(rt; !is_name(b"a\x80"));
-}
-
-fn in_range(params: Params) -> bool {
-    params.in_range()
-}
-
-#[test]
-fn parameters_have_their_ranges(rt: HostRuntime) {
-    let exp = |b, r, s| Params::Exp { b, r, s };
-    let power = |p, q, r, s| Params::Power { p, q, r, s };
-    for (params, want) in [
-        (exp(2, 1, 1), true),
-        (exp(16, 65536, 65536), true),
-        (exp(1, 1, 1), false),
-        (exp(17, 1, 1), false),
-        (exp(2, 0, 1), false),
-        (exp(2, 65537, 1), false),
-        (exp(2, 1, 0), false),
-        (exp(2, 1, 65537), false),
-        (power(1, 0, 1, 1), true),
-        (power(4, 3, 65536, 65536), true),
-        (power(0, 0, 1, 1), false),
-        (power(5, 0, 1, 1), false),
-        (power(1, 4, 1, 1), false),
-        (power(1, 0, 0, 1), false),
-        (power(1, 0, 65537, 1), false),
-        (power(1, 0, 1, 0), false),
-        (power(1, 0, 1, 65537), false),
-    ] {
-        assert_eq!(rt; in_range(params), want);
-    }
-}
-
-fn said(refusal: Refusal) -> (u8, &'static str) {
-    (refusal.number(), refusal.text())
-}
-
-#[test]
-fn refusals_have_numbers_and_names(rt: HostRuntime) {
-    for (refusal, number, name) in [
-        (Refusal::Line, 1, "LINE"),
-        (Refusal::Syntax, 2, "SYNTAX"),
-        (Refusal::Number, 3, "NUMBER"),
-        (Refusal::Name, 4, "NAME"),
-        (Refusal::Param, 5, "PARAM"),
-        (Refusal::Exists, 6, "EXISTS"),
-        (Refusal::Streams, 7, "STREAMS"),
-        (Refusal::Unknown, 8, "UNKNOWN"),
-        (Refusal::Open, 9, "OPEN"),
-        (Refusal::NotOpen, 10, "NOT_OPEN"),
-        (Refusal::Time, 11, "TIME"),
-        (Refusal::Range, 12, "RANGE"),
-        (Refusal::StreamFull, 13, "STREAM_FULL"),
-        (Refusal::StoreFull, 14, "STORE_FULL"),
-    ] {
-        assert_eq!(rt; said(refusal), (number, name));
-    }
-}
-
-// Whether a name is added under a number, and not refused since it stands. None for another error.
-fn add(catalog: &mut Catalog, word: &[u8], number: u32) -> Option<bool> {
-    let name = Name::of(word)?;
-    match catalog.add(name, StreamId(number)) {
-        Ok(()) => Some(true),
-        Err(CatalogError::Exists) => Some(false),
-        Err(_) => None,
-    }
-}
-
-// The number of a name.
-fn find(catalog: &Catalog, word: &[u8]) -> Option<u32> {
-    let name = Name::of(word)?;
-    match catalog.find(&name) {
-        Some(id) => Some(id.0),
-        None => None,
-    }
-}
-
-// Adds `room` as 0, `Room` as 7 and `room` as 8, and answers which were added.
-fn add_three(catalog: &mut Catalog) -> [Option<bool>; 3] {
-    let first = add(catalog, b"room", 0);
-    let second = add(catalog, b"Room", 7);
-    [first, second, add(catalog, b"room", 8)]
-}
-
-// The numbers of both names, and how many names there are.
-fn seen(catalog: &Catalog) -> (Option<u32>, Option<u32>, u32) {
-    (
-        find(catalog, b"room"),
-        find(catalog, b"Room"),
-        catalog.len(),
+fn words_are_names() -> Result<(), Fail> {
+    test(
+        Subject::Name,
+        b"a=yes\n\
+        azAZ09_-.=yes\n\
+        abcdefghijklmnopqrstuvwxyz012345=yes\n\
+        abcdefghijklmnopqrstuvwxyz0123456=no\n\
+        =no\n\
+        a/b=no\n\
+        a b=no\n\
+        a\0=no\n\
+        @=no\n\
+        [=no\n\
+        x!=no\n\
+        a\x80=no\n",
     )
 }
 
+fn params_of(input: &[u8]) -> Params {
+    let (kind, numbers) = cut(input, b' ');
+    let numbers = numbers_of(numbers);
+    if kind == b"exp".as_slice() {
+        return Params::Exp {
+            b: small(numbers[0]),
+            r: small(numbers[1]),
+            s: small(numbers[2]),
+        };
+    }
+    Params::Power {
+        p: small(numbers[0]),
+        q: small(numbers[1]),
+        r: small(numbers[2]),
+        s: small(numbers[3]),
+    }
+}
+
+// Whether parameters are in their ranges.
+pub fn params(input: &[u8], out: &mut Text) {
+    write_answer(params_of(input).in_range(), out);
+}
+
 #[test]
-fn names_are_found_by_their_bytes(rt: HostRuntime) {
+fn parameters_have_their_ranges() -> Result<(), Fail> {
+    test(
+        Subject::Params,
+        "exp 2 1 1=yes\n\
+        exp 16 65536 65536=yes\n\
+        exp 1 1 1=no\n\
+        exp 17 1 1=no\n\
+        exp 2 0 1=no\n\
+        exp 2 65537 1=no\n\
+        exp 2 1 0=no\n\
+        exp 2 1 65537=no\n\
+        power 1 0 1 1=yes\n\
+        power 4 3 65536 65536=yes\n\
+        power 0 0 1 1=no\n\
+        power 5 0 1 1=no\n\
+        power 1 4 1 1=no\n\
+        power 1 0 0 1=no\n\
+        power 1 0 65537 1=no\n\
+        power 1 0 1 0=no\n\
+        power 1 0 1 65537=no\n"
+            .as_bytes(),
+    )
+}
+
+// The refusals in the order of their numbers.
+fn refusal_at(place: u64) -> Refusal {
+    match place {
+        1 => Refusal::Line,
+        2 => Refusal::Syntax,
+        3 => Refusal::Number,
+        4 => Refusal::Name,
+        5 => Refusal::Param,
+        6 => Refusal::Exists,
+        7 => Refusal::Streams,
+        8 => Refusal::Unknown,
+        9 => Refusal::Open,
+        10 => Refusal::NotOpen,
+        11 => Refusal::Time,
+        12 => Refusal::Range,
+        13 => Refusal::StreamFull,
+        _ => Refusal::StoreFull,
+    }
+}
+
+// The number and the name of the refusal at a place.
+pub fn refusal(input: &[u8], out: &mut Text) {
+    let refusal = refusal_at(numbers_of(input)[0]);
+    write_number(u64::from(refusal.number()), out);
+    write(b" ", out);
+    write(refusal.text().as_bytes(), out);
+}
+
+#[test]
+fn refusals_have_numbers_and_names() -> Result<(), Fail> {
+    test(
+        Subject::Refusal,
+        "1=1 LINE\n\
+        2=2 SYNTAX\n\
+        3=3 NUMBER\n\
+        4=4 NAME\n\
+        5=5 PARAM\n\
+        6=6 EXISTS\n\
+        7=7 STREAMS\n\
+        8=8 UNKNOWN\n\
+        9=9 OPEN\n\
+        10=10 NOT_OPEN\n\
+        11=11 TIME\n\
+        12=12 RANGE\n\
+        13=13 STREAM_FULL\n\
+        14=14 STORE_FULL\n"
+            .as_bytes(),
+    )
+}
+
+// What adding a name under a number answers.
+fn add(catalog: &mut Catalog, word: &[u8], number: u32) -> u8 {
+    match Name::of(word) {
+        None => b'!',
+        Some(name) => match catalog.add(name, StreamId(number)) {
+            Ok(()) => b'+',
+            Err(CatalogError::Exists) => b'-',
+            Err(_) => b'?',
+        },
+    }
+}
+
+// The number of a name, and 99 where there is none.
+fn find(catalog: &Catalog, word: &[u8]) -> u32 {
+    match Name::of(word) {
+        None => 100,
+        Some(name) => match catalog.find(&name) {
+            Some(id) => id.0,
+            None => 99,
+        },
+    }
+}
+
+// Whether `room` and `Room` are found as these numbers, and there are so many names.
+fn has(catalog: &Catalog, room: u32, large: u32, count: u32) -> bool {
+    find(catalog, b"room") == room && find(catalog, b"Room") == large && catalog.len() == count
+}
+
+// Adds `room` as 0, `Room` as 7 and `room` as 8. The first step that is wrong.
+fn wrong_step(catalog: &mut Catalog) -> Option<u32> {
+    if !has(catalog, 99, 99, 0) {
+        return Some(0);
+    }
+    let first = add(catalog, b"room", 0);
+    let second = add(catalog, b"Room", 7);
+    let third = add(catalog, b"room", 8);
+    if first != b'+' || second != b'+' || third != b'-' {
+        return Some(1);
+    }
+    if !has(catalog, 0, 7, 2) {
+        return Some(2);
+    }
+    None
+}
+
+#[test]
+fn names_are_found_by_their_bytes(rt: HostRuntime) -> Result<(), Fail> {
     let mut catalog = Catalog::new(rt.alloc());
-    assert_eq!(rt; seen(&catalog), (None, None, 0));
-    assert_eq!(rt;
-        add_three(&mut catalog),
-        [Some(true), Some(true), Some(false)]
-    );
-    assert_eq!(rt; seen(&catalog), (Some(0), Some(7), 2));
+    pass(wrong_step(&mut catalog))
 }

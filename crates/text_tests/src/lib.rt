@@ -14,3 +14,5 @@ mod lines;
 mod numbers;
 #[cfg(test)]
 mod replies;
+#[cfg(test)]
+mod tables;

@@ -1,4 +1,5 @@
 // The texts of the replies, as docs/GUIDE.md lists them.
+use crate::tables::{Subject, Text, numbers_of, show, test};
 use arrayvec::ArrayString;
 use ss_bounds::Extreme;
 use ss_catalog::{Name, Params, Refusal, StreamId};
@@ -7,113 +8,128 @@ use ss_report::{Reply, reply_text};
 use ss_summary::Summary;
 use std::test::Fail;
 
-fn text_of(reply: &Reply) -> ArrayString<256> {
+fn write_reply(reply: &Reply, out: &mut Text) {
     let mut text = ArrayString::new();
     reply_text(reply, &mut text);
-    text
+    show(text.as_str().as_bytes(), out);
 }
 
 // A stream with a short name and small numbers.
-fn short_stream() -> Option<Reply> {
-    Some(Reply::Stream(StreamRow {
-        id: StreamId(0),
-        name: Name::of(b"a")?,
-        params: Params::Exp { b: 2, r: 1, s: 1 },
-        n: 7,
-        k: 3,
-        landmarks: 0,
-        values: 0,
-    }))
+fn write_short_stream(out: &mut Text) {
+    if let Some(name) = Name::of(b"a") {
+        let row = StreamRow {
+            id: StreamId(0),
+            name,
+            params: Params::Exp { b: 2, r: 1, s: 1 },
+            n: 7,
+            k: 3,
+            landmarks: 0,
+            values: 0,
+        };
+        write_reply(&Reply::Stream(row), out);
+    }
 }
 
 // A stream with the longest name and the greatest numbers.
-fn longest_stream() -> Option<Reply> {
+fn write_longest_stream(out: &mut Text) {
     let most = u32::MAX;
-    Some(Reply::Stream(StreamRow {
-        id: StreamId(most),
-        name: Name::of(b"abcdefghijklmnopqrstuvwxyz012345")?,
-        params: Params::Power {
-            p: most,
-            q: most,
-            r: most,
-            s: most,
-        },
-        n: u64::MAX,
-        k: most,
-        landmarks: most,
-        values: most,
-    }))
+    if let Some(name) = Name::of(b"abcdefghijklmnopqrstuvwxyz012345") {
+        let row = StreamRow {
+            id: StreamId(most),
+            name,
+            params: Params::Power {
+                p: most,
+                q: most,
+                r: most,
+                s: most,
+            },
+            n: u64::MAX,
+            k: most,
+            landmarks: most,
+            values: most,
+        };
+        write_reply(&Reply::Stream(row), out);
+    }
 }
 
 // A window of two values.
-fn window() -> Reply {
-    Reply::Window(Placed {
+fn write_window(out: &mut Text) {
+    let row = Placed {
         first: 5,
         last: 6,
         summary: Summary::join(Summary::one(10, i64::MIN), Summary::one(20, i64::MIN)),
-    })
+    };
+    write_reply(&Reply::Window(row), out);
 }
 
-#[test]
-fn each_reply_has_its_line(rt: HostRuntime) -> Result<(), Fail> {
-    for (reply, line) in [
-        (Reply::Done(Ack { n: 7, k: 3 }), "ok 7 3\n"),
-        (Reply::Refused(Refusal::Time), "refused TIME\n"),
-        (Reply::Refused(Refusal::StreamFull), "refused STREAM_FULL\n"),
-        (Reply::WindowsHead(3), "windows 3\n"),
-        (Reply::ListHead(4096), "list 4096\n"),
-        (short_stream().ok_or("a name")?, "a exp 2 1 1 7 3 0 0\n"),
-        (
-            longest_stream().ok_or("a name")?,
-            "abcdefghijklmnopqrstuvwxyz012345 power 4294967295 4294967295 4294967295 4294967295 18446744073709551615 4294967295 4294967295 4294967295\n",
-        ),
-        (
-            window(),
-            "5 6 2 -18446744073709551616 -9223372036854775808 -9223372036854775808 10 20\n",
-        ),
-    ] {
-        assert_eq!(rt; text_of(&reply).as_str(), line);
-    }
-    Ok(())
-}
-
-#[test]
-fn each_answer_has_its_line(rt: HostRuntime) {
+fn outcome_at(row: u64) -> Outcome {
     let sure = Extreme::Sure { lo: -3, hi: 8 };
     let maybe = Extreme::Maybe {
         lo: i64::MIN,
         hi: i64::MAX,
     };
-    for (outcome, line) in [
-        (Outcome::Count { lo: 1, hi: 3 }, "count 1 3\n"),
-        (
-            Outcome::Count {
-                lo: 0,
-                hi: u64::MAX,
-            },
-            "count 0 18446744073709551615\n",
-        ),
-        (Outcome::Sum { lo: -5, hi: 16 }, "sum -5 16\n"),
-        (
-            Outcome::Sum {
-                lo: i128::MIN,
-                hi: i128::MAX,
-            },
-            "sum -170141183460469231731687303715884105728 170141183460469231731687303715884105727\n",
-        ),
-        (Outcome::Min(sure), "min -3 8\n"),
-        (
-            Outcome::Min(maybe),
-            "min -9223372036854775808 9223372036854775807 maybe-none\n",
-        ),
-        (Outcome::Min(Extreme::Nothing), "min none\n"),
-        (Outcome::Max(sure), "max -3 8\n"),
-        (
-            Outcome::Max(maybe),
-            "max -9223372036854775808 9223372036854775807 maybe-none\n",
-        ),
-        (Outcome::Max(Extreme::Nothing), "max none\n"),
-    ] {
-        assert_eq!(rt; text_of(&Reply::Answered(outcome)).as_str(), line);
+    match row {
+        9 => Outcome::Count { lo: 1, hi: 3 },
+        10 => Outcome::Count {
+            lo: 0,
+            hi: u64::MAX,
+        },
+        11 => Outcome::Sum { lo: -5, hi: 16 },
+        12 => Outcome::Sum {
+            lo: i128::MIN,
+            hi: i128::MAX,
+        },
+        13 => Outcome::Min(sure),
+        14 => Outcome::Min(maybe),
+        15 => Outcome::Min(Extreme::Nothing),
+        16 => Outcome::Max(sure),
+        17 => Outcome::Max(maybe),
+        _ => Outcome::Max(Extreme::Nothing),
     }
+}
+
+fn write_row(row: u64, out: &mut Text) {
+    match row {
+        1 => write_reply(&Reply::Done(Ack { n: 7, k: 3 }), out),
+        2 => write_reply(&Reply::Refused(Refusal::Time), out),
+        3 => write_reply(&Reply::Refused(Refusal::StreamFull), out),
+        4 => write_reply(&Reply::WindowsHead(3), out),
+        5 => write_reply(&Reply::ListHead(4096), out),
+        6 => write_short_stream(out),
+        7 => write_longest_stream(out),
+        8 => write_window(out),
+        _ => write_reply(&Reply::Answered(outcome_at(row)), out),
+    }
+}
+
+// The text of the reply with this number in the table, with '/' for its line end.
+pub fn reply(input: &[u8], out: &mut Text) {
+    write_row(numbers_of(input)[0], out);
+}
+
+#[test]
+fn each_reply_has_its_line() -> Result<(), Fail> {
+    test(
+        Subject::Reply,
+        "1=ok 7 3/\n\
+        2=refused TIME/\n\
+        3=refused STREAM_FULL/\n\
+        4=windows 3/\n\
+        5=list 4096/\n\
+        6=a exp 2 1 1 7 3 0 0/\n\
+        7=abcdefghijklmnopqrstuvwxyz012345 power 4294967295 4294967295 4294967295 4294967295 \
+        18446744073709551615 4294967295 4294967295 4294967295/\n\
+        8=5 6 2 -18446744073709551616 -9223372036854775808 -9223372036854775808 10 20/\n\
+        9=count 1 3/\n\
+        10=count 0 18446744073709551615/\n\
+        11=sum -5 16/\n\
+        12=sum -170141183460469231731687303715884105728 170141183460469231731687303715884105727/\n\
+        13=min -3 8/\n\
+        14=min -9223372036854775808 9223372036854775807 maybe-none/\n\
+        15=min none/\n\
+        16=max -3 8/\n\
+        17=max -9223372036854775808 9223372036854775807 maybe-none/\n\
+        18=max none/\n"
+            .as_bytes(),
+    )
 }
