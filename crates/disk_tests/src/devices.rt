@@ -1,8 +1,10 @@
 // The devices in memory, called through the bounds that the crates above use.
 mod mem_disk;
 
-ghost use Rattle.std.specs.Prelude.{◌<◌, length};
+ghost use Rattle.std.specs.Prelude.{◌<◌, ◌≤◌, length};
 
+use crate::passing::{pass, pass_if};
+use ss_journal::JournalError;
 use ss_outside::{Failed, MemSink, MemSource, Sink, Source};
 use std::alloc::{AllocError, Global};
 use std::test::Fail;
@@ -15,35 +17,55 @@ fn source_of(alloc: Global, bytes: &[u8], piece: usize) -> Result<MemSource, All
     Ok(MemSource::new(alloc, bytes.to_vec(alloc)?, piece))
 }
 
-// What 15 reads into a buffer of 4 bytes give, one after the other.
-fn drain<S: Source>(alloc: Global, source: &mut S) -> Result<Vec<u8>, Fail> {
-    let mut all = Vec::new(alloc);
-    let mut buffer = [0; 4];
-    for _ in 0..15 {
-        let count = source.read(&mut buffer)?;
-        all.extend_from_slice(&buffer[..count])?;
+// The last of bytes that count on from this one, or 255 if they don't.
+fn counted(from: u8, bytes: &[u8]) -> u8 {
+    let mut last = from;
+    for byte in bytes {
+        if *byte != last.saturating_add(1) {
+            return 255;
+        }
+        last = *byte;
     }
-    Ok(all)
+    last
 }
 
-// Whether a source that gives such pieces gives these bytes, and then none at least five times.
-fn gives(alloc: Global, bytes: &[u8], piece: usize) -> Result<bool, Fail>
-    requires { 0 < piece }
+// Whether 15 reads into a buffer of 4 bytes give the bytes from 1 to this one in order, and then none at least five times.
+fn gives<S: Source>(source: &mut S, last: usize) -> Result<bool, JournalError> {
+    let mut buffer = [0; 4];
+    let mut given = 0u8;
+    for _ in 0..15 {
+        let count = source.read(&mut buffer)?;
+        given = counted(given, &buffer[..count]);
+    }
+    Ok(usize::from(given) == last)
+}
+
+fn gives_in_pieces(alloc: Global, length: usize, piece: usize) -> Result<bool, JournalError>
+    requires piece { 0 < piece }
+    requires length { length ≤ 10 }
 {
-    let mut source = source_of(alloc, bytes, piece)?;
-    Ok(drain(alloc, &mut source)?.as_slice() == bytes)
+    let mut source = source_of(alloc, &BYTES[..length], piece)?;
+    gives(&mut source, length)
+}
+
+// The first length and piece, of three pieces for each of ten lengths, with which not all is given in order.
+fn first_wrong(alloc: Global) -> Result<Option<usize>, JournalError> {
+    for n in 0..30usize {
+        let piece = match n % 3 {
+            0 => 1,
+            1 => 3,
+            _ => 4096,
+        };
+        if !gives_in_pieces(alloc, 1 + n / 3, piece)? {
+            return Ok(Some(n));
+        }
+    }
+    Ok(None)
 }
 
 #[test]
 fn a_source_gives_its_bytes_in_order_and_then_none(rt: HostRuntime) -> Result<(), Fail> {
-    for length in 1..=10 {
-        let bytes = &BYTES[..length];
-        let all = gives(rt.alloc(), bytes, 1)?
-            && gives(rt.alloc(), bytes, 3)?
-            && gives(rt.alloc(), bytes, 4096)?;
-        assert!(rt; all, "{length} bytes");
-    }
-    Ok(())
+    pass(first_wrong(rt.alloc()))
 }
 
 const READS: [(Result<usize, Failed>, [u8; 4]); 7] = [
@@ -67,12 +89,16 @@ fn answers<S: Source>(source: &mut S) -> bool {
     true
 }
 
+fn goes_on(alloc: Global) -> Result<bool, JournalError> {
+    let failing = [1, 4].to_vec(alloc)?;
+    let mut source = source_of(alloc, &BYTES, 3)?;
+    source.fail_at(failing);
+    Ok(answers(&mut source))
+}
+
 #[test]
 fn a_listed_read_fails_and_the_next_goes_on(rt: HostRuntime) -> Result<(), Fail> {
-    let mut source = source_of(rt.alloc(), &BYTES, 3)?;
-    source.fail_at([1, 4].to_vec(rt.alloc())?);
-    assert!(rt; answers(&mut source));
-    Ok(())
+    pass_if(goes_on(rt.alloc()))
 }
 
 fn put<K: Sink>(sink: &mut K, piece: &[u8]) -> Result<usize, Failed>
@@ -88,13 +114,22 @@ fn second_fails<K: Sink>(sink: &mut K) -> bool {
         && put(sink, &[7, 8, 9]) == Ok(3)
 }
 
+// Whether the other two are held then.
+fn holds_two(sink: &mut MemSink) -> bool {
+    let failed = second_fails(sink);
+    failed && sink.short() == 0 && sink.held() == [1, 2, 3, 7, 8, 9].as_slice()
+}
+
+fn holds_others(alloc: Global) -> Result<bool, JournalError> {
+    let failing = [1].to_vec(alloc)?;
+    let mut sink = MemSink::new(alloc);
+    sink.fail_at(failing);
+    Ok(holds_two(&mut sink))
+}
+
 #[test]
 fn a_listed_put_fails_and_the_next_goes_on(rt: HostRuntime) -> Result<(), Fail> {
-    let mut sink = MemSink::new(rt.alloc());
-    sink.fail_at([1].to_vec(rt.alloc())?);
-    assert!(rt; second_fails(&mut sink));
-    assert!(rt; sink.held() == [1, 2, 3, 7, 8, 9].as_slice() && sink.short() == 0);
-    Ok(())
+    pass_if(holds_others(rt.alloc()))
 }
 
 // How many bytes a sink holds after puts of 2 and 64 with these answers, and how many of them found no memory.
@@ -107,11 +142,15 @@ fn left_by(first: Result<usize, Failed>, second: Result<usize, Failed>) -> (usiz
     }
 }
 
+fn holds_what_it_took(sink: &mut MemSink) -> bool {
+    let first = put(sink, &[1, 2]);
+    let second = put(sink, &[7; 64]);
+    (sink.held().len(), sink.short()) == left_by(first, second)
+}
+
 // Passes with and without memory: run it with each allocation failing in turn.
 #[test]
-fn a_put_without_memory_leaves_what_was_held(rt: HostRuntime) {
+fn a_put_without_memory_leaves_what_was_held(rt: HostRuntime) -> Result<(), Fail> {
     let mut sink = MemSink::new(rt.alloc());
-    let first = put(&mut sink, &[1, 2]);
-    let second = put(&mut sink, &[7; 64]);
-    assert!(rt; (sink.held().len(), sink.short()) == left_by(first, second));
+    pass_if(Ok(holds_what_it_took(&mut sink)))
 }

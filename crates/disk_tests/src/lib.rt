@@ -9,4 +9,6 @@ mod devices;
 #[cfg(test)]
 mod journal;
 #[cfg(test)]
+mod passing;
+#[cfg(test)]
 mod records;

@@ -1,14 +1,16 @@
 // Records in use, over a disk in memory.
 ghost use Rattle.std.specs.Prelude.{◌≡◌, IsTrue, IfSome, OnOk};
 ghost use Rattle.ss_journal.specs.Puts.{slots_fit, IsTxn};
-ghost use Rattle.ss_journal.specs.Kept.{IsSettled};
+ghost use Rattle.ss_journal.specs.Kept.{IsRunning, IsSettled};
 ghost use Rattle.ss_records.specs.Kept.{AreKept};
 
 use crate::journal::files::{File, Map, disk_of, disk_with};
+use crate::passing::{pass, pass_if};
 use ss_journal::{JournalError, Put, SLOT_SIZE, Txn};
 use ss_outside::{Disk, Failed, MemDisk};
 use ss_records::Records;
 use std::alloc::Global;
+use std::test::Fail;
 
 #[derive(Clone, Copy)]
 enum Step {
@@ -25,10 +27,12 @@ enum Step {
 }
 
 // The number of live slots, the extent and the lowest free slot.
-type Seen = (u32, u32, Option<u32>);
+type Seen = (u32, u32, u32);
 
-fn seen(records: &Records) -> Seen {
-    (records.live(), records.extent(), records.lowest_free())
+fn is_seen(records: &Records, seen: Seen) -> bool {
+    records.live() == seen.0
+        && records.extent() == seen.1
+        && matches!(records.lowest_free(), Some(slot) if slot == seen.2)
 }
 
 fn put_into(slot: u32, byte: u8) -> Put
@@ -82,74 +86,111 @@ fn take<D: Disk>(records: &mut Records, disk: &mut D, step: Step) -> Result<(), 
 }
 
 const STEPS: [(Step, Seen); 5] = [
-    (Step::First, (1, 1, Some(1))),
-    (Step::Next, (4, 4, Some(4))),
-    (Step::Free, (2, 4, Some(1))),
-    (Step::Again, (3, 4, Some(3))),
-    (Step::Fourth, (1, 4, Some(0))),
+    (Step::First, (1, 1, 1)),
+    (Step::Next, (4, 4, 4)),
+    (Step::Free, (2, 4, 1)),
+    (Step::Again, (3, 4, 3)),
+    (Step::Fourth, (1, 4, 0)),
 ];
 
 // The first step after which something else is seen.
-fn first_wrong<D: Disk>(alloc: Global, disk: &mut D) -> Result<Option<usize>, JournalError> {
-    let mut records = Records::open(alloc, disk)?;
+fn first_wrong_step<D: Disk>(
+    records: &mut Records,
+    disk: &mut D,
+) -> Result<Option<usize>, JournalError>
+    requires running { IsRunning records.old.journal }
+    requires one_disk { IsTrue (D.tells disk.old) → AreKept records.old (D.told disk.old).content }
+{
     records.settle(disk)?;
     'steps: for (row, (step, left)) in STEPS.iter().enumerate() {
-        take(&mut records, disk, *step)?;
-        if seen(&records) != *left {
+        take(records, disk, *step)?;
+        if !is_seen(records, *left) {
             return Ok(Some(row));
         }
     }
     Ok(None)
 }
 
-// What is seen after opening, and the first byte of a slot.
-fn opened<D: Disk>(alloc: Global, disk: &mut D, slot: u8) -> Result<(Seen, u8), JournalError> {
+fn first_wrong<D: Disk>(alloc: Global, disk: &mut D) -> Result<Option<usize>, JournalError> {
     let mut records = Records::open(alloc, disk)?;
-    let bytes = records.read(disk, u32::from(slot))?;
-    Ok((seen(&records), bytes[0]))
+    first_wrong_step(&mut records, disk)
 }
 
-// Whether what the steps left is seen after opening again.
-fn is_reopened<D: Disk>(alloc: Global, disk: &mut D) -> Result<bool, JournalError> {
-    let seen = (1, 4, Some(0));
-    Ok(opened(alloc, disk, 2)? == (seen, 0) && opened(alloc, disk, 3)? == (seen, 9))
+// Whether what the steps left is seen, and a slot holds this byte.
+fn is_left<D: Disk>(records: &mut Records, disk: &mut D, slot: u8, byte: u8) -> bool
+    requires running { IsRunning records.old.journal }
+    requires one_disk { IsTrue (D.tells disk.old) → AreKept records.old (D.told disk.old).content }
+{
+    match records.read(disk, u32::from(slot)) {
+        Ok(bytes) => bytes[0] == byte && is_seen(records, (1, 4, 0)),
+        Err(Failed) => false,
+    }
+}
+
+// The same after opening again.
+fn is_found<D: Disk>(alloc: Global, disk: &mut D, slot: u8, byte: u8) -> bool {
+    match Records::open(alloc, disk) {
+        Ok(mut records) => is_left(&mut records, disk, slot, byte),
+        Err(_) => false,
+    }
+}
+
+fn goes<D: Disk>(alloc: Global, disk: &mut D) -> Result<bool, JournalError> {
+    let wrong = first_wrong(alloc, disk)?;
+    let freed = is_found(alloc, disk, 2, 0);
+    let taken = is_found(alloc, disk, 3, 9);
+    Ok(wrong.is_none() && freed && taken)
+}
+
+fn is_so(alloc: Global) -> Result<bool, JournalError> {
+    let mut disk = disk_of(alloc, &[])?;
+    goes(alloc, &mut disk)
 }
 
 #[test]
-fn slots_are_freed_and_taken_again(rt: HostRuntime) -> Result<(), JournalError> {
-    let mut disk = disk_of(rt.alloc(), &[])?;
-    assert!(rt; first_wrong(rt.alloc(), &mut disk)?.is_none());
-    assert!(rt; is_reopened(rt.alloc(), &mut disk)?);
-    Ok(())
+fn slots_are_freed_and_taken_again(rt: HostRuntime) -> Result<(), Fail> {
+    pass_if(is_so(rt.alloc()))
 }
 
-// The slots of a formatted file, and what is seen of them.
+// The slots of a formatted file, and what is seen of them. The first has none.
 type Opening = (Map<'static>, Seen);
 
-const OPENINGS: [Opening; 3] = [
-    (&[], (0, 0, Some(0))),
-    (&[7], (1, 1, Some(1))),
-    (&[7, 0, 7], (2, 3, Some(1))),
-];
+const OPENINGS: [Opening; 3] = [(&[], (0, 0, 0)), (&[7], (1, 1, 1)), (&[7, 0, 7], (2, 3, 1))];
 
-// How many calls of the disk opening takes, and what is seen then.
-fn opening(alloc: Global, slots: Map<'static>) -> Result<(u64, Seen), JournalError> {
-    let mut disk = disk_with(alloc, &File::Formed(&[], slots))?;
-    let records = Records::open(alloc, &mut disk)?;
-    Ok((disk.calls(), seen(&records)))
+fn opens_with<D: Disk>(alloc: Global, disk: &mut D, seen: Seen) -> Result<bool, JournalError> {
+    let records = Records::open(alloc, disk)?;
+    Ok(is_seen(&records, seen))
 }
 
-// Whether opening takes a call more for each slot, and all is seen as the row says.
-fn opens(alloc: Global, none: u64, row: &Opening) -> Result<bool, JournalError> {
-    let (calls, seen) = opening(alloc, row.0)?;
-    Ok(calls == none.saturating_add(row.0.len() as u64) && seen == row.1)
+// How many calls of the disk opening takes, if all is seen as the row says.
+fn calls_on(alloc: Global, disk: &mut MemDisk, seen: Seen) -> Result<Option<u64>, JournalError> {
+    let opened = opens_with(alloc, disk, seen)?;
+    Ok(if opened { Some(disk.calls()) } else { None })
+}
+
+fn calls(alloc: Global, row: &Opening) -> Result<Option<u64>, JournalError> {
+    let mut disk = disk_with(alloc, &File::Formed(&[], row.0))?;
+    calls_on(alloc, &mut disk, row.1)
+}
+
+// The first row of which something else is seen, or opening takes another number of calls than one more for each slot.
+fn first_unread(alloc: Global) -> Result<Option<usize>, JournalError> {
+    let mut none = 0u64;
+    for (k, row) in OPENINGS.iter().enumerate() {
+        let Some(calls) = calls(alloc, row)? else {
+            return Ok(Some(k));
+        };
+        if k == 0 {
+            none = calls;
+        }
+        if calls != none.saturating_add(row.0.len() as u64) {
+            return Ok(Some(k));
+        }
+    }
+    Ok(None)
 }
 
 #[test]
-fn opening_reads_each_slot_once(rt: HostRuntime) -> Result<(), JournalError> {
-    let (none, _) = opening(rt.alloc(), &[])?;
-    for (k, row) in OPENINGS.iter().enumerate() {
-        assert!(rt; opens(rt.alloc(), none, row)?, "row {k}");
-    }
-    Ok(())
+fn opening_reads_each_slot_once(rt: HostRuntime) -> Result<(), Fail> {
+    pass(first_unread(rt.alloc()))
 }

@@ -1,6 +1,8 @@
 // The disk in memory: what its calls leave, and what a crash leaves of that.
 ghost use Rattle.std.specs.Prelude.{◌≤◌, length};
 
+use crate::passing::{pass, pass_if};
+use ss_journal::JournalError;
 use ss_outside::{Choice, Disk, Failed, LONGEST_DISK, MemDisk};
 use std::alloc::{AllocError, Global};
 use std::test::Fail;
@@ -71,13 +73,8 @@ fn run(disk: &mut MemDisk) -> [bool; 4] {
     [over, synced, past, disk.write_at(0, &[30]).is_err()]
 }
 
-fn disk_of(alloc: Global, row: &Row) -> Result<MemDisk, AllocError> {
-    let mut disk = MemDisk::new(alloc, [1, 2, 3, 4].to_vec(alloc)?)?;
-    disk.fail_at(row.failing.to_vec(alloc)?);
-    if let Some(first) = row.stop {
-        disk.stop_from(first);
-    }
-    Ok(disk)
+fn disk_of(alloc: Global) -> Result<MemDisk, AllocError> {
+    MemDisk::new(alloc, [1, 2, 3, 4].to_vec(alloc)?)
 }
 
 fn leaves(disk: &MemDisk, choice: Choice, image: &[u8]) -> Result<bool, AllocError> {
@@ -86,12 +83,11 @@ fn leaves(disk: &MemDisk, choice: Choice, image: &[u8]) -> Result<bool, AllocErr
 
 // Whether each crash leaves the row's image.
 fn leaves_images(disk: &MemDisk, row: &Row) -> Result<bool, AllocError> {
-    Ok(
-        leaves(disk, Choice::Lost, row.lost)?
-            && leaves(disk, Choice::Kept, row.content)?
-            && leaves(disk, Choice::Fill(0), row.zeros)?
-            && leaves(disk, Choice::Fill(0xA5), row.filled)?,
-    )
+    let lost = leaves(disk, Choice::Lost, row.lost)?;
+    let kept = leaves(disk, Choice::Kept, row.content)?;
+    let zeros = leaves(disk, Choice::Fill(0), row.zeros)?;
+    let filled = leaves(disk, Choice::Fill(0xA5), row.filled)?;
+    Ok(lost && kept && zeros && filled)
 }
 
 // How many bytes it holds, calls it had, syncs that succeeded, and calls that found no memory.
@@ -109,28 +105,40 @@ fn is_content(disk: &MemDisk, bytes: &[u8]) -> bool {
 }
 
 // Whether the calls, and what stands on the disk after them, are as the row says.
-fn goes(disk: &mut MemDisk, row: &Row) -> Result<bool, AllocError> {
+fn runs(disk: &mut MemDisk, row: &Row) -> bool {
     let failed = run(disk);
     let syncs = u64::from(!row.failed[1]);
-    Ok(
-        failed == row.failed
-            && counts(disk) == (row.content.len(), 4, syncs, 0)
-            && is_content(disk, row.content)
-            && leaves_images(disk, row)?,
-    )
+    failed == row.failed
+        && counts(disk) == (row.content.len(), 4, syncs, 0)
+        && is_content(disk, row.content)
+}
+
+fn goes(alloc: Global, disk: &mut MemDisk, row: &Row) -> Result<bool, AllocError> {
+    disk.fail_at(row.failing.to_vec(alloc)?);
+    if let Some(first) = row.stop {
+        disk.stop_from(first);
+    }
+    let ran = runs(disk, row);
+    Ok(leaves_images(disk, row)? && ran)
 }
 
 fn is_so(alloc: Global, row: &Row) -> Result<bool, AllocError> {
-    let mut disk = disk_of(alloc, row)?;
-    goes(&mut disk, row)
+    let mut disk = disk_of(alloc)?;
+    goes(alloc, &mut disk, row)
+}
+
+fn first_wrong(alloc: Global) -> Result<Option<usize>, JournalError> {
+    for (k, row) in ROWS.iter().enumerate() {
+        if !is_so(alloc, row)? {
+            return Ok(Some(k));
+        }
+    }
+    Ok(None)
 }
 
 #[test]
 fn a_crash_leaves_the_chosen_image(rt: HostRuntime) -> Result<(), Fail> {
-    for (k, row) in ROWS.iter().enumerate() {
-        assert!(rt; is_so(rt.alloc(), row)?, "row {k}");
-    }
-    Ok(())
+    pass(first_wrong(rt.alloc()))
 }
 
 // Replaces what a disk begins with, and reads on from there.
@@ -156,13 +164,17 @@ fn has_stopped<D: Disk>(disk: &mut D) -> bool {
         && disk.len() == Err(Failed)
 }
 
+fn reads_past_the_end(alloc: Global) -> Result<bool, JournalError> {
+    let mut disk = disk_of(alloc)?;
+    let zeros = reads_zeros(&mut disk);
+    disk.stop_from(4);
+    let stopped = has_stopped(&mut disk);
+    Ok(zeros && stopped)
+}
+
 #[test]
 fn a_read_past_the_end_gives_zeros(rt: HostRuntime) -> Result<(), Fail> {
-    let mut disk = disk_of(rt.alloc(), &ROWS[0])?;
-    assert!(rt; reads_zeros(&mut disk));
-    disk.stop_from(4);
-    assert!(rt; has_stopped(&mut disk));
-    Ok(())
+    pass_if(reads_past_the_end(rt.alloc()))
 }
 
 // Whether a write of 64 bytes and a sync after it succeed.
@@ -171,14 +183,23 @@ fn overwritten<D: Disk>(disk: &mut D) -> (bool, bool) {
     (wrote, disk.sync().is_ok())
 }
 
-// Passes with and without memory: run it with each allocation failing in turn.
-#[test]
-fn a_call_without_memory_leaves_the_disk(rt: HostRuntime) {
-    let Ok(mut disk) = disk_of(rt.alloc(), &ROWS[0]) else {
-        return;
-    };
-    let (wrote, synced) = overwritten(&mut disk);
+// Whether the disk is as it was where they don't.
+fn is_left(disk: &mut MemDisk) -> bool {
+    let (wrote, synced) = overwritten(disk);
     let length = if wrote { 64 } else { 4 };
     let short = u64::from(!wrote) + u64::from(!synced);
-    assert!(rt; counts(&disk) == (length, 2, u64::from(synced), short));
+    counts(disk) == (length, 2, u64::from(synced), short)
+}
+
+fn leaves_the_disk(alloc: Global) -> bool {
+    match disk_of(alloc) {
+        Ok(mut disk) => is_left(&mut disk),
+        Err(AllocError) => true,
+    }
+}
+
+// Passes with and without memory: run it with each allocation failing in turn.
+#[test]
+fn a_call_without_memory_leaves_the_disk(rt: HostRuntime) -> Result<(), Fail> {
+    pass_if(Ok(leaves_the_disk(rt.alloc())))
 }

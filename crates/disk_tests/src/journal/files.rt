@@ -1,4 +1,7 @@
 // Files, and the maps for which they stand.
+ghost use Rattle.std.specs.Prelude.{IsTrue};
+ghost use Rattle.ss_journal.specs.Kept.{IsKept, IsRunning};
+
 use ss_journal::{Journal, JournalError};
 use ss_outside::{Disk, MemDisk};
 use std::alloc::{AllocError, Global};
@@ -6,20 +9,12 @@ use std::alloc::{AllocError, Global};
 // The byte that fills each slot below the extent. The other slots are zeros.
 pub type Map<'a> = &'a [u8];
 
-// An open entry of a single put.
-#[derive(Drop)]
-pub struct Entry {
-    pub place: usize,
-    pub slot: u8,
-    pub byte: u8,
-}
-
 #[derive(Clone, Copy)]
 pub enum File {
     // What it begins with, and its length. The other bytes are a5.
     Begun(&'static [u8], usize),
-    // Its entries, and its slots.
-    Formed(&'static [Entry], Map<'static>),
+    // Its first entries, open ones of a single put, and its slots. An entry is its slot and its byte: with 0 there is none.
+    Formed(&'static [u8], Map<'static>),
 }
 
 fn set(bytes: &mut [u8], place: usize, new: &[u8]) {
@@ -30,10 +25,21 @@ fn set(bytes: &mut [u8], place: usize, new: &[u8]) {
     }
 }
 
-pub fn set_entries(bytes: &mut [u8], entries: &[Entry]) {
-    for entry in entries {
-        set(bytes, entry.place, &[0xA5, 1, 0, 0, 0, entry.slot]);
-        set(bytes, entry.place.wrapping_add(6), &[entry.byte; 128]);
+// An open entry of a single put.
+pub fn set_entry(bytes: &mut [u8], n: usize, slot: u8, byte: u8) {
+    let place = n.wrapping_mul(544).wrapping_add(512);
+    set(bytes, place, &[0xA5, 1, 0, 0, 0, slot]);
+    set(bytes, place.wrapping_add(6), &[byte; 128]);
+}
+
+fn set_entries(bytes: &mut [u8], entries: &[u8]) {
+    let mut slot = 0u8;
+    for (k, byte) in entries.iter().enumerate() {
+        if k % 2 == 0 {
+            slot = *byte;
+        } else if *byte != 0 {
+            set_entry(bytes, k / 2, slot, *byte);
+        }
     }
 }
 
@@ -64,6 +70,19 @@ pub fn disk_with(alloc: Global, file: &File) -> Result<MemDisk, AllocError> {
     MemDisk::new(alloc, bytes_of(alloc, file)?)
 }
 
+// Whether a file is so long, and so many of its first three entries are in use.
+pub fn is_file(disk: &MemDisk, length: usize, in_use: usize) -> bool {
+    let bytes = disk.content();
+    for n in 0..3usize {
+        let place = 512 + n * 544;
+        let gate = if n < in_use { 0xA5 } else { 0 };
+        if place >= bytes.len() || bytes[place] != gate {
+            return false;
+        }
+    }
+    bytes.len() == length
+}
+
 fn byte_at(map: Map<'_>, slot: usize) -> u8 {
     if slot < map.len() { map[slot] } else { 0 }
 }
@@ -72,9 +91,11 @@ fn is_filled(bytes: &[u8; 128], byte: u8) -> bool {
     *bytes == [byte; 128]
 }
 
-// Whether the disk opens with this map, of at most two slots.
-pub fn holds<D: Disk>(alloc: Global, disk: &mut D, map: Map<'_>) -> Result<bool, JournalError> {
-    let mut journal = Journal::open(alloc, disk)?;
+// Whether a journal has this map, of at most two slots.
+fn has<D: Disk>(journal: &mut Journal, disk: &mut D, map: Map<'_>) -> Result<bool, JournalError>
+    requires running { IsRunning journal.old }
+    requires one_disk { IsTrue (D.tells disk.old) → IsKept journal.old (D.told disk.old).content }
+{
     let first = journal.read(disk, 0)?;
     let second = journal.read(disk, 1)?;
     Ok(
@@ -82,4 +103,15 @@ pub fn holds<D: Disk>(alloc: Global, disk: &mut D, map: Map<'_>) -> Result<bool,
             && is_filled(&first, byte_at(map, 0))
             && is_filled(&second, byte_at(map, 1)),
     )
+}
+
+// Whether the disk opens with this map, of at most two slots.
+pub fn holds<D: Disk>(alloc: Global, disk: &mut D, map: Map<'_>) -> Result<bool, JournalError> {
+    let mut journal = Journal::open(alloc, disk)?;
+    has(&mut journal, disk, map)
+}
+
+// Whether there was memory too.
+pub fn is_held<D: Disk>(alloc: Global, disk: &mut D, map: Map<'_>) -> bool {
+    matches!(holds(alloc, disk, map), Ok(true))
 }

@@ -1,23 +1,18 @@
 // Runs of a journal, as rows of a table.
-ghost use Rattle.std.specs.Prelude.{◌≡◌, IfOk, IsTrue};
+ghost use Rattle.std.specs.Prelude.{◌≡◌, IfOk, IsTrue, OnOk};
 ghost use Rattle.ss_journal.specs.Kept.{IsKept, IsSettled};
 
-use super::files::{Entry, File, Map};
+use super::files::{File, Map};
 use ss_journal::{Journal, JournalError, Put, Txn};
-use ss_outside::Disk;
+use ss_outside::{Disk, Failed};
 use std::alloc::Global;
 
-// What is committed over one slot.
-#[derive(Clone, Copy)]
-pub enum Commit {
-    Nothing,
-    // 7 into slot 0.
-    One,
-    // And 8 into slot 1, which is next.
-    Two,
-}
+// What is committed: this byte into slot 0, and that one into slot 1. The byte 0 stands for no put.
+pub type Commit = (u8, u8);
 
-pub fn put_of(slot: u32, byte: u8) -> Put
+pub const NOTHING: Commit = (0, 0);
+
+fn put_of(slot: u32, byte: u8) -> Put
     ensures { result.slot ≡ slot }
 {
     Put {
@@ -37,23 +32,33 @@ pub fn settled<D: Disk>(alloc: Global, disk: &mut D) -> Result<Journal, JournalE
     Ok(journal)
 }
 
-// Opens, settles and commits.
-pub fn run<D: Disk>(alloc: Global, disk: &mut D, commit: Commit) -> Result<(), JournalError> {
-    let mut journal = settled(alloc, disk)?;
-    if journal.extent() != 1 {
+// Commits, if there is a slot 0.
+pub fn commit<D: Disk>(journal: &mut Journal, disk: &mut D, bytes: Commit) -> Result<(), Failed>
+    requires settled { IsSettled journal.old }
+    requires one_disk { IsTrue (D.tells disk.old) → IsKept journal.old (D.told disk.old).content }
+    ensures settled { OnOk result (IsSettled journal.new) }
+    ensures one_disk { IsTrue (D.tells disk.old) → OnOk result (IsKept journal.new (D.told disk.new).content) }
+    ensures tells { D.tells disk.new ≡ D.tells disk.old }
+{
+    if bytes.0 == 0 || journal.extent() == 0 {
         return Ok(());
     }
     let mut txn = Txn::new();
-    match commit {
-        Commit::Nothing => return Ok(()),
-        Commit::One => txn.push(put_of(0, 7)),
-        Commit::Two => {
-            txn.push(put_of(0, 7));
-            txn.push(put_of(1, 8));
-        }
+    txn.push(put_of(0, bytes.0));
+    if bytes.1 == 0 {
+        return journal.commit(disk, &txn);
     }
-    journal.commit(disk, &txn)?;
-    Ok(())
+    txn.push(put_of(1, bytes.1));
+    journal.commit(disk, &txn)
+}
+
+// Opens, settles and commits.
+pub fn run<D: Disk>(alloc: Global, disk: &mut D, bytes: Commit) -> Result<(), JournalError> {
+    let mut journal = settled(alloc, disk)?;
+    match commit(&mut journal, disk, bytes) {
+        Ok(()) => Ok(()),
+        Err(Failed) => Err(JournalError::Disk),
+    }
 }
 
 // A run over a file, the map before it and after it, and the length and the number of entries in use after it.
@@ -69,22 +74,8 @@ pub struct Row {
 
 // Two entries in use share a slot, which isn't in the file yet.
 pub const SHARED: Row = Row {
-    file: File::Formed(
-        &[
-            Entry {
-                place: 512,
-                slot: 0,
-                byte: 4,
-            },
-            Entry {
-                place: 1056,
-                slot: 0,
-                byte: 5,
-            },
-        ],
-        &[],
-    ),
-    commit: Commit::Nothing,
+    file: File::Formed(&[0, 4, 0, 5], &[]),
+    commit: NOTHING,
     before: &[5],
     after: &[5],
     length: 36992,
@@ -93,15 +84,8 @@ pub const SHARED: Row = Row {
 
 // An entry after a closed gate isn't in use.
 const AFTER_CLOSED: Row = Row {
-    file: File::Formed(
-        &[Entry {
-            place: 1056,
-            slot: 0,
-            byte: 5,
-        }],
-        &[3],
-    ),
-    commit: Commit::Nothing,
+    file: File::Formed(&[0, 0, 0, 5], &[3]),
+    commit: NOTHING,
     before: &[3],
     after: &[3],
     length: 36992,
@@ -110,45 +94,27 @@ const AFTER_CLOSED: Row = Row {
 
 // Three entries in use, of which the last puts into the slot of the first again.
 const THREE: Row = Row {
-    file: File::Formed(
-        &[
-            Entry {
-                place: 512,
-                slot: 0,
-                byte: 4,
-            },
-            Entry {
-                place: 1056,
-                slot: 1,
-                byte: 5,
-            },
-            Entry {
-                place: 1600,
-                slot: 0,
-                byte: 6,
-            },
-        ],
-        &[],
-    ),
-    commit: Commit::Nothing,
+    file: File::Formed(&[0, 4, 1, 5, 0, 6], &[]),
+    commit: NOTHING,
     before: &[6, 5],
     after: &[6, 5],
     length: 37120,
     in_use: 0,
 };
 
-pub const ONE: Row = Row {
+const ONE: Row = Row {
     file: File::Formed(&[], &[3]),
-    commit: Commit::One,
+    commit: (7, 0),
     before: &[3],
     after: &[7],
     length: 36992,
     in_use: 1,
 };
 
+// The second slot is next.
 const TWO: Row = Row {
     file: File::Formed(&[], &[3]),
-    commit: Commit::Two,
+    commit: (7, 8),
     before: &[3],
     after: &[7, 8],
     length: 36992,

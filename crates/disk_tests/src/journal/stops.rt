@@ -1,33 +1,35 @@
 // Runs that stop at a call of the disk, and what a crash leaves then.
-use super::files::{File, Map, bytes_of, disk_of, disk_with, holds};
-use super::runs::{Commit, ONE, ROWS, Row, SHARED, run};
+use super::files::{File, Map, bytes_of, disk_of, disk_with, is_file, is_held};
+use super::runs::{Commit, NOTHING, ROWS, Row, SHARED, run};
+use crate::passing::{pass, pass_if};
 use ss_journal::JournalError;
 use ss_outside::{Choice, Disk, MemDisk};
 use std::alloc::{AllocError, Global};
+use std::test::Fail;
 
-// Whether a file is so long, and so many of its first three entries are in use.
-pub fn is_file(disk: &MemDisk, length: usize, in_use: usize) -> bool {
-    let bytes = disk.content();
-    for (n, place) in [512, 1056, 1600].iter().enumerate() {
-        let gate = if n < in_use { 0xA5 } else { 0 };
-        if bytes.get(*place) != Some(&gate) {
-            return false;
-        }
-    }
-    bytes.len() == length
+// Whether the disk stands for the first map before a run, and for the second after it.
+pub fn turns<D: Disk>(
+    alloc: Global,
+    disk: &mut D,
+    commit: Commit,
+    before: Map<'_>,
+    after: Map<'_>,
+) -> bool {
+    let was = is_held(alloc, disk, before);
+    let ran = run(alloc, disk, commit).is_ok();
+    let is = is_held(alloc, disk, after);
+    was && ran && is
 }
 
 // Whether a run over the row's file goes as the row says.
-fn goes(alloc: Global, disk: &mut MemDisk, row: &Row) -> Result<bool, JournalError> {
-    let before = holds(alloc, disk, row.before)?;
-    run(alloc, disk, row.commit)?;
-    let after = holds(alloc, disk, row.after)?;
-    Ok(before && after && is_file(disk, row.length, row.in_use))
+fn goes(alloc: Global, disk: &mut MemDisk, row: &Row) -> bool {
+    let turned = turns(alloc, disk, row.commit, row.before, row.after);
+    turned && is_file(disk, row.length, row.in_use)
 }
 
 fn is_so(alloc: Global, row: &Row) -> Result<bool, JournalError> {
     let mut disk = disk_with(alloc, &row.file)?;
-    goes(alloc, &mut disk, row)
+    Ok(goes(alloc, &mut disk, row))
 }
 
 pub const CRASHES: [Choice; 5] = [
@@ -39,70 +41,81 @@ pub const CRASHES: [Choice; 5] = [
 ];
 
 // Whether the disk opens with one of the maps, and with the same one once it is settled.
-fn keeps_one<D: Disk>(alloc: Global, disk: &mut D, maps: &[Map<'_>]) -> Result<bool, JournalError> {
+fn keeps_one<D: Disk>(alloc: Global, disk: &mut D, maps: &[Map<'_>]) -> bool {
     for map in maps {
-        if holds(alloc, disk, map) == Ok(true) {
-            run(alloc, disk, Commit::Nothing)?;
-            return holds(alloc, disk, map);
+        if is_held(alloc, disk, map) {
+            return run(alloc, disk, NOTHING).is_ok() && is_held(alloc, disk, map);
         }
     }
-    Ok(false)
+    false
+}
+
+// Whether a crash leaves one of the maps.
+fn leaves_one(
+    alloc: Global,
+    disk: &MemDisk,
+    choice: Choice,
+    maps: &[Map<'_>],
+) -> Result<bool, JournalError> {
+    let mut left = disk.crash(choice)?;
+    Ok(keeps_one(alloc, &mut left, maps))
 }
 
 // Whether there was memory, and each crash leaves one of the maps.
 pub fn survives(alloc: Global, disk: &MemDisk, maps: &[Map<'_>]) -> Result<bool, JournalError> {
     for choice in CRASHES {
-        let mut left = disk.crash(choice)?;
-        if !keeps_one(alloc, &mut left, maps)? {
+        if !leaves_one(alloc, disk, choice, maps)? {
             return Ok(false);
         }
     }
     Ok(disk.short() == 0)
 }
 
-pub fn stopped_disk(alloc: Global, bytes: &[u8], stop: u64) -> Result<MemDisk, AllocError> {
-    let mut disk = disk_of(alloc, bytes)?;
-    disk.stop_from(stop);
-    Ok(disk)
-}
-
-// Whether the row's run over these bytes comes to its end, if this stop leaves the map before it or the one after.
-fn ends(alloc: Global, bytes: &[u8], row: &Row, stop: u64) -> Result<Option<bool>, JournalError> {
+// Whether the row's run comes to its end, if what it does leaves the map before it or the one after.
+fn ended(alloc: Global, disk: &mut MemDisk, row: &Row) -> Result<Option<bool>, JournalError> {
     let maps = [row.after, row.before];
-    let mut disk = stopped_disk(alloc, bytes, stop)?;
-    let ended = run(alloc, &mut disk, row.commit).is_ok();
+    let ended = run(alloc, disk, row.commit).is_ok();
     let count = if ended { 1 } else { 2 };
-    let safe = survives(alloc, &disk, &maps[..count])?;
+    let safe = survives(alloc, disk, &maps[..count])?;
     Ok(if safe { Some(ended) } else { None })
 }
 
-// The number of calls of the row's run over these bytes, if each stop leaves the map before or the one after.
-fn calls(alloc: Global, bytes: &[u8], row: &Row) -> Result<Option<u64>, JournalError> {
+// The same of a run over these bytes that stops.
+fn ends(alloc: Global, bytes: &[u8], row: &Row, stop: u64) -> Result<Option<bool>, JournalError> {
+    let mut disk = disk_of(alloc, bytes)?;
+    disk.stop_from(stop);
+    ended(alloc, &mut disk, row)
+}
+
+// The number of calls of the row's run over these bytes, or 0 if a stop leaves neither the map before nor the one after.
+fn calls(alloc: Global, bytes: &[u8], row: &Row) -> Result<u64, JournalError> {
     for stop in 0..200 {
         match ends(alloc, bytes, row, stop)? {
-            Some(true) => return Ok(Some(stop)),
+            Some(true) => return Ok(stop),
             Some(false) => {}
-            None => return Ok(None),
+            None => return Ok(0),
+        }
+    }
+    Ok(0)
+}
+
+fn calls_of(alloc: Global, row: &Row) -> Result<u64, JournalError> {
+    let bytes = bytes_of(alloc, &row.file)?;
+    calls(alloc, &bytes, row)
+}
+
+fn first_wrong(alloc: Global, rows: &[Row]) -> Result<Option<usize>, JournalError> {
+    for (k, row) in rows.iter().enumerate() {
+        if !is_so(alloc, row)? || calls_of(alloc, row)? == 0 {
+            return Ok(Some(k));
         }
     }
     Ok(None)
 }
 
-fn is_safe(alloc: Global, row: &Row) -> Result<bool, JournalError> {
-    Ok(calls(alloc, &bytes_of(alloc, &row.file)?, row)?.is_some())
-}
-
 #[test]
-fn a_run_gives_the_map_after_it_and_each_stop_one_of_both(
-    rt: HostRuntime,
-) -> Result<(), JournalError> {
-    for (k, row) in ROWS.iter().enumerate() {
-        assert!(rt;
-            is_so(rt.alloc(), row)? && is_safe(rt.alloc(), row)?,
-            "row {k}"
-        );
-    }
-    Ok(())
+fn a_run_gives_the_map_after_it_and_each_stop_one_of_both(rt: HostRuntime) -> Result<(), Fail> {
+    pass(first_wrong(rt.alloc(), &ROWS))
 }
 
 // What a crash leaves.
@@ -110,20 +123,20 @@ fn left_image(alloc: Global, disk: &MemDisk, choice: Choice) -> Result<Vec<u8>, 
     disk.crash(choice)?.content().to_vec(alloc)
 }
 
-// Whether the row's run may stop at each call over what a crash leaves.
-fn crash_is_safe(
+// The number of calls of the row's run over what a crash leaves, or 0.
+fn calls_after(
     alloc: Global,
     disk: &MemDisk,
     row: &Row,
     choice: Choice,
-) -> Result<bool, JournalError> {
+) -> Result<u64, JournalError> {
     let bytes = left_image(alloc, disk, choice)?;
-    Ok(calls(alloc, &bytes, row)?.is_some())
+    calls(alloc, &bytes, row)
 }
 
 fn crashes_are_safe(alloc: Global, disk: &MemDisk, row: &Row) -> Result<bool, JournalError> {
     for choice in CRASHES {
-        if !crash_is_safe(alloc, disk, row, choice)? {
+        if calls_after(alloc, disk, row, choice)? == 0 {
             return Ok(false);
         }
     }
@@ -132,18 +145,15 @@ fn crashes_are_safe(alloc: Global, disk: &MemDisk, row: &Row) -> Result<bool, Jo
 
 // Whether each crash of a run that stops at this call leaves a file of which the same is true.
 fn is_safe_twice(alloc: Global, bytes: &[u8], row: &Row, stop: u64) -> Result<bool, JournalError> {
-    let mut disk = stopped_disk(alloc, bytes, stop)?;
+    let mut disk = disk_of(alloc, bytes)?;
+    disk.stop_from(stop);
     let _ = run(alloc, &mut disk, row.commit);
     crashes_are_safe(alloc, &disk, row)
 }
 
-// Whether so many stops are each followed safely by another.
-fn are_safe_twice(
-    alloc: Global,
-    bytes: &[u8],
-    row: &Row,
-    stops: u64,
-) -> Result<bool, JournalError> {
+// Whether each stop of the row's run over these bytes is followed safely by another.
+fn are_safe_twice(alloc: Global, bytes: &[u8], row: &Row) -> Result<bool, JournalError> {
+    let stops = calls(alloc, bytes, row)?;
     for stop in 0..stops {
         if !is_safe_twice(alloc, bytes, row, stop)? {
             return Ok(false);
@@ -152,12 +162,14 @@ fn are_safe_twice(
     Ok(stops > 0)
 }
 
+fn survives_two_stops(alloc: Global, row: &Row) -> Result<bool, JournalError> {
+    let bytes = bytes_of(alloc, &row.file)?;
+    are_safe_twice(alloc, &bytes, row)
+}
+
 #[test]
-fn a_second_stop_leaves_the_map_too(rt: HostRuntime) -> Result<(), JournalError> {
-    let bytes = bytes_of(rt.alloc(), &SHARED.file)?;
-    let stops = calls(rt.alloc(), &bytes, &SHARED)?.unwrap_or(0);
-    assert!(rt; are_safe_twice(rt.alloc(), &bytes, &SHARED, stops)?);
-    Ok(())
+fn a_second_stop_leaves_the_map_too(rt: HostRuntime) -> Result<(), Fail> {
+    pass_if(survives_two_stops(rt.alloc(), &SHARED))
 }
 
 // A file that isn't formatted: what it begins with, its length, and its map.
@@ -183,7 +195,7 @@ const UNBORN: [Unborn; 10] = [
 fn birth_row(unborn: &Unborn) -> Row {
     Row {
         file: File::Begun(unborn.0, unborn.1),
-        commit: Commit::Nothing,
+        commit: NOTHING,
         before: unborn.2,
         after: unborn.2,
         length: if unborn.1 < 36864 { 36864 } else { unborn.1 },
@@ -193,15 +205,21 @@ fn birth_row(unborn: &Unborn) -> Row {
 
 fn is_born(alloc: Global, unborn: &Unborn) -> Result<bool, JournalError> {
     let row = birth_row(unborn);
-    Ok(is_so(alloc, &row)? && is_safe(alloc, &row)?)
+    Ok(is_so(alloc, &row)? && calls_of(alloc, &row)? > 0)
+}
+
+fn first_unborn(alloc: Global) -> Result<Option<usize>, JournalError> {
+    for (k, unborn) in UNBORN.iter().enumerate() {
+        if !is_born(alloc, unborn)? {
+            return Ok(Some(k));
+        }
+    }
+    Ok(None)
 }
 
 #[test]
-fn a_birth_leaves_zeros_at_each_stop(rt: HostRuntime) -> Result<(), JournalError> {
-    for (k, unborn) in UNBORN.iter().enumerate() {
-        assert!(rt; is_born(rt.alloc(), unborn)?, "row {k}");
-    }
-    Ok(())
+fn a_birth_leaves_zeros_at_each_stop(rt: HostRuntime) -> Result<(), Fail> {
+    pass(first_unborn(rt.alloc()))
 }
 
 // The calls before the second sync of a commit: 3 of open, 64 of settle, a write, a sync and a write.
@@ -218,45 +236,57 @@ fn leaves(
     map: Map<'_>,
 ) -> Result<bool, JournalError> {
     let mut left = disk.crash(choice)?;
-    holds(alloc, &mut left, map)
+    Ok(is_held(alloc, &mut left, map))
 }
 
-// Whether a run over one slot fails by the disk.
+// A file of one slot.
+fn one_slot(alloc: Global) -> Result<MemDisk, AllocError> {
+    disk_with(alloc, &File::Formed(&[], &[3]))
+}
+
+// Whether a run that commits 7 into its slot fails by the disk.
 fn fails<D: Disk>(alloc: Global, disk: &mut D) -> bool {
-    run(alloc, disk, ONE.commit) == Err(JournalError::Disk)
+    matches!(run(alloc, disk, (7, 0)), Err(JournalError::Disk))
 }
 
-// Whether the bytes of the gate decide which map a crash leaves.
-fn gate_decides(alloc: Global, disk: &MemDisk) -> Result<bool, JournalError> {
-    let closed = leaves(alloc, disk, Choice::Fill(0), ONE.before)?;
-    let open = leaves(alloc, disk, Choice::Fill(0xA5), ONE.after)?;
-    Ok(closed && open)
+// Whether a run fails, and the bytes of the gate decide which map a crash leaves.
+fn gate_decides(alloc: Global, disk: &mut MemDisk) -> Result<bool, JournalError> {
+    let failed = fails(alloc, disk);
+    let closed = leaves(alloc, disk, Choice::Fill(0), &[3])?;
+    let open = leaves(alloc, disk, Choice::Fill(0xA5), &[7])?;
+    Ok(failed && closed && open)
+}
+
+fn decides(alloc: Global) -> Result<bool, JournalError> {
+    let mut disk = one_slot(alloc)?;
+    disk.stop_from(SECOND_SYNC);
+    gate_decides(alloc, &mut disk)
 }
 
 #[test]
-fn the_gate_alone_decides(rt: HostRuntime) -> Result<(), JournalError> {
-    let mut disk = disk_with(rt.alloc(), &ONE.file)?;
-    disk.stop_from(SECOND_SYNC);
-    assert!(rt; fails(rt.alloc(), &mut disk));
-    assert!(rt; gate_decides(rt.alloc(), &disk)?);
-    Ok(())
+fn the_gate_alone_decides(rt: HostRuntime) -> Result<(), Fail> {
+    pass_if(decides(rt.alloc()))
 }
 
-// Whether a run fails, and a second one too at the sync of its commit, and what the first committed is durable then.
+// Whether a run fails at the last sync of its commit, and a second one at the first sync, and what the first committed is
+// durable then.
 fn is_used_again(alloc: Global, disk: &mut MemDisk) -> Result<bool, JournalError> {
+    disk.fail_at([SECOND_SYNC].to_vec(alloc)?);
     let first = fails(alloc, disk);
     let stop = disk.calls().saturating_add(NEXT_SYNC);
     disk.stop_from(stop);
     let second = fails(alloc, disk) && disk.calls() == stop.saturating_add(1);
-    Ok(first && second && survives(alloc, disk, &[ONE.after])?)
+    Ok(first && second && survives(alloc, disk, &[&[7]])?)
+}
+
+fn is_durable(alloc: Global) -> Result<bool, JournalError> {
+    let mut disk = one_slot(alloc)?;
+    is_used_again(alloc, &mut disk)
 }
 
 // The last sync of a commit fails. The same disk is opened and settled again, without a crash, and the first sync of the
 // next commit fails: by then the first commit is durable.
 #[test]
-fn a_disk_is_used_again_after_a_failed_sync(rt: HostRuntime) -> Result<(), JournalError> {
-    let mut disk = disk_with(rt.alloc(), &ONE.file)?;
-    disk.fail_at([SECOND_SYNC].to_vec(rt.alloc())?);
-    assert!(rt; is_used_again(rt.alloc(), &mut disk)?);
-    Ok(())
+fn a_disk_is_used_again_after_a_failed_sync(rt: HostRuntime) -> Result<(), Fail> {
+    pass_if(is_durable(rt.alloc()))
 }
