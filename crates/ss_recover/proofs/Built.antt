@@ -1,5 +1,5 @@
 -- What a walk answers at its end, and at a record that it refuses.
-use Rattle.std.proofs.Common.{◌≡◌, ◌∙◌, ℕ, zero, suc, ◌+◌, ◌<◌, ◌≤◌, All, List, [], ◌∷◌, ◌++◌, map, filter, length, get_or, take, drop, Option, Some, None, Result, Err, refl, sym, ap, subst, arith, append-nil}
+use Rattle.std.proofs.Common.{◌≡◌, ◌∙◌, ℕ, zero, suc, ◌+◌, ◌<◌, ◌≤◌, All, List, [], ◌∷◌, ◌++◌, map, filter, length, get_or, take, drop, Option, Some, None, Result, Ok, Err, refl, sym, ap, subst, arith, append-nil}
 use Rattle.std.specs.Prelude.{slice_index}
 use Rattle.std.specs.List.{AllByRecursion, IsDistinct}
 use Rattle.std.specs.List.Sorted.{IsStrictlyIncreasing}
@@ -17,9 +17,8 @@ use Rattle.ss_model.specs.State.{Stream, live, names_of, numbers_of}
 use Rattle.ss_model.specs.declared.types.TheConstants.{MOST_RECORDS}
 use Rattle.ss_recover.specs.Held.{entries_of, window_record}
 use Rattle.ss_recover.specs.Order.{Rises, found_key}
-use Rattle.ss_recover.specs.Walk.{AnswersAs, AreBuilt, CannotClose, Closes, IsDone, IsLowestUnsound, IsReady, IsUsable, WalksAs, records_of}
+use Rattle.ss_recover.specs.Walk.{AnswersAs, AreBuilt, CannotClose, Closes, IsDone, IsLowestUnsound, IsReady, IsUsable, records_of}
 use Rattle.ss_recover.specs.declared.found.Found.{Found}
-use Rattle.ss_recover.specs.declared.parts.Parts.{Parts}
 use Rattle.ss_recover.specs.declared.parts.StreamParts.{StreamParts}
 use Rattle.ss_recover.specs.declared.walking.Open.{Open}
 use Rattle.ss_recover.specs.declared.walking.Walk.{Walk}
@@ -130,13 +129,22 @@ room walk stream all i holds is few =
     room-coming stream walk.done.items walk.names (take i all) (subst (λ o. HoldsAs o walk.done.items walk.names (take i all)) is holds)
     (omega (arith, few, length-take i all))
 
--- a record that is refused
-pub refuses-walk : (all : List Found) (takes : Type 0) (refuses : ℕ → Type 0) (answer : Result (Unit {0}) RecoverError) (result : Result Parts RecoverError) (e : RecoverError) →
-    AnswersAs takes refuses answer → answer ≡ Err e → result ≡ Err e → ((n : ℕ) → refuses n → IsLowestUnsound n (records_of all)) → WalksAs all result
-refuses-walk all takes refuses answer result e answers is gives lowest =
-    subst (WalksAs all) (sym gives) (go e (subst (AnswersAs takes refuses) is answers))
+-- what a walk answers says more
+pub answers-more : (takes takes' : Type 0) (refuses refuses' : ℕ → Type 0) (answer : Result (Unit {0}) RecoverError) → (takes → takes') →
+    ((n : ℕ) → refuses n → refuses' n) → AnswersAs takes refuses answer → AnswersAs takes' refuses' answer
+answers-more takes takes' refuses refuses' (Ok value) more lowest answers = more answers
+answers-more takes takes' refuses refuses' (Err (BadStream n)) more lowest answers = lowest n answers
+answers-more takes takes' refuses refuses' (Err OutOfMemory) more lowest answers = tt
+answers-more takes takes' refuses refuses' (Err (BadSlot n)) more lowest answers = answers
+answers-more takes takes' refuses refuses' (Err Disk) more lowest answers = answers
+
+-- a refusal is handed on
+pub answers-failed : (takes takes' : Type 0) (refuses refuses' : ℕ → Type 0) (answer result : Result (Unit {0}) RecoverError) (e : RecoverError) →
+    AnswersAs takes refuses answer → answer ≡ Err e → result ≡ Err e → ((n : ℕ) → refuses n → refuses' n) → AnswersAs takes' refuses' result
+answers-failed takes takes' refuses refuses' answer result e answers is gives lowest =
+    subst (AnswersAs takes' refuses') (sym gives) (go e (subst (AnswersAs takes refuses) is answers))
   where
-    go : (d : RecoverError) → AnswersAs takes refuses (Err d) → WalksAs all (Err d)
+    go : (d : RecoverError) → AnswersAs takes refuses (Err d) → AnswersAs takes' refuses' (Err d)
     go (BadStream n) refused = lowest n refused
     go OutOfMemory refused = tt
     go (BadSlot n) refused = refused

@@ -372,9 +372,19 @@ pub record IsLowestUnsound (number : ℕ) (records : List Record) : Type 0 where
   pub unsound : is_sound_in_order records number ≡ false
   pub lower : AllByRecursion (λ r. stream_of r < number → is_sound_in_order records (stream_of r) ≡ true) records
 
+-- no record has come yet
+pub record IsFront (walk : Walk) : Type 0 where
+  pub done : walk.done.items ≡ []
+  pub current : walk.current ≡ None
+  pub names : walk.names ≡ []
+
+-- these are all the streams that the records carry
+abbrev pub AreAllBuilt : List StreamParts → List Found → Type 0
+AreAllBuilt parts all = (streams : List Streams.Stream) × AreBuilt parts streams all
+
 -- what a walk over records in order answers
 abbrev pub WalksAs : List Found → Result Parts RecoverError → Type 0
-WalksAs all (Ok parts) = (streams : List Streams.Stream) × AreBuilt parts.streams.items streams all
+WalksAs all (Ok parts) = AreAllBuilt parts.streams.items all
 WalksAs all (Err (BadStream number)) = IsLowestUnsound number (records_of all)
 WalksAs all (Err OutOfMemory) = ⊤
 WalksAs all (Err (BadSlot n)) = ⊥

@@ -11,7 +11,7 @@ ghost use Rattle.ss_target.specs.Lengths.{has_target};
 ghost use Rattle.ss_model.specs.Marks.{later};
 ghost use Rattle.ss_model.specs.declared.types.TheConstants.{MOST_RECORDS};
 ghost use Rattle.ss_recover.specs.Order.{Rises, found_key, stream_of};
-ghost use Rattle.ss_recover.specs.Walk.{Tells, IsNew, Grows, IsAfter, IsInTime, IsReady, closing_at, finish_of, EndsLandmark, LacksValues, Begins, CanBegin, Adds, CanAdd, TakesWindow, IsNext, TakesNext, RefusesNext, is_open, Closes, CannotClose, Leaves, TakesFirst, RefusesFirst, TakesHere, RefusesHere, Takes, Refuses, AnswersAs, HasRoom, IsUsable, WalksAs};
+ghost use Rattle.ss_recover.specs.Walk.{Tells, IsNew, Grows, IsAfter, IsInTime, IsReady, closing_at, finish_of, EndsLandmark, LacksValues, Begins, CanBegin, Adds, CanAdd, TakesWindow, IsNext, TakesNext, RefusesNext, is_open, Closes, CannotClose, Leaves, TakesFirst, RefusesFirst, TakesHere, RefusesHere, Takes, Refuses, AnswersAs, HasRoom, IsUsable, WalksAs, IsFront, AreAllBuilt, IsLowestUnsound, records_of};
 ghost use Rattle.ss_recover.specs.declared.recover_error.RecoverError.TheVariants.{OutOfMemory};
 
 use crate::found::Found;
@@ -439,6 +439,25 @@ impl Walk {
             Err(RecoverError::BadStream { id })
         }
     }
+
+    // Takes the records, which come in the order of their streams, and then the last stream is done.
+    fn take_all<L: Ledger>(
+        &mut self,
+        alloc: Global,
+        all: &[Found],
+        steps: &mut Steps<L>,
+    ) -> Result<(), RecoverError>
+        requires front { IsFront self.old }
+        requires usable { All (λ f. IsUsable f.holds) all.now }
+        requires order { Rises found_key all.now }
+        requires few { length all.now ≤ MOST_RECORDS }
+        ensures { AnswersAs (AreAllBuilt self.new.done.items all.now) (λ n. IsLowestUnsound n (records_of all.now)) result }
+    {
+        for found in all {
+            self.take(alloc, found, steps)?;
+        }
+        self.close()
+    }
 }
 
 // The streams that some records carry, which come in the order of their streams.
@@ -459,9 +478,6 @@ pub fn streams_of<L: Ledger>(
         current: None,
         names: Catalog::new(alloc),
     };
-    for found in all {
-        walk.take(alloc, found, &mut steps)?;
-    }
-    walk.close()?;
+    walk.take_all(alloc, all, &mut steps)?;
     Ok(Parts { streams: walk.done })
 }
