@@ -25,8 +25,21 @@ use std::rt::{Clock, Env};
 const USAGE: &str =
     "usage: calls_bench all | journal [COMMITS | reads] | records [RECORDS | codec] | targets [time] | landmarks [VALUES]";
 
-// One more than the last number that calls have.
-const UNKNOWN: u32 = 4;
+// What the calls are of that are measured.
+#[derive(Clone, Copy)]
+enum Subject {
+    Journal,
+    Records,
+    Targets,
+    Landmarks,
+}
+
+const ALL: [Subject; 4] = [
+    Subject::Journal,
+    Subject::Records,
+    Subject::Targets,
+    Subject::Landmarks,
+];
 
 // How many commits, records or values a word asks for: 0 where it asks for none.
 fn count_of(word: &str, most: u32) -> u32
@@ -38,46 +51,45 @@ fn count_of(word: &str, most: u32) -> u32
     }
 }
 
-// The number of the calls that the word names.
-fn calls_of(word: &str) -> u32 {
+// The subject that a word names.
+fn subject_of(word: &str) -> Option<Subject> {
     match word {
-        "journal" => 0,
-        "records" => 1,
-        "targets" => 2,
-        "landmarks" => 3,
-        _ => UNKNOWN,
+        "journal" => Some(Subject::Journal),
+        "records" => Some(Subject::Records),
+        "targets" => Some(Subject::Targets),
+        "landmarks" => Some(Subject::Landmarks),
+        _ => None,
     }
 }
 
 // Prints what is the same each time. The exit status: 1 where the counts differ from the format's.
-fn show_one<R: AllocGlobal + Print>(rt: &R, calls: u32) -> Result<u8, JournalError> {
-    match calls {
-        0 => report::print_commits(rt),
-        1 => report::print_records(rt),
-        2 => Ok(report::print_targets(rt)),
-        _ => report::print_landmarks(rt),
+fn show<R: AllocGlobal + Print>(rt: &R, subject: Subject) -> Result<u8, JournalError> {
+    match subject {
+        Subject::Journal => report::print_commits(rt),
+        Subject::Records => report::print_records(rt),
+        Subject::Targets => Ok(report::print_targets(rt)),
+        Subject::Landmarks => report::print_landmarks(rt),
     }
 }
 
-// The same of some, and the greatest of their statuses.
-fn show_some<R: AllocGlobal + Print>(rt: &R, first: u32, end: u32) -> Result<u8, JournalError> {
+// The same of all, and the greatest of their statuses.
+fn show_all<R: AllocGlobal + Print>(rt: &R) -> Result<u8, JournalError> {
     let mut worst = 0;
-    for calls in first..end {
-        worst = worst.max(show_one(rt, calls)?);
+    for subject in ALL {
+        worst = worst.max(show(rt, subject)?);
     }
     Ok(worst)
 }
 
-// Prints what is the same each time. The exit status: 2 where these calls aren't known.
-fn show<R: AllocGlobal + Print>(rt: &R, word: &str) -> Result<u8, JournalError> {
-    let calls = calls_of(word);
-    if calls < UNKNOWN {
-        return show_some(rt, calls, calls + 1);
-    }
+// Prints what is the same each time. The exit status: 2 where the word is unknown.
+fn show_named<R: AllocGlobal + Print>(rt: &R, word: &str) -> Result<u8, JournalError> {
     if word == "all" {
-        return show_some(rt, 0, UNKNOWN);
+        return show_all(rt);
     }
-    Ok(2)
+    match subject_of(word) {
+        Some(subject) => show(rt, subject),
+        None => Ok(2),
+    }
 }
 
 // Prints the times of commits or of reads.
@@ -122,23 +134,23 @@ fn time_landmarks<R: AllocGlobal + Print + Clock>(rt: &R, word: &str) -> Result<
 // Prints times of the calls. The exit status: 2 where the words aren't known.
 fn time<R: AllocGlobal + Print + Clock>(
     rt: &R,
-    calls: u32,
+    subject: Option<Subject>,
     word: &str,
 ) -> Result<u8, JournalError> {
-    match calls {
-        0 => time_journal(rt, word),
-        1 => time_records(rt, word),
-        2 => Ok(time_targets(rt, word)),
-        3 => time_landmarks(rt, word),
-        _ => Ok(2),
+    match subject {
+        Some(Subject::Journal) => time_journal(rt, word),
+        Some(Subject::Records) => time_records(rt, word),
+        Some(Subject::Targets) => Ok(time_targets(rt, word)),
+        Some(Subject::Landmarks) => time_landmarks(rt, word),
+        None => Ok(2),
     }
 }
 
 // The exit status: 2 where the words aren't known.
 fn status_of<R: AllocGlobal + Print + Clock>(rt: &R, words: &[String]) -> Result<u8, JournalError> {
     match words {
-        [_, calls] => show(rt, calls.as_str()),
-        [_, calls, word] => time(rt, calls_of(calls.as_str()), word.as_str()),
+        [_, subject] => show_named(rt, subject.as_str()),
+        [_, subject, word] => time(rt, subject_of(subject.as_str()), word.as_str()),
         _ => Ok(2),
     }
 }
