@@ -2,6 +2,7 @@ pub mod SendLemmas
 pub mod SessionLemmas
 pub mod TakeLemmas
 pub mod AnswerLemmas
+pub mod RowLemmas
 pub mod HeldLemmas
 pub mod RunLemmas
 pub mod GenerateLemmas

@@ -31,7 +31,8 @@ use Rattle.ss_recover.specs.Order.{place_of}
 use Rattle.ss_recover.specs.Parts.{carried, carries, judged, least, lowest_bad_slot, lowest_bad_stream, records_in, stream_carried, streams_carried}
 use Rattle.ss_recover.proofs.InOrder.{IsPermutation-in_order, NoneFalls, NoneFalls-in_order, Rise, all-in_order, increasing-Rise}
 use Rattle.ss_recover.proofs.Lists.{all-kept, all-passing, all_both, all_weaker, map-map}
-use Rattle.ss_recover.proofs.Marks.{AreOf, AreOf-are_marks, length-marks_of, marks_of}
+use Rattle.ss_recover.proofs.Marks.{length-marks_of, marks_of}
+use Rattle.ss_recover.proofs.MarksSoFar.{AreOf, AreOf-are_marks}
 use Rattle.ss_recover.proofs.RecordCounts.{all-counted, of_number, sum_by-le_each, sum_by-of_number}
 use Rattle.ss_recover.proofs.SoundStreams.{IsNew, IsOnce, at, lower}
 use Rattle.ss_recover.proofs.ValidRecords.{CanStand, IsValid, all-created_by, all-numbers_created, all-window_of, few-records, valid-records}

@@ -3,6 +3,7 @@ pub mod Lists
 pub mod Permutations
 pub mod InOrder
 pub mod Marks
+pub mod MarksSoFar
 pub mod Occupied
 pub mod PutLemmas
 pub mod WholeSlots
@@ -26,6 +27,7 @@ pub mod CarriedStates
 pub mod Latest
 pub mod WalkCode
 pub mod Phases
+pub mod PhaseRecords
 pub mod WalkRecords
 pub mod WalkCurrent
 pub mod WalkClosed

@@ -33,7 +33,8 @@ use Rattle.ss_recover.specs.declared.walking.Open.{Open}
 use Rattle.ss_recover.specs.declared.walking.Walk.{Walk}
 use Rattle.ss_recover.proofs.InOrder.{Rise}
 use Rattle.ss_recover.proofs.Lists.{all_append, all_weaker}
-use Rattle.ss_recover.proofs.Phases.{IsEnded, ended-lacks, ended-landmarks, lacks-whole, marks-made, marks-whole, next-add, next-begin, next-whole, not-marks, with_more, with_next}
+use Rattle.ss_recover.proofs.Phases.{IsEnded, ended-lacks, ended-landmarks, lacks-whole, next-add, next-begin, next-whole, with_more, with_next}
+use Rattle.ss_recover.proofs.PhaseRecords.{marks-made, marks-whole, not-marks}
 use Rattle.ss_recover.proofs.SoundInOrder.{marks-apart, sound-below, unsound-back_free, unsound-back_marks, unsound-full, unsound-named, unsound-two_streams, unsound-window, unsound-without_stream}
 use Rattle.ss_recover.proofs.WalkCurrent.{PhaseAs, phase-ended}
 use Rattle.ss_recover.proofs.WalkLemmas.{AreNames}

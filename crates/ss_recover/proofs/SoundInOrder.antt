@@ -83,26 +83,48 @@ module _ (rs : List Record) (n : ℕ) where
   abbrev windows : List Window
   windows = filter_map (window_of n) rs
 
+  -- the conditions, in their order
+  abbrev is_one : Bool
+  is_one = has_one_record n (streams_created rs)
+
+  abbrev is_placed : Bool
+  is_placed = has_place n (streams_created rs)
+
+  abbrev is_newly_named : Bool
+  is_newly_named = has_new_name n (streams_created rs)
+
+  abbrev are_tiles : Bool
+  are_tiles = tile windows
+
+  abbrev do_rise : Bool
+  do_rise = times_rise windows
+
+  abbrev are_marked : Bool
+  are_marked = are_marks marks
+
+  abbrev all_lie_free : Bool
+  all_lie_free = list_all (lies_free (landmarks_made marks)) windows
+
   pub unsound-one : has_one_record n (streams_created rs) ≡ false → is_sound_in_order rs n ≡ false
-  unsound-one is = fails-1 (has_one_record n (streams_created rs)) (has_place n (streams_created rs)) (has_new_name n (streams_created rs)) (tile windows) (times_rise windows) (are_marks marks) (list_all (lies_free (landmarks_made marks)) windows) is
+  unsound-one is = fails-1 is_one is_placed is_newly_named are_tiles do_rise are_marked all_lie_free is
 
   pub unsound-place : has_place n (streams_created rs) ≡ false → is_sound_in_order rs n ≡ false
-  unsound-place is = fails-2 (has_one_record n (streams_created rs)) (has_place n (streams_created rs)) (has_new_name n (streams_created rs)) (tile windows) (times_rise windows) (are_marks marks) (list_all (lies_free (landmarks_made marks)) windows) is
+  unsound-place is = fails-2 is_one is_placed is_newly_named are_tiles do_rise are_marked all_lie_free is
 
   pub unsound-name : has_new_name n (streams_created rs) ≡ false → is_sound_in_order rs n ≡ false
-  unsound-name is = fails-3 (has_one_record n (streams_created rs)) (has_place n (streams_created rs)) (has_new_name n (streams_created rs)) (tile windows) (times_rise windows) (are_marks marks) (list_all (lies_free (landmarks_made marks)) windows) is
+  unsound-name is = fails-3 is_one is_placed is_newly_named are_tiles do_rise are_marked all_lie_free is
 
   pub unsound-tile : tile windows ≡ false → is_sound_in_order rs n ≡ false
-  unsound-tile is = fails-4 (has_one_record n (streams_created rs)) (has_place n (streams_created rs)) (has_new_name n (streams_created rs)) (tile windows) (times_rise windows) (are_marks marks) (list_all (lies_free (landmarks_made marks)) windows) is
+  unsound-tile is = fails-4 is_one is_placed is_newly_named are_tiles do_rise are_marked all_lie_free is
 
   pub unsound-times : times_rise windows ≡ false → is_sound_in_order rs n ≡ false
-  unsound-times is = fails-5 (has_one_record n (streams_created rs)) (has_place n (streams_created rs)) (has_new_name n (streams_created rs)) (tile windows) (times_rise windows) (are_marks marks) (list_all (lies_free (landmarks_made marks)) windows) is
+  unsound-times is = fails-5 is_one is_placed is_newly_named are_tiles do_rise are_marked all_lie_free is
 
   pub unsound-marks : are_marks marks ≡ false → is_sound_in_order rs n ≡ false
-  unsound-marks is = fails-6 (has_one_record n (streams_created rs)) (has_place n (streams_created rs)) (has_new_name n (streams_created rs)) (tile windows) (times_rise windows) (are_marks marks) (list_all (lies_free (landmarks_made marks)) windows) is
+  unsound-marks is = fails-6 is_one is_placed is_newly_named are_tiles do_rise are_marked all_lie_free is
 
   pub unsound-free : list_all (lies_free (landmarks_made marks)) windows ≡ false → is_sound_in_order rs n ≡ false
-  unsound-free is = fails-7 (has_one_record n (streams_created rs)) (has_place n (streams_created rs)) (has_new_name n (streams_created rs)) (tile windows) (times_rise windows) (are_marks marks) (list_all (lies_free (landmarks_made marks)) windows) is
+  unsound-free is = fails-7 is_one is_placed is_newly_named are_tiles do_rise are_marked all_lie_free is
 
 abbrev digit : Bool → ℕ
 digit b = cond b 1 0

@@ -24,7 +24,7 @@ use Rattle.ss_recover.specs.declared.found.Found.{Found}
 use Rattle.ss_recover.specs.declared.walking.Open.{Open}
 use Rattle.ss_recover.proofs.Marks.{marks_of}
 use Rattle.ss_recover.proofs.Permutations.{IsPermutation-turn}
-use Rattle.ss_recover.proofs.Phases.{ended-records}
+use Rattle.ss_recover.proofs.PhaseRecords.{ended-records}
 use Rattle.ss_recover.proofs.WalkCurrent.{IsCurrent, found_landmark, found_other, free-ended, head_found, is_landmark, phase-ended, slots_of}
 use Rattle.ss_recover.proofs.WalkRecords.{walked}
 

@@ -35,7 +35,8 @@ use Rattle.ss_recover.specs.declared.walking.Closing.{Closing}
 use Rattle.ss_recover.specs.declared.walking.Open.{Open}
 use Rattle.ss_recover.proofs.Latest.{latest_of-opened, latest_of-value}
 use Rattle.ss_recover.proofs.Lists.{all_push}
-use Rattle.ss_recover.proofs.Phases.{EndedAs, IsEnded, IsMarking, MarkingAs, add-marking, add-next, add-records, begin-marking, begin-next, begin-records, ended-ends, ends_at, found-last, marked-more, marking-ends, marks_so_far, still_open, with_more, with_next}
+use Rattle.ss_recover.proofs.Phases.{EndedAs, IsEnded, IsMarking, MarkingAs, add-marking, add-next, begin-marking, begin-next, ended-ends, ends_at, found-last, marking-ends, still_open, with_more, with_next}
+use Rattle.ss_recover.proofs.PhaseRecords.{add-records, begin-records, marked-more, marks_so_far}
 use Rattle.ss_recover.proofs.WalkLemmas.{AreWindows-push, newest_time-push, taken-push}
 
 -- whether a record that was found is that of a landmark, and the others

@@ -26,6 +26,7 @@ pub mod PlaceLemmas
 pub mod LiveCounts
 pub mod OpenMarks
 pub mod Marked
+pub mod MarkedCalls
 pub mod Named
 pub mod Refusals
 pub mod WindowsHeld

@@ -22,7 +22,7 @@ use Rattle.ss_model.specs.declared.types.Window.{Window}
 use Rattle.ss_model.proofs.MarkLemmas.{LiesFree-lies_free}
 use Rattle.ss_recover.specs.Held.{EndByLast, mark_slots}
 use Rattle.ss_recover.specs.declared.parts.StreamParts.{StreamParts}
-use Rattle.ss_recover.proofs.Marks.{latest_in-closed, latest_in-value, latest_of-last}
+use Rattle.ss_recover.proofs.MarksSoFar.{latest_in-closed, latest_in-value, latest_of-last}
 use Rattle.ss_store.specs.Kept.{is_early_held}
 use Rattle.ss_store.specs.Marking.{CanMark, IsInOpen, landmarks_after, mark_refusal, start_open, values_open}
 use Rattle.ss_store.specs.declared.marking.Mark.{Mark}

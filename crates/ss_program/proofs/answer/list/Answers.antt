@@ -3,7 +3,7 @@ use Rattle.ss_command.specs.declared.command.Command.TheVariants.{List as ListAl
 use Rattle.ss_store.proofs.FoundAlike.{streams-kept}
 use Rattle.ss_program.specs.Line.{command_brings, text_brought}
 use Rattle.ss_program.specs.Sent.{Sends}
-use Rattle.ss_program.proofs.AnswerLemmas.{list-head, list-rows}
+use Rattle.ss_program.proofs.RowLemmas.{list-head, list-rows}
 use Rattle.ss_program.proofs.answer.list.Goals as goal
 
 pub returns-in_err-send_reply-clause-sends : goal.returns-in_err-send_reply-clause-sends

@@ -7,7 +7,7 @@ use Rattle.ss_store.proofs.FoundAlike.{streams-kept}
 use Rattle.ss_store.proofs.KeptStates.{AllAgree-recovered}
 use Rattle.ss_program.specs.Answer.{SendsRows}
 use Rattle.ss_program.specs.Line.{stream_rows}
-use Rattle.ss_program.proofs.AnswerLemmas.{row-reply, rows-all, rows-less, rows-more}
+use Rattle.ss_program.proofs.RowLemmas.{row-reply, rows-all, rows-less, rows-more}
 use Rattle.ss_program.proofs.answer.send_streams.Goals as goal
 
 pub returns-in_err-send_reply-clause-sends : goal.returns-in_err-send_reply-clause-sends

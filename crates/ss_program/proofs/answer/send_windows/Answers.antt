@@ -6,7 +6,7 @@ use Rattle.ss_store.specs.Recover.{Stands}
 use Rattle.ss_store.proofs.FoundAlike.{windows-kept}
 use Rattle.ss_program.specs.Answer.{SendsRows}
 use Rattle.ss_program.specs.Line.{window_rows}
-use Rattle.ss_program.proofs.AnswerLemmas.{none-sent, rows-after, rows-cut, rows-end, rows-first, rows-step, rows-unread}
+use Rattle.ss_program.proofs.RowLemmas.{none-sent, rows-after, rows-cut, rows-end, rows-first, rows-step, rows-unread}
 use Rattle.ss_program.proofs.answer.send_windows.Goals as goal
 
 pub loop-next-init : goal.loop-next-init

@@ -11,7 +11,7 @@ use Rattle.ss_store.specs.Recover.{Stands}
 use Rattle.ss_program.specs.Answer.{IsOpen}
 use Rattle.ss_program.specs.Line.{History, window_rows}
 use Rattle.ss_program.specs.Sent.{appended}
-use Rattle.ss_program.proofs.AnswerLemmas.{rows_done, rows_left}
+use Rattle.ss_program.proofs.RowLemmas.{rows_done, rows_left}
 use Rattle.ss_program.proofs.answer.send_windows.Given as goal
 
 -- the rows of the windows before the next one were sent, and the disk was only read

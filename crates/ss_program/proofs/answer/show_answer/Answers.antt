@@ -2,7 +2,8 @@ use Rattle.std.proofs.Common.{◌≡◌, Err, sym, subst, rules}
 use Rattle.ss_command.specs.declared.command.Command.TheVariants.{Ask}
 use Rattle.ss_program.specs.Line.{command_brings, text_brought}
 use Rattle.ss_program.specs.Sent.{Sends}
-use Rattle.ss_program.proofs.AnswerLemmas.{AppendsLess-none, Sends-only, ask-some}
+use Rattle.ss_program.proofs.AnswerLemmas.{AppendsLess-none, ask-some}
+use Rattle.ss_program.proofs.RowLemmas.{Sends-only}
 use Rattle.ss_program.proofs.answer.show_answer.Goals as goal
 
 pub returns-in_err-reply-clause-sends : goal.returns-in_err-reply-clause-sends

@@ -5,7 +5,8 @@ use Rattle.ss_store.specs.Kept.{part_numbered}
 use Rattle.ss_store.proofs.FoundAlike.{found-kept, unknown-kept, windows-kept}
 use Rattle.ss_program.specs.Line.{command_brings, text_brought}
 use Rattle.ss_program.specs.Sent.{Sends}
-use Rattle.ss_program.proofs.AnswerLemmas.{CountsIfEnded-sink, IsShowStop-sink, windows-count, windows-head, windows-rows, windows-unknown}
+use Rattle.ss_program.proofs.AnswerLemmas.{CountsIfEnded-sink, IsShowStop-sink}
+use Rattle.ss_program.proofs.RowLemmas.{windows-count, windows-head, windows-rows, windows-unknown}
 use Rattle.ss_program.proofs.answer.show_windows.Goals as goal
 
 pub returns-in_default-clause-sends : goal.returns-in_default-clause-sends

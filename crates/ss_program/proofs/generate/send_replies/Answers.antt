@@ -1,7 +1,7 @@
 use Rattle.std.proofs.Common.{◌≡◌, Err, length, refl, sym, subst, rules, arith}
 use Rattle.std.proofs.lemmas.Option.{slice_get_read}
 use Rattle.ss_program.specs.Answer.{SendsRows}
-use Rattle.ss_program.proofs.AnswerLemmas.{rows-less}
+use Rattle.ss_program.proofs.RowLemmas.{rows-less}
 use Rattle.ss_program.proofs.generate.send_replies.Goals as goal
 
 pub returns-in_err-send_reply-clause-sends : goal.returns-in_err-send_reply-clause-sends

@@ -12,7 +12,8 @@ use Rattle.ss_store.specs.Held.{IsHeldIn}
 use Rattle.ss_store.specs.Marking.{IsMarkedOrNot, mark_record, with_mark}
 use Rattle.ss_store.specs.Slots.{AddsRecord, LiveSlotsGo, Replaces}
 use Rattle.ss_store.proofs.Calls.{Turns-failed}
-use Rattle.ss_store.proofs.Marked.{AreSomeLive-last, FitsMark-valid, IsAdding-is, IsLastSlot-is, IsMarked, IsMarked-marked_part, LiveSlotsGo-mark_added, LiveSlotsGo-mark_closed, Turns-added, Turns-closed, marked_part}
+use Rattle.ss_store.proofs.Marked.{IsMarked}
+use Rattle.ss_store.proofs.MarkedCalls.{AreSomeLive-last, FitsMark-valid, IsAdding-is, IsLastSlot-is, IsMarked-marked_part, LiveSlotsGo-mark_added, LiveSlotsGo-mark_closed, Turns-added, Turns-closed, marked_part}
 use Rattle.ss_store.proofs.OpenMarks.{AllEndBy-after}
 use Rattle.ss_store.proofs.marking.put_mark.Goals as goal
 use Rattle.ss_store.proofs.marking.put_mark.Goals.{in-Open+in_ok-add_record-in-Open, in-Close+in_ok-replace_record-in-Close}

@@ -9,7 +9,7 @@ use Rattle.ss_store.specs.Kept.{StoreIsKept, StoreState, of_part, refuses_held}
 use Rattle.ss_store.specs.Marking.{CanMark, IsInOpen, event_of}
 use Rattle.ss_store.proofs.Among.{others_of}
 use Rattle.ss_store.proofs.Appended.{AreWhole-IsSpared, IsSound-set, IsSpared, IsSpared-marks, SameButSpare-IsSpared, StepsState-marked, StoreIsKept-IsSpared, StoreIsKept-marked, held-marker, live-IsSpared, marking, part-read, said_of_set, tiles-IsSpared, whole-changed}
-use Rattle.ss_store.proofs.Marked.{CanBeSaid-mark, mark_refusal-same}
+use Rattle.ss_store.proofs.MarkedCalls.{CanBeSaid-mark, mark_refusal-same}
 use Rattle.ss_store.proofs.Refusals.{of_part-named}
 use Rattle.ss_store.proofs.Stepping.{StepsState-answers, StepsState-failed}
 use Rattle.ss_store.proofs.store.Store.mark.Goals as goal
