@@ -10,11 +10,11 @@ pub struct Counted<D> {
 }
 
 impl<D: Disk> Disk for Counted<D> {
-    ghost tells = { λ s. D.tells s.inner };
+    ghost tells = { λ s. (D.seen s.inner).tells };
 
-    ghost told = { λ s. D.told s.inner };
+    ghost told = { λ s. (D.seen s.inner).told };
 
-    ghost faults = { λ s. D.faults s.inner };
+    ghost faults = { λ s. (D.seen s.inner).faults };
 
     ghost knows_now = { λ s tells. D.knows_now s.inner tells };
 

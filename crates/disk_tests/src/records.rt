@@ -74,10 +74,10 @@ fn txn_of(step: Step, extent: u32) -> Option<Txn>
 
 fn take<D: Disk>(records: &mut Records, disk: &mut D, step: Step) -> Result<(), Failed>
     requires settled { IsSettled records.old.journal }
-    requires one_disk { IsTrue (D.tells disk.old) → AreKept records.old (D.told disk.old).content }
+    requires one_disk { IsTrue (D.seen disk.old).tells → AreKept records.old (D.seen disk.old).told.content }
     ensures settled { OnOk result (IsSettled records.new.journal) }
-    ensures one_disk { IsTrue (D.tells disk.old) → OnOk result (AreKept records.new (D.told disk.new).content) }
-    ensures tells { D.tells disk.new ≡ D.tells disk.old }
+    ensures one_disk { IsTrue (D.seen disk.old).tells → OnOk result (AreKept records.new (D.seen disk.new).told.content) }
+    ensures tells { (D.seen disk.new).tells ≡ (D.seen disk.old).tells }
 {
     match txn_of(step, records.extent()) {
         Some(txn) => records.apply(disk, &txn),
@@ -99,7 +99,7 @@ fn first_wrong_step<D: Disk>(
     disk: &mut D,
 ) -> Result<Option<usize>, JournalError>
     requires running { IsRunning records.old.journal }
-    requires one_disk { IsTrue (D.tells disk.old) → AreKept records.old (D.told disk.old).content }
+    requires one_disk { IsTrue (D.seen disk.old).tells → AreKept records.old (D.seen disk.old).told.content }
 {
     records.settle(disk)?;
     'steps: for (row, (step, left)) in STEPS.iter().enumerate() {
@@ -119,7 +119,7 @@ fn first_wrong<D: Disk>(alloc: Global, disk: &mut D) -> Result<Option<usize>, Jo
 // Whether what the steps left is seen, and a slot holds this byte.
 fn is_left<D: Disk>(records: &mut Records, disk: &mut D, slot: u8, byte: u8) -> bool
     requires running { IsRunning records.old.journal }
-    requires one_disk { IsTrue (D.tells disk.old) → AreKept records.old (D.told disk.old).content }
+    requires one_disk { IsTrue (D.seen disk.old).tells → AreKept records.old (D.seen disk.old).told.content }
 {
     match records.read(disk, u32::from(slot)) {
         Ok(bytes) => bytes[0] == byte && is_seen(records, (1, 4, 0)),

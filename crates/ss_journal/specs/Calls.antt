@@ -1,13 +1,18 @@
--- What the calls of a journal leave of the map, also in a crash, and which error they blame on the disk.
-use Rattle.std.specs.Prelude.{◌≡◌, ◌⊎◌, ℕ, ◌≤◌, List, Result, Ok, Err, OnOk, IsTrue}
-use Rattle.ss_outside.specs.Causes.{Rose}
-use Rattle.ss_outside.specs.Crash.{LeavesOnly}
+-- What the calls of a journal leave of the map, also in a crash, and what they make of the journal.
+use Rattle.std.specs.Prelude.{◌≡◌, ◌⊎◌, ℕ, ◌+◌, nat_lt, if◌then◌else◌, List, Result, Ok, Err, IfOk, OnOk, IsTrue}
+use Rattle.ss_outside.specs.Crash.{LeavesOnly, OnlyReads}
+use Rattle.ss_outside.specs.Verdict.{Verdict, fine, refused, no_memory, failed}
+use Rattle.ss_outside.specs.declared.source.Failed.{Failed}
 use Rattle.ss_outside.specs.Disk.{Told, NothingPending}
 use Rattle.ss_journal.specs.declared.put.Put.{Put}
 use Rattle.ss_journal.specs.declared.journal_error.JournalError.{JournalError}
 use Rattle.ss_journal.specs.declared.journal_error.JournalError.TheVariants.{Disk, NotAStore, BadEntry, OutOfMemory}
-use Rattle.ss_journal.specs.Format.{is_born}
+use Rattle.ss_journal.specs.declared.format.TheConstants.{ENTRIES}
+use Rattle.ss_journal.specs.Format.{is_unborn, is_born}
+use Rattle.ss_journal.specs.Kept.{JournalState, IsKept, IsSettled, OpensAs}
+use Rattle.ss_journal.specs.Puts.{extent_after}
 use Rattle.ss_journal.specs.Redo.{SlotMap, StandsFor, changed}
+use Rattle.ss_journal.specs.Writes.{SameRest}
 
 -- A call leaves the map as it is.
 pub record KeepsMap {T E : Type 0} (old new : Told) (result : Result T E) : Type 0 where
@@ -37,10 +42,49 @@ pub record MakesDurable {T E : Type 0} (old new : Told) (result : Result T E) : 
   pub any_moment : IsTrue (is_born old.content) → (found : SlotMap) → StandsFor old.content found
       → LeavesOnly old new (λ image. old.may_leave image ⊎ StandsFor image found)
 
--- Opening blames the disk only where its count of faults rose, and otherwise leaves the count.
-abbrev pub BlamesDisk : {T : Type 0} → ℕ → ℕ → Result T JournalError → Type 0
-BlamesDisk before now (Err Disk) = (before ≤ now) × Rose before now
-BlamesDisk before now (Err NotAStore) = now ≡ before
-BlamesDisk before now (Err (BadEntry n)) = now ≡ before
-BlamesDisk before now (Err OutOfMemory) = now ≡ before
-BlamesDisk before now (Ok value) = now ≡ before
+-- the verdict of opening a disk
+abbrev pub verdict_of_open : {T : Type 0} → Result T JournalError → Verdict
+verdict_of_open (Ok value) = fine
+verdict_of_open (Err Disk) = failed
+verdict_of_open (Err NotAStore) = refused
+verdict_of_open (Err (BadEntry n)) = refused
+verdict_of_open (Err OutOfMemory) = no_memory
+
+-- A disk is opened: the answer is the map of its content, or why it has none. Content and images stay.
+pub record Opens (result : Result JournalState JournalError) (old new : Told) : Type 0 where
+  pub opens : OpensAs old.content result
+  pub reads : OnlyReads old new
+
+-- A journal is settled, which is this then: the map stays, and whatever was pending is durable.
+pub record Settles (journal : JournalState) (result : Result Unit Failed) (old new : Told) : Type 0 where
+  pub kept : OnOk result (IsKept journal new.content)
+  pub keeps_map : KeepsMap old new result
+  pub makes_durable : MakesDurable old new result
+  -- a birth leaves what lies after the last slot that a file can have
+  pub rest : IsTrue (is_unborn old.content) → OnOk result (SameRest old.content new.content)
+
+-- A journal commits these puts, and is this then: the map changes by all of them, or not at all.
+pub record Commits (journal : JournalState) (puts : List Put) (result : Result Unit Failed) (old new : Told) : Type 0 where
+  pub kept : OnOk result (IsKept journal new.content)
+  pub changes_map : ChangesMap puts old new result
+
+-- A slot is read: its bytes are those of the map. Content and images stay.
+pub record ReadsSlot (slot : ℕ) (result : Result (List ℕ) Failed) (old new : Told) : Type 0 where
+  pub bytes : (found : SlotMap) → StandsFor old.content found → IfOk result (λ bytes. bytes ≡ found.bytes slot)
+  pub reads : OnlyReads old new
+
+-- What a settling makes of a journal, over every disk: no entry is in use.
+pub record HasSettled (old new : JournalState) : Type 0 where
+  pub settled : IsSettled new
+  pub extent : new.extent ≡ old.extent
+  pub in_use : new.in_use ≡ 0
+
+-- how many entries are in use after one more commit: where all were, they are settled before
+abbrev pub entries_after : ℕ → ℕ
+entries_after in_use = if nat_lt in_use ENTRIES then in_use + 1 else 1
+
+-- What a commit of these puts makes of a journal, over every disk.
+pub record HasCommitted (puts : List Put) (old new : JournalState) : Type 0 where
+  pub settled : IsSettled new
+  pub extent : new.extent ≡ extent_after puts old.extent
+  pub in_use : new.in_use ≡ entries_after old.in_use

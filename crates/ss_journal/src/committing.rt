@@ -1,6 +1,6 @@
 // How a transaction comes into an entry.
 ghost use Rattle.std.specs.Prelude.{◌≡◌, ◌+◌, ◌<◌, IsTrue, OnOk};
-ghost use Rattle.ss_outside.specs.Causes.{HasCause};
+ghost use Rattle.ss_outside.specs.Verdict.{HasCause};
 ghost use Rattle.ss_outside.specs.Disk.{overwrite, NothingPending};
 ghost use Rattle.ss_journal.specs.Gates.{entry_place};
 ghost use Rattle.ss_journal.specs.Puts.{IsTxn, AreWhole};
@@ -18,14 +18,14 @@ use ss_outside::{Disk, Failed};
 fn write_entry<D: Disk>(disk: &mut D, n: u32, txn: &Txn) -> Result<(), Failed>
     requires txn { IsTxn txn.now.items }
     requires number { n < ENTRIES }
-    requires ready { IsTrue (D.tells disk.old) → IsReady n txn.now.items (D.told disk.old).content }
-    ensures keeps_map { IsTrue (D.tells disk.old) → KeepsMap (D.told disk.old) (D.told disk.new) result }
-    ensures written { IsTrue (D.tells disk.old) → OnOk result
-        ((D.told disk.new).content ≡ overwrite (D.told disk.old).content (entry_place n + 1) (entry_body txn.now.items)) }
-    ensures durable { IsTrue (D.tells disk.old) → OnOk result (NothingPending (D.told disk.new)) }
+    requires ready { IsTrue (D.seen disk.old).tells → IsReady n txn.now.items (D.seen disk.old).told.content }
+    ensures keeps_map { IsTrue (D.seen disk.old).tells → KeepsMap (D.seen disk.old).told (D.seen disk.new).told result }
+    ensures written { IsTrue (D.seen disk.old).tells → OnOk result
+        ((D.seen disk.new).told.content ≡ overwrite (D.seen disk.old).told.content (entry_place n + 1) (entry_body txn.now.items)) }
+    ensures durable { IsTrue (D.seen disk.old).tells → OnOk result (NothingPending (D.seen disk.new).told) }
     ensures whole { AreWhole txn.now.items }
-    ensures tells { D.tells disk.new ≡ D.tells disk.old }
-    ensures cause { HasCause (D.faults disk.old) (D.faults disk.new) result }
+    ensures tells { (D.seen disk.new).tells ≡ (D.seen disk.old).tells }
+    ensures cause { HasCause (D.seen disk.old).faults (D.seen disk.new).faults result }
 {
     let entry = entry_of(txn);
     write_through(disk, entry_place(n) + 1, &entry[1..])
@@ -35,12 +35,12 @@ fn write_entry<D: Disk>(disk: &mut D, n: u32, txn: &Txn) -> Result<(), Failed>
 pub fn add_entry<D: Disk>(disk: &mut D, n: u32, txn: &Txn) -> Result<(), Failed>
     requires txn { IsTxn txn.now.items }
     requires number { n < ENTRIES }
-    requires ready { IsTrue (D.tells disk.old) → IsReady n txn.now.items (D.told disk.old).content }
-    ensures changes_map { IsTrue (D.tells disk.old) → ChangesMap txn.now.items (D.told disk.old) (D.told disk.new) result }
-    ensures added { IsTrue (D.tells disk.old)
-        → OnOk result (AddsEntry n txn.now.items (D.told disk.old).content (D.told disk.new).content) }
-    ensures tells { D.tells disk.new ≡ D.tells disk.old }
-    ensures cause { HasCause (D.faults disk.old) (D.faults disk.new) result }
+    requires ready { IsTrue (D.seen disk.old).tells → IsReady n txn.now.items (D.seen disk.old).told.content }
+    ensures changes_map { IsTrue (D.seen disk.old).tells → ChangesMap txn.now.items (D.seen disk.old).told (D.seen disk.new).told result }
+    ensures added { IsTrue (D.seen disk.old).tells
+        → OnOk result (AddsEntry n txn.now.items (D.seen disk.old).told.content (D.seen disk.new).told.content) }
+    ensures tells { (D.seen disk.new).tells ≡ (D.seen disk.old).tells }
+    ensures cause { HasCause (D.seen disk.old).faults (D.seen disk.new).faults result }
 {
     write_entry(disk, n, txn)?;
     write_through(disk, entry_place(n), &[GATE_OPEN])

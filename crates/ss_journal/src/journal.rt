@@ -38,25 +38,19 @@ impl Model for Journal {
 
 impl Journal {
     ghost use Rattle.std.specs.Prelude.{◌≡◌, ◌≤◌, ◌<◌, IsTrue, IfOk, OnOk, OnErr};
-    ghost use Rattle.ss_outside.specs.Causes.{HasCause};
-    ghost use Rattle.ss_outside.specs.Crash.{OnlyReads};
-    ghost use Rattle.ss_journal.specs.Puts.{extent_after, slots_fit, IsTxn};
-    ghost use Rattle.ss_journal.specs.Redo.{SlotMap, StandsFor, zeros};
-    ghost use Rattle.ss_journal.specs.Kept.{IsKept, IsRunning, IsSettled, HasStopped, OpensAs};
-    ghost use Rattle.ss_journal.specs.Calls.{KeepsMap, MakesDurable, ChangesMap, BlamesDisk};
-    ghost use Rattle.ss_journal.specs.Format.{is_unborn};
-    ghost use Rattle.ss_journal.specs.Writes.{SameRest};
+    ghost use Rattle.ss_outside.specs.Disk.{OfContent};
+    ghost use Rattle.ss_outside.specs.Step.{Step};
+    ghost use Rattle.ss_outside.specs.Verdict.{verdict, HasCause};
+    ghost use Rattle.ss_journal.specs.Puts.{slots_fit, IsTxn};
+    ghost use Rattle.ss_journal.specs.Redo.{zeros};
+    ghost use Rattle.ss_journal.specs.Kept.{IsKept, IsRunning, IsSettled, HasStopped};
+    ghost use Rattle.ss_journal.specs.Calls.{Commits, HasCommitted, HasSettled, KeepsMap, Opens, ReadsSlot, Settles, verdict_of_open};
 
     /// Opens a disk, formatted or not. It reads the entries in use and writes nothing.
     pub fn open<D: Disk>(alloc: Global, disk: &mut D) -> Result<Journal, JournalError>
-        // The map of the content, or why it has none.
-        ensures map { IsTrue (D.tells disk.old) → OpensAs (D.told disk.old).content result }
-        ensures running { IfOk result (λ journal. IsRunning journal) }
-        ensures extent { IfOk result (λ journal. journal.extent ≤ MOST_SLOTS) }
-        // The content and the images are those from before.
-        ensures reads { IsTrue (D.tells disk.old) → OnlyReads (D.told disk.old) (D.told disk.new) }
-        ensures tells { D.tells disk.new ≡ D.tells disk.old }
-        ensures cause { BlamesDisk (D.faults disk.old) (D.faults disk.new) result }
+        // The map of the content, or why it has none. Nothing is written.
+        ensures opens { Step (verdict_of_open result) (D.seen disk.old) (D.seen disk.new) (Opens result) }
+        ensures running { IfOk result (λ journal. IsRunning journal × (journal.extent ≤ MOST_SLOTS)) }
     {
         let head = read_head(disk)?;
         let slots = slots_in(head.length);
@@ -92,20 +86,11 @@ impl Journal {
     /// entries in use into their slots and closes their gates. It leaves the map as it is, also in a crash.
     pub fn settle<D: Disk>(&mut self, disk: &mut D) -> Result<(), Failed>
         requires running { IsRunning self.old }
-        requires one_disk { IsTrue (D.tells disk.old) → IsKept self.old (D.told disk.old).content }
-        ensures one_disk { IsTrue (D.tells disk.old) → OnOk result (IsKept self.new (D.told disk.new).content) }
-        ensures settled { OnOk result (IsSettled self.new) }
-        ensures extent { OnOk result (self.new.extent ≡ self.old.extent) }
-        // The map stays, also in a crash at any moment of the call.
-        ensures keeps_map { IsTrue (D.tells disk.old) → KeepsMap (D.told disk.old) (D.told disk.new) result }
-        // Whatever is pending at the call: nothing is at Ok, and from the first sync on each image has the map of the content.
-        ensures makes_durable { IsTrue (D.tells disk.old) → MakesDurable (D.told disk.old) (D.told disk.new) result }
-        // A birth leaves what lies after the last slot that a file can have.
-        ensures rest { IsTrue (D.tells disk.old) → IsTrue (is_unborn (D.told disk.old).content)
-            → OnOk result (SameRest (D.told disk.old).content (D.told disk.new).content) }
+        requires one_disk { OfContent (D.seen disk.old) (IsKept self.old) }
+        // The map stays, also in a crash at any moment of the call, and whatever is pending is made durable.
+        ensures settles { Step (verdict result) (D.seen disk.old) (D.seen disk.new) (Settles self.new result) }
+        ensures settled { OnOk result (HasSettled self.old self.new) }
         ensures stopped { OnErr result (HasStopped self.new) }
-        ensures tells { D.tells disk.new ≡ D.tells disk.old }
-        ensures cause { HasCause (D.faults disk.old) (D.faults disk.new) result }
     {
         let phase = self.phase;
         self.phase = Phase::Stopped;
@@ -126,16 +111,11 @@ impl Journal {
     pub fn read<D: Disk>(&mut self, disk: &mut D, slot: u32) -> Result<[u8; SLOT_SIZE], Failed>
         requires running { IsRunning self.old }
         requires slot { slot < MOST_SLOTS }
-        requires one_disk { IsTrue (D.tells disk.old) → IsKept self.old (D.told disk.old).content }
-        ensures bytes { IsTrue (D.tells disk.old) → (found : SlotMap) → StandsFor (D.told disk.old).content found
-            → IfOk result (λ bytes. bytes ≡ found.bytes slot) }
+        requires one_disk { OfContent (D.seen disk.old) (IsKept self.old) }
+        ensures reads { Step (verdict result) (D.seen disk.old) (D.seen disk.new) (ReadsSlot slot result) }
         ensures unused { self.old.extent ≤ slot → IfOk result (λ bytes. bytes ≡ zeros) }
         ensures journal { OnOk result (self.new ≡ self.old) }
         ensures stopped { OnErr result (HasStopped self.new) }
-        // The content and the images are those from before.
-        ensures reads { IsTrue (D.tells disk.old) → OnlyReads (D.told disk.old) (D.told disk.new) }
-        ensures tells { D.tells disk.new ≡ D.tells disk.old }
-        ensures cause { HasCause (D.faults disk.old) (D.faults disk.new) result }
     {
         if self.phase == Phase::Unborn || slot >= self.extent {
             return Ok([0; SLOT_SIZE]);
@@ -155,15 +135,15 @@ impl Journal {
     // Where every entry is in use, brings them into their slots and closes their gates.
     fn make_room<D: Disk>(&mut self, disk: &mut D) -> Result<(), Failed>
         requires settled { IsSettled self.old }
-        requires one_disk { IsTrue (D.tells disk.old) → IsKept self.old (D.told disk.old).content }
-        ensures one_disk { IsTrue (D.tells disk.old) → OnOk result (IsKept self.new (D.told disk.new).content) }
+        requires one_disk { IsTrue (D.seen disk.old).tells → IsKept self.old (D.seen disk.old).told.content }
+        ensures one_disk { IsTrue (D.seen disk.old).tells → OnOk result (IsKept self.new (D.seen disk.new).told.content) }
         ensures settled { OnOk result (IsSettled self.new) }
         ensures room { OnOk result (self.new.in_use < ENTRIES) }
         ensures extent { OnOk result (self.new.extent ≡ self.old.extent) }
-        ensures keeps_map { IsTrue (D.tells disk.old) → KeepsMap (D.told disk.old) (D.told disk.new) result }
+        ensures keeps_map { IsTrue (D.seen disk.old).tells → KeepsMap (D.seen disk.old).told (D.seen disk.new).told result }
         ensures stopped { OnErr result (HasStopped self.new) }
-        ensures tells { D.tells disk.new ≡ D.tells disk.old }
-        ensures cause { HasCause (D.faults disk.old) (D.faults disk.new) result }
+        ensures tells { (D.seen disk.new).tells ≡ (D.seen disk.old).tells }
+        ensures cause { HasCause (D.seen disk.old).faults (D.seen disk.new).faults result }
     {
         if self.in_use < ENTRIES {
             return Ok(());
@@ -183,15 +163,12 @@ impl Journal {
         requires txn { IsTxn txn.now.items }
         // Each slot in order is at most the extent so far.
         requires fit { IsTrue (slots_fit txn.now.items self.old.extent) }
-        requires one_disk { IsTrue (D.tells disk.old) → IsKept self.old (D.told disk.old).content }
-        ensures one_disk { IsTrue (D.tells disk.old) → OnOk result (IsKept self.new (D.told disk.new).content) }
-        ensures settled { OnOk result (IsSettled self.new) }
-        ensures extent { OnOk result (self.new.extent ≡ extent_after txn.now.items self.old.extent) }
+        requires one_disk { OfContent (D.seen disk.old) (IsKept self.old) }
         // All of the puts or none, also in a crash at any moment of the call.
-        ensures changes_map { IsTrue (D.tells disk.old) → ChangesMap txn.now.items (D.told disk.old) (D.told disk.new) result }
+        ensures commits { Step (verdict result) (D.seen disk.old) (D.seen disk.new) (Commits self.new txn.now.items result) }
+        // One entry more is in use; where all were, they are settled before.
+        ensures committed { OnOk result (HasCommitted txn.now.items self.old self.new) }
         ensures stopped { OnErr result (HasStopped self.new) }
-        ensures tells { D.tells disk.new ≡ D.tells disk.old }
-        ensures cause { HasCause (D.faults disk.old) (D.faults disk.new) result }
     {
         self.make_room(disk)?;
         self.phase = Phase::Stopped;

@@ -1,6 +1,6 @@
 // How the entries of a formatted file come into their slots, and how their gates close.
 ghost use Rattle.std.specs.Prelude.{◌≡◌, ◌≤◌, ◌<◌, [], ◌∷◌, length, IsTrue, OnOk};
-ghost use Rattle.ss_outside.specs.Causes.{HasCause};
+ghost use Rattle.ss_outside.specs.Verdict.{HasCause};
 ghost use Rattle.ss_outside.specs.Disk.{NothingPending};
 ghost use Rattle.ss_journal.specs.Gates.{entry_place, IsClosed, ClosedFrom, ClosesGate};
 ghost use Rattle.ss_journal.specs.Format.{is_born};
@@ -18,13 +18,13 @@ pub fn apply<D: Disk>(disk: &mut D, puts: &[Put]) -> Result<(), Failed>
     // A write to a closed gate may open it in a crash.
     requires some { 0 < length puts.now }
     requires slots { AreSlots puts.now }
-    requires born { IsTrue (D.tells disk.old) → IsTrue (is_born (D.told disk.old).content) }
-    requires in_use { IsTrue (D.tells disk.old) → InUse puts.now (D.told disk.old).content }
-    ensures keeps_map { IsTrue (D.tells disk.old) → KeepsMap (D.told disk.old) (D.told disk.new) result }
-    ensures closed { IsTrue (D.tells disk.old) → OnOk result (IsTrue (is_born (D.told disk.new).content)
-        × IsClosed 0 (D.told disk.new).content) }
-    ensures tells { D.tells disk.new ≡ D.tells disk.old }
-    ensures cause { HasCause (D.faults disk.old) (D.faults disk.new) result }
+    requires born { IsTrue (D.seen disk.old).tells → IsTrue (is_born (D.seen disk.old).told.content) }
+    requires in_use { IsTrue (D.seen disk.old).tells → InUse puts.now (D.seen disk.old).told.content }
+    ensures keeps_map { IsTrue (D.seen disk.old).tells → KeepsMap (D.seen disk.old).told (D.seen disk.new).told result }
+    ensures closed { IsTrue (D.seen disk.old).tells → OnOk result (IsTrue (is_born (D.seen disk.new).told.content)
+        × IsClosed 0 (D.seen disk.new).told.content) }
+    ensures tells { (D.seen disk.new).tells ≡ (D.seen disk.old).tells }
+    ensures cause { HasCause (D.seen disk.old).faults (D.seen disk.new).faults result }
 {
     write_slots(disk, puts)?;
     write_through(disk, FIRST_ENTRY, &[0])
@@ -33,13 +33,13 @@ pub fn apply<D: Disk>(disk: &mut D, puts: &[Put]) -> Result<(), Failed>
 // The same where the open prefix may be empty.
 fn apply_any<D: Disk>(disk: &mut D, puts: &[Put]) -> Result<(), Failed>
     requires slots { AreSlots puts.now }
-    requires born { IsTrue (D.tells disk.old) → IsTrue (is_born (D.told disk.old).content) }
-    requires in_use { IsTrue (D.tells disk.old) → InUse puts.now (D.told disk.old).content }
-    ensures keeps_map { IsTrue (D.tells disk.old) → KeepsMap (D.told disk.old) (D.told disk.new) result }
-    ensures closed { IsTrue (D.tells disk.old)
-        → OnOk result (IsTrue (is_born (D.told disk.new).content) × IsClosed 0 (D.told disk.new).content) }
-    ensures tells { D.tells disk.new ≡ D.tells disk.old }
-    ensures cause { HasCause (D.faults disk.old) (D.faults disk.new) result }
+    requires born { IsTrue (D.seen disk.old).tells → IsTrue (is_born (D.seen disk.old).told.content) }
+    requires in_use { IsTrue (D.seen disk.old).tells → InUse puts.now (D.seen disk.old).told.content }
+    ensures keeps_map { IsTrue (D.seen disk.old).tells → KeepsMap (D.seen disk.old).told (D.seen disk.new).told result }
+    ensures closed { IsTrue (D.seen disk.old).tells
+        → OnOk result (IsTrue (is_born (D.seen disk.new).told.content) × IsClosed 0 (D.seen disk.new).told.content) }
+    ensures tells { (D.seen disk.new).tells ≡ (D.seen disk.old).tells }
+    ensures cause { HasCause (D.seen disk.old).faults (D.seen disk.new).faults result }
 {
     if puts.is_empty() {
         return Ok(());
@@ -50,11 +50,11 @@ fn apply_any<D: Disk>(disk: &mut D, puts: &[Put]) -> Result<(), Failed>
 // Closes the gate of an entry if it is open, and doesn't sync. Tells whether it was.
 fn close_gate<D: Disk>(disk: &mut D, n: u32) -> Result<bool, Failed>
     requires number { n < ENTRIES }
-    requires long { IsTrue (D.tells disk.old) → FIRST_SLOT ≤ length (D.told disk.old).content }
-    ensures gate { IsTrue (D.tells disk.old) → ClosesGate n (D.told disk.old) (D.told disk.new) result }
-    ensures tears { IsTrue (D.tells disk.old) → Tears ((entry_place n, 1) ∷ []) (D.told disk.old) (D.told disk.new) }
-    ensures tells { D.tells disk.new ≡ D.tells disk.old }
-    ensures cause { HasCause (D.faults disk.old) (D.faults disk.new) result }
+    requires long { IsTrue (D.seen disk.old).tells → FIRST_SLOT ≤ length (D.seen disk.old).told.content }
+    ensures gate { IsTrue (D.seen disk.old).tells → ClosesGate n (D.seen disk.old).told (D.seen disk.new).told result }
+    ensures tears { IsTrue (D.seen disk.old).tells → Tears ((entry_place n, 1) ∷ []) (D.seen disk.old).told (D.seen disk.new).told }
+    ensures tells { (D.seen disk.new).tells ≡ (D.seen disk.old).tells }
+    ensures cause { HasCause (D.seen disk.old).faults (D.seen disk.new).faults result }
 {
     let place = entry_place(n);
     let open = read_byte(disk, place)? == GATE_OPEN;
@@ -66,13 +66,13 @@ fn close_gate<D: Disk>(disk: &mut D, n: u32) -> Result<bool, Failed>
 
 // Closes every gate that is open after the first, which is closed. So none of their entries is in use.
 fn close_others<D: Disk>(disk: &mut D) -> Result<(), Failed>
-    requires { IsTrue (D.tells disk.old)
-        → IsTrue (is_born (D.told disk.old).content) × IsClosed 0 (D.told disk.old).content }
-    ensures keeps_map { IsTrue (D.tells disk.old) → KeepsMap (D.told disk.old) (D.told disk.new) result }
-    ensures closed { IsTrue (D.tells disk.old)
-        → OnOk result (IsTrue (is_born (D.told disk.new).content) × ClosedFrom 0 (D.told disk.new).content) }
-    ensures tells { D.tells disk.new ≡ D.tells disk.old }
-    ensures cause { HasCause (D.faults disk.old) (D.faults disk.new) result }
+    requires { IsTrue (D.seen disk.old).tells
+        → IsTrue (is_born (D.seen disk.old).told.content) × IsClosed 0 (D.seen disk.old).told.content }
+    ensures keeps_map { IsTrue (D.seen disk.old).tells → KeepsMap (D.seen disk.old).told (D.seen disk.new).told result }
+    ensures closed { IsTrue (D.seen disk.old).tells
+        → OnOk result (IsTrue (is_born (D.seen disk.new).told.content) × ClosedFrom 0 (D.seen disk.new).told.content) }
+    ensures tells { (D.seen disk.new).tells ≡ (D.seen disk.old).tells }
+    ensures cause { HasCause (D.seen disk.old).faults (D.seen disk.new).faults result }
 {
     let mut any = false;
     for n in 1..ENTRIES {
@@ -89,13 +89,13 @@ fn close_others<D: Disk>(disk: &mut D) -> Result<(), Failed>
 // Brings the entries of a formatted file into their slots, and closes all gates.
 pub fn settle_entries<D: Disk>(disk: &mut D, puts: &[Put]) -> Result<(), Failed>
     requires slots { AreSlots puts.now }
-    requires born { IsTrue (D.tells disk.old) → IsTrue (is_born (D.told disk.old).content) }
-    requires in_use { IsTrue (D.tells disk.old) → InUse puts.now (D.told disk.old).content }
-    ensures keeps_map { IsTrue (D.tells disk.old) → KeepsMap (D.told disk.old) (D.told disk.new) result }
-    ensures closed { IsTrue (D.tells disk.old)
-        → OnOk result (IsTrue (is_born (D.told disk.new).content) × ClosedFrom 0 (D.told disk.new).content) }
-    ensures tells { D.tells disk.new ≡ D.tells disk.old }
-    ensures cause { HasCause (D.faults disk.old) (D.faults disk.new) result }
+    requires born { IsTrue (D.seen disk.old).tells → IsTrue (is_born (D.seen disk.old).told.content) }
+    requires in_use { IsTrue (D.seen disk.old).tells → InUse puts.now (D.seen disk.old).told.content }
+    ensures keeps_map { IsTrue (D.seen disk.old).tells → KeepsMap (D.seen disk.old).told (D.seen disk.new).told result }
+    ensures closed { IsTrue (D.seen disk.old).tells
+        → OnOk result (IsTrue (is_born (D.seen disk.new).told.content) × ClosedFrom 0 (D.seen disk.new).told.content) }
+    ensures tells { (D.seen disk.new).tells ≡ (D.seen disk.old).tells }
+    ensures cause { HasCause (D.seen disk.old).faults (D.seen disk.new).faults result }
 {
     apply_any(disk, puts)?;
     close_others(disk)
@@ -104,14 +104,14 @@ pub fn settle_entries<D: Disk>(disk: &mut D, puts: &[Put]) -> Result<(), Failed>
 // Makes what is pending durable, brings the entries in use into their slots, and closes all gates.
 pub fn settle_formed<D: Disk>(disk: &mut D, puts: &[Put]) -> Result<(), Failed>
     requires slots { AreSlots puts.now }
-    requires born { IsTrue (D.tells disk.old) → IsTrue (is_born (D.told disk.old).content) }
-    requires in_use { IsTrue (D.tells disk.old) → InUse puts.now (D.told disk.old).content }
-    ensures keeps_map { IsTrue (D.tells disk.old) → KeepsMap (D.told disk.old) (D.told disk.new) result }
-    ensures makes_durable { IsTrue (D.tells disk.old) → MakesDurable (D.told disk.old) (D.told disk.new) result }
-    ensures closed { IsTrue (D.tells disk.old)
-        → OnOk result (IsTrue (is_born (D.told disk.new).content) × ClosedFrom 0 (D.told disk.new).content) }
-    ensures tells { D.tells disk.new ≡ D.tells disk.old }
-    ensures cause { HasCause (D.faults disk.old) (D.faults disk.new) result }
+    requires born { IsTrue (D.seen disk.old).tells → IsTrue (is_born (D.seen disk.old).told.content) }
+    requires in_use { IsTrue (D.seen disk.old).tells → InUse puts.now (D.seen disk.old).told.content }
+    ensures keeps_map { IsTrue (D.seen disk.old).tells → KeepsMap (D.seen disk.old).told (D.seen disk.new).told result }
+    ensures makes_durable { IsTrue (D.seen disk.old).tells → MakesDurable (D.seen disk.old).told (D.seen disk.new).told result }
+    ensures closed { IsTrue (D.seen disk.old).tells
+        → OnOk result (IsTrue (is_born (D.seen disk.new).told.content) × ClosedFrom 0 (D.seen disk.new).told.content) }
+    ensures tells { (D.seen disk.new).tells ≡ (D.seen disk.old).tells }
+    ensures cause { HasCause (D.seen disk.old).faults (D.seen disk.new).faults result }
 {
     disk.sync()?;
     settle_entries(disk, puts)

@@ -5,3 +5,4 @@ pub mod MemDiskLemmas
 pub mod MemDiskTime
 pub mod PastLemmas
 mod Rows
+pub mod StepLemmas

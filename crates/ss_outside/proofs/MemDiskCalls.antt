@@ -78,3 +78,9 @@ module _ (old new : MemDiskState) where
       → (image : List ℕ) → (told_by new).may_leave image → (told_by old).may_leave image
   no_other_synced (Ok done) is image left = inl (only_content is image left)
   no_other_synced (Err e) is image left = subst (λ (s : DiskState). Leaves s image) is left
+
+  pub same_synced : (result : Result (Unit {0}) Failed) → OnErr result ((IsListed old × (new ≡ failed old)) ⊎ (¬ IsListed old × (new ≡ starved old)))
+      → OnErr result (StaysSame (told_by old) (told_by new))
+  same_synced (Ok done) none = tt
+  same_synced (Err e) (inl listed) = subst (λ (s : MemDiskState). StaysSame (told_by old) (told_by s)) (sym listed.1) (reads-none (told_by old)).same
+  same_synced (Err e) (inr short) = subst (λ (s : MemDiskState). StaysSame (told_by old) (told_by s)) (sym short.1) (reads-none (told_by old)).same

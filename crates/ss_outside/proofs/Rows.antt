@@ -1,6 +1,6 @@
 -- Rows that pin constants and tests, each computed.
 use Rattle.std.proofs.Common.{◌≡◌, ◌-◌, ◌^◌, [], ◌∷◌, refl, lit≤, arith}
-use Rattle.ss_outside.specs.Causes.{Rose}
+use Rattle.ss_outside.specs.Verdict.{Rose}
 use Rattle.ss_outside.specs.MemDisk.{Synced, Tore, Wrote, good_syncs}
 use Rattle.ss_outside.specs.declared.disk.TheConstants.{LONGEST_DISK}
 

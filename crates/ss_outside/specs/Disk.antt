@@ -1,5 +1,5 @@
 -- What a disk tells, what its calls do to the content, and which images a crash may leave of it.
-use Rattle.std.specs.Prelude.{◌≡◌, ◌⊎◌, ◌↔◌, ℕ, ◌+◌, ◌<◌, ◌≤◌, max, List, [], ◌∷◌, ◌++◌, length, take, drop, slice_index, EachIndex, ⊤}
+use Rattle.std.specs.Prelude.{◌≡◌, ◌⊎◌, ◌↔◌, ℕ, ◌+◌, ◌<◌, ◌≤◌, max, Bool, List, [], ◌∷◌, ◌++◌, length, take, drop, slice_index, EachIndex, IsTrue, ⊤}
 
 -- What a disk tells: the bytes that a read gives, the images that a crash now may leave, the moment on its clock, and the
 -- images that a crash at some moment or a later one may have left, inside a call or between two.
@@ -8,6 +8,24 @@ pub record Told : Type 1 where
   pub may_leave : List ℕ → Type 0
   pub moment : ℕ
   pub left_since : ℕ → List ℕ → Type 0
+
+-- What a disk is to a contract: whether it tells anything, what it tells then, and how many of its calls have failed. A file
+-- tells nothing.
+pub record DiskView : Type 1 where
+  pub tells : Bool
+  pub told : Told
+  pub faults : ℕ
+
+-- a fact of what a disk tells, and one of its content: nothing is said of a disk that doesn't tell
+abbrev pub WhereTold : DiskView → (Told → Type 0) → Type 0
+WhereTold disk P = IsTrue disk.tells → P disk.told
+
+abbrev pub OfContent : DiskView → (List ℕ → Type 0) → Type 0
+OfContent disk P = IsTrue disk.tells → P disk.told.content
+
+-- a fact of what it tells at one moment and what it tells at another, where it tells
+abbrev pub Between : DiskView → DiskView → (Told → Told → Type 0) → Type 0
+Between old new R = IsTrue old.tells → R old.told new.told
 
 -- the numbers are bytes
 abbrev pub AreBytes : List ℕ → Type 0

@@ -1,4 +1,3 @@
-pub mod Causes
 pub mod Choice
 pub mod Crash
 pub mod Disk
@@ -7,3 +6,5 @@ pub mod Memory
 pub mod Past
 pub mod Sink
 pub mod Source
+pub mod Step
+pub mod Verdict

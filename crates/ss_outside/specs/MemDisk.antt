@@ -2,7 +2,7 @@
 use Rattle.std.specs.Prelude.{◌≡◌, ◌⊎◌, ℕ, zero, suc, ◌+◌, ◌≤◌, max, Bool, true, false, List, [], ◌∷◌, ◌++◌, length, filter, Option, None, Contains, IsSomeAnd, refl}
 use mathlib.Core.Logic.{inl, inr}
 use Rattle.ss_outside.specs.Crash.{KnowsNow}
-use Rattle.ss_outside.specs.Disk.{Told, overwrite, IsImage, AreBytes}
+use Rattle.ss_outside.specs.Disk.{DiskView, Told, overwrite, IsImage, AreBytes}
 use Rattle.ss_outside.specs.Memory.{one_more}
 
 -- a call that changed something: a write of these bytes, a failed write over so many places, a good sync
@@ -103,6 +103,10 @@ told_by s = record {
   moment = length s.changes;
   left_since = LeftSince (fresh s.start) s.changes;
 }
+
+-- what it is to a contract
+abbrev pub view_of : MemDiskState → DiskView
+view_of s = record { tells = true; told = told_by s; faults = s.faults }
 
 -- what every disk in memory keeps: it synced bytes, and its content is an image of the disk model
 pub record IsConsistent (s : DiskState) : Type 0 where

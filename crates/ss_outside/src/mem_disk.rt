@@ -55,7 +55,7 @@ impl Model for MemDisk {
 
 impl MemDisk {
     ghost use Rattle.std.specs.Prelude.{◌≡◌, ◌⊎◌, ◌+◌, ◌≤◌, ◌↔◌, length, Some, IsErr, IfOk, OnOk, OnErr};
-    ghost use Rattle.ss_outside.specs.Causes.{HasCause};
+    ghost use Rattle.ss_outside.specs.Verdict.{HasCause};
     ghost use Rattle.ss_outside.specs.Choice.{IsChosen};
     ghost use Rattle.ss_outside.specs.Disk.{NothingPending};
     ghost use Rattle.ss_outside.specs.MemDisk.{Wrote, Tore, Synced, made, now, good_syncs, told_by, Leaves, IsListed, IsConsistent, answered, failed, starved, with_change};
@@ -202,25 +202,18 @@ impl MemDisk {
 }
 
 impl Disk for MemDisk {
-    ghost use Rattle.std.specs.Prelude.{◌≡◌, ◌⊎◌, ◌+◌, ◌≤◌, ◌↔◌, List, ℕ, true, length, IsErr, IfOk, OnOk, OnErr};
-    ghost use Rattle.ss_outside.specs.Causes.{HasCause};
-    ghost use Rattle.ss_outside.specs.Crash.{Elapses, OnlyReads};
-    ghost use Rattle.ss_outside.specs.Disk.{overwrite, IsReadFrom, BecomesPending, StaysSame, NothingPending};
-    ghost use Rattle.ss_outside.specs.MemDisk.{Wrote, Tore, Synced, told_by, knows_now, IsListed, answered, failed, starved, with_change};
+    ghost use Rattle.std.specs.Prelude.{◌≡◌, ◌⊎◌, ◌+◌, ◌≤◌, ◌↔◌, length, IsErr, OnOk, OnErr};
+    ghost use Rattle.ss_outside.specs.MemDisk.{Wrote, Tore, Synced, told_by, view_of, knows_now, IsListed, answered, failed, starved, with_change};
+    ghost use Rattle.ss_outside.specs.Step.{Measures, ReadsAt, Step, Syncs, WritesAt};
+    ghost use Rattle.ss_outside.specs.Verdict.{verdict};
 
-    ghost tells = { λ s. true };
-
-    ghost told = { told_by };
-
-    ghost faults = { λ s. s.faults };
+    ghost seen = { view_of };
 
     ghost knows_now = { λ s told. knows_now s };
 
     /// Fails exactly where the call is listed.
     fn len(&mut self) -> Result<u64, Failed>
-        ensures length { IfOk result (λ n. n ≡ length (told_by self.old).content) }
-        ensures reads { OnlyReads (told_by self.old) (told_by self.new) }
-        ensures cause { HasCause self.old.faults self.new.faults result }
+        ensures step { Step (verdict result) (view_of self.old) (view_of self.new) (Measures result) }
         ensures listed { IsErr result ↔ IsListed self.old }
         ensures answered { OnOk result (self.new ≡ answered self.old) }
         ensures failed { OnErr result (self.new ≡ failed self.old) }
@@ -231,9 +224,7 @@ impl Disk for MemDisk {
 
     /// Fails exactly where the call is listed, and leaves the buffer then.
     fn read_at(&mut self, at: u64, into: &mut [u8]) -> Result<(), Failed>
-        ensures bytes { OnOk result (IsReadFrom (told_by self.old).content at into.new) }
-        ensures reads { OnlyReads (told_by self.old) (told_by self.new) }
-        ensures cause { HasCause self.old.faults self.new.faults result }
+        ensures step { Step (verdict result) (view_of self.old) (view_of self.new) (ReadsAt at into.new result) }
         ensures listed { IsErr result ↔ IsListed self.old }
         ensures answered { OnOk result (self.new ≡ answered self.old) }
         ensures failed { OnErr result (self.new ≡ failed self.old) }
@@ -249,11 +240,7 @@ impl Disk for MemDisk {
     fn write_at(&mut self, at: u64, bytes: &[u8]) -> Result<(), Failed>
         requires within { at ≤ length (told_by self.old).content }
         requires end { at + length bytes.now ≤ LONGEST_DISK }
-        ensures written { OnOk result ((told_by self.new).content ≡ overwrite (told_by self.old).content at bytes.now) }
-        ensures pending { BecomesPending at (length bytes.now) (told_by self.old) (told_by self.new)
-            ⊎ (IsErr result × StaysSame (told_by self.old) (told_by self.new)) }
-        ensures time { Elapses (told_by self.old) (told_by self.new) }
-        ensures cause { HasCause self.old.faults self.new.faults result }
+        ensures step { Step (verdict result) (view_of self.old) (view_of self.new) (WritesAt at bytes.now result) }
         ensures listed { IsListed self.old → IsErr result }
         ensures wrote { OnOk result (self.new ≡ with_change (answered self.old) (Wrote at bytes.now)) }
         ensures failed { OnErr result
@@ -264,12 +251,7 @@ impl Disk for MemDisk {
 
     /// Fails where the call is listed, and else only where memory is short, which `short` counts.
     fn sync(&mut self) -> Result<(), Failed>
-        ensures durable { OnOk result (NothingPending (told_by self.new)) }
-        ensures no_other { (image : List ℕ) → (told_by self.new).may_leave image → (told_by self.old).may_leave image }
-        ensures pending { OnErr result (StaysSame (told_by self.old) (told_by self.new)) }
-        ensures content { (told_by self.new).content ≡ (told_by self.old).content }
-        ensures time { Elapses (told_by self.old) (told_by self.new) }
-        ensures cause { HasCause self.old.faults self.new.faults result }
+        ensures step { Step (verdict result) (view_of self.old) (view_of self.new) (Syncs result) }
         ensures synced { OnOk result (¬ IsListed self.old × (self.new ≡ with_change (answered self.old) Synced)) }
         ensures failed { OnErr result
             ((IsListed self.old × (self.new ≡ failed self.old)) ⊎ (¬ IsListed self.old × (self.new ≡ starved self.old))) }

@@ -70,7 +70,7 @@ impl MemSink {
 
 impl Sink for MemSink {
     ghost use Rattle.std.specs.Prelude.{◌≡◌, ◌⊎◌, ◌++◌, ◌<◌, ◌≤◌, length, Some, Contains, IsErr, IfOk, OnOk, OnErr};
-    ghost use Rattle.ss_outside.specs.Causes.{Rose, HasCause};
+    ghost use Rattle.ss_outside.specs.Verdict.{Rose, HasCause};
     ghost use Rattle.ss_outside.specs.Sink.{Appends};
     ghost use Rattle.ss_outside.specs.Memory.{one_more};
 

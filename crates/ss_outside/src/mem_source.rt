@@ -64,7 +64,7 @@ impl MemSource {
 
 impl Source for MemSource {
     ghost use Rattle.std.specs.Prelude.{◌≡◌, ◌<◌, ◌≤◌, ◌↔◌, drop, length, min, Some, Contains, IsErr, IfOk, OnOk, OnErr};
-    ghost use Rattle.ss_outside.specs.Causes.{HasCause};
+    ghost use Rattle.ss_outside.specs.Verdict.{HasCause};
     ghost use Rattle.ss_outside.specs.Source.{Moves};
     ghost use Rattle.ss_outside.specs.Memory.{one_more};
 

@@ -1,6 +1,6 @@
 // Where bytes go.
 ghost use Rattle.std.specs.Prelude.{◌<◌, ◌≤◌, ℕ, List, Option, length, IfOk};
-ghost use Rattle.ss_outside.specs.Causes.{HasCause};
+ghost use Rattle.ss_outside.specs.Verdict.{HasCause};
 ghost use Rattle.ss_outside.specs.Sink.{Appends};
 
 use crate::Failed;

@@ -1,6 +1,6 @@
 // Where bytes come from.
 ghost use Rattle.std.specs.Prelude.{◌<◌, ◌≤◌, ℕ, List, Option, length, IfOk};
-ghost use Rattle.ss_outside.specs.Causes.{HasCause};
+ghost use Rattle.ss_outside.specs.Verdict.{HasCause};
 ghost use Rattle.ss_outside.specs.Source.{Moves};
 
 /// A call of a device failed. It carries no reason: which device failed shows in that device's count of faults, which

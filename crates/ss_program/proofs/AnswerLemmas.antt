@@ -23,7 +23,7 @@ use Rattle.ss_model.specs.State.{Stream, state, stream_named}
 use Rattle.ss_model.specs.declared.outcome.Outcome.{Outcome}
 use Rattle.ss_model.specs.declared.outcome.Outcome.TheVariants.{Count, Sum, Min, Max}
 use Rattle.ss_model.specs.declared.types.Ack.{Ack}
-use Rattle.ss_outside.specs.Causes.{HasCause}
+use Rattle.ss_outside.specs.Verdict.{HasCause}
 use Rattle.ss_outside.specs.declared.source.Failed.{Failed}
 use Rattle.std.specs.Fmt.{decimal, signed_decimal}
 use Rattle.ss_catalog.specs.Refusal.{refusal_name}

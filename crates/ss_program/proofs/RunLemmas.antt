@@ -5,7 +5,7 @@ use Rattle.std.proofs.lemmas.List.{append-nil, drop-drop, drop_all, length-take-
 use Rattle.ss_command.specs.Lines.{lines, lines_so_far, unended, unless_empty, without_return}
 use Rattle.ss_command.proofs.LineLemmas.{lines-front}
 use Rattle.ss_outside.proofs.CrashLemmas.{joined, now, of_content, weaker}
-use Rattle.ss_outside.specs.Causes.{Rose}
+use Rattle.ss_outside.specs.Verdict.{Rose}
 use Rattle.ss_outside.specs.Crash.{KnowsNow, LeavesOnly}
 use Rattle.ss_outside.specs.Disk.{Told}
 use Rattle.ss_outside.specs.Source.{Moves}

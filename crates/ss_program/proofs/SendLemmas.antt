@@ -3,7 +3,7 @@ use Rattle.std.proofs.Common.{◌≡◌, ℕ, ◌+◌, ◌++◌, ◌-◌, ◌≤
 use Rattle.std.proofs.Math.Seq.{take-add, take-append-add}
 use Rattle.std.proofs.lemmas.Bool.{cases_lt}
 use Rattle.std.proofs.lemmas.List.{append-nil, take-append-le}
-use Rattle.ss_outside.specs.Causes.{HasCause}
+use Rattle.ss_outside.specs.Verdict.{HasCause}
 use Rattle.ss_outside.specs.Sink.{Appends}
 use Rattle.ss_outside.specs.declared.source.Failed.{Failed}
 use Rattle.ss_program.specs.Sent.{appended, AppendsFront, SaysLine, Sends}

@@ -1,6 +1,6 @@
 -- How a run ends whose arguments are known, whatever they ask for.
 use Rattle.std.specs.Prelude.{◌≡◌, ◌⊎◌, ℕ, Bool, List, Option, IsTrue, IsSome}
-use Rattle.ss_outside.specs.Causes.{Rose}
+use Rattle.ss_outside.specs.Verdict.{Rose}
 use Rattle.ss_outside.specs.Disk.{Told}
 use Rattle.ss_store.specs.Recover.{recover}
 use Rattle.ss_program.specs.Refused.{RefusesStore, refusal_line}

@@ -1,6 +1,6 @@
 -- What is sent to a sink.
 use Rattle.std.specs.Prelude.{◌≡◌, ℕ, ◌<◌, ◌++◌, List, take, length, Option, option_map, Result, Ok, Err}
-use Rattle.ss_outside.specs.Causes.{Rose}
+use Rattle.ss_outside.specs.Verdict.{Rose}
 
 -- what a sink holds with a text at its end, where it tells what it holds
 abbrev pub appended : Option (List ℕ) → List ℕ → Option (List ℕ)

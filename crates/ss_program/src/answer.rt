@@ -51,19 +51,19 @@ pub fn send_reply<K: Sink>(reply: &Reply, sink: &mut K) -> Result<(), Status>
 
 // Reads a window.
 fn read<D: Disk>(store: &mut Store, id: StreamId, at: At, disk: &mut D) -> Result<Placed, Status>
-    requires open { IsOpen (D.tells disk.old) (D.told disk.old) store.old }
+    requires open { IsOpen (D.seen disk.old).tells (D.seen disk.old).told store.old }
     requires stands { IsSome (part_numbered id.0 store.old.streams) }
     requires at { IfSome (part_numbered id.0 store.old.streams) (λ part. StandsIn part.line.entries at) }
-    ensures window { IsTrue (D.tells disk.old) → (history : History) → Stands history (D.told disk.old).content →
+    ensures window { IsTrue (D.seen disk.old).tells → (history : History) → Stands history (D.seen disk.old).told.content →
         IfOk result (λ placed. IfSome (part_numbered id.0 store.old.streams) (λ part.
         IfSome (stream_numbered id.0 (state history)) (λ s.
         slice_get (map placed_of s.windows) (index_of part.line.entries at) ≡ Some placed))) }
     ensures streams { store.new.streams ≡ store.old.streams }
-    ensures reads { IsTrue (D.tells disk.old) → OnlyReads (D.told disk.old) (D.told disk.new) }
-    ensures open { OnOk result (IsOpen (D.tells disk.new) (D.told disk.new) store.new) }
-    ensures tells { D.tells disk.new ≡ D.tells disk.old }
-    ensures status { IfErr result (IsDiskStop (D.tells disk.old)) }
-    ensures cause { CountsIfEnded Status.DiskFault (D.faults disk.old) (D.faults disk.new) result }
+    ensures reads { IsTrue (D.seen disk.old).tells → OnlyReads (D.seen disk.old).told (D.seen disk.new).told }
+    ensures open { OnOk result (IsOpen (D.seen disk.new).tells (D.seen disk.new).told store.new) }
+    ensures tells { (D.seen disk.new).tells ≡ (D.seen disk.old).tells }
+    ensures status { IfErr result (IsDiskStop (D.seen disk.old).tells) }
+    ensures cause { CountsIfEnded Status.DiskFault (D.seen disk.old).faults (D.seen disk.new).faults result }
 {
     match store.window_read(disk, id, at) {
         Ok(window) => Ok(window),
@@ -80,16 +80,16 @@ fn send_windows<D: Disk, K: Sink>(
     disk: &mut D,
     sink: &mut K,
 ) -> Result<(), Status>
-    requires open { IsOpen (D.tells disk.old) (D.told disk.old) store.old }
+    requires open { IsOpen (D.seen disk.old).tells (D.seen disk.old).told store.old }
     requires stands { IsSome (part_numbered id.0 store.old.streams) }
-    ensures sends { IsTrue (D.tells disk.old) → (history : History) → Stands history (D.told disk.old).content →
+    ensures sends { IsTrue (D.seen disk.old).tells → (history : History) → Stands history (D.seen disk.old).told.content →
         (s : Stream) → stream_numbered id.0 (state history) ≡ Some s →
         SendsRows (K.held sink.old) (K.held sink.new) (window_rows s) result }
-    ensures reads { IsTrue (D.tells disk.old) → OnlyReads (D.told disk.old) (D.told disk.new) }
-    ensures open { OnOk result (IsOpen (D.tells disk.new) (D.told disk.new) store.new) }
-    ensures tells { D.tells disk.new ≡ D.tells disk.old }
-    ensures status { IfErr result (IsShowStop (D.tells disk.old)) }
-    ensures disk_cause { CountsIfEnded Status.DiskFault (D.faults disk.old) (D.faults disk.new) result }
+    ensures reads { IsTrue (D.seen disk.old).tells → OnlyReads (D.seen disk.old).told (D.seen disk.new).told }
+    ensures open { OnOk result (IsOpen (D.seen disk.new).tells (D.seen disk.new).told store.new) }
+    ensures tells { (D.seen disk.new).tells ≡ (D.seen disk.old).tells }
+    ensures status { IfErr result (IsShowStop (D.seen disk.old).tells) }
+    ensures disk_cause { CountsIfEnded Status.DiskFault (D.seen disk.old).faults (D.seen disk.new).faults result }
     ensures sink_cause { CountsIfEnded Status.SinkFault (K.faults sink.old) (K.faults sink.new) result }
 {
     let mut next = store.window_first(id);
@@ -122,14 +122,14 @@ fn show_windows<D: Disk, K: Sink>(
     disk: &mut D,
     sink: &mut K,
 ) -> Result<(), Status>
-    requires open { IsOpen (D.tells disk.old) (D.told disk.old) store.old }
-    ensures sends { IsTrue (D.tells disk.old) → (history : History) → Stands history (D.told disk.old).content →
+    requires open { IsOpen (D.seen disk.old).tells (D.seen disk.old).told store.old }
+    ensures sends { IsTrue (D.seen disk.old).tells → (history : History) → Stands history (D.seen disk.old).told.content →
         Sends (K.held sink.old) (K.held sink.new) (text_brought (command_brings history (Windows name.now))) result }
-    ensures reads { IsTrue (D.tells disk.old) → OnlyReads (D.told disk.old) (D.told disk.new) }
-    ensures open { OnOk result (IsOpen (D.tells disk.new) (D.told disk.new) store.new) }
-    ensures tells { D.tells disk.new ≡ D.tells disk.old }
-    ensures status { IfErr result (IsShowStop (D.tells disk.old)) }
-    ensures disk_cause { CountsIfEnded Status.DiskFault (D.faults disk.old) (D.faults disk.new) result }
+    ensures reads { IsTrue (D.seen disk.old).tells → OnlyReads (D.seen disk.old).told (D.seen disk.new).told }
+    ensures open { OnOk result (IsOpen (D.seen disk.new).tells (D.seen disk.new).told store.new) }
+    ensures tells { (D.seen disk.new).tells ≡ (D.seen disk.old).tells }
+    ensures status { IfErr result (IsShowStop (D.seen disk.old).tells) }
+    ensures disk_cause { CountsIfEnded Status.DiskFault (D.seen disk.old).faults (D.seen disk.new).faults result }
     ensures sink_cause { CountsIfEnded Status.SinkFault (K.faults sink.old) (K.faults sink.new) result }
 {
     let Some(id) = store.find(name) else {
@@ -153,14 +153,14 @@ fn list<K: Sink>(store: &Store, sink: &mut K) -> Result<(), Status>
 
 /// Asks the store, and answers the reply to it.
 pub fn ask<D: Disk>(store: &mut Store, query: &Query, disk: &mut D) -> Result<Reply, Status>
-    requires open { IsOpen (D.tells disk.old) (D.told disk.old) store.old }
-    ensures reply { IsTrue (D.tells disk.old) → (history : History) → Stands history (D.told disk.old).content →
+    requires open { IsOpen (D.seen disk.old).tells (D.seen disk.old).told store.old }
+    ensures reply { IsTrue (D.seen disk.old).tells → (history : History) → Stands history (D.seen disk.old).told.content →
         IfOk result (λ reply. (command_brings history (Ask query.now)).replies ≡ reply ∷ []) }
-    ensures reads { IsTrue (D.tells disk.old) → OnlyReads (D.told disk.old) (D.told disk.new) }
-    ensures open { OnOk result (IsOpen (D.tells disk.new) (D.told disk.new) store.new) }
-    ensures tells { D.tells disk.new ≡ D.tells disk.old }
-    ensures status { IfErr result (IsDiskStop (D.tells disk.old)) }
-    ensures cause { CountsIfEnded Status.DiskFault (D.faults disk.old) (D.faults disk.new) result }
+    ensures reads { IsTrue (D.seen disk.old).tells → OnlyReads (D.seen disk.old).told (D.seen disk.new).told }
+    ensures open { OnOk result (IsOpen (D.seen disk.new).tells (D.seen disk.new).told store.new) }
+    ensures tells { (D.seen disk.new).tells ≡ (D.seen disk.old).tells }
+    ensures status { IfErr result (IsDiskStop (D.seen disk.old).tells) }
+    ensures cause { CountsIfEnded Status.DiskFault (D.seen disk.old).faults (D.seen disk.new).faults result }
 {
     match store.ask(disk, query) {
         Ok(outcome) => Ok(Reply::Answered(outcome)),
@@ -178,14 +178,14 @@ fn show_answer<D: Disk, K: Sink>(
     disk: &mut D,
     sink: &mut K,
 ) -> Result<(), Status>
-    requires open { IsOpen (D.tells disk.old) (D.told disk.old) store.old }
-    ensures sends { IsTrue (D.tells disk.old) → (history : History) → Stands history (D.told disk.old).content →
+    requires open { IsOpen (D.seen disk.old).tells (D.seen disk.old).told store.old }
+    ensures sends { IsTrue (D.seen disk.old).tells → (history : History) → Stands history (D.seen disk.old).told.content →
         Sends (K.held sink.old) (K.held sink.new) (text_brought (command_brings history (Ask query.now))) result }
-    ensures reads { IsTrue (D.tells disk.old) → OnlyReads (D.told disk.old) (D.told disk.new) }
-    ensures open { OnOk result (IsOpen (D.tells disk.new) (D.told disk.new) store.new) }
-    ensures tells { D.tells disk.new ≡ D.tells disk.old }
-    ensures status { IfErr result (IsShowStop (D.tells disk.old)) }
-    ensures disk_cause { CountsIfEnded Status.DiskFault (D.faults disk.old) (D.faults disk.new) result }
+    ensures reads { IsTrue (D.seen disk.old).tells → OnlyReads (D.seen disk.old).told (D.seen disk.new).told }
+    ensures open { OnOk result (IsOpen (D.seen disk.new).tells (D.seen disk.new).told store.new) }
+    ensures tells { (D.seen disk.new).tells ≡ (D.seen disk.old).tells }
+    ensures status { IfErr result (IsShowStop (D.seen disk.old).tells) }
+    ensures disk_cause { CountsIfEnded Status.DiskFault (D.seen disk.old).faults (D.seen disk.new).faults result }
     ensures sink_cause { CountsIfEnded Status.SinkFault (K.faults sink.old) (K.faults sink.new) result }
 {
     let reply = ask(store, query, disk)?;
@@ -195,17 +195,17 @@ fn show_answer<D: Disk, K: Sink>(
 /// Applies an event, and answers the reply to it.
 pub fn apply<D: Disk>(store: &mut Store, event: &Event, disk: &mut D) -> Result<Reply, Status>
     requires in_time { IsInTime event.now }
-    requires open { IsOpen (D.tells disk.old) (D.told disk.old) store.old }
-    ensures adds { IsTrue (D.tells disk.old) → (history : History) →
-        Adds history (command_brings history (Do event.now)) (D.told disk.old) (D.told disk.new) result }
-    ensures reply { IsTrue (D.tells disk.old) → (history : History) → Stands history (D.told disk.old).content →
+    requires open { IsOpen (D.seen disk.old).tells (D.seen disk.old).told store.old }
+    ensures adds { IsTrue (D.seen disk.old).tells → (history : History) →
+        Adds history (command_brings history (Do event.now)) (D.seen disk.old).told (D.seen disk.new).told result }
+    ensures reply { IsTrue (D.seen disk.old).tells → (history : History) → Stands history (D.seen disk.old).told.content →
         IfOk result (λ reply. (command_brings history (Do event.now)).replies ≡ reply ∷ []) }
-    ensures accepted { IsTrue (D.tells disk.old) → (history : History) → Stands history (D.told disk.old).content →
+    ensures accepted { IsTrue (D.seen disk.old).tells → (history : History) → Stands history (D.seen disk.old).told.content →
         OnErr result (IsSome (command_brings history (Do event.now)).event) }
-    ensures open { OnOk result (IsOpen (D.tells disk.new) (D.told disk.new) store.new) }
-    ensures tells { D.tells disk.new ≡ D.tells disk.old }
-    ensures status { IfErr result (IsApplyStop (D.tells disk.old)) }
-    ensures cause { CountsIfEnded Status.DiskFault (D.faults disk.old) (D.faults disk.new) result }
+    ensures open { OnOk result (IsOpen (D.seen disk.new).tells (D.seen disk.new).told store.new) }
+    ensures tells { (D.seen disk.new).tells ≡ (D.seen disk.old).tells }
+    ensures status { IfErr result (IsApplyStop (D.seen disk.old).tells) }
+    ensures cause { CountsIfEnded Status.DiskFault (D.seen disk.old).faults (D.seen disk.new).faults result }
 {
     match store.apply(disk, event) {
         Ok(ack) => Ok(Reply::Done(ack)),
@@ -225,15 +225,15 @@ fn take<D: Disk, K: Sink>(
     sink: &mut K,
 ) -> Result<(), Status>
     requires in_time { IsInTime event.now }
-    requires open { IsOpen (D.tells disk.old) (D.told disk.old) store.old }
-    ensures adds { IsTrue (D.tells disk.old) → (history : History) →
-        Adds history (command_brings history (Do event.now)) (D.told disk.old) (D.told disk.new) result }
-    ensures replies { IsTrue (D.tells disk.old) → (history : History) → Stands history (D.told disk.old).content →
+    requires open { IsOpen (D.seen disk.old).tells (D.seen disk.old).told store.old }
+    ensures adds { IsTrue (D.seen disk.old).tells → (history : History) →
+        Adds history (command_brings history (Do event.now)) (D.seen disk.old).told (D.seen disk.new).told result }
+    ensures replies { IsTrue (D.seen disk.old).tells → (history : History) → Stands history (D.seen disk.old).told.content →
         Replies (command_brings history (Do event.now)) (K.held sink.old) (K.held sink.new) result }
-    ensures open { OnOk result (IsOpen (D.tells disk.new) (D.told disk.new) store.new) }
-    ensures tells { D.tells disk.new ≡ D.tells disk.old }
-    ensures status { IfErr result (IsStop (D.tells disk.old)) }
-    ensures disk_cause { CountsIfEnded Status.DiskFault (D.faults disk.old) (D.faults disk.new) result }
+    ensures open { OnOk result (IsOpen (D.seen disk.new).tells (D.seen disk.new).told store.new) }
+    ensures tells { (D.seen disk.new).tells ≡ (D.seen disk.old).tells }
+    ensures status { IfErr result (IsStop (D.seen disk.old).tells) }
+    ensures disk_cause { CountsIfEnded Status.DiskFault (D.seen disk.old).faults (D.seen disk.new).faults result }
     ensures sink_cause { CountsIfEnded Status.SinkFault (K.faults sink.old) (K.faults sink.new) result }
 {
     let reply = apply(store, event, disk)?;
@@ -248,15 +248,15 @@ fn obey<D: Disk, K: Sink>(
     sink: &mut K,
 ) -> Result<(), Status>
     requires in_time { IsCommandInTime command.now }
-    requires open { IsOpen (D.tells disk.old) (D.told disk.old) store.old }
-    ensures adds { IsTrue (D.tells disk.old) → (history : History) →
-        Adds history (command_brings history command.now) (D.told disk.old) (D.told disk.new) result }
-    ensures replies { IsTrue (D.tells disk.old) → (history : History) → Stands history (D.told disk.old).content →
+    requires open { IsOpen (D.seen disk.old).tells (D.seen disk.old).told store.old }
+    ensures adds { IsTrue (D.seen disk.old).tells → (history : History) →
+        Adds history (command_brings history command.now) (D.seen disk.old).told (D.seen disk.new).told result }
+    ensures replies { IsTrue (D.seen disk.old).tells → (history : History) → Stands history (D.seen disk.old).told.content →
         Replies (command_brings history command.now) (K.held sink.old) (K.held sink.new) result }
-    ensures open { OnOk result (IsOpen (D.tells disk.new) (D.told disk.new) store.new) }
-    ensures tells { D.tells disk.new ≡ D.tells disk.old }
-    ensures status { IfErr result (IsStop (D.tells disk.old)) }
-    ensures disk_cause { CountsIfEnded Status.DiskFault (D.faults disk.old) (D.faults disk.new) result }
+    ensures open { OnOk result (IsOpen (D.seen disk.new).tells (D.seen disk.new).told store.new) }
+    ensures tells { (D.seen disk.new).tells ≡ (D.seen disk.old).tells }
+    ensures status { IfErr result (IsStop (D.seen disk.old).tells) }
+    ensures disk_cause { CountsIfEnded Status.DiskFault (D.seen disk.old).faults (D.seen disk.new).faults result }
     ensures sink_cause { CountsIfEnded Status.SinkFault (K.faults sink.old) (K.faults sink.new) result }
 {
     match command {
@@ -276,16 +276,16 @@ pub fn answer<D: Disk, K: Sink>(
     sink: &mut K,
 ) -> Result<(), Status>
     requires short { IfSome (option_copied line) (λ bytes. length bytes ≤ LONGEST_LINE) }
-    requires open { IsOpen (D.tells disk.old) (D.told disk.old) store.old }
-    ensures adds { IsTrue (D.tells disk.old) → (history : History) (bytes : List ℕ) → option_copied line.entry ≡ unless_long bytes →
-        Adds history (brings history bytes) (D.told disk.old) (D.told disk.new) result }
-    ensures replies { IsTrue (D.tells disk.old) → (history : History) (bytes : List ℕ) → Stands history (D.told disk.old).content →
+    requires open { IsOpen (D.seen disk.old).tells (D.seen disk.old).told store.old }
+    ensures adds { IsTrue (D.seen disk.old).tells → (history : History) (bytes : List ℕ) → option_copied line.entry ≡ unless_long bytes →
+        Adds history (brings history bytes) (D.seen disk.old).told (D.seen disk.new).told result }
+    ensures replies { IsTrue (D.seen disk.old).tells → (history : History) (bytes : List ℕ) → Stands history (D.seen disk.old).told.content →
         option_copied line.entry ≡ unless_long bytes →
         Replies (brings history bytes) (K.held sink.old) (K.held sink.new) result }
-    ensures open { OnOk result (IsOpen (D.tells disk.new) (D.told disk.new) store.new) }
-    ensures tells { D.tells disk.new ≡ D.tells disk.old }
-    ensures status { IfErr result (IsStop (D.tells disk.old)) }
-    ensures disk_cause { CountsIfEnded Status.DiskFault (D.faults disk.old) (D.faults disk.new) result }
+    ensures open { OnOk result (IsOpen (D.seen disk.new).tells (D.seen disk.new).told store.new) }
+    ensures tells { (D.seen disk.new).tells ≡ (D.seen disk.old).tells }
+    ensures status { IfErr result (IsStop (D.seen disk.old).tells) }
+    ensures disk_cause { CountsIfEnded Status.DiskFault (D.seen disk.old).faults (D.seen disk.new).faults result }
     ensures sink_cause { CountsIfEnded Status.SinkFault (K.faults sink.old) (K.faults sink.new) result }
 {
     let Some(line) = line else {

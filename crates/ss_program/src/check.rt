@@ -1,7 +1,7 @@
 // Whether a store is sound, and what it holds.
 ghost use Rattle.std.specs.Prelude.{◌≡◌, ◌⊎◌, ◌≤◌, ◌+◌, ◌++◌, ℕ, List, IsTrue, IsNone, length};
 ghost use Rattle.ss_model.specs.State.{Stream};
-ghost use Rattle.ss_outside.specs.Causes.{Rose, HasCause};
+ghost use Rattle.ss_outside.specs.Verdict.{Rose, HasCause};
 ghost use Rattle.ss_store.specs.Recover.{Recovers, recover};
 ghost use Rattle.ss_program.specs.Checked.{Checks, and_number, survey_line};
 ghost use Rattle.ss_program.specs.Ending.{Ends};
@@ -47,13 +47,13 @@ fn send_survey<K: Sink>(survey: Survey, sink: &mut K) -> Result<(), Failed>
 
 /// Reads the store and says what it holds, or why it is refused. It writes nothing to the disk.
 pub fn check<D: Disk, K: Sink>(alloc: Global, disk: &mut D, sink: &mut K) -> Status
-    ensures ends { Ends (D.tells disk.old) (D.told disk.old) (D.told disk.new) (K.held sink.old) (K.held sink.new)
-        (D.faults disk.old) (D.faults disk.new) (K.faults sink.old) (K.faults sink.new) (number_of result) }
+    ensures ends { Ends (D.seen disk.old).tells (D.seen disk.old).told (D.seen disk.new).told (K.held sink.old) (K.held sink.new)
+        (D.seen disk.old).faults (D.seen disk.new).faults (K.faults sink.old) (K.faults sink.new) (number_of result) }
     ensures unfed { number_of result ≡ 5 → ⊥ }
-    ensures checks { IsTrue (D.tells disk.old) → (streams : List Stream) → Recovers streams (D.told disk.old).content →
-        Checks streams (K.held sink.old) (K.held sink.new) (D.told disk.old) (D.told disk.new) (number_of result) }
-    ensures completes { IsTrue (D.tells disk.old) → IsNone (refusal_line (recover (D.told disk.old).content)) →
-        (Rose (D.faults disk.old) (D.faults disk.new) → ⊥) → (Rose (K.faults sink.old) (K.faults sink.new) → ⊥) →
+    ensures checks { IsTrue (D.seen disk.old).tells → (streams : List Stream) → Recovers streams (D.seen disk.old).told.content →
+        Checks streams (K.held sink.old) (K.held sink.new) (D.seen disk.old).told (D.seen disk.new).told (number_of result) }
+    ensures completes { IsTrue (D.seen disk.old).tells → IsNone (refusal_line (recover (D.seen disk.old).told.content)) →
+        (Rose (D.seen disk.old).faults (D.seen disk.new).faults → ⊥) → (Rose (K.faults sink.old) (K.faults sink.new) → ⊥) →
         (number_of result ≡ 0) ⊎ (number_of result ≡ 7) }
 {
     match Store::survey(alloc, disk) {

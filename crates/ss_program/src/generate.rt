@@ -2,7 +2,7 @@
 ghost use Rattle.std.specs.Prelude.{◌≡◌, ◌⊎◌, ◌+◌, ◌-◌, ◌^◌, ◌<◌, ◌≤◌, ◌++◌, ℕ, List, [], ◌∷◌, length, IsTrue, IsNone, IfOk, IfErr, OnOk, OnErr};
 ghost use Rattle.ss_command.specs.Printed.{IsCommandInTime};
 ghost use Rattle.ss_generator.specs.declared.TheConstants.{MOST_COUNT};
-ghost use Rattle.ss_outside.specs.Causes.{Rose};
+ghost use Rattle.ss_outside.specs.Verdict.{Rose};
 ghost use Rattle.ss_outside.specs.Crash.{LeavesOnly};
 ghost use Rattle.ss_outside.specs.Disk.{NothingPending};
 ghost use Rattle.ss_store.specs.Recover.{Stands, recover};
@@ -88,15 +88,15 @@ impl Tally {
 fn reply_to<D: Disk>(store: &mut Store, command: &Command, disk: &mut D) -> Result<Reply, Status>
     requires single { IsSingle command.now }
     requires in_time { IsCommandInTime command.now }
-    requires open { IsOpen (D.tells disk.old) (D.told disk.old) store.old }
-    ensures adds { IsTrue (D.tells disk.old) → (history : History) →
-        Adds history (command_brings history command.now) (D.told disk.old) (D.told disk.new) result }
-    ensures reply { IsTrue (D.tells disk.old) → (history : History) → Stands history (D.told disk.old).content →
+    requires open { IsOpen (D.seen disk.old).tells (D.seen disk.old).told store.old }
+    ensures adds { IsTrue (D.seen disk.old).tells → (history : History) →
+        Adds history (command_brings history command.now) (D.seen disk.old).told (D.seen disk.new).told result }
+    ensures reply { IsTrue (D.seen disk.old).tells → (history : History) → Stands history (D.seen disk.old).told.content →
         IfOk result (λ reply. (command_brings history command.now).replies ≡ reply ∷ []) }
-    ensures open { OnOk result (IsOpen (D.tells disk.new) (D.told disk.new) store.new) }
-    ensures tells { D.tells disk.new ≡ D.tells disk.old }
-    ensures status { IfErr result (IsApplyStop (D.tells disk.old)) }
-    ensures cause { CountsIfEnded Status.DiskFault (D.faults disk.old) (D.faults disk.new) result }
+    ensures open { OnOk result (IsOpen (D.seen disk.new).tells (D.seen disk.new).told store.new) }
+    ensures tells { (D.seen disk.new).tells ≡ (D.seen disk.old).tells }
+    ensures status { IfErr result (IsApplyStop (D.seen disk.old).tells) }
+    ensures cause { CountsIfEnded Status.DiskFault (D.seen disk.old).faults (D.seen disk.new).faults result }
 {
     match command {
         Command::Do(event) => apply(store, event, disk),
@@ -109,15 +109,15 @@ fn reply_to<D: Disk>(store: &mut Store, command: &Command, disk: &mut D) -> Resu
 fn run_all<D: Disk>(store: &mut Store, seed: u64, count: u32, disk: &mut D) -> Result<Tally, Status>
     requires some { 1 ≤ count }
     requires few { count ≤ MOST_COUNT }
-    requires open { IsOpen (D.tells disk.old) (D.told disk.old) store.old }
-    ensures ok { IfOk result (λ tally. IsTrue (D.tells disk.old) → NothingPending (D.told disk.old) → (history : History) →
-        Stands history (D.told disk.old).content → HasRun history (generated seed count) (D.told disk.old) (D.told disk.new) tally) }
-    ensures stops { OnErr result (IsTrue (D.tells disk.old) → NothingPending (D.told disk.old) → (history : History) →
-        Stands history (D.told disk.old).content →
-        LeavesOnly (D.told disk.old) (D.told disk.new) (StandsWithin history (generated seed count))) }
-    ensures tells { D.tells disk.new ≡ D.tells disk.old }
-    ensures status { IfErr result (IsApplyStop (D.tells disk.old)) }
-    ensures cause { CountsIfEnded Status.DiskFault (D.faults disk.old) (D.faults disk.new) result }
+    requires open { IsOpen (D.seen disk.old).tells (D.seen disk.old).told store.old }
+    ensures ok { IfOk result (λ tally. IsTrue (D.seen disk.old).tells → NothingPending (D.seen disk.old).told → (history : History) →
+        Stands history (D.seen disk.old).told.content → HasRun history (generated seed count) (D.seen disk.old).told (D.seen disk.new).told tally) }
+    ensures stops { OnErr result (IsTrue (D.seen disk.old).tells → NothingPending (D.seen disk.old).told → (history : History) →
+        Stands history (D.seen disk.old).told.content →
+        LeavesOnly (D.seen disk.old).told (D.seen disk.new).told (StandsWithin history (generated seed count))) }
+    ensures tells { (D.seen disk.new).tells ≡ (D.seen disk.old).tells }
+    ensures status { IfErr result (IsApplyStop (D.seen disk.old).tells) }
+    ensures cause { CountsIfEnded Status.DiskFault (D.seen disk.old).faults (D.seen disk.new).faults result }
 {
     let mut generator = Generator::new(seed, count);
     let mut tally = Tally::new();
@@ -190,12 +190,12 @@ fn summarize<D: Disk, K: Sink>(
 ) -> Status
     requires some { 1 ≤ count }
     requires few { count ≤ MOST_COUNT }
-    requires open { IsOpen (D.tells disk.old) (D.told disk.old) store.old }
-    ensures generates { IsTrue (D.tells disk.old) → NothingPending (D.told disk.old) → (history : History) →
-        Stands history (D.told disk.old).content →
-        Generates history seed count (K.held sink.old) (K.held sink.new) (D.told disk.old) (D.told disk.new) (number_of result) }
-    ensures status { (result ≡ Status.Done) ⊎ IsStop (D.tells disk.old) result }
-    ensures disk_cause { Counts Status.DiskFault (D.faults disk.old) (D.faults disk.new) result }
+    requires open { IsOpen (D.seen disk.old).tells (D.seen disk.old).told store.old }
+    ensures generates { IsTrue (D.seen disk.old).tells → NothingPending (D.seen disk.old).told → (history : History) →
+        Stands history (D.seen disk.old).told.content →
+        Generates history seed count (K.held sink.old) (K.held sink.new) (D.seen disk.old).told (D.seen disk.new).told (number_of result) }
+    ensures status { (result ≡ Status.Done) ⊎ IsStop (D.seen disk.old).tells result }
+    ensures disk_cause { Counts Status.DiskFault (D.seen disk.old).faults (D.seen disk.new).faults result }
     ensures sink_cause { Counts Status.SinkFault (K.faults sink.old) (K.faults sink.new) result }
 {
     match run_all(store, seed, count, disk) {
@@ -217,14 +217,14 @@ pub fn generate<D: Disk, K: Sink>(
 ) -> Status
     requires some { 1 ≤ count }
     requires few { count ≤ MOST_COUNT }
-    ensures ends { Ends (D.tells disk.old) (D.told disk.old) (D.told disk.new) (K.held sink.old) (K.held sink.new)
-        (D.faults disk.old) (D.faults disk.new) (K.faults sink.old) (K.faults sink.new) (number_of result) }
+    ensures ends { Ends (D.seen disk.old).tells (D.seen disk.old).told (D.seen disk.new).told (K.held sink.old) (K.held sink.new)
+        (D.seen disk.old).faults (D.seen disk.new).faults (K.faults sink.old) (K.faults sink.new) (number_of result) }
     ensures unfed { number_of result ≡ 5 → ⊥ }
-    ensures generates { IsTrue (D.tells disk.old) → NothingPending (D.told disk.old) → (history : History) →
-        Stands history (D.told disk.old).content →
-        Generates history seed count (K.held sink.old) (K.held sink.new) (D.told disk.old) (D.told disk.new) (number_of result) }
-    ensures completes { IsTrue (D.tells disk.old) → IsNone (refusal_line (recover (D.told disk.old).content)) →
-        (Rose (D.faults disk.old) (D.faults disk.new) → ⊥) → (Rose (K.faults sink.old) (K.faults sink.new) → ⊥) →
+    ensures generates { IsTrue (D.seen disk.old).tells → NothingPending (D.seen disk.old).told → (history : History) →
+        Stands history (D.seen disk.old).told.content →
+        Generates history seed count (K.held sink.old) (K.held sink.new) (D.seen disk.old).told (D.seen disk.new).told (number_of result) }
+    ensures completes { IsTrue (D.seen disk.old).tells → IsNone (refusal_line (recover (D.seen disk.old).told.content)) →
+        (Rose (D.seen disk.old).faults (D.seen disk.new).faults → ⊥) → (Rose (K.faults sink.old) (K.faults sink.new) → ⊥) →
         (number_of result ≡ 0) ⊎ (number_of result ≡ 7) }
 {
     match Store::open(alloc, disk) {

@@ -2,7 +2,7 @@
 ghost use Rattle.std.specs.Prelude.{◌≡◌, ◌≢◌, ◌↔◌, ◌⊎◌, ◌+◌, ◌-◌, ◌<◌, ◌≤◌, ◌++◌, ℕ, List, [], Option, Some, length, take, drop, true, false, IsTrue, IsSome, IsNone, None, IfOk, IfErr, OnOk, OnErr, IsErrOf};
 ghost use Rattle.ss_command.specs.Lines.{lines, lines_so_far, unended};
 ghost use Rattle.ss_command.specs.LineState.{kept};
-ghost use Rattle.ss_outside.specs.Causes.{Rose, HasCause};
+ghost use Rattle.ss_outside.specs.Verdict.{Rose, HasCause};
 ghost use Rattle.ss_outside.specs.Disk.{NothingPending};
 ghost use Rattle.ss_store.specs.Recover.{Recovers, Stands, recover};
 ghost use Rattle.ss_program.specs.Answer.{IsOpen};
@@ -46,25 +46,25 @@ fn read_piece<D: Disk, S: Source, K: Sink>(
     sink: &mut K,
 ) -> Result<u64, Status>
     requires room { 0 < room }
-    requires open { IsOpen (D.tells disk.old) (D.told disk.old) session.old.store }
-    ensures ok { IfOk result (λ count. IsTrue (D.tells disk.old) → (history : History) (before : Option (List ℕ)) (input left : List ℕ) →
-        S.left source.old ≡ Some left → HasTaken history (D.told disk.old) session.old input →
+    requires open { IsOpen (D.seen disk.old).tells (D.seen disk.old).told session.old.store }
+    ensures ok { IfOk result (λ count. IsTrue (D.seen disk.old).tells → (history : History) (before : Option (List ℕ)) (input left : List ℕ) →
+        S.left source.old ≡ Some left → HasTaken history (D.seen disk.old).told session.old input →
         HasReplied history before (K.held sink.old) input → (count ≤ length left) × (S.left source.new ≡ Some (drop count left))
-        × GoesOn history (D.told disk.old) (D.told disk.new) session.new before (K.held sink.new) (input ++ take count left)) }
+        × GoesOn history (D.seen disk.old).told (D.seen disk.new).told session.new before (K.held sink.new) (input ++ take count left)) }
     ensures moves { IfOk result (λ count. (left : List ℕ) → S.left source.old ≡ Some left → (count ≤ length left)
         × (count ≡ 0 → left ≡ []) × (S.left source.new ≡ Some (drop count left))) }
     ensures count { IfOk result (λ count. count ≤ room) }
     ensures fault { IsErrOf result Status.SourceFault → (S.left source.new ≡ S.left source.old)
         × (session.new ≡ session.old) × (K.held sink.new ≡ K.held sink.old) × (disk.new ≡ disk.old) }
-    ensures stops { IfErr result (λ status. IsStop (D.tells disk.old) status → IsTrue (D.tells disk.old) →
+    ensures stops { IfErr result (λ status. IsStop (D.seen disk.old).tells status → IsTrue (D.seen disk.old).tells →
         (history : History) (before : Option (List ℕ)) (input left : List ℕ) → S.left source.old ≡ Some left →
-        HasTaken history (D.told disk.old) session.old input → HasReplied history before (K.held sink.old) input →
+        HasTaken history (D.seen disk.old).told session.old input → HasReplied history before (K.held sink.old) input →
         (count : ℕ) × (count ≤ room) × (count ≤ length left) × (S.left source.new ≡ Some (drop count left))
-        × StopsIn history (lines_so_far (input ++ take count left)) (D.told disk.old) (D.told disk.new) before (K.held sink.new) status) }
-    ensures open { OnOk result (IsOpen (D.tells disk.new) (D.told disk.new) session.new.store) }
-    ensures tells { D.tells disk.new ≡ D.tells disk.old }
-    ensures status { IfErr result (λ status. (status ≡ Status.SourceFault) ⊎ IsStop (D.tells disk.old) status) }
-    ensures disk_cause { CountsIfEnded Status.DiskFault (D.faults disk.old) (D.faults disk.new) result }
+        × StopsIn history (lines_so_far (input ++ take count left)) (D.seen disk.old).told (D.seen disk.new).told before (K.held sink.new) status) }
+    ensures open { OnOk result (IsOpen (D.seen disk.new).tells (D.seen disk.new).told session.new.store) }
+    ensures tells { (D.seen disk.new).tells ≡ (D.seen disk.old).tells }
+    ensures status { IfErr result (λ status. (status ≡ Status.SourceFault) ⊎ IsStop (D.seen disk.old).tells status) }
+    ensures disk_cause { CountsIfEnded Status.DiskFault (D.seen disk.old).faults (D.seen disk.new).faults result }
     ensures source_cause { CountsIfEnded Status.SourceFault (S.faults source.old) (S.faults source.new) result }
     ensures sink_cause { CountsIfEnded Status.SinkFault (K.faults sink.old) (K.faults sink.new) result }
 {
@@ -103,17 +103,17 @@ fn serve<D: Disk, S: Source, K: Sink>(
     source: &mut S,
     sink: &mut K,
 ) -> Status
-    requires open { IsOpen (D.tells disk.old) (D.told disk.old) session.old.store }
+    requires open { IsOpen (D.seen disk.old).tells (D.seen disk.old).told session.old.store }
     requires front { session.old.line ≡ kept (unended []) }
-    ensures known { EndsServing (D.tells disk.old) result }
-    ensures disk_cause { Counts Status.DiskFault (D.faults disk.old) (D.faults disk.new) result }
+    ensures known { EndsServing (D.seen disk.old).tells result }
+    ensures disk_cause { Counts Status.DiskFault (D.seen disk.old).faults (D.seen disk.new).faults result }
     ensures source_cause { Counts Status.SourceFault (S.faults source.old) (S.faults source.new) result }
     ensures sink_cause { Counts Status.SinkFault (K.faults sink.old) (K.faults sink.new) result }
-    ensures tells { D.tells disk.new ≡ D.tells disk.old }
+    ensures tells { (D.seen disk.new).tells ≡ (D.seen disk.old).tells }
     ensures reads { (input : List ℕ) → S.left source.old ≡ Some input → Reads input (S.left source.new) (number_of result) }
-    ensures serves { IsTrue (D.tells disk.old) → NothingPending (D.told disk.old) → (history : History) →
-        Stands history (D.told disk.old).content → (input : List ℕ) → S.left source.old ≡ Some input →
-        Serves history input (S.left source.new) (K.held sink.old) (K.held sink.new) (D.told disk.old) (D.told disk.new) (number_of result) }
+    ensures serves { IsTrue (D.seen disk.old).tells → NothingPending (D.seen disk.old).told → (history : History) →
+        Stands history (D.seen disk.old).told.content → (input : List ℕ) → S.left source.old ≡ Some input →
+        Serves history input (S.left source.new) (K.held sink.old) (K.held sink.new) (D.seen disk.old).told (D.seen disk.new).told (number_of result) }
 {
     let mut done = 0;
     while done < LONGEST_INPUT {
@@ -137,17 +137,17 @@ fn run_source<D: Disk, S: Source, K: Sink>(
     source: &mut S,
     sink: &mut K,
 ) -> Status
-    ensures ends { Ends (D.tells disk.old) (D.told disk.old) (D.told disk.new) (K.held sink.old) (K.held sink.new)
-        (D.faults disk.old) (D.faults disk.new) (K.faults sink.old) (K.faults sink.new) (number_of result) }
+    ensures ends { Ends (D.seen disk.old).tells (D.seen disk.old).told (D.seen disk.new).told (K.held sink.old) (K.held sink.new)
+        (D.seen disk.old).faults (D.seen disk.new).faults (K.faults sink.old) (K.faults sink.new) (number_of result) }
     ensures source_cause { Counts Status.SourceFault (S.faults source.old) (S.faults source.new) result }
     ensures unserved { number_of result ≡ 3 → source.new ≡ source.old }
     ensures reads { (input : List ℕ) → S.left source.old ≡ Some input → Reads input (S.left source.new) (number_of result) }
-    ensures serves { IsTrue (D.tells disk.old) → NothingPending (D.told disk.old) → (history : History) →
-        Stands history (D.told disk.old).content → (input : List ℕ) → S.left source.old ≡ Some input →
-        Serves history input (S.left source.new) (K.held sink.old) (K.held sink.new) (D.told disk.old) (D.told disk.new) (number_of result) }
-    ensures completes { IsTrue (D.tells disk.old) → (history : History) → Stands history (D.told disk.old).content →
+    ensures serves { IsTrue (D.seen disk.old).tells → NothingPending (D.seen disk.old).told → (history : History) →
+        Stands history (D.seen disk.old).told.content → (input : List ℕ) → S.left source.old ≡ Some input →
+        Serves history input (S.left source.new) (K.held sink.old) (K.held sink.new) (D.seen disk.old).told (D.seen disk.new).told (number_of result) }
+    ensures completes { IsTrue (D.seen disk.old).tells → (history : History) → Stands history (D.seen disk.old).told.content →
         (input : List ℕ) → S.left source.old ≡ Some input → length input ≤ LONGEST_INPUT →
-        (Rose (D.faults disk.old) (D.faults disk.new) → ⊥) → (Rose (S.faults source.old) (S.faults source.new) → ⊥) →
+        (Rose (D.seen disk.old).faults (D.seen disk.new).faults → ⊥) → (Rose (S.faults source.old) (S.faults source.new) → ⊥) →
         (Rose (K.faults sink.old) (K.faults sink.new) → ⊥) → (number_of result ≡ 0) ⊎ (number_of result ≡ 7) }
 {
     match Store::open(alloc, disk) {
@@ -180,15 +180,15 @@ pub fn run<D: Disk, S: Source, K: Sink>(
 
     // 3 exactly where the arguments are known and the content is no store or is damaged, unless the disk fails before, or
     // memory runs out. The source is then not called, nothing is written, and the sink gets the line of what is found first.
-    ensures refused { result ≡ 3 → IsTrue (D.tells disk.old) → RefusesStore (D.told disk.old) (D.told disk.new)
+    ensures refused { result ≡ 3 → IsTrue (D.seen disk.old).tells → RefusesStore (D.seen disk.old).told (D.seen disk.new).told
         (K.held sink.old) (K.held sink.new) (K.faults sink.old) (K.faults sink.new) }
-    ensures refuses { IsSome (mode_of (words_of words.now)) → IsTrue (D.tells disk.old) →
-        IsSome (refusal_line (recover (D.told disk.old).content)) → (result ≡ 3) ⊎ (result ≡ 4) ⊎ (result ≡ 7) }
+    ensures refuses { IsSome (mode_of (words_of words.now)) → IsTrue (D.seen disk.old).tells →
+        IsSome (refusal_line (recover (D.seen disk.old).told.content)) → (result ≡ 3) ⊎ (result ≡ 4) ⊎ (result ≡ 7) }
     ensures unserved { result ≡ 3 → source.new ≡ source.old }
 
     // 4 only where the count of faults of the disk rose, and where it rose nothing else: no fault is passed over.
-    ensures disk_fault { result ≡ 4 → Rose (D.faults disk.old) (D.faults disk.new) }
-    ensures disk_fine { (result ≡ 4 → ⊥) → D.faults disk.new ≡ D.faults disk.old }
+    ensures disk_fault { result ≡ 4 → Rose (D.seen disk.old).faults (D.seen disk.new).faults }
+    ensures disk_fine { (result ≡ 4 → ⊥) → (D.seen disk.new).faults ≡ (D.seen disk.old).faults }
 
     // The same of 5 and the source.
     ensures source_fault { result ≡ 5 → Rose (S.faults source.old) (S.faults source.new) }
@@ -199,55 +199,55 @@ pub fn run<D: Disk, S: Source, K: Sink>(
     ensures sink_fine { (result ≡ 2 → ⊥) → (result ≡ 3 → ⊥) → (result ≡ 6 → ⊥) → K.faults sink.new ≡ K.faults sink.old }
 
     // 9 only where the disk doesn't tell what it holds.
-    ensures firm { result ≡ 9 → IsTrue (D.tells disk.old) → ⊥ }
+    ensures firm { result ≡ 9 → IsTrue (D.seen disk.old).tells → ⊥ }
 
     // A run over the source. What is read, where the source tells.
     ensures reads { mode_of (words_of words.now) ≡ Some Mode.Run → (input : List ℕ) → S.left source.old ≡ Some input →
         Reads input (S.left source.new) result }
 
     // What is written to the sink, for each history for which the content stands.
-    ensures report { mode_of (words_of words.now) ≡ Some Mode.Run → IsTrue (D.tells disk.old) → NothingPending (D.told disk.old) →
-        (history : History) → Stands history (D.told disk.old).content → (input : List ℕ) → S.left source.old ≡ Some input →
-        Reports history input (S.left source.new) (K.held sink.old) (K.held sink.new) (D.told disk.new) result }
+    ensures report { mode_of (words_of words.now) ≡ Some Mode.Run → IsTrue (D.seen disk.old).tells → NothingPending (D.seen disk.old).told →
+        (history : History) → Stands history (D.seen disk.old).told.content → (input : List ℕ) → S.left source.old ≡ Some input →
+        Reports history input (S.left source.new) (K.held sink.old) (K.held sink.new) (D.seen disk.new).told result }
 
     // What a crash leaves after the run: the history and the acknowledged events, and at most one more; at 0 all of them.
-    ensures kept { mode_of (words_of words.now) ≡ Some Mode.Run → IsTrue (D.tells disk.old) → NothingPending (D.told disk.old) →
-        (history : History) → Stands history (D.told disk.old).content → (input : List ℕ) → S.left source.old ≡ Some input →
-        HoldsReported history input (K.held sink.old) (K.held sink.new) (D.told disk.new) result }
+    ensures kept { mode_of (words_of words.now) ≡ Some Mode.Run → IsTrue (D.seen disk.old).tells → NothingPending (D.seen disk.old).told →
+        (history : History) → Stands history (D.seen disk.old).told.content → (input : List ℕ) → S.left source.old ≡ Some input →
+        HoldsReported history input (K.held sink.old) (K.held sink.new) (D.seen disk.new).told result }
 
     // What a crash at any moment of the run leaves: the history and some first of the events that are accepted.
-    ensures any_moment { mode_of (words_of words.now) ≡ Some Mode.Run → IsTrue (D.tells disk.old) → NothingPending (D.told disk.old) →
-        (history : History) → Stands history (D.told disk.old).content → (input : List ℕ) → S.left source.old ≡ Some input →
-        (image : List ℕ) → (D.told disk.new).left_since (D.told disk.old).moment image →
+    ensures any_moment { mode_of (words_of words.now) ≡ Some Mode.Run → IsTrue (D.seen disk.old).tells → NothingPending (D.seen disk.old).told →
+        (history : History) → Stands history (D.seen disk.old).told.content → (input : List ℕ) → S.left source.old ≡ Some input →
+        (image : List ℕ) → (D.seen disk.new).told.left_since (D.seen disk.old).told.moment image →
         StandsForFirst history (accepted history (lines input)) image }
 
     // At 0 the content stands for the history and all events that are accepted.
-    ensures done { mode_of (words_of words.now) ≡ Some Mode.Run → result ≡ 0 → IsTrue (D.tells disk.old) →
-        NothingPending (D.told disk.old) →
-        (history : History) → Stands history (D.told disk.old).content → (input : List ℕ) → S.left source.old ≡ Some input →
-        Stands (history ++ accepted history (lines input)) (D.told disk.new).content }
+    ensures done { mode_of (words_of words.now) ≡ Some Mode.Run → result ≡ 0 → IsTrue (D.seen disk.old).tells →
+        NothingPending (D.seen disk.old).told →
+        (history : History) → Stands history (D.seen disk.old).told.content → (input : List ℕ) → S.left source.old ≡ Some input →
+        Stands (history ++ accepted history (lines input)) (D.seen disk.new).told.content }
 
     // A check: what is written to the sink, and nothing to the disk, where the content recovers to some streams.
-    ensures checks { mode_of (words_of words.now) ≡ Some Mode.Check → IsTrue (D.tells disk.old) → (streams : List Stream) →
-        Recovers streams (D.told disk.old).content →
-        Checks streams (K.held sink.old) (K.held sink.new) (D.told disk.old) (D.told disk.new) result }
+    ensures checks { mode_of (words_of words.now) ≡ Some Mode.Check → IsTrue (D.seen disk.old).tells → (streams : List Stream) →
+        Recovers streams (D.seen disk.old).told.content →
+        Checks streams (K.held sink.old) (K.held sink.new) (D.seen disk.old).told (D.seen disk.new).told result }
 
     // A run over a generated file: what is written to the sink, and what a crash leaves, for each history for which the content
     // stands.
-    ensures generates { (seed count : ℕ) → mode_of (words_of words.now) ≡ Some (Mode.Gen seed count) → IsTrue (D.tells disk.old) →
-        NothingPending (D.told disk.old) → (history : History) → Stands history (D.told disk.old).content →
-        Generates history seed count (K.held sink.old) (K.held sink.new) (D.told disk.old) (D.told disk.new) result }
+    ensures generates { (seed count : ℕ) → mode_of (words_of words.now) ≡ Some (Mode.Gen seed count) → IsTrue (D.seen disk.old).tells →
+        NothingPending (D.seen disk.old).told → (history : History) → Stands history (D.seen disk.old).told.content →
+        Generates history seed count (K.held sink.old) (K.held sink.new) (D.seen disk.old).told (D.seen disk.new).told result }
 
     // With arguments of a run over the source, a content that stands for a history, an input within its limit and no fault, the
     // answer is 0, or 7: out of memory. So it is with those of a check or of a generated file, without an input.
-    ensures completes { mode_of (words_of words.now) ≡ Some Mode.Run → IsTrue (D.tells disk.old) →
-        (history : History) → Stands history (D.told disk.old).content → (input : List ℕ) →
-        S.left source.old ≡ Some input → length input ≤ LONGEST_INPUT → (Rose (D.faults disk.old) (D.faults disk.new) → ⊥) →
+    ensures completes { mode_of (words_of words.now) ≡ Some Mode.Run → IsTrue (D.seen disk.old).tells →
+        (history : History) → Stands history (D.seen disk.old).told.content → (input : List ℕ) →
+        S.left source.old ≡ Some input → length input ≤ LONGEST_INPUT → (Rose (D.seen disk.old).faults (D.seen disk.new).faults → ⊥) →
         (Rose (S.faults source.old) (S.faults source.new) → ⊥) → (Rose (K.faults sink.old) (K.faults sink.new) → ⊥) →
         (result ≡ 0) ⊎ (result ≡ 7) }
     ensures completes_alone { IsSome (mode_of (words_of words.now)) → (mode_of (words_of words.now) ≡ Some Mode.Run → ⊥) →
-        IsTrue (D.tells disk.old) → IsNone (refusal_line (recover (D.told disk.old).content)) →
-        (Rose (D.faults disk.old) (D.faults disk.new) → ⊥) → (Rose (K.faults sink.old) (K.faults sink.new) → ⊥) →
+        IsTrue (D.seen disk.old).tells → IsNone (refusal_line (recover (D.seen disk.old).told.content)) →
+        (Rose (D.seen disk.old).faults (D.seen disk.new).faults → ⊥) → (Rose (K.faults sink.old) (K.faults sink.new) → ⊥) →
         (result ≡ 0) ⊎ (result ≡ 7) }
 {
     let mode = match mode_of(alloc, words) {

@@ -1,5 +1,5 @@
 // Hands text to a sink.
-ghost use Rattle.ss_outside.specs.Causes.{HasCause};
+ghost use Rattle.ss_outside.specs.Verdict.{HasCause};
 ghost use Rattle.ss_program.specs.Sent.{Sends};
 
 use ss_outside::{Failed, Sink};

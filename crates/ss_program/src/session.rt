@@ -63,18 +63,18 @@ impl Session {
         sink: &mut K,
     ) -> Result<usize, Status>
         requires some { 0 < length piece.now }
-        requires open { IsOpen (D.tells disk.old) (D.told disk.old) self.old.store }
-        ensures ok { IfOk result (λ count. IsTrue (D.tells disk.old) → (history : History) (before : Option (List ℕ)) (input : List ℕ) →
-            HasTaken history (D.told disk.old) self.old input → HasReplied history before (K.held sink.old) input →
-            GoesOn history (D.told disk.old) (D.told disk.new) self.new before (K.held sink.new) (input ++ take count piece.now)) }
-        ensures stops { IfErr result (λ status. IsTrue (D.tells disk.old) → (history : History) (before : Option (List ℕ)) (input : List ℕ) →
-            HasTaken history (D.told disk.old) self.old input → HasReplied history before (K.held sink.old) input →
-            StopsIn history (lines_so_far (input ++ piece.now)) (D.told disk.old) (D.told disk.new) before (K.held sink.new) status) }
+        requires open { IsOpen (D.seen disk.old).tells (D.seen disk.old).told self.old.store }
+        ensures ok { IfOk result (λ count. IsTrue (D.seen disk.old).tells → (history : History) (before : Option (List ℕ)) (input : List ℕ) →
+            HasTaken history (D.seen disk.old).told self.old input → HasReplied history before (K.held sink.old) input →
+            GoesOn history (D.seen disk.old).told (D.seen disk.new).told self.new before (K.held sink.new) (input ++ take count piece.now)) }
+        ensures stops { IfErr result (λ status. IsTrue (D.seen disk.old).tells → (history : History) (before : Option (List ℕ)) (input : List ℕ) →
+            HasTaken history (D.seen disk.old).told self.old input → HasReplied history before (K.held sink.old) input →
+            StopsIn history (lines_so_far (input ++ piece.now)) (D.seen disk.old).told (D.seen disk.new).told before (K.held sink.new) status) }
         ensures count { IfOk result (λ count. (0 < count) × (count ≤ length piece.now)) }
-        ensures open { OnOk result (IsOpen (D.tells disk.new) (D.told disk.new) self.new.store) }
-        ensures tells { D.tells disk.new ≡ D.tells disk.old }
-        ensures status { IfErr result (IsStop (D.tells disk.old)) }
-        ensures disk_cause { CountsIfEnded Status.DiskFault (D.faults disk.old) (D.faults disk.new) result }
+        ensures open { OnOk result (IsOpen (D.seen disk.new).tells (D.seen disk.new).told self.new.store) }
+        ensures tells { (D.seen disk.new).tells ≡ (D.seen disk.old).tells }
+        ensures status { IfErr result (IsStop (D.seen disk.old).tells) }
+        ensures disk_cause { CountsIfEnded Status.DiskFault (D.seen disk.old).faults (D.seen disk.new).faults result }
         ensures sink_cause { CountsIfEnded Status.SinkFault (K.faults sink.old) (K.faults sink.new) result }
     {
         let (count, ended) = self.reader.feed(piece);
@@ -98,17 +98,17 @@ impl Session {
         disk: &mut D,
         sink: &mut K,
     ) -> Result<(), Status>
-        requires { IsOpen (D.tells disk.old) (D.told disk.old) self.old.store }
-        ensures ok { OnOk result (IsTrue (D.tells disk.old) → (history : History) (before : Option (List ℕ)) (input : List ℕ) →
-            HasTaken history (D.told disk.old) self.old input → HasReplied history before (K.held sink.old) input →
-            GoesOn history (D.told disk.old) (D.told disk.new) self.new before (K.held sink.new) (input ++ piece.now)) }
-        ensures stops { IfErr result (λ status. IsTrue (D.tells disk.old) → (history : History) (before : Option (List ℕ)) (input : List ℕ) →
-            HasTaken history (D.told disk.old) self.old input → HasReplied history before (K.held sink.old) input →
-            StopsIn history (lines_so_far (input ++ piece.now)) (D.told disk.old) (D.told disk.new) before (K.held sink.new) status) }
-        ensures open { OnOk result (IsOpen (D.tells disk.new) (D.told disk.new) self.new.store) }
-        ensures tells { D.tells disk.new ≡ D.tells disk.old }
-        ensures status { IfErr result (IsStop (D.tells disk.old)) }
-        ensures disk_cause { CountsIfEnded Status.DiskFault (D.faults disk.old) (D.faults disk.new) result }
+        requires { IsOpen (D.seen disk.old).tells (D.seen disk.old).told self.old.store }
+        ensures ok { OnOk result (IsTrue (D.seen disk.old).tells → (history : History) (before : Option (List ℕ)) (input : List ℕ) →
+            HasTaken history (D.seen disk.old).told self.old input → HasReplied history before (K.held sink.old) input →
+            GoesOn history (D.seen disk.old).told (D.seen disk.new).told self.new before (K.held sink.new) (input ++ piece.now)) }
+        ensures stops { IfErr result (λ status. IsTrue (D.seen disk.old).tells → (history : History) (before : Option (List ℕ)) (input : List ℕ) →
+            HasTaken history (D.seen disk.old).told self.old input → HasReplied history before (K.held sink.old) input →
+            StopsIn history (lines_so_far (input ++ piece.now)) (D.seen disk.old).told (D.seen disk.new).told before (K.held sink.new) status) }
+        ensures open { OnOk result (IsOpen (D.seen disk.new).tells (D.seen disk.new).told self.new.store) }
+        ensures tells { (D.seen disk.new).tells ≡ (D.seen disk.old).tells }
+        ensures status { IfErr result (IsStop (D.seen disk.old).tells) }
+        ensures disk_cause { CountsIfEnded Status.DiskFault (D.seen disk.old).faults (D.seen disk.new).faults result }
         ensures sink_cause { CountsIfEnded Status.SinkFault (K.faults sink.old) (K.faults sink.new) result }
     {
         let mut done = 0;
@@ -123,16 +123,16 @@ impl Session {
 
     /// Ends the input, and answers a last line that no line end ended.
     pub fn finish<D: Disk, K: Sink>(&mut self, disk: &mut D, sink: &mut K) -> Status
-        requires { IsOpen (D.tells disk.old) (D.told disk.old) self.old.store }
-        ensures done { result ≡ Status.Done → IsTrue (D.tells disk.old) → (history : History) (before : Option (List ℕ)) (input : List ℕ) →
-            HasTaken history (D.told disk.old) self.old input → HasReplied history before (K.held sink.old) input →
-            EndsWell history (lines input) (D.told disk.old) (D.told disk.new) before (K.held sink.new) }
-        ensures stops { IsStop (D.tells disk.old) result → IsTrue (D.tells disk.old) → (history : History) (before : Option (List ℕ))
-            (input : List ℕ) → HasTaken history (D.told disk.old) self.old input → HasReplied history before (K.held sink.old) input →
-            StopsIn history (lines input) (D.told disk.old) (D.told disk.new) before (K.held sink.new) result }
-        ensures status { (result ≡ Status.Done) ⊎ IsStop (D.tells disk.old) result }
-        ensures tells { D.tells disk.new ≡ D.tells disk.old }
-        ensures disk_cause { Counts Status.DiskFault (D.faults disk.old) (D.faults disk.new) result }
+        requires { IsOpen (D.seen disk.old).tells (D.seen disk.old).told self.old.store }
+        ensures done { result ≡ Status.Done → IsTrue (D.seen disk.old).tells → (history : History) (before : Option (List ℕ)) (input : List ℕ) →
+            HasTaken history (D.seen disk.old).told self.old input → HasReplied history before (K.held sink.old) input →
+            EndsWell history (lines input) (D.seen disk.old).told (D.seen disk.new).told before (K.held sink.new) }
+        ensures stops { IsStop (D.seen disk.old).tells result → IsTrue (D.seen disk.old).tells → (history : History) (before : Option (List ℕ))
+            (input : List ℕ) → HasTaken history (D.seen disk.old).told self.old input → HasReplied history before (K.held sink.old) input →
+            StopsIn history (lines input) (D.seen disk.old).told (D.seen disk.new).told before (K.held sink.new) result }
+        ensures status { (result ≡ Status.Done) ⊎ IsStop (D.seen disk.old).tells result }
+        ensures tells { (D.seen disk.new).tells ≡ (D.seen disk.old).tells }
+        ensures disk_cause { Counts Status.DiskFault (D.seen disk.old).faults (D.seen disk.new).faults result }
         ensures sink_cause { Counts Status.SinkFault (K.faults sink.old) (K.faults sink.new) result }
     {
         match self.reader.finish() {

@@ -28,27 +28,23 @@ impl Model for Records {
 
 impl Records {
     ghost use Rattle.std.specs.Prelude.{◌≡◌, ◌≤◌, ◌<◌, ◌↔◌, IsTrue, IsNone, IfSome, IfOk, OnOk, OnErr};
-    ghost use Rattle.ss_outside.specs.Causes.{HasCause};
-    ghost use Rattle.ss_outside.specs.Crash.{OnlyReads};
-    ghost use Rattle.ss_journal.specs.Puts.{extent_after, slots_fit, IsTxn};
-    ghost use Rattle.ss_journal.specs.Redo.{SlotMap, StandsFor, zeros};
-    ghost use Rattle.ss_journal.specs.Kept.{IsRunning, IsSettled, HasStopped, OpensAs};
-    ghost use Rattle.ss_journal.specs.Calls.{KeepsMap, MakesDurable, ChangesMap, BlamesDisk};
+    ghost use Rattle.ss_outside.specs.Disk.{OfContent};
+    ghost use Rattle.ss_outside.specs.Step.{Step};
+    ghost use Rattle.ss_outside.specs.Verdict.{verdict};
+    ghost use Rattle.ss_journal.specs.Calls.{HasCommitted, HasSettled, verdict_of_open};
+    ghost use Rattle.ss_journal.specs.Puts.{slots_fit, IsTxn};
+    ghost use Rattle.ss_journal.specs.Redo.{zeros};
+    ghost use Rattle.ss_journal.specs.Kept.{IsRunning, IsSettled, HasStopped};
+    ghost use Rattle.ss_records.specs.Calls.{AppliesPuts, OpensRecords, ReadsRecord, SettlesRecords};
     ghost use Rattle.ss_records.specs.Live.{is_live, live_count, lowest_free, live_after};
-    ghost use Rattle.ss_records.specs.Kept.{AreKept, AreSound, journal_of};
+    ghost use Rattle.ss_records.specs.Kept.{AreKept, AreSound};
 
     /// Opens a disk, formatted or not. It reads the entries in use, and each slot below the extent once, and writes nothing.
     pub fn open<D: Disk>(alloc: Global, disk: &mut D) -> Result<Records, JournalError>
-        // The map of the content, or why it has none.
-        ensures map { IsTrue (D.tells disk.old) → OpensAs (D.told disk.old).content (journal_of result) }
-        ensures one_disk { IsTrue (D.tells disk.old) → IfOk result (λ records. AreKept records (D.told disk.new).content) }
-        ensures running { IfOk result (λ records. IsRunning records.journal) }
-        ensures extent { IfOk result (λ records. records.journal.extent ≤ MOST_SLOTS) }
+        // The map of the content, or why it has none. Nothing is written.
+        ensures opens { Step (verdict_of_open result) (D.seen disk.old) (D.seen disk.new) (OpensRecords result) }
+        ensures running { IfOk result (λ records. IsRunning records.journal × (records.journal.extent ≤ MOST_SLOTS)) }
         ensures sound { IfOk result AreSound }
-        // The content and the images are those from before.
-        ensures reads { IsTrue (D.tells disk.old) → OnlyReads (D.told disk.old) (D.told disk.new) }
-        ensures tells { D.tells disk.new ≡ D.tells disk.old }
-        ensures cause { BlamesDisk (D.faults disk.old) (D.faults disk.new) result }
     {
         let mut journal = Journal::open(alloc, disk)?;
         let live = read_live(alloc, &mut journal, disk)?;
@@ -95,18 +91,12 @@ impl Records {
     /// the map as it is, also in a crash.
     pub fn settle<D: Disk>(&mut self, disk: &mut D) -> Result<(), Failed>
         requires running { IsRunning self.old.journal }
-        requires one_disk { IsTrue (D.tells disk.old) → AreKept self.old (D.told disk.old).content }
-        ensures one_disk { IsTrue (D.tells disk.old) → OnOk result (AreKept self.new (D.told disk.new).content) }
-        ensures settled { OnOk result (IsSettled self.new.journal) }
-        ensures extent { OnOk result (self.new.journal.extent ≡ self.old.journal.extent) }
+        requires one_disk { OfContent (D.seen disk.old) (AreKept self.old) }
+        // The map stays, also in a crash at any moment of the call, and whatever is pending is made durable.
+        ensures settles { Step (verdict result) (D.seen disk.old) (D.seen disk.new) (SettlesRecords self.new result) }
+        ensures settled { OnOk result (HasSettled self.old.journal self.new.journal) }
         ensures live { self.new.live ≡ self.old.live }
-        // The map stays, also in a crash at any moment of the call.
-        ensures keeps_map { IsTrue (D.tells disk.old) → KeepsMap (D.told disk.old) (D.told disk.new) result }
-        // Whatever is pending at the call: nothing is at Ok, and from the first sync on each image has the map of the content.
-        ensures makes_durable { IsTrue (D.tells disk.old) → MakesDurable (D.told disk.old) (D.told disk.new) result }
         ensures stopped { OnErr result (HasStopped self.new.journal) }
-        ensures tells { D.tells disk.new ≡ D.tells disk.old }
-        ensures cause { HasCause (D.faults disk.old) (D.faults disk.new) result }
     {
         self.journal.settle(disk)
     }
@@ -115,18 +105,12 @@ impl Records {
     pub fn read<D: Disk>(&mut self, disk: &mut D, slot: u32) -> Result<[u8; SLOT_SIZE], Failed>
         requires running { IsRunning self.old.journal }
         requires slot { slot < MOST_SLOTS }
-        requires one_disk { IsTrue (D.tells disk.old) → AreKept self.old (D.told disk.old).content }
-        ensures bytes { IsTrue (D.tells disk.old) → (found : SlotMap) → StandsFor (D.told disk.old).content found
-            → IfOk result (λ bytes. bytes ≡ found.bytes slot) }
+        requires one_disk { OfContent (D.seen disk.old) (AreKept self.old) }
+        ensures reads { Step (verdict result) (D.seen disk.old) (D.seen disk.new) (ReadsRecord self.new slot result) }
         ensures unused { self.old.journal.extent ≤ slot → IfOk result (λ bytes. bytes ≡ zeros) }
-        ensures one_disk { IsTrue (D.tells disk.old) → OnOk result (AreKept self.new (D.told disk.new).content) }
         ensures journal { OnOk result (self.new.journal ≡ self.old.journal) }
         ensures live { self.new.live ≡ self.old.live }
         ensures stopped { OnErr result (HasStopped self.new.journal) }
-        // The content and the images are those from before.
-        ensures reads { IsTrue (D.tells disk.old) → OnlyReads (D.told disk.old) (D.told disk.new) }
-        ensures tells { D.tells disk.new ≡ D.tells disk.old }
-        ensures cause { HasCause (D.faults disk.old) (D.faults disk.new) result }
     {
         self.journal.read(disk, slot)
     }
@@ -139,17 +123,13 @@ impl Records {
         requires txn { IsTxn txn.now.items }
         // Each slot in order is at most the extent so far.
         requires fit { IsTrue (slots_fit txn.now.items self.old.journal.extent) }
-        requires one_disk { IsTrue (D.tells disk.old) → AreKept self.old (D.told disk.old).content }
-        ensures one_disk { IsTrue (D.tells disk.old) → OnOk result (AreKept self.new (D.told disk.new).content) }
-        ensures settled { OnOk result (IsSettled self.new.journal) }
-        ensures extent { OnOk result (self.new.journal.extent ≡ extent_after txn.now.items self.old.journal.extent) }
+        requires one_disk { OfContent (D.seen disk.old) (AreKept self.old) }
+        // All of the puts or none, also in a crash at any moment of the call.
+        ensures applies { Step (verdict result) (D.seen disk.old) (D.seen disk.new) (AppliesPuts self.new txn.now.items result) }
+        ensures committed { OnOk result (HasCommitted txn.now.items self.old.journal self.new.journal) }
         ensures live { OnOk result (self.new.live ≡ live_after txn.now.items self.old.live) }
         ensures err { OnErr result (self.new.live ≡ self.old.live) }
-        // All of the puts or none, also in a crash at any moment of the call.
-        ensures changes_map { IsTrue (D.tells disk.old) → ChangesMap txn.now.items (D.told disk.old) (D.told disk.new) result }
         ensures stopped { OnErr result (HasStopped self.new.journal) }
-        ensures tells { D.tells disk.new ≡ D.tells disk.old }
-        ensures cause { HasCause (D.faults disk.old) (D.faults disk.new) result }
     {
         self.journal.commit(disk, txn)?;
         note_puts(&mut self.live, txn);

@@ -1,7 +1,10 @@
 -- What rebuilding answers.
-use Rattle.std.specs.Prelude.{◌≡◌, ℕ, ◌≤◌, List, Result, Ok, Err, ⊤}
-use Rattle.ss_outside.specs.Causes.{Rose}
-use Rattle.ss_journal.specs.Redo.{SlotMap}
+use Rattle.std.specs.Prelude.{◌≡◌, ℕ, List, Result, Ok, Err, ⊤}
+use Rattle.ss_outside.specs.Crash.{OnlyReads}
+use Rattle.ss_outside.specs.Disk.{Told}
+use Rattle.ss_outside.specs.Verdict.{Verdict, UnlessFailed, fine, refused, no_memory, failed}
+use Rattle.ss_journal.specs.Redo.{SlotMap, StandsFor}
+use Rattle.ss_records.specs.Kept.{AreKept, RecordsState}
 use Rattle.ss_model.specs.State.{Stream}
 use Rattle.ss_recover.specs.Held.{AreHeld}
 use Rattle.ss_recover.specs.Parts.{carried, bad_slot, bad_stream, carries}
@@ -17,25 +20,17 @@ RebuildsAs found (Err (BadStream id)) = carried found ≡ bad_stream id
 RebuildsAs found (Err Disk) = ⊤
 RebuildsAs found (Err OutOfMemory) = ⊤
 
--- a fact at every answer but that the disk failed, and at that answer alone
-abbrev pub NotDisk : {T : Type 0} → Result T RecoverError → Type 0 → Type 0
-NotDisk (Err Disk) P = ⊤
-NotDisk (Ok value) P = P
-NotDisk (Err (BadSlot n)) P = P
-NotDisk (Err (BadStream id)) P = P
-NotDisk (Err OutOfMemory) P = P
+-- the verdict of rebuilding
+abbrev pub verdict_of_rebuild : {T : Type 0} → Result T RecoverError → Verdict
+verdict_of_rebuild (Ok value) = fine
+verdict_of_rebuild (Err Disk) = failed
+verdict_of_rebuild (Err (BadSlot n)) = refused
+verdict_of_rebuild (Err (BadStream id)) = refused
+verdict_of_rebuild (Err OutOfMemory) = no_memory
 
-abbrev pub OnDisk : {T : Type 0} → Result T RecoverError → Type 0 → Type 0
-OnDisk (Err Disk) P = P
-OnDisk (Ok value) P = ⊤
-OnDisk (Err (BadSlot n)) P = ⊤
-OnDisk (Err (BadStream id)) P = ⊤
-OnDisk (Err OutOfMemory) P = ⊤
-
--- the disk is blamed only where its count of faults rose, and otherwise the count stays
-abbrev pub BlamesDisk : {T : Type 0} → ℕ → ℕ → Result T RecoverError → Type 0
-BlamesDisk before now (Err Disk) = (before ≤ now) × Rose before now
-BlamesDisk before now (Ok value) = now ≡ before
-BlamesDisk before now (Err (BadSlot n)) = now ≡ before
-BlamesDisk before now (Err (BadStream id)) = now ≡ before
-BlamesDisk before now (Err OutOfMemory) = now ≡ before
+-- The streams of the content's map are rebuilt, or its lowest damaged slot is told, or else its lowest damaged stream. The
+-- records are these then. Content and images stay.
+pub record Rebuilds (records : RecordsState) (result : Result Parts RecoverError) (old new : Told) : Type 0 where
+  pub carried : (found : SlotMap) → StandsFor old.content found → RebuildsAs found result
+  pub kept : UnlessFailed (verdict_of_rebuild result) (AreKept records new.content)
+  pub reads : OnlyReads old new

@@ -2,6 +2,7 @@
 ghost use Rattle.std.specs.Prelude.{◌≡◌, ◌<◌, ◌≤◌, All, IsTrue, IfOk, IfSome, IfNone, Some, length, map, filter, true};
 ghost use Rattle.std.specs.List.{range_with_len};
 ghost use Rattle.ss_outside.specs.Crash.{OnlyReads};
+ghost use Rattle.ss_outside.specs.Verdict.{Counted, OnFailed, UnlessFailed};
 ghost use Rattle.ss_journal.specs.Kept.{IsRunning, HasStopped};
 ghost use Rattle.ss_journal.specs.Redo.{SlotMap, StandsFor};
 ghost use Rattle.ss_journal.specs.declared.format.TheConstants.{MOST_SLOTS};
@@ -9,7 +10,7 @@ ghost use Rattle.ss_records.specs.Kept.{AreKept};
 ghost use Rattle.ss_records.specs.Live.{is_live};
 ghost use Rattle.ss_codec.specs.Decoded.{decoded};
 ghost use Rattle.ss_recover.specs.Gathered.{SpellsNone, ReadsAs, GathersAs};
-ghost use Rattle.ss_recover.specs.Rebuilt.{BlamesDisk, NotDisk, OnDisk};
+ghost use Rattle.ss_recover.specs.Rebuilt.{verdict_of_rebuild};
 ghost use Rattle.ss_recover.specs.Walk.{IsUsable};
 
 use crate::RecoverError;
@@ -43,18 +44,18 @@ fn read_record<D: Disk>(
 ) -> Result<Found, RecoverError>
     requires running { IsRunning records.old.journal }
     requires slot { slot < MOST_SLOTS }
-    requires one_disk { IsTrue (D.tells disk.old) → AreKept records.old (D.told disk.old).content }
-    ensures found { IsTrue (D.tells disk.old) → (found : SlotMap) → StandsFor (D.told disk.old).content found
+    requires one_disk { IsTrue (D.seen disk.old).tells → AreKept records.old (D.seen disk.old).told.content }
+    ensures found { IsTrue (D.seen disk.old).tells → (found : SlotMap) → StandsFor (D.seen disk.old).told.content found
         → ReadsAs (found.bytes slot) slot result }
     ensures usable { IfOk result (λ f. IsUsable f.holds) }
     ensures slot { IfOk result (λ f. f.slot ≡ slot) }
-    ensures one_disk { IsTrue (D.tells disk.old) → NotDisk result (AreKept records.new (D.told disk.new).content) }
-    ensures journal { NotDisk result (records.new.journal ≡ records.old.journal) }
+    ensures one_disk { IsTrue (D.seen disk.old).tells → UnlessFailed (verdict_of_rebuild result) (AreKept records.new (D.seen disk.new).told.content) }
+    ensures journal { UnlessFailed (verdict_of_rebuild result) (records.new.journal ≡ records.old.journal) }
     ensures live { records.new.live ≡ records.old.live }
-    ensures stopped { OnDisk result (HasStopped records.new.journal) }
-    ensures reads { IsTrue (D.tells disk.old) → OnlyReads (D.told disk.old) (D.told disk.new) }
-    ensures tells { D.tells disk.new ≡ D.tells disk.old }
-    ensures cause { BlamesDisk (D.faults disk.old) (D.faults disk.new) result }
+    ensures stopped { OnFailed (verdict_of_rebuild result) (HasStopped records.new.journal) }
+    ensures reads { IsTrue (D.seen disk.old).tells → OnlyReads (D.seen disk.old).told (D.seen disk.new).told }
+    ensures tells { (D.seen disk.new).tells ≡ (D.seen disk.old).tells }
+    ensures cause { Counted (verdict_of_rebuild result) (D.seen disk.old).faults (D.seen disk.new).faults }
 {
     match records.read(disk, slot) {
         Ok(bytes) => match record_in(&bytes) {
@@ -75,20 +76,20 @@ pub fn gather<D: Disk>(
     disk: &mut D,
 ) -> Result<Vec<Found>, RecoverError>
     requires running { IsRunning records.old.journal }
-    requires one_disk { IsTrue (D.tells disk.old) → AreKept records.old (D.told disk.old).content }
-    ensures found { IsTrue (D.tells disk.old) → (found : SlotMap) → StandsFor (D.told disk.old).content found
+    requires one_disk { IsTrue (D.seen disk.old).tells → AreKept records.old (D.seen disk.old).told.content }
+    ensures found { IsTrue (D.seen disk.old).tells → (found : SlotMap) → StandsFor (D.seen disk.old).told.content found
         → GathersAs found result }
     ensures usable { IfOk result (λ all. All (λ f. IsUsable f.holds) all.items) }
     ensures few { IfOk result (λ all. length all.items ≤ MOST_SLOTS) }
     ensures slots { IfOk result (λ all. map (λ f. f.slot) all.items
         ≡ filter (is_live records.old.live) (range_with_len 0 (length records.old.live))) }
-    ensures one_disk { IsTrue (D.tells disk.old) → NotDisk result (AreKept records.new (D.told disk.new).content) }
-    ensures journal { NotDisk result (records.new.journal ≡ records.old.journal) }
+    ensures one_disk { IsTrue (D.seen disk.old).tells → UnlessFailed (verdict_of_rebuild result) (AreKept records.new (D.seen disk.new).told.content) }
+    ensures journal { UnlessFailed (verdict_of_rebuild result) (records.new.journal ≡ records.old.journal) }
     ensures live { records.new.live ≡ records.old.live }
-    ensures stopped { OnDisk result (HasStopped records.new.journal) }
-    ensures reads { IsTrue (D.tells disk.old) → OnlyReads (D.told disk.old) (D.told disk.new) }
-    ensures tells { D.tells disk.new ≡ D.tells disk.old }
-    ensures cause { BlamesDisk (D.faults disk.old) (D.faults disk.new) result }
+    ensures stopped { OnFailed (verdict_of_rebuild result) (HasStopped records.new.journal) }
+    ensures reads { IsTrue (D.seen disk.old).tells → OnlyReads (D.seen disk.old).told (D.seen disk.new).told }
+    ensures tells { (D.seen disk.new).tells ≡ (D.seen disk.old).tells }
+    ensures cause { Counted (verdict_of_rebuild result) (D.seen disk.old).faults (D.seen disk.new).faults }
 {
     let mut all = Vec::with_capacity(alloc, records.live() as usize)?;
     for slot in 0..records.extent() {

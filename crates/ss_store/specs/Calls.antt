@@ -27,8 +27,8 @@ abbrev pub StandsForEither : List Event → Event → List ℕ → Type 0
 StandsForEither history event image = Stands history image ⊎ Stands (history ++ event ∷ []) image
 
 -- A call adds an event to the history that the disk stands for, wholly or not at all.
-abbrev pub AddsEvent : {T E : Type 0} → Event → Told → Told → Result T E → Type 0
-AddsEvent event old new result =
+abbrev pub AddsEvent : {T E : Type 0} → Event → Result T E → Told → Told → Type 0
+AddsEvent event result old new =
     (history : List Event) → Turns (Stands history) (StandsForEither history event) (Stands (history ++ event ∷ [])) old new result
 
 -- the image recovers to these streams, or to those after the event
@@ -36,6 +36,6 @@ abbrev pub RecoversToEither : List Stream → Event → List ℕ → Type 0
 RecoversToEither streams event image = Recovers streams image ⊎ Recovers (stepped streams event) image
 
 -- A call makes a step of the state that the disk stands for, wholly or not at all, also of one that no history has.
-abbrev pub StepsState : {T E : Type 0} → Event → Told → Told → Result T E → Type 0
-StepsState event old new result =
+abbrev pub StepsState : {T E : Type 0} → Event → Result T E → Told → Told → Type 0
+StepsState event result old new =
     (streams : List Stream) → Turns (Recovers streams) (RecoversToEither streams event) (Recovers (stepped streams event)) old new result

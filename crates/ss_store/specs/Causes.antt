@@ -1,6 +1,6 @@
 -- Why calls of a store fail, and what they leave then.
 use Rattle.std.specs.Prelude.{◌≡◌, ℕ, ◌≤◌, Bool, true, List, length, Option, Some, None, Result, Ok, Err, ⊤}
-use Rattle.ss_outside.specs.Causes.{Rose}
+use Rattle.ss_outside.specs.Verdict.{Rose}
 use Rattle.ss_summary.specs.Figures.{Figures}
 use Rattle.ss_model.specs.Standing.{IsState}
 use Rattle.ss_model.specs.State.{Stream}

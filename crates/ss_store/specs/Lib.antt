@@ -11,3 +11,4 @@ pub mod Admitted
 pub mod Asked
 pub mod Surveyed
 pub mod Rebuilt
+pub mod Applied

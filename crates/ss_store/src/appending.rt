@@ -56,12 +56,12 @@ fn add_value<D: Disk, L: Ledger>(
     requires later { is_past part.old.last_time t ≡ false }
     requires time { t ≤ LATEST_TIME }
     requires tiles { TileFrom 1 (entries_of part.old) }
-    requires one_disk { IsTrue (D.tells disk.old) → AreKept records.old (D.told disk.old).content }
-    ensures adds { IsTrue (D.tells disk.old) → (others : List (ℕ × Option Record)) (s : Stream) →
+    requires one_disk { IsTrue (D.seen disk.old).tells → AreKept records.old (D.seen disk.old).told.content }
+    ensures adds { IsTrue (D.seen disk.old).tells → (others : List (ℕ × Option Record)) (s : Stream) →
         Turns (IsHeldIn others part.old s) (IsHalfway others part.old s t v) (IsHeldIn others part.new (with_single s t v))
-        (D.told disk.old) (D.told disk.new) result }
+        (D.seen disk.old).told (D.seen disk.new).told result }
     ensures firm { IsFirm result }
-    ensures one_disk { IsTrue (D.tells disk.old) → OnOk result (AreKept records.new (D.told disk.new).content) }
+    ensures one_disk { IsTrue (D.seen disk.old).tells → OnOk result (AreKept records.new (D.seen disk.new).told.content) }
     ensures same { IsSameStream part.old part.new }
     ensures last_time { OnOk result (part.new.last_time ≡ Some t) }
     ensures values { OnOk result (values_held (entries_of part.new) ≡ values_held (entries_of part.old) + 1) }
@@ -69,8 +69,8 @@ fn add_value<D: Disk, L: Ledger>(
     ensures live { OnOk result (LiveSlotsGo (slots_held part.old) (slots_held part.new) records.old.live records.new.live) }
     ensures settled { OnOk result (IsSettled records.new.journal) }
     ensures extent { OnOk result (records.new.journal.extent ≤ max records.old.journal.extent (slot + 1)) }
-    ensures tells { D.tells disk.new ≡ D.tells disk.old }
-    ensures cause { FaultCause (D.faults disk.old) (D.faults disk.new) result }
+    ensures tells { (D.seen disk.new).tells ≡ (D.seen disk.old).tells }
+    ensures cause { FaultCause (D.seen disk.old).faults (D.seen disk.new).faults result }
 {
     let position = values_held(part, steps) + 1;
     let window = Record::Window {
@@ -108,15 +108,15 @@ pub fn append<D: Disk, L: Ledger>(
     requires time { t ≤ LATEST_TIME }
     requires tiles { TileFrom 1 (entries_of part.old) }
     requires live { AreSomeLive (slots_held part.old) records.old.live }
-    requires one_disk { IsTrue (D.tells disk.old) → AreKept records.old (D.told disk.old).content }
+    requires one_disk { IsTrue (D.seen disk.old).tells → AreKept records.old (D.seen disk.old).told.content }
     // On a disk that tells: the value is added and the windows are closed, and a crash leaves the stream from before, or with
     // the value and some windows joined that are due.
-    ensures appends { IsTrue (D.tells disk.old) → (others : List (ℕ × Option Record)) (s : Stream) →
+    ensures appends { IsTrue (D.seen disk.old).tells → (others : List (ℕ × Option Record)) (s : Stream) →
         Turns (IsHeldIn others part.old s) (IsHalfway others part.old s t v) (IsHeldIn others part.new (with_value s t v))
-        (D.told disk.old) (D.told disk.new) result }
-    ensures firm { IsTrue (D.tells disk.old) → (others : List (ℕ × Option Record)) (s : Stream) →
-        IsHeldIn others part.old s (D.told disk.old).content → IsFirm result }
-    ensures one_disk { IsTrue (D.tells disk.old) → OnOk result (AreKept records.new (D.told disk.new).content) }
+        (D.seen disk.old).told (D.seen disk.new).told result }
+    ensures firm { IsTrue (D.seen disk.old).tells → (others : List (ℕ × Option Record)) (s : Stream) →
+        IsHeldIn others part.old s (D.seen disk.old).told.content → IsFirm result }
+    ensures one_disk { IsTrue (D.seen disk.old).tells → OnOk result (AreKept records.new (D.seen disk.new).told.content) }
     // Over every disk.
     ensures same { IsSameStream part.old part.new }
     ensures last_time { OnOk result (part.new.last_time ≡ Some t) }
@@ -127,8 +127,8 @@ pub fn append<D: Disk, L: Ledger>(
     ensures live { OnOk result (LiveSlotsGo (slots_held part.old) (slots_held part.new) records.old.live records.new.live) }
     ensures settled { OnOk result (IsSettled records.new.journal) }
     ensures extent { OnOk result (records.new.journal.extent ≤ max records.old.journal.extent (slot + 1)) }
-    ensures tells { D.tells disk.new ≡ D.tells disk.old }
-    ensures cause { FaultCause (D.faults disk.old) (D.faults disk.new) result }
+    ensures tells { (D.seen disk.new).tells ≡ (D.seen disk.old).tells }
+    ensures cause { FaultCause (D.seen disk.old).faults (D.seen disk.new).faults result }
 {
     add_value(records, disk, part, slot, t, v, steps)?;
     close(records, disk, part, steps)

@@ -311,20 +311,20 @@ pub fn answer<D: Disk, L: Ledger>(
     requires running { IsRunning records.old.journal }
     requires tiles { TileFrom 1 (entries_of part.now) }
     requires live { AreSomeLive (slots_held part.now) records.old.live }
-    requires one_disk { IsTrue (D.tells disk.old) → AreKept records.old (D.told disk.old).content }
-    ensures answer { IsTrue (D.tells disk.old) → (others : List (ℕ × Option Record)) (s : Stream) →
-        IsHeldIn others part.now s (D.told disk.old).content → IsAnswered (answer_of query.now s) result }
+    requires one_disk { IsTrue (D.seen disk.old).tells → AreKept records.old (D.seen disk.old).told.content }
+    ensures answer { IsTrue (D.seen disk.old).tells → (others : List (ℕ × Option Record)) (s : Stream) →
+        IsHeldIn others part.now s (D.seen disk.old).told.content → IsAnswered (answer_of query.now s) result }
     // Over every disk it is to what was asked for.
     ensures kind { IfOk result (IsOfKind query.now.kind) }
     // A slot that has changed is that of a window.
     ensures changed { IfChanged result (Contains (window_slots_of part.now)) }
-    ensures one_disk { IsTrue (D.tells disk.old) → OnOk result (AreKept records.new (D.told disk.new).content) }
+    ensures one_disk { IsTrue (D.seen disk.old).tells → OnOk result (AreKept records.new (D.seen disk.new).told.content) }
     ensures journal { OnOk result (records.new.journal ≡ records.old.journal) }
     ensures live { records.new.live ≡ records.old.live }
     // The content and the images are those from before.
-    ensures reads { IsTrue (D.tells disk.old) → OnlyReads (D.told disk.old) (D.told disk.new) }
-    ensures tells { D.tells disk.new ≡ D.tells disk.old }
-    ensures cause { FaultCause (D.faults disk.old) (D.faults disk.new) result }
+    ensures reads { IsTrue (D.seen disk.old).tells → OnlyReads (D.seen disk.old).told (D.seen disk.new).told }
+    ensures tells { (D.seen disk.new).tells ≡ (D.seen disk.old).tells }
+    ensures cause { FaultCause (D.seen disk.old).faults (D.seen disk.new).faults result }
 {
     let _live = records.live();
     let _len = part.line.len();

@@ -81,20 +81,20 @@ fn read_joined<D: Disk>(
     requires first { 1 ≤ window.first }
     requires side_by_side { next.first ≡ window.last + 1 }
     requires few { next.last ≤ MOST_VALUES }
-    requires one_disk { IsTrue (D.tells disk.old) → AreKept records.old (D.told disk.old).content }
-    ensures joined { IsTrue (D.tells disk.old) → (others : List (ℕ × Option Record)) (w v : Window) →
+    requires one_disk { IsTrue (D.seen disk.old).tells → AreKept records.old (D.seen disk.old).told.content }
+    ensures joined { IsTrue (D.seen disk.old).tells → (others : List (ℕ × Option Record)) (w v : Window) →
         HasRecords ((window.slot, Some (window_record part.now.id.0 w)) ∷ (next.slot, Some (window_record part.now.id.0 v)) ∷ others)
-        (D.told disk.old).content → span_held window ≡ span_of w → span_held next ≡ span_of v →
+        (D.seen disk.old).told.content → span_held window ≡ span_of w → span_held next ≡ span_of v →
         IsTrue (lies_free part.now.landmarks.landmarks w) → IsTrue (lies_free part.now.landmarks.landmarks v) →
         w.summary.t_last < v.summary.t_first → IsRead (joined w.summary v.summary) result }
     ensures count { IfOk result (λ summary. window.first + summary.count ≡ next.last + 1) }
     ensures possible { IfOk result IsPossible }
-    ensures one_disk { IsTrue (D.tells disk.old) → OnOk result (AreKept records.new (D.told disk.new).content) }
+    ensures one_disk { IsTrue (D.seen disk.old).tells → OnOk result (AreKept records.new (D.seen disk.new).told.content) }
     ensures journal { OnOk result (records.new.journal ≡ records.old.journal) }
     ensures live { records.new.live ≡ records.old.live }
-    ensures reads { IsTrue (D.tells disk.old) → OnlyReads (D.told disk.old) (D.told disk.new) }
-    ensures tells { D.tells disk.new ≡ D.tells disk.old }
-    ensures cause { FaultCause (D.faults disk.old) (D.faults disk.new) result }
+    ensures reads { IsTrue (D.seen disk.old).tells → OnlyReads (D.seen disk.old).told (D.seen disk.new).told }
+    ensures tells { (D.seen disk.new).tells ≡ (D.seen disk.old).tells }
+    ensures cause { FaultCause (D.seen disk.old).faults (D.seen disk.new).faults result }
 {
     // Each slot that is live is one of those that a disk has.
     let _live = records.live();
@@ -120,13 +120,13 @@ fn join<D: Disk, L: Ledger>(
     requires settled { IsSettled records.old.journal }
     requires tiles { TileFrom 1 (entries_of part.old) }
     requires live { AreSomeLive (slots_held part.old) records.old.live }
-    requires one_disk { IsTrue (D.tells disk.old) → AreKept records.old (D.told disk.old).content }
-    ensures joins { IsTrue (D.tells disk.old) → (others : List (ℕ × Option Record)) (s : Stream) →
+    requires one_disk { IsTrue (D.seen disk.old).tells → AreKept records.old (D.seen disk.old).told.content }
+    ensures joins { IsTrue (D.seen disk.old).tells → (others : List (ℕ × Option Record)) (s : Stream) →
         Turns (IsHeldIn others part.old s) (IsPartlyJoined others s) (IsJoinedIn others part.new s)
-        (D.told disk.old) (D.told disk.new) result }
-    ensures firm { IsTrue (D.tells disk.old) → (others : List (ℕ × Option Record)) (s : Stream) →
-        IsHeldIn others part.old s (D.told disk.old).content → IsFirm result }
-    ensures one_disk { IsTrue (D.tells disk.old) → OnOk result (AreKept records.new (D.told disk.new).content) }
+        (D.seen disk.old).told (D.seen disk.new).told result }
+    ensures firm { IsTrue (D.seen disk.old).tells → (others : List (ℕ × Option Record)) (s : Stream) →
+        IsHeldIn others part.old s (D.seen disk.old).told.content → IsFirm result }
+    ensures one_disk { IsTrue (D.seen disk.old).tells → OnOk result (AreKept records.new (D.seen disk.new).told.content) }
     ensures same { IsSameStream part.old part.new }
     ensures last_time { part.new.last_time ≡ part.old.last_time }
     ensures values { OnOk result (values_held (entries_of part.new) ≡ values_held (entries_of part.old)) }
@@ -135,8 +135,8 @@ fn join<D: Disk, L: Ledger>(
     ensures live { OnOk result (LiveSlotsGo (slots_held part.old) (slots_held part.new) records.old.live records.new.live) }
     ensures settled { OnOk result (IsSettled records.new.journal) }
     ensures extent { OnOk result (records.new.journal.extent ≡ records.old.journal.extent) }
-    ensures tells { D.tells disk.new ≡ D.tells disk.old }
-    ensures cause { FaultCause (D.faults disk.old) (D.faults disk.new) result }
+    ensures tells { (D.seen disk.new).tells ≡ (D.seen disk.old).tells }
+    ensures cause { FaultCause (D.seen disk.old).faults (D.seen disk.new).faults result }
 {
     let window = part.line.get(left, steps);
     let next = part.line.get(right, steps);
@@ -167,14 +167,14 @@ pub fn close<D: Disk, L: Ledger>(
     requires settled { IsSettled records.old.journal }
     requires tiles { TileFrom 1 (entries_of part.old) }
     requires live { AreSomeLive (slots_held part.old) records.old.live }
-    requires one_disk { IsTrue (D.tells disk.old) → AreKept records.old (D.told disk.old).content }
+    requires one_disk { IsTrue (D.seen disk.old).tells → AreKept records.old (D.seen disk.old).told.content }
     // On a disk that tells: the windows are closed, and in a crash some were joined that are due.
-    ensures closes { IsTrue (D.tells disk.old) → (others : List (ℕ × Option Record)) (s : Stream) →
+    ensures closes { IsTrue (D.seen disk.old).tells → (others : List (ℕ × Option Record)) (s : Stream) →
         Turns (IsHeldIn others part.old s) (IsPartlyJoined others s) (IsHeldIn others part.new (closed_stream s))
-        (D.told disk.old) (D.told disk.new) result }
-    ensures firm { IsTrue (D.tells disk.old) → (others : List (ℕ × Option Record)) (s : Stream) →
-        IsHeldIn others part.old s (D.told disk.old).content → IsFirm result }
-    ensures one_disk { IsTrue (D.tells disk.old) → OnOk result (AreKept records.new (D.told disk.new).content) }
+        (D.seen disk.old).told (D.seen disk.new).told result }
+    ensures firm { IsTrue (D.seen disk.old).tells → (others : List (ℕ × Option Record)) (s : Stream) →
+        IsHeldIn others part.old s (D.seen disk.old).told.content → IsFirm result }
+    ensures one_disk { IsTrue (D.seen disk.old).tells → OnOk result (AreKept records.new (D.seen disk.new).told.content) }
     // Over every disk.
     ensures same { IsSameStream part.old part.new }
     ensures last_time { part.new.last_time ≡ part.old.last_time }
@@ -185,8 +185,8 @@ pub fn close<D: Disk, L: Ledger>(
     ensures live { OnOk result (LiveSlotsGo (slots_held part.old) (slots_held part.new) records.old.live records.new.live) }
     ensures settled { OnOk result (IsSettled records.new.journal) }
     ensures extent { OnOk result (records.new.journal.extent ≡ records.old.journal.extent) }
-    ensures tells { D.tells disk.new ≡ D.tells disk.old }
-    ensures cause { FaultCause (D.faults disk.old) (D.faults disk.new) result }
+    ensures tells { (D.seen disk.new).tells ≡ (D.seen disk.old).tells }
+    ensures cause { FaultCause (D.seen disk.old).faults (D.seen disk.new).faults result }
 {
     let n = values_held(part, steps);
     while let Some((left, right)) = first_due(part, n, steps) {

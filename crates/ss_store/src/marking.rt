@@ -1,6 +1,6 @@
 // What the landmarks of one stream take.
 ghost use Rattle.std.specs.Prelude.{◌≡◌, ◌≢◌, ◌+◌, ◌<◌, ◌≤◌, ℕ, List, Option, None, length, max, IsTrue, OnOk, OnErr};
-ghost use Rattle.ss_outside.specs.Causes.{HasCause};
+ghost use Rattle.ss_outside.specs.Verdict.{HasCause};
 ghost use Rattle.ss_journal.specs.Kept.{IsSettled};
 ghost use Rattle.ss_journal.specs.declared.format.TheConstants.{MOST_SLOTS};
 ghost use Rattle.ss_records.specs.Kept.{AreKept};
@@ -139,12 +139,12 @@ pub fn put_mark<D: Disk>(
     requires time { t ≤ LAST_TIME }
     requires accepted { mark_refusal part.old t mark ≡ None }
     requires live { AreSomeLive (slots_held part.old) records.old.live }
-    requires one_disk { IsTrue (D.tells disk.old) → AreKept records.old (D.told disk.old).content }
+    requires one_disk { IsTrue (D.seen disk.old).tells → AreKept records.old (D.seen disk.old).told.content }
     // On a disk that tells: the stream after it, and a crash leaves this or the stream from before.
-    ensures marks { IsTrue (D.tells disk.old) → (others : List (ℕ × Option Record)) (s : Stream) →
+    ensures marks { IsTrue (D.seen disk.old).tells → (others : List (ℕ × Option Record)) (s : Stream) →
         Turns (IsHeldIn others part.old s) (IsMarkedOrNot others part.old s t mark) (IsHeldIn others part.new (with_mark s t mark))
-        (D.told disk.old) (D.told disk.new) result }
-    ensures one_disk { IsTrue (D.tells disk.old) → OnOk result (AreKept records.new (D.told disk.new).content) }
+        (D.seen disk.old).told (D.seen disk.new).told result }
+    ensures one_disk { IsTrue (D.seen disk.old).tells → OnOk result (AreKept records.new (D.seen disk.new).told.content) }
     // Over every disk.
     ensures fits { FitsMark mark }
     ensures id { part.new.id ≡ part.old.id }
@@ -157,8 +157,8 @@ pub fn put_mark<D: Disk>(
     ensures live { OnOk result (LiveSlotsGo (slots_held part.old) (slots_held part.new) records.old.live records.new.live) }
     ensures settled { OnOk result (IsSettled records.new.journal) }
     ensures extent { OnOk result (records.new.journal.extent ≤ max records.old.journal.extent (slots_used mark slot)) }
-    ensures tells { D.tells disk.new ≡ D.tells disk.old }
-    ensures cause { HasCause (D.faults disk.old) (D.faults disk.new) result }
+    ensures tells { (D.seen disk.new).tells ≡ (D.seen disk.old).tells }
+    ensures cause { HasCause (D.seen disk.old).faults (D.seen disk.new).faults result }
 {
     let written = record_of(part, t, mark);
     match mark {

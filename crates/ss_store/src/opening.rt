@@ -35,17 +35,17 @@ pub fn read_all<D: Disk>(
     disk: &mut D,
 ) -> Result<(Records, Vec<StreamParts>), OpenError>
     // On a disk that tells: the streams that the records of the content carry, or why it recovers to none.
-    ensures rebuilt { IsTrue (D.tells disk.old) → IfOk result (λ read. IsRebuilt read.1.items (D.told disk.old).content) }
-    ensures opens { IsTrue (D.tells disk.old) → IfErr result (λ error. OpensAs (D.told disk.old).content (Err error)) }
-    ensures one_disk { IsTrue (D.tells disk.old) → IfOk result (λ read. AreKept read.0 (D.told disk.new).content) }
+    ensures rebuilt { IsTrue (D.seen disk.old).tells → IfOk result (λ read. IsRebuilt read.1.items (D.seen disk.old).told.content) }
+    ensures opens { IsTrue (D.seen disk.old).tells → IfErr result (λ error. OpensAs (D.seen disk.old).told.content (Err error)) }
+    ensures one_disk { IsTrue (D.seen disk.old).tells → IfOk result (λ read. AreKept read.0 (D.seen disk.new).told.content) }
     // The content and the images are those from before.
-    ensures reads { IsTrue (D.tells disk.old) → OnlyReads (D.told disk.old) (D.told disk.new) }
+    ensures reads { IsTrue (D.seen disk.old).tells → OnlyReads (D.seen disk.old).told (D.seen disk.new).told }
     // Over every disk.
     ensures whole { IfOk result (λ read. AreWhole read.1.items read.0.live) }
     ensures running { IfOk result (λ read. IsRunning read.0.journal) }
     ensures unchanged { IsUnchanged result }
-    ensures tells { D.tells disk.new ≡ D.tells disk.old }
-    ensures cause { OpenCause (D.faults disk.old) (D.faults disk.new) result }
+    ensures tells { (D.seen disk.new).tells ≡ (D.seen disk.old).tells }
+    ensures cause { OpenCause (D.seen disk.old).faults (D.seen disk.new).faults result }
 {
     let mut records = Records::open(alloc, disk)?;
     let Parts { streams } = rebuild(alloc, &mut records, disk)?;
@@ -77,21 +77,21 @@ pub fn close_all<D: Disk, L: Ledger>(
 ) -> Result<(), Fault>
     requires settled { IsSettled records.old.journal }
     requires whole { AreWhole streams.old records.old.live }
-    requires one_disk { IsTrue (D.tells disk.old) → AreKept records.old (D.told disk.old).content }
+    requires one_disk { IsTrue (D.seen disk.old).tells → AreKept records.old (D.seen disk.old).told.content }
     // On a disk that tells: each stream is closed, and a crash leaves what closes to the same.
-    ensures closes { IsTrue (D.tells disk.old) → (all : List Stream) → IsState all → AllAgree streams.old all →
+    ensures closes { IsTrue (D.seen disk.old).tells → (all : List Stream) → IsState all → AllAgree streams.old all →
         Turns (HasRebuilt streams.old all) (Recovers (closed_state all)) (HasRebuilt streams.new (closed_state all))
-        (D.told disk.old) (D.told disk.new) result }
-    ensures agree { IsTrue (D.tells disk.old) → (all : List Stream) → IsState all → AllAgree streams.old all →
-        HasRebuilt streams.old all (D.told disk.old).content →
+        (D.seen disk.old).told (D.seen disk.new).told result }
+    ensures agree { IsTrue (D.seen disk.old).tells → (all : List Stream) → IsState all → AllAgree streams.old all →
+        HasRebuilt streams.old all (D.seen disk.old).told.content →
         OnOk result (AllAgree streams.new (closed_state all)) × IsFirm result }
-    ensures one_disk { IsTrue (D.tells disk.old) → OnOk result (AreKept records.new (D.told disk.new).content) }
+    ensures one_disk { IsTrue (D.seen disk.old).tells → OnOk result (AreKept records.new (D.seen disk.new).told.content) }
     // Over every disk.
     ensures entries { map entry_of streams.new ≡ map entry_of streams.old }
     ensures whole { OnOk result (AreWhole streams.new records.new.live) }
     ensures settled { OnOk result (IsSettled records.new.journal) }
-    ensures tells { D.tells disk.new ≡ D.tells disk.old }
-    ensures cause { FaultCause (D.faults disk.old) (D.faults disk.new) result }
+    ensures tells { (D.seen disk.new).tells ≡ (D.seen disk.old).tells }
+    ensures cause { FaultCause (D.seen disk.old).faults (D.seen disk.new).faults result }
 {
     for place in 0..streams.len() {
         close(records, disk, &mut streams[place], steps)?;
@@ -108,21 +108,21 @@ pub fn settle_all<D: Disk, L: Ledger>(
 ) -> Result<(), Fault>
     requires running { IsRunning records.old.journal }
     requires whole { AreWhole streams.old records.old.live }
-    requires one_disk { IsTrue (D.tells disk.old) → AreKept records.old (D.told disk.old).content }
+    requires one_disk { IsTrue (D.seen disk.old).tells → AreKept records.old (D.seen disk.old).told.content }
     // On a disk that tells: each stream is closed, and a crash leaves what closes to the same.
-    ensures closes { IsTrue (D.tells disk.old) → (all : List Stream) → IsState all → AllAgree streams.old all →
+    ensures closes { IsTrue (D.seen disk.old).tells → (all : List Stream) → IsState all → AllAgree streams.old all →
         Turns (HasRebuilt streams.old all) (Recovers (closed_state all)) (HasRebuilt streams.new (closed_state all))
-        (D.told disk.old) (D.told disk.new) result }
-    ensures agree { IsTrue (D.tells disk.old) → (all : List Stream) → IsState all → AllAgree streams.old all →
-        HasRebuilt streams.old all (D.told disk.old).content →
+        (D.seen disk.old).told (D.seen disk.new).told result }
+    ensures agree { IsTrue (D.seen disk.old).tells → (all : List Stream) → IsState all → AllAgree streams.old all →
+        HasRebuilt streams.old all (D.seen disk.old).told.content →
         OnOk result (AllAgree streams.new (closed_state all)) × IsFirm result }
-    ensures one_disk { IsTrue (D.tells disk.old) → OnOk result (AreKept records.new (D.told disk.new).content) }
+    ensures one_disk { IsTrue (D.seen disk.old).tells → OnOk result (AreKept records.new (D.seen disk.new).told.content) }
     // Over every disk.
     ensures entries { map entry_of streams.new ≡ map entry_of streams.old }
     ensures whole { OnOk result (AreWhole streams.new records.new.live) }
     ensures settled { OnOk result (IsSettled records.new.journal) }
-    ensures tells { D.tells disk.new ≡ D.tells disk.old }
-    ensures cause { FaultCause (D.faults disk.old) (D.faults disk.new) result }
+    ensures tells { (D.seen disk.new).tells ≡ (D.seen disk.old).tells }
+    ensures cause { FaultCause (D.seen disk.old).faults (D.seen disk.new).faults result }
 {
     records.settle(disk)?;
     close_all(records, disk, streams, steps)

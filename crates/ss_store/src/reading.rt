@@ -81,22 +81,22 @@ pub fn read_window<D: Disk>(
 ) -> Result<Summary, Fault>
     requires running { IsRunning records.old.journal }
     requires slot { entry.slot < MOST_SLOTS }
-    requires one_disk { IsTrue (D.tells disk.old) → AreKept records.old (D.told disk.old).content }
-    ensures window { IsTrue (D.tells disk.old) → (others : List (ℕ × Option Record)) (w : Window) →
-        HasRecords ((entry.slot, Some (window_record part.now.id.0 w)) ∷ others) (D.told disk.old).content →
+    requires one_disk { IsTrue (D.seen disk.old).tells → AreKept records.old (D.seen disk.old).told.content }
+    ensures window { IsTrue (D.seen disk.old).tells → (others : List (ℕ × Option Record)) (w : Window) →
+        HasRecords ((entry.slot, Some (window_record part.now.id.0 w)) ∷ others) (D.seen disk.old).told.content →
         span_held entry ≡ span_of w → IsTrue (lies_free part.now.landmarks.landmarks w) → IsRead w.summary result }
     // Over every disk it has as many values as its positions say, and lies among the landmarks as a window has to.
     ensures count { IfOk result (λ summary. entry.first + summary.count ≡ entry.last + 1) }
     ensures free { IfOk result (λ summary.
         IsTrue (lies_free part.now.landmarks.landmarks (record { first = entry.first; summary = summary }))) }
     ensures changed { IfChanged result (λ slot. slot ≡ entry.slot) }
-    ensures one_disk { IsTrue (D.tells disk.old) → OnOk result (AreKept records.new (D.told disk.new).content) }
+    ensures one_disk { IsTrue (D.seen disk.old).tells → OnOk result (AreKept records.new (D.seen disk.new).told.content) }
     ensures journal { OnOk result (records.new.journal ≡ records.old.journal) }
     ensures live { records.new.live ≡ records.old.live }
     // The content and the images are those from before.
-    ensures reads { IsTrue (D.tells disk.old) → OnlyReads (D.told disk.old) (D.told disk.new) }
-    ensures tells { D.tells disk.new ≡ D.tells disk.old }
-    ensures cause { FaultCause (D.faults disk.old) (D.faults disk.new) result }
+    ensures reads { IsTrue (D.seen disk.old).tells → OnlyReads (D.seen disk.old).told (D.seen disk.new).told }
+    ensures tells { (D.seen disk.new).tells ≡ (D.seen disk.old).tells }
+    ensures cause { FaultCause (D.seen disk.old).faults (D.seen disk.new).faults result }
 {
     let bytes = records.read(disk, entry.slot)?;
     match summary_of(decode(&bytes), part.id, entry) {

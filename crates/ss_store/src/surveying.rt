@@ -7,7 +7,10 @@ ghost use Rattle.ss_model.specs.ClosedState.{closed_state, closed_stream};
 ghost use Rattle.ss_model.specs.Standing.{IsState, IsStream};
 ghost use Rattle.ss_model.specs.State.{Stream};
 ghost use Rattle.ss_recover.specs.Held.{Agrees, AllAgree, TileFrom, entries_of, slots_held};
-ghost use Rattle.ss_store.specs.Causes.{OpenCause};
+ghost use Rattle.ss_outside.specs.Step.{Step};
+ghost use Rattle.ss_outside.specs.Verdict.{IsFirm};
+ghost use Rattle.ss_store.specs.Applied.{SurveysStore};
+ghost use Rattle.ss_store.specs.Errors.{verdict_of_opening};
 ghost use Rattle.ss_store.specs.Surveyed.{IsUnchanged, SurveysAs, survey_of};
 
 use crate::closing::values_held;
@@ -88,14 +91,10 @@ impl Store {
     /// Says what the store on a disk holds once the merges that are due are made, and makes none of them: nothing is
     /// written. Entries in use count as if they were settled. An error is that of `Store::open`, which it gives in its place.
     pub fn survey<D: Disk>(alloc: Global, disk: &mut D) -> Result<Survey, OpenError>
-        // What the state has to which the content recovers, or why it recovers to none.
-        ensures surveys { IsTrue (D.tells disk.old) → SurveysAs (D.told disk.old).content result }
+        // What the state has to which the content recovers, or why it recovers to none. Nothing is written.
+        ensures surveys { Step (verdict_of_opening result) (D.seen disk.old) (D.seen disk.new) (SurveysStore result) }
         // Over every disk no record has changed: each was read once.
-        ensures unchanged { IsUnchanged result }
-        // The content and the images are those from before.
-        ensures reads { IsTrue (D.tells disk.old) → OnlyReads (D.told disk.old) (D.told disk.new) }
-        ensures tells { D.tells disk.new ≡ D.tells disk.old }
-        ensures cause { OpenCause (D.faults disk.old) (D.faults disk.new) result }
+        ensures unchanged { IsFirm (verdict_of_opening result) }
     {
         let (records, streams) = read_all(alloc, disk)?;
         // Each slot that is live is one of those that a disk has.

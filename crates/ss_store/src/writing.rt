@@ -1,6 +1,6 @@
 // Transactions of records.
 ghost use Rattle.std.specs.Prelude.{◌≡◌, ◌≢◌, ◌+◌, ◌<◌, ◌≤◌, max, [], ◌∷◌, true, IsTrue, OnOk, OnErr};
-ghost use Rattle.ss_outside.specs.Causes.{HasCause};
+ghost use Rattle.ss_outside.specs.Verdict.{HasCause};
 ghost use Rattle.ss_journal.specs.Kept.{IsSettled};
 ghost use Rattle.ss_journal.specs.declared.format.TheConstants.{MOST_SLOTS};
 ghost use Rattle.ss_records.specs.Kept.{AreKept};
@@ -25,15 +25,15 @@ pub fn add_record<D: Disk>(
     requires valid { IsTrue (is_valid written.now) }
     requires some { written.now ≢ Free }
     requires free { lowest_free records.old.live ≡ Some slot }
-    requires one_disk { IsTrue (D.tells disk.old) → AreKept records.old (D.told disk.old).content }
-    ensures adds { IsTrue (D.tells disk.old) → AddsRecord slot written.now (D.told disk.old) (D.told disk.new) result }
-    ensures one_disk { IsTrue (D.tells disk.old) → OnOk result (AreKept records.new (D.told disk.new).content) }
+    requires one_disk { IsTrue (D.seen disk.old).tells → AreKept records.old (D.seen disk.old).told.content }
+    ensures adds { IsTrue (D.seen disk.old).tells → AddsRecord slot written.now (D.seen disk.old).told (D.seen disk.new).told result }
+    ensures one_disk { IsTrue (D.seen disk.old).tells → OnOk result (AreKept records.new (D.seen disk.new).told.content) }
     ensures settled { OnOk result (IsSettled records.new.journal) }
     ensures live { OnOk result (LiveSlotsGo [] (slot ∷ []) records.old.live records.new.live) }
     ensures extent { OnOk result (records.new.journal.extent ≤ max records.old.journal.extent (slot + 1)) }
     ensures err { OnErr result (records.new.live ≡ records.old.live) }
-    ensures tells { D.tells disk.new ≡ D.tells disk.old }
-    ensures cause { HasCause (D.faults disk.old) (D.faults disk.new) result }
+    ensures tells { (D.seen disk.new).tells ≡ (D.seen disk.old).tells }
+    ensures cause { HasCause (D.seen disk.old).faults (D.seen disk.new).faults result }
 {
     prove!(records.lowest_free() == Some(slot));
     let mut txn = Txn::new();
@@ -55,14 +55,14 @@ pub fn replace_record<D: Disk>(
     requires valid { IsTrue (is_valid written.now) }
     requires some { written.now ≢ Free }
     requires live { AreSomeLive (slot ∷ []) records.old.live }
-    requires one_disk { IsTrue (D.tells disk.old) → AreKept records.old (D.told disk.old).content }
-    ensures replaces { IsTrue (D.tells disk.old) → Replaces slot written.now (D.told disk.old) (D.told disk.new) result }
-    ensures one_disk { IsTrue (D.tells disk.old) → OnOk result (AreKept records.new (D.told disk.new).content) }
+    requires one_disk { IsTrue (D.seen disk.old).tells → AreKept records.old (D.seen disk.old).told.content }
+    ensures replaces { IsTrue (D.seen disk.old).tells → Replaces slot written.now (D.seen disk.old).told (D.seen disk.new).told result }
+    ensures one_disk { IsTrue (D.seen disk.old).tells → OnOk result (AreKept records.new (D.seen disk.new).told.content) }
     ensures settled { OnOk result (IsSettled records.new.journal) }
     ensures live { records.new.live ≡ records.old.live }
     ensures extent { OnOk result (records.new.journal.extent ≡ records.old.journal.extent) }
-    ensures tells { D.tells disk.new ≡ D.tells disk.old }
-    ensures cause { HasCause (D.faults disk.old) (D.faults disk.new) result }
+    ensures tells { (D.seen disk.new).tells ≡ (D.seen disk.old).tells }
+    ensures cause { HasCause (D.seen disk.old).faults (D.seen disk.new).faults result }
 {
     // The records are sound: each slot that is live lies below the extent.
     prove!(records.live() <= MOST_SLOTS);
@@ -113,16 +113,16 @@ pub fn replace_two<D: Disk>(
     requires valid { IsTrue (is_valid written.now) }
     requires some { written.now ≢ Free }
     requires live { AreSomeLive (kept ∷ freed ∷ []) records.old.live }
-    requires one_disk { IsTrue (D.tells disk.old) → AreKept records.old (D.told disk.old).content }
-    ensures replaces { IsTrue (D.tells disk.old)
-        → ReplacesTwo kept freed written.now (D.told disk.old) (D.told disk.new) result }
-    ensures one_disk { IsTrue (D.tells disk.old) → OnOk result (AreKept records.new (D.told disk.new).content) }
+    requires one_disk { IsTrue (D.seen disk.old).tells → AreKept records.old (D.seen disk.old).told.content }
+    ensures replaces { IsTrue (D.seen disk.old).tells
+        → ReplacesTwo kept freed written.now (D.seen disk.old).told (D.seen disk.new).told result }
+    ensures one_disk { IsTrue (D.seen disk.old).tells → OnOk result (AreKept records.new (D.seen disk.new).told.content) }
     ensures settled { OnOk result (IsSettled records.new.journal) }
     ensures live { OnOk result (LiveSlotsGo (kept ∷ freed ∷ []) (kept ∷ []) records.old.live records.new.live) }
     ensures extent { OnOk result (records.new.journal.extent ≡ records.old.journal.extent) }
     ensures err { OnErr result (records.new.live ≡ records.old.live) }
-    ensures tells { D.tells disk.new ≡ D.tells disk.old }
-    ensures cause { HasCause (D.faults disk.old) (D.faults disk.new) result }
+    ensures tells { (D.seen disk.new).tells ≡ (D.seen disk.old).tells }
+    ensures cause { HasCause (D.seen disk.old).faults (D.seen disk.new).faults result }
 {
     // The records are sound: each slot that is live lies below the extent.
     prove!(records.live() <= MOST_SLOTS);

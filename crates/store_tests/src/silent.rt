@@ -1,6 +1,6 @@
 // A disk that tells nothing.
 ghost use Rattle.std.specs.Prelude.{◌≡◌, ◌+◌, ◌≤◌, length};
-ghost use Rattle.ss_outside.specs.Causes.{HasCause};
+ghost use Rattle.ss_outside.specs.Verdict.{HasCause};
 
 use ss_outside::{Choice, Disk, Failed, LONGEST_DISK, MemDisk};
 use std::alloc::AllocError;

@@ -1,6 +1,6 @@
 // What a device answers where the system answers a call of it.
 ghost use Rattle.std.specs.Prelude.{◌≡◌, ◌⊎◌, ◌↔◌, IsErr, Ok, IfOk, OnErr};
-ghost use Rattle.ss_outside.specs.Causes.{HasCause};
+ghost use Rattle.ss_outside.specs.Verdict.{HasCause};
 ghost use Rattle.ss_outside.specs.Memory.{one_more};
 
 use ss_outside::Failed;

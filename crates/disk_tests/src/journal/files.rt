@@ -94,7 +94,7 @@ fn is_filled(bytes: &[u8; 128], byte: u8) -> bool {
 // Whether a journal has this map, of at most two slots.
 fn has<D: Disk>(journal: &mut Journal, disk: &mut D, map: Map<'_>) -> Result<bool, JournalError>
     requires running { IsRunning journal.old }
-    requires one_disk { IsTrue (D.tells disk.old) → IsKept journal.old (D.told disk.old).content }
+    requires one_disk { IsTrue (D.seen disk.old).tells → IsKept journal.old (D.seen disk.old).told.content }
 {
     let first = journal.read(disk, 0)?;
     let second = journal.read(disk, 1)?;

@@ -24,8 +24,8 @@ fn put_of(slot: u32, byte: u8) -> Put
 // A journal that is opened and settled.
 pub fn settled<D: Disk>(alloc: Global, disk: &mut D) -> Result<Journal, JournalError>
     ensures settled { IfOk result (λ journal. IsSettled journal) }
-    ensures one_disk { IsTrue (D.tells disk.old) → IfOk result (λ journal. IsKept journal (D.told disk.new).content) }
-    ensures tells { D.tells disk.new ≡ D.tells disk.old }
+    ensures one_disk { IsTrue (D.seen disk.old).tells → IfOk result (λ journal. IsKept journal (D.seen disk.new).told.content) }
+    ensures tells { (D.seen disk.new).tells ≡ (D.seen disk.old).tells }
 {
     let mut journal = Journal::open(alloc, disk)?;
     journal.settle(disk)?;
@@ -35,10 +35,10 @@ pub fn settled<D: Disk>(alloc: Global, disk: &mut D) -> Result<Journal, JournalE
 // Commits, if there is a slot 0.
 pub fn commit<D: Disk>(journal: &mut Journal, disk: &mut D, bytes: Commit) -> Result<(), Failed>
     requires settled { IsSettled journal.old }
-    requires one_disk { IsTrue (D.tells disk.old) → IsKept journal.old (D.told disk.old).content }
+    requires one_disk { IsTrue (D.seen disk.old).tells → IsKept journal.old (D.seen disk.old).told.content }
     ensures settled { OnOk result (IsSettled journal.new) }
-    ensures one_disk { IsTrue (D.tells disk.old) → OnOk result (IsKept journal.new (D.told disk.new).content) }
-    ensures tells { D.tells disk.new ≡ D.tells disk.old }
+    ensures one_disk { IsTrue (D.seen disk.old).tells → OnOk result (IsKept journal.new (D.seen disk.new).told.content) }
+    ensures tells { (D.seen disk.new).tells ≡ (D.seen disk.old).tells }
 {
     if bytes.0 == 0 || journal.extent() == 0 {
         return Ok(());

@@ -24,42 +24,29 @@ impl Store {
     ghost use Rattle.ss_store.specs.Kept.{StoreIsKept, part_named, part_numbered};
     ghost use Rattle.ss_store.specs.Recover.{Recovers, Stands};
     ghost use Rattle.ss_steps.specs.Steps.{IsFresh};
+    ghost use Rattle.ss_outside.specs.Step.{Step};
+    ghost use Rattle.ss_outside.specs.Verdict.{IfChanged, IfUndone};
+    ghost use Rattle.ss_store.specs.Applied.{Answers, Looks, StandsOn};
+    ghost use Rattle.ss_store.specs.Errors.{verdict_of_ask};
 
     /// Answers a query, by what the windows of its stream say. It writes nothing, and takes no memory. A refusal is the first
     /// that applies, and makes no call of the disk.
     pub fn ask<D: Disk>(&mut self, disk: &mut D, query: &Query) -> Result<Outcome, AskError>
-        requires one_disk { IsTrue (D.tells disk.old) → self.old.stopped ≡ false → StoreIsKept self.old (D.told disk.old).content }
-        // The answer of the state that the content recovers to.
-        ensures answer { IsTrue (D.tells disk.old) → (streams : List Stream) → Recovers streams (D.told disk.old).content →
-            IfOk result (λ outcome. outcome_of streams query.now ≡ Some outcome) }
-        // It holds the truth over all values of the stream, those of its landmarks among them, for every history that the
-        // content stands for.
-        ensures truth { IsTrue (D.tells disk.old) → (history : List Event) → Stands history (D.told disk.old).content →
-            IfOk result (HoldsTruth query.now (values_of history query.now.name) (marked_of history query.now.name)) }
-        // It leaves nothing open where the range splits no window.
-        ensures exact { IsTrue (D.tells disk.old) → (streams : List Stream) → Recovers streams (D.told disk.old).content →
-            split_by streams query.now ≡ [] → IfOk result IsExactOutcome }
+        requires one_disk { StandsOn self.old (D.seen disk.old) }
+        // The answer of the state that the content recovers to. It holds the truth over all values of the stream.
+        ensures answers { Step (verdict_of_ask result) (D.seen disk.old) (D.seen disk.new) (Answers query.now result) }
+        ensures looks { Looks (verdict_of_ask result) self.old self.new (D.seen disk.old) (D.seen disk.new) }
         // Over every disk it is to what was asked for.
         ensures kind { IfOk result (IsOfKind query.now.kind) }
         // A slot that has changed is that of a window of the stream.
-        ensures changed { IfAskChanged result (λ slot. IfSome (part_named query.now.name self.old.streams) (λ part.
+        ensures changed { IfChanged (verdict_of_ask result) (λ slot. IfSome (part_named query.now.name self.old.streams) (λ part.
             Contains (window_slots_of part) slot)) }
-        ensures one_disk { IsTrue (D.tells disk.old) → self.new.stopped ≡ false → StoreIsKept self.new (D.told disk.new).content }
-        ensures streams { self.new.streams ≡ self.old.streams }
-        ensures live { self.new.records.live ≡ self.old.records.live }
-        ensures journal { OnOk result (self.new.records.journal ≡ self.old.records.journal) }
         // Stopped comes first, exactly where the store had stopped, and then each refusal exactly where it applies.
         ensures stopped { (result ≡ Err AskError.Stopped) ↔ (self.old.stopped ≡ true) }
         ensures refused { self.old.stopped ≡ false → (r : Refusal) →
             (result ≡ Err (AskError.Refused r)) ↔ (refuses_query_held self.old.streams query.now ≡ Some r) }
-        ensures uncalled { IfUnasked result (disk.new ≡ disk.old) }
-        ensures same { IfUnasked result (self.new ≡ self.old) }
-        ensures stops { self.new.stopped ≡ stopped_by_ask self.old.stopped result }
-        ensures firm { IsTrue (D.tells disk.old) → IsAskFirm result }
-        // The content and the images are those from before.
-        ensures reads { IsTrue (D.tells disk.old) → OnlyReads (D.told disk.old) (D.told disk.new) }
-        ensures tells { D.tells disk.new ≡ D.tells disk.old }
-        ensures cause { AskCause (D.faults disk.old) (D.faults disk.new) result }
+        ensures uncalled { IfUndone (verdict_of_ask result) (disk.new ≡ disk.old) }
+        ensures same { IfUndone (verdict_of_ask result) (self.new ≡ self.old) }
     {
         if self.stopped {
             return Err(AskError::Stopped);
@@ -100,23 +87,23 @@ impl Store {
         requires stands { IsSome (part_numbered id.0 self.old.streams) }
         requires same { part_numbered id.0 self.old.streams ≡ part_named query.now.name self.old.streams }
         requires runs { self.old.stopped ≡ false }
-        requires one_disk { IsTrue (D.tells disk.old) → StoreIsKept self.old (D.told disk.old).content }
-        ensures answer { IsTrue (D.tells disk.old) → (streams : List Stream) → Recovers streams (D.told disk.old).content →
+        requires one_disk { IsTrue (D.seen disk.old).tells → StoreIsKept self.old (D.seen disk.old).told.content }
+        ensures answer { IsTrue (D.seen disk.old).tells → (streams : List Stream) → Recovers streams (D.seen disk.old).told.content →
             IfOk result (λ outcome. outcome_of streams query.now ≡ Some outcome) }
         ensures kind { IfOk result (IsOfKind query.now.kind) }
         ensures changed { IfAskChanged result (λ slot. IfSome (part_named query.now.name self.old.streams) (λ part.
             Contains (window_slots_of part) slot)) }
-        ensures one_disk { IsTrue (D.tells disk.old) → self.new.stopped ≡ false → StoreIsKept self.new (D.told disk.new).content }
+        ensures one_disk { IsTrue (D.seen disk.old).tells → self.new.stopped ≡ false → StoreIsKept self.new (D.seen disk.new).told.content }
         ensures streams { self.new.streams ≡ self.old.streams }
         ensures live { self.new.records.live ≡ self.old.records.live }
         ensures journal { OnOk result (self.new.records.journal ≡ self.old.records.journal) }
         ensures running { result ≢ Err AskError.Stopped }
         ensures unrefused { (r : Refusal) → result ≢ Err (AskError.Refused r) }
         ensures stops { self.new.stopped ≡ stopped_by_ask self.old.stopped result }
-        ensures firm { IsTrue (D.tells disk.old) → IsAskFirm result }
-        ensures reads { IsTrue (D.tells disk.old) → OnlyReads (D.told disk.old) (D.told disk.new) }
-        ensures tells { D.tells disk.new ≡ D.tells disk.old }
-        ensures cause { AskCause (D.faults disk.old) (D.faults disk.new) result }
+        ensures firm { IsTrue (D.seen disk.old).tells → IsAskFirm result }
+        ensures reads { IsTrue (D.seen disk.old).tells → OnlyReads (D.seen disk.old).told (D.seen disk.new).told }
+        ensures tells { (D.seen disk.new).tells ≡ (D.seen disk.old).tells }
+        ensures cause { AskCause (D.seen disk.old).faults (D.seen disk.new).faults result }
     {
         let stream = &self.streams[place_of(&self.streams, id)];
         let mut steps = Steps::<L>::new(blank);

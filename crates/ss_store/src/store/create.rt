@@ -98,9 +98,9 @@ impl Store {
         params: Params,
     ) -> Result<Ack, ApplyError>
         requires runs { self.old.stopped ≡ false }
-        requires one_disk { IsTrue (D.tells disk.old) → StoreIsKept self.old (D.told disk.old).content }
-        ensures step { IsTrue (D.tells disk.old) → StepsState (Create name params) (D.told disk.old) (D.told disk.new) result }
-        ensures one_disk { IsTrue (D.tells disk.old) → self.new.stopped ≡ false → StoreIsKept self.new (D.told disk.new).content }
+        requires one_disk { IsTrue (D.seen disk.old).tells → StoreIsKept self.old (D.seen disk.old).told.content }
+        ensures step { IsTrue (D.seen disk.old).tells → StepsState (Create name params) (D.seen disk.old).told (D.seen disk.new).told result }
+        ensures one_disk { IsTrue (D.seen disk.old).tells → self.new.stopped ≡ false → StoreIsKept self.new (D.seen disk.new).told.content }
         ensures ack { IfOk result (λ ack. ack ≡ said_of_held (part_named name self.new.streams)) }
         ensures decay { IfOk result (λ ack. IfSome (part_named name self.new.streams) (λ part.
             0 < ack.n → ack.k + 1 ≤ 2 * cover (lengths_of (params_of part.target)) ack.n)) }
@@ -111,11 +111,11 @@ impl Store {
         ensures same { IfRefused result (self.new ≡ self.old) }
         ensures starved { (result ≡ Err ApplyError.OutOfMemory) → SameButSpare self.old self.new }
         ensures stops { self.new.stopped ≡ stopped_by_apply self.old.stopped result }
-        ensures firm { IsTrue (D.tells disk.old) → IsApplyFirm result }
+        ensures firm { IsTrue (D.seen disk.old).tells → IsApplyFirm result }
         ensures extent { OnOk result (self.new.records.journal.extent
             ≤ max self.old.records.journal.extent (length (flat_map slots_held self.old.streams) + 1)) }
-        ensures tells { D.tells disk.new ≡ D.tells disk.old }
-        ensures cause { ApplyCause (D.faults disk.old) (D.faults disk.new) result }
+        ensures tells { (D.seen disk.new).tells ≡ (D.seen disk.old).tells }
+        ensures cause { ApplyCause (D.seen disk.old).faults (D.seen disk.new).faults result }
     {
         let (target, id, slot) = match self.admit(&name, params) {
             Ok(new) => new,

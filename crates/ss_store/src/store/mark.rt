@@ -102,9 +102,9 @@ impl Store {
         requires in_time { t ≤ LAST_TIME }
         requires runs { self.old.stopped ≡ false }
         requires marked { IsInOpen what → of_part name.now self.old.streams (λ part. has_open part.landmarks.landmarks) ≡ true }
-        requires one_disk { IsTrue (D.tells disk.old) → StoreIsKept self.old (D.told disk.old).content }
-        ensures step { IsTrue (D.tells disk.old) → StepsState (event_of name.now t what) (D.told disk.old) (D.told disk.new) result }
-        ensures one_disk { IsTrue (D.tells disk.old) → self.new.stopped ≡ false → StoreIsKept self.new (D.told disk.new).content }
+        requires one_disk { IsTrue (D.seen disk.old).tells → StoreIsKept self.old (D.seen disk.old).told.content }
+        ensures step { IsTrue (D.seen disk.old).tells → StepsState (event_of name.now t what) (D.seen disk.old).told (D.seen disk.new).told result }
+        ensures one_disk { IsTrue (D.seen disk.old).tells → self.new.stopped ≡ false → StoreIsKept self.new (D.seen disk.new).told.content }
         ensures ack { IfOk result (λ ack. ack ≡ said_of_held (part_named name.now self.new.streams)) }
         ensures running { result ≢ Err ApplyError.Stopped }
         ensures refused { (r : Refusal) →
@@ -113,11 +113,11 @@ impl Store {
         ensures same { IfRefused result (self.new ≡ self.old) }
         ensures starved { (result ≡ Err ApplyError.OutOfMemory) → SameButSpare self.old self.new }
         ensures stops { self.new.stopped ≡ stopped_by_apply self.old.stopped result }
-        ensures firm { IsTrue (D.tells disk.old) → IsApplyFirm result }
+        ensures firm { IsTrue (D.seen disk.old).tells → IsApplyFirm result }
         ensures extent { OnOk result (self.new.records.journal.extent
             ≤ max self.old.records.journal.extent (length (flat_map slots_held self.old.streams) + 1)) }
-        ensures tells { D.tells disk.new ≡ D.tells disk.old }
-        ensures cause { ApplyCause (D.faults disk.old) (D.faults disk.new) result }
+        ensures tells { (D.seen disk.new).tells ≡ (D.seen disk.old).tells }
+        ensures cause { ApplyCause (D.seen disk.old).faults (D.seen disk.new).faults result }
     {
         let (place, slot) = match self.marker(name, t, what) {
             Ok(marker) => marker,

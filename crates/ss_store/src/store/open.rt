@@ -16,21 +16,16 @@ impl Store {
     ghost use Rattle.ss_store.specs.Causes.{IfUnwritten, OpenCause, OpensAs};
     ghost use Rattle.ss_store.specs.Kept.{StoreIsKept};
     ghost use Rattle.ss_steps.specs.Steps.{IsFresh};
+    ghost use Rattle.ss_outside.specs.Step.{Step};
+    ghost use Rattle.ss_store.specs.Applied.{OpensStore};
+    ghost use Rattle.ss_store.specs.Errors.{verdict_of_opening};
 
     /// Opens the store on a disk: it reads and judges all of it before it writes, settles the entries in use, and makes the
     /// merges that are due. At an error there is no store, and at all but `Disk` and `Changed` nothing was written.
     pub fn open<D: Disk>(alloc: Global, disk: &mut D) -> Result<Store, OpenError>
-        // The streams that the content recovers to, or why it recovers to none.
-        ensures opens { IsTrue (D.tells disk.old) → OpensAs (D.told disk.old).content result }
-        ensures one_disk { IsTrue (D.tells disk.old) → IfOk result (λ store. StoreIsKept store (D.told disk.new).content) }
+        // The streams that the content recovers to, or why it recovers to none; and nothing is written before that is known.
+        ensures opens { Step (verdict_of_opening result) (D.seen disk.old) (D.seen disk.new) (OpensStore result) }
         ensures runs { IfOk result (λ store. store.stopped ≡ false) }
-        // What the content stands for stays, also in a crash at any moment of the call.
-        ensures state { IsTrue (D.tells disk.old) → KeepsState (D.told disk.old) (D.told disk.new) result }
-        ensures history { IsTrue (D.tells disk.old) → KeepsHistory (D.told disk.old) (D.told disk.new) result }
-        // The content and the images are those from before.
-        ensures unwritten { IsTrue (D.tells disk.old) → IfUnwritten result (OnlyReads (D.told disk.old) (D.told disk.new)) }
-        ensures tells { D.tells disk.new ≡ D.tells disk.old }
-        ensures cause { OpenCause (D.faults disk.old) (D.faults disk.new) result }
     {
         Store::open_in::<D, Brand>(alloc, disk, Blank::new(1))
     }
@@ -42,13 +37,13 @@ impl Store {
         blank: Blank,
     ) -> Result<Store, OpenError>
         requires { IsFresh L.name L.parts blank }
-        ensures opens { IsTrue (D.tells disk.old) → OpensAs (D.told disk.old).content result }
-        ensures one_disk { IsTrue (D.tells disk.old) → IfOk result (λ store. StoreIsKept store (D.told disk.new).content) }
+        ensures opens { IsTrue (D.seen disk.old).tells → OpensAs (D.seen disk.old).told.content result }
+        ensures one_disk { IsTrue (D.seen disk.old).tells → IfOk result (λ store. StoreIsKept store (D.seen disk.new).told.content) }
         ensures runs { IfOk result (λ store. store.stopped ≡ false) }
-        ensures state { IsTrue (D.tells disk.old) → KeepsState (D.told disk.old) (D.told disk.new) result }
-        ensures unwritten { IsTrue (D.tells disk.old) → IfUnwritten result (OnlyReads (D.told disk.old) (D.told disk.new)) }
-        ensures tells { D.tells disk.new ≡ D.tells disk.old }
-        ensures cause { OpenCause (D.faults disk.old) (D.faults disk.new) result }
+        ensures state { IsTrue (D.seen disk.old).tells → KeepsState (D.seen disk.old).told (D.seen disk.new).told result }
+        ensures unwritten { IsTrue (D.seen disk.old).tells → IfUnwritten result (OnlyReads (D.seen disk.old).told (D.seen disk.new).told) }
+        ensures tells { (D.seen disk.new).tells ≡ (D.seen disk.old).tells }
+        ensures cause { OpenCause (D.seen disk.old).faults (D.seen disk.new).faults result }
     {
         let (mut records, mut streams) = read_all(alloc, disk)?;
         let catalog = catalog_of(alloc, &streams)?;

@@ -27,6 +27,10 @@ impl Store {
     ghost use Rattle.ss_store.specs.Kept.{StoreIsKept, part_numbered};
     ghost use Rattle.ss_store.specs.Recover.{Recovers, Stands};
     ghost use Rattle.ss_steps.specs.Steps.{IsFresh};
+    ghost use Rattle.ss_outside.specs.Step.{Step};
+    ghost use Rattle.ss_outside.specs.Verdict.{IfChanged, IfUndone};
+    ghost use Rattle.ss_store.specs.Applied.{Looks, ShowsWindow, StandsOn};
+    ghost use Rattle.ss_store.specs.Errors.{verdict_of_ask};
 
     /// Reads a window of the stream of a number.
     pub fn window_read<D: Disk>(
@@ -37,36 +41,21 @@ impl Store {
     ) -> Result<Placed, AskError>
         requires stands { IsSome (part_numbered id.0 self.old.streams) }
         requires at { IfSome (part_numbered id.0 self.old.streams) (λ part. StandsIn part.line.entries at) }
-        requires one_disk { IsTrue (D.tells disk.old) → self.old.stopped ≡ false → StoreIsKept self.old (D.told disk.old).content }
+        requires one_disk { StandsOn self.old (D.seen disk.old) }
         // The window of the state that the content recovers to.
-        ensures window { IsTrue (D.tells disk.old) → (streams : List Stream) → Recovers streams (D.told disk.old).content →
-            IfOk result (λ placed. IfSome (part_numbered id.0 self.old.streams) (λ part. IfSome (stream_numbered id.0 streams) (λ s.
-            slice_get (map placed_of s.windows) (index_of part.line.entries at) ≡ Some placed))) }
-        // It is at most as long as the target window that holds its newest value.
-        ensures within { IsTrue (D.tells disk.old) → (history : List Event) → Stands history (D.told disk.old).content →
-            IfOk result (λ placed. IfSome (stream_numbered id.0 (state history)) (λ s.
-            IsReadWithinTarget (lengths_of s.params) (values_in s) placed)) }
+        ensures shows { Step (verdict_of_ask result) (D.seen disk.old) (D.seen disk.new) (ShowsWindow id.0 at self.old.streams result) }
+        ensures looks { Looks (verdict_of_ask result) self.old self.new (D.seen disk.old) (D.seen disk.new) }
         // Over every disk it has the positions that are held, and as many values as they say.
         ensures positions { IfSome (part_numbered id.0 self.old.streams) (λ part. IfSome (entry_at part.line.entries at) (λ entry.
             IfOk result (λ placed. (placed.first ≡ entry.first) × (placed.last ≡ entry.last)
             × (placed.first + placed.summary.count ≡ placed.last + 1)))) }
         // A slot that has changed is that of the window.
-        ensures changed { IfAskChanged result (λ slot. IfSome (part_numbered id.0 self.old.streams) (λ part.
+        ensures changed { IfChanged (verdict_of_ask result) (λ slot. IfSome (part_numbered id.0 self.old.streams) (λ part.
             IfSome (entry_at part.line.entries at) (λ entry. slot ≡ entry.slot))) }
-        ensures one_disk { IsTrue (D.tells disk.old) → self.new.stopped ≡ false → StoreIsKept self.new (D.told disk.new).content }
-        ensures streams { self.new.streams ≡ self.old.streams }
-        ensures live { self.new.records.live ≡ self.old.records.live }
-        ensures journal { OnOk result (self.new.records.journal ≡ self.old.records.journal) }
         ensures stopped { (result ≡ Err AskError.Stopped) ↔ (self.old.stopped ≡ true) }
         ensures unrefused { (r : Refusal) → result ≢ Err (AskError.Refused r) }
-        ensures uncalled { self.old.stopped ≡ true → disk.new ≡ disk.old }
-        ensures same { self.old.stopped ≡ true → self.new ≡ self.old }
-        ensures stops { self.new.stopped ≡ stopped_by_ask self.old.stopped result }
-        ensures firm { IsTrue (D.tells disk.old) → IsAskFirm result }
-        // The content and the images are those from before.
-        ensures reads { IsTrue (D.tells disk.old) → OnlyReads (D.told disk.old) (D.told disk.new) }
-        ensures tells { D.tells disk.new ≡ D.tells disk.old }
-        ensures cause { AskCause (D.faults disk.old) (D.faults disk.new) result }
+        ensures uncalled { IfUndone (verdict_of_ask result) (disk.new ≡ disk.old) }
+        ensures same { IfUndone (verdict_of_ask result) (self.new ≡ self.old) }
     {
         if self.stopped {
             return Err(AskError::Stopped);
@@ -100,8 +89,8 @@ impl Store {
         requires stands { IsSome (part_numbered id.0 self.old.streams) }
         requires at { IfSome (part_numbered id.0 self.old.streams) (λ part. StandsIn part.line.entries at) }
         requires runs { self.old.stopped ≡ false }
-        requires one_disk { IsTrue (D.tells disk.old) → StoreIsKept self.old (D.told disk.old).content }
-        ensures window { IsTrue (D.tells disk.old) → (streams : List Stream) → Recovers streams (D.told disk.old).content →
+        requires one_disk { IsTrue (D.seen disk.old).tells → StoreIsKept self.old (D.seen disk.old).told.content }
+        ensures window { IsTrue (D.seen disk.old).tells → (streams : List Stream) → Recovers streams (D.seen disk.old).told.content →
             IfOk result (λ placed. IfSome (part_numbered id.0 self.old.streams) (λ part. IfSome (stream_numbered id.0 streams) (λ s.
             slice_get (map placed_of s.windows) (index_of part.line.entries at) ≡ Some placed))) }
         ensures positions { IfSome (part_numbered id.0 self.old.streams) (λ part. IfSome (entry_at part.line.entries at) (λ entry.
@@ -109,17 +98,17 @@ impl Store {
             × (placed.first + placed.summary.count ≡ placed.last + 1)))) }
         ensures changed { IfAskChanged result (λ slot. IfSome (part_numbered id.0 self.old.streams) (λ part.
             IfSome (entry_at part.line.entries at) (λ entry. slot ≡ entry.slot))) }
-        ensures one_disk { IsTrue (D.tells disk.old) → self.new.stopped ≡ false → StoreIsKept self.new (D.told disk.new).content }
+        ensures one_disk { IsTrue (D.seen disk.old).tells → self.new.stopped ≡ false → StoreIsKept self.new (D.seen disk.new).told.content }
         ensures streams { self.new.streams ≡ self.old.streams }
         ensures live { self.new.records.live ≡ self.old.records.live }
         ensures journal { OnOk result (self.new.records.journal ≡ self.old.records.journal) }
         ensures running { result ≢ Err AskError.Stopped }
         ensures unrefused { (r : Refusal) → result ≢ Err (AskError.Refused r) }
         ensures stops { self.new.stopped ≡ stopped_by_ask self.old.stopped result }
-        ensures firm { IsTrue (D.tells disk.old) → IsAskFirm result }
-        ensures reads { IsTrue (D.tells disk.old) → OnlyReads (D.told disk.old) (D.told disk.new) }
-        ensures tells { D.tells disk.new ≡ D.tells disk.old }
-        ensures cause { AskCause (D.faults disk.old) (D.faults disk.new) result }
+        ensures firm { IsTrue (D.seen disk.old).tells → IsAskFirm result }
+        ensures reads { IsTrue (D.seen disk.old).tells → OnlyReads (D.seen disk.old).told (D.seen disk.new).told }
+        ensures tells { (D.seen disk.new).tells ≡ (D.seen disk.old).tells }
+        ensures cause { AskCause (D.seen disk.old).faults (D.seen disk.new).faults result }
     {
         let entry = self.entry(id, at, &mut Steps::<L>::new(blank));
         let part = &self.streams[place_of(&self.streams, id)];

@@ -5,6 +5,6 @@ use Rattle.calls_bench.proofs.journal.commit_many.Given as goal
 abbrev pub invariant-loop-k : goal.invariant-loop-k
 invariant-loop-k g l = record {
   settled : IsSettled l.journal;
-  tells : g.D.Disk.tells l.disk ≡ g.D.Disk.tells l.fn.disk;
-  one_disk : IsTrue (g.D.Disk.tells l.fn.disk) → IsKept l.journal (g.D.Disk.told l.disk).content;
+  tells : (g.D.Disk.seen l.disk).tells ≡ (g.D.Disk.seen l.fn.disk).tells;
+  one_disk : IsTrue (g.D.Disk.seen l.fn.disk).tells → IsKept l.journal (g.D.Disk.seen l.disk).told.content;
 }

@@ -6,5 +6,5 @@ use Rattle.calls_bench.proofs.records.apply_many.Given as goal
 abbrev pub invariant-loop-k : goal.invariant-loop-k
 invariant-loop-k g l = record {
   settled : IsSettled l.records.journal;
-  one_disk : IsTrue (g.D.Disk.tells l.disk) → AreKept l.records (g.D.Disk.told l.disk).content;
+  one_disk : IsTrue (g.D.Disk.seen l.disk).tells → AreKept l.records (g.D.Disk.seen l.disk).told.content;
 }

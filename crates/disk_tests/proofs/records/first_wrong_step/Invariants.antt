@@ -7,5 +7,5 @@ abbrev pub invariant-steps : goal.invariant-steps
 invariant-steps g l =
     record {
       settled : IsSettled l.records.journal;
-      one_disk : IsTrue (g.D.Disk.tells l.disk) → AreKept l.records (g.D.Disk.told l.disk).content;
+      one_disk : IsTrue (g.D.Disk.seen l.disk).tells → AreKept l.records (g.D.Disk.seen l.disk).told.content;
     }

@@ -9,9 +9,9 @@ use Rattle.ss_journal.proofs.birth.begin.Goals as goal
 
 pub returns-in_err-write_through-clause-keeps_map : goal.returns-in_err-write_through-clause-keeps_map
 returns-in_err-write_through-clause-keeps_map g c told =
-    let old = g.D.Disk.told c.args.disk.now in
-    let read = g.D.Disk.told c.len.new.self in
-    let new = g.D.Disk.told c.write_through.new.disk in
+    let old = (g.D.Disk.seen c.args.disk.now).told in
+    let read = (g.D.Disk.seen c.len.new.self).told in
+    let new = (g.D.Disk.seen c.write_through.new.disk).told in
     let short : length old.content ≤ 1 = omega (arith, c.if-branch-le1.true, c.in_ok-len.ensures.length told) in
     let failed = c.from_residual-in_err-write_through in
     keeps-failed old new failed.result failed.ensures.0 ((0, 1) ∷ [])
@@ -20,9 +20,9 @@ returns-in_err-write_through-clause-keeps_map g c told =
 
 pub returns-in_ok-write_through-clause-keeps_map : goal.returns-in_ok-write_through-clause-keeps_map
 returns-in_ok-write_through-clause-keeps_map g c told =
-    let old = g.D.Disk.told c.args.disk.now in
-    let read = g.D.Disk.told c.len.new.self in
-    let new = g.D.Disk.told c.write_through.new.disk in
+    let old = (g.D.Disk.seen c.args.disk.now).told in
+    let read = (g.D.Disk.seen c.len.new.self).told in
+    let new = (g.D.Disk.seen c.write_through.new.disk).told in
     let short : length old.content ≤ 1 = omega (arith, c.if-branch-le1.true, c.in_ok-len.ensures.length told) in
     let told_then = c.len.ensures.tells ∙ told in
     let all = c.in_ok-write_through.ensures.written told_then ∙ ap (λ (list : List ℕ). overwrite list 0 (0 ∷ [])) (c.len.ensures.reads told).same.content in
@@ -33,13 +33,13 @@ returns-in_ok-write_through-clause-keeps_map g c told =
 
 pub returns-in_ok-write_through-clause-begun : goal.returns-in_ok-write_through-clause-begun
 returns-in_ok-write_through-clause-begun g c told =
-    let content = (g.D.Disk.told c.args.disk.now).content in
+    let content = (g.D.Disk.seen c.args.disk.now).told.content in
     let short : length content ≤ 1 = omega (arith, c.if-branch-le1.true, c.in_ok-len.ensures.length told) in
     let all = c.in_ok-write_through.ensures.written (c.len.ensures.tells ∙ told) ∙ ap (λ (list : List ℕ). overwrite list 0 (0 ∷ [])) (c.len.ensures.reads told).same.content in
     subst IsBegun (sym all) (IsBegun-short content short)
 
 pub returns-else-branch-le1-clause-begun : goal.returns-else-branch-le1-clause-begun
 returns-else-branch-le1-clause-begun g c told =
-    let content = (g.D.Disk.told c.args.disk.now).content in
+    let content = (g.D.Disk.seen c.args.disk.now).told.content in
     let long : 1 < length content = omega (arith, c.if-branch-le1.false, c.in_ok-len.ensures.length told) in
     subst IsBegun (sym (c.len.ensures.reads told).same.content) (IsBegun-long content (c.requires.unborn told) long)

@@ -12,12 +12,12 @@ use Rattle.ss_journal.proofs.committing.add_entry.Goals as goal
 
 pub returns-in_err-write_entry-clause-changes_map : goal.returns-in_err-write_entry-clause-changes_map
 returns-in_err-write_entry-clause-changes_map g c told =
-    changes-failed (g.D.Disk.told c.args.disk.now) (g.D.Disk.told c.write_entry.new.disk) c.args.txn.now.items _ c.write_entry.result c.from_residual.ensures.0 (c.write_entry.ensures.keeps_map told)
+    changes-failed (g.D.Disk.seen c.args.disk.now).told (g.D.Disk.seen c.write_entry.new.disk).told c.args.txn.now.items _ c.write_entry.result c.from_residual.ensures.0 (c.write_entry.ensures.keeps_map told)
 
 pub write_through-requires-clause-within : goal.write_through-requires-clause-within
 write_through-requires-clause-within g c told_then =
     let told = sym c.write_entry.ensures.tells ∙ told_then in
-    let long = long-spelled c.args.n c.args.txn.now.items (g.D.Disk.told c.args.disk.now).content c.write_entry.ensures.whole c.requires.txn (c.requires.ready told) c.requires.number in
+    let long = long-spelled c.args.n c.args.txn.now.items (g.D.Disk.seen c.args.disk.now).told.content c.write_entry.ensures.whole c.requires.txn (c.requires.ready told) c.requires.number in
     omega (arith, long, ap length (c.in_ok-write_entry.ensures.written told), c.entry_place.ensures)
 
 -- what stands there after both writes
@@ -27,9 +27,9 @@ gated old mid new body n place is spelled written = written ∙ ap (λ (at : ℕ
 
 pub returns-clause-changes_map : goal.returns-clause-changes_map
 returns-clause-changes_map g c told =
-    let old = g.D.Disk.told c.args.disk.now in
-    let mid = g.D.Disk.told c.write_entry.new.disk in
-    let new = g.D.Disk.told c.write_through.new.disk in
+    let old = (g.D.Disk.seen c.args.disk.now).told in
+    let mid = (g.D.Disk.seen c.write_entry.new.disk).told in
+    let new = (g.D.Disk.seen c.write_through.new.disk).told in
     let n = c.args.n in
     let puts = c.args.txn.now.items in
     let whole = c.write_entry.ensures.whole in
@@ -52,8 +52,8 @@ returns-clause-changes_map g c told =
 
 pub returns-clause-added : goal.returns-clause-added
 returns-clause-added g c told =
-    let old = g.D.Disk.told c.args.disk.now in
-    let mid = g.D.Disk.told c.write_entry.new.disk in
-    let new = g.D.Disk.told c.write_through.new.disk in
+    let old = (g.D.Disk.seen c.args.disk.now).told in
+    let mid = (g.D.Disk.seen c.write_entry.new.disk).told in
+    let new = (g.D.Disk.seen c.write_through.new.disk).told in
     on_ok_weaker c.write_through.result (λ written. subst (AddsEntry c.args.n c.args.txn.now.items old.content) (sym (gated old.content mid.content new.content _ c.args.n c.entry_place.result c.entry_place.ensures (c.in_ok-write_entry.ensures.written told) written))
     (AddsEntry-gated c.args.n c.args.txn.now.items old.content c.write_entry.ensures.whole c.requires.txn (c.requires.ready told) c.requires.number)) (c.write_through.ensures.written (c.write_entry.ensures.tells ∙ told))

@@ -12,21 +12,21 @@ use Rattle.ss_journal.proofs.committing.write_entry.Goals as goal
 
 pub write_through-requires-clause-within : goal.write_through-requires-clause-within
 write_through-requires-clause-within g c told =
-    let content = (g.D.Disk.told c.args.disk.now).content in
+    let content = (g.D.Disk.seen c.args.disk.now).told.content in
     let within = within-ready c.args.n c.args.txn.now.items content c.entry_of-entry.ensures.whole c.requires.txn (c.requires.ready told) c.requires.number in
     omega (arith, within, c.entry_place.ensures)
 
 pub returns-clause-written : goal.returns-clause-written
 returns-clause-written g c told =
-    let content = (g.D.Disk.told c.args.disk.now).content in
+    let content = (g.D.Disk.seen c.args.disk.now).told.content in
     let place : c.entry_place.result + 1 ≡ entry_place c.args.n + 1 = ap (λ (at : ℕ). at + 1) c.entry_place.ensures in
     let body = body-entry c.args.txn.now.items c.entry_of-entry.result c.entry_of-entry.ensures.whole c.requires.txn.few c.entry_of-entry.ensures.value in
     on_ok_weaker c.write_through.result (λ written. written ∙ ap (λ (at : ℕ). overwrite content at (take 543 (drop 1 c.entry_of-entry.result))) place ∙ ap (overwrite content (entry_place c.args.n + 1)) body) (c.write_through.ensures.written told)
 
 pub returns-clause-keeps_map : goal.returns-clause-keeps_map
 returns-clause-keeps_map g c told =
-    let old = g.D.Disk.told c.args.disk.now in
-    let new = g.D.Disk.told c.write_through.new.disk in
+    let old = (g.D.Disk.seen c.args.disk.now).told in
+    let new = (g.D.Disk.seen c.write_through.new.disk).told in
     let n = c.args.n in
     let puts = c.args.txn.now.items in
     let whole = c.entry_of-entry.ensures.whole in

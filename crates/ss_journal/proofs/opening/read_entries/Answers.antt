@@ -22,8 +22,8 @@ loop-n-init g c =
       waiting = All-same (λ (put : Put). put.slot < c.args.slots) _ [] none (All-nil (λ (put : Put). put.slot < c.args.slots));
       tells = refl;
       faults = refl;
-      reads = λ told. reads-none (g.D.Disk.told disk);
-      read = λ told. subst (λ (puts : List Put). IsReadTo (g.D.Disk.told disk).content 0 c.args.slots puts) (sym none) (IsReadTo-none (g.D.Disk.told disk).content c.args.slots (c.requires.born told) (c.requires.counted told));
+      reads = λ told. reads-none (g.D.Disk.seen disk).told;
+      read = λ told. subst (λ (puts : List Put). IsReadTo (g.D.Disk.seen disk).told.content 0 c.args.slots puts) (sym none) (IsReadTo-none (g.D.Disk.seen disk).told.content c.args.slots (c.requires.born told) (c.requires.counted told));
     }
 
 pub returns-in_err-puts-clause-entries : goal.returns-in_err-puts-clause-entries
@@ -36,7 +36,7 @@ returns-in_err-puts-clause-entries g c told =
 pub returns-in-None-clause-entries : goal.returns-in-None-clause-entries
 returns-in-None-clause-entries g c told =
     let before = c.loop-n.invariant in
-    let entry = entry_at (g.D.Disk.told c.loop-n.disk).content c.loop-n.n in
+    let entry = entry_at (g.D.Disk.seen c.loop-n.disk).told.content c.loop-n.n in
     let next = subst (λ (o : Option (ArrayVec Put)). NextAs entry c.loop-n.n c.loop-n.extent (Ok o)) c.in-None.is (c.in_ok-puts.ensures.entry (before.tells ∙ told)) in
     AreEntries-next _ _ c.loop-n.n c.loop-n.extent c.loop-n.waiting (before.reads told).same.content c.loop-n-test.true (before.read told) next
 
@@ -54,9 +54,9 @@ loop-n-preserved g c =
       waiting = rw (more, last) (waiting-below c.loop-n.waiting puts extent sound.1 before.waiting);
       tells = c.next_entry.ensures.tells ∙ before.tells;
       faults = c.in_ok-puts.ensures.cause ∙ before.faults;
-      reads = λ told. reads-joined (g.D.Disk.told c.args.disk.now) (g.D.Disk.told c.loop-n.disk) (g.D.Disk.told c.next_entry.new.disk) (before.reads told) (c.next_entry.ensures.reads (before.tells ∙ told));
+      reads = λ told. reads-joined (g.D.Disk.seen c.args.disk.now).told (g.D.Disk.seen c.loop-n.disk).told (g.D.Disk.seen c.next_entry.new.disk).told (before.reads told) (c.next_entry.ensures.reads (before.tells ∙ told));
       read = λ told.
-          let entry = entry_at (g.D.Disk.told c.loop-n.disk).content c.loop-n.n in
+          let entry = entry_at (g.D.Disk.seen c.loop-n.disk).told.content c.loop-n.n in
           let next = subst (λ (o : Option (ArrayVec Put)). NextAs entry c.loop-n.n extent (Ok o)) c.in-Some.is (c.in_ok-puts.ensures.entry (before.tells ∙ told)) in
           IsReadTo-next _ _ c.loop-n.n extent c.loop-n.waiting (before.reads told).same.content c.loop-n-test.true (before.read told) c.in-Some.puts _ _ next last more;
     }

@@ -9,8 +9,8 @@ invariant-loop-n g l =
       few : length l.waiting ≤ 4 * l.n;
       extent : l.extent ≤ 2 ^ 20;
       waiting : All (λ put. put.slot < l.extent) l.waiting;
-      tells : g.D.Disk.tells l.disk ≡ g.D.Disk.tells l.fn.disk;
-      faults : g.D.Disk.faults l.disk ≡ g.D.Disk.faults l.fn.disk;
-      reads : IsTrue (g.D.Disk.tells l.fn.disk) → OnlyReads (g.D.Disk.told l.fn.disk) (g.D.Disk.told l.disk);
-      read : IsTrue (g.D.Disk.tells l.fn.disk) → IsReadTo (g.D.Disk.told l.fn.disk).content l.n l.extent l.waiting;
+      tells : (g.D.Disk.seen l.disk).tells ≡ (g.D.Disk.seen l.fn.disk).tells;
+      faults : (g.D.Disk.seen l.disk).faults ≡ (g.D.Disk.seen l.fn.disk).faults;
+      reads : IsTrue (g.D.Disk.seen l.fn.disk).tells → OnlyReads (g.D.Disk.seen l.fn.disk).told (g.D.Disk.seen l.disk).told;
+      read : IsTrue (g.D.Disk.seen l.fn.disk).tells → IsReadTo (g.D.Disk.seen l.fn.disk).told.content l.n l.extent l.waiting;
     }

@@ -4,6 +4,6 @@ use Rattle.ss_journal.proofs.opening.read_entry.Goals as goal
 
 pub returns-clause-entry : goal.returns-clause-entry
 returns-clause-entry g c told long =
-    let content = (g.D.Disk.told c.args.disk.now).content in
+    let content = (g.D.Disk.seen c.args.disk.now).told.content in
     read-piece content c.read_at.new.into c.entry_place.result 544 (omega (arith, c.read_at.auto.into)) (omega (arith, c.entry_place.ensures)) (c.in_ok-read_at.ensures.bytes told)
     ∙ ap (λ (at : ℕ). take 544 (drop at content)) c.entry_place.ensures

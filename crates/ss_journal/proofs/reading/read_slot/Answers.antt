@@ -4,6 +4,6 @@ use Rattle.ss_journal.proofs.reading.read_slot.Goals as goal
 
 pub returns-clause-bytes : goal.returns-clause-bytes
 returns-clause-bytes g c told lt =
-    let content = (g.D.Disk.told c.args.disk.now).content in
+    let content = (g.D.Disk.seen c.args.disk.now).told.content in
     read-piece content c.read_at.new.into c.slot_place.result 128 (omega (arith, c.read_at.auto.into)) (omega (arith, c.slot_place.ensures)) (c.in_ok-read_at.ensures.bytes told)
     ∙ ap (λ (at : ℕ). take 128 (drop at content)) c.slot_place.ensures

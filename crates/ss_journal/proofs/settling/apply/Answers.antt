@@ -18,21 +18,21 @@ write_slots-requires-clause-room g c told = HasRoom-in_use _ _ (c.requires.born 
 pub write_through-requires-clause-within : goal.write_through-requires-clause-within
 write_through-requires-clause-within g c told =
     let before = sym c.write_slots.ensures.tells ∙ told in
-    let long = long-slots_written c.args.puts.now (g.D.Disk.told c.args.disk.now).content (c.requires.born before) (c.requires.in_use before) in
+    let long = long-slots_written c.args.puts.now (g.D.Disk.seen c.args.disk.now).told.content (c.requires.born before) (c.requires.in_use before) in
     omega (arith, long, ap length (c.in_ok-write_slots.ensures.written before))
 
 pub returns-in_err-write_slots-clause-keeps_map : goal.returns-in_err-write_slots-clause-keeps_map
 returns-in_err-write_slots-clause-keeps_map g c told =
-    let old = g.D.Disk.told c.args.disk.now in
+    let old = (g.D.Disk.seen c.args.disk.now).told in
     let puts = c.args.puts.now in
-    keeps-failed old (g.D.Disk.told c.write_slots.new.disk) c.from_residual.result c.from_residual.ensures.0 (slot_ranges puts) (c.write_slots.ensures.tears told)
+    keeps-failed old (g.D.Disk.seen c.write_slots.new.disk).told c.from_residual.result c.from_residual.ensures.0 (slot_ranges puts) (c.write_slots.ensures.tears told)
     (λ found image is differs. StandsFor-slots_torn puts old.content (c.requires.born told) (c.requires.in_use told) image differs found is)
 
 pub returns-clause-keeps_map : goal.returns-clause-keeps_map
 returns-clause-keeps_map g c told =
-    let old = g.D.Disk.told c.args.disk.now in
-    let mid = g.D.Disk.told c.write_slots.new.disk in
-    let new = g.D.Disk.told c.write_through.new.disk in
+    let old = (g.D.Disk.seen c.args.disk.now).told in
+    let mid = (g.D.Disk.seen c.write_slots.new.disk).told in
+    let new = (g.D.Disk.seen c.write_through.new.disk).told in
     let puts = c.args.puts.now in
     let born = c.requires.born told in
     let in_use = c.requires.in_use told in
@@ -50,7 +50,7 @@ returns-clause-keeps_map g c told =
 
 pub returns-clause-closed : goal.returns-clause-closed
 returns-clause-closed g c told =
-    let content = (g.D.Disk.told c.args.disk.now).content in
+    let content = (g.D.Disk.seen c.args.disk.now).told.content in
     on_ok_weaker c.write_through.result (λ closed. let all = closed ∙ ap (λ (list : List ℕ). overwrite list 512 (0 ∷ [])) (c.in_ok-write_slots.ensures.written told) in
     subst (λ (list : List ℕ). IsTrue (is_born list) × IsClosed 0 list) (sym all) (closed-written c.args.puts.now content (c.requires.born told) (c.requires.in_use told) c.requires.some))
     (c.write_through.ensures.written (c.write_slots.ensures.tells ∙ told))

@@ -7,10 +7,10 @@ use Rattle.ss_journal.proofs.settling.close_others.Given as goal
 
 abbrev pub invariant-loop-n : goal.invariant-loop-n
 invariant-loop-n g l = record {
-  tells : g.D.Disk.tells l.disk ≡ g.D.Disk.tells l.fn.disk;
-  faults : g.D.Disk.faults l.disk ≡ g.D.Disk.faults l.fn.disk;
-  differs : IsTrue (g.D.Disk.tells l.fn.disk) → DiffersIn other_gates (g.D.Disk.told l.fn.disk).content (g.D.Disk.told l.disk).content;
-  closed : IsTrue (g.D.Disk.tells l.fn.disk) → (k : ℕ) → 0 < k → k < l.n → IsFalse (opens (slice_index (g.D.Disk.told l.disk).content (entry_place k)));
-  same : l.any ≡ false → IsTrue (g.D.Disk.tells l.fn.disk) → StaysSame (g.D.Disk.told l.fn.disk) (g.D.Disk.told l.disk);
-  tears : IsTrue (g.D.Disk.tells l.fn.disk) → Tears other_gates (g.D.Disk.told l.fn.disk) (g.D.Disk.told l.disk);
+  tells : (g.D.Disk.seen l.disk).tells ≡ (g.D.Disk.seen l.fn.disk).tells;
+  faults : (g.D.Disk.seen l.disk).faults ≡ (g.D.Disk.seen l.fn.disk).faults;
+  differs : IsTrue (g.D.Disk.seen l.fn.disk).tells → DiffersIn other_gates (g.D.Disk.seen l.fn.disk).told.content (g.D.Disk.seen l.disk).told.content;
+  closed : IsTrue (g.D.Disk.seen l.fn.disk).tells → (k : ℕ) → 0 < k → k < l.n → IsFalse (opens (slice_index (g.D.Disk.seen l.disk).told.content (entry_place k)));
+  same : l.any ≡ false → IsTrue (g.D.Disk.seen l.fn.disk).tells → StaysSame (g.D.Disk.seen l.fn.disk).told (g.D.Disk.seen l.disk).told;
+  tears : IsTrue (g.D.Disk.seen l.fn.disk).tells → Tears other_gates (g.D.Disk.seen l.fn.disk).told (g.D.Disk.seen l.disk).told;
 }

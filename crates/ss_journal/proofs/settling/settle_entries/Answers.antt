@@ -4,5 +4,5 @@ use Rattle.ss_journal.proofs.settling.settle_entries.Goals as goal
 
 pub returns-clause-keeps_map : goal.returns-clause-keeps_map
 returns-clause-keeps_map g c told =
-    keeps-joined (g.D.Disk.told c.args.disk.now) (g.D.Disk.told c.apply_any.new.disk) (g.D.Disk.told c.close_others.new.disk) c.close_others.result _
+    keeps-joined (g.D.Disk.seen c.args.disk.now).told (g.D.Disk.seen c.apply_any.new.disk).told (g.D.Disk.seen c.close_others.new.disk).told c.close_others.result _
     (c.in_ok-apply_any.ensures.keeps_map told) (c.close_others.ensures.keeps_map (c.apply_any.ensures.tells ∙ told))

@@ -16,18 +16,18 @@ settle_entries-requires-clause-in_use g c told_then =
 
 pub returns-in_err-sync-clause-keeps_map : goal.returns-in_err-sync-clause-keeps_map
 returns-in_err-sync-clause-keeps_map g c told =
-    keeps-sync_failed (g.D.Disk.told c.args.disk.now) (g.D.Disk.told c.sync.new.self) (g.met.D.Disk.knows_now c.args.disk.now told) (c.sync.ensures.time told) (c.sync.ensures.no_other told) _ c.from_residual.ensures.0
+    keeps-sync_failed (g.D.Disk.seen c.args.disk.now).told (g.D.Disk.seen c.sync.new.self).told (g.met.D.Disk.knows_now c.args.disk.now told) (c.sync.ensures.time told) (c.sync.ensures.no_other told) _ c.from_residual.ensures.0
 
 pub returns-in_err-sync-clause-makes_durable : goal.returns-in_err-sync-clause-makes_durable
 returns-in_err-sync-clause-makes_durable g c told =
-    durable-sync_failed (g.D.Disk.told c.args.disk.now) (g.D.Disk.told c.sync.new.self) (g.met.D.Disk.knows_now c.args.disk.now told) (c.sync.ensures.time told) (c.sync.ensures.no_other told) _ c.from_residual.ensures.0
+    durable-sync_failed (g.D.Disk.seen c.args.disk.now).told (g.D.Disk.seen c.sync.new.self).told (g.met.D.Disk.knows_now c.args.disk.now told) (c.sync.ensures.time told) (c.sync.ensures.no_other told) _ c.from_residual.ensures.0
 
 pub returns-clause-keeps_map : goal.returns-clause-keeps_map
 returns-clause-keeps_map g c told =
-    keeps-synced (g.D.Disk.told c.args.disk.now) (g.D.Disk.told c.sync.new.self) (g.met.D.Disk.knows_now c.args.disk.now told) (c.sync.ensures.time told) (c.sync.ensures.no_other told) _
-    (g.D.Disk.told c.settle_entries.new.disk) (c.sync.ensures.content told) (c.in_ok-sync.ensures.durable told) (c.settle_entries.ensures.keeps_map (c.sync.ensures.tells ∙ told))
+    keeps-synced (g.D.Disk.seen c.args.disk.now).told (g.D.Disk.seen c.sync.new.self).told (g.met.D.Disk.knows_now c.args.disk.now told) (c.sync.ensures.time told) (c.sync.ensures.no_other told) _
+    (g.D.Disk.seen c.settle_entries.new.disk).told (c.sync.ensures.content told) (c.in_ok-sync.ensures.durable told) (c.settle_entries.ensures.keeps_map (c.sync.ensures.tells ∙ told))
 
 pub returns-clause-makes_durable : goal.returns-clause-makes_durable
 returns-clause-makes_durable g c told =
-    durable-synced (g.D.Disk.told c.args.disk.now) (g.D.Disk.told c.sync.new.self) (g.met.D.Disk.knows_now c.args.disk.now told) (c.sync.ensures.time told) (c.sync.ensures.no_other told) _
-    (g.D.Disk.told c.settle_entries.new.disk) (c.sync.ensures.content told) (c.in_ok-sync.ensures.durable told) (c.settle_entries.ensures.keeps_map (c.sync.ensures.tells ∙ told))
+    durable-synced (g.D.Disk.seen c.args.disk.now).told (g.D.Disk.seen c.sync.new.self).told (g.met.D.Disk.knows_now c.args.disk.now told) (c.sync.ensures.time told) (c.sync.ensures.no_other told) _
+    (g.D.Disk.seen c.settle_entries.new.disk).told (c.sync.ensures.content told) (c.in_ok-sync.ensures.durable told) (c.settle_entries.ensures.keeps_map (c.sync.ensures.tells ∙ told))

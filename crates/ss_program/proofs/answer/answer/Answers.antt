@@ -9,7 +9,7 @@ use Rattle.ss_program.proofs.answer.answer.Goals as goal
 pub returns-in_default-clause-adds : goal.returns-in_default-clause-adds
 returns-in_default-clause-adds g c told history bytes is =
     let long = ap (λ m. meaning_brings history m) (meaning-long bytes (ap (λ o. option_copied o) (sym c.in_default.is) ∙ is)) in
-    Adds-none history (brings history bytes) (g.D.Disk.told c.args.disk.now) c.send_reply.result (λ has. ap (λ (b : Brought). b.event) long)
+    Adds-none history (brings history bytes) (g.D.Disk.seen c.args.disk.now).told c.send_reply.result (λ has. ap (λ (b : Brought). b.event) long)
     (g.met.D.Disk.knows_now c.args.disk.now told)
 
 pub returns-in_default-clause-replies : goal.returns-in_default-clause-replies

@@ -18,8 +18,8 @@ use Rattle.ss_program.proofs.answer.apply.Goals as goal
 pub returns-in-Ok-clause-adds : goal.returns-in-Ok-clause-adds
 returns-in-Ok-clause-adds g c told history =
     let event = c.args.event.now in
-    let old = g.D.Disk.told c.args.disk.now in
-    let new = g.D.Disk.told c.apply.new.disk in
+    let old = (g.D.Disk.seen c.args.disk.now).told in
+    let new = (g.D.Disk.seen c.apply.new.disk).told in
     let result : Result Reply Status = Ok (Done c.in-Ok.ack) in
     Adds-applied history event old new result
     (λ stands.
@@ -31,8 +31,8 @@ returns-in-Ok-clause-adds g c told history =
 pub returns-in-Ok-clause-reply : goal.returns-in-Ok-clause-reply
 returns-in-Ok-clause-reply g c told history stands =
     let event = c.args.event.now in
-    let old = g.D.Disk.told c.args.disk.now in
-    let new = g.D.Disk.told c.apply.new.disk in
+    let old = (g.D.Disk.seen c.args.disk.now).told in
+    let new = (g.D.Disk.seen c.apply.new.disk).told in
     let runs = c.requires.open.runs in
     let same = refuses-kept c.args.store.now old.content history c.args.event.now (c.requires.open.kept told) stands in
     let none = same ∙ not_refused (Ok c.in-Ok.ack) (refuses_held c.args.store.now.streams event) (c.in-Ok.ensures.refused runs) (λ r is. cc) in
@@ -43,11 +43,11 @@ returns-in-Ok-clause-reply g c told history stands =
 pub returns-in-Err-Refused-clause-adds : goal.returns-in-Err-Refused-clause-adds
 returns-in-Err-Refused-clause-adds g c told history =
     let event = c.args.event.now in
-    let old = g.D.Disk.told c.args.disk.now in
+    let old = (g.D.Disk.seen c.args.disk.now).told in
     let brought = command_brings history (Do event) in
     let still : c.apply.new.disk ≡ c.args.disk.now = rw c.in-Err-Refused.field-0-is at c.in-Err-Refused.ensures.uncalled in
     let result : Result Reply Status = Ok (Refused c.in-Err-Refused.refusal) in
-    subst (λ d. Adds history brought old (g.D.Disk.told d) result) (sym still)
+    subst (λ d. Adds history brought old (g.D.Disk.seen d).told result) (sym still)
     (Adds-none history brought old result
     (λ stands.
     let same = refuses-kept c.args.store.now old.content history c.args.event.now (c.requires.open.kept told) stands in
@@ -58,7 +58,7 @@ returns-in-Err-Refused-clause-adds g c told history =
 
 pub returns-in-Err-Refused-clause-reply : goal.returns-in-Err-Refused-clause-reply
 returns-in-Err-Refused-clause-reply g c told history stands =
-    let old = g.D.Disk.told c.args.disk.now in
+    let old = (g.D.Disk.seen c.args.disk.now).told in
     let same = refuses-kept c.args.store.now old.content history c.args.event.now (c.requires.open.kept told) stands in
     let refused = same ∙ (c.in-Err-Refused.ensures.refused c.requires.open.runs c.in-Err-Refused.refusal).0
     (ap (λ e. Err e) c.in-Err-Refused.field-0-is) in
@@ -67,7 +67,7 @@ returns-in-Err-Refused-clause-reply g c told history stands =
 pub returns-in-Err-OutOfMemory-clause-accepted : goal.returns-in-Err-OutOfMemory-clause-accepted
 returns-in-Err-OutOfMemory-clause-accepted g c told history stands =
     let event = c.args.event.now in
-    let same = refuses-kept c.args.store.now (g.D.Disk.told c.args.disk.now).content history c.args.event.now (c.requires.open.kept told) stands in
+    let same = refuses-kept c.args.store.now (g.D.Disk.seen c.args.disk.now).told.content history c.args.event.now (c.requires.open.kept told) stands in
     IsSome-accepted history event
     (same ∙ not_refused (Err c.in-Err-OutOfMemory.field-0) (refuses_held c.args.store.now.streams event) (c.in-Err-OutOfMemory.ensures.refused c.requires.open.runs)
     (λ r is. let e = c.in-Err-OutOfMemory.field-0-is in cc))
@@ -75,8 +75,8 @@ returns-in-Err-OutOfMemory-clause-accepted g c told history stands =
 pub returns-in-Err-Disk-clause-adds : goal.returns-in-Err-Disk-clause-adds
 returns-in-Err-Disk-clause-adds g c told history =
     let event = c.args.event.now in
-    let old = g.D.Disk.told c.args.disk.now in
-    let new = g.D.Disk.told c.apply.new.disk in
+    let old = (g.D.Disk.seen c.args.disk.now).told in
+    let new = (g.D.Disk.seen c.apply.new.disk).told in
     let result : Result Reply Status = Err DiskFault in
     Adds-applied history event old new result
     (λ stands.
@@ -89,7 +89,7 @@ returns-in-Err-Disk-clause-adds g c told history =
 pub returns-in-Err-Disk-clause-accepted : goal.returns-in-Err-Disk-clause-accepted
 returns-in-Err-Disk-clause-accepted g c told history stands =
     let event = c.args.event.now in
-    let same = refuses-kept c.args.store.now (g.D.Disk.told c.args.disk.now).content history c.args.event.now (c.requires.open.kept told) stands in
+    let same = refuses-kept c.args.store.now (g.D.Disk.seen c.args.disk.now).told.content history c.args.event.now (c.requires.open.kept told) stands in
     IsSome-accepted history event
     (same ∙ not_refused (Err c.in-Err-Disk.field-0) (refuses_held c.args.store.now.streams event) (c.in-Err-Disk.ensures.refused c.requires.open.runs)
     (λ r is. let e = c.in-Err-Disk.field-0-is in cc))

@@ -8,13 +8,13 @@ use Rattle.ss_program.proofs.answer.ask.Goals as goal
 pub returns-in-Ok-clause-reply : goal.returns-in-Ok-clause-reply
 returns-in-Ok-clause-reply g c told history stands =
     let query = c.args.query.now in
-    let same = refuses_query-kept c.args.store.now (g.D.Disk.told c.args.disk.now).content history query (c.requires.open.kept told) stands in
+    let same = refuses_query-kept c.args.store.now (g.D.Disk.seen c.args.disk.now).told.content history query (c.requires.open.kept told) stands in
     let none = same ∙ not_unanswered (Ok c.in-Ok.outcome) (refuses_query_held c.args.store.now.streams query) (c.in-Ok.ensures.refused c.requires.open.runs) (λ r is. cc) in
     ap (λ (b : Brought). b.replies) (brings-answered history query c.in-Ok.outcome none (c.in-Ok.ensures.answer told (state history) stands.state))
 
 pub returns-in-Err-Refused-clause-reply : goal.returns-in-Err-Refused-clause-reply
 returns-in-Err-Refused-clause-reply g c told history stands =
     let query = c.args.query.now in
-    let same = refuses_query-kept c.args.store.now (g.D.Disk.told c.args.disk.now).content history query (c.requires.open.kept told) stands in
+    let same = refuses_query-kept c.args.store.now (g.D.Disk.seen c.args.disk.now).told.content history query (c.requires.open.kept told) stands in
     let refused = same ∙ (c.in-Err-Refused.ensures.refused c.requires.open.runs c.in-Err-Refused.refusal).0 (ap (λ e. Err e) c.in-Err-Refused.field-0-is) in
     ap (λ (b : Brought). b.replies) (brings-unanswered history query c.in-Err-Refused.refusal refused)

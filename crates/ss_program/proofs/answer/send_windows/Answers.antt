@@ -14,7 +14,7 @@ loop-next-init g c = record {
   is_open = c.requires.open;
   tells = refl;
   streams = refl;
-  reads = λ told. reads-none (g.D.Disk.told c.args.disk.now);
+  reads = λ told. reads-none (g.D.Disk.seen c.args.disk.now).told;
   at = c.window_first-next.ensures.stands;
   held = λ told history stands s is.
       none-sent (part_numbered c.args.id.0 c.args.store.now.streams) (λ part. part.line.entries) c.window_first-next.result s (g.K.Sink.held c.args.sink.now)
@@ -32,7 +32,7 @@ returns-in_err-window-clause-sends g c told history stands s is =
     let same : c.from_residual.result ≡ Err c.in_err-window.field-0.0 = search rules in
     subst (λ r. SendsRows (g.K.Sink.held c.args.sink.now) (g.K.Sink.held c.loop-next.sink) (window_rows s) r) (sym same)
     (rows-unread o (λ part. part.line.entries) c.in-Some.at s (g.K.Sink.held c.args.sink.now) (g.K.Sink.held c.loop-next.sink) c.requires.stands at
-    (windows-kept c.args.store.now (g.D.Disk.told c.args.disk.now).content history c.args.id.0 s (c.requires.open.kept told) stands is) held)
+    (windows-kept c.args.store.now (g.D.Disk.seen c.args.disk.now).told.content history c.args.id.0 s (c.requires.open.kept told) stands is) held)
 
 pub returns-in_err-send_reply-clause-sends : goal.returns-in_err-send_reply-clause-sends
 returns-in_err-send_reply-clause-sends g c told history stands s is =
@@ -57,7 +57,7 @@ loop-next-preserved g c =
       is_open = c.in_ok-window.ensures.open;
       tells = c.read.ensures.tells ∙ c.loop-next.invariant.tells;
       streams = streams;
-      reads = λ told. reads-joined (g.D.Disk.told c.args.disk.now) (g.D.Disk.told c.loop-next.disk) (g.D.Disk.told c.read.new.disk) (c.loop-next.invariant.reads told)
+      reads = λ told. reads-joined (g.D.Disk.seen c.args.disk.now).told (g.D.Disk.seen c.loop-next.disk).told (g.D.Disk.seen c.read.new.disk).told (c.loop-next.invariant.reads told)
           (c.read.ensures.reads (c.loop-next.invariant.tells ∙ told));
       at = rw streams at c.window_after-next.ensures.stands;
       held = λ told history stands s is.
@@ -76,5 +76,5 @@ pub returns-clause-sends : goal.returns-clause-sends
 returns-clause-sends g c told history stands s is =
     rows-end (part_numbered c.args.id.0 c.args.store.now.streams) (λ part. part.line.entries) c.loop-next.next s (g.K.Sink.held c.args.sink.now)
     (g.K.Sink.held c.loop-next.sink) c.requires.stands c.in_default.is
-    (windows-kept c.args.store.now (g.D.Disk.told c.args.disk.now).content history c.args.id.0 s (c.requires.open.kept told) stands is)
+    (windows-kept c.args.store.now (g.D.Disk.seen c.args.disk.now).told.content history c.args.id.0 s (c.requires.open.kept told) stands is)
     (c.loop-next.invariant.held told history stands s is)

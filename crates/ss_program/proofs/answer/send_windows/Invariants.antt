@@ -17,15 +17,15 @@ use Rattle.ss_program.proofs.answer.send_windows.Given as goal
 -- the rows of the windows before the next one were sent, and the disk was only read
 abbrev pub invariant-loop-next : goal.invariant-loop-next
 invariant-loop-next g l = record {
-  is_open : IsOpen (g.D.Disk.tells l.disk) (g.D.Disk.told l.disk) l.store;
-  tells : g.D.Disk.tells l.disk ≡ g.D.Disk.tells l.fn.disk;
+  is_open : IsOpen (g.D.Disk.seen l.disk).tells (g.D.Disk.seen l.disk).told l.store;
+  tells : (g.D.Disk.seen l.disk).tells ≡ (g.D.Disk.seen l.fn.disk).tells;
   streams : l.store.streams ≡ l.fn.store.streams;
-  reads : IsTrue (g.D.Disk.tells l.fn.disk) → OnlyReads (g.D.Disk.told l.fn.disk) (g.D.Disk.told l.disk);
+  reads : IsTrue (g.D.Disk.seen l.fn.disk).tells → OnlyReads (g.D.Disk.seen l.fn.disk).told (g.D.Disk.seen l.disk).told;
   at : IfSome (part_numbered l.id.0 l.fn.store.streams) (λ part. IfSome l.next (StandsIn part.line.entries));
-  held : IsTrue (g.D.Disk.tells l.fn.disk) → (history : History) → Stands history (g.D.Disk.told l.fn.disk).content →
+  held : IsTrue (g.D.Disk.seen l.fn.disk).tells → (history : History) → Stands history (g.D.Disk.seen l.fn.disk).told.content →
       (s : Stream) → stream_numbered l.id.0 (state history) ≡ Some s → IfSome (part_numbered l.id.0 l.fn.store.streams) (λ part.
       g.K.Sink.held l.sink ≡ appended (g.K.Sink.held l.fn.sink) (flat_map reply_line (take (rows_done part.line.entries l.next) (window_rows s))));
-  disk_faults : g.D.Disk.faults l.disk ≡ g.D.Disk.faults l.fn.disk;
+  disk_faults : (g.D.Disk.seen l.disk).faults ≡ (g.D.Disk.seen l.fn.disk).faults;
   sink_faults : g.K.Sink.faults l.sink ≡ g.K.Sink.faults l.fn.sink;
 }
 

@@ -17,14 +17,14 @@ returns-in_err-reply-clause-replies g c told history stands =
     let some = c.in_err-reply.ensures.accepted told history stands in
     let same : c.from_residual.result ≡ Err c.in_err-reply.field-0.0 = search rules in
     subst (λ r. Replies brought (g.K.Sink.held c.args.sink.now) (g.K.Sink.held c.args.sink.now) r) (sym same)
-    (Replies-stopped (g.D.Disk.tells c.args.disk.now) brought (g.K.Sink.held c.args.sink.now) c.in_err-reply.field-0.0 c.in_err-reply.ensures.status some
+    (Replies-stopped (g.D.Disk.seen c.args.disk.now).tells brought (g.K.Sink.held c.args.sink.now) c.in_err-reply.field-0.0 c.in_err-reply.ensures.status some
     (event-some history event (refuses (state history) event) some))
 
 pub returns-clause-adds : goal.returns-clause-adds
 returns-clause-adds g c told history =
     let brought = command_brings history (Do c.args.event.now) in
-    Turns-answers (Stands history) (StandsAround history brought) (Stands (history_after history brought)) (g.D.Disk.told c.args.disk.now)
-    (g.D.Disk.told c.apply.new.disk) c.in_ok-reply.reply c.send_reply.result (c.in_ok-reply.ensures.adds told history)
+    Turns-answers (Stands history) (StandsAround history brought) (Stands (history_after history brought)) (g.D.Disk.seen c.args.disk.now).told
+    (g.D.Disk.seen c.apply.new.disk).told c.in_ok-reply.reply c.send_reply.result (c.in_ok-reply.ensures.adds told history)
 
 pub returns-clause-replies : goal.returns-clause-replies
 returns-clause-replies g c told history stands =

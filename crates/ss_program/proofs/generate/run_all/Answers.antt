@@ -25,7 +25,7 @@ loop-command-init g c =
       is_open = c.requires.open;
       tells = refl;
       at = λ told none history stands.
-          IsAt-start history c.args.seed c.args.count c.new-generator.result (g.D.Disk.told c.args.disk.now) c.new-tally.result c.new-generator.ensures.commands
+          IsAt-start history c.args.seed c.args.count c.new-generator.result (g.D.Disk.seen c.args.disk.now).told c.new-tally.result c.new-generator.ensures.commands
           (g.met.D.Disk.knows_now c.args.disk.now told) none stands c.new-tally.ensures;
       faults = refl;
     }
@@ -45,21 +45,21 @@ loop-command-preserved g c =
           let at = c.loop-command.invariant.at told none history stands in
           let told_then = c.loop-command.invariant.tells ∙ told in
           let here = after_lines history (map printed at.done) in
-          IsAt-more history c.args.seed c.args.count c.loop-command.generator c.next.new.self c.in-Some.command (g.D.Disk.told c.args.disk.now)
-          (g.D.Disk.told c.loop-command.disk) (g.D.Disk.told c.reply_to.new.disk) c.in_ok-reply.reply c.loop-command.tally c.take.new.self at next
+          IsAt-more history c.args.seed c.args.count c.loop-command.generator c.next.new.self c.in-Some.command (g.D.Disk.seen c.args.disk.now).told
+          (g.D.Disk.seen c.loop-command.disk).told (g.D.Disk.seen c.reply_to.new.disk).told c.in_ok-reply.reply c.loop-command.tally c.take.new.self at next
           c.in-Some.ensures.sayable (c.in_ok-reply.ensures.adds told_then here) (c.in_ok-reply.ensures.reply told_then here at.ran.stands) c.take.ensures.tallies;
       faults = c.in_ok-reply.ensures.cause ∙ c.loop-command.invariant.faults;
     }
 
 pub returns-in_err-reply-clause-stops : goal.returns-in_err-reply-clause-stops
 returns-in_err-reply-clause-stops g c =
-    let start = g.D.Disk.told c.args.disk.now in
-    let new = g.D.Disk.told c.reply_to.new.disk in
+    let start = (g.D.Disk.seen c.args.disk.now).told in
+    let new = (g.D.Disk.seen c.reply_to.new.disk).told in
     let same : c.from_residual.result ≡ Err c.in_err-reply.field-0.0 = search rules in
-    subst (λ r. OnErr r (IsTrue (g.D.Disk.tells c.args.disk.now) → NothingPending start → (history : History) → Stands history start.content →
+    subst (λ r. OnErr r (IsTrue (g.D.Disk.seen c.args.disk.now).tells → NothingPending start → (history : History) → Stands history start.content →
     LeavesOnly start new (StandsWithin history (generated c.args.seed c.args.count)))) (sym same)
     (λ told none history stands.
     let at = c.loop-command.invariant.at told none history stands in
-    IsAt-stop history c.args.seed c.args.count c.loop-command.generator c.next.new.self c.in-Some.command start (g.D.Disk.told c.loop-command.disk) new
+    IsAt-stop history c.args.seed c.args.count c.loop-command.generator c.next.new.self c.in-Some.command start (g.D.Disk.seen c.loop-command.disk).told new
     c.loop-command.tally (Err c.in_err-reply.field-0.0) at c.in-Some.ensures.next c.in-Some.ensures.sayable
     (c.in_err-reply.ensures.adds (c.loop-command.invariant.tells ∙ told) (after_lines history (map printed at.done))))

@@ -14,11 +14,11 @@ invariant-loop-command g l = record {
   lines : l.tally.lines + length l.generator ≤ 3 * l.fn.count + 7;
   done : l.tally.done ≤ l.tally.lines;
   refused : l.tally.refused ≤ l.tally.lines;
-  is_open : IsOpen (g.D.Disk.tells l.disk) (g.D.Disk.told l.disk) l.store;
-  tells : g.D.Disk.tells l.disk ≡ g.D.Disk.tells l.fn.disk;
-  at : IsTrue (g.D.Disk.tells l.fn.disk) → NothingPending (g.D.Disk.told l.fn.disk) → (history : History) → Stands history (g.D.Disk.told l.fn.disk).content →
-      IsAt history l.fn.seed l.fn.count l.generator (g.D.Disk.told l.fn.disk) (g.D.Disk.told l.disk) l.tally;
-  faults : g.D.Disk.faults l.disk ≡ g.D.Disk.faults l.fn.disk;
+  is_open : IsOpen (g.D.Disk.seen l.disk).tells (g.D.Disk.seen l.disk).told l.store;
+  tells : (g.D.Disk.seen l.disk).tells ≡ (g.D.Disk.seen l.fn.disk).tells;
+  at : IsTrue (g.D.Disk.seen l.fn.disk).tells → NothingPending (g.D.Disk.seen l.fn.disk).told → (history : History) → Stands history (g.D.Disk.seen l.fn.disk).told.content →
+      IsAt history l.fn.seed l.fn.count l.generator (g.D.Disk.seen l.fn.disk).told (g.D.Disk.seen l.disk).told l.tally;
+  faults : (g.D.Disk.seen l.disk).faults ≡ (g.D.Disk.seen l.fn.disk).faults;
 }
 
 abbrev pub decreases-loop-command : goal.decreases-loop-command

@@ -13,6 +13,6 @@ returns-in-Err-take-clause-stops g c _ told history before input left is at repl
       small,
       move.0,
       move.2,
-      subst (λ bs. StopsIn history (lines_so_far (input ++ bs)) (g.D.Disk.told c.args.disk.now) (g.D.Disk.told c.take.new.disk) before (g.K.Sink.held c.take.new.sink) c.in-Err-take.status)
+      subst (λ bs. StopsIn history (lines_so_far (input ++ bs)) (g.D.Disk.seen c.args.disk.now).told (g.D.Disk.seen c.take.new.disk).told before (g.K.Sink.held c.take.new.sink) c.in-Err-take.status)
           move.1 (c.in-Err-take.ensures.stops told history before input at replied),
     )

@@ -26,7 +26,7 @@ one_mode found asked mode other is some known = cc
 pub returns-in-Err-clause-kept : goal.returns-in-Err-clause-kept
 returns-in-Err-clause-kept g c plain told none history stands input is =
     let before = g.K.Sink.held c.args.sink.now in
-    let disk = g.D.Disk.told c.args.disk.now in
+    let disk = (g.D.Disk.seen c.args.disk.now).told in
     HoldsReported-done history input before before disk c.number-in-Err.result [] (lines input) refl (sym (appended-nil before))
     (of_content disk (Stands history) none stands) (λ zero. let seven = c.number-in-Err.ensures in absurd (omega (arith, zero, seven)))
 
@@ -52,11 +52,11 @@ returns-clause-reads g c plain input is =
     ])
 
 -- what the session leaves, or that it didn't begin
-serves : (g : Over) (c : goal.After-number-2 g) → mode_of (words_of c.args.words.now) ≡ Some Run → IsTrue (g.D.Disk.tells c.args.disk.now) →
-    NothingPending (g.D.Disk.told c.args.disk.now) → (history : History) → Stands history (g.D.Disk.told c.args.disk.now).content → (input : List ℕ) →
+serves : (g : Over) (c : goal.After-number-2 g) → mode_of (words_of c.args.words.now) ≡ Some Run → IsTrue (g.D.Disk.seen c.args.disk.now).tells →
+    NothingPending (g.D.Disk.seen c.args.disk.now).told → (history : History) → Stands history (g.D.Disk.seen c.args.disk.now).told.content → (input : List ℕ) →
     g.S.Source.left c.args.source.now ≡ Some input →
     Serves history input (g.S.Source.left c.match-mode.source) (g.K.Sink.held c.args.sink.now) (g.K.Sink.held c.match-mode.sink)
-    (g.D.Disk.told c.args.disk.now) (g.D.Disk.told c.match-mode.disk) c.number-2.result
+    (g.D.Disk.seen c.args.disk.now).told (g.D.Disk.seen c.match-mode.disk).told c.number-2.result
 serves g c plain told none history stands input is =
     let mode = one_mode c.in-Ok-Some.field-0 (mode_of (words_of c.args.words.now)) c.in-Ok-Some.mode Run c.in-Ok-Some.ensures c.in-Ok-Some.field-0-is plain in
     rw c.number-2.ensures (elim c.match-mode.branch [
@@ -81,7 +81,7 @@ returns-clause-done g c plain zero told none history stands input is = (serves g
 pub returns-clause-generates : goal.returns-clause-generates
 returns-clause-generates g c seed count asked told none history stands =
     let before = g.K.Sink.held c.args.sink.now in
-    let old = g.D.Disk.told c.args.disk.now in
+    let old = (g.D.Disk.seen c.args.disk.now).told in
     let mode = one_mode c.in-Ok-Some.field-0 (mode_of (words_of c.args.words.now)) c.in-Ok-Some.mode (Gen seed count) c.in-Ok-Some.ensures c.in-Ok-Some.field-0-is asked in
     rw c.number-2.ensures (elim c.match-mode.branch [
       | in-Run w ↦ (let wrong : Run ≡ Gen seed count = sym w.in-Run.is ∙ mode in cc)
@@ -91,7 +91,7 @@ returns-clause-generates g c seed count asked told none history stands =
           let seeds : w.in-Gen.seed ≡ seed = cc in
           let counts : w.in-Gen.count ≡ count = cc in
           let after = g.K.Sink.held w.generate-status.new.sink in
-          let new = g.D.Disk.told w.generate-status.new.disk in
+          let new = (g.D.Disk.seen w.generate-status.new.disk).told in
           subst (λ s. Generates history s count before after old new (number_of w.generate-status.result)) seeds
           (subst (λ n. Generates history w.in-Gen.seed n before after old new (number_of w.generate-status.result)) counts
           (w.generate-status.ensures.generates told none history stands)))

@@ -12,13 +12,13 @@ use Rattle.ss_program.proofs.running.serve.Given as goal
 abbrev pub invariant-loop-done : goal.invariant-loop-done
 invariant-loop-done g l = record {
   fits : l.done ≤ LONGEST_INPUT;
-  is_open : IsOpen (g.D.Disk.tells l.disk) (g.D.Disk.told l.disk) l.session.store;
-  tells : g.D.Disk.tells l.disk ≡ g.D.Disk.tells l.fn.disk;
+  is_open : IsOpen (g.D.Disk.seen l.disk).tells (g.D.Disk.seen l.disk).told l.session.store;
+  tells : (g.D.Disk.seen l.disk).tells ≡ (g.D.Disk.seen l.fn.disk).tells;
   left : (input : List ℕ) → g.S.Source.left l.fn.source ≡ Some input → IsLeft (g.S.Source.left l.source) input l.done;
-  through : IsTrue (g.D.Disk.tells l.fn.disk) → NothingPending (g.D.Disk.told l.fn.disk) → (history : History) →
-      Stands history (g.D.Disk.told l.fn.disk).content → (input : List ℕ) → g.S.Source.left l.fn.source ≡ Some input →
-      IsThrough history (g.D.Disk.told l.fn.disk) (g.D.Disk.told l.disk) l.session (g.K.Sink.held l.fn.sink) (g.K.Sink.held l.sink) (g.S.Source.left l.source) input l.done;
-  disk_faults : g.D.Disk.faults l.disk ≡ g.D.Disk.faults l.fn.disk;
+  through : IsTrue (g.D.Disk.seen l.fn.disk).tells → NothingPending (g.D.Disk.seen l.fn.disk).told → (history : History) →
+      Stands history (g.D.Disk.seen l.fn.disk).told.content → (input : List ℕ) → g.S.Source.left l.fn.source ≡ Some input →
+      IsThrough history (g.D.Disk.seen l.fn.disk).told (g.D.Disk.seen l.disk).told l.session (g.K.Sink.held l.fn.sink) (g.K.Sink.held l.sink) (g.S.Source.left l.source) input l.done;
+  disk_faults : (g.D.Disk.seen l.disk).faults ≡ (g.D.Disk.seen l.fn.disk).faults;
   source_faults : g.S.Source.faults l.source ≡ g.S.Source.faults l.fn.source;
   sink_faults : g.K.Sink.faults l.sink ≡ g.K.Sink.faults l.fn.sink;
 }

@@ -11,9 +11,9 @@ invariant-loop-slot g l =
       slots : length l.live ≡ MOST_SLOTS;
       below : (slot : ℕ) → is_live l.live slot ≡ true → slot < l.slot;
       journal : l.journal ≡ l.fn.journal;
-      tells : g.D.Disk.tells l.disk ≡ g.D.Disk.tells l.fn.disk;
-      faults : g.D.Disk.faults l.disk ≡ g.D.Disk.faults l.fn.disk;
-      reads : IsTrue (g.D.Disk.tells l.fn.disk) → OnlyReads (g.D.Disk.told l.fn.disk) (g.D.Disk.told l.disk);
-      free : IsTrue (g.D.Disk.tells l.fn.disk) → (found : SlotMap) → StandsFor (g.D.Disk.told l.fn.disk).content found
+      tells : (g.D.Disk.seen l.disk).tells ≡ (g.D.Disk.seen l.fn.disk).tells;
+      faults : (g.D.Disk.seen l.disk).faults ≡ (g.D.Disk.seen l.fn.disk).faults;
+      reads : IsTrue (g.D.Disk.seen l.fn.disk).tells → OnlyReads (g.D.Disk.seen l.fn.disk).told (g.D.Disk.seen l.disk).told;
+      free : IsTrue (g.D.Disk.seen l.fn.disk).tells → (found : SlotMap) → StandsFor (g.D.Disk.seen l.fn.disk).told.content found
           → (slot : ℕ) → slot < l.slot → is_live l.live slot ≡ not (are_zeros (found.bytes slot));
     }

@@ -25,12 +25,12 @@ stands-now before now found same stands = subst (λ (content : List ℕ). Stands
 pub returns-in_err-found-clause-found : goal.returns-in_err-found-clause-found
 returns-in_err-found-clause-found g c told found stands =
     let before = c.loop-slot.invariant in
-    let content = (g.D.Disk.told c.args.disk.now).content in
+    let content = (g.D.Disk.seen c.args.disk.now).told.content in
     let slot = c.loop-slot.slot in
     let kept = c.requires.one_disk told in
     let lt = c.loop-slot-test.true in
     let most = c.extent-slot-end.ensures in
-    let now = stands-now content (g.D.Disk.told c.loop-slot.disk).content found (before.reads told).same.content stands in
+    let now = stands-now content (g.D.Disk.seen c.loop-slot.disk).told.content found (before.reads told).same.content stands in
     let live : is_live c.args.records.now.live slot ≡ not false =
     ap (λ (l : List Bool). is_live l slot) (sym before.live) ∙ sym c.is_live.ensures.value ∙ c.if-is_live.true in
     let zeros = live-zeros c.args.records.now content found slot false kept stands (omega (arith, lt, most.value, most.most)) live in
@@ -42,7 +42,7 @@ returns-in_err-found-clause-found g c told found stands =
 pub returns-clause-found : goal.returns-clause-found
 returns-clause-found g c told found stands =
     let before = c.loop-slot.invariant in
-    let content = (g.D.Disk.told c.args.disk.now).content in
+    let content = (g.D.Disk.seen c.args.disk.now).told.content in
     let most = c.extent-slot-end.ensures in
     let end = c.loop-slot-test.false in
     let kept = c.requires.one_disk told in
@@ -107,12 +107,12 @@ loop-slot-preserved g c =
           record {
             journal = ap (λ (r : RecordsState). r.journal) w.records-is ∙ read.journal ∙ before.journal;
             live = ap (λ (r : RecordsState). r.live) w.records-is ∙ read.live ∙ before.live;
-            tells = ap (λ d. g.D.Disk.tells d) w.disk-is ∙ read.tells ∙ before.tells;
-            faults = ap (λ d. g.D.Disk.faults d) w.disk-is ∙ read.cause ∙ before.faults;
-            reads = λ told. reads-joined _ _ _ (before.reads told) (subst (λ d. OnlyReads (g.D.Disk.told c.loop-slot.disk) (g.D.Disk.told d)) (sym w.disk-is) (read.reads (before.tells ∙ told)));
+            tells = ap (λ d. (g.D.Disk.seen d).tells) w.disk-is ∙ read.tells ∙ before.tells;
+            faults = ap (λ d. (g.D.Disk.seen d).faults) w.disk-is ∙ read.cause ∙ before.faults;
+            reads = λ told. reads-joined _ _ _ (before.reads told) (subst (λ d. OnlyReads (g.D.Disk.seen c.loop-slot.disk).told (g.D.Disk.seen d).told) (sym w.disk-is) (read.reads (before.tells ∙ told)));
             found = λ told found stands.
-                let content = (g.D.Disk.told c.args.disk.now).content in
-                let stands' = stands-now content (g.D.Disk.told c.loop-slot.disk).content found (before.reads told).same.content stands in
+                let content = (g.D.Disk.seen c.args.disk.now).told.content in
+                let stands' = stands-now content (g.D.Disk.seen c.loop-slot.disk).told.content found (before.reads told).same.content stands in
                 let zeros = live-zeros c.args.records.now content found slot false (c.requires.one_disk told) stands within is in
                 let at = read.found (before.tells ∙ told) found stands' in
                 subst (λ fs. AreRead fs found (slot + 1)) (sym pushed) (AreRead-live items found slot x (before.found told found stands) zeros at.0 at.1);
@@ -125,11 +125,11 @@ loop-slot-preserved g c =
           record {
             journal = ap (λ (r : RecordsState). r.journal) w.records-is ∙ before.journal;
             live = ap (λ (r : RecordsState). r.live) w.records-is ∙ before.live;
-            tells = ap (λ d. g.D.Disk.tells d) w.disk-is ∙ before.tells;
-            faults = ap (λ d. g.D.Disk.faults d) w.disk-is ∙ before.faults;
-            reads = λ told. subst (λ d. OnlyReads (g.D.Disk.told c.args.disk.now) (g.D.Disk.told d)) (sym w.disk-is) (before.reads told);
+            tells = ap (λ d. (g.D.Disk.seen d).tells) w.disk-is ∙ before.tells;
+            faults = ap (λ d. (g.D.Disk.seen d).faults) w.disk-is ∙ before.faults;
+            reads = λ told. subst (λ d. OnlyReads (g.D.Disk.seen c.args.disk.now).told (g.D.Disk.seen d).told) (sym w.disk-is) (before.reads told);
             found = λ told found stands.
-                let content = (g.D.Disk.told c.args.disk.now).content in
+                let content = (g.D.Disk.seen c.args.disk.now).told.content in
                 let zeros = live-zeros c.args.records.now content found slot true (c.requires.one_disk told) stands within is in
                 subst (λ fs. AreRead fs found (slot + 1)) (sym kept) (AreRead-zeros items found slot (before.found told found stands) zeros (free-zeros content found slot stands within zeros));
             usable = subst (λ fs. All (λ (f : Found). IsUsable f.holds) fs) (sym kept) before.usable;

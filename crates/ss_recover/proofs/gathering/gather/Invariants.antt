@@ -13,10 +13,10 @@ invariant-loop-slot g l =
     record {
       journal : l.records.journal ≡ l.fn.records.journal;
       live : l.records.live ≡ l.fn.records.live;
-      tells : g.D.Disk.tells l.disk ≡ g.D.Disk.tells l.fn.disk;
-      faults : g.D.Disk.faults l.disk ≡ g.D.Disk.faults l.fn.disk;
-      reads : IsTrue (g.D.Disk.tells l.fn.disk) → OnlyReads (g.D.Disk.told l.fn.disk) (g.D.Disk.told l.disk);
-      found : IsTrue (g.D.Disk.tells l.fn.disk) → (found : SlotMap) → StandsFor (g.D.Disk.told l.fn.disk).content found → AreRead l.all.items found l.slot;
+      tells : (g.D.Disk.seen l.disk).tells ≡ (g.D.Disk.seen l.fn.disk).tells;
+      faults : (g.D.Disk.seen l.disk).faults ≡ (g.D.Disk.seen l.fn.disk).faults;
+      reads : IsTrue (g.D.Disk.seen l.fn.disk).tells → OnlyReads (g.D.Disk.seen l.fn.disk).told (g.D.Disk.seen l.disk).told;
+      found : IsTrue (g.D.Disk.seen l.fn.disk).tells → (found : SlotMap) → StandsFor (g.D.Disk.seen l.fn.disk).told.content found → AreRead l.all.items found l.slot;
       usable : All (λ (f : Found). IsUsable f.holds) l.all.items;
       slots : map (λ (f : Found). f.slot) l.all.items ≡ filter (is_live l.fn.records.live) (range_with_len 0 l.slot);
     }

@@ -16,7 +16,7 @@ returns g c =
     let read = c.in_ok-found.ensures in
     let result = c.streams_of.result in
     let walks : WalksAs sorted result = subst (λ (fs : List Found). WalksAs fs result) c.deref.ensures.value c.streams_of.ensures in
-    let content = (g.D.Disk.told c.args.disk.now).content in
+    let content = (g.D.Disk.seen c.args.disk.now).told.content in
     record {
       carried = λ told found stands.
           rebuilds found all sorted result (HasWholeSlots-StandsFor content found stands) (read.found told found stands) read.usable c.in_ok-sort.ensures.order c.sort.ensures.permutation walks;

@@ -45,12 +45,12 @@ returns-in_err-add_record-clause-adds g c = λ told others s.
     let new = added_part c.args.part.now c.args.slot c.args.t in
     let single : c.one.result ≡ summary_of ((c.args.t, c.args.v) ∷ []) = c.one.ensures ∙ ap (λ v. summary_of ((c.args.t, v) ∷ [])) (to_z-of_z {w = w64} {z = c.args.v} c.ranges.v) in
     Turns-failed (IsHeldIn others c.args.part.now s) (IsHalfway others c.args.part.now s c.args.t c.args.v) (IsHeldIn others new (with_single s c.args.t c.args.v)) _
-    (g.D.Disk.told c.args.disk.now) (g.D.Disk.told c.add_record.new.disk) c.add_record.result c.from_residual.result c.from_residual.ensures.0
+    (g.D.Disk.seen c.args.disk.now).told (g.D.Disk.seen c.add_record.new.disk).told c.add_record.result c.from_residual.result c.from_residual.ensures.0
     (Turns-added c.args.part.now new c.args.slot c.args.t (added_part-added c.args.part.now c.args.slot c.args.t) c.args.v c.one.result single (assumption c.one.type_inv) c.requires.room
-    c.requires.plain c.requires.later others s (g.D.Disk.told c.args.disk.now) (g.D.Disk.told c.add_record.new.disk) c.add_record.result
-    (subst (λ n. AddsRecord c.args.slot (records.Window c.args.part.now.id.0 (n + 1) c.one.result) (g.D.Disk.told c.args.disk.now) (g.D.Disk.told c.add_record.new.disk) c.add_record.result)
+    c.requires.plain c.requires.later others s (g.D.Disk.seen c.args.disk.now).told (g.D.Disk.seen c.add_record.new.disk).told c.add_record.result
+    (subst (λ n. AddsRecord c.args.slot (records.Window c.args.part.now.id.0 (n + 1) c.one.result) (g.D.Disk.seen c.args.disk.now).told (g.D.Disk.seen c.add_record.new.disk).told c.add_record.result)
     c.values_held-position.ensures
-    (subst (λ k. AddsRecord c.args.slot (records.Window k (c.values_held-position.result + 1) c.one.result) (g.D.Disk.told c.args.disk.now) (g.D.Disk.told c.add_record.new.disk) c.add_record.result)
+    (subst (λ k. AddsRecord c.args.slot (records.Window k (c.values_held-position.result + 1) c.one.result) (g.D.Disk.seen c.args.disk.now).told (g.D.Disk.seen c.add_record.new.disk).told c.add_record.result)
     c.number_of.ensures (c.add_record.ensures.adds told))))
 
 added : (g : _) (c : goal.After-part-1 g) → IsAdded c.args.part.now (record c.args.part.now { last_time = Some c.args.t; line = c.push.new.self }) c.args.slot c.args.t
@@ -83,12 +83,12 @@ returns-clause-adds g c = λ told others s.
     let new = record c.args.part.now { last_time = Some c.args.t; line = c.push.new.self } in
     let single : c.one.result ≡ summary_of ((c.args.t, c.args.v) ∷ []) = c.one.ensures ∙ ap (λ v. summary_of ((c.args.t, v) ∷ [])) (to_z-of_z {w = w64} {z = c.args.v} c.ranges.v) in
     let adds : AddsRecord {T = Unit {0}} {E = Failed} c.args.slot (records.Window c.args.part.now.id.0 (values_held (entries_of c.args.part.now) + 1) c.one.result)
-    (g.D.Disk.told c.args.disk.now) (g.D.Disk.told c.add_record.new.disk) (Ok tt) =
-    subst (λ n. AddsRecord {T = Unit {0}} {E = Failed} c.args.slot (records.Window c.args.part.now.id.0 (n + 1) c.one.result) (g.D.Disk.told c.args.disk.now) (g.D.Disk.told c.add_record.new.disk) (Ok tt))
+    (g.D.Disk.seen c.args.disk.now).told (g.D.Disk.seen c.add_record.new.disk).told (Ok tt) =
+    subst (λ n. AddsRecord {T = Unit {0}} {E = Failed} c.args.slot (records.Window c.args.part.now.id.0 (n + 1) c.one.result) (g.D.Disk.seen c.args.disk.now).told (g.D.Disk.seen c.add_record.new.disk).told (Ok tt))
     c.values_held-position.ensures
-    (subst (λ k. AddsRecord {T = Unit {0}} {E = Failed} c.args.slot (records.Window k (c.values_held-position.result + 1) c.one.result) (g.D.Disk.told c.args.disk.now) (g.D.Disk.told c.add_record.new.disk) (Ok tt))
+    (subst (λ k. AddsRecord {T = Unit {0}} {E = Failed} c.args.slot (records.Window k (c.values_held-position.result + 1) c.one.result) (g.D.Disk.seen c.args.disk.now).told (g.D.Disk.seen c.add_record.new.disk).told (Ok tt))
     c.number_of.ensures (c.in_ok-add_record.ensures.adds told)) in
-    Turns-answers {S = Unit {0}} {F = Failed} (IsHeldIn others c.args.part.now s) (IsHalfway others c.args.part.now s c.args.t c.args.v) _ (g.D.Disk.told c.args.disk.now) (g.D.Disk.told c.add_record.new.disk)
+    Turns-answers {S = Unit {0}} {F = Failed} (IsHeldIn others c.args.part.now s) (IsHalfway others c.args.part.now s c.args.t c.args.v) _ (g.D.Disk.seen c.args.disk.now).told (g.D.Disk.seen c.add_record.new.disk).told
     tt _
     (Turns-added c.args.part.now new c.args.slot c.args.t (added g c) c.args.v c.one.result single (assumption c.one.type_inv) c.requires.room
-    c.requires.plain c.requires.later others s (g.D.Disk.told c.args.disk.now) (g.D.Disk.told c.add_record.new.disk) (Ok tt) adds)
+    c.requires.plain c.requires.later others s (g.D.Disk.seen c.args.disk.now).told (g.D.Disk.seen c.add_record.new.disk).told (Ok tt) adds)

@@ -3,7 +3,7 @@ use Rattle.ss_store.proofs.asking.answer.Given as goal
 
 abbrev pub invariant-loop-next : goal.invariant-loop-next
 invariant-loop-next g l =
-    IsAsking (g.D.Disk.tells l.fn.disk) (g.D.Disk.tells l.disk) (g.D.Disk.told l.fn.disk) (g.D.Disk.told l.disk) (g.D.Disk.faults l.fn.disk) (g.D.Disk.faults l.disk)
+    IsAsking (g.D.Disk.seen l.fn.disk).tells (g.D.Disk.seen l.disk).tells (g.D.Disk.seen l.fn.disk).told (g.D.Disk.seen l.disk).told (g.D.Disk.seen l.fn.disk).faults (g.D.Disk.seen l.disk).faults
     l.fn.records l.records l.part l.query.from l.query.to l.seen l.next
 
 abbrev pub decreases-loop-next : goal.decreases-loop-next

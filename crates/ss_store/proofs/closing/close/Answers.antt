@@ -13,7 +13,7 @@ use Rattle.ss_store.proofs.closing.close.Goals as goal
 
 pub loop-left-init : goal.loop-left-init
 loop-left-init g c = record {
-  joins = λ told. JoinsEach-none c.args.part.now (g.D.Disk.told c.args.disk.now) (g.met.D.Disk.knows_now c.args.disk.now told);
+  joins = λ told. JoinsEach-none c.args.part.now (g.D.Disk.seen c.args.disk.now).told (g.met.D.Disk.knows_now c.args.disk.now told);
   one_disk = c.requires.one_disk;
   same = record { id = refl; name = refl; target = refl; slot = refl; landmarks = refl };
   last_time = refl;
@@ -55,7 +55,7 @@ loop-left-smaller g c = c.in_ok-join.ensures.fewer
 
 pub loop-left-preserved : goal.loop-left-preserved
 loop-left-preserved g c = record {
-  joins = λ told. JoinsEach-more c.args.part.now c.loop-left.part c.join.new.part (g.D.Disk.told c.args.disk.now) (g.D.Disk.told c.loop-left.disk) (g.D.Disk.told c.join.new.disk) (Ok tt)
+  joins = λ told. JoinsEach-more c.args.part.now c.loop-left.part c.join.new.part (g.D.Disk.seen c.args.disk.now).told (g.D.Disk.seen c.loop-left.disk).told (g.D.Disk.seen c.join.new.disk).told (Ok tt)
       (c.loop-left.invariant.joins told) (c.in_ok-join.ensures.joins (subst (λ b. IsTrue b) (sym c.loop-left.invariant.same_tells) told));
   one_disk = λ told. c.in_ok-join.ensures.one_disk (subst (λ b. IsTrue b) (sym c.loop-left.invariant.same_tells) told);
   same = IsSameStream-more c.args.part.now c.loop-left.part c.join.new.part c.loop-left.invariant.same c.join.ensures.same;
@@ -72,9 +72,9 @@ loop-left-preserved g c = record {
 
 pub returns-in_err-join-clause-closes : goal.returns-in_err-join-clause-closes
 returns-in_err-join-clause-closes g c = λ told others s.
-    Turns-failed (IsHeldIn others c.args.part.now s) (IsPartlyJoined others s) (IsJoinedIn others c.join.new.part s) _ (g.D.Disk.told c.args.disk.now) (g.D.Disk.told c.join.new.disk)
+    Turns-failed (IsHeldIn others c.args.part.now s) (IsPartlyJoined others s) (IsJoinedIn others c.join.new.part s) _ (g.D.Disk.seen c.args.disk.now).told (g.D.Disk.seen c.join.new.disk).told
     c.join.result c.from_residual.result c.from_residual.ensures.0
-    (JoinsEach-more c.args.part.now c.loop-left.part c.join.new.part (g.D.Disk.told c.args.disk.now) (g.D.Disk.told c.loop-left.disk) (g.D.Disk.told c.join.new.disk) c.join.result
+    (JoinsEach-more c.args.part.now c.loop-left.part c.join.new.part (g.D.Disk.seen c.args.disk.now).told (g.D.Disk.seen c.loop-left.disk).told (g.D.Disk.seen c.join.new.disk).told c.join.result
     (c.loop-left.invariant.joins told) (c.join.ensures.joins (subst (λ b. IsTrue b) (sym c.loop-left.invariant.same_tells) told)) others s)
 
 pub returns-in_err-join-clause-firm : goal.returns-in_err-join-clause-firm
@@ -95,11 +95,11 @@ returns-in_err-join-clause-tells g c = c.join.ensures.tells ∙ c.loop-left.inva
 pub returns-in_err-join-clause-cause : goal.returns-in_err-join-clause-cause
 returns-in_err-join-clause-cause g c =
     let p = err_from_is_err_and c.from_residual.result c.from_residual.ensures.1 in
-    rw (p.1, p.2) (subst (λ n. FaultCause {T = Unit {0}} n (g.D.Disk.faults c.join.new.disk) (Err c.in_err-join.field-0.0)) c.loop-left.invariant.cause c.in_err-join.ensures.cause)
+    rw (p.1, p.2) (subst (λ n. FaultCause {T = Unit {0}} n (g.D.Disk.seen c.join.new.disk).faults (Err c.in_err-join.field-0.0)) c.loop-left.invariant.cause c.in_err-join.ensures.cause)
 
 pub returns-clause-closes : goal.returns-clause-closes
 returns-clause-closes g c = λ told others s.
-    Turns-closes others c.args.part.now c.loop-left.part s c.values_held-n.result (g.D.Disk.told c.args.disk.now) (g.D.Disk.told c.loop-left.disk)
+    Turns-closes others c.args.part.now c.loop-left.part s c.values_held-n.result (g.D.Disk.seen c.args.disk.now).told (g.D.Disk.seen c.loop-left.disk).told
     (c.values_held-n.ensures ∙ sym c.loop-left.invariant.values) c.in_default.ensures.none (c.loop-left.invariant.joins told)
 
 pub returns-clause-one_disk : goal.returns-clause-one_disk

@@ -4,7 +4,7 @@ use Rattle.ss_store.proofs.closing.close.Given as goal
 
 abbrev pub invariant-loop-left : goal.invariant-loop-left
 invariant-loop-left g l =
-    IsClosing (g.D.Disk.tells l.fn.disk) (g.D.Disk.tells l.disk) (g.D.Disk.told l.fn.disk) (g.D.Disk.told l.disk) (g.D.Disk.faults l.fn.disk) (g.D.Disk.faults l.disk)
+    IsClosing (g.D.Disk.seen l.fn.disk).tells (g.D.Disk.seen l.disk).tells (g.D.Disk.seen l.fn.disk).told (g.D.Disk.seen l.disk).told (g.D.Disk.seen l.fn.disk).faults (g.D.Disk.seen l.disk).faults
     l.fn.records l.records l.fn.part l.part
 
 abbrev pub decreases-loop-left : goal.decreases-loop-left

@@ -47,7 +47,7 @@ read_joined-requires-clause-few g c =
 
 pub returns-in_err-read_joined-clause-joins : goal.returns-in_err-read_joined-clause-joins
 returns-in_err-read_joined-clause-joins g c = λ told others s.
-    Turns-not_read others c.args.part.now s _ (g.D.Disk.told c.args.disk.now) (g.D.Disk.told c.read_joined.new.disk) c.from_residual.result c.from_residual.ensures.0
+    Turns-not_read others c.args.part.now s _ (g.D.Disk.seen c.args.disk.now).told (g.D.Disk.seen c.read_joined.new.disk).told c.from_residual.result c.from_residual.ensures.0
     (g.met.D.Disk.knows_now c.args.disk.now told) (c.read_joined.ensures.reads told)
 
 pub returns-in_err-read_joined-clause-firm : goal.returns-in_err-read_joined-clause-firm
@@ -57,7 +57,7 @@ returns-in_err-read_joined-clause-firm g c = λ told others s held.
     let pair = ArePair-read c.args.part.now c.args.left c.args.right w v c.requires.due c.requires.tiles c.get-window.ensures.entry c.get-next.ensures.entry in
     let new = one_part c.args.part.now c.args.left c.args.right w v in
     let j = JoinsHeld-pair others c.args.part.now new s w v (one_part-same c.args.part.now c.args.left c.args.right w v) pair.joined held.agrees held.stream in
-    let read = read-held others c.args.part.now new s w v (one_part-same c.args.part.now c.args.left c.args.right w v) pair.joined (g.D.Disk.told c.args.disk.now).content
+    let read = read-held others c.args.part.now new s w v (one_part-same c.args.part.now c.args.left c.args.right w v) pair.joined (g.D.Disk.seen c.args.disk.now).told.content
     (λ is. IsRead is (Err c.in_err-read_joined.field-0.0)) (c.in_err-read_joined.ensures.joined told) held in
     let p = err_from_is_err_and c.from_residual.result c.from_residual.ensures.1 in
     rw (p.1, p.2) (IsFirm-read (Unit {0}) (joined j.one.summary j.two.summary) c.in_err-read_joined.field-0.0 read)
@@ -81,10 +81,10 @@ returns-in_err-replace_two-clause-joins g c = λ told others s.
     let v = c.get-next.result in
     let pair = ArePair-read c.args.part.now c.args.left c.args.right w v c.requires.due c.requires.tiles c.get-window.ensures.entry c.get-next.ensures.entry in
     let new = one_part c.args.part.now c.args.left c.args.right w v in
-    Turns-failed (IsHeldIn others c.args.part.now s) (IsPartlyJoined others s) (IsJoinedIn others new s) _ (g.D.Disk.told c.args.disk.now) (g.D.Disk.told c.replace_two.new.disk)
+    Turns-failed (IsHeldIn others c.args.part.now s) (IsPartlyJoined others s) (IsJoinedIn others new s) _ (g.D.Disk.seen c.args.disk.now).told (g.D.Disk.seen c.replace_two.new.disk).told
     c.replace_two.result c.from_residual-in_err-replace_two.result c.from_residual-in_err-replace_two.ensures.0
     (Turns-join others c.args.part.now new s w v (one_part-same c.args.part.now c.args.left c.args.right w v) pair.joined
-    (g.D.Disk.told c.args.disk.now) (g.D.Disk.told c.read_joined.new.disk) (g.D.Disk.told c.replace_two.new.disk) c.in_ok-read_joined.field-0 c.replace_two.result
+    (g.D.Disk.seen c.args.disk.now).told (g.D.Disk.seen c.read_joined.new.disk).told (g.D.Disk.seen c.replace_two.new.disk).told c.in_ok-read_joined.field-0 c.replace_two.result
     (g.met.D.Disk.knows_now c.args.disk.now told) (c.read_joined.ensures.reads told) (c.in_ok-read_joined.ensures.joined told)
     (c.replace_two.ensures.replaces (subst (λ b. IsTrue b) (sym c.read_joined.ensures.tells) told)))
 
@@ -110,10 +110,10 @@ line g c =
 
 pub returns-clause-joins : goal.returns-clause-joins
 returns-clause-joins g c = λ told others s.
-    Turns-answers (IsHeldIn others c.args.part.now s) (IsPartlyJoined others s) _ (g.D.Disk.told c.args.disk.now) (g.D.Disk.told c.replace_two.new.disk) c.in_ok-replace_two.field-0 _
+    Turns-answers (IsHeldIn others c.args.part.now s) (IsPartlyJoined others s) _ (g.D.Disk.seen c.args.disk.now).told (g.D.Disk.seen c.replace_two.new.disk).told c.in_ok-replace_two.field-0 _
     (Turns-join others c.args.part.now (record c.args.part.now { line = c.cut_out.new.self }) s c.get-window.result c.get-next.result
     (record { id = refl; name = refl; target = refl; slot = refl; last_time = refl; landmarks = refl }) (line g c)
-    (g.D.Disk.told c.args.disk.now) (g.D.Disk.told c.read_joined.new.disk) (g.D.Disk.told c.replace_two.new.disk) c.in_ok-read_joined.field-0 _
+    (g.D.Disk.seen c.args.disk.now).told (g.D.Disk.seen c.read_joined.new.disk).told (g.D.Disk.seen c.replace_two.new.disk).told c.in_ok-read_joined.field-0 _
     (g.met.D.Disk.knows_now c.args.disk.now told) (c.read_joined.ensures.reads told) (c.in_ok-read_joined.ensures.joined told)
     (c.in_ok-replace_two.ensures.replaces (subst (λ b. IsTrue b) (sym c.read_joined.ensures.tells) told)))
 

@@ -30,14 +30,14 @@ returns-in_err-newer-clause-joined g c = λ told others w v has first second fir
     (IsRead-err v.summary (joined w.summary v.summary) c.in_err-newer.field-0.0
     (c.in_err-newer.ensures.window (subst (λ b. IsTrue b) (sym c.read_window.ensures.tells) told) ((c.args.window.slot, Some (window_record c.args.part.now.id.0 w)) ∷ others) v
     (HasRecords-second (c.args.window.slot, Some (window_record c.args.part.now.id.0 w)) (c.args.next.slot, Some (window_record c.args.part.now.id.0 v)) others
-    (g.D.Disk.told c.args.disk.now).content (g.D.Disk.told c.read_window.new.disk).content (c.read_window.ensures.reads told).same.content has) second second_free))
+    (g.D.Disk.seen c.args.disk.now).told.content (g.D.Disk.seen c.read_window.new.disk).told.content (c.read_window.ensures.reads told).same.content has) second second_free))
 
 pub returns-then-newer-older-clause-joined : goal.returns-then-newer-older-clause-joined
 returns-then-newer-older-clause-joined g c = λ told others w v has first second first_free second_free later.
     let older : c.in_ok-older.older ≡ w.summary = c.in_ok-older.ensures.window told ((c.args.next.slot, Some (window_record c.args.part.now.id.0 v)) ∷ others) w has first first_free in
     let newer : c.in_ok-newer.newer ≡ v.summary = c.in_ok-newer.ensures.window (subst (λ b. IsTrue b) (sym c.read_window.ensures.tells) told) ((c.args.window.slot, Some (window_record c.args.part.now.id.0 w)) ∷ others) v
     (HasRecords-second (c.args.window.slot, Some (window_record c.args.part.now.id.0 w)) (c.args.next.slot, Some (window_record c.args.part.now.id.0 v)) others
-    (g.D.Disk.told c.args.disk.now).content (g.D.Disk.told c.read_window.new.disk).content (c.read_window.ensures.reads told).same.content has) second second_free in
+    (g.D.Disk.seen c.args.disk.now).told.content (g.D.Disk.seen c.read_window.new.disk).told.content (c.read_window.ensures.reads told).same.content has) second second_free in
     let last = ap (λ (f : Figures). f.t_last) (c.older.view_is ∙ older) in
     let first = ap (λ (f : Figures). f.t_first) (c.newer.view_is ∙ newer) in
     omega (arith, c.if-newer-older.true, later, last, first)
@@ -47,5 +47,5 @@ returns-clause-joined g c = λ told others w v has first second first_free secon
     let older : c.in_ok-older.older ≡ w.summary = c.in_ok-older.ensures.window told ((c.args.next.slot, Some (window_record c.args.part.now.id.0 v)) ∷ others) w has first first_free in
     let newer : c.in_ok-newer.newer ≡ v.summary = c.in_ok-newer.ensures.window (subst (λ b. IsTrue b) (sym c.read_window.ensures.tells) told) ((c.args.window.slot, Some (window_record c.args.part.now.id.0 w)) ∷ others) v
     (HasRecords-second (c.args.window.slot, Some (window_record c.args.part.now.id.0 w)) (c.args.next.slot, Some (window_record c.args.part.now.id.0 v)) others
-    (g.D.Disk.told c.args.disk.now).content (g.D.Disk.told c.read_window.new.disk).content (c.read_window.ensures.reads told).same.content has) second second_free in
+    (g.D.Disk.seen c.args.disk.now).told.content (g.D.Disk.seen c.read_window.new.disk).told.content (c.read_window.ensures.reads told).same.content has) second second_free in
     c.join.ensures.exact ∙ ap₂ joined older newer

@@ -28,8 +28,8 @@ returns-in_err-add_record-in-Open-clause-marks g c = λ told others s.
     let valid : IsTrue (is_valid (mark_record part t mark)) = subst (λ (r : Record). IsTrue (is_valid r)) written.value written.valid in
     let new = marked_part part slot t mark in
     let marked = IsMarked-marked_part part slot t mark written.known c.requires.can valid c.requires.time c.requires.room c.requires.value_room in
-    let before = g.D.Disk.told c.args.disk.now in
-    let after = g.D.Disk.told c.add_record.new.disk in
+    let before = (g.D.Disk.seen c.args.disk.now).told in
+    let after = (g.D.Disk.seen c.add_record.new.disk).told in
     Turns-failed (IsHeldIn others part s) (IsMarkedOrNot others part s t mark) (IsHeldIn others new (with_mark s t mark)) _ before after c.add_record.result
     c.from_residual.result c.from_residual.ensures.0
     (Turns-added part new slot t mark marked c.requires.can c.requires.accepted c.requires.time valid others s before after c.add_record.result
@@ -52,8 +52,8 @@ returns-in_err-replace_record-in-Close-clause-marks g c = λ told others s.
     let new = marked_part part slot t mark in
     let marked = IsMarked-marked_part part slot t mark written.known c.requires.can valid c.requires.time c.requires.room c.requires.value_room in
     let last = IsLastSlot-is part slot t c.args.records.now.live mark c.in-Close.is written.known c.requires.can c.requires.in_slot in
-    let before = g.D.Disk.told c.args.disk.now in
-    let after = g.D.Disk.told c.replace_record.new.disk in
+    let before = (g.D.Disk.seen c.args.disk.now).told in
+    let after = (g.D.Disk.seen c.replace_record.new.disk).told in
     Turns-failed (IsHeldIn others part s) (IsMarkedOrNot others part s t mark) (IsHeldIn others new (with_mark s t mark)) _ before after c.replace_record.result
     c.from_residual-in_err-replace_record-in-Close.result c.from_residual-in_err-replace_record-in-Close.ensures.0
     (Turns-closed part new slot t mark c.in-Close.is marked c.requires.can c.requires.accepted c.requires.time valid written.known last others s before after
@@ -107,18 +107,18 @@ returns-clause-marks g c = λ told others s.
     let written = c.record_of-written.ensures in
     let valid : IsTrue (is_valid (mark_record part t mark)) = subst (λ (r : Record). IsTrue (is_valid r)) written.value written.valid in
     let new : StreamParts = record part { last_time = Some t; landmarks = c.take.new.landmarks } in
-    let before = g.D.Disk.told c.args.disk.now in
+    let before = (g.D.Disk.seen c.args.disk.now).told in
     let done : Result (Unit {0}) Failed = Ok tt in
     elim c.match-mark.branch [
       | in-Open+in_ok-add_record-in-Open w ↦
-          (let after = g.D.Disk.told w.add_record.new.disk in
-          subst (λ d. Turns (IsHeldIn others part s) (IsMarkedOrNot others part s t mark) (IsHeldIn others new (with_mark s t mark)) before (g.D.Disk.told d) done) (sym w.disk-is)
+          (let after = (g.D.Disk.seen w.add_record.new.disk).told in
+          subst (λ d. Turns (IsHeldIn others part s) (IsMarkedOrNot others part s t mark) (IsHeldIn others new (with_mark s t mark)) before (g.D.Disk.seen d).told done) (sym w.disk-is)
           (Turns-added part new slot t mark (marked g c) c.requires.can c.requires.accepted c.requires.time valid others s before after done (IsAdding-is mark w.in-Open.is)
           (subst (λ r. AddsRecord slot r before after done) written.value (w.in_ok-add_record-in-Open.ensures.adds told))))
       | in-Close+in_ok-replace_record-in-Close w ↦
-          (let after = g.D.Disk.told w.replace_record.new.disk in
+          (let after = (g.D.Disk.seen w.replace_record.new.disk).told in
           let last = IsLastSlot-is part slot t c.args.records.now.live mark w.in-Close.is written.known c.requires.can c.requires.in_slot in
-          subst (λ d. Turns (IsHeldIn others part s) (IsMarkedOrNot others part s t mark) (IsHeldIn others new (with_mark s t mark)) before (g.D.Disk.told d) done) (sym w.disk-is)
+          subst (λ d. Turns (IsHeldIn others part s) (IsMarkedOrNot others part s t mark) (IsHeldIn others new (with_mark s t mark)) before (g.D.Disk.seen d).told done) (sym w.disk-is)
           (Turns-closed part new slot t mark w.in-Close.is (marked g c) c.requires.can c.requires.accepted c.requires.time valid written.known last others s before after done
           (subst (λ r. Replaces slot r before after done) written.value (w.in_ok-replace_record-in-Close.ensures.replaces told))))
     ]

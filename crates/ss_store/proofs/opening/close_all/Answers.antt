@@ -20,7 +20,7 @@ loop-place-init g c = record {
   tells = refl;
   faults = refl;
   kept = c.requires.one_disk;
-  closes = λ told. ClosesFirst-none c.args.streams.now (g.D.Disk.told c.args.disk.now) (g.met.D.Disk.knows_now c.args.disk.now told);
+  closes = λ told. ClosesFirst-none c.args.streams.now (g.D.Disk.seen c.args.disk.now).told (g.met.D.Disk.knows_now c.args.disk.now told);
 }
 
 pub close-requires-clause-live : goal.close-requires-clause-live
@@ -39,9 +39,9 @@ returns-in_err-close-clause-closes g c told all state agree =
     let part = slice_index_or now place c.index-streams-place.result in
     let at : slice_get now place ≡ Some part = slice_get-get_or now place c.index-streams-place.result (omega arith) in
     let changed = slice_set now place c.close.new.part in
-    let old = g.D.Disk.told c.args.disk.now in
-    let mid = g.D.Disk.told c.loop-place.disk in
-    let new = g.D.Disk.told c.close.new.disk in
+    let old = (g.D.Disk.seen c.args.disk.now).told in
+    let mid = (g.D.Disk.seen c.loop-place.disk).told in
+    let new = (g.D.Disk.seen c.close.new.disk).told in
     let failed = Err c.in_err-close.field-0.0 in
     let inside : place < length was = c.loop-place-test.true in
     let turns = ClosesFirst-more was now part c.close.new.part place old mid new failed at inside (c.loop-place.invariant.closes told)
@@ -57,8 +57,8 @@ returns-in_err-close-clause-agree g c told all state agree has =
     let place = c.loop-place.place in
     let part = slice_index_or now place c.index-streams-place.result in
     let at : slice_get now place ≡ Some part = slice_get-get_or now place c.index-streams-place.result (omega arith) in
-    let old = g.D.Disk.told c.args.disk.now in
-    let mid = g.D.Disk.told c.loop-place.disk in
+    let old = (g.D.Disk.seen c.args.disk.now).told in
+    let mid = (g.D.Disk.seen c.loop-place.disk).told in
     let failed = Err c.in_err-close.field-0.0 in
     let inside : place < length was = c.loop-place-test.true in
     let firm = firm-ClosesFirst was now part place old mid failed at inside (c.loop-place.invariant.closes told)
@@ -94,7 +94,7 @@ loop-place-preserved g c =
       faults = after.cause ∙ before.faults;
       kept = λ told. after.one_disk (before.tells ∙ told);
       closes = λ told. rw add-one
-          (ClosesFirst-more was now part new place (g.D.Disk.told c.args.disk.now) (g.D.Disk.told c.loop-place.disk) (g.D.Disk.told c.close.new.disk) (Ok tt)
+          (ClosesFirst-more was now part new place (g.D.Disk.seen c.args.disk.now).told (g.D.Disk.seen c.loop-place.disk).told (g.D.Disk.seen c.close.new.disk).told (Ok tt)
           at c.loop-place-test.true (before.closes told) (after.closes (before.tells ∙ told)));
     }
 
@@ -102,8 +102,8 @@ pub returns-clause-closes : goal.returns-clause-closes
 returns-clause-closes g c told all state agree =
     let was = c.args.streams.now in
     let now = c.loop-place.streams in
-    let old = g.D.Disk.told c.args.disk.now in
-    let new = g.D.Disk.told c.loop-place.disk in
+    let old = (g.D.Disk.seen c.args.disk.now).told in
+    let new = (g.D.Disk.seen c.loop-place.disk).told in
     Turns-open was now all old new (Ok tt) agree
     (Turns-all was now c.loop-place.place old new (c.loop-place.invariant.closes told) (omega arith) all state agree)
 
@@ -111,8 +111,8 @@ pub returns-clause-agree : goal.returns-clause-agree
 returns-clause-agree g c told all state agree has =
     let was = c.args.streams.now in
     let now = c.loop-place.streams in
-    let old = g.D.Disk.told c.args.disk.now in
-    let new = g.D.Disk.told c.loop-place.disk in
+    let old = (g.D.Disk.seen c.args.disk.now).told in
+    let new = (g.D.Disk.seen c.loop-place.disk).told in
     let turns = Turns-all was now c.loop-place.place old new (c.loop-place.invariant.closes told) (omega arith) all state agree in
     let held : AreHeldIn now (closed_state all) new.content = turns.content (record { agree = agree; records = has }) in
     (held.agree, tt)

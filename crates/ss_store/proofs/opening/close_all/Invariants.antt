@@ -11,8 +11,8 @@ invariant-loop-place g l = record {
   settled : IsSettled l.records.journal;
   whole : AreWhole l.streams l.records.live;
   entries : map entry_of l.streams ≡ map entry_of l.fn.streams;
-  tells : g.D.Disk.tells l.disk ≡ g.D.Disk.tells l.fn.disk;
-  faults : g.D.Disk.faults l.disk ≡ g.D.Disk.faults l.fn.disk;
-  kept : IsTrue (g.D.Disk.tells l.fn.disk) → AreKept l.records (g.D.Disk.told l.disk).content;
-  closes : IsTrue (g.D.Disk.tells l.fn.disk) → ClosesFirst l.fn.streams l.streams l.place (g.D.Disk.told l.fn.disk) (g.D.Disk.told l.disk);
+  tells : (g.D.Disk.seen l.disk).tells ≡ (g.D.Disk.seen l.fn.disk).tells;
+  faults : (g.D.Disk.seen l.disk).faults ≡ (g.D.Disk.seen l.fn.disk).faults;
+  kept : IsTrue (g.D.Disk.seen l.fn.disk).tells → AreKept l.records (g.D.Disk.seen l.disk).told.content;
+  closes : IsTrue (g.D.Disk.seen l.fn.disk).tells → ClosesFirst l.fn.streams l.streams l.place (g.D.Disk.seen l.fn.disk).told (g.D.Disk.seen l.disk).told;
 }

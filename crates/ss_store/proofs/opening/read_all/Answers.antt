@@ -8,12 +8,12 @@ use Rattle.ss_store.proofs.opening.read_all.Goals as goal
 pub returns-in_err-records-clause-opens : goal.returns-in_err-records-clause-opens
 returns-in_err-records-clause-opens g c told =
     let error = err_from_is_err_and c.from_residual.result c.from_residual.ensures.1 in
-    rw (error.1, error.2) (OpensAs-journal (g.D.Disk.told c.args.disk.now).content c.in_err-records.field-0.0 (c.in_err-records.ensures.map told))
+    rw (error.1, error.2) (OpensAs-journal (g.D.Disk.seen c.args.disk.now).told.content c.in_err-records.field-0.0 (c.in_err-records.ensures.map told))
 
 pub returns-in_err-streams-clause-opens : goal.returns-in_err-streams-clause-opens
 returns-in_err-streams-clause-opens g c told =
-    let old = g.D.Disk.told c.args.disk.now in
-    let opened = g.D.Disk.told c.open.new.disk in
+    let old = (g.D.Disk.seen c.args.disk.now).told in
+    let opened = (g.D.Disk.seen c.open.new.disk).told in
     let why = c.in_err-streams.field-0.0 in
     let kept = c.in_ok-records.ensures.one_disk told in
     let is = StandsFor-kept c.in_ok-records.records opened.content kept in
@@ -25,6 +25,6 @@ returns-in_err-streams-clause-opens g c told =
 
 pub returns-clause-rebuilt : goal.returns-clause-rebuilt
 returns-clause-rebuilt g c told =
-    IsRebuilt-opened c.in_ok-records.records c.in_ok-streams.field-0 c.in_ok-streams.field-0.streams.items (g.D.Disk.told c.args.disk.now)
-    (g.D.Disk.told c.open.new.disk) (c.open.ensures.reads told) (c.in_ok-records.ensures.one_disk told)
+    IsRebuilt-opened c.in_ok-records.records c.in_ok-streams.field-0 c.in_ok-streams.field-0.streams.items (g.D.Disk.seen c.args.disk.now).told
+    (g.D.Disk.seen c.open.new.disk).told (c.open.ensures.reads told) (c.in_ok-records.ensures.one_disk told)
     (c.in_ok-streams.ensures.carried (c.open.ensures.tells ∙ told)) refl

@@ -20,9 +20,9 @@ returns-clause-adds g c tells =
     let put : record { slot = slot; bytes = c.encode.result } ≡ record_put slot r = ap (λ (bytes : List ℕ). record { slot = slot; bytes = bytes }) c.encode.ensures in
     let puts : c.push.new.self.items ≡ record_put slot r ∷ [] =
     c.push.ensures.items ∙ ap₂ (λ (l : List Put) (p : Put). l ++ p ∷ []) c.new-txn.ensures put in
-    AddsRecord-changes slot r c.requires.valid c.requires.some c.args.records.now (g.D.Disk.told c.args.disk.now) (g.D.Disk.told c.apply.new.disk) c.apply.result
+    AddsRecord-changes slot r c.requires.valid c.requires.some c.args.records.now (g.D.Disk.seen c.args.disk.now).told (g.D.Disk.seen c.apply.new.disk).told c.apply.result
     (c.requires.one_disk tells) below.0 within (lowest_free-is_free c.args.records.now.live slot c.requires.free).1
-    (subst (λ (l : List Put). ChangesMap l (g.D.Disk.told c.args.disk.now) (g.D.Disk.told c.apply.new.disk) c.apply.result) puts (c.apply.ensures.changes_map tells))
+    (subst (λ (l : List Put). ChangesMap l (g.D.Disk.seen c.args.disk.now).told (g.D.Disk.seen c.apply.new.disk).told c.apply.result) puts (c.apply.ensures.changes_map tells))
 
 pub returns-clause-live : goal.returns-clause-live
 returns-clause-live g c =

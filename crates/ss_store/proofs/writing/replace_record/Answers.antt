@@ -41,8 +41,8 @@ apply-requires-clause-fit g c =
 pub returns-clause-replaces : goal.returns-clause-replaces
 returns-clause-replaces g c tells =
     let is = puts c.args.slot c.args.written.now c.encode.result c.new-txn.result.items c.push.new.self.items c.encode.ensures c.new-txn.ensures c.push.ensures.items in
-    Replaces-changes c.args.slot c.args.written.now c.requires.valid c.requires.some (g.D.Disk.told c.args.disk.now) (g.D.Disk.told c.apply.new.disk) c.apply.result
-    (subst (λ (l : List Put). ChangesMap l (g.D.Disk.told c.args.disk.now) (g.D.Disk.told c.apply.new.disk) c.apply.result) is (c.apply.ensures.changes_map tells))
+    Replaces-changes c.args.slot c.args.written.now c.requires.valid c.requires.some (g.D.Disk.seen c.args.disk.now).told (g.D.Disk.seen c.apply.new.disk).told c.apply.result
+    (subst (λ (l : List Put). ChangesMap l (g.D.Disk.seen c.args.disk.now).told (g.D.Disk.seen c.apply.new.disk).told c.apply.result) is (c.apply.ensures.changes_map tells))
 
 pub returns-clause-live : goal.returns-clause-live
 returns-clause-live g c =

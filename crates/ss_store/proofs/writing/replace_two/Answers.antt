@@ -43,8 +43,8 @@ returns-clause-replaces g c tells =
     let kept = c.args.kept in
     let freed = c.args.freed in
     let r = c.args.written.now in
-    ReplacesTwo-changes kept freed r c.requires.valid c.requires.some (g.D.Disk.told c.args.disk.now) (g.D.Disk.told c.apply.new.disk) c.apply.result
-    (subst (λ (l : List Put). ChangesMap l (g.D.Disk.told c.args.disk.now) (g.D.Disk.told c.apply.new.disk) c.apply.result) c.pair_of.ensures (c.apply.ensures.changes_map tells))
+    ReplacesTwo-changes kept freed r c.requires.valid c.requires.some (g.D.Disk.seen c.args.disk.now).told (g.D.Disk.seen c.apply.new.disk).told c.apply.result
+    (subst (λ (l : List Put). ChangesMap l (g.D.Disk.seen c.args.disk.now).told (g.D.Disk.seen c.apply.new.disk).told c.apply.result) c.pair_of.ensures (c.apply.ensures.changes_map tells))
 
 pub returns-clause-live : goal.returns-clause-live
 returns-clause-live g c =

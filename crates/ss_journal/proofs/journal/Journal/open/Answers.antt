@@ -16,7 +16,7 @@ returns-then-not-is_born-clause-map g c told =
 
 pub returns-clause-map : goal.returns-clause-map
 returns-clause-map g c told =
-    let content = (g.D.Disk.told c.args.disk.now).content in
+    let content = (g.D.Disk.seen c.args.disk.now).told.content in
     let same = (c.read_head.ensures.reads told).same.content in
     let read = c.in_ok-read.read in
     IsKept-born content read.in_use read.waiting read.extent (sym (c.if-not-is_born.ensures _ (c.in_ok-head.ensures.head told)))

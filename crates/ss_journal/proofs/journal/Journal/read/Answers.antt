@@ -12,7 +12,7 @@ use Rattle.ss_journal.proofs.journal.Journal.read.Goals.{then-eq-via-then-eq, th
 
 pub returns-then-eq-clause-bytes : goal.returns-then-eq-clause-bytes
 returns-then-eq-clause-bytes g c told found is =
-    let content = (g.D.Disk.told c.args.disk.now).content in
+    let content = (g.D.Disk.seen c.args.disk.now).told.content in
     let kept = subst (λ (journal : JournalState). IsKept journal content) (sym c.self.view_is) (c.requires.one_disk told) in
     elim c.then-eq.branch [
       | then-eq-via-then-eq w ↦
@@ -24,7 +24,7 @@ returns-then-eq-clause-bytes g c told found is =
 
 pub returns-in-Some-clause-bytes : goal.returns-in-Some-clause-bytes
 returns-in-Some-clause-bytes g c told found is =
-    let content = (g.D.Disk.told c.args.disk.now).content in
+    let content = (g.D.Disk.seen c.args.disk.now).told.content in
     let kept = subst (λ (journal : JournalState). IsKept journal content) (sym c.self.view_is) (c.requires.one_disk told) in
     let other : c.self.inside.phase ≢ Unborn = λ same. both_ways _ (sym c.if-eq.ensures) (ap (λ (phase : Phase). sameb the_type phase Unborn) same) in
     let born = born_phase c.self.inside.phase c.self.inside.in_use content other kept.phase in
@@ -32,7 +32,7 @@ returns-in-Some-clause-bytes g c told found is =
 
 pub returns-in-Ok-clause-bytes : goal.returns-in-Ok-clause-bytes
 returns-in-Ok-clause-bytes g c told found is =
-    let content = (g.D.Disk.told c.args.disk.now).content in
+    let content = (g.D.Disk.seen c.args.disk.now).told.content in
     let kept = subst (λ (journal : JournalState). IsKept journal content) (sym c.self.view_is) (c.requires.one_disk told) in
     let other : c.self.inside.phase ≢ Unborn = λ same. both_ways _ (sym c.if-eq.ensures) (ap (λ (phase : Phase). sameb the_type phase Unborn) same) in
     let born = born_phase c.self.inside.phase c.self.inside.in_use content other kept.phase in

@@ -1,17 +1,22 @@
-use Rattle.ss_outside.proofs.MemDiskCalls.{time_synced, state_synced, content_synced, durable_synced, no_other_synced}
+use Rattle.std.proofs.Common.{refl}
+use Rattle.ss_outside.proofs.MemDiskCalls.{time_synced, state_synced, content_synced, durable_synced, no_other_synced, same_synced}
 use Rattle.ss_outside.proofs.mem_disk.MemDiskDisk.sync.Goals as goal
 
-pub returns-clause-time : goal.returns-clause-time
-returns-clause-time c = time_synced c.args.self.now c.make_sync.new.self c.make_sync.result c.make_sync.ensures.synced c.make_sync.ensures.failed
-
-pub returns-clause-content : goal.returns-clause-content
-returns-clause-content c =
-    content_synced c.args.self.now c.make_sync.new.self c.make_sync.result (state_synced c.args.self.now c.make_sync.new.self c.make_sync.result c.make_sync.ensures.synced c.make_sync.ensures.failed)
-
-pub returns-clause-durable : goal.returns-clause-durable
-returns-clause-durable c =
-    durable_synced c.args.self.now c.make_sync.new.self c.make_sync.result (state_synced c.args.self.now c.make_sync.new.self c.make_sync.result c.make_sync.ensures.synced c.make_sync.ensures.failed)
-
-pub returns-clause-no_other : goal.returns-clause-no_other
-returns-clause-no_other c =
-    no_other_synced c.args.self.now c.make_sync.new.self c.make_sync.result (state_synced c.args.self.now c.make_sync.new.self c.make_sync.result c.make_sync.ensures.synced c.make_sync.ensures.failed)
+pub returns-clause-step : goal.returns-clause-step
+returns-clause-step c =
+    let old = c.args.self.now in
+    let new = c.make_sync.new.self in
+    let result = c.make_sync.result in
+    let call = c.make_sync.ensures in
+    let state = state_synced old new result call.synced call.failed in
+    record {
+      tells = refl;
+      counted = call.cause;
+      told = λ told. record {
+        durable = durable_synced old new result state;
+        no_other = no_other_synced old new result state;
+        pending = same_synced old new result call.failed;
+        content = content_synced old new result state;
+        time = time_synced old new result call.synced call.failed;
+      };
+    }

@@ -11,7 +11,7 @@ use Rattle.ss_program.proofs.session.Session.advance.Goals as goal
 
 pub returns-in-None-clause-ok : goal.returns-in-None-clause-ok
 returns-in-None-clause-ok g c told history before input at replied =
-    let disk = g.D.Disk.told c.args.disk.now in
+    let disk = (g.D.Disk.seen c.args.disk.now).told in
     let here = subst (λ s. HasTaken history disk s input) (sym c.self.view_is) at in
     let more = input ++ take c.feed-count.result.0 c.args.piece.now in
     let same = subst (λ o. TellsLine (lines_so_far input) (lines_so_far more) o c.feed-count.new.self) c.in-None.is (c.feed-count.ensures.lines input here.line) in
@@ -27,8 +27,8 @@ answer-answered-requires-clause-short g c =
 pub returns-after-answered-clause-ok : goal.returns-after-answered-clause-ok
 returns-after-answered-clause-ok g c = elim c.match-answered.branch [
   | in-Ok w ↦ rw w.result-is (λ told history before input at replied.
-      let old = g.D.Disk.told c.args.disk.now in
-      let new = g.D.Disk.told c.answer-answered.new.disk in
+      let old = (g.D.Disk.seen c.args.disk.now).told in
+      let new = (g.D.Disk.seen c.answer-answered.new.disk).told in
       let here = subst (λ s. HasTaken history old s input) (sym c.self.view_is) at in
       let more = input ++ take c.feed-count.result.0 c.args.piece.now in
       let ls = lines_so_far input in
@@ -45,8 +45,8 @@ pub returns-after-answered-clause-stops : goal.returns-after-answered-clause-sto
 returns-after-answered-clause-stops g c = elim c.match-answered.branch [
   | in-Ok w ↦ rw w.result-is tt
   | in-Err w ↦ rw w.result-is (λ told history before input at replied.
-      let old = g.D.Disk.told c.args.disk.now in
-      let new = g.D.Disk.told c.answer-answered.new.disk in
+      let old = (g.D.Disk.seen c.args.disk.now).told in
+      let new = (g.D.Disk.seen c.answer-answered.new.disk).told in
       let here = subst (λ s. HasTaken history old s input) (sym c.self.view_is) at in
       let more = input ++ take c.feed-count.result.0 c.args.piece.now in
       let ls = lines_so_far input in

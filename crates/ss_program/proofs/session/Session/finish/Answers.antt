@@ -16,7 +16,7 @@ no-done tells status stop is = subst (IsStop tells) is stop
 
 pub returns-in-None-clause-done : goal.returns-in-None-clause-done
 returns-in-None-clause-done g c _ told history before input at replied =
-    let disk = g.D.Disk.told c.args.disk.now in
+    let disk = (g.D.Disk.seen c.args.disk.now).told in
     let here = subst (λ s. HasTaken history disk s input) (sym c.self.view_is) at in
     subst (λ ls. EndsWell history ls disk disk before (g.K.Sink.held c.args.sink.now)) (sym (c.in-None.ensures.lines input here.line))
     (EndsWell-same history disk before (g.K.Sink.held c.args.sink.now) (lines_so_far input) (g.met.D.Disk.knows_now c.args.disk.now told) replied here.stands here.durable)
@@ -28,8 +28,8 @@ answer-answered-requires-clause-short g c =
 pub returns-after-answered-clause-done : goal.returns-after-answered-clause-done
 returns-after-answered-clause-done g c = elim c.match-answered.branch [
   | in-Ok w ↦ (λ _ told history before input at replied.
-      let old = g.D.Disk.told c.args.disk.now in
-      let new = g.D.Disk.told c.answer-answered.new.disk in
+      let old = (g.D.Disk.seen c.args.disk.now).told in
+      let new = (g.D.Disk.seen c.answer-answered.new.disk).told in
       let here = subst (λ s. HasTaken history old s input) (sym c.self.view_is) at in
       let ls = lines_so_far input in
       let line = c.in-Some.ensures.lines input here.line in
@@ -37,15 +37,15 @@ returns-after-answered-clause-done g c = elim c.match-answered.branch [
       (EndsWell-line history old new before (g.K.Sink.held c.args.sink.now) (g.K.Sink.held c.answer-answered.new.sink) ls line.0 tt replied
       (w.in-Ok.ensures.replies told (after_lines history ls) line.0 here.stands (c.line_of.ensures ∙ line.2)) here.stands here.durable
       (w.in-Ok.ensures.adds told (after_lines history ls) line.0 (c.line_of.ensures ∙ line.2))))
-  | in-Err w ↦ (λ is. let wrong = sym w.result-is ∙ is in absurd (no-done (g.D.Disk.tells c.args.disk.now) w.in-Err.status w.in-Err.ensures.status wrong))
+  | in-Err w ↦ (λ is. let wrong = sym w.result-is ∙ is in absurd (no-done (g.D.Disk.seen c.args.disk.now).tells w.in-Err.status w.in-Err.ensures.status wrong))
 ]
 
 pub returns-after-answered-clause-stops : goal.returns-after-answered-clause-stops
 returns-after-answered-clause-stops g c = elim c.match-answered.branch [
-  | in-Ok w ↦ (λ stop. absurd (no-done (g.D.Disk.tells c.args.disk.now) Done (subst (IsStop (g.D.Disk.tells c.args.disk.now)) w.result-is stop) refl))
+  | in-Ok w ↦ (λ stop. absurd (no-done (g.D.Disk.seen c.args.disk.now).tells Done (subst (IsStop (g.D.Disk.seen c.args.disk.now).tells) w.result-is stop) refl))
   | in-Err w ↦ (λ _ told history before input at replied.
-      let old = g.D.Disk.told c.args.disk.now in
-      let new = g.D.Disk.told c.answer-answered.new.disk in
+      let old = (g.D.Disk.seen c.args.disk.now).told in
+      let new = (g.D.Disk.seen c.answer-answered.new.disk).told in
       let here = subst (λ s. HasTaken history old s input) (sym c.self.view_is) at in
       let ls = lines_so_far input in
       let line = c.in-Some.ensures.lines input here.line in

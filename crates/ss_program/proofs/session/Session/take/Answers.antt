@@ -11,7 +11,7 @@ loop-done-init g c = record {
   is_open = c.requires;
   tells = refl;
   on = λ told history before input at replied.
-      GoesOn-start history (g.D.Disk.told c.args.disk.now) c.args.self.now before (g.K.Sink.held c.args.sink.now) input (g.met.D.Disk.knows_now c.args.disk.now told) at replied;
+      GoesOn-start history (g.D.Disk.seen c.args.disk.now).told c.args.self.now before (g.K.Sink.held c.args.sink.now) input (g.met.D.Disk.knows_now c.args.disk.now told) at replied;
   disk_faults = refl;
   sink_faults = refl;
 }
@@ -27,9 +27,9 @@ loop-done-preserved g c = record {
       let taken = input ++ take done piece in
       let one = c.loop-done.invariant.on told history before input at replied in
       let two = c.in-Ok.ensures.ok (c.loop-done.invariant.tells ∙ told) history before taken one.at one.replied in
-      subst (λ bs. GoesOn history (g.D.Disk.told c.args.disk.now) (g.D.Disk.told c.advance.new.disk) c.advance.new.self before (g.K.Sink.held c.advance.new.sink) bs)
+      subst (λ bs. GoesOn history (g.D.Disk.seen c.args.disk.now).told (g.D.Disk.seen c.advance.new.disk).told c.advance.new.self before (g.K.Sink.held c.advance.new.sink) bs)
       (taken_more input piece done c.in-Ok.count)
-      (GoesOn-then history (g.D.Disk.told c.args.disk.now) (g.D.Disk.told c.loop-done.disk) (g.D.Disk.told c.advance.new.disk) c.loop-done.self c.advance.new.self before
+      (GoesOn-then history (g.D.Disk.seen c.args.disk.now).told (g.D.Disk.seen c.loop-done.disk).told (g.D.Disk.seen c.advance.new.disk).told c.loop-done.self c.advance.new.self before
       (g.K.Sink.held c.loop-done.sink) (g.K.Sink.held c.advance.new.sink) taken (take c.in-Ok.count (take (length piece - done) (drop done piece))) one two);
   disk_faults = c.in-Ok.ensures.disk_cause ∙ c.loop-done.invariant.disk_faults;
   sink_faults = c.in-Ok.ensures.sink_cause ∙ c.loop-done.invariant.sink_faults;
@@ -42,7 +42,7 @@ returns-in-Err-clause-stops g c told history before input at replied =
     let taken = input ++ take done piece in
     let one = c.loop-done.invariant.on told history before input at replied in
     let two = c.in-Err.ensures.stops (c.loop-done.invariant.tells ∙ told) history before taken one.at one.replied in
-    subst (λ bs. StopsIn history (lines_so_far bs) (g.D.Disk.told c.args.disk.now) (g.D.Disk.told c.advance.new.disk) before (g.K.Sink.held c.advance.new.sink) c.in-Err.status)
+    subst (λ bs. StopsIn history (lines_so_far bs) (g.D.Disk.seen c.args.disk.now).told (g.D.Disk.seen c.advance.new.disk).told before (g.K.Sink.held c.advance.new.sink) c.in-Err.status)
     (taken_rest input piece done)
-    (StopsIn-then history (g.D.Disk.told c.args.disk.now) (g.D.Disk.told c.loop-done.disk) (g.D.Disk.told c.advance.new.disk) c.loop-done.self before
+    (StopsIn-then history (g.D.Disk.seen c.args.disk.now).told (g.D.Disk.seen c.loop-done.disk).told (g.D.Disk.seen c.advance.new.disk).told c.loop-done.self before
     (g.K.Sink.held c.loop-done.sink) (g.K.Sink.held c.advance.new.sink) c.in-Err.status taken (take (length piece - done) (drop done piece)) one two)

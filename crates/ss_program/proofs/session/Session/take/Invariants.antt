@@ -9,12 +9,12 @@ use Rattle.ss_program.proofs.session.Session.take.Given as goal
 abbrev pub invariant-loop-done : goal.invariant-loop-done
 invariant-loop-done g l = record {
   fits : l.done ≤ length l.piece;
-  is_open : IsOpen (g.D.Disk.tells l.disk) (g.D.Disk.told l.disk) l.self.store;
-  tells : g.D.Disk.tells l.disk ≡ g.D.Disk.tells l.fn.disk;
-  on : IsTrue (g.D.Disk.tells l.fn.disk) → (history : History) (before : Option (List ℕ)) (input : List ℕ) →
-      HasTaken history (g.D.Disk.told l.fn.disk) l.fn.self input → HasReplied history before (g.K.Sink.held l.fn.sink) input →
-      GoesOn history (g.D.Disk.told l.fn.disk) (g.D.Disk.told l.disk) l.self before (g.K.Sink.held l.sink) (input ++ take l.done l.piece);
-  disk_faults : g.D.Disk.faults l.disk ≡ g.D.Disk.faults l.fn.disk;
+  is_open : IsOpen (g.D.Disk.seen l.disk).tells (g.D.Disk.seen l.disk).told l.self.store;
+  tells : (g.D.Disk.seen l.disk).tells ≡ (g.D.Disk.seen l.fn.disk).tells;
+  on : IsTrue (g.D.Disk.seen l.fn.disk).tells → (history : History) (before : Option (List ℕ)) (input : List ℕ) →
+      HasTaken history (g.D.Disk.seen l.fn.disk).told l.fn.self input → HasReplied history before (g.K.Sink.held l.fn.sink) input →
+      GoesOn history (g.D.Disk.seen l.fn.disk).told (g.D.Disk.seen l.disk).told l.self before (g.K.Sink.held l.sink) (input ++ take l.done l.piece);
+  disk_faults : (g.D.Disk.seen l.disk).faults ≡ (g.D.Disk.seen l.fn.disk).faults;
   sink_faults : g.K.Sink.faults l.sink ≡ g.K.Sink.faults l.fn.sink;
 }
 

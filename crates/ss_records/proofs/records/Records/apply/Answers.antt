@@ -14,7 +14,7 @@ within puts live are slots k d lt = omega (arith, are k d lt, slots)
 
 pub commit-requires-clause-one_disk : goal.commit-requires-clause-one_disk
 commit-requires-clause-one_disk g c told =
-    subst (λ (records : RecordsState). IsKept records.journal (g.D.Disk.told c.args.disk.now).content) (sym c.self.view_is) (c.requires.one_disk told).journal
+    subst (λ (records : RecordsState). IsKept records.journal (g.D.Disk.seen c.args.disk.now).told.content) (sym c.self.view_is) (c.requires.one_disk told).journal
 
 pub note_puts-requires : goal.note_puts-requires
 note_puts-requires g c =
@@ -36,8 +36,8 @@ pub returns-clause-one_disk : goal.returns-clause-one_disk
 returns-clause-one_disk g c told =
     let puts = c.args.txn.now.items in
     let live = c.self.inside.live in
-    let content = (g.D.Disk.told c.args.disk.now).content in
-    let left = (g.D.Disk.told c.commit.new.disk).content in
+    let content = (g.D.Disk.seen c.args.disk.now).told.content in
+    let left = (g.D.Disk.seen c.commit.new.disk).told.content in
     let kept = subst (λ (records : RecordsState). AreKept records content) (sym c.self.view_is) (c.requires.one_disk told) in
     let noted = c.note_puts.ensures ∙ ap (λ (all : List Put). live_after all live) c.deref.ensures.0 in
     subst (λ (now : List Bool). AreKept (record { journal = c.commit.new.self; live = now }) left) (sym noted)

@@ -35,7 +35,7 @@ returns-in-Ok-clause-answer g c told streams recovers =
     let numbered : part_numbered id items ≡ Some read = read-at items c.place_of.result (part_numbered id items) read at stands c.index-stream.ensures in
     let named : part_named c.args.query.now.name c.args.self.now.streams ≡ Some read =
     sym c.requires.same ∙ subst (λ (s : StoreState). part_numbered id s.streams ≡ Some read) c.self.view_is numbered in
-    let content = (g.D.Disk.told c.args.disk.now).content in
+    let content = (g.D.Disk.seen c.args.disk.now).told.content in
     outcome-kept c.args.self.now content (c.requires.one_disk told) c.args.query.now read named c.in-Ok.outcome (c.in-Ok.ensures.answer told) streams recovers
 
 pub returns-clause-firm : goal.returns-clause-firm
@@ -49,7 +49,7 @@ returns-clause-firm g c told =
     let numbered : part_numbered id items ≡ Some read = read-at items c.place_of.result (part_numbered id items) read at stands c.index-stream.ensures in
     let named : part_named c.args.query.now.name c.args.self.now.streams ≡ Some read =
     sym c.requires.same ∙ subst (λ (s : StoreState). part_numbered id s.streams ≡ Some read) c.self.view_is numbered in
-    let content = (g.D.Disk.told c.args.disk.now).content in
+    let content = (g.D.Disk.seen c.args.disk.now).told.content in
     firm-kept Outcome c.args.self.now content (c.requires.one_disk told) c.args.query.now read named c.in-Err.fault c.from-error.result (c.in-Err.ensures.answer told)
     c.from-error.ensures
 

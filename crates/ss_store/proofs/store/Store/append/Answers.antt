@@ -46,9 +46,9 @@ returns-in-Err-reserve-clause-one_disk g c told run =
     let room : IsSpared taker.part spared =
     IsSpared-line store c.in-Ok.taker.0 taker.part was is taker.at (c.self.invariant.whole runs) c.reserve.new.self entries c.reserve.ensures.grows in
     let at = taker.at in
-    let kept : StoreIsKept store (g.D.Disk.told c.args.disk.now).content =
-    subst (λ (s : StoreState). StoreIsKept s (g.D.Disk.told c.args.disk.now).content) (sym c.self.view_is) (c.requires.one_disk told) in
-    StoreIsKept-IsSpared store c.in-Ok.taker.0 taker.part spared at room (g.D.Disk.told c.args.disk.now).content kept
+    let kept : StoreIsKept store (g.D.Disk.seen c.args.disk.now).told.content =
+    subst (λ (s : StoreState). StoreIsKept s (g.D.Disk.seen c.args.disk.now).told.content) (sym c.self.view_is) (c.requires.one_disk told) in
+    StoreIsKept-IsSpared store c.in-Ok.taker.0 taker.part spared at room (g.D.Disk.seen c.args.disk.now).told.content kept
 
 pub returns-in-Err-reserve-clause-starved : goal.returns-in-Err-reserve-clause-starved
 returns-in-Err-reserve-clause-starved g c starved =
@@ -183,15 +183,15 @@ returns-in-Ok-append-clause-step g c told =
     let room : IsSpared taker.part spared =
     IsSpared-line store c.in-Ok.taker.0 taker.part was is taker.at (c.self.invariant.whole runs) c.reserve.new.self entries c.reserve.ensures.grows in
     let at = taker.at in
-    let kept : StoreIsKept store (g.D.Disk.told c.args.disk.now).content =
-    subst (λ (s : StoreState). StoreIsKept s (g.D.Disk.told c.args.disk.now).content) (sym c.self.view_is) (c.requires.one_disk told) in
+    let kept : StoreIsKept store (g.D.Disk.seen c.args.disk.now).told.content =
+    subst (λ (s : StoreState). StoreIsKept s (g.D.Disk.seen c.args.disk.now).told.content) (sym c.self.view_is) (c.requires.one_disk told) in
     let none : refuses_held store.streams (Value c.args.name.now c.args.t c.args.v) ≡ None =
     ap (λ (s : StoreState). refuses_held s.streams (Value c.args.name.now c.args.t c.args.v)) c.self.view_is ∙ c.in-Ok.ensures.accepted c.args.v in
-    let others_now = others store (g.D.Disk.told c.args.disk.now).content kept c.args.name.now c.args.t c.args.v c.in-Ok.taker.0 c.in-Ok.taker.1 taker none (c.requires.in_time, c.ranges.v) in
-    let s = (pair store (g.D.Disk.told c.args.disk.now).content kept c.args.name.now c.args.t c.args.v c.in-Ok.taker.0 c.in-Ok.taker.1 taker none (c.requires.in_time, c.ranges.v)).stream in
-    let steps = StepsState-appended store (g.D.Disk.told c.args.disk.now).content kept c.args.name.now c.args.t c.args.v c.in-Ok.taker.0 c.in-Ok.taker.1 taker none (c.requires.in_time, c.ranges.v) spared c.append.new.part room (g.D.Disk.told c.args.disk.now) (g.D.Disk.told c.append.new.disk) _ refl
+    let others_now = others store (g.D.Disk.seen c.args.disk.now).told.content kept c.args.name.now c.args.t c.args.v c.in-Ok.taker.0 c.in-Ok.taker.1 taker none (c.requires.in_time, c.ranges.v) in
+    let s = (pair store (g.D.Disk.seen c.args.disk.now).told.content kept c.args.name.now c.args.t c.args.v c.in-Ok.taker.0 c.in-Ok.taker.1 taker none (c.requires.in_time, c.ranges.v)).stream in
+    let steps = StepsState-appended store (g.D.Disk.seen c.args.disk.now).told.content kept c.args.name.now c.args.t c.args.v c.in-Ok.taker.0 c.in-Ok.taker.1 taker none (c.requires.in_time, c.ranges.v) spared c.append.new.part room (g.D.Disk.seen c.args.disk.now).told (g.D.Disk.seen c.append.new.disk).told _ refl
     (rw (to_z-of_z w64 c.args.v c.ranges.v) at (c.in-Ok-append.ensures.appends told others_now s)) in
-    StepsState-answers (Value c.args.name.now c.args.t c.args.v) (g.D.Disk.told c.args.disk.now) (g.D.Disk.told c.append.new.disk) _ _ steps
+    StepsState-answers (Value c.args.name.now c.args.t c.args.v) (g.D.Disk.seen c.args.disk.now).told (g.D.Disk.seen c.append.new.disk).told _ _ steps
 
 pub returns-clause-step : goal.returns-clause-step
 returns-clause-step g c told =
@@ -206,15 +206,15 @@ returns-clause-step g c told =
     let room : IsSpared taker.part spared =
     IsSpared-line store c.in-Ok.taker.0 taker.part was is taker.at (c.self.invariant.whole runs) c.reserve.new.self entries c.reserve.ensures.grows in
     let at = taker.at in
-    let kept : StoreIsKept store (g.D.Disk.told c.args.disk.now).content =
-    subst (λ (s : StoreState). StoreIsKept s (g.D.Disk.told c.args.disk.now).content) (sym c.self.view_is) (c.requires.one_disk told) in
+    let kept : StoreIsKept store (g.D.Disk.seen c.args.disk.now).told.content =
+    subst (λ (s : StoreState). StoreIsKept s (g.D.Disk.seen c.args.disk.now).told.content) (sym c.self.view_is) (c.requires.one_disk told) in
     let none : refuses_held store.streams (Value c.args.name.now c.args.t c.args.v) ≡ None =
     ap (λ (s : StoreState). refuses_held s.streams (Value c.args.name.now c.args.t c.args.v)) c.self.view_is ∙ c.in-Ok.ensures.accepted c.args.v in
-    let others_now = others store (g.D.Disk.told c.args.disk.now).content kept c.args.name.now c.args.t c.args.v c.in-Ok.taker.0 c.in-Ok.taker.1 taker none (c.requires.in_time, c.ranges.v) in
-    let s = (pair store (g.D.Disk.told c.args.disk.now).content kept c.args.name.now c.args.t c.args.v c.in-Ok.taker.0 c.in-Ok.taker.1 taker none (c.requires.in_time, c.ranges.v)).stream in
-    let steps = StepsState-appended store (g.D.Disk.told c.args.disk.now).content kept c.args.name.now c.args.t c.args.v c.in-Ok.taker.0 c.in-Ok.taker.1 taker none (c.requires.in_time, c.ranges.v) spared c.append.new.part room (g.D.Disk.told c.args.disk.now) (g.D.Disk.told c.append.new.disk) _ refl
+    let others_now = others store (g.D.Disk.seen c.args.disk.now).told.content kept c.args.name.now c.args.t c.args.v c.in-Ok.taker.0 c.in-Ok.taker.1 taker none (c.requires.in_time, c.ranges.v) in
+    let s = (pair store (g.D.Disk.seen c.args.disk.now).told.content kept c.args.name.now c.args.t c.args.v c.in-Ok.taker.0 c.in-Ok.taker.1 taker none (c.requires.in_time, c.ranges.v)).stream in
+    let steps = StepsState-appended store (g.D.Disk.seen c.args.disk.now).told.content kept c.args.name.now c.args.t c.args.v c.in-Ok.taker.0 c.in-Ok.taker.1 taker none (c.requires.in_time, c.ranges.v) spared c.append.new.part room (g.D.Disk.seen c.args.disk.now).told (g.D.Disk.seen c.append.new.disk).told _ refl
     (rw (to_z-of_z w64 c.args.v c.ranges.v) at (c.in-Err-append.ensures.appends told others_now s)) in
-    StepsState-failed (Value c.args.name.now c.args.t c.args.v) (g.D.Disk.told c.args.disk.now) (g.D.Disk.told c.append.new.disk) _ c.from.result steps
+    StepsState-failed (Value c.args.name.now c.args.t c.args.v) (g.D.Disk.seen c.args.disk.now).told (g.D.Disk.seen c.append.new.disk).told _ c.from.result steps
 
 pub returns-in-Ok-append-clause-one_disk : goal.returns-in-Ok-append-clause-one_disk
 returns-in-Ok-append-clause-one_disk g c told run =
@@ -229,15 +229,15 @@ returns-in-Ok-append-clause-one_disk g c told run =
     let room : IsSpared taker.part spared =
     IsSpared-line store c.in-Ok.taker.0 taker.part was is taker.at (c.self.invariant.whole runs) c.reserve.new.self entries c.reserve.ensures.grows in
     let at = taker.at in
-    let kept : StoreIsKept store (g.D.Disk.told c.args.disk.now).content =
-    subst (λ (s : StoreState). StoreIsKept s (g.D.Disk.told c.args.disk.now).content) (sym c.self.view_is) (c.requires.one_disk told) in
+    let kept : StoreIsKept store (g.D.Disk.seen c.args.disk.now).told.content =
+    subst (λ (s : StoreState). StoreIsKept s (g.D.Disk.seen c.args.disk.now).told.content) (sym c.self.view_is) (c.requires.one_disk told) in
     let none : refuses_held store.streams (Value c.args.name.now c.args.t c.args.v) ≡ None =
     ap (λ (s : StoreState). refuses_held s.streams (Value c.args.name.now c.args.t c.args.v)) c.self.view_is ∙ c.in-Ok.ensures.accepted c.args.v in
-    let others_now = others store (g.D.Disk.told c.args.disk.now).content kept c.args.name.now c.args.t c.args.v c.in-Ok.taker.0 c.in-Ok.taker.1 taker none (c.requires.in_time, c.ranges.v) in
-    let s = (pair store (g.D.Disk.told c.args.disk.now).content kept c.args.name.now c.args.t c.args.v c.in-Ok.taker.0 c.in-Ok.taker.1 taker none (c.requires.in_time, c.ranges.v)).stream in
-    StoreIsKept-appended store (g.D.Disk.told c.args.disk.now).content kept c.args.name.now c.args.t c.args.v c.in-Ok.taker.0 c.in-Ok.taker.1 taker none (c.requires.in_time, c.ranges.v) spared c.append.new.part room c.append.new.records store.stopped (g.D.Disk.told c.append.new.disk).content
+    let others_now = others store (g.D.Disk.seen c.args.disk.now).told.content kept c.args.name.now c.args.t c.args.v c.in-Ok.taker.0 c.in-Ok.taker.1 taker none (c.requires.in_time, c.ranges.v) in
+    let s = (pair store (g.D.Disk.seen c.args.disk.now).told.content kept c.args.name.now c.args.t c.args.v c.in-Ok.taker.0 c.in-Ok.taker.1 taker none (c.requires.in_time, c.ranges.v)).stream in
+    StoreIsKept-appended store (g.D.Disk.seen c.args.disk.now).told.content kept c.args.name.now c.args.t c.args.v c.in-Ok.taker.0 c.in-Ok.taker.1 taker none (c.requires.in_time, c.ranges.v) spared c.append.new.part room c.append.new.records store.stopped (g.D.Disk.seen c.append.new.disk).told.content
     (c.in-Ok-append.ensures.one_disk told)
-    ((rw (to_z-of_z w64 c.args.v c.ranges.v) at (c.in-Ok-append.ensures.appends told others_now s)).content (held-taker store (g.D.Disk.told c.args.disk.now).content kept c.args.name.now c.args.t c.args.v c.in-Ok.taker.0 c.in-Ok.taker.1 taker none (c.requires.in_time, c.ranges.v) spared c.append.new.part room))
+    ((rw (to_z-of_z w64 c.args.v c.ranges.v) at (c.in-Ok-append.ensures.appends told others_now s)).content (held-taker store (g.D.Disk.seen c.args.disk.now).told.content kept c.args.name.now c.args.t c.args.v c.in-Ok.taker.0 c.in-Ok.taker.1 taker none (c.requires.in_time, c.ranges.v) spared c.append.new.part room))
 
 pub returns-in-Ok-append-clause-ack : goal.returns-in-Ok-append-clause-ack
 returns-in-Ok-append-clause-ack g c =
@@ -288,11 +288,11 @@ returns-clause-firm g c told =
     let room : IsSpared taker.part spared =
     IsSpared-line store c.in-Ok.taker.0 taker.part was is taker.at (c.self.invariant.whole runs) c.reserve.new.self entries c.reserve.ensures.grows in
     let at = taker.at in
-    let kept : StoreIsKept store (g.D.Disk.told c.args.disk.now).content =
-    subst (λ (s : StoreState). StoreIsKept s (g.D.Disk.told c.args.disk.now).content) (sym c.self.view_is) (c.requires.one_disk told) in
+    let kept : StoreIsKept store (g.D.Disk.seen c.args.disk.now).told.content =
+    subst (λ (s : StoreState). StoreIsKept s (g.D.Disk.seen c.args.disk.now).told.content) (sym c.self.view_is) (c.requires.one_disk told) in
     let none : refuses_held store.streams (Value c.args.name.now c.args.t c.args.v) ≡ None =
     ap (λ (s : StoreState). refuses_held s.streams (Value c.args.name.now c.args.t c.args.v)) c.self.view_is ∙ c.in-Ok.ensures.accepted c.args.v in
-    let others_now = others store (g.D.Disk.told c.args.disk.now).content kept c.args.name.now c.args.t c.args.v c.in-Ok.taker.0 c.in-Ok.taker.1 taker none (c.requires.in_time, c.ranges.v) in
-    let s = (pair store (g.D.Disk.told c.args.disk.now).content kept c.args.name.now c.args.t c.args.v c.in-Ok.taker.0 c.in-Ok.taker.1 taker none (c.requires.in_time, c.ranges.v)).stream in
+    let others_now = others store (g.D.Disk.seen c.args.disk.now).told.content kept c.args.name.now c.args.t c.args.v c.in-Ok.taker.0 c.in-Ok.taker.1 taker none (c.requires.in_time, c.ranges.v) in
+    let s = (pair store (g.D.Disk.seen c.args.disk.now).told.content kept c.args.name.now c.args.t c.args.v c.in-Ok.taker.0 c.in-Ok.taker.1 taker none (c.requires.in_time, c.ranges.v)).stream in
     IsApplyFirm-fault (Unit {0}) Ack c.in-Err-append.fault c.from.result
-    (c.in-Err-append.ensures.firm told others_now s (held-taker store (g.D.Disk.told c.args.disk.now).content kept c.args.name.now c.args.t c.args.v c.in-Ok.taker.0 c.in-Ok.taker.1 taker none (c.requires.in_time, c.ranges.v) spared c.append.new.part room)) c.from.ensures
+    (c.in-Err-append.ensures.firm told others_now s (held-taker store (g.D.Disk.seen c.args.disk.now).told.content kept c.args.name.now c.args.t c.args.v c.in-Ok.taker.0 c.in-Ok.taker.1 taker none (c.requires.in_time, c.ranges.v) spared c.append.new.part room)) c.from.ensures

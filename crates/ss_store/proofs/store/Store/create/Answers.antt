@@ -75,15 +75,15 @@ returns-in-Ok-add_record-clause-step g c told =
     let new : IsNew store c.args.name c.args.params c.in-Ok.new.1.0 c.in-Ok.new.2 =
     subst (λ (s : StoreState). IsNew s c.args.name c.args.params c.in-Ok.new.1.0 c.in-Ok.new.2) (sym c.self.view_is) c.in-Ok.ensures.new in
     let runs : store.stopped ≡ false = ap (λ (s : StoreState). s.stopped) c.self.view_is ∙ c.requires.runs in
-    let kept : StoreIsKept store (g.D.Disk.told c.args.disk.now).content =
-    subst (λ (s : StoreState). StoreIsKept s (g.D.Disk.told c.args.disk.now).content) (sym c.self.view_is) (c.requires.one_disk told) in
+    let kept : StoreIsKept store (g.D.Disk.seen c.args.disk.now).told.content =
+    subst (λ (s : StoreState). StoreIsKept s (g.D.Disk.seen c.args.disk.now).told.content) (sym c.self.view_is) (c.requires.one_disk told) in
     let none : refuses kept.streams (Create c.args.name c.args.params) ≡ None =
     sym (refuses_held-is store.streams kept.streams (Create c.args.name c.args.params) kept.agree kept.state)
     ∙ ap (λ (s : StoreState). refuses_held s.streams (Create c.args.name c.args.params)) c.self.view_is ∙ c.in-Ok.ensures.accepted in
-    let steps = StepsState-created store (g.D.Disk.told c.args.disk.now).content kept part c.args.name c.args.params fresh new.next none
-    (g.D.Disk.told c.args.disk.now) (g.D.Disk.told c.add_record.new.disk) _ refl
+    let steps = StepsState-created store (g.D.Disk.seen c.args.disk.now).told.content kept part c.args.name c.args.params fresh new.next none
+    (g.D.Disk.seen c.args.disk.now).told (g.D.Disk.seen c.add_record.new.disk).told _ refl
     (rw c.record_of.ensures.value at (c.in-Ok-add_record.ensures.adds told)) in
-    StepsState-answers (Create c.args.name c.args.params) (g.D.Disk.told c.args.disk.now) (g.D.Disk.told c.add_record.new.disk) _ _ steps
+    StepsState-answers (Create c.args.name c.args.params) (g.D.Disk.seen c.args.disk.now).told (g.D.Disk.seen c.add_record.new.disk).told _ _ steps
 
 pub returns-in-Err-add_record-clause-step : goal.returns-in-Err-add_record-clause-step
 returns-in-Err-add_record-clause-step g c told =
@@ -102,15 +102,15 @@ returns-in-Err-add_record-clause-step g c told =
     let new : IsNew store c.args.name c.args.params c.in-Ok.new.1.0 c.in-Ok.new.2 =
     subst (λ (s : StoreState). IsNew s c.args.name c.args.params c.in-Ok.new.1.0 c.in-Ok.new.2) (sym c.self.view_is) c.in-Ok.ensures.new in
     let runs : store.stopped ≡ false = ap (λ (s : StoreState). s.stopped) c.self.view_is ∙ c.requires.runs in
-    let kept : StoreIsKept store (g.D.Disk.told c.args.disk.now).content =
-    subst (λ (s : StoreState). StoreIsKept s (g.D.Disk.told c.args.disk.now).content) (sym c.self.view_is) (c.requires.one_disk told) in
+    let kept : StoreIsKept store (g.D.Disk.seen c.args.disk.now).told.content =
+    subst (λ (s : StoreState). StoreIsKept s (g.D.Disk.seen c.args.disk.now).told.content) (sym c.self.view_is) (c.requires.one_disk told) in
     let none : refuses kept.streams (Create c.args.name c.args.params) ≡ None =
     sym (refuses_held-is store.streams kept.streams (Create c.args.name c.args.params) kept.agree kept.state)
     ∙ ap (λ (s : StoreState). refuses_held s.streams (Create c.args.name c.args.params)) c.self.view_is ∙ c.in-Ok.ensures.accepted in
-    let steps = StepsState-created store (g.D.Disk.told c.args.disk.now).content kept part c.args.name c.args.params fresh new.next none
-    (g.D.Disk.told c.args.disk.now) (g.D.Disk.told c.add_record.new.disk) _ refl
+    let steps = StepsState-created store (g.D.Disk.seen c.args.disk.now).told.content kept part c.args.name c.args.params fresh new.next none
+    (g.D.Disk.seen c.args.disk.now).told (g.D.Disk.seen c.add_record.new.disk).told _ refl
     (rw c.record_of.ensures.value at (c.in-Err-add_record.ensures.adds told)) in
-    StepsState-failed (Create c.args.name c.args.params) (g.D.Disk.told c.args.disk.now) (g.D.Disk.told c.add_record.new.disk) _ Disk steps
+    StepsState-failed (Create c.args.name c.args.params) (g.D.Disk.seen c.args.disk.now).told (g.D.Disk.seen c.add_record.new.disk).told _ Disk steps
 
 pub returns-in-Ok-add_record-clause-one_disk : goal.returns-in-Ok-add_record-clause-one_disk
 returns-in-Ok-add_record-clause-one_disk g c told run =
@@ -129,17 +129,17 @@ returns-in-Ok-add_record-clause-one_disk g c told run =
     let new : IsNew store c.args.name c.args.params c.in-Ok.new.1.0 c.in-Ok.new.2 =
     subst (λ (s : StoreState). IsNew s c.args.name c.args.params c.in-Ok.new.1.0 c.in-Ok.new.2) (sym c.self.view_is) c.in-Ok.ensures.new in
     let runs : store.stopped ≡ false = ap (λ (s : StoreState). s.stopped) c.self.view_is ∙ c.requires.runs in
-    let kept : StoreIsKept store (g.D.Disk.told c.args.disk.now).content =
-    subst (λ (s : StoreState). StoreIsKept s (g.D.Disk.told c.args.disk.now).content) (sym c.self.view_is) (c.requires.one_disk told) in
+    let kept : StoreIsKept store (g.D.Disk.seen c.args.disk.now).told.content =
+    subst (λ (s : StoreState). StoreIsKept s (g.D.Disk.seen c.args.disk.now).told.content) (sym c.self.view_is) (c.requires.one_disk told) in
     let none : refuses kept.streams (Create c.args.name c.args.params) ≡ None =
     sym (refuses_held-is store.streams kept.streams (Create c.args.name c.args.params) kept.agree kept.state)
     ∙ ap (λ (s : StoreState). refuses_held s.streams (Create c.args.name c.args.params)) c.self.view_is ∙ c.in-Ok.ensures.accepted in
-    let now = (g.D.Disk.told c.add_record.new.disk).content in
+    let now = (g.D.Disk.seen c.add_record.new.disk).told.content in
     let others = flat_map records_held (zip store.streams kept.streams) in
     let has : HasRecords ((c.in-Ok.new.2, Some (records.Stream c.in-Ok.new.1.0 c.args.name c.args.params)) ∷ others) now =
     rw c.record_of.ensures.value at ((c.in-Ok-add_record.ensures.adds told others).content kept.held) in
     rw c.in-Ok-grow.ensures.streams
-    (StoreIsKept-created store (g.D.Disk.told c.args.disk.now).content kept part c.args.name c.args.params fresh new.next none c.add_record.new.records
+    (StoreIsKept-created store (g.D.Disk.seen c.args.disk.now).told.content kept part c.args.name c.args.params fresh new.next none c.add_record.new.records
     c.self.inside.stopped now (c.in-Ok-add_record.ensures.one_disk told) has)
 
 pub returns-in-Ok-add_record-clause-ack : goal.returns-in-Ok-add_record-clause-ack

@@ -46,7 +46,7 @@ returns-in-Err-reserve-clause-one_disk g c told run =
     let room : IsSpared marker.part spared =
     IsSpared-marks store c.in-Ok.marker.0 marker.part was is marker.at whole c.reserve.new.landmarks kept_marks.landmarks kept_marks.slots kept_marks.value_slots
     kept_marks.room_grows kept_marks.value_room_grows kept_marks.known in
-    let content = (g.D.Disk.told c.args.disk.now).content in
+    let content = (g.D.Disk.seen c.args.disk.now).told.content in
     let kept : StoreIsKept store content = subst (λ (s : StoreState). StoreIsKept s content) (sym c.self.view_is) (c.requires.one_disk told) in
     StoreIsKept-IsSpared store c.in-Ok.marker.0 marker.part spared marker.at room content kept
 
@@ -189,7 +189,7 @@ returns-in-Ok-put_mark-clause-step g c told =
     let room : IsSpared marker.part spared =
     IsSpared-marks store c.in-Ok.marker.0 marker.part was is marker.at whole c.reserve.new.landmarks kept_marks.landmarks kept_marks.slots kept_marks.value_slots
     kept_marks.room_grows kept_marks.value_room_grows kept_marks.known in
-    let content = (g.D.Disk.told c.args.disk.now).content in
+    let content = (g.D.Disk.seen c.args.disk.now).told.content in
     let kept : StoreIsKept store content = subst (λ (s : StoreState). StoreIsKept s content) (sym c.self.view_is) (c.requires.one_disk told) in
     let none : refuses_held store.streams (event_of c.args.name.now c.args.t c.args.what) ≡ None =
     ap (λ (s : StoreState). refuses_held s.streams (event_of c.args.name.now c.args.t c.args.what)) c.self.view_is ∙ c.in-Ok.ensures.accepted in
@@ -200,8 +200,8 @@ returns-in-Ok-put_mark-clause-step g c told =
     ∙ ap (λ (s : StoreState). of_part c.args.name.now s.streams (λ p. has_open p.landmarks.landmarks)) c.self.view_is ∙ c.requires.marked own in
     let others = others_of c.in-Ok.marker.0 store.streams kept.streams in
     let s = (marking store content kept c.args.name.now c.args.t c.args.what c.in-Ok.marker.0 c.in-Ok.marker.1 marker none said begun).stream in
-    let before = g.D.Disk.told c.args.disk.now in
-    let after = g.D.Disk.told c.put_mark.new.disk in
+    let before = (g.D.Disk.seen c.args.disk.now).told in
+    let after = (g.D.Disk.seen c.put_mark.new.disk).told in
     StepsState-answers (event_of c.args.name.now c.args.t c.args.what) before after _ _
     (StepsState-marked store content kept c.args.name.now c.args.t c.args.what c.in-Ok.marker.0 c.in-Ok.marker.1 marker none said begun spared
     c.put_mark.new.part room before after _ refl (c.in-Ok-put_mark.ensures.marks told others s))
@@ -220,7 +220,7 @@ returns-in-Err-put_mark-clause-step g c told =
     let room : IsSpared marker.part spared =
     IsSpared-marks store c.in-Ok.marker.0 marker.part was is marker.at whole c.reserve.new.landmarks kept_marks.landmarks kept_marks.slots kept_marks.value_slots
     kept_marks.room_grows kept_marks.value_room_grows kept_marks.known in
-    let content = (g.D.Disk.told c.args.disk.now).content in
+    let content = (g.D.Disk.seen c.args.disk.now).told.content in
     let kept : StoreIsKept store content = subst (λ (s : StoreState). StoreIsKept s content) (sym c.self.view_is) (c.requires.one_disk told) in
     let none : refuses_held store.streams (event_of c.args.name.now c.args.t c.args.what) ≡ None =
     ap (λ (s : StoreState). refuses_held s.streams (event_of c.args.name.now c.args.t c.args.what)) c.self.view_is ∙ c.in-Ok.ensures.accepted in
@@ -231,8 +231,8 @@ returns-in-Err-put_mark-clause-step g c told =
     ∙ ap (λ (s : StoreState). of_part c.args.name.now s.streams (λ p. has_open p.landmarks.landmarks)) c.self.view_is ∙ c.requires.marked own in
     let others = others_of c.in-Ok.marker.0 store.streams kept.streams in
     let s = (marking store content kept c.args.name.now c.args.t c.args.what c.in-Ok.marker.0 c.in-Ok.marker.1 marker none said begun).stream in
-    let before = g.D.Disk.told c.args.disk.now in
-    let after = g.D.Disk.told c.put_mark.new.disk in
+    let before = (g.D.Disk.seen c.args.disk.now).told in
+    let after = (g.D.Disk.seen c.put_mark.new.disk).told in
     StepsState-failed (event_of c.args.name.now c.args.t c.args.what) before after c.put_mark.result _
     (StepsState-marked store content kept c.args.name.now c.args.t c.args.what c.in-Ok.marker.0 c.in-Ok.marker.1 marker none said begun spared
     c.put_mark.new.part room before after c.put_mark.result refl (c.put_mark.ensures.marks told others s))
@@ -251,7 +251,7 @@ returns-in-Ok-put_mark-clause-one_disk g c told run =
     let room : IsSpared marker.part spared =
     IsSpared-marks store c.in-Ok.marker.0 marker.part was is marker.at whole c.reserve.new.landmarks kept_marks.landmarks kept_marks.slots kept_marks.value_slots
     kept_marks.room_grows kept_marks.value_room_grows kept_marks.known in
-    let content = (g.D.Disk.told c.args.disk.now).content in
+    let content = (g.D.Disk.seen c.args.disk.now).told.content in
     let kept : StoreIsKept store content = subst (λ (s : StoreState). StoreIsKept s content) (sym c.self.view_is) (c.requires.one_disk told) in
     let none : refuses_held store.streams (event_of c.args.name.now c.args.t c.args.what) ≡ None =
     ap (λ (s : StoreState). refuses_held s.streams (event_of c.args.name.now c.args.t c.args.what)) c.self.view_is ∙ c.in-Ok.ensures.accepted in
@@ -262,7 +262,7 @@ returns-in-Ok-put_mark-clause-one_disk g c told run =
     ∙ ap (λ (s : StoreState). of_part c.args.name.now s.streams (λ p. has_open p.landmarks.landmarks)) c.self.view_is ∙ c.requires.marked own in
     let others = others_of c.in-Ok.marker.0 store.streams kept.streams in
     let s = (marking store content kept c.args.name.now c.args.t c.args.what c.in-Ok.marker.0 c.in-Ok.marker.1 marker none said begun).stream in
-    let after = (g.D.Disk.told c.put_mark.new.disk).content in
+    let after = (g.D.Disk.seen c.put_mark.new.disk).told.content in
     let held = held-marker store content kept c.args.name.now c.args.t c.args.what c.in-Ok.marker.0 c.in-Ok.marker.1 marker none said begun spared
     c.put_mark.new.part room in
     StoreIsKept-marked store content kept c.args.name.now c.args.t c.args.what c.in-Ok.marker.0 c.in-Ok.marker.1 marker none said begun spared

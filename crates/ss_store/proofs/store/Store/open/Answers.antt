@@ -11,6 +11,6 @@ pub returns-clause-history : goal.returns-clause-history
 returns-clause-history g c told history =
     let is = Recovers (state history) in
     let stands = Stands history in
-    Turns-weaker is stands is stands is stands (g.D.Disk.told c.args.disk.now) (g.D.Disk.told c.open_in.new.disk) c.open_in.result
+    Turns-weaker is stands is stands is stands (g.D.Disk.seen c.args.disk.now).told (g.D.Disk.seen c.open_in.new.disk).told c.open_in.result
     (λ has. has.state) (λ has image left. record { is_history = has.is_history; state = left })
     (λ has image left. record { is_history = has.is_history; state = left }) (c.open_in.ensures.state told (state history))

@@ -16,9 +16,9 @@ items_are v now was entries long =
 
 pub returns-in_err-settle_all-clause-state : goal.returns-in_err-settle_all-clause-state
 returns-in_err-settle_all-clause-state g c told =
-    let old = g.D.Disk.told c.args.disk.now in
-    let read = g.D.Disk.told c.read_all.new.disk in
-    let new = g.D.Disk.told c.settle_all.new.disk in
+    let old = (g.D.Disk.seen c.args.disk.now).told in
+    let read = (g.D.Disk.seen c.read_all.new.disk).told in
+    let new = (g.D.Disk.seen c.settle_all.new.disk).told in
     let parts = c.deref_mut.result.now in
     let now = c.settle_all.new.streams in
     let told_read = c.read_all.ensures.tells ∙ told in
@@ -40,9 +40,9 @@ invariant_of-result g c =
 
 pub returns-clause-opens : goal.returns-clause-opens
 returns-clause-opens g c told =
-    let old = g.D.Disk.told c.args.disk.now in
-    let read = g.D.Disk.told c.read_all.new.disk in
-    let new = g.D.Disk.told c.settle_all.new.disk in
+    let old = (g.D.Disk.seen c.args.disk.now).told in
+    let read = (g.D.Disk.seen c.read_all.new.disk).told in
+    let new = (g.D.Disk.seen c.settle_all.new.disk).told in
     let parts = c.deref_mut.result.now in
     let now = c.settle_all.new.streams in
     let told_read = c.read_all.ensures.tells ∙ told in
@@ -61,9 +61,9 @@ returns-clause-opens g c told =
 
 pub returns-clause-one_disk : goal.returns-clause-one_disk
 returns-clause-one_disk g c told =
-    let old = g.D.Disk.told c.args.disk.now in
-    let read = g.D.Disk.told c.read_all.new.disk in
-    let new = g.D.Disk.told c.settle_all.new.disk in
+    let old = (g.D.Disk.seen c.args.disk.now).told in
+    let read = (g.D.Disk.seen c.read_all.new.disk).told in
+    let new = (g.D.Disk.seen c.settle_all.new.disk).told in
     let parts = c.deref_mut.result.now in
     let now = c.settle_all.new.streams in
     let told_read = c.read_all.ensures.tells ∙ told in
@@ -83,9 +83,9 @@ returns-clause-one_disk g c told =
 
 pub returns-clause-state : goal.returns-clause-state
 returns-clause-state g c told =
-    let old = g.D.Disk.told c.args.disk.now in
-    let read = g.D.Disk.told c.read_all.new.disk in
-    let new = g.D.Disk.told c.settle_all.new.disk in
+    let old = (g.D.Disk.seen c.args.disk.now).told in
+    let read = (g.D.Disk.seen c.read_all.new.disk).told in
+    let new = (g.D.Disk.seen c.settle_all.new.disk).told in
     let parts = c.deref_mut.result.now in
     let now = c.settle_all.new.streams in
     let told_read = c.read_all.ensures.tells ∙ told in

@@ -22,7 +22,7 @@ returns-in-Ok-clause-window g c told streams recovers =
     let stands : IsSome (part_numbered number items) = subst (λ (s : StoreState). IsSome (part_numbered number s.streams)) (sym c.self.view_is) c.requires.stands in
     let found : part_numbered number items ≡ Some read = read-at items c.place_of.result (part_numbered number items) read at stands c.index-part.ensures in
     let numbered : part_numbered number now.streams ≡ Some read = subst (λ (s : StoreState). part_numbered number s.streams ≡ Some read) c.self.view_is found in
-    window-read now (g.D.Disk.told c.args.disk.now).content number read c.args.at c.entry-entry.result c.in-Ok.summary (c.requires.one_disk told) numbered
+    window-read now (g.D.Disk.seen c.args.disk.now).told.content number read c.args.at c.entry-entry.result c.in-Ok.summary (c.requires.one_disk told) numbered
     (entry-read (part_numbered number now.streams) read c.args.at c.entry-entry.result numbered c.entry-entry.ensures.entry) (c.in-Ok.ensures.window told)
     streams recovers
 
@@ -37,7 +37,7 @@ returns-in-Err-clause-firm g c told =
     let stands : IsSome (part_numbered number items) = subst (λ (s : StoreState). IsSome (part_numbered number s.streams)) (sym c.self.view_is) c.requires.stands in
     let found : part_numbered number items ≡ Some read = read-at items c.place_of.result (part_numbered number items) read at stands c.index-part.ensures in
     let numbered : part_numbered number now.streams ≡ Some read = subst (λ (s : StoreState). part_numbered number s.streams ≡ Some read) c.self.view_is found in
-    firm-read Placed now (g.D.Disk.told c.args.disk.now).content number read c.args.at c.entry-entry.result c.in-Err.fault c.from.result (c.requires.one_disk told)
+    firm-read Placed now (g.D.Disk.seen c.args.disk.now).told.content number read c.args.at c.entry-entry.result c.in-Err.fault c.from.result (c.requires.one_disk told)
     numbered (entry-read (part_numbered number now.streams) read c.args.at c.entry-entry.result numbered c.entry-entry.ensures.entry)
     (c.in-Err.ensures.window told) c.from.ensures
 

@@ -15,6 +15,6 @@ surveyed_in-requires-clause-few g c =
 
 pub returns-clause-surveys : goal.returns-clause-surveys
 returns-clause-surveys g c told =
-    let content = (g.D.Disk.told c.args.disk.now).content in
+    let content = (g.D.Disk.seen c.args.disk.now).told.content in
     let is : IsRebuilt c.deref.result.now content = rw c.deref.ensures.value (c.in_ok-records.ensures.rebuilt told) in
     SurveysAs-rebuilt c.deref.result.now content c.surveyed_in.result is c.surveyed_in.ensures

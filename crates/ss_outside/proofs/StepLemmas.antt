@@ -1,0 +1,32 @@
+-- Steps of a disk, one after another.
+use Rattle.std.proofs.Common.{◌≡◌, ℕ, refl, ◌∙◌, subst}
+use Rattle.std.specs.Prelude.{IsTrue}
+use Rattle.ss_outside.specs.Disk.{DiskView, Told}
+use Rattle.ss_outside.specs.Step.{Step}
+use Rattle.ss_outside.specs.Verdict.{Verdict, Counted, fine}
+
+-- no call
+pub step-none : (disk : DiskView) (S : Told → Told → Type 0) → (IsTrue disk.tells → S disk.told disk.told) → Step fine disk disk S
+step-none disk S is = record { tells = refl; counted = refl; told = is }
+
+module _ {old new : DiskView} {v : Verdict} {R S : Told → Told → Type 0} where
+  -- what follows of a step where the disk tells
+  pub step-as : Step v old new R → (R old.told new.told → S old.told new.told) → Step v old new S
+  step-as step gives = record { tells = step.tells; counted = step.counted; told = λ told. gives (step.told told) }
+
+  -- the same by another answer of the same verdict
+  pub step-verdict : {w : Verdict} → v ≡ w → Step v old new R → (R old.told new.told → S old.told new.told) → Step w old new S
+  step-verdict same step gives = record {
+    tells = step.tells;
+    counted = subst (λ w. Counted w old.faults new.faults) same step.counted;
+    told = λ told. gives (step.told told);
+  }
+
+module _ {old mid new : DiskView} {v : Verdict} {R Q S : Told → Told → Type 0} where
+  -- one step after another that was fine
+  pub step-then : Step fine old mid R → Step v mid new Q → (R old.told mid.told → Q mid.told new.told → S old.told new.told) → Step v old new S
+  step-then first second joins = record {
+    tells = second.tells ∙ first.tells;
+    counted = subst (λ before. Counted v before new.faults) first.counted second.counted;
+    told = λ told. joins (first.told told) (second.told (first.tells ∙ told));
+  }
