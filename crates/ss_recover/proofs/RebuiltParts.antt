@@ -33,7 +33,8 @@ use Rattle.ss_recover.specs.Held.{Agrees, AllAgree, AreHeld, AreWhole, EndByLast
 use Rattle.ss_recover.specs.Marked.{are_marks, landmarks_made}
 use Rattle.ss_recover.specs.Order.{found_key, key_of, place_of}
 use Rattle.ss_recover.specs.Parts.{bad_slot, bad_stream, carried, judged, least, lowest_bad_slot, lowest_bad_stream, records_in, streams_carried}
-use Rattle.ss_recover.specs.Rebuilt.{BlamesDisk, NotDisk, OnDisk, RebuildsAs}
+use Rattle.ss_outside.specs.Verdict.{Counted, OnFailed, UnlessFailed}
+use Rattle.ss_recover.specs.Rebuilt.{RebuildsAs, verdict_of_rebuild}
 use Rattle.ss_recover.specs.Walk.{IsLowestUnsound, IsUsable, WalksAs, in_slot, records_of}
 use Rattle.ss_recover.specs.declared.found.Found.{Found}
 use Rattle.ss_recover.specs.declared.parts.Parts.{Parts}
@@ -261,21 +262,22 @@ whole-from_walk live all sorted (Ok parts) slots moved walks =
     }
 
 -- a walk doesn't blame the disk
-pub not-disk : (all : List Found) (result : Result Parts RecoverError) (P : Type 0) → WalksAs all result → P → NotDisk result P
+pub not-disk : (all : List Found) (result : Result Parts RecoverError) (P : Type 0) → WalksAs all result → P → UnlessFailed (verdict_of_rebuild result) P
 not-disk all (Ok parts) P walks holds = holds
 not-disk all (Err (BadSlot n)) P walks holds = holds
 not-disk all (Err (BadStream n)) P walks holds = holds
 not-disk all (Err Disk) P walks holds = tt
 not-disk all (Err OutOfMemory) P walks holds = holds
 
-pub on-disk : (all : List Found) (result : Result Parts RecoverError) (P : Type 0) → WalksAs all result → OnDisk result P
+pub on-disk : (all : List Found) (result : Result Parts RecoverError) (P : Type 0) → WalksAs all result → OnFailed (verdict_of_rebuild result) P
 on-disk all (Ok parts) P walks = tt
 on-disk all (Err (BadSlot n)) P walks = tt
 on-disk all (Err (BadStream n)) P walks = tt
 on-disk all (Err Disk) P walks = absurd walks
 on-disk all (Err OutOfMemory) P walks = tt
 
-pub no-blame : (all : List Found) (result : Result Parts RecoverError) (before now : ℕ) → WalksAs all result → now ≡ before → BlamesDisk before now result
+pub no-blame : (all : List Found) (result : Result Parts RecoverError) (before now : ℕ) → WalksAs all result → now ≡ before
+    → Counted (verdict_of_rebuild result) before now
 no-blame all (Ok parts) before now walks same = same
 no-blame all (Err (BadSlot n)) before now walks same = same
 no-blame all (Err (BadStream n)) before now walks same = same
