@@ -292,7 +292,7 @@ module _ (store : StoreState) (content : List ℕ) (kept : StoreIsKept store con
     pub StepsState-one : {T E : Type 0} (Left : List ℕ → Type 0) (old new : Told) (call : Result T E) → old.content ≡ content →
         ((image : List ℕ) → Left image → Recovers (stepped kept.streams event) image) →
         Turns (IsHeldIn beside spared s) (Either (IsHeldIn beside spared s) Left) (IsHeldIn beside now next) old new call →
-        StepsState event old new call
+        StepsState event call old new
     StepsState-one Left old new call same left turns =
         StepsState-turns event old new call kept.streams (IsHeldIn beside spared s) (Either (IsHeldIn beside spared s) Left)
         (IsHeldIn beside now next) (subst (λ c. Recovers kept.streams c) (sym same) (Recovers-StoreIsKept store content kept))
@@ -341,7 +341,7 @@ module _ (store : StoreState) (content : List ℕ) (kept : StoreIsKept store con
 
     pub StepsState-appended : {T E : Type 0} (old new : Told) (call : Result T E) → old.content ≡ content →
         Turns (IsHeldIn others spared pair.stream) (IsHalfway others spared pair.stream t v) (IsHeldIn others now (with_value pair.stream t v)) old new call →
-        StepsState (Value name t v) old new call
+        StepsState (Value name t v) call old new
     StepsState-appended old new call same turns =
         StepsState-one store content kept place taker.part spared now taker.at room pair.stream pair.here (Value name t v) (with_value pair.stream t v)
         (MayStep-valued kept.streams name t v place pair.stream may kept.closed) (IsPartlyJoined others (with_single pair.stream t v)) old new call same
@@ -377,7 +377,7 @@ module _ (store : StoreState) (content : List ℕ) (kept : StoreIsKept store con
         Turns (IsHeldIn (others_of place store.streams kept.streams) spared marking.stream)
         (IsMarkedOrNot (others_of place store.streams kept.streams) spared marking.stream t mark)
         (IsHeldIn (others_of place store.streams kept.streams) now (with_mark marking.stream t mark)) old new call →
-        StepsState (event_of name t mark) old new call
+        StepsState (event_of name t mark) call old new
     StepsState-marked old new call same turns =
         StepsState-one store content kept place marker.part spared now marker.at room marking.stream marking.here (event_of name t mark)
         (with_mark marking.stream t mark) may-mark (IsMarkedIn (others_of place store.streams kept.streams) marking.stream t mark) old new call same

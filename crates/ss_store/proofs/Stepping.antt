@@ -27,7 +27,7 @@ use Rattle.ss_store.proofs.Refusals.{refuses_held-is}
 -- what a call does to the records it does to the state that they are of
 pub StepsState-turns : {T E : Type 0} (event : Event) (old new : Told) (result : Result T E) (streams : List Stream) (P M Q : List ℕ → Type 0) →
     Recovers streams old.content → P old.content → ((image : List ℕ) → M image → RecoversToEither streams event image) →
-    ((image : List ℕ) → Q image → Recovers (stepped streams event) image) → Turns P M Q old new result → StepsState event old new result
+    ((image : List ℕ) → Q image → Recovers (stepped streams event) image) → Turns P M Q old new result → StepsState event result old new
 StepsState-turns event old new result streams P M Q is has crash after turns =
     λ all.
     Turns-weaker P (Recovers all) M (RecoversToEither all event) Q (Recovers (stepped all event)) old new result (λ same. has)
@@ -37,12 +37,12 @@ StepsState-turns event old new result streams P M Q is has crash after turns =
 
 -- the step is told by another answer
 pub StepsState-answers : {S F T E : Type 0} (event : Event) (old new : Told) (value : S) (result : Result T E) →
-    StepsState {E = F} event old new (Ok value) → StepsState event old new result
+    StepsState {E = F} event (Ok value) old new → StepsState event result old new
 StepsState-answers event old new value result steps =
     λ all. Turns-answers (Recovers all) (RecoversToEither all event) (Recovers (stepped all event)) old new value result (steps all)
 
-pub StepsState-failed : {S F T E : Type 0} (event : Event) (old new : Told) (call : Result S F) (e : E) → StepsState event old new call →
-    StepsState {T = T} event old new (Err e)
+pub StepsState-failed : {S F T E : Type 0} (event : Event) (old new : Told) (call : Result S F) (e : E) → StepsState event call old new →
+    StepsState {T = T} event (Err e) old new
 StepsState-failed {S} {F} {T} {E} event old new call e steps =
     λ all.
     let failed : Result T E = Err e in
@@ -59,8 +59,8 @@ Stands-push history event content image said stands none is = record {
 
 -- and so a call that makes a step of the state adds an event to each history of it, where the event isn't refused
 AddsEvent-accepted : {T E : Type 0} (event : Event) (old new : Told) (result : Result T E) → CanBeSaid event →
-    ((streams : List Stream) → Recovers streams old.content → refuses streams event ≡ None) → StepsState event old new result →
-    AddsEvent event old new result
+    ((streams : List Stream) → Recovers streams old.content → refuses streams event ≡ None) → StepsState event result old new →
+    AddsEvent event result old new
 AddsEvent-accepted event old new result said none steps =
     λ history.
     let streams = state history in
@@ -75,7 +75,7 @@ AddsEvent-accepted event old new result said none steps =
     (steps streams)
 
 -- where the disk wasn't called, nothing was done
-AddsEvent-uncalled : {T E : Type 0} (event : Event) (disk : Told) (e : E) → KnowsNow disk → AddsEvent {T = T} event disk disk (Err e)
+AddsEvent-uncalled : {T E : Type 0} (event : Event) (disk : Told) (e : E) → KnowsNow disk → AddsEvent {T = T} event (Err e) disk disk
 AddsEvent-uncalled {T} {E} event disk e knows =
     λ history.
     let failed : Result T E = Err e in
@@ -93,10 +93,10 @@ not_refused None result exactly never = refl
 not_refused (Some r) result exactly never = absurd (never r ((exactly r).1 refl))
 
 module _ {T X : Type 0} (event : Event) (told : X → Told) (old new : X) (parts : List StreamParts) where
-  pub AddsEvent-step : (result : Result T ApplyError) → KnowsNow (told old) → CanBeSaid event → StepsState event (told old) (told new) result →
+  pub AddsEvent-step : (result : Result T ApplyError) → KnowsNow (told old) → CanBeSaid event → StepsState event result (told old) (told new) →
       IfUncalled result (new ≡ old) → IsRefusedBy (refuses_held parts event) result →
       ((streams : List Stream) → Recovers streams (told old).content → AllAgree parts streams × IsState streams) →
-      AddsEvent event (told old) (told new) result
+      AddsEvent event result (told old) (told new)
   AddsEvent-step (Ok value) knows said steps same exactly held =
       let none = not_refused (refuses_held parts event) (Ok value) exactly (λ r wrong. cc) in
       AddsEvent-accepted event (told old) (told new) (Ok value) said
@@ -112,9 +112,9 @@ module _ {T X : Type 0} (event : Event) (told : X → Told) (old new : X) (parts
       AddsEvent-accepted event (told old) (told new) (Err (apply.Changed slot)) said
       (λ streams is. sym (refuses_held-is parts streams event (held streams is).0 (held streams is).1) ∙ none) steps
   AddsEvent-step (Err (apply.Refused r)) knows said steps same exactly held =
-      subst (λ x. AddsEvent {T = T} event (told old) (told x) (Err (apply.Refused r))) (sym same) (AddsEvent-uncalled event (told old) (apply.Refused r) knows)
+      subst (λ x. AddsEvent {T = T} event (Err (apply.Refused r)) (told old) (told x)) (sym same) (AddsEvent-uncalled event (told old) (apply.Refused r) knows)
   AddsEvent-step (Err apply.Stopped) knows said steps same exactly held =
-      subst (λ x. AddsEvent {T = T} event (told old) (told x) (Err apply.Stopped)) (sym same) (AddsEvent-uncalled event (told old) apply.Stopped knows)
+      subst (λ x. AddsEvent {T = T} event (Err apply.Stopped) (told old) (told x)) (sym same) (AddsEvent-uncalled event (told old) apply.Stopped knows)
   AddsEvent-step (Err apply.OutOfMemory) knows said steps same exactly held =
-      subst (λ x. AddsEvent {T = T} event (told old) (told x) (Err apply.OutOfMemory)) (sym same)
+      subst (λ x. AddsEvent {T = T} event (Err apply.OutOfMemory) (told old) (told x)) (sym same)
       (AddsEvent-uncalled event (told old) apply.OutOfMemory knows)

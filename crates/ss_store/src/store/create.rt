@@ -99,7 +99,7 @@ impl Store {
     ) -> Result<Ack, ApplyError>
         requires runs { self.old.stopped ≡ false }
         requires one_disk { IsTrue (D.seen disk.old).tells → StoreIsKept self.old (D.seen disk.old).told.content }
-        ensures step { IsTrue (D.seen disk.old).tells → StepsState (Create name params) (D.seen disk.old).told (D.seen disk.new).told result }
+        ensures step { IsTrue (D.seen disk.old).tells → StepsState (Create name params) result (D.seen disk.old).told (D.seen disk.new).told }
         ensures one_disk { IsTrue (D.seen disk.old).tells → self.new.stopped ≡ false → StoreIsKept self.new (D.seen disk.new).told.content }
         ensures ack { IfOk result (λ ack. ack ≡ said_of_held (part_named name self.new.streams)) }
         ensures decay { IfOk result (λ ack. IfSome (part_named name self.new.streams) (λ part.

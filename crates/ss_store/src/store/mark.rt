@@ -103,7 +103,7 @@ impl Store {
         requires runs { self.old.stopped ≡ false }
         requires marked { IsInOpen what → of_part name.now self.old.streams (λ part. has_open part.landmarks.landmarks) ≡ true }
         requires one_disk { IsTrue (D.seen disk.old).tells → StoreIsKept self.old (D.seen disk.old).told.content }
-        ensures step { IsTrue (D.seen disk.old).tells → StepsState (event_of name.now t what) (D.seen disk.old).told (D.seen disk.new).told result }
+        ensures step { IsTrue (D.seen disk.old).tells → StepsState (event_of name.now t what) result (D.seen disk.old).told (D.seen disk.new).told }
         ensures one_disk { IsTrue (D.seen disk.old).tells → self.new.stopped ≡ false → StoreIsKept self.new (D.seen disk.new).told.content }
         ensures ack { IfOk result (λ ack. ack ≡ said_of_held (part_named name.now self.new.streams)) }
         ensures running { result ≢ Err ApplyError.Stopped }
