@@ -62,6 +62,23 @@ OnFine stopped P = ⊤
 OnFine failed P = ⊤
 OnFine (changed slot) P = ⊤
 
+-- a fact where the call refused, and one where memory ran out
+abbrev pub OnRefused : Verdict → Type 0 → Type 0
+OnRefused fine P = ⊤
+OnRefused refused P = P
+OnRefused no_memory P = ⊤
+OnRefused stopped P = ⊤
+OnRefused failed P = ⊤
+OnRefused (changed slot) P = ⊤
+
+abbrev pub OnNoMemory : Verdict → Type 0 → Type 0
+OnNoMemory fine P = ⊤
+OnNoMemory refused P = ⊤
+OnNoMemory no_memory P = P
+OnNoMemory stopped P = ⊤
+OnNoMemory failed P = ⊤
+OnNoMemory (changed slot) P = ⊤
+
 -- a fact where the device failed
 abbrev pub OnFailed : Verdict → Type 0 → Type 0
 OnFailed fine P = ⊤

@@ -3,7 +3,7 @@ use Rattle.std.specs.Prelude.{◌≡◌, ◌↔◌, ℕ, ◌+◌, ◌*◌, ◌�
 use Rattle.ss_outside.specs.Crash.{OnlyReads}
 use Rattle.ss_outside.specs.Disk.{DiskView, Told, OfContent}
 use Rattle.ss_outside.specs.Step.{Step}
-use Rattle.ss_outside.specs.Verdict.{Verdict, IfUndone, IsFirm, OnFine, no_memory, refused}
+use Rattle.ss_outside.specs.Verdict.{Verdict, IfUndone, IsFirm, OnFine, OnNoMemory, OnRefused}
 use Rattle.ss_catalog.specs.Events.{event_name}
 use Rattle.ss_catalog.specs.declared.event.Event.{Event}
 use Rattle.ss_catalog.specs.declared.event.Event.TheVariants.{Create, Value, Open, Close}
@@ -62,8 +62,8 @@ pub record Applies (event : Event) (old new : StoreState) (before after : DiskVi
   pub decay : is_plain_value old.streams event ≡ true → IfOk result (IsFew new.streams event)
   -- each refusal exactly where it applies
   pub refused : (r : Refusal) → (result ≡ Err (apply.Refused r)) ↔ (refuses_held old.streams event ≡ Some r)
-  pub same : verdict_of_apply result ≡ refused → new ≡ old
-  pub starved : verdict_of_apply result ≡ no_memory → SameButSpare old new
+  pub same : OnRefused (verdict_of_apply result) (new ≡ old)
+  pub starved : OnNoMemory (verdict_of_apply result) (SameButSpare old new)
   pub stops : new.stopped ≡ stopped_after old.stopped (verdict_of_apply result)
   pub firm : IsTrue before.tells → IsFirm (verdict_of_apply result)
   -- no more slots are used than the records need
