@@ -1,23 +1,27 @@
 -- The steps of the birth, and what a crash may leave of them.
-use Rattle.std.proofs.Common.{IsFalse, IsTrue, List, Result, [], ap, arith, drop, inl, inr, length, max, nat_eq, refl, replicate, subst, sym, take, ℕ, ◌++◌, ◌+◌, ◌-◌, ◌<◌, ◌∙◌, ◌∷◌, ◌≡◌, ◌≤◌}
+use Rattle.std.proofs.lemmas.Result.{on_ok_weaker}
+use Rattle.std.proofs.Common.{IsFalse, IsTrue, List, Ok, Result, [], ap, arith, drop, inl, inr, length, max, nat_eq, refl, replicate, subst, sym, take, ℕ, ◌++◌, ◌+◌, ◌-◌, ◌<◌, ◌∙◌, ◌∷◌, ◌≡◌, ◌≤◌}
 use Rattle.std.proofs.lemmas.Bool.{cases_Bool, cases_lt, cond-false, cond-true, eqb-false, eqb-true}
 use Rattle.std.proofs.lemmas.List.{append-nil, get_or-replicate, get_or_past, length-replicate, take-append-drop}
 use Rattle.std.specs.Prelude.{IsErr, slice_index}
 use Rattle.ss_outside.proofs.DiskLemmas.{get_or-overwrite_inside, get_or-overwrite_outside, length-overwrite}
 use Rattle.ss_outside.specs.Crash.{KnowsNow, OnlyReads}
 use Rattle.ss_outside.specs.Disk.{Told, overwrite}
-use Rattle.ss_journal.specs.Birth.{IsBegun, IsFormed, blank_end, form_ranges, magic_bytes}
-use Rattle.ss_journal.specs.Calls.{KeepsMap}
-use Rattle.ss_journal.specs.Format.{has_magic, is_born, is_unborn, magic, slots_in}
+use Rattle.ss_journal.specs.Birth.{IsBegun, IsFormed, Leads, blank_end, form_ranges, magic_bytes}
+use Rattle.ss_outside.specs.Step.{Syncs}
+use Rattle.ss_outside.specs.declared.source.Failed.{Failed}
+use Rattle.ss_journal.specs.Format.{IsCleared, has_magic, is_born, is_unborn, magic, slots_in}
 use Rattle.ss_journal.specs.Gates.{ClosedFrom, entry_place, opens}
 use Rattle.ss_journal.specs.Redo.{Gives, Redone, SameMap, SlotMap, StandsFor, blank_map}
+use Rattle.ss_journal.specs.Steps.{Durably, Finds, Marks, Reaches, Rewrites, Writes, WritesZeros}
 use Rattle.ss_journal.specs.Writes.{SameRest, DiffersAt, DiffersIn, Tears, end_of}
 use Rattle.ss_journal.proofs.GateLemmas.{StandsFor-first_closed}
 use Rattle.ss_journal.proofs.HeaderLemmas.{has_magic-same, is_born-from, is_unborn-cases, is_unborn-gate, is_unborn-short, is_unborn-zero, long-has_magic}
 use Rattle.ss_journal.proofs.MapLemmas.{SameMap-trans, file_map-blank}
 use Rattle.ss_journal.proofs.RangeLemmas.{SameRest-differs, DiffersIn-append, DiffersIn-overwrite, DiffersIn-refl, get_or-differs, length-differs}
 use Rattle.ss_journal.proofs.RedoLemmas.{StandsFor-from, redo-unborn}
-use Rattle.ss_journal.proofs.TearLemmas.{keeps-failed, tears-after_read, tears-joined}
+use Rattle.ss_journal.proofs.StepLemmas.{reaches-joined, reaches-read, reaches-rewritten, reaches-torn, rewrites-synced, writes-after_read}
+use Rattle.ss_journal.proofs.TearLemmas.{tears-joined, tears-read}
 
 -- unformatted files with as many slots stand for one map
 StandsFor-unborn : (content image : List ℕ) (found : SlotMap) → IsTrue (is_unborn content) → StandsFor content found → IsTrue (is_unborn image)
@@ -51,6 +55,29 @@ IsBegun-long content unborn long = record {
   ];
   some = omega (arith, long);
 }
+
+SameRest-overwrite : (content : List ℕ) (at : ℕ) (bytes : List ℕ) → at ≤ length content → at + length bytes ≤ 134254592 → SameRest content (overwrite content at bytes)
+SameRest-overwrite content at bytes within below place past = get_or-overwrite_outside content bytes at within place (inr (omega (arith, below, past)))
+
+-- a write of one 0 after a read of the length
+module _ (old read new : Told) (knows : KnowsNow old) (reads : OnlyReads old read) where
+  module _ (short : length old.content ≤ 1) where
+    pub begun-failed : {step : Result (Unit {0}) Failed} (result : Result (Unit {0}) Failed) → IsErr result → Writes 0 (0 ∷ []) step read new
+        → Reaches (Leads IsBegun) result old new
+    begun-failed result is wrote = reaches-torn (Leads IsBegun) result is (writes-after_read 0 (0 ∷ []) old read new knows reads wrote)
+        (λ found image stands differs. StandsFor-begin old.content image found short stands differs)
+
+    pub begun-short : (value done : Unit {0}) → Durably (Writes 0 (0 ∷ [])) (Ok value) read new → Reaches (Leads IsBegun) (Ok done) old new
+    begun-short value done wrote =
+        reaches-rewritten (Leads IsBegun) (Ok done) (writes-after_read 0 (0 ∷ []) old read new knows reads wrote.step) (λ only. wrote.durable)
+        (λ found image stands differs. StandsFor-begin old.content image found short stands differs)
+        (DiffersIn-overwrite 0 old.content (0 ∷ []) (omega arith))
+        (IsBegun-short old.content short, SameRest-overwrite old.content 0 (0 ∷ []) (omega arith) (omega arith))
+
+pub begun-long : (old read : Told) → KnowsNow old → OnlyReads old read → IsTrue (is_unborn old.content) → 1 < length old.content → (done : Unit {0})
+    → Reaches (Leads IsBegun) (Ok done) old read
+begun-long old read knows reads unborn long done =
+    reaches-read (Leads IsBegun) (Ok done) knows reads (IsBegun-long old.content unborn long, λ place past. refl)
 
 -- as many slots, with what is written after the magic
 slots_in-blank : (size longer : ℕ) → size ≤ longer → longer ≤ max (max size 9) (blank_end size) → slots_in longer ≡ slots_in size
@@ -96,6 +123,9 @@ StandsFor-form content image found begun is differs = StandsFor-unborn content i
         | inr magic_there ↦ unborn-magic other magic_there
       ]
     ]
+
+pub SameRest-trans : (first second third : List ℕ) → SameRest first second → SameRest second third → SameRest first third
+SameRest-trans first second third was is place past = is place past ∙ was place past
 
 overwrite-nothing : (content : List ℕ) → overwrite content 1 [] ≡ content
 overwrite-nothing content = ap (λ (front : List ℕ). front ++ drop 1 content) (append-nil (take 1 content)) ∙ take-append-drop 1 content
@@ -182,27 +212,52 @@ module _ (content : List ℕ) (begun : IsBegun content) where
         let wipes = subst (λ (count : ℕ). DiffersIn ((9, count) ∷ []) marked blank) (length-wiped ∙ ap (λ (n : ℕ). n - 9) is_end) (DiffersIn-overwrite 9 marked wiped long-marked) in
         DiffersIn-append ((1, length (magic_bytes content)) ∷ []) ((9, blank_end (length content) - 9) ∷ []) content marked blank (DiffersIn-overwrite 1 content (magic_bytes content) within) wipes
 
-    pub SameRest-blank : SameRest content blank
+    SameRest-blank : SameRest content blank
     SameRest-blank = SameRest-differs (form_ranges content) content blank
         (λ place past. (inr (omega (arith, past, few-magic_bytes content)), (inr (omega (arith, past)), tt)))
         (omega (arith, few-magic_bytes content)) DiffersIn-blank
 
--- the run: a read, the magic, the zeros
-module _ (old read marked : Told) (knows : KnowsNow old) (reads : OnlyReads old read) (marking : Tears ((1, length (magic_bytes read.content)) ∷ []) read marked) where
-  abbrev marks : List (ℕ × ℕ)
-  marks = (1, length (magic_bytes old.content)) ∷ []
+-- the run: a read, the magic, the zeros, a sync
+module _ (old read marked : Told) (knows : KnowsNow old) (reads : OnlyReads old read) (begun : IsBegun old.content) where
+  abbrev magic_range : List (ℕ × ℕ)
+  magic_range = (1, length (magic_bytes old.content)) ∷ []
 
-  to_marked : Tears marks old marked
-  to_marked = tears-after_read old read marked marks knows reads (subst (λ (list : List ℕ). Tears ((1, length (magic_bytes list)) ∷ []) read marked) reads.same.content marking)
+  to_marked : {result : Result (Unit {0}) Failed} → Marks result read marked → Marks result old marked
+  to_marked {result} marks = writes-after_read 1 (magic_bytes old.content) old read marked knows reads
+      (subst (λ (list : List ℕ). Writes 1 (magic_bytes list) result read marked) reads.same.content marks)
 
   -- the magic alone
-  pub keeps-marked : {T E : Type 0} (result : Result T E) → IsErr result → IsBegun old.content → KeepsMap old marked result
-  keeps-marked result failed begun = keeps-failed old marked result failed marks to_marked
-      (λ found image is differs. StandsFor-form old.content image found begun is (DiffersIn-append marks ((9, blank_end (length old.content) - 9) ∷ []) old.content image image differs (DiffersIn-refl _ image)))
+  pub marks-failed : {step : Result (Unit {0}) Failed} (result : Result (Unit {0}) Failed) → IsErr result → Marks step read marked
+      → Reaches (Leads IsFormed) result old marked
+  marks-failed result is marks = reaches-torn (Leads IsFormed) result is (to_marked marks)
+      (λ found image stands differs. StandsFor-form old.content image found begun stands
+      (DiffersIn-append magic_range ((9, blank_end (length old.content) - 9) ∷ []) old.content image image differs (DiffersIn-refl _ image)))
 
-  module _ (blank : Told) (knows_marked : KnowsNow marked) (end : ℕ) (is_end : end ≡ blank_end (length old.content)) (wiping : Tears ((9, end - 9) ∷ []) marked blank) where
-    pub to_blank : Tears (form_ranges old.content) old blank
-    to_blank = tears-joined old marked blank marks knows_marked to_marked ((9, blank_end (length old.content) - 9) ∷ []) (subst (λ (n : ℕ). Tears ((9, n - 9) ∷ []) marked blank) is_end wiping)
+  module _ (value : Unit {0}) (marks : Marks (Ok value) read marked) where
+    pub long-marks : 9 ≤ length marked.content
+    long-marks = subst (λ (list : List ℕ). 9 ≤ length list) (sym (to_marked marks).written) (long-marked old.content begun)
+
+    module _ (blank : Told) (knows_marked : KnowsNow marked) (end : ℕ) (is_end : end ≡ blank_end (length old.content)) where
+      -- the magic, and zeros after it
+      to_blank : {result : Result (Unit {0}) Failed} → WritesZeros 9 (end - 9) result marked blank
+          → Rewrites (form_ranges old.content) (overwrite (overwrite old.content 1 (magic_bytes old.content)) 9 (replicate (end - 9) 0)) result old blank
+      to_blank {result} wipes = record {
+        tears = tears-joined old marked blank magic_range knows_marked (to_marked marks).tears ((9, blank_end (length old.content) - 9) ∷ [])
+            (subst (λ (n : ℕ). Tears ((9, n - 9) ∷ []) marked blank) is_end wipes.tears);
+        written = on_ok_weaker result (λ is. is ∙ ap (λ (list : List ℕ). overwrite list 9 (replicate (end - 9) 0)) (to_marked marks).written) wipes.written;
+      }
+
+      pub wipes-failed : {step : Result (Unit {0}) Failed} (result : Result (Unit {0}) Failed) → IsErr result → WritesZeros 9 (end - 9) step marked blank
+          → Reaches (Leads IsFormed) result old blank
+      wipes-failed result is wipes = reaches-torn (Leads IsFormed) result is (to_blank wipes)
+          (λ found image stands differs. StandsFor-form old.content image found begun stands differs)
+
+      pub wipes-synced : (none : Unit {0}) (synced : Told) (result : Result (Unit {0}) Failed) → KnowsNow blank → WritesZeros 9 (end - 9) (Ok none) marked blank
+          → Syncs result blank synced → Reaches (Leads IsFormed) result old synced
+      wipes-synced none synced result knows_blank wipes syncs =
+          reaches-rewritten (Leads IsFormed) result (rewrites-synced none result (to_blank wipes) knows_blank syncs) (λ only. syncs.durable)
+          (λ found image stands differs. StandsFor-form old.content image found begun stands differs)
+          (DiffersIn-blank old.content begun end is_end) (IsFormed-blank old.content begun end is_end, SameRest-blank old.content begun end is_end)
 
 is_unborn-formed : (content : List ℕ) → IsFormed content → IsTrue (is_unborn content)
 is_unborn-formed content formed = is_unborn-gate content formed.marked formed.closed
@@ -250,3 +305,24 @@ birth-opened content formed =
       born-opened content image formed differs (subst (λ (byte : ℕ). IsTrue (opens byte)) (sym gate) refl),
       λ n le lt. gate-image content image formed differs (entry_place n) (omega arith) (omega (arith, lt)),
     )
+
+-- the gate is written, and synced
+pub gate-opened : (old new : Told) (result : Result (Unit {0}) Failed) → IsFormed old.content → Durably (Writes 0 (165 ∷ [])) result old new
+    → Durably (Reaches (Leads IsCleared)) result old new
+gate-opened old new result formed wrote = record {
+  step = reaches-rewritten (Leads IsCleared) result wrote.step (λ only. wrote.durable)
+      (λ found image stands differs. StandsFor-birth_gate old.content image formed differs found stands)
+      (DiffersIn-overwrite 0 old.content (165 ∷ []) (omega arith))
+      (birth-opened old.content formed, SameRest-overwrite old.content 0 (165 ∷ []) (omega arith) (omega arith));
+  durable = wrote.durable;
+}
+
+-- the whole birth
+pub born-joined : (old begun formed new : Told) (first second : Unit {0}) (result : Result (Unit {0}) Failed) → Reaches (Leads IsBegun) (Ok first) old begun
+    → Reaches (Leads IsFormed) (Ok second) begun formed → Durably (Reaches (Leads IsCleared)) result formed new → Durably (Reaches (Leads IsCleared)) result old new
+born-joined old begun formed new first second result begins forms opens = record {
+  step = reaches-joined second result
+      (reaches-joined {S = Leads IsFormed} first (Ok second) begins forms (λ was is. (is.0, SameRest-trans old.content begun.content formed.content was.1 is.1)))
+      opens.step (λ was is. (is.0, SameRest-trans old.content formed.content new.content was.1 is.1));
+  durable = opens.durable;
+}

@@ -8,7 +8,7 @@ use Rattle.std.specs.List.{range_with_len}
 use Rattle.std.specs.Prelude.{flat_map, slice_index}
 use Rattle.ss_outside.proofs.DiskLemmas.{get_or-overwrite_inside, get_or-overwrite_outside, length-overwrite}
 use Rattle.ss_outside.specs.Disk.{overwrite}
-use Rattle.ss_journal.specs.Commit.{AddsEntry, IsReady}
+use Rattle.ss_journal.specs.Commit.{AddsEntry, IsReadyFor}
 use Rattle.ss_journal.specs.Entries.{entries, entry_body, is_good, open_prefix, puts_of}
 use Rattle.ss_journal.specs.Format.{entry_at, is_born}
 use Rattle.ss_journal.specs.Gates.{ClosedFrom, IsClosed, entry_place, is_open, opens}
@@ -37,7 +37,7 @@ entry_is n image bytes gate long size first rest =
     by_place (suc k) lt = let there : entry_place n + suc k ≡ entry_place n + 1 + k = omega arith in ap (slice_index image) there ∙ rest k (omega (arith, lt))
 
 -- a content with n entries in use, and an image that differs in entry n alone
-module _ (n : ℕ) (puts : List Put) (content image : List ℕ) (ready : IsReady n puts content) (free : n < 64) (size : length image ≡ length content) (beside : (place : ℕ) → (place < entry_place n) ⊎ (entry_place (n + 1) ≤ place) → slice_index image place ≡ slice_index content place) where
+module _ (n : ℕ) (puts : List Put) (content image : List ℕ) (ready : IsReadyFor n puts content) (free : n < 64) (size : length image ≡ length content) (beside : (place : ℕ) → (place < entry_place n) ⊎ (entry_place (n + 1) ≤ place) → slice_index image place ≡ slice_index content place) where
   abbrev list : List (List ℕ)
   list = open_prefix (entries content)
 
@@ -142,7 +142,7 @@ module _ (n : ℕ) (puts : List Put) (content image : List ℕ) (ready : IsReady
     }
 
 -- the entry is written, and then its gate is opened
-module _ (n : ℕ) (puts : List Put) (content : List ℕ) (whole : AreWhole puts) (txn : IsTxn puts) (ready : IsReady n puts content) (free : n < 64) where
+module _ (n : ℕ) (puts : List Put) (content : List ℕ) (whole : AreWhole puts) (txn : IsTxn puts) (ready : IsReadyFor n puts content) (free : n < 64) where
   abbrev body : List ℕ
   body = entry_body puts
 

@@ -10,7 +10,7 @@ use Rattle.ss_journal.specs.Format.{is_born, slots_in}
 use Rattle.ss_journal.specs.Gates.{IsClosed, opens}
 use Rattle.ss_journal.specs.Puts.{AreWhole, slots_fit}
 use Rattle.ss_journal.specs.Redo.{CameInPart, entries_in_use, Gives, InUse, Redone, SameMap, SlotMap, StandsFor, changed, file_map, redo, redo_entries, stands}
-use Rattle.ss_journal.specs.Writes.{AreSlots, DiffersAt, DiffersIn, HasRoom, end_of, slot_ranges, slots_written}
+use Rattle.ss_journal.specs.Writes.{AreSlots, DiffersAt, DiffersIn, HasPlaces, end_of, slot_ranges, slots_written}
 use Rattle.ss_journal.specs.declared.put.Put.{Put}
 use Rattle.ss_journal.proofs.GateLemmas.{StandsFor-first_closed}
 use Rattle.ss_journal.proofs.HeaderLemmas.{is_born-parts, is_born-same}
@@ -113,8 +113,8 @@ StandsFor-first_gate puts content image found some formed in_use is same differs
     )
 
 module _ (puts : List Put) (content : List ℕ) (born : IsTrue (is_born content)) (in_use : InUse puts content) where
-  pub HasRoom-in_use : HasRoom puts content
-  HasRoom-in_use = record { long = long-in_use puts content born in_use; fit = in_use-fit puts content born in_use }
+  pub HasPlaces-in_use : HasPlaces puts content
+  HasPlaces-in_use = record { long = long-in_use puts content born in_use; fit = in_use-fit puts content born in_use }
 
   pub differs-written : DiffersIn (slot_ranges puts) content (slots_written puts content)
   differs-written =

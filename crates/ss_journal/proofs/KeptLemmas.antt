@@ -1,18 +1,21 @@
 -- A journal and the content of its disk: opened, settled, read and committed.
-use Rattle.std.proofs.Common.{◌++◌, ◌+◌, Result, IsTrue, List, [], ap, arith, inl, inr, length, nat_lt, refl, subst, sym, ℕ, ⊎_elim, ◌<◌, ◌^◌, ◌∙◌, ◌≡◌, ◌≢◌, ◌≤◌, ◌⊎◌}
+use Rattle.std.proofs.Common.{◌++◌, ◌+◌, Ok, Result, IsTrue, List, [], ap, arith, inl, inr, length, nat_lt, refl, subst, sym, ℕ, ⊎_elim, ◌<◌, ◌^◌, ◌∙◌, ◌≡◌, ◌≢◌, ◌≤◌, ◌⊎◌}
 use Rattle.std.proofs.lemmas.Bool.{both_ways, cond-false, cond-true, le-ltb, lt-ltb}
 use Rattle.std.proofs.lemmas.List.{length-append}
-use Rattle.ss_journal.specs.Commit.{AddsEntry, IsReady}
-use Rattle.std.specs.Prelude.{OnOk, flat_map}
+use Rattle.ss_journal.specs.Commit.{AddsEntry, IsReadyFor}
+use Rattle.std.specs.Prelude.{IsErr, OnOk, flat_map}
 use Rattle.ss_outside.specs.Disk.{NothingPending, Told}
-use Rattle.ss_journal.specs.Calls.{MakesDurable}
+use Rattle.ss_outside.specs.declared.source.Failed.{Failed}
+use Rattle.ss_journal.specs.Birth.{Leads}
+use Rattle.ss_journal.specs.Calls.{MakesDurable, Settles}
 use Rattle.ss_journal.specs.Entries.{puts_of}
-use Rattle.ss_journal.specs.Format.{is_born, is_unborn, slot_at, slots_in}
+use Rattle.ss_journal.specs.Format.{IsCleared, is_born, is_unborn, slot_at, slots_in}
 use Rattle.ss_journal.specs.Gates.{ClosedFrom}
 use Rattle.ss_journal.specs.Kept.{IsBounded, IsInPhase, IsKept, JournalState}
 use Rattle.ss_journal.specs.Opening.{AreEntries}
 use Rattle.ss_journal.specs.Puts.{IsTxn, extent_after, slots_fit, with_puts}
 use Rattle.ss_journal.specs.Redo.{Gives, Redone, SameMap, SlotMap, StandsFor, blank_map, changed, file_map, zeros}
+use Rattle.ss_journal.specs.Steps.{Clears, Durably, Reaches}
 use Rattle.ss_journal.specs.declared.phase.Phase.TheVariants.{Born, Settled, Stopped, Unborn}
 use Rattle.ss_journal.specs.declared.phase.Phase.{Phase}
 use Rattle.ss_journal.specs.declared.put.Put.{Put}
@@ -20,6 +23,7 @@ use Rattle.ss_journal.proofs.GateLemmas.{file_map-first_closed}
 use Rattle.ss_journal.proofs.HeaderLemmas.{is_born-unborn}
 use Rattle.ss_journal.proofs.MapLemmas.{SameMap-refl}
 use Rattle.ss_journal.proofs.PutLemmas.{below_extent, extent_after-most, is_put-none, past_extent, waiting-below, with_puts-beside}
+use Rattle.ss_journal.proofs.TearLemmas.{keeps-err, on_err}
 use Rattle.ss_journal.proofs.RedoLemmas.{StandsFor-from, StandsFor-parts, entries_in_use-unborn, redo-born, redo-first_closed, redo-unborn}
 
 -- the file of a journal that has not failed is formatted or not
@@ -74,7 +78,7 @@ born_formed phase in_use content (inl is) now = subst (λ p. IsInPhase p in_use 
 born_formed phase in_use content (inr (inl is)) now = (subst (λ p. IsInPhase p in_use content) is now).0
 born_formed phase in_use content (inr (inr is)) now = absurd (subst (λ p. IsInPhase p in_use content) is now)
 
--- the file alone gives the map, and no put waits
+-- a settled journal: the file alone gives the map, and no put waits
 pub IsKept-settled : (extent : ℕ) (waiting : List Put) (content : List ℕ) (found : SlotMap) → IsTrue (is_born content) → ClosedFrom 0 content
     → StandsFor content found → found.extent ≡ extent → waiting ≡ [] → IsKept (record { phase = Settled; extent = extent; in_use = 0; waiting = waiting }) content
 IsKept-settled extent waiting content found born closed is same none =
@@ -88,6 +92,53 @@ IsKept-settled extent waiting content found born closed is same none =
       map = alone.0;
       extent = (file_map-first_closed content found born first is).extent ∙ same;
     }
+
+-- what a settling leaves of the disk and the map, by what stood in the file
+module _ (journal : JournalState) (old new : Told) (kept : IsKept journal old.content) where
+  settled-kept : (waiting : List Put) → IsTrue (is_born new.content) → ClosedFrom 0 new.content
+      → ((found : SlotMap) → StandsFor old.content found → StandsFor new.content found) → waiting ≡ []
+      → IsKept (record { phase = Settled; extent = journal.extent; in_use = 0; waiting = waiting }) new.content
+  settled-kept waiting born closed map none =
+      IsKept-settled journal.extent waiting new.content kept.found born closed
+      (map kept.found (StandsFor-from old.content kept.found kept.found kept.map (SameMap-refl kept.found))) kept.extent none
+
+  -- it was unformatted
+  module _ (unborn : IsTrue (is_unborn old.content)) where
+    pub settles-born : (value done : Unit {0}) (waiting : List Put) → waiting ≡ [] → Durably (Reaches (Leads IsCleared)) (Ok value) old new
+        → Settles (record { phase = Settled; extent = journal.extent; in_use = 0; waiting = waiting }) (Ok done) old new
+    settles-born value done waiting none born = record {
+      kept = settled-kept waiting born.step.reached.0.0 born.step.reached.0.1 born.step.keeps_map.map none;
+      keeps_map = born.step.keeps_map;
+      makes_durable = durable-unborn old new (Ok done) unborn born.durable;
+      rest = λ _. born.step.reached.1;
+    }
+
+    pub settles-unborn : {step : Result (Unit {0}) Failed} (left : JournalState) (result : Result (Unit {0}) Failed) → IsErr result
+        → Durably (Reaches (Leads IsCleared)) step old new → Settles left result old new
+    settles-unborn {step} left result is birth = record {
+      kept = on_err result _ is;
+      keeps_map = keeps-err old new step result is birth.step.keeps_map;
+      makes_durable = durable-unborn old new result unborn (on_err result _ is);
+      rest = λ _. on_err result _ is;
+    }
+
+  -- it was formatted
+  pub settles-formed : (value done : Unit {0}) (waiting : List Put) → waiting ≡ [] → IsTrue (is_born old.content) → Clears (Ok value) old new
+      → Settles (record { phase = Settled; extent = journal.extent; in_use = 0; waiting = waiting }) (Ok done) old new
+  settles-formed value done waiting none formed clears = record {
+    kept = settled-kept waiting clears.cleared.reached.0 clears.cleared.reached.1 clears.cleared.keeps_map.map none;
+    keeps_map = clears.cleared.keeps_map;
+    makes_durable = clears.makes_durable;
+    rest = λ unborn. absurd (both_ways _ (is_born-unborn old.content unborn) formed);
+  }
+
+  -- room is made
+  pub settles-room : (value done : Unit {0}) (waiting : List Put) → waiting ≡ [] → Reaches (λ _ content. IsCleared content) (Ok value) old new
+      → Reaches (λ _ content. IsKept (record { phase = Settled; extent = journal.extent; in_use = 0; waiting = waiting }) content) (Ok done) old new
+  settles-room value done waiting none cleared = record {
+    keeps_map = cleared.keeps_map;
+    reached = settled-kept waiting cleared.reached.0 cleared.reached.1 cleared.keeps_map.map none;
+  }
 
 module _ (journal : JournalState) (content : List ℕ) (found : SlotMap) (slot : ℕ) (kept : IsKept journal content) (is : StandsFor content found) (lt : slot < 2 ^ 20) where
   unborn_bytes : IsTrue (is_unborn content) → zeros ≡ found.bytes slot
@@ -132,8 +183,8 @@ module _ (journal : JournalState) (content : List ℕ) (settled : journal.phase 
   formed-settled = subst (λ (phase : Phase). IsInPhase phase journal.in_use content) settled kept.phase
 
   -- puts that fit the extent may be committed
-  pub IsReady-settled : (puts : List Put) → IsTrue (slots_fit puts journal.extent) → IsReady journal.in_use puts content
-  IsReady-settled puts fit = record {
+  pub IsReadyFor-settled : (puts : List Put) → IsTrue (slots_fit puts journal.extent) → IsReadyFor journal.in_use puts content
+  IsReadyFor-settled puts fit = record {
     born = formed-settled.0;
     closed = formed-settled.1;
     number = kept.number;

@@ -1,5 +1,6 @@
 pub mod BirthLemmas
 pub mod CommitLemmas
+pub mod CommitSteps
 pub mod EntryLemmas
 pub mod GateLemmas
 pub mod HeaderLemmas
@@ -12,5 +13,8 @@ pub mod PutLemmas
 pub mod RangeLemmas
 pub mod RedoLemmas
 pub mod Rows
+pub mod SettleSteps
 pub mod SlotLemmas
+pub mod StepLemmas
 pub mod TearLemmas
+pub mod WriteSteps

@@ -1,5 +1,5 @@
 -- How the entries of a formatted file are read one after another.
-use Rattle.std.proofs.Common.{Err, IsFalse, IsTrue, List, None, Ok, Some, [], ap, append_assoc, arith, drop, length, subst, sym, ℕ, ◌++◌, ◌+◌, ◌<◌, ◌∙◌, ◌∷◌, ◌≡◌}
+use Rattle.std.proofs.Common.{Err, IsFalse, IsTrue, List, Ok, Some, [], ap, append_assoc, arith, drop, length, subst, sym, ℕ, ◌++◌, ◌+◌, ◌<◌, ◌∙◌, ◌∷◌, ◌≡◌}
 use Rattle.std.proofs.lemmas.Bool.{cond-false, cond-true}
 use Rattle.std.proofs.lemmas.List.FromFn.{length-map-range_with_len}
 use Rattle.std.proofs.lemmas.List.{append-nil, drop_all}
@@ -82,23 +82,17 @@ module _ (content : List ℕ) (n extent : ℕ) (puts : List Put) (read : IsReadT
             redone = redo-here ∙ cond-true (is_good (entry_at content n) read.current.extent) _ _ here;
           }
 
--- the same of what reading entry n answers, where the content is still the same
-module _ (content now : List ℕ) (n extent : ℕ) (puts : List Put) (same : now ≡ content) (lt : n < 64) (read : IsReadTo content n extent puts) where
-  pub AreEntries-next : NextAs (entry_at now n) n extent (Ok None) → AreEntries content n puts extent
-  AreEntries-next shut = IsReadTo-shut content n extent puts read lt (subst (λ (image : List ℕ). IsFalse (is_open (entry_at image n))) same shut)
-
-  pub InUseAs-next : (error : JournalError) → NextAs (entry_at now n) n extent (Err error) → InUseAs content (Err error)
+-- the same of what reading entry n answers
+module _ (content : List ℕ) (n extent : ℕ) (puts : List Put) (lt : n < 64) (read : IsReadTo content n extent puts) where
+  pub InUseAs-next : (error : JournalError) → NextAs (entry_at content n) n extent (Err error) → InUseAs content (Err error)
   InUseAs-next Disk is = tt
   InUseAs-next OutOfMemory is = tt
   InUseAs-next NotAStore is = is
-  InUseAs-next (BadEntry bad) is =
-      let here = subst (λ (image : List ℕ). IsTrue (is_open (entry_at image n)) × IsFalse (is_good (entry_at image n) extent)) same (is.0, is.1) in
-      IsReadTo-bad content n extent puts read lt here.0 here.1 ∙ ap bad_entry (sym is.2)
+  InUseAs-next (BadEntry bad) is = IsReadTo-bad content n extent puts read lt is.0 is.1 ∙ ap bad_entry (sym is.2)
 
-  pub IsReadTo-next : (own : ArrayVec Put) (last : ℕ) (more : List Put) → NextAs (entry_at now n) n extent (Ok (Some own))
+  pub IsReadTo-next : (own : ArrayVec Put) (last : ℕ) (more : List Put) → NextAs (entry_at content n) n extent (Ok (Some own))
       → last ≡ extent_after own.items extent → more ≡ puts ++ own.items → IsReadTo content (n + 1) last more
   IsReadTo-next own last more is after joins =
-      let here = subst (λ (image : List ℕ). IsTrue (is_open (entry_at image n)) × IsTrue (is_good (entry_at image n) extent) × (own.items ≡ puts_of (entry_at image n))) same is in
-      let last_is = after ∙ ap (λ (l : List Put). extent_after l extent) here.2 in
-      let more_is = joins ∙ ap (λ (l : List Put). puts ++ l) here.2 in
-      rw (last_is, more_is) (IsReadTo-more content n extent puts read lt here.0 here.1)
+      let last_is = after ∙ ap (λ (l : List Put). extent_after l extent) is.2 in
+      let more_is = joins ∙ ap (λ (l : List Put). puts ++ l) is.2 in
+      rw (last_is, more_is) (IsReadTo-more content n extent puts read lt is.0 is.1)

@@ -3,6 +3,7 @@ use Rattle.std.proofs.Common.{◌≡◌, ℕ, ◌+◌, ◌-◌, ◌*◌, ◌^◌
 use Rattle.std.specs.List.{range_with_len}
 use Rattle.ss_fields.specs.Fields as Fields
 use Rattle.ss_journal.specs.declared.format.TheConstants.{GATE_OPEN, MAGIC_END, ENTRIES, ENTRY_SIZE, FIRST_ENTRY, MOST_PUTS, PUT_SIZE, MOST_WAITING, SLOT_SIZE, MOST_SLOTS, FIRST_SLOT, FILE_END}
+use Rattle.ss_journal.specs.Calls.{entries_after}
 use Rattle.ss_journal.specs.Format.{magic, is_unborn, is_born, slots_in}
 use Rattle.ss_journal.specs.Gates.{entry_place, other_gates}
 use Rattle.ss_journal.specs.Entries.{puts_of, is_good, open_prefix, entries, entry_body}
@@ -237,3 +238,13 @@ slot-cut_inside = refl
 pub extent-cut_inside : extent_of (redo cut_inside) ≡ 1
 unfolding redo is_born entries
 extent-cut_inside = refl
+
+-- all 64 entries come into use before they are settled, and then one is in use
+pub entries_after-fresh : entries_after 0 ≡ 1
+entries_after-fresh = refl
+
+pub entries_after-last : entries_after 63 ≡ 64
+entries_after-last = refl
+
+pub entries_after-full : entries_after 64 ≡ 1
+entries_after-full = refl

@@ -8,7 +8,7 @@ use Rattle.ss_outside.specs.Disk.{IsOutside, IsOutsideAll, overwrite}
 use Rattle.ss_journal.specs.Format.{slot_at, slot_place, slots_in}
 use Rattle.ss_journal.specs.Puts.{AgreeBeside, AreWhole, extent_after, is_put, slots_fit}
 use Rattle.ss_journal.specs.Redo.{SameMap, changed, file_map}
-use Rattle.ss_journal.specs.Writes.{AreSlots, DiffersAt, DiffersIn, HasRoom, end_of, slot_ranges, slots_written}
+use Rattle.ss_journal.specs.Writes.{AreSlots, DiffersAt, DiffersIn, HasPlaces, end_of, slot_ranges, slots_written}
 use Rattle.ss_journal.specs.declared.put.Put.{Put}
 use Rattle.ss_journal.proofs.HeaderLemmas.{piece-same}
 use Rattle.ss_journal.proofs.MapLemmas.{SameMap-refl, SameMap-trans, changed-same, slot_within}
@@ -150,10 +150,10 @@ file_map-slots_written (put ∷ puts) content long fit slots whole =
     SameMap-trans _ _ _ rest (changed-same puts _ _ first)
 
 -- room for the rest, with the first written
-pub HasRoom-more : (puts : List Put) (k : ℕ) (d : Put) (content : List ℕ) → k < length puts → (get_or puts k d).slot < 2 ^ 20
-    → length (get_or puts k d).bytes ≡ 128 → HasRoom (drop k puts) content
-    → HasRoom (drop (k + 1) puts) (overwrite content (slot_place (get_or puts k d).slot) (get_or puts k d).bytes)
-HasRoom-more puts k d content lt below whole room =
+pub HasPlaces-more : (puts : List Put) (k : ℕ) (d : Put) (content : List ℕ) → k < length puts → (get_or puts k d).slot < 2 ^ 20
+    → length (get_or puts k d).bytes ≡ 128 → HasPlaces (drop k puts) content
+    → HasPlaces (drop (k + 1) puts) (overwrite content (slot_place (get_or puts k d).slot) (get_or puts k d).bytes)
+HasPlaces-more puts k d content lt below whole room =
     let put = get_or puts k d in
     let fit = subst (λ (list : List Put). IsTrue (slots_fit list (slots_in (length content)))) (drop_more puts k d lt) room.fit in
     let cases = slots_fit-cases put (drop (k + 1) puts) (slots_in (length content)) fit in

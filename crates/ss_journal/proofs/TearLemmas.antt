@@ -2,7 +2,7 @@
 use Rattle.std.proofs.Common.{Err, List, Ok, Result, [], inl, inr, subst, sym, ℕ, ◌++◌, ◌∷◌, ◌≡◌, ◌⊎◌}
 use Rattle.std.proofs.lemmas.Result.{on_ok_weaker}
 use Rattle.std.specs.Prelude.{IsErr, OnOk}
-use Rattle.ss_outside.proofs.CrashLemmas.{after_write, at_start, goes_on, joined, now, of_content, read_leaves, weaker}
+use Rattle.ss_outside.proofs.CrashLemmas.{after_write, at_start, goes_on, joined, nothing_pending-same, now, of_content, read_leaves, weaker}
 use Rattle.ss_outside.specs.Crash.{Elapses, KnowsNow, LeavesOnly, OnlyReads}
 use Rattle.ss_outside.specs.Disk.{BecomesPending, NothingPending, StaysSame, Told}
 use Rattle.ss_journal.specs.Calls.{ChangesMap, KeepsMap, MakesDurable}
@@ -90,6 +90,22 @@ module _ {T E : Type 0} (old new : Told) (result : Result T E) where
 pub keeps-failed : {T E : Type 0} (old new : Told) (result : Result T E) → IsErr result → (ranges : List (ℕ × ℕ)) → Tears ranges old new
     → ((found : SlotMap) (image : List ℕ) → StandsFor old.content found → DiffersIn ranges old.content image → StandsFor image found) → KeepsMap old new result
 keeps-failed old new result failed ranges run stays = keeps-torn old new result ranges run stays (on_err result _ failed) (λ only. on_err result _ failed)
+
+-- calls that only read
+pub keeps-read : {T E : Type 0} (old new : Told) (result : Result T E) → KnowsNow old → OnlyReads old new → KeepsMap old new result
+keeps-read old new result knows reads = record {
+  map = λ found is. on_ok result (subst (λ (list : List ℕ). StandsFor list found) (sym reads.same.content) is);
+  any_moment = λ only found is. weaker old new old.may_leave (λ image. StandsFor image found) (of_content old (λ image. StandsFor image found) only is) (read_leaves old new knows reads);
+  durable = λ only. on_ok result (nothing_pending-same old new reads.same only);
+}
+
+-- the same of a call that failed because a step did
+pub keeps-err : {T E S : Type 0} (old new : Told) (step : Result S E) (result : Result T E) → IsErr result → KeepsMap old new step → KeepsMap old new result
+keeps-err old new step result failed keeps = record {
+  map = λ found is. on_err result _ failed;
+  any_moment = keeps.any_moment;
+  durable = λ only. on_err result _ failed;
+}
 
 -- a call that changed nothing because it failed early
 pub changes-failed : {T E S : Type 0} (old new : Told) (puts : List Put) (result : Result T E) (step : Result S E) → IsErr result

@@ -3,6 +3,7 @@ use Rattle.std.specs.Prelude.{◌≡◌, ◌⊎◌, ℕ, ◌-◌, ◌<◌, ◌�
 use Rattle.ss_journal.specs.declared.format.TheConstants.{MAGIC_END, FIRST_SLOT, FILE_END}
 use Rattle.ss_journal.specs.Gates.{opens}
 use Rattle.ss_journal.specs.Format.{magic, has_magic, is_unborn}
+use Rattle.ss_journal.specs.Writes.{SameRest}
 
 -- an unborn file of one byte at least, and of one 0 if it is one byte
 pub record IsBegun (content : List ℕ) : Type 0 where
@@ -28,3 +29,7 @@ pub record IsFormed (content : List ℕ) : Type 0 where
   pub marked : IsTrue (has_magic content)
   pub long : FIRST_SLOT ≤ length content
   pub blank : (place : ℕ) → MAGIC_END ≤ place → place < FILE_END → slice_index content place ≡ 0
+
+-- a step of the birth leads here, and leaves what lies after the last slot that a file can have
+abbrev pub Leads : (List ℕ → Type 0) → List ℕ → List ℕ → Type 0
+Leads P old new = P new × SameRest old new

@@ -1,5 +1,5 @@
 -- What the calls of a journal leave of the map, also in a crash, and what they make of the journal.
-use Rattle.std.specs.Prelude.{◌≡◌, ◌⊎◌, ℕ, ◌+◌, nat_lt, if◌then◌else◌, List, Result, Ok, Err, IfOk, OnOk, IsTrue}
+use Rattle.std.specs.Prelude.{◌≡◌, ◌⊎◌, ℕ, ◌+◌, ◌<◌, nat_lt, if◌then◌else◌, List, Result, Ok, Err, IfOk, OnOk, IsTrue}
 use Rattle.ss_outside.specs.Crash.{LeavesOnly, OnlyReads}
 use Rattle.ss_outside.specs.Verdict.{Verdict, fine, refused, no_memory, failed}
 use Rattle.ss_outside.specs.declared.source.Failed.{Failed}
@@ -82,6 +82,13 @@ pub record HasSettled (old new : JournalState) : Type 0 where
 -- how many entries are in use after one more commit: where all were, they are settled before
 abbrev pub entries_after : ℕ → ℕ
 entries_after in_use = if nat_lt in_use ENTRIES then in_use + 1 else 1
+
+-- What a commit makes of a journal before it writes, over every disk: an entry is free.
+pub record HasMadeRoom (old new : JournalState) : Type 0 where
+  pub settled : IsSettled new
+  pub extent : new.extent ≡ old.extent
+  pub room : new.in_use < ENTRIES
+  pub in_use : new.in_use + 1 ≡ entries_after old.in_use
 
 -- What a commit of these puts makes of a journal, over every disk.
 pub record HasCommitted (puts : List Put) (old new : JournalState) : Type 0 where

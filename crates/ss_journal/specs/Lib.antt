@@ -9,3 +9,4 @@ pub mod Birth
 pub mod Calls
 pub mod Opening
 pub mod Commit
+pub mod Steps

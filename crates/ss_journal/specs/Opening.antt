@@ -1,10 +1,11 @@
 -- What reading a file from its beginning answers.
-use Rattle.std.specs.Prelude.{◌≡◌, ℕ, List, length, Option, Some, None, Result, Ok, Err, IsTrue, IsFalse, ⊤}
+use Rattle.std.specs.Prelude.{◌≡◌, ℕ, ◌*◌, ◌<◌, ◌≤◌, List, length, All, Option, Some, None, Result, Ok, Err, IsTrue, IsFalse, ⊤}
 use Rattle.arrayvec.specs.ArrayVec.{ArrayVec}
 use Rattle.ss_outside.specs.Disk.{IsReadFrom}
 use Rattle.ss_journal.specs.declared.put.Put.{Put}
 use Rattle.ss_journal.specs.declared.journal_error.JournalError.{JournalError}
 use Rattle.ss_journal.specs.declared.journal_error.JournalError.TheVariants.{Disk, NotAStore, BadEntry, OutOfMemory}
+use Rattle.ss_journal.specs.declared.format.TheConstants.{ENTRIES, MOST_PUTS, MOST_SLOTS}
 use Rattle.ss_journal.specs.declared.opening.EntriesRead.{EntriesRead}
 use Rattle.ss_journal.specs.Gates.{is_open}
 use Rattle.ss_journal.specs.Entries.{is_good, puts_of}
@@ -37,6 +38,13 @@ pub record AreEntries (content : List ℕ) (count : ℕ) (puts : List Put) (last
   pub number : count ≡ length (entries_in_use content)
   pub in_use : InUse puts content
   pub extent : in_use.found.extent ≡ last
+
+-- The numbers of what was read stay in their bounds, whatever the disk tells.
+pub record AreBounded (read : EntriesRead) : Type 0 where
+  pub extent : read.extent ≤ MOST_SLOTS
+  pub waiting : All (λ put. put.slot < read.extent) read.waiting
+  pub number : read.in_use ≤ ENTRIES
+  pub few : length read.waiting ≤ MOST_PUTS * read.in_use
 
 -- what reading the entries of a content answers
 abbrev pub InUseAs : List ℕ → Result EntriesRead JournalError → Type 0

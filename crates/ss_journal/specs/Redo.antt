@@ -1,5 +1,5 @@
 -- What an image stands for: a fold over the entries of its open prefix.
-use Rattle.std.specs.Prelude.{◌≡◌, ℕ, ◌+◌, ◌<◌, ◌≤◌, nat_lt, if◌then◌else◌, List, [], ◌∷◌, length, replicate, flat_map}
+use Rattle.std.specs.Prelude.{◌≡◌, ℕ, ◌+◌, ◌<◌, ◌≤◌, nat_lt, if◌then◌else◌, List, [], ◌∷◌, length, replicate, flat_map, IsTrue}
 use Rattle.ss_journal.specs.declared.put.Put.{Put}
 use Rattle.ss_journal.specs.Format.{is_unborn, is_born, slots_in, slot_at}
 use Rattle.ss_journal.specs.declared.format.TheConstants.{SLOT_SIZE, MOST_SLOTS}
@@ -76,6 +76,11 @@ pub record InUse (puts : List Put) (content : List ℕ) : Type 0 where
   pub all : puts ≡ puts_in_use content
   pub found : SlotMap
   pub map : redo content ≡ stands found
+
+-- a formatted file, with these puts in its entries in use
+pub record HasEntries (puts : List Put) (content : List ℕ) : Type 0 where
+  pub born : IsTrue (is_born content)
+  pub in_use : InUse puts content
 
 -- The puts came to a map already, in whole or in part, where `found` is the map after them: it differs from the old map in
 -- their slots alone, and its extent lies between the old one and the one after them.

@@ -46,7 +46,7 @@ abbrev pub AreSlots : List Put → Type 0
 AreSlots puts = All (λ put. put.slot < MOST_SLOTS) puts
 
 -- a formatted file, into which these puts may be written in order
-pub record HasRoom (puts : List Put) (content : List ℕ) : Type 0 where
+pub record HasPlaces (puts : List Put) (content : List ℕ) : Type 0 where
   pub long : FIRST_SLOT ≤ length content
   pub fit : IsTrue (slots_fit puts (slots_in (length content)))
 

@@ -1,12 +1,11 @@
 // How a transaction comes into an entry.
-ghost use Rattle.std.specs.Prelude.{◌≡◌, ◌+◌, ◌<◌, IsTrue, OnOk};
-ghost use Rattle.ss_outside.specs.Verdict.{HasCause};
-ghost use Rattle.ss_outside.specs.Disk.{overwrite, NothingPending};
-ghost use Rattle.ss_journal.specs.Gates.{entry_place};
+ghost use Rattle.std.specs.Prelude.{◌<◌};
+ghost use Rattle.ss_outside.specs.Disk.{OfContent};
+ghost use Rattle.ss_outside.specs.Step.{Step};
+ghost use Rattle.ss_outside.specs.Verdict.{verdict};
 ghost use Rattle.ss_journal.specs.Puts.{IsTxn, AreWhole};
-ghost use Rattle.ss_journal.specs.Entries.{entry_body};
-ghost use Rattle.ss_journal.specs.Commit.{IsReady, AddsEntry};
-ghost use Rattle.ss_journal.specs.Calls.{KeepsMap, ChangesMap};
+ghost use Rattle.ss_journal.specs.Commit.{IsReadyFor, IsSpelled};
+ghost use Rattle.ss_journal.specs.Steps.{Durably, Enters, Reaches};
 
 use crate::entry::entry_of;
 use crate::format::{ENTRIES, GATE_OPEN, entry_place};
@@ -18,14 +17,9 @@ use ss_outside::{Disk, Failed};
 fn write_entry<D: Disk>(disk: &mut D, n: u32, txn: &Txn) -> Result<(), Failed>
     requires txn { IsTxn txn.now.items }
     requires number { n < ENTRIES }
-    requires ready { IsTrue (D.seen disk.old).tells → IsReady n txn.now.items (D.seen disk.old).told.content }
-    ensures keeps_map { IsTrue (D.seen disk.old).tells → KeepsMap (D.seen disk.old).told (D.seen disk.new).told result }
-    ensures written { IsTrue (D.seen disk.old).tells → OnOk result
-        ((D.seen disk.new).told.content ≡ overwrite (D.seen disk.old).told.content (entry_place n + 1) (entry_body txn.now.items)) }
-    ensures durable { IsTrue (D.seen disk.old).tells → OnOk result (NothingPending (D.seen disk.new).told) }
+    requires ready { OfContent (D.seen disk.old) (IsReadyFor n txn.now.items) }
+    ensures entry { Step (verdict result) (D.seen disk.old) (D.seen disk.new) (Durably (Reaches (IsSpelled n txn.now.items)) result) }
     ensures whole { AreWhole txn.now.items }
-    ensures tells { (D.seen disk.new).tells ≡ (D.seen disk.old).tells }
-    ensures cause { HasCause (D.seen disk.old).faults (D.seen disk.new).faults result }
 {
     let entry = entry_of(txn);
     write_through(disk, entry_place(n) + 1, &entry[1..])
@@ -35,12 +29,8 @@ fn write_entry<D: Disk>(disk: &mut D, n: u32, txn: &Txn) -> Result<(), Failed>
 pub fn add_entry<D: Disk>(disk: &mut D, n: u32, txn: &Txn) -> Result<(), Failed>
     requires txn { IsTxn txn.now.items }
     requires number { n < ENTRIES }
-    requires ready { IsTrue (D.seen disk.old).tells → IsReady n txn.now.items (D.seen disk.old).told.content }
-    ensures changes_map { IsTrue (D.seen disk.old).tells → ChangesMap txn.now.items (D.seen disk.old).told (D.seen disk.new).told result }
-    ensures added { IsTrue (D.seen disk.old).tells
-        → OnOk result (AddsEntry n txn.now.items (D.seen disk.old).told.content (D.seen disk.new).told.content) }
-    ensures tells { (D.seen disk.new).tells ≡ (D.seen disk.old).tells }
-    ensures cause { HasCause (D.seen disk.old).faults (D.seen disk.new).faults result }
+    requires ready { OfContent (D.seen disk.old) (IsReadyFor n txn.now.items) }
+    ensures { Step (verdict result) (D.seen disk.old) (D.seen disk.new) (Enters n txn.now.items result) }
 {
     write_entry(disk, n, txn)?;
     write_through(disk, entry_place(n), &[GATE_OPEN])

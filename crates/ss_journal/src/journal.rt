@@ -40,11 +40,12 @@ impl Journal {
     ghost use Rattle.std.specs.Prelude.{◌≡◌, ◌≤◌, ◌<◌, IsTrue, IfOk, OnOk, OnErr};
     ghost use Rattle.ss_outside.specs.Disk.{OfContent};
     ghost use Rattle.ss_outside.specs.Step.{Step};
-    ghost use Rattle.ss_outside.specs.Verdict.{verdict, HasCause};
+    ghost use Rattle.ss_outside.specs.Verdict.{verdict};
     ghost use Rattle.ss_journal.specs.Puts.{slots_fit, IsTxn};
     ghost use Rattle.ss_journal.specs.Redo.{zeros};
     ghost use Rattle.ss_journal.specs.Kept.{IsKept, IsRunning, IsSettled, HasStopped};
-    ghost use Rattle.ss_journal.specs.Calls.{Commits, HasCommitted, HasSettled, KeepsMap, Opens, ReadsSlot, Settles, verdict_of_open};
+    ghost use Rattle.ss_journal.specs.Calls.{Commits, HasCommitted, HasMadeRoom, HasSettled, Opens, ReadsSlot, Settles, verdict_of_open};
+    ghost use Rattle.ss_journal.specs.Steps.{Reaches};
 
     /// Opens a disk, formatted or not. It reads the entries in use and writes nothing.
     pub fn open<D: Disk>(alloc: Global, disk: &mut D) -> Result<Journal, JournalError>
@@ -135,15 +136,10 @@ impl Journal {
     // Where every entry is in use, brings them into their slots and closes their gates.
     fn make_room<D: Disk>(&mut self, disk: &mut D) -> Result<(), Failed>
         requires settled { IsSettled self.old }
-        requires one_disk { IsTrue (D.seen disk.old).tells → IsKept self.old (D.seen disk.old).told.content }
-        ensures one_disk { IsTrue (D.seen disk.old).tells → OnOk result (IsKept self.new (D.seen disk.new).told.content) }
-        ensures settled { OnOk result (IsSettled self.new) }
-        ensures room { OnOk result (self.new.in_use < ENTRIES) }
-        ensures extent { OnOk result (self.new.extent ≡ self.old.extent) }
-        ensures keeps_map { IsTrue (D.seen disk.old).tells → KeepsMap (D.seen disk.old).told (D.seen disk.new).told result }
+        requires one_disk { OfContent (D.seen disk.old) (IsKept self.old) }
+        ensures makes_room { Step (verdict result) (D.seen disk.old) (D.seen disk.new) (Reaches (λ _ content. IsKept self.new content) result) }
+        ensures made { OnOk result (HasMadeRoom self.old self.new) }
         ensures stopped { OnErr result (HasStopped self.new) }
-        ensures tells { (D.seen disk.new).tells ≡ (D.seen disk.old).tells }
-        ensures cause { HasCause (D.seen disk.old).faults (D.seen disk.new).faults result }
     {
         if self.in_use < ENTRIES {
             return Ok(());
@@ -174,7 +170,7 @@ impl Journal {
         self.phase = Phase::Stopped;
         add_entry(disk, self.in_use, txn)?;
         self.extent = extent_after(txn, self.extent);
-        self.waiting.append(txn);
+        self.waiting.add(txn);
         self.in_use += 1;
         self.phase = Phase::Settled;
         Ok(())

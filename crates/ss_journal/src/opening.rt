@@ -1,11 +1,13 @@
 // How a file is opened. Nothing is written.
-ghost use Rattle.std.specs.Prelude.{◌≡◌, ◌≤◌, ◌<◌, ◌*◌, ℕ, List, length, IsTrue, IfOk, All};
-ghost use Rattle.ss_outside.specs.Verdict.{Counted, HasCause};
-ghost use Rattle.ss_outside.specs.Crash.{OnlyReads};
-ghost use Rattle.ss_journal.specs.Format.{has_magic, is_unborn, is_born, entry_at, slots_in};
+ghost use Rattle.std.specs.Prelude.{◌≡◌, ◌≤◌, ◌<◌, ℕ, List, length, IsTrue, IfOk};
+ghost use Rattle.ss_outside.specs.Disk.{OfContent};
+ghost use Rattle.ss_outside.specs.Step.{Step};
+ghost use Rattle.ss_outside.specs.Verdict.{verdict};
 ghost use Rattle.ss_journal.specs.Calls.{verdict_of_open};
+ghost use Rattle.ss_journal.specs.Format.{has_magic, is_unborn, is_born, entry_at, slots_in};
+ghost use Rattle.ss_journal.specs.Opening.{AreBounded, IsHead, NextAs, IfNext, InUseAs};
 ghost use Rattle.ss_journal.specs.Puts.{slots_fit, IsTxn};
-ghost use Rattle.ss_journal.specs.Opening.{IsHead, NextAs, IfNext, InUseAs};
+ghost use Rattle.ss_journal.specs.Steps.{Finds};
 
 use crate::JournalError;
 use crate::entry::{extent_after, is_good, puts_of};
@@ -49,11 +51,8 @@ impl Head {
 
 // Reads the length and the first bytes.
 pub fn read_head<D: Disk>(disk: &mut D) -> Result<Head, Failed>
-    ensures head { IsTrue (D.seen disk.old).tells
-        → IfOk result (λ head. IsHead head.length head.bytes (D.seen disk.old).told.content) }
-    ensures reads { IsTrue (D.seen disk.old).tells → OnlyReads (D.seen disk.old).told (D.seen disk.new).told }
-    ensures tells { (D.seen disk.new).tells ≡ (D.seen disk.old).tells }
-    ensures cause { HasCause (D.seen disk.old).faults (D.seen disk.new).faults result }
+    ensures { Step (verdict result) (D.seen disk.old) (D.seen disk.new)
+        (Finds (λ content. IfOk result (λ head. IsHead head.length head.bytes content))) }
 {
     let length = disk.len()?;
     let mut bytes = [0; 9];
@@ -64,11 +63,8 @@ pub fn read_head<D: Disk>(disk: &mut D) -> Result<Head, Failed>
 // Reads an entry of a formatted file.
 pub fn read_entry<D: Disk>(disk: &mut D, n: u32) -> Result<[u8; ENTRY_SIZE], Failed>
     requires { n < ENTRIES }
-    ensures entry { IsTrue (D.seen disk.old).tells → FIRST_SLOT ≤ length (D.seen disk.old).told.content
-        → IfOk result (λ entry. entry ≡ entry_at (D.seen disk.old).told.content n) }
-    ensures reads { IsTrue (D.seen disk.old).tells → OnlyReads (D.seen disk.old).told (D.seen disk.new).told }
-    ensures tells { (D.seen disk.new).tells ≡ (D.seen disk.old).tells }
-    ensures cause { HasCause (D.seen disk.old).faults (D.seen disk.new).faults result }
+    ensures { Step (verdict result) (D.seen disk.old) (D.seen disk.new)
+        (Finds (λ content. FIRST_SLOT ≤ length content → IfOk result (λ entry. entry ≡ entry_at content n))) }
 {
     let mut entry = [0; ENTRY_SIZE];
     disk.read_at(entry_place(n), &mut entry)?;
@@ -79,12 +75,10 @@ pub fn read_entry<D: Disk>(disk: &mut D, n: u32) -> Result<[u8; ENTRY_SIZE], Fai
 fn next_entry<D: Disk>(disk: &mut D, n: u32, extent: u32) -> Result<Option<Txn>, JournalError>
     requires number { n < ENTRIES }
     requires extent { extent ≤ MOST_SLOTS }
-    requires born { IsTrue (D.seen disk.old).tells → IsTrue (is_born (D.seen disk.old).told.content) }
-    ensures entry { IsTrue (D.seen disk.old).tells → NextAs (entry_at (D.seen disk.old).told.content n) n extent result }
+    requires born { OfContent (D.seen disk.old) (λ content. IsTrue (is_born content)) }
+    ensures entry { Step (verdict_of_open result) (D.seen disk.old) (D.seen disk.new)
+        (Finds (λ content. NextAs (entry_at content n) n extent result)) }
     ensures sound { IfNext result (λ puts. IsTxn puts × IsTrue (slots_fit puts extent)) }
-    ensures reads { IsTrue (D.seen disk.old).tells → OnlyReads (D.seen disk.old).told (D.seen disk.new).told }
-    ensures tells { (D.seen disk.new).tells ≡ (D.seen disk.old).tells }
-    ensures cause { Counted (verdict_of_open result) (D.seen disk.old).faults (D.seen disk.new).faults }
 {
     let entry = read_entry(disk, n)?;
     if entry[0] != GATE_OPEN {
@@ -113,16 +107,9 @@ pub fn read_entries<D: Disk>(
     slots: u32,
 ) -> Result<EntriesRead, JournalError>
     requires slots { slots ≤ MOST_SLOTS }
-    requires born { IsTrue (D.seen disk.old).tells → IsTrue (is_born (D.seen disk.old).told.content) }
-    requires counted { IsTrue (D.seen disk.old).tells → slots ≡ slots_in (length (D.seen disk.old).told.content) }
-    ensures entries { IsTrue (D.seen disk.old).tells → InUseAs (D.seen disk.old).told.content result }
-    ensures extent { IfOk result (λ read. read.extent ≤ MOST_SLOTS) }
-    ensures few { IfOk result (λ read. length read.waiting ≤ MOST_PUTS * read.in_use) }
-    ensures number { IfOk result (λ read. read.in_use ≤ ENTRIES) }
-    ensures waiting { IfOk result (λ read. All (λ put. put.slot < read.extent) read.waiting) }
-    ensures reads { IsTrue (D.seen disk.old).tells → OnlyReads (D.seen disk.old).told (D.seen disk.new).told }
-    ensures tells { (D.seen disk.new).tells ≡ (D.seen disk.old).tells }
-    ensures cause { Counted (verdict_of_open result) (D.seen disk.old).faults (D.seen disk.new).faults }
+    requires born { OfContent (D.seen disk.old) (λ content. IsTrue (is_born content) × (slots ≡ slots_in (length content))) }
+    ensures entries { Step (verdict_of_open result) (D.seen disk.old) (D.seen disk.new) (Finds (λ content. InUseAs content result)) }
+    ensures bounded { IfOk result AreBounded }
 {
     let mut extent = slots;
     let mut waiting = Waiting::new(alloc)?;
@@ -130,7 +117,7 @@ pub fn read_entries<D: Disk>(
         match next_entry(disk, n, extent)? {
             Some(puts) => {
                 extent = extent_after(&puts, extent);
-                waiting.append(&puts);
+                waiting.add(&puts);
             }
             None => {
                 return Ok(EntriesRead {

@@ -36,7 +36,7 @@ impl Waiting {
     }
 
     // Adds puts after those that wait. It takes no memory.
-    pub fn append(&mut self, puts: &[Put])
+    pub fn add(&mut self, puts: &[Put])
         requires { length self.old + length puts.now ≤ MOST_WAITING }
         ensures { self.new ≡ self.old ++ puts.now }
     {

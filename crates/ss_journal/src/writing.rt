@@ -1,10 +1,11 @@
 // Writes that a crash tears, and a read of what stands there.
-ghost use Rattle.std.specs.Prelude.{◌≡◌, ◌+◌, ◌-◌, ◌<◌, ◌≤◌, ◌^◌, [], ◌∷◌, length, replicate, slice_index, IfOk, OnOk, IsTrue};
-ghost use Rattle.ss_outside.specs.Verdict.{HasCause};
-ghost use Rattle.ss_outside.specs.Crash.{OnlyReads};
-ghost use Rattle.ss_outside.specs.Disk.{overwrite, NothingPending};
+ghost use Rattle.std.specs.Prelude.{◌≡◌, ◌+◌, ◌-◌, ◌<◌, ◌≤◌, ◌^◌, length, slice_index, IfOk};
+ghost use Rattle.ss_outside.specs.Disk.{OfContent};
+ghost use Rattle.ss_outside.specs.Step.{Step};
+ghost use Rattle.ss_outside.specs.Verdict.{verdict};
 ghost use Rattle.ss_journal.specs.Format.{slot_place};
-ghost use Rattle.ss_journal.specs.Writes.{Tears, slot_ranges, slots_written, AreSlots, HasRoom};
+ghost use Rattle.ss_journal.specs.Steps.{Durably, Finds, Writes, WritesSlots, WritesZeros};
+ghost use Rattle.ss_journal.specs.Writes.{AreSlots, HasPlaces};
 
 use crate::format::{MOST_SLOTS, SLOT_SIZE, slot_place};
 use crate::put::Put;
@@ -15,10 +16,8 @@ const PIECE: usize = 4096;
 
 // The byte at a place, 0 past the end.
 pub fn read_byte<D: Disk>(disk: &mut D, at: u64) -> Result<u8, Failed>
-    ensures byte { IsTrue (D.seen disk.old).tells → IfOk result (λ byte. byte ≡ slice_index (D.seen disk.old).told.content at) }
-    ensures reads { IsTrue (D.seen disk.old).tells → OnlyReads (D.seen disk.old).told (D.seen disk.new).told }
-    ensures tells { (D.seen disk.new).tells ≡ (D.seen disk.old).tells }
-    ensures cause { HasCause (D.seen disk.old).faults (D.seen disk.new).faults result }
+    ensures { Step (verdict result) (D.seen disk.old) (D.seen disk.new)
+        (Finds (λ content. IfOk result (λ byte. byte ≡ slice_index content at))) }
 {
     let mut byte = [0];
     disk.read_at(at, &mut byte)?;
@@ -27,27 +26,18 @@ pub fn read_byte<D: Disk>(disk: &mut D, at: u64) -> Result<u8, Failed>
 
 // Writes the bytes, and doesn't sync.
 pub fn write<D: Disk>(disk: &mut D, at: u64, bytes: &[u8]) -> Result<(), Failed>
-    requires within { IsTrue (D.seen disk.old).tells → at ≤ length (D.seen disk.old).told.content }
+    requires within { OfContent (D.seen disk.old) (λ content. at ≤ length content) }
     requires end { at + length bytes.now ≤ LONGEST_DISK }
-    ensures tears { IsTrue (D.seen disk.old).tells → Tears ((at, length bytes.now) ∷ []) (D.seen disk.old).told (D.seen disk.new).told }
-    ensures written { IsTrue (D.seen disk.old).tells
-        → OnOk result ((D.seen disk.new).told.content ≡ overwrite (D.seen disk.old).told.content at bytes.now) }
-    ensures tells { (D.seen disk.new).tells ≡ (D.seen disk.old).tells }
-    ensures cause { HasCause (D.seen disk.old).faults (D.seen disk.new).faults result }
+    ensures { Step (verdict result) (D.seen disk.old) (D.seen disk.new) (Writes at bytes.now result) }
 {
     disk.write_at(at, bytes)
 }
 
 // Writes the bytes and syncs.
 pub fn write_through<D: Disk>(disk: &mut D, at: u64, bytes: &[u8]) -> Result<(), Failed>
-    requires within { IsTrue (D.seen disk.old).tells → at ≤ length (D.seen disk.old).told.content }
+    requires within { OfContent (D.seen disk.old) (λ content. at ≤ length content) }
     requires end { at + length bytes.now ≤ LONGEST_DISK }
-    ensures tears { IsTrue (D.seen disk.old).tells → Tears ((at, length bytes.now) ∷ []) (D.seen disk.old).told (D.seen disk.new).told }
-    ensures written { IsTrue (D.seen disk.old).tells
-        → OnOk result ((D.seen disk.new).told.content ≡ overwrite (D.seen disk.old).told.content at bytes.now) }
-    ensures durable { IsTrue (D.seen disk.old).tells → OnOk result (NothingPending (D.seen disk.new).told) }
-    ensures tells { (D.seen disk.new).tells ≡ (D.seen disk.old).tells }
-    ensures cause { HasCause (D.seen disk.old).faults (D.seen disk.new).faults result }
+    ensures { Step (verdict result) (D.seen disk.old) (D.seen disk.new) (Durably (Writes at bytes.now) result) }
 {
     write(disk, at, bytes)?;
     disk.sync()
@@ -56,14 +46,9 @@ pub fn write_through<D: Disk>(disk: &mut D, at: u64, bytes: &[u8]) -> Result<(),
 // Writes the put's bytes into its slot, and doesn't sync.
 fn write_slot<D: Disk>(disk: &mut D, put: &Put) -> Result<(), Failed>
     requires slot { put.now.slot < MOST_SLOTS }
-    requires within { IsTrue (D.seen disk.old).tells → slot_place put.now.slot ≤ length (D.seen disk.old).told.content }
+    requires within { OfContent (D.seen disk.old) (λ content. slot_place put.now.slot ≤ length content) }
+    ensures slot { Step (verdict result) (D.seen disk.old) (D.seen disk.new) (Writes (slot_place put.now.slot) put.now.bytes result) }
     ensures whole { length put.now.bytes ≡ SLOT_SIZE }
-    ensures tears { IsTrue (D.seen disk.old).tells
-        → Tears ((slot_place put.now.slot, SLOT_SIZE) ∷ []) (D.seen disk.old).told (D.seen disk.new).told }
-    ensures written { IsTrue (D.seen disk.old).tells
-        → OnOk result ((D.seen disk.new).told.content ≡ overwrite (D.seen disk.old).told.content (slot_place put.now.slot) put.now.bytes) }
-    ensures tells { (D.seen disk.new).tells ≡ (D.seen disk.old).tells }
-    ensures cause { HasCause (D.seen disk.old).faults (D.seen disk.new).faults result }
 {
     write(disk, slot_place(put.slot), &put.bytes)
 }
@@ -71,13 +56,8 @@ fn write_slot<D: Disk>(disk: &mut D, put: &Put) -> Result<(), Failed>
 // Writes each put's bytes into its slot, in order, and syncs.
 pub fn write_slots<D: Disk>(disk: &mut D, puts: &[Put]) -> Result<(), Failed>
     requires slots { AreSlots puts.now }
-    requires room { IsTrue (D.seen disk.old).tells → HasRoom puts.now (D.seen disk.old).told.content }
-    ensures tears { IsTrue (D.seen disk.old).tells → Tears (slot_ranges puts.now) (D.seen disk.old).told (D.seen disk.new).told }
-    ensures written { IsTrue (D.seen disk.old).tells
-        → OnOk result ((D.seen disk.new).told.content ≡ slots_written puts.now (D.seen disk.old).told.content) }
-    ensures durable { IsTrue (D.seen disk.old).tells → OnOk result (NothingPending (D.seen disk.new).told) }
-    ensures tells { (D.seen disk.new).tells ≡ (D.seen disk.old).tells }
-    ensures cause { HasCause (D.seen disk.old).faults (D.seen disk.new).faults result }
+    requires places { OfContent (D.seen disk.old) (HasPlaces puts.now) }
+    ensures { Step (verdict result) (D.seen disk.old) (D.seen disk.new) (Durably (WritesSlots puts.now) result) }
 {
     for put in puts {
         write_slot(disk, put)?;
@@ -88,13 +68,9 @@ pub fn write_slots<D: Disk>(disk: &mut D, puts: &[Put]) -> Result<(), Failed>
 // Writes some zeros, and doesn't sync.
 fn write_piece<D: Disk>(disk: &mut D, at: u64, count: u64) -> Result<(), Failed>
     requires few { count ≤ PIECE }
-    requires within { IsTrue (D.seen disk.old).tells → at ≤ length (D.seen disk.old).told.content }
+    requires within { OfContent (D.seen disk.old) (λ content. at ≤ length content) }
     requires end { at + count ≤ LONGEST_DISK }
-    ensures tears { IsTrue (D.seen disk.old).tells → Tears ((at, count) ∷ []) (D.seen disk.old).told (D.seen disk.new).told }
-    ensures written { IsTrue (D.seen disk.old).tells
-        → OnOk result ((D.seen disk.new).told.content ≡ overwrite (D.seen disk.old).told.content at (replicate count 0)) }
-    ensures tells { (D.seen disk.new).tells ≡ (D.seen disk.old).tells }
-    ensures cause { HasCause (D.seen disk.old).faults (D.seen disk.new).faults result }
+    ensures { Step (verdict result) (D.seen disk.old) (D.seen disk.new) (WritesZeros at count result) }
 {
     let piece = [0; PIECE];
     write(disk, at, &piece[..count as usize])
@@ -104,12 +80,8 @@ fn write_piece<D: Disk>(disk: &mut D, at: u64, count: u64) -> Result<(), Failed>
 pub fn write_zeros<D: Disk>(disk: &mut D, at: u64, end: u64) -> Result<(), Failed>
     requires order { at ≤ end }
     requires end { end ≤ LONGEST_DISK }
-    requires within { IsTrue (D.seen disk.old).tells → at ≤ length (D.seen disk.old).told.content }
-    ensures tears { IsTrue (D.seen disk.old).tells → Tears ((at, end - at) ∷ []) (D.seen disk.old).told (D.seen disk.new).told }
-    ensures written { IsTrue (D.seen disk.old).tells
-        → OnOk result ((D.seen disk.new).told.content ≡ overwrite (D.seen disk.old).told.content at (replicate (end - at) 0)) }
-    ensures tells { (D.seen disk.new).tells ≡ (D.seen disk.old).tells }
-    ensures cause { HasCause (D.seen disk.old).faults (D.seen disk.new).faults result }
+    requires within { OfContent (D.seen disk.old) (λ content. at ≤ length content) }
+    ensures { Step (verdict result) (D.seen disk.old) (D.seen disk.new) (WritesZeros at (end - at) result) }
 {
     let mut from = at;
     while from < end {

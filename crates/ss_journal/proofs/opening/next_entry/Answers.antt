@@ -6,22 +6,31 @@ use Rattle.ss_journal.specs.Gates.{is_open}
 use Rattle.ss_journal.specs.Puts.{IsTxn, slots_fit}
 use Rattle.ss_journal.proofs.HeaderLemmas.{is_born-parts}
 use Rattle.ss_journal.proofs.EntryLemmas.{IsTxn-good}
+use Rattle.ss_journal.proofs.StepLemmas.{step-from, step-refused}
 use Rattle.ss_journal.proofs.opening.next_entry.Goals as goal
 
 pub returns-then-entry-clause-entry : goal.returns-then-entry-clause-entry
-returns-then-entry-clause-entry g c told =
-    let is = c.in_ok-entry.ensures.entry told (is_born-parts _ (c.requires.born told)).0 in
-    subst (λ (e : List ℕ). IsFalse (is_open e)) is (ne_eqb _ 165 c.if-entry.true)
+returns-then-entry-clause-entry g c =
+    step-from c.in_ok-entry.ensures (λ told read. record {
+      found = subst (λ (e : List ℕ). IsFalse (is_open e)) (read.found (is_born-parts _ (c.requires.born told)).0) (ne_eqb _ 165 c.if-entry.true);
+      reads = read.reads;
+    })
 
 pub returns-then-not-is_good-clause-entry : goal.returns-then-not-is_good-clause-entry
-returns-then-not-is_good-clause-entry g c told =
-    let is = c.in_ok-entry.ensures.entry told (is_born-parts _ (c.requires.born told)).0 in
-    subst (λ (e : List ℕ). IsTrue (is_open e) × IsFalse (is_good e c.args.extent) × (c.args.n ≡ c.args.n)) is (eq-eqb _ 165 c.if-entry.false, sym c.if-not-is_good.ensures.value, refl)
+returns-then-not-is_good-clause-entry g c =
+    step-refused c.in_ok-entry.ensures (λ told read. record {
+      found = subst (λ (e : List ℕ). IsTrue (is_open e) × IsFalse (is_good e c.args.extent) × (c.args.n ≡ c.args.n)) (read.found (is_born-parts _ (c.requires.born told)).0)
+          (eq-eqb _ 165 c.if-entry.false, sym c.if-not-is_good.ensures.value, refl);
+      reads = read.reads;
+    })
 
 pub returns-clause-entry : goal.returns-clause-entry
-returns-clause-entry g c told =
-    let is = c.in_ok-entry.ensures.entry told (is_born-parts _ (c.requires.born told)).0 in
-    subst (λ (e : List ℕ). IsTrue (is_open e) × IsTrue (is_good e c.args.extent) × (c.puts_of.result.items ≡ puts_of e)) is (eq-eqb _ 165 c.if-entry.false, sym c.if-not-is_good.ensures.value, c.puts_of.ensures)
+returns-clause-entry g c =
+    step-from c.in_ok-entry.ensures (λ told read. record {
+      found = subst (λ (e : List ℕ). IsTrue (is_open e) × IsTrue (is_good e c.args.extent) × (c.puts_of.result.items ≡ puts_of e))
+          (read.found (is_born-parts _ (c.requires.born told)).0) (eq-eqb _ 165 c.if-entry.false, sym c.if-not-is_good.ensures.value, c.puts_of.ensures);
+      reads = read.reads;
+    })
 
 pub returns-clause-sound : goal.returns-clause-sound
 returns-clause-sound g c =

@@ -1,10 +1,6 @@
-use Rattle.std.proofs.Common.{◌≡◌, ℕ, List, subst}
-use Rattle.std.specs.Prelude.{OnOk}
-use Rattle.std.proofs.lemmas.List.{take-replicate}
-use Rattle.ss_outside.specs.Disk.{overwrite}
+use Rattle.ss_journal.proofs.StepLemmas.{step-from}
+use Rattle.ss_journal.proofs.WriteSteps.{WritesZeros-piece}
 use Rattle.ss_journal.proofs.writing.write_piece.Goals as goal
 
-pub returns-clause-written : goal.returns-clause-written
-returns-clause-written g c told =
-    subst (λ (bytes : List ℕ). OnOk c.write.result ((g.D.Disk.seen c.write.new.disk).told.content ≡ overwrite (g.D.Disk.seen c.args.disk.now).told.content c.args.at bytes))
-    (take-replicate c.args.count 4096 0 c.requires.few) (c.write.ensures.written told)
+pub returns : goal.returns
+returns g c = step-from c.write.ensures (λ told wrote. WritesZeros-piece 4096 c.args.at c.args.count c.write.result _ _ c.requires.few wrote)

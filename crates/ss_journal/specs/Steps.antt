@@ -1,0 +1,63 @@
+-- What a step of a call leaves of the disk, and of the map.
+use Rattle.std.specs.Prelude.{◌≡◌, ℕ, List, [], ◌∷◌, length, replicate, Bool, Result, OnOk}
+use Rattle.ss_outside.specs.Crash.{OnlyReads}
+use Rattle.ss_outside.specs.Disk.{Told, NothingPending, overwrite}
+use Rattle.ss_outside.specs.declared.source.Failed.{Failed}
+use Rattle.ss_journal.specs.declared.put.Put.{Put}
+use Rattle.ss_journal.specs.Birth.{magic_bytes}
+use Rattle.ss_journal.specs.Calls.{ChangesMap, KeepsMap, MakesDurable}
+use Rattle.ss_journal.specs.Commit.{AddsEntry}
+use Rattle.ss_journal.specs.Format.{IsCleared}
+use Rattle.ss_journal.specs.Gates.{ClosesGate, entry_place}
+use Rattle.ss_journal.specs.Writes.{Tears, slot_ranges, slots_written}
+
+-- The disk is read, and this is so of its content. Content and images stay.
+pub record Finds (P : List ℕ → Type 0) (old new : Told) : Type 0 where
+  pub found : P old.content
+  pub reads : OnlyReads old new
+
+-- These ranges are written, which a crash may tear, and at Ok this is the content.
+pub record Rewrites (ranges : List (ℕ × ℕ)) (made : List ℕ) (result : Result Unit Failed) (old new : Told) : Type 0 where
+  pub tears : Tears ranges old new
+  pub written : OnOk result (new.content ≡ made)
+
+-- bytes are written over what is there, and past the end
+abbrev pub Writes : ℕ → List ℕ → Result Unit Failed → Told → Told → Type 0
+Writes at bytes result old new = Rewrites ((at, length bytes) ∷ []) (overwrite old.content at bytes) result old new
+
+-- so many zeros are written
+abbrev pub WritesZeros : ℕ → ℕ → Result Unit Failed → Told → Told → Type 0
+WritesZeros at count result old new = Rewrites ((at, count) ∷ []) (overwrite old.content at (replicate count 0)) result old new
+
+-- the magic is written, unless it stands there
+abbrev pub Marks : Result Unit Failed → Told → Told → Type 0
+Marks result old new = Writes 1 (magic_bytes old.content) result old new
+
+-- each put's bytes are written into its slot
+abbrev pub WritesSlots : List Put → Result Unit Failed → Told → Told → Type 0
+WritesSlots puts result old new = Rewrites (slot_ranges puts) (slots_written puts old.content) result old new
+
+-- The map stays, and at Ok this is so of the content before and after.
+pub record Reaches (P : List ℕ → List ℕ → Type 0) (result : Result Unit Failed) (old new : Told) : Type 0 where
+  pub keeps_map : KeepsMap old new result
+  pub reached : OnOk result (P old.content new.content)
+
+-- A step after which nothing is pending at Ok, whatever was before.
+pub record Durably (R : Result Unit Failed → Told → Told → Type 0) (result : Result Unit Failed) (old new : Told) : Type 0 where
+  pub step : R result old new
+  pub durable : OnOk result (NothingPending new)
+
+-- The gate of an entry is closed, which a crash may tear, if it was open.
+pub record Shuts (n : ℕ) (result : Result Bool Failed) (old new : Told) : Type 0 where
+  pub gate : ClosesGate n old new result
+  pub tears : Tears ((entry_place n, 1) ∷ []) old new
+
+-- What is pending is made durable, and then no entry of the formatted file is in use.
+pub record Clears (result : Result Unit Failed) (old new : Told) : Type 0 where
+  pub cleared : Reaches (λ _ content. IsCleared content) result old new
+  pub makes_durable : MakesDurable old new result
+
+-- A transaction comes into entry n: the map changes by all of its puts, or not at all.
+pub record Enters (n : ℕ) (puts : List Put) (result : Result Unit Failed) (old new : Told) : Type 0 where
+  pub changes_map : ChangesMap puts old new result
+  pub added : OnOk result (AddsEntry n puts old.content new.content)
