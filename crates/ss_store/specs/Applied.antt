@@ -109,6 +109,8 @@ pub record OpensStore (result : Result StoreState OpenError) (old new : Told) : 
   pub state : KeepsState old new result
   pub history : KeepsHistory old new result
   pub unwritten : IfUndone (verdict_of_opening result) (OnlyReads old new)
+  -- over a content that recovers to nothing nothing is written, whatever the answer
+  pub judged : ((streams : List Stream) → Recovers streams old.content → ⊥) → OnlyReads old new
 
 -- A store is surveyed: what the state has to which the content recovers, or why it recovers to none. Content and images stay.
 pub record SurveysStore (result : Result Survey OpenError) (old new : Told) : Type 0 where
