@@ -69,10 +69,10 @@ impl MemSink {
 }
 
 impl Sink for MemSink {
-    ghost use Rattle.std.specs.Prelude.{◌≡◌, ◌⊎◌, ◌++◌, ◌<◌, ◌≤◌, length, Some, Contains, IsErr, IfOk, OnOk, OnErr};
-    ghost use Rattle.ss_outside.specs.Verdict.{Rose, HasCause};
+    ghost use Rattle.std.specs.Prelude.{◌≡◌, ◌⊎◌, ◌<◌, ◌≤◌, length, Some, Contains, IsErr, IfOk, OnOk, OnErr};
+    ghost use Rattle.ss_outside.specs.Verdict.{HasCause};
     ghost use Rattle.ss_outside.specs.Sink.{Appends};
-    ghost use Rattle.ss_outside.specs.Memory.{one_more};
+    ghost use Rattle.ss_outside.specs.Memory.{crowded, taken, untaken};
 
     ghost held = { λ s. Some s.held };
 
@@ -86,16 +86,9 @@ impl Sink for MemSink {
         ensures cause { HasCause self.old.faults self.new.faults result }
         ensures whole { IfOk result (λ k. k ≡ length piece.now) }
         ensures listed { Contains self.old.failing self.old.calls → IsErr result }
-        ensures failed { OnErr result (Contains self.old.failing self.old.calls ⊎ Rose self.old.short self.new.short) }
-        ensures added { OnOk result (self.new.held ≡ self.old.held ++ piece.now) }
-        ensures kept { OnErr result (self.new.held ≡ self.old.held) }
-        ensures listed_short { Contains self.old.failing self.old.calls → self.new.short ≡ self.old.short }
-        ensures unlisted_short { OnErr result
-            (¬ Contains self.old.failing self.old.calls → self.new.short ≡ one_more self.old.short) }
-        ensures calls { self.new.calls ≡ one_more self.old.calls }
-        ensures no_fault { OnOk result ((self.new.faults ≡ self.old.faults) × (self.new.short ≡ self.old.short)) }
-        ensures fault { OnErr result (self.new.faults ≡ one_more self.old.faults) }
-        ensures failing { self.new.failing ≡ self.old.failing }
+        ensures taken { OnOk result (self.new ≡ taken self.old piece.now) }
+        ensures failed { OnErr result ((Contains self.old.failing self.old.calls × (self.new ≡ untaken self.old))
+            ⊎ (¬ Contains self.old.failing self.old.calls × (self.new ≡ crowded self.old))) }
     {
         let call = self.calls;
         self.calls = call.saturating_add(1);

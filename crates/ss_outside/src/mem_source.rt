@@ -66,7 +66,7 @@ impl Source for MemSource {
     ghost use Rattle.std.specs.Prelude.{◌≡◌, ◌<◌, ◌≤◌, ◌↔◌, drop, length, min, Some, Contains, IsErr, IfOk, OnOk, OnErr};
     ghost use Rattle.ss_outside.specs.Verdict.{HasCause};
     ghost use Rattle.ss_outside.specs.Source.{Moves};
-    ghost use Rattle.ss_outside.specs.Memory.{one_more};
+    ghost use Rattle.ss_outside.specs.Memory.{moved, unmoved};
 
     ghost left = { λ s. Some s.left };
 
@@ -83,11 +83,8 @@ impl Source for MemSource {
         ensures count { IfOk result (λ k. k ≡ min (min self.old.piece (length self.old.left)) (length into.old)) }
         ensures rest { IfOk result (λ k. drop k into.new ≡ drop k into.old) }
         ensures kept { OnErr result (into.new ≡ into.old) }
-        ensures calls { self.new.calls ≡ one_more self.old.calls }
-        ensures no_fault { OnOk result (self.new.faults ≡ self.old.faults) }
-        ensures fault { OnErr result (self.new.faults ≡ one_more self.old.faults) }
-        ensures failing { self.new.failing ≡ self.old.failing }
-        ensures piece { self.new.piece ≡ self.old.piece }
+        ensures moved { IfOk result (λ k. self.new ≡ moved self.old k) }
+        ensures failed { OnErr result (self.new ≡ unmoved self.old) }
     {
         let call = self.calls;
         self.calls = call.saturating_add(1);
