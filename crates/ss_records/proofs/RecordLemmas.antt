@@ -1,15 +1,24 @@
 -- Records over their journal.
-use Rattle.std.proofs.Common.{◌≡◌, ◌∙◌, sym, ap, ℕ, ◌<◌, ◌≤◌, ◌^◌, Bool, true, not, List, All, length, inr, Result, Ok, Err, OnOk, IsTrue}
-use Rattle.ss_journal.specs.Kept.{JournalState, IsKept, IsRunning, IsSettled}
+use Rattle.std.proofs.Common.{◌≡◌, ◌∙◌, sym, ap, subst, ℕ, ◌+◌, ◌<◌, ◌≤◌, ◌^◌, Bool, true, nat_eq, not, List, All, length, set, arith, inl, inr, Result, Ok, Err, OnOk, IsTrue}
+use Rattle.std.proofs.lemmas.Bool.{cases_eq, cases_lt, cond-false, cond-true, eq-eqb, false_from_ne_true, ne_eqb}
+use Rattle.ss_outside.proofs.CrashLemmas.{reads-joined, reads-none}
+use Rattle.ss_outside.specs.Crash.{OnlyReads}
+use Rattle.ss_outside.specs.Disk.{Told}
+use Rattle.ss_journal.specs.Calls.{Opens, ReadsSlot, Settles}
+use Rattle.ss_journal.specs.Kept.{JournalState, IsKept, IsRunning, IsSettled, OpensAs}
 use Rattle.ss_journal.specs.Puts.{slots_fit, extent_after}
 use Rattle.ss_journal.specs.Redo.{SlotMap, StandsFor, changed}
+use Rattle.ss_journal.specs.declared.journal_error.JournalError.{JournalError}
 use Rattle.ss_journal.specs.declared.put.Put.{Put}
+use Rattle.ss_outside.specs.declared.source.Failed.{Failed}
+use Rattle.std.proofs.lemmas.Result.{on_ok_weaker}
 use Rattle.ss_journal.proofs.KeptLemmas.{unused_bytes}
 use Rattle.ss_journal.proofs.MapLemmas.{SameMap-refl}
 use Rattle.ss_journal.proofs.RedoLemmas.{StandsFor-from, StandsFor-same}
-use Rattle.ss_records.specs.Live.{are_zeros, live_after, AreLiveIn}
+use Rattle.ss_records.specs.Calls.{OpensRecords, ReadsLive, ReadsRecord, SettlesRecords}
+use Rattle.ss_records.specs.Live.{are_zeros, is_live, live_after, AreLiveIn}
 use Rattle.ss_records.specs.Kept.{AreKept, AreSound}
-use Rattle.ss_records.proofs.LiveLemmas.{AreLiveIn-puts, below-live_after, length-live_after}
+use Rattle.ss_records.proofs.LiveLemmas.{AreLiveIn-puts, is_live-set, below-live_after, length-live_after}
 
 -- the content of a journal stands for some map
 pub StandsFor-kept : (journal : JournalState) (content : List ℕ) → IsKept journal content → (found : SlotMap) × StandsFor content found
@@ -56,3 +65,78 @@ AreSound-changed journal new live puts sound running within fit after = record {
   slots = length-live_after puts live ∙ sound.slots;
   below = λ _ slot is. rw after (below-live_after puts live journal.extent within fit (sound.below running) slot is);
 }
+
+-- the slots below number n are read: of each the list tells whether it is live in the map
+pub record ReadTo (n : ℕ) (live : List Bool) (old new : Told) : Type 0 where
+  pub are : (found : SlotMap) → StandsFor old.content found → (slot : ℕ) → slot < n → is_live live slot ≡ not (are_zeros (found.bytes slot))
+  pub reads : OnlyReads old new
+
+pub ReadTo-none : (live : List Bool) (disk : Told) → ReadTo 0 live disk disk
+ReadTo-none live disk = record { are = λ found is slot lt. absurd (omega (arith, lt)); reads = reads-none disk }
+
+pub ReadTo-more : (n : ℕ) (live more : List Bool) (bytes : List ℕ) (old mid new : Told) → n < length live → more ≡ set live n (not (are_zeros bytes))
+    → ReadTo n live old mid → ReadsSlot n (Ok bytes) mid new → ReadTo (n + 1) more old new
+ReadTo-more n live more bytes old mid new within noted before read = record {
+  are = λ found is slot lt.
+      let here = read.bytes found (subst (λ (content : List ℕ). StandsFor content found) (sym before.reads.same.content) is) in
+      ap (λ (list : List Bool). is_live list slot) noted ∙ is_live-set live n slot (not (are_zeros bytes)) within ∙ elim (cases_eq slot n) [
+        | inl same ↦ cond-true (nat_eq slot n) _ _ (eq-eqb slot n same) ∙ ap (λ (list : List ℕ). not (are_zeros list)) here
+            ∙ ap (λ (k : ℕ). not (are_zeros (found.bytes k))) (sym same)
+        | inr other ↦ cond-false (nat_eq slot n) _ _ (ne_eqb slot n other) ∙ before.are found is slot (omega (arith, lt, other))
+      ];
+  reads = reads-joined old mid new before.reads read.reads;
+}
+
+-- from the extent on every slot is zeros, and none is live
+pub ReadTo-all : (journal : JournalState) (n : ℕ) (live : List Bool) (old new : Told) → IsKept journal old.content → journal.extent ≤ n
+    → ((slot : ℕ) → is_live live slot ≡ true → slot < n) → ReadTo n live old new → ReadsLive (Ok live) old new
+ReadTo-all journal n live old new kept all below before = record {
+  live = λ found is slot lt. elim (cases_lt slot n) [
+    | inl read ↦ before.are found is slot read
+    | inr past ↦ false_from_ne_true (is_live live slot) (λ lives. absurd (omega (arith, below slot lives, past)))
+        ∙ sym (ap not (are_zeros-unused journal old.content found slot kept is lt (omega (arith, past, all))))
+  ];
+  refused = tt;
+  reads = before.reads;
+}
+
+-- a journal was opened, and then each slot was read
+pub opens-failed : (journal : JournalState) (error : JournalError) (old mid new : Told) → Opens (Ok journal) old mid → ReadsLive (Err error) mid new
+    → OpensRecords (Err error) old new
+opens-failed journal error old mid new opened read = record {
+  opens = subst (λ (content : List ℕ). OpensAs content (Err error)) opened.reads.same.content read.refused;
+  kept = tt;
+  reads = reads-joined old mid new opened.reads read.reads;
+}
+
+pub opens-read : (journal now : JournalState) (live : List Bool) (old mid new : Told) → now ≡ journal → Opens (Ok journal) old mid → ReadsLive (Ok live) mid new
+    → OpensRecords (Ok (record { journal = now; live = live })) old new
+opens-read journal now live old mid new same opened read =
+    let reads = reads-joined old mid new opened.reads read.reads in
+    let is : IsKept now old.content = subst (λ (j : JournalState). IsKept j old.content) (sym same) opened.opens in
+    record {
+      opens = is;
+      kept = record {
+        journal = subst (IsKept now) (sym reads.same.content) is;
+        free = λ found stands. read.live found (subst (λ (content : List ℕ). StandsFor content found) read.reads.same.content stands);
+      };
+      reads = reads;
+    }
+
+module _ (journal : JournalState) (live : List Bool) (old : Told) (kept : AreKept (record { journal = journal; live = live }) old.content) where
+  pub settles-records : (new : Told) (left : JournalState) (result : Result (Unit {0}) Failed) → Settles left result old new
+      → SettlesRecords (record { journal = left; live = live }) result old new
+  settles-records new left result settles = record {
+    kept = AreKept-kept journal live old.content kept result left new.content settles.kept settles.keeps_map.map;
+    keeps_map = settles.keeps_map;
+    makes_durable = settles.makes_durable;
+  }
+
+  pub reads-record : (new : Told) (left : JournalState) (slot : ℕ) (result : Result (List ℕ) Failed) → OnOk result (left ≡ journal) → ReadsSlot slot result old new
+      → ReadsRecord (record { journal = left; live = live }) slot result old new
+  reads-record new left slot result same read = record {
+    bytes = read.bytes;
+    kept = on_ok_weaker result (λ is. subst (λ (content : List ℕ). AreKept (record { journal = left; live = live }) content) (sym read.reads.same.content)
+        (subst (λ (j : JournalState). AreKept (record { journal = j; live = live }) old.content) (sym is) kept)) same;
+    reads = read.reads;
+  }

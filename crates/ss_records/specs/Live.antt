@@ -1,5 +1,5 @@
 -- Which slots are live, that is, aren't zeros.
-use Rattle.std.specs.Prelude.{◌≡◌, ℕ, ◌<◌, Bool, false, not, ◌==◌, List, [], ◌∷◌, count_by, slice_set, Option}
+use Rattle.std.specs.Prelude.{◌≡◌, ℕ, ◌<◌, Bool, true, false, not, ◌==◌, List, [], ◌∷◌, count_by, length, slice_set, Option}
 use Rattle.std.specs.List.{list_all, position, slice_index_or}
 use Rattle.ss_journal.specs.declared.format.TheConstants.{MOST_SLOTS}
 use Rattle.ss_journal.specs.declared.put.Put.{Put}
@@ -28,3 +28,8 @@ live_after (put ∷ puts) live = live_after puts (slice_set live put.slot (not (
 -- the live slots are those that aren't zeros in the map
 abbrev pub AreLiveIn : List Bool → (ℕ → List ℕ) → Type 0
 AreLiveIn live map = (slot : ℕ) → slot < MOST_SLOTS → is_live live slot ≡ not (are_zeros (map slot))
+
+-- the list tells of each slot that a file can have, and each live one lies below the extent
+pub record AreBelow (extent : ℕ) (live : List Bool) : Type 0 where
+  pub slots : length live ≡ MOST_SLOTS
+  pub below : (slot : ℕ) → is_live live slot ≡ true → slot < extent

@@ -163,7 +163,7 @@ module _ (store : StoreState) (content : List ℕ) (kept : StoreIsKept store con
   }
 
   pub StepsState-created : {T E : Type 0} (old new : Told) (call : Result T E) → old.content ≡ content →
-      AddsRecord part.slot (records.Stream part.id.0 name params) old new call → StepsState (Create name params) old new call
+      AddsRecord part.slot (records.Stream part.id.0 name params) old new call → StepsState (Create name params) call old new
   StepsState-created old new call same adds =
       let others = flat_map records_held (zip store.streams kept.streams) in
       let pushed = (part.slot, Some (records.Stream part.id.0 name params)) ∷ others in

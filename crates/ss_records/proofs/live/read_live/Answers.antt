@@ -1,24 +1,18 @@
-use Rattle.std.proofs.Common.{◌∙◌, sym, ap, subst, arith, not, List, ℕ, inl, inr}
-use Rattle.std.proofs.lemmas.Bool.{cases_lt, false_from_ne_true}
+use Rattle.std.proofs.Common.{List, ℕ, ap, arith, subst, sym}
+use Rattle.ss_outside.proofs.StepLemmas.{step-none}
 use Rattle.ss_journal.specs.Kept.{JournalState, IsKept}
-use Rattle.ss_records.specs.Live.{is_live}
-use Rattle.ss_records.proofs.RecordLemmas.{are_zeros-unused}
+use Rattle.ss_journal.proofs.StepLemmas.{after-step, step-from, step-next}
+use Rattle.ss_records.proofs.RecordLemmas.{ReadTo-all, ReadTo-more, ReadTo-none}
 use Rattle.ss_records.proofs.live.read_live.Goals as goal
 
 pub read-requires-clause-one_disk : goal.read-requires-clause-one_disk
-read-requires-clause-one_disk g c told =
-    let before = c.loop-slot.invariant in
-    let first = sym before.tells ∙ told in
-    subst (λ (journal : JournalState). IsKept journal (g.D.Disk.seen c.loop-slot.disk).told.content) (sym before.journal)
-    (subst (λ (content : List ℕ). IsKept c.args.journal.now content) (sym (before.reads first).same.content) (c.requires.one_disk first))
+read-requires-clause-one_disk g c =
+    after-step c.loop-slot.invariant.step (λ told before.
+    subst (λ (journal : JournalState). IsKept journal (g.D.Disk.seen c.loop-slot.disk).told.content) (sym c.loop-slot.invariant.journal)
+    (subst (IsKept c.args.journal.now) (sym before.reads.same.content) (c.requires.one_disk told)))
 
-pub returns-clause-free : goal.returns-clause-free
-returns-clause-free g c told found stands slot lt =
-    let before = c.loop-slot.invariant in
-    let end = c.loop-slot-test.false in
-    elim (cases_lt slot c.loop-slot.slot) [
-      | inl read ↦ before.free told found stands slot read
-      | inr past ↦
-          false_from_ne_true (is_live c.loop-slot.live slot) (λ is. absurd (omega (arith, before.below slot is, past)))
-          ∙ sym (ap not (are_zeros-unused c.args.journal.now (g.D.Disk.seen c.args.disk.now).told.content found slot (c.requires.one_disk told) stands lt (omega (arith, past, end, c.extent-slot-end.ensures.value))))
-    ]
+pub returns-clause-live : goal.returns-clause-live
+returns-clause-live g c =
+    step-from c.loop-slot.invariant.step (λ told before.
+    ReadTo-all c.args.journal.now c.loop-slot.slot c.loop-slot.live _ _ (c.requires.one_disk told) (omega (arith, c.loop-slot-test.false, c.extent-slot-end.ensures.value))
+    c.loop-slot.invariant.bounded.below before)
