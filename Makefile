@@ -22,6 +22,7 @@ faults: ## tries the program that was built last on files while something goes w
 	@faults/refuse $(PROGRAM)
 	@faults/kill $(PROGRAM)
 	@faults/images $(PROGRAM)
+	@faults/flips $(PROGRAM)
 
 install: ## installs the program that was built last, and its man page: make install PREFIX=/usr/local
 	@test -x $(PROGRAM) || $(MAKE) build
