@@ -8,7 +8,9 @@ PREFIX = /usr/local
 build: ## proves and builds the program
 	@tools/build summarystore --version
 
-demo: build ## builds the program, and runs it on each file of examples/
+demo: ## shows the first example, proves and builds the program, and runs it on each file of examples/
+	@test -x $(PROGRAM) || examples/demo --unproved
+	@tools/build summarystore --version
 	@examples/demo $(PROGRAM)
 
 test: ## runs the whole gate: proofs, tests, must-fail edits, program runs
@@ -20,6 +22,7 @@ faults: ## tries the program that was built last on files while something goes w
 	@faults/refuse $(PROGRAM)
 	@faults/kill $(PROGRAM)
 	@faults/images $(PROGRAM)
+	@faults/flips $(PROGRAM)
 
 install: ## installs the program that was built last, and its man page: make install PREFIX=/usr/local
 	@test -x $(PROGRAM) || $(MAKE) build
