@@ -5,10 +5,11 @@ ghost use Rattle.std.specs.Prelude.{◌≡◌, ◌⊎◌, ◌+◌, ◌<◌, ◌^
 mod tests;
 
 use crate::judge::judge;
-use crate::moving::{read_whole, write_whole};
 use crate::opening::{Missing, Opened, open};
+use crate::reading::read_whole;
 use crate::reason::{Reason, Trouble};
 use crate::system::System;
+use crate::writing::write_whole;
 use ss_journal::{ENTRY_SIZE, FIRST_ENTRY, FIRST_SLOT};
 use ss_outside::{Disk, Failed};
 

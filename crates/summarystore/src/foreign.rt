@@ -1,7 +1,7 @@
 // Files that aren't a store's, and would be formatted.
 ghost use Rattle.std.specs.Prelude.{◌≡◌, ◌↔◌, IsTrue, All};
 
-use crate::moving::read_whole;
+use crate::reading::read_whole;
 use crate::system::System;
 use ss_journal::{FIRST_SLOT, Head};
 use std::io;

@@ -10,14 +10,15 @@ mod host_system;
 mod judge;
 #[cfg(test)]
 mod made_up_system;
-mod moving;
 mod notice;
 #[cfg(test)]
 mod notice_tests;
 mod opening;
+mod reading;
 mod reason;
 mod system;
 mod telling;
+mod writing;
 
 use adapters::{StdSink, StdSource};
 use file_disk::FileDisk;

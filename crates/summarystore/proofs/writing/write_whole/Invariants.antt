@@ -1,5 +1,5 @@
 use Rattle.std.proofs.Common.{◌+◌, ◌<◌, ◌^◌, length, ◌≤◌}
-use Rattle.summarystore.proofs.moving.write_whole.Given as goal
+use Rattle.summarystore.proofs.writing.write_whole.Given as goal
 
 abbrev pub invariant-loop : goal.invariant-loop
 invariant-loop g l = record {
