@@ -14,8 +14,10 @@ pub const MAGIC_END: u64 = 9;
 
 pub const ENTRIES: u32 = 64;
 
+/// How many bytes an entry has, its gate first.
 pub const ENTRY_SIZE: usize = 544;
 
+/// Where the first entry begins.
 pub const FIRST_ENTRY: u64 = 512;
 
 /// How many puts a transaction has at most. An entry holds one transaction.
@@ -33,6 +35,7 @@ pub const SLOT_SIZE: usize = 128;
 /// How many slots a file has at most. They are numbered from 0.
 pub const MOST_SLOTS: u32 = 1 << 20;
 
+/// Where the first slot begins.
 pub const FIRST_SLOT: u64 = 36864;
 
 // Where the last slot that a file can have ends.

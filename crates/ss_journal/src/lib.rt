@@ -16,8 +16,9 @@ mod settling;
 mod waiting;
 mod writing;
 
-pub use format::{MOST_PUTS, MOST_SLOTS, SLOT_SIZE};
+pub use format::{ENTRY_SIZE, FIRST_ENTRY, FIRST_SLOT, MOST_PUTS, MOST_SLOTS, SLOT_SIZE};
 pub use journal::Journal;
 pub use journal_error::JournalError;
 pub use laws::redo_is_idempotent;
+pub use opening::Head;
 pub use put::{Put, Txn};

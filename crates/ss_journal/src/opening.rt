@@ -19,7 +19,7 @@ use crate::waiting::Waiting;
 use ss_outside::{Disk, Failed};
 use std::alloc::Global;
 
-// The length of a file, and its first bytes, which are zeros past its end.
+/// The length of a file in bytes, and its first bytes, which are zeros past its end.
 #[derive(Clone, Copy)]
 pub struct Head {
     pub length: u64,
@@ -34,14 +34,14 @@ impl Head {
         self.bytes[1..].starts_with(&MAGIC)
     }
 
-    // Whether the file isn't formatted.
+    /// Whether the file isn't formatted.
     pub fn is_unborn(&self) -> bool
         ensures { (image : List ℕ) → IsHead self.now.length self.now.bytes image → result ≡ is_unborn image }
     {
         self.length <= 1 || self.bytes[0] == 0 || (self.has_magic() && self.bytes[0] != GATE_OPEN)
     }
 
-    // Whether the file is formatted.
+    /// Whether the file is formatted.
     pub fn is_born(&self) -> bool
         ensures { (image : List ℕ) → IsHead self.now.length self.now.bytes image → result ≡ is_born image }
     {

@@ -1,5 +1,5 @@
 // How a run ends.
-ghost use Rattle.std.specs.Prelude.{◌≡◌};
+ghost use Rattle.std.specs.Prelude.{◌≡◌, ◌⊎◌, ◌↔◌, ◌<◌, codes, IsNone, IsSomeAnd};
 ghost use Rattle.std.specs.Process.{exit_status};
 
 use std::process::ExitCode;
@@ -40,7 +40,15 @@ impl Status {
 }
 
 /// What standard error says of an exit status, where it says something.
-pub fn complaint(number: u8) -> Option<&'static str> {
+pub fn complaint(number: u8) -> Option<&'static str>
+    ensures disk { number ≡ 4 → IsSomeAnd result (λ text. text.now ≡ codes "summarystore: disk fault") }
+    ensures input { number ≡ 5 → IsSomeAnd result (λ text. text.now ≡ codes "summarystore: input fault") }
+    ensures output { number ≡ 6 → IsSomeAnd result (λ text. text.now ≡ codes "summarystore: output fault") }
+    ensures memory { number ≡ 7 → IsSomeAnd result (λ text. text.now ≡ codes "summarystore: out of memory") }
+    ensures limit { number ≡ 8 → IsSomeAnd result (λ text. text.now ≡ codes "summarystore: input too long") }
+    ensures changed { number ≡ 9 → IsSomeAnd result (λ text. text.now ≡ codes "summarystore: record changed") }
+    ensures none { IsNone result ↔ (number < 4) ⊎ (9 < number) }
+{
     match number {
         4 => Some("summarystore: disk fault"),
         5 => Some("summarystore: input fault"),

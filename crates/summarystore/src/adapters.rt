@@ -1,18 +1,32 @@
 // The real source and sink. They tell nothing of their bytes.
+ghost use Rattle.std.specs.Prelude.{◌≡◌};
+
 use crate::judge::{judge, require_some};
 use ss_outside::{Failed, Sink, Source};
-use std::io::Read;
+use std::io::{self, Read};
 
 /// Standard input.
 #[derive(Drop)]
 pub struct StdSource<'a, R> {
     rt: &'a R,
     faults: u64,
+    why: Option<io::Error>,
 }
 
 impl<'a, R: Input> StdSource<'a, R> {
-    pub fn new(rt: &'a R) -> StdSource<'a, R> {
-        StdSource { rt, faults: 0 }
+    pub fn new(rt: &'a R) -> StdSource<'a, R>
+        ensures count { result.faults ≡ 0 }
+    {
+        StdSource {
+            rt,
+            faults: 0,
+            why: None,
+        }
+    }
+
+    /// The error of the first read that failed.
+    pub fn why(&self) -> Option<io::Error> {
+        self.why
     }
 }
 
@@ -24,7 +38,7 @@ impl<R: Input> Source for StdSource<'_, R> {
     ghost faults = { λ s. s.faults };
 
     fn read(&mut self, into: &mut [u8]) -> Result<usize, Failed> {
-        judge(self.rt.reader().read(into), &mut self.faults)
+        judge(self.rt.reader().read(into), &mut self.faults, &mut self.why)
     }
 }
 
@@ -33,11 +47,23 @@ impl<R: Input> Source for StdSource<'_, R> {
 pub struct StdSink<'a, R> {
     rt: &'a R,
     faults: u64,
+    why: Option<io::Error>,
 }
 
 impl<'a, R: Print> StdSink<'a, R> {
-    pub fn new(rt: &'a R) -> StdSink<'a, R> {
-        StdSink { rt, faults: 0 }
+    pub fn new(rt: &'a R) -> StdSink<'a, R>
+        ensures count { result.faults ≡ 0 }
+    {
+        StdSink {
+            rt,
+            faults: 0,
+            why: None,
+        }
+    }
+
+    /// The error of the first write that failed.
+    pub fn why(&self) -> Option<io::Error> {
+        self.why
     }
 }
 
@@ -49,6 +75,10 @@ impl<R: Print> Sink for StdSink<'_, R> {
     ghost faults = { λ s. s.faults };
 
     fn put(&mut self, piece: &[u8]) -> Result<usize, Failed> {
-        judge(require_some(self.rt.write_some(piece)), &mut self.faults)
+        judge(
+            require_some(self.rt.write_some(piece)),
+            &mut self.faults,
+            &mut self.why,
+        )
     }
 }

@@ -1,22 +1,31 @@
 // What a device answers where the system answers a call of it.
-ghost use Rattle.std.specs.Prelude.{◌≡◌, ◌⊎◌, ◌↔◌, IsErr, Ok, IfOk, OnErr};
+ghost use Rattle.std.specs.Prelude.{◌≡◌, ◌⊎◌, ◌↔◌, IsErr, IsSome, Ok, IfOk, OnOk, OnErr};
 ghost use Rattle.ss_outside.specs.Verdict.{HasCause};
 ghost use Rattle.ss_outside.specs.Memory.{one_more};
 
 use ss_outside::Failed;
 use std::io::{self, ErrorKind};
 
-/// Passes on what the system answered. A failure is counted.
-pub fn judge<T: Drop>(answer: io::Result<T>, faults: &mut u64) -> Result<T, Failed>
+/// Passes on what the system answered. A failure is counted, and why the first one came is kept.
+pub fn judge<T: Drop, E: Drop>(
+    answer: Result<T, E>,
+    faults: &mut u64,
+    why: &mut Option<E>,
+) -> Result<T, Failed>
     ensures fails { IsErr result ↔ IsErr answer }
     ensures passes { IfOk result (λ value. answer ≡ Ok value) }
     ensures counts { OnErr result (faults.new ≡ one_more faults.old) }
     ensures cause { HasCause faults.old faults.new result }
+    ensures tells { OnErr result (IsSome why.new) }
+    ensures first { IsSome why.old → why.new ≡ why.old }
 {
     match answer {
         Ok(value) => Ok(value),
-        Err(_) => {
+        Err(error) => {
             *faults = faults.saturating_add(1);
+            if why.is_none() {
+                *why = Some(error);
+            }
             Err(Failed)
         }
     }

@@ -1,0 +1,193 @@
+// How the file of a store is opened.
+ghost use Rattle.std.specs.Prelude.{◌≡◌, ◌⊎◌, IfOk, OnOk};
+
+use crate::foreign::is_foreign;
+use crate::reason::{Reason, Trouble};
+use crate::system::{Access, Kind, Lock, System};
+use std::io::{self, ErrorKind};
+use std::path::Path;
+
+/// What is done where there is no file: one is made, or it reads as an empty one and none is made.
+#[derive(Clone, Copy, Debug, PartialEq, Eq)]
+pub enum Missing {
+    Make,
+    ReadEmpty,
+}
+
+/// What stands behind a disk: no file, one that may only be read, one that may be written, or one that was made here.
+#[derive(Clone, Copy, Debug, PartialEq, Eq)]
+pub enum Opened {
+    Nothing,
+    ReadOnly,
+    Writable,
+    Made,
+}
+
+// Fails where this isn't a regular file.
+fn require_regular(found: io::Result<Kind>) -> Result<(), Reason> {
+    match found {
+        Ok(Kind::Regular) => Ok(()),
+        Ok(kind) => Err(Reason::own(Trouble::Irregular(kind))),
+        Err(error) => Err(Reason::of(error, refusal(&error))),
+    }
+}
+
+// What keeps a file from being looked at or opened.
+fn refusal(error: &io::Error) -> Trouble {
+    match error.kind() {
+        ErrorKind::NotFound | ErrorKind::NotADirectory => Trouble::NoFolder,
+        ErrorKind::PermissionDenied => Trouble::NotReadable,
+        _ => Trouble::NotOpened,
+    }
+}
+
+// Whether an error says that a file may not be written.
+fn is_read_only(error: &io::Error) -> bool {
+    match error.kind() {
+        ErrorKind::PermissionDenied | ErrorKind::ReadOnlyFilesystem => true,
+        _ => false,
+    }
+}
+
+// Whether an error says that nothing can be synced here.
+fn is_unsyncable(error: &io::Error) -> bool {
+    match error.kind() {
+        ErrorKind::InvalidInput | ErrorKind::ReadOnlyFilesystem => true,
+        _ => false,
+    }
+}
+
+// Fails where the folder that the file would lie in is missing.
+fn require_folder<S: System>(system: &mut S, path: &str) -> Result<(), Reason> {
+    let folder = match Path::new(path).parent() {
+        Some(folder) => folder.to_string_lossy(),
+        None => "/",
+    };
+    let folder = if folder.is_empty() { "." } else { folder };
+    match system.kind_of(folder) {
+        Ok(_) => Ok(()),
+        Err(error) => Err(Reason::of(error, refusal(&error))),
+    }
+}
+
+// Locks the open file, and doesn't wait for it.
+fn lock<S: System>(system: &mut S, how: Lock) -> Result<(), Reason> {
+    match system.lock(how) {
+        Ok(()) => Ok(()),
+        Err(error) if error.kind() == ErrorKind::WouldBlock => Err(Reason::own(Trouble::InUse)),
+        Err(error) => Err(Reason::of(error, Trouble::NotOpened)),
+    }
+}
+
+// Opens a file that may not be written. It is locked against those that write.
+fn open_to_read<S: System>(
+    system: &mut S,
+    path: &str,
+    refused: io::Error,
+) -> Result<Opened, Reason> {
+    match system.open(path, Access::Read) {
+        Ok(()) => {}
+        Err(error) if error.kind() == ErrorKind::NotFound => {
+            return Err(Reason::of(refused, Trouble::NotMakeable));
+        }
+        Err(error) => return Err(Reason::of(error, refusal(&error))),
+    }
+    lock(system, Lock::Shared)?;
+    Ok(Opened::ReadOnly)
+}
+
+// Opens the file, makes it where it is missing and to be made, and locks it. One that may be written is locked against
+// every other opening.
+fn open_locked<S: System>(
+    system: &mut S,
+    path: &str,
+    missing: Missing,
+    is_there: bool,
+) -> Result<Opened, Reason> {
+    let access = match missing {
+        Missing::Make => Access::Make,
+        Missing::ReadEmpty => Access::Change,
+    };
+    match system.open(path, access) {
+        Ok(()) => {}
+        Err(error) if is_read_only(&error) => return open_to_read(system, path, error),
+        Err(error) => return Err(Reason::of(error, refusal(&error))),
+    }
+    lock(system, Lock::Exclusive)?;
+    Ok(if is_there {
+        Opened::Writable
+    } else {
+        Opened::Made
+    })
+}
+
+// Whether something has the path. It fails where that isn't a regular file: to open a pipe or a device might wait or do
+// something.
+fn is_there<S: System>(system: &mut S, path: &str) -> Result<bool, Reason> {
+    match system.kind_of(path) {
+        Err(error) if error.kind() == ErrorKind::NotFound => Ok(false),
+        found => {
+            require_regular(found)?;
+            Ok(true)
+        }
+    }
+}
+
+// Makes durable what an earlier process left of the file, and then its name.
+fn make_durable<S: System>(system: &mut S, path: &str) -> Result<(), Reason>
+    ensures { OnOk result (S.is_durable system.new) }
+{
+    if let Err(error) = system.sync_all() {
+        return Err(Reason::of(error, Trouble::NotSynced));
+    }
+    match system.sync_folder(path) {
+        Ok(()) => Ok(()),
+        Err(error) => Err(Reason::of(error, Trouble::NotSynced)),
+    }
+}
+
+// Makes durable what an earlier process left of a file that may only be read. It may lie where nothing can be synced.
+fn make_durable_where_it_can_be<S: System>(system: &mut S) -> Result<(), Reason> {
+    match system.sync_all() {
+        Ok(()) => Ok(()),
+        Err(error) if is_unsyncable(&error) => Ok(()),
+        Err(error) => Err(Reason::of(error, Trouble::NotSynced)),
+    }
+}
+
+// Fails where the file isn't formatted, but holds something.
+fn refuse_foreign<S: System>(system: &mut S) -> Result<(), Reason>
+    ensures keeps { S.is_durable system.old → S.is_durable system.new }
+{
+    match is_foreign(system) {
+        Ok(false) => Ok(()),
+        Ok(true) => Err(Reason::own(Trouble::Foreign)),
+        Err(error) => Err(Reason::of(error, Trouble::NotRead)),
+    }
+}
+
+/// Opens the file of a store. Nothing is read before its bytes and its name are durable, and nothing is written. It fails
+/// where something else has the path, where another opening keeps it away, and where the file isn't formatted, but
+/// holds something.
+pub fn open<S: System>(system: &mut S, path: &str, missing: Missing) -> Result<Opened, Reason>
+    ensures durable { IfOk result (λ opened.
+        (opened ≡ Opened.Writable) ⊎ (opened ≡ Opened.Made) → S.is_durable system.new) }
+{
+    if path.is_empty() {
+        return Err(Reason::own(Trouble::NoName));
+    }
+    let is_there = is_there(system, path)?;
+    if !is_there && missing == Missing::ReadEmpty {
+        require_folder(system, path)?;
+        return Ok(Opened::Nothing);
+    }
+    let opened = open_locked(system, path, missing, is_there)?;
+    require_regular(system.kind())?;
+    if opened == Opened::ReadOnly {
+        make_durable_where_it_can_be(system)?;
+    } else {
+        make_durable(system, path)?;
+    }
+    refuse_foreign(system)?;
+    Ok(opened)
+}

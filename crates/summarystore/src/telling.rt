@@ -1,0 +1,75 @@
+// What is said of how a run ended, and notices.
+ghost use Rattle.std.specs.Prelude.{◌≡◌, ◌⊎◌};
+ghost use Rattle.ss_outside.specs.Verdict.{Rose};
+ghost use Rattle.ss_program.specs.Sent.{appended};
+
+use crate::file_disk::FileDisk;
+use crate::opening::Opened;
+use crate::reason::{Reason, Trouble};
+use crate::system::System;
+use ss_outside::Sink;
+use ss_program::{Status, complaint, send};
+use std::io;
+
+/// Hands a notice to the sink, and answers the exit status.
+pub fn print_notice<K: Sink>(sink: &mut K, text: &str) -> u8
+    ensures number { ((result ≡ 0) × (K.faults sink.new ≡ K.faults sink.old))
+        ⊎ ((result ≡ 6) × Rose (K.faults sink.old) (K.faults sink.new)) }
+    ensures whole { result ≡ 0 → K.held sink.new ≡ appended (K.held sink.old) text.now }
+{
+    match send(sink, text.as_bytes()) {
+        Ok(()) => Status::Done.number(),
+        Err(_) => Status::SinkFault.number(),
+    }
+}
+
+// Says what is wrong with the file of a store, in one line.
+fn tell_reason<R: Eprint>(rt: &R, path: &str, reason: Reason) -> io::Result<()> {
+    let words = reason.trouble.words();
+    match (reason.trouble, reason.error) {
+        (Trouble::NoName, _) => eprintln!(rt; "summarystore: {words}"),
+        (_, None) => eprintln!(rt; "summarystore: {path}: {words}"),
+        (_, Some(error)) => eprintln!(rt; "summarystore: {path}: {words} [{error}]"),
+    }
+}
+
+// Says what an exit status stands for, with what the system said.
+fn tell_status<R: Eprint>(rt: &R, text: &str, why: Option<io::Error>) -> io::Result<()> {
+    match why {
+        None => eprintln!(rt; "{text}"),
+        Some(error) => eprintln!(rt; "{text} [{error}]"),
+    }
+}
+
+/// Says on standard error what an exit status stands for, where it says something, and why the input or the output failed.
+/// Answers the status.
+pub fn tell<R: Eprint>(rt: &R, number: u8, why: Option<io::Error>) -> u8
+    ensures { result ≡ number }
+{
+    if let Some(text) = complaint(number) {
+        let _ = tell_status(rt, text, why);
+    }
+    number
+}
+
+/// The same after a run over a store, with what is wrong with its file. Where there is none, and none was to be made, this
+/// is said too.
+pub fn tell_run<R: Eprint, S: System>(
+    rt: &R,
+    number: u8,
+    disk: &FileDisk<S>,
+    why: Option<io::Error>,
+) -> u8
+    ensures { result ≡ number }
+{
+    if disk.opened() == Some(Opened::Nothing) {
+        let _ = tell_reason(rt, disk.path(), Reason::own(Trouble::NoFile));
+    }
+    match disk.why() {
+        Some(reason) if number == Status::DiskFault.number() => {
+            let _ = tell_reason(rt, disk.path(), reason);
+            number
+        }
+        _ => tell(rt, number, why),
+    }
+}

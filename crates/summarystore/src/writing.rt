@@ -1,0 +1,25 @@
+// Whole writes, of calls that may move fewer bytes or be interrupted.
+ghost use Rattle.std.specs.Prelude.{◌+◌, ◌<◌, ◌^◌, length, OnOk};
+
+use crate::system::System;
+use std::io::{self, ErrorKind};
+
+/// Writes all of the bytes, from a place on. At an error some of them may be written.
+pub fn write_whole<S: System>(system: &mut S, at: u64, bytes: &[u8]) -> io::Result<()>
+    ensures writes { at + length bytes.now < 2 ^ 64 →
+        OnOk result (S.has_written system.new at (at + length bytes.now)) }
+{
+    let mut done = 0;
+    for _ in 0..u64::MAX {
+        if done >= bytes.len() {
+            return Ok(());
+        }
+        match system.write(at.saturating_add(done as u64), &bytes[done..]) {
+            Ok(0) => return Err(io::Error::from(ErrorKind::WriteZero)),
+            Ok(count) => done += count,
+            Err(error) if error.kind() == ErrorKind::Interrupted => {}
+            Err(error) => return Err(error),
+        }
+    }
+    Err(io::Error::from(ErrorKind::Interrupted))
+}
