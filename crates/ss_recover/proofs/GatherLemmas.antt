@@ -7,6 +7,11 @@ use Rattle.std.proofs.lemmas.List.{map-append}
 use Rattle.std.proofs.lemmas.List.Elements.{filter-append}
 use Rattle.std.proofs.lemmas.List.FromFn.{get_or-map-range_with_len, length-map-range_with_len}
 use Rattle.std.proofs.lemmas.List.Sums.{position_or_len_is}
+use Rattle.ss_outside.specs.Disk.{DiskView}
+use Rattle.ss_outside.specs.Step.{Step}
+use Rattle.ss_outside.specs.Verdict.{Verdict, UnlessFailed, fine}
+use Rattle.ss_outside.proofs.CrashLemmas.{reads-joined}
+use Rattle.ss_outside.proofs.StepLemmas.{step-as, step-then}
 use Rattle.ss_journal.specs.Kept.{JournalState, IsKept}
 use Rattle.ss_journal.specs.Redo.{SlotMap, StandsFor}
 use Rattle.ss_journal.specs.declared.format.TheConstants.{MOST_SLOTS}
@@ -19,7 +24,8 @@ use Rattle.ss_codec.specs.declared.record.Record.{Record}
 use Rattle.ss_codec.specs.declared.record.Record.TheVariants.{Free}
 use Rattle.ss_recover.specs.Carried.{spelled}
 use Rattle.ss_codec.proofs.RecordLemmas.{Spells-decoded, spelling-free}
-use Rattle.ss_recover.specs.Gathered.{GathersAs, ReadsAs, SpellsNone}
+use Rattle.ss_recover.specs.Gathered.{FindsOut, GathersAs, ReadsAs, SpellsNone}
+use Rattle.ss_recover.specs.Rebuilt.{verdict_of_rebuild}
 use Rattle.ss_recover.specs.declared.recover_error.RecoverError.{RecoverError}
 use Rattle.ss_recover.specs.declared.recover_error.RecoverError.TheVariants.{BadSlot, BadStream, Disk, OutOfMemory}
 use Rattle.ss_recover.specs.Parts.{lowest_bad_slot}
@@ -119,12 +125,22 @@ lowest-is found slot lt below none =
     is_some-not None other = absurd (other refl)
     is_some-not (Some r) other = refl
 
+-- errors that are told on have one verdict
+pub verdict-same : {A B : Type 0} (answer : Result A RecoverError) (result : Result B RecoverError) (e : RecoverError) →
+    answer ≡ Err e → result ≡ Err e → verdict_of_rebuild answer ≡ verdict_of_rebuild result
+verdict-same {A} {B} answer result e is gives = ap (verdict_of_rebuild {T = A}) is ∙ go e ∙ sym (ap (verdict_of_rebuild {T = B}) gives)
+  where
+    go : (d : RecoverError) → verdict_of_rebuild {T = A} (Err d) ≡ verdict_of_rebuild {T = B} (Err d)
+    go (BadSlot n) = refl
+    go (BadStream number) = refl
+    go Disk = refl
+    go OutOfMemory = refl
+
 -- what a live slot that spells no record makes of the reading
-pub gather-refused : (found : SlotMap) (slot : ℕ) (all : List Found) (answer : Result Found RecoverError) (result : Result (Vec Found Global) RecoverError) (e : RecoverError) →
-    ReadsAs (found.bytes slot) slot answer → answer ≡ Err e → result ≡ Err e → AreRead all found slot → slot < found.extent → are_zeros (found.bytes slot) ≡ false →
-    GathersAs found result
-gather-refused found slot all answer result e reads is gives read lt live =
-    subst (GathersAs found) (sym gives) (go e (subst (ReadsAs (found.bytes slot) slot) is reads))
+pub gather-refused : (found : SlotMap) (slot : ℕ) (all : List Found) (e : RecoverError) → ReadsAs (found.bytes slot) slot (Err e) →
+    AreRead all found slot → slot < found.extent → are_zeros (found.bytes slot) ≡ false → GathersAs found (Err e)
+gather-refused found slot all (BadSlot n) refused read lt live =
+    lowest-is found slot lt read.spelled_all (spells-none refused.1) ∙ ap Some (sym refused.0)
   where
     spells-none : SpellsNone (found.bytes slot) → decoded (found.bytes slot) ≡ None
     spells-none (inl none) = none
@@ -132,12 +148,9 @@ gather-refused found slot all answer result e reads is gives read lt live =
         let bytes : found.bytes slot ≡ replicate 128 0 = (Spells-decoded (found.bytes slot) Free free).spelled ∙ spelling-free in
         let zeros : are_zeros (found.bytes slot) ≡ true = ap are_zeros bytes in
         absurd (true≢false (sym zeros ∙ live))
-
-    go : (d : RecoverError) → ReadsAs (found.bytes slot) slot (Err d) → GathersAs found (Err d)
-    go (BadSlot n) refused = lowest-is found slot lt read.spelled_all (spells-none refused.1) ∙ ap Some (sym refused.0)
-    go (BadStream number) refused = refused
-    go Disk refused = tt
-    go OutOfMemory refused = tt
+gather-refused found slot all (BadStream number) refused read lt live = refused
+gather-refused found slot all Disk refused read lt live = tt
+gather-refused found slot all OutOfMemory refused read lt live = tt
 
 -- a live slot isn't zeros, and a slot that isn't live is free
 pub live-zeros : (records : RecordsState) (content : List ℕ) (found : SlotMap) (slot : ℕ) (b : Bool) → AreKept records content → StandsFor content found → slot < MOST_SLOTS →
@@ -152,3 +165,26 @@ live-zeros records content found slot b kept stands lt is = not-same (are_zeros 
 
 pub free-zeros : (content : List ℕ) (found : SlotMap) (slot : ℕ) → StandsFor content found → slot < MOST_SLOTS → are_zeros (found.bytes slot) ≡ true → decoded (found.bytes slot) ≡ Some Free
 free-zeros content found slot stands lt zeros = decoded-free (found.bytes slot) ((HasWholeSlots-StandsFor content found stands).whole slot lt) zeros
+
+-- more is found out of what was read
+pub finds-more : {old new : DiskView} {r : RecordsState} {P Q : SlotMap → Type 0} → Step fine old new (FindsOut fine r P) →
+    ((found : SlotMap) → StandsFor new.told.content found → AreKept r new.told.content → P found → Q found) → Step fine old new (FindsOut fine r Q)
+finds-more step gives = step-as step (λ finds. record {
+  found = λ found stands.
+      gives found (subst (λ content. StandsFor content found) (sym finds.reads.same.content) stands) finds.kept (finds.found found stands);
+  kept = finds.kept;
+  reads = finds.reads;
+})
+
+-- what one reading after another finds out
+pub finds-then : {old mid new : DiskView} {r s : RecordsState} {v : Verdict} {P Q R : SlotMap → Type 0} →
+    Step fine old mid (FindsOut fine r P) → Step v mid new (FindsOut v s Q) →
+    ((found : SlotMap) → StandsFor mid.told.content found → AreKept r mid.told.content → P found → Q found → R found) →
+    Step v old new (FindsOut v s R)
+finds-then step next joins = step-then step next (λ first second. record {
+  found = λ found stands.
+      let stands' = subst (λ content. StandsFor content found) (sym first.reads.same.content) stands in
+      joins found stands' first.kept (first.found found stands) (second.found found stands');
+  kept = second.kept;
+  reads = reads-joined _ _ _ first.reads second.reads;
+})

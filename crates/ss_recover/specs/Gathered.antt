@@ -1,7 +1,12 @@
 -- What reading the live slots of a map gives.
 use Rattle.std.specs.Prelude.{◌≡◌, ◌≢◌, ◌⊎◌, ℕ, ◌<◌, List, map, Some, None, Result, Ok, Err, Vec, ⊤}
 use Rattle.std.specs.Global.{Global}
-use Rattle.ss_journal.specs.Redo.{SlotMap}
+use Rattle.ss_outside.specs.Crash.{OnlyReads}
+use Rattle.ss_outside.specs.Disk.{Told}
+use Rattle.ss_outside.specs.Verdict.{Verdict, OnFailed, UnlessFailed}
+use Rattle.ss_journal.specs.Kept.{HasStopped}
+use Rattle.ss_journal.specs.Redo.{SlotMap, StandsFor}
+use Rattle.ss_records.specs.Kept.{AreKept, RecordsState}
 use Rattle.ss_codec.specs.Decoded.{decoded}
 use Rattle.ss_codec.specs.declared.record.Record.TheVariants.{Free}
 use Rattle.ss_recover.specs.Carried.{spelled}
@@ -36,3 +41,15 @@ GathersAs found (Err (BadSlot n)) = lowest_bad_slot (spelled found) ≡ Some n
 GathersAs found (Err (BadStream number)) = ⊥
 GathersAs found (Err Disk) = ⊤
 GathersAs found (Err OutOfMemory) = ⊤
+
+-- Slots are read, by records that are these then, and this is found of the content's map. Content and images stay.
+pub record FindsOut (v : Verdict) (records : RecordsState) (P : SlotMap → Type 0) (old new : Told) : Type 0 where
+  pub found : (found : SlotMap) → StandsFor old.content found → P found
+  pub kept : UnlessFailed v (AreKept records new.content)
+  pub reads : OnlyReads old new
+
+-- What reading leaves of records, over every disk: all that they were, or a journal that takes no more calls.
+pub record LeavesRecords (v : Verdict) (old new : RecordsState) : Type 0 where
+  pub journal : UnlessFailed v (new.journal ≡ old.journal)
+  pub live : new.live ≡ old.live
+  pub stopped : OnFailed v (HasStopped new.journal)

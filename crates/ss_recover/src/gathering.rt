@@ -1,15 +1,14 @@
 // Reading each live slot.
-ghost use Rattle.std.specs.Prelude.{◌≡◌, ◌<◌, ◌≤◌, All, IsTrue, IfOk, IfSome, IfNone, Some, length, map, filter, true};
+ghost use Rattle.std.specs.Prelude.{◌≡◌, ◌<◌, ◌≤◌, All, IfOk, IfSome, IfNone, Some, length, map, filter};
 ghost use Rattle.std.specs.List.{range_with_len};
-ghost use Rattle.ss_outside.specs.Crash.{OnlyReads};
-ghost use Rattle.ss_outside.specs.Verdict.{Counted, OnFailed, UnlessFailed};
-ghost use Rattle.ss_journal.specs.Kept.{IsRunning, HasStopped};
-ghost use Rattle.ss_journal.specs.Redo.{SlotMap, StandsFor};
+ghost use Rattle.ss_outside.specs.Disk.{OfContent};
+ghost use Rattle.ss_outside.specs.Step.{Step};
+ghost use Rattle.ss_journal.specs.Kept.{IsRunning};
 ghost use Rattle.ss_journal.specs.declared.format.TheConstants.{MOST_SLOTS};
 ghost use Rattle.ss_records.specs.Kept.{AreKept};
 ghost use Rattle.ss_records.specs.Live.{is_live};
 ghost use Rattle.ss_codec.specs.Decoded.{decoded};
-ghost use Rattle.ss_recover.specs.Gathered.{SpellsNone, ReadsAs, GathersAs};
+ghost use Rattle.ss_recover.specs.Gathered.{SpellsNone, ReadsAs, GathersAs, FindsOut, LeavesRecords};
 ghost use Rattle.ss_recover.specs.Rebuilt.{verdict_of_rebuild};
 ghost use Rattle.ss_recover.specs.Walk.{IsUsable};
 
@@ -44,18 +43,12 @@ fn read_record<D: Disk>(
 ) -> Result<Found, RecoverError>
     requires running { IsRunning records.old.journal }
     requires slot { slot < MOST_SLOTS }
-    requires one_disk { IsTrue (D.seen disk.old).tells → AreKept records.old (D.seen disk.old).told.content }
-    ensures found { IsTrue (D.seen disk.old).tells → (found : SlotMap) → StandsFor (D.seen disk.old).told.content found
-        → ReadsAs (found.bytes slot) slot result }
+    requires one_disk { OfContent (D.seen disk.old) (AreKept records.old) }
+    ensures reads { Step (verdict_of_rebuild result) (D.seen disk.old) (D.seen disk.new)
+        (FindsOut (verdict_of_rebuild result) records.new (λ found. ReadsAs (found.bytes slot) slot result)) }
     ensures usable { IfOk result (λ f. IsUsable f.holds) }
     ensures slot { IfOk result (λ f. f.slot ≡ slot) }
-    ensures one_disk { IsTrue (D.seen disk.old).tells → UnlessFailed (verdict_of_rebuild result) (AreKept records.new (D.seen disk.new).told.content) }
-    ensures journal { UnlessFailed (verdict_of_rebuild result) (records.new.journal ≡ records.old.journal) }
-    ensures live { records.new.live ≡ records.old.live }
-    ensures stopped { OnFailed (verdict_of_rebuild result) (HasStopped records.new.journal) }
-    ensures reads { IsTrue (D.seen disk.old).tells → OnlyReads (D.seen disk.old).told (D.seen disk.new).told }
-    ensures tells { (D.seen disk.new).tells ≡ (D.seen disk.old).tells }
-    ensures cause { Counted (verdict_of_rebuild result) (D.seen disk.old).faults (D.seen disk.new).faults }
+    ensures leaves { LeavesRecords (verdict_of_rebuild result) records.old records.new }
 {
     match records.read(disk, slot) {
         Ok(bytes) => match record_in(&bytes) {
@@ -76,20 +69,14 @@ pub fn gather<D: Disk>(
     disk: &mut D,
 ) -> Result<Vec<Found>, RecoverError>
     requires running { IsRunning records.old.journal }
-    requires one_disk { IsTrue (D.seen disk.old).tells → AreKept records.old (D.seen disk.old).told.content }
-    ensures found { IsTrue (D.seen disk.old).tells → (found : SlotMap) → StandsFor (D.seen disk.old).told.content found
-        → GathersAs found result }
+    requires one_disk { OfContent (D.seen disk.old) (AreKept records.old) }
+    ensures gathers { Step (verdict_of_rebuild result) (D.seen disk.old) (D.seen disk.new)
+        (FindsOut (verdict_of_rebuild result) records.new (λ found. GathersAs found result)) }
     ensures usable { IfOk result (λ all. All (λ f. IsUsable f.holds) all.items) }
     ensures few { IfOk result (λ all. length all.items ≤ MOST_SLOTS) }
     ensures slots { IfOk result (λ all. map (λ f. f.slot) all.items
         ≡ filter (is_live records.old.live) (range_with_len 0 (length records.old.live))) }
-    ensures one_disk { IsTrue (D.seen disk.old).tells → UnlessFailed (verdict_of_rebuild result) (AreKept records.new (D.seen disk.new).told.content) }
-    ensures journal { UnlessFailed (verdict_of_rebuild result) (records.new.journal ≡ records.old.journal) }
-    ensures live { records.new.live ≡ records.old.live }
-    ensures stopped { OnFailed (verdict_of_rebuild result) (HasStopped records.new.journal) }
-    ensures reads { IsTrue (D.seen disk.old).tells → OnlyReads (D.seen disk.old).told (D.seen disk.new).told }
-    ensures tells { (D.seen disk.new).tells ≡ (D.seen disk.old).tells }
-    ensures cause { Counted (verdict_of_rebuild result) (D.seen disk.old).faults (D.seen disk.new).faults }
+    ensures leaves { LeavesRecords (verdict_of_rebuild result) records.old records.new }
 {
     let mut all = Vec::with_capacity(alloc, records.live() as usize)?;
     for slot in 0..records.extent() {

@@ -1,54 +1,55 @@
 use Rattle.std.proofs.Common.{◌≡◌, ◌+◌, ◌≤◌, ◌<◌, ◌∙◌, ◌++◌, ℕ, [], ◌∷◌, All, List, Vec, Global, Bool, true, false, not, map, filter, length, Err, sym, ap, subst, arith}
 use Rattle.std.specs.List.{range_with_len}
+use Rattle.std.specs.Result.{is_ok}
 use Rattle.std.proofs.lemmas.Bool.{cond-true, cond-false}
 use Rattle.std.proofs.lemmas.List.{length-map, map-append}
 use Rattle.std.proofs.lemmas.List.Sums.{count_by-le-length, length-filter}
 use Rattle.std.proofs.lemmas.List.FromFn.{length-range_with_len}
 use Rattle.std.proofs.lemmas.List.Elements.{All-push}
-use Rattle.ss_outside.proofs.CrashLemmas.{reads-joined}
 use Rattle.ss_journal.specs.declared.format.TheConstants.{MOST_SLOTS}
 use Rattle.ss_records.specs.Kept.{RecordsState}
+use Rattle.ss_recover.specs.Gathered.{FindsOut, GathersAs, ReadsAs}
 use Rattle.ss_recover.specs.Walk.{IsUsable}
 use Rattle.ss_recover.specs.declared.found.Found.{Found}
 use Rattle.std.proofs.lemmas.Result.{err_from_is_err_and}
-use Rattle.ss_outside.specs.Crash.{OnlyReads}
-use Rattle.ss_journal.specs.Redo.{SlotMap, StandsFor}
+use Rattle.ss_outside.specs.Step.{Step}
+use Rattle.ss_journal.specs.Kept.{JournalState}
 use Rattle.ss_records.specs.Live.{is_live}
-use Rattle.ss_recover.proofs.GatherLemmas.{AreRead, AreRead-live, AreRead-zeros, extent-kept, free-zeros, gather-refused, live-zeros, slots-all, slots-more}
+use Rattle.ss_recover.proofs.GatherLemmas.{AreRead, AreRead-live, AreRead-zeros, extent-kept, free-zeros, finds-more, finds-then, gather-refused, live-zeros, slots-all, slots-more, verdict-same}
 use Rattle.ss_recover.proofs.gathering.gather.Goals as goal
 use Rattle.ss_recover.proofs.gathering.gather.Goals.{then-is_live+in_ok-found+else-is_err, else-is_live}
 
--- the content is that from before
-stands-now : (before now : List ℕ) (found : SlotMap) → now ≡ before → StandsFor before found → StandsFor now found
-stands-now before now found same stands = subst (λ (content : List ℕ). StandsFor content found) (sym same) stands
-
-pub returns-in_err-found-clause-found : goal.returns-in_err-found-clause-found
-returns-in_err-found-clause-found g c told found stands =
+pub returns-in_err-found-clause-gathers : goal.returns-in_err-found-clause-gathers
+returns-in_err-found-clause-gathers g c =
     let before = c.loop-slot.invariant in
-    let content = (g.D.Disk.seen c.args.disk.now).told.content in
     let slot = c.loop-slot.slot in
-    let kept = c.requires.one_disk told in
+    let e = c.in_err-found.field-0.0 in
+    let result = c.from_residual-in_err-found.result in
+    let answer = c.read_record.result in
+    let finish = c.extent-slot-end.ensures in
     let lt = c.loop-slot-test.true in
-    let most = c.extent-slot-end.ensures in
-    let now = stands-now content (g.D.Disk.seen c.loop-slot.disk).told.content found (before.reads told).same.content stands in
-    let live : is_live c.args.records.now.live slot ≡ not false =
-    ap (λ (l : List Bool). is_live l slot) (sym before.live) ∙ sym c.is_live.ensures.value ∙ c.if-is_live.true in
-    let zeros = live-zeros c.args.records.now content found slot false kept stands (omega (arith, lt, most.value, most.most)) live in
-    let gives = err_from_is_err_and c.from_residual-in_err-found.result c.from_residual-in_err-found.ensures.1 in
-    gather-refused found slot c.loop-slot.all.items c.read_record.result c.from_residual-in_err-found.result c.in_err-found.field-0.0
-    (c.read_record.ensures.found (before.tells ∙ told) found now) c.in_err-found.was (gives.1 ∙ ap Err gives.2)
-    (before.found told found stands) (omega (arith, lt, most.value, extent-kept c.args.records.now.journal content found kept.journal stands)) zeros
+    let gives = err_from_is_err_and result c.from_residual-in_err-found.ensures.1 in
+    let is : result ≡ Err e = gives.1 ∙ ap Err gives.2 in
+    let live : is_live c.loop-slot.records.live slot ≡ not false = sym c.is_live.ensures.value ∙ c.if-is_live.true in
+    let read = finds-then before.gathers c.read_record.ensures.reads (λ found stands kept all one. subst (GathersAs found) (sym is) (
+    gather-refused found slot c.loop-slot.all.items e (subst (ReadsAs (found.bytes slot) slot) c.in_err-found.was one) all
+    (omega (arith, lt, finish.value, ap (λ (j : JournalState). j.extent) before.journal, extent-kept c.loop-slot.records.journal _ found kept.journal stands))
+    (live-zeros c.loop-slot.records _ found slot false kept stands (omega (arith, lt, finish.value, finish.most)) live)
+    )) in
+    subst (λ v. Step v (g.D.Disk.seen c.args.disk.now) (g.D.Disk.seen c.read_record.new.disk) (FindsOut v c.read_record.new.records (λ found. GathersAs found result)))
+    (verdict-same answer result e c.in_err-found.was is) read
 
-pub returns-clause-found : goal.returns-clause-found
-returns-clause-found g c told found stands =
+pub returns-clause-gathers : goal.returns-clause-gathers
+returns-clause-gathers g c =
     let before = c.loop-slot.invariant in
-    let content = (g.D.Disk.seen c.args.disk.now).told.content in
-    let most = c.extent-slot-end.ensures in
-    let end = c.loop-slot-test.false in
-    let kept = c.requires.one_disk told in
-    let size : c.loop-slot.slot ≡ found.extent = omega (arith, end, most.value, c.loop-slot.auto.slot-end, extent-kept c.args.records.now.journal content found kept.journal stands) in
-    let read : AreRead c.loop-slot.all.items found found.extent = subst (λ (n : ℕ). AreRead c.loop-slot.all.items found n) size (before.found told found stands) in
-    record { occupied_by = read.occupied_by; spelled_all = read.spelled_all }
+    let finish = c.extent-slot-end.ensures in
+    let at_end = c.loop-slot-test.false in
+    finds-more before.gathers (λ found stands kept read.
+    let size : c.loop-slot.slot ≡ found.extent =
+    omega (arith, at_end, finish.value, c.loop-slot.auto.slot-end, ap (λ (j : JournalState). j.extent) before.journal, extent-kept c.loop-slot.records.journal _ found kept.journal stands) in
+    let all : AreRead c.loop-slot.all.items found found.extent = subst (λ (n : ℕ). AreRead c.loop-slot.all.items found n) size read in
+    record { occupied_by = all.occupied_by; spelled_all = all.spelled_all }
+    )
 
 slots-now : (live : List Bool) (items : List Found) → map (λ (f : Found). f.slot) items ≡ filter (is_live live) (range_with_len 0 (length live)) → length live ≡ MOST_SLOTS → length items ≤ MOST_SLOTS
 slots-now live items slots sound =
@@ -101,37 +102,31 @@ loop-slot-preserved g c =
           let read = w.in_ok-found.ensures in
           let is : is_live c.args.records.now.live slot ≡ true = sym value ∙ w.if-is_live.true in
           let pushed : now.all.items ≡ items ++ x ∷ [] =
-          ap (λ (v : Vec Found Global). v.items) w.all-is ∙ w.push.ensures.items ∙ cond-true _ _ _ (w.is_err.ensures.negation ∙ ap not w.if-is_err.false) in
+          ap (λ (v : Vec Found Global). v.items) w.all-is ∙ w.push.ensures.items ∙ cond-true (is_ok w.push.result) _ items (w.is_err.ensures.negation ∙ ap not w.if-is_err.false) in
           let same-slots : map (λ (f : Found). f.slot) now.all.items ≡ map (λ (f : Found). f.slot) items ++ slot ∷ [] =
           ap (λ (fs : List Found). map (λ f. f.slot) fs) pushed ∙ map-append (λ (f : Found). f.slot) items (x ∷ []) ∙ ap (λ (k : ℕ). map (λ (f : Found). f.slot) items ++ k ∷ []) read.slot in
+          let gathers = finds-then before.gathers read.reads (λ found stands kept all one.
+          let zeros = live-zeros c.loop-slot.records _ found slot false kept stands within (sym c.is_live.ensures.value ∙ w.if-is_live.true) in
+          AreRead-live items found slot x all zeros one.0 one.1
+          ) in
           record {
-            journal = ap (λ (r : RecordsState). r.journal) w.records-is ∙ read.journal ∙ before.journal;
-            live = ap (λ (r : RecordsState). r.live) w.records-is ∙ read.live ∙ before.live;
-            tells = ap (λ d. (g.D.Disk.seen d).tells) w.disk-is ∙ read.tells ∙ before.tells;
-            faults = ap (λ d. (g.D.Disk.seen d).faults) w.disk-is ∙ read.cause ∙ before.faults;
-            reads = λ told. reads-joined _ _ _ (before.reads told) (subst (λ d. OnlyReads (g.D.Disk.seen c.loop-slot.disk).told (g.D.Disk.seen d).told) (sym w.disk-is) (read.reads (before.tells ∙ told)));
-            found = λ told found stands.
-                let content = (g.D.Disk.seen c.args.disk.now).told.content in
-                let stands' = stands-now content (g.D.Disk.seen c.loop-slot.disk).told.content found (before.reads told).same.content stands in
-                let zeros = live-zeros c.args.records.now content found slot false (c.requires.one_disk told) stands within is in
-                let at = read.found (before.tells ∙ told) found stands' in
-                subst (λ fs. AreRead fs found (slot + 1)) (sym pushed) (AreRead-live items found slot x (before.found told found stands) zeros at.0 at.1);
+            gathers = rw (w.disk-is, w.records-is, pushed) gathers;
+            journal = ap (λ (r : RecordsState). r.journal) w.records-is ∙ read.leaves.journal ∙ before.journal;
+            live = ap (λ (r : RecordsState). r.live) w.records-is ∙ read.leaves.live ∙ before.live;
             usable = subst (λ fs. All (λ (f : Found). IsUsable f.holds) fs) (sym pushed) (All-push (λ (f : Found). IsUsable f.holds) items x before.usable read.usable);
             slots = live-step c.args.records.now.live (map (λ (f : Found). f.slot) items) (map (λ (f : Found). f.slot) now.all.items) slot is before.slots same-slots;
           }
       | else-is_live w ↦
           let is : is_live c.args.records.now.live slot ≡ false = sym value ∙ w.if-is_live.false in
           let kept : now.all.items ≡ items = ap (λ (v : Vec Found Global). v.items) w.all-is in
+          let gathers = finds-more before.gathers (λ found stands kept all.
+          let zeros = live-zeros c.loop-slot.records _ found slot true kept stands within (sym c.is_live.ensures.value ∙ w.if-is_live.false) in
+          AreRead-zeros items found slot all zeros (free-zeros _ found slot stands within zeros)
+          ) in
           record {
+            gathers = rw (w.disk-is, w.records-is, kept) gathers;
             journal = ap (λ (r : RecordsState). r.journal) w.records-is ∙ before.journal;
             live = ap (λ (r : RecordsState). r.live) w.records-is ∙ before.live;
-            tells = ap (λ d. (g.D.Disk.seen d).tells) w.disk-is ∙ before.tells;
-            faults = ap (λ d. (g.D.Disk.seen d).faults) w.disk-is ∙ before.faults;
-            reads = λ told. subst (λ d. OnlyReads (g.D.Disk.seen c.args.disk.now).told (g.D.Disk.seen d).told) (sym w.disk-is) (before.reads told);
-            found = λ told found stands.
-                let content = (g.D.Disk.seen c.args.disk.now).told.content in
-                let zeros = live-zeros c.args.records.now content found slot true (c.requires.one_disk told) stands within is in
-                subst (λ fs. AreRead fs found (slot + 1)) (sym kept) (AreRead-zeros items found slot (before.found told found stands) zeros (free-zeros content found slot stands within zeros));
             usable = subst (λ fs. All (λ (f : Found). IsUsable f.holds) fs) (sym kept) before.usable;
             slots = ap (λ (fs : List Found). map (λ f. f.slot) fs) kept ∙ other-step c.args.records.now.live (map (λ (f : Found). f.slot) items) slot is before.slots;
           }

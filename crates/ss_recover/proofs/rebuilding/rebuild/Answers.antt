@@ -1,9 +1,13 @@
-use Rattle.std.proofs.Common.{Err, ◌∙◌, All, List, length, refl, sym, ap, subst, arith}
+use Rattle.std.proofs.Common.{◌≡◌, Err, ◌∙◌, All, List, length, refl, sym, ap, subst, arith}
 use Rattle.std.proofs.lemmas.Result.{err_from_is_err_and}
 use Rattle.std.proofs.lemmas.List.Sorted.{All-permutation, length_permutation}
+use Rattle.ss_outside.specs.Verdict.{UnlessFailed}
+use Rattle.ss_outside.proofs.StepLemmas.{step-verdict}
+use Rattle.ss_records.specs.Kept.{AreKept}
 use Rattle.ss_recover.specs.Order.{Rises, found_key}
 use Rattle.ss_recover.specs.Walk.{IsUsable, WalksAs}
 use Rattle.ss_recover.specs.declared.found.Found.{Found}
+use Rattle.ss_recover.proofs.GatherLemmas.{verdict-same}
 use Rattle.ss_recover.proofs.OrderLemmas.{Rises-in_order}
 use Rattle.ss_recover.proofs.RebuiltParts.{no-blame, refuses-found, not-disk, on-disk, rebuilds, whole-from_walk}
 use Rattle.ss_recover.proofs.WholeSlots.{HasWholeSlots-StandsFor}
@@ -16,24 +20,39 @@ returns g c =
     let read = c.in_ok-found.ensures in
     let result = c.streams_of.result in
     let walks : WalksAs sorted result = subst (λ (fs : List Found). WalksAs fs result) c.deref.ensures.value c.streams_of.ensures in
-    let content = (g.D.Disk.seen c.args.disk.now).told.content in
+    let order = c.in_ok-sort.ensures.order in
+    let moved = c.sort.ensures.permutation in
+    let step = read.gathers in
     record {
-      carried = λ told found stands.
-          rebuilds found all sorted result (HasWholeSlots-StandsFor content found stands) (read.found told found stands) read.usable c.in_ok-sort.ensures.order c.sort.ensures.permutation walks;
-      whole = whole-from_walk c.args.records.now.live all sorted result read.slots c.sort.ensures.permutation walks;
-      one_disk = λ told. not-disk sorted result _ walks (read.one_disk told);
-      journal = not-disk sorted result _ walks read.journal;
-      live = read.live;
+      rebuilds = record {
+        tells = step.tells;
+        counted = no-blame sorted result _ _ walks step.counted;
+        told = λ told.
+            let finds = step.told told in
+            record {
+              carried = λ found stands.
+                  rebuilds found all sorted result (HasWholeSlots-StandsFor _ found stands) (finds.found found stands) read.usable order moved walks;
+              kept = not-disk sorted result _ walks finds.kept;
+              reads = finds.reads;
+            };
+      };
+      whole = whole-from_walk c.args.records.now.live all sorted result read.slots moved walks;
+      journal = not-disk sorted result _ walks read.leaves.journal;
+      live = read.leaves.live;
       stopped = on-disk sorted result _ walks;
-      reads = read.reads;
-      tells = read.tells;
-      cause = no-blame sorted result _ _ walks read.cause;
     }
 
-pub returns-in_err-found-clause-carried : goal.returns-in_err-found-clause-carried
-returns-in_err-found-clause-carried g c told found stands =
+pub returns-in_err-found-clause-rebuilds : goal.returns-in_err-found-clause-rebuilds
+returns-in_err-found-clause-rebuilds g c =
     let gives = err_from_is_err_and c.from_residual.result c.from_residual.ensures.1 in
-    refuses-found found c.gather.result c.from_residual.result c.in_err-found.field-0.0 (c.gather.ensures.found told found stands) c.in_err-found.was (gives.1 ∙ ap Err gives.2)
+    let e = c.in_err-found.field-0.0 in
+    let is : c.from_residual.result ≡ Err e = gives.1 ∙ ap Err gives.2 in
+    let same = verdict-same c.gather.result c.from_residual.result e c.in_err-found.was is in
+    step-verdict same c.gather.ensures.gathers (λ finds. record {
+      carried = λ found stands. refuses-found found c.gather.result c.from_residual.result e (finds.found found stands) c.in_err-found.was is;
+      kept = subst (λ v. UnlessFailed v (AreKept c.gather.new.records (g.D.Disk.seen c.gather.new.disk).told.content)) same finds.kept;
+      reads = finds.reads;
+    })
 
 pub streams_of-requires-clause-usable : goal.streams_of-requires-clause-usable
 streams_of-requires-clause-usable g c =
