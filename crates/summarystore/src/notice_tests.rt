@@ -20,10 +20,12 @@ fn is_noticed(alloc: Global, words: &[&str], front: &str) -> Result<bool, AllocE
     }
 }
 
-const ROWS: [(&[&str], &str); 8] = [
+const ROWS: [(&[&str], &str); 10] = [
     (&["summarystore", "--help"], "usage: "),
     (&["summarystore", "-h"], "usage: "),
     (&["summarystore", "--version"], "summarystore "),
+    (&["summarystore", "-V"], "summarystore "),
+    (&["summarystore", "-v"], ""),
     (&["summarystore", "./--help"], ""),
     (&["summarystore", "--Help"], ""),
     (&["summarystore", "--help", "run"], ""),
