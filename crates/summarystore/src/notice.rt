@@ -1,7 +1,8 @@
 // What is printed where it is the only argument that asks for it.
 ghost use Rattle.std.specs.Prelude.{◌≡◌, ◌⊎◌, ◌↔◌, IsSome, codes};
 
-const HELP: &str = "\
+/// The help text.
+pub const HELP: &str = "\
 usage: summarystore STORE [run | check | gen SEED COUNT]
 
 Reads commands from standard input, one a line, and replies to each on standard
