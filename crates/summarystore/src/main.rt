@@ -14,6 +14,7 @@ mod notice;
 #[cfg(test)]
 mod notice_tests;
 mod opening;
+mod options;
 mod reading;
 mod reason;
 mod system;
@@ -25,12 +26,15 @@ use file_disk::FileDisk;
 use host_system::HostSystem;
 use notice::notice;
 use opening::Missing;
+use options::take_options;
 use ss_program::{Status, exit_code, run};
+use ss_watch::{Terminals, Watch, Watched};
 use std::alloc::{AllocError, Global};
-use std::fs::File;
-use std::io::ErrorKind;
+use std::cell::RefCell;
+use std::fs::{self, File};
+use std::io::{ErrorKind, IsTerminal};
 use std::process::ExitCode;
-use std::rt::{Env, Files};
+use std::rt::{Clock, Env, Files};
 use std::{env, io};
 use telling::{print_notice, tell, tell_run};
 
@@ -55,10 +59,53 @@ fn missing_for(words: &[String]) -> Missing {
     }
 }
 
-// The exit status of a run over the store's file, standard input and standard output, or of a notice. Arguments that
-// can't be read as text count as none.
-fn run_program<R: Env + AllocGlobal + Input + Print + Eprint + Files<File = File>>(rt: &R) -> u8 {
-    let words = match read_words(rt) {
+// Whether nothing has this path yet.
+fn is_free<R: Files>(rt: &R, path: &str) -> bool {
+    match fs::metadata(rt, path) {
+        Ok(_) => false,
+        Err(error) => error.kind() == ErrorKind::NotFound,
+    }
+}
+
+// The exit status of a run over the store's file, standard input and standard output, which is told.
+fn run_over<R: AllocGlobal + Input + Print + Eprint + Files<File = File>>(
+    rt: &R,
+    words: &[String],
+    path: String,
+) -> u8 {
+    let mut disk = FileDisk::new(HostSystem::new(rt), path, missing_for(words));
+    let mut source = StdSource::new(rt);
+    let mut sink = StdSink::new(rt);
+    let number = run(rt.alloc(), words, &mut disk, &mut source, &mut sink);
+    tell_run(rt, number, &disk, source.why().or(sink.why()))
+}
+
+// The same, watched.
+fn run_watched<R: AllocGlobal + Input + Print + Eprint + Clock + Files<File = File>>(
+    rt: &R,
+    words: &[String],
+    path: String,
+    watch: Watch<'_, R>,
+) -> u8 {
+    let watch = RefCell::new(watch);
+    let disk = FileDisk::new(HostSystem::new(rt), path, missing_for(words));
+    let mut disk = Watched::new(disk, &watch);
+    let mut source = Watched::new(StdSource::new(rt), &watch);
+    let mut sink = Watched::new(StdSink::new(rt), &watch);
+    let number = run(rt.alloc(), words, &mut disk, &mut source, &mut sink);
+    if let Ok(mut watch) = watch.try_borrow_mut() {
+        watch.finish();
+    }
+    let why = source.device().why().or(sink.device().why());
+    tell_run(rt, number, disk.device(), why)
+}
+
+// The exit status of a run, or of a notice. Arguments that can't be read as text count as none.
+fn run_program<R: Env + AllocGlobal + Input + Print + Eprint + Clock + Files<File = File>>(
+    rt: &R,
+    terminals: Terminals,
+) -> u8 {
+    let mut words = match read_words(rt) {
         Ok(words) => words,
         Err(error) if error.kind() == ErrorKind::OutOfMemory => return tell(
             rt,
@@ -67,20 +114,29 @@ fn run_program<R: Env + AllocGlobal + Input + Print + Eprint + Files<File = File
         ),
         Err(_) => Vec::new(rt.alloc()),
     };
-    let mut sink = StdSink::new(rt);
     if let Some(text) = notice(&words) {
+        let mut sink = StdSink::new(rt);
         let number = print_notice(&mut sink, text);
         return tell(rt, number, sink.why());
     }
-    let Ok(path) = path_of(rt.alloc(), &words) else {
+    let options = take_options(&mut words);
+    let (Ok(path), Ok(shown)) = (path_of(rt.alloc(), &words), path_of(rt.alloc(), &words)) else {
         return tell(rt, Status::OutOfMemory.number(), None);
     };
-    let mut disk = FileDisk::new(HostSystem::new(rt), path, missing_for(&words));
-    let mut source = StdSource::new(rt);
-    let number = run(rt.alloc(), &words, &mut disk, &mut source, &mut sink);
-    tell_run(rt, number, &disk, source.why().or(sink.why()))
+    let is_new = (terminals.input || terminals.error) && is_free(rt, path.as_str());
+    let watch = Watch::new(rt, shown.as_str(), is_new, options.explains, terminals);
+    if watch.hears() {
+        run_watched(rt, &words, path, watch)
+    } else {
+        run_over(rt, &words, path)
+    }
 }
 
 fn main(rt: HostRuntime) -> ExitCode {
-    exit_code(run_program(&rt))
+    let terminals = Terminals {
+        input: rt.stdin().is_terminal(),
+        output: rt.stdout().is_terminal(),
+        error: rt.stderr().is_terminal(),
+    };
+    exit_code(run_program(&rt, terminals))
 }

@@ -1,7 +1,8 @@
 // What is printed where it is the only argument that asks for it.
 ghost use Rattle.std.specs.Prelude.{◌≡◌, ◌⊎◌, ◌↔◌, IsSome, codes};
 
-const HELP: &str = "\
+/// The help text.
+pub const HELP: &str = "\
 usage: summarystore STORE [run | check | gen SEED COUNT]
 
 Reads commands from standard input, one a line, and replies to each on standard
@@ -43,9 +44,10 @@ Exit statuses:
      of it failed, or another             when it was written
      program uses it
 
-  summarystore --help, -h       prints this text
-  summarystore --version        prints the version
-A store with such a name is ./--help. Documents: README.md, docs/GUIDE.md.
+  summarystore --help, -h     prints this text
+  summarystore --version, -V  prints the version
+A store whose name begins with - is ./-NAME.
+Documents: README.md, docs/GUIDE.md.
 ";
 
 const VERSION: &str = "summarystore 0.1.0\n";
@@ -53,12 +55,13 @@ const VERSION: &str = "summarystore 0.1.0\n";
 // What this asks for as the only argument.
 fn asked_for(word: &str) -> Option<&'static str>
     ensures { IsSome result
-        ↔ (word.now ≡ codes "--help") ⊎ (word.now ≡ codes "-h") ⊎ (word.now ≡ codes "--version") }
+        ↔ (word.now ≡ codes "--help") ⊎ (word.now ≡ codes "-h")
+        ⊎ (word.now ≡ codes "--version") ⊎ (word.now ≡ codes "-V") }
 {
     if word == "--help" || word == "-h" {
         return Some(HELP);
     }
-    if word == "--version" {
+    if word == "--version" || word == "-V" {
         return Some(VERSION);
     }
     None

@@ -1,5 +1,11 @@
 // Which arguments ask for a notice.
-use crate::notice::notice;
+use crate::notice::{HELP, notice};
+use ss_catalog::{
+    GREATEST_BASE, GREATEST_POWER, GREATEST_SCALE, GREATEST_WIDENING, LAST_TIME, LONGEST_NAME,
+};
+use ss_generator::MOST_COUNT;
+use ss_program::LONGEST_INPUT;
+use ss_watch::MOST_EXPLAINED;
 use std::alloc::{AllocError, Global};
 use std::test::Fail;
 
@@ -20,10 +26,12 @@ fn is_noticed(alloc: Global, words: &[&str], front: &str) -> Result<bool, AllocE
     }
 }
 
-const ROWS: [(&[&str], &str); 8] = [
+const ROWS: [(&[&str], &str); 10] = [
     (&["summarystore", "--help"], "usage: "),
     (&["summarystore", "-h"], "usage: "),
     (&["summarystore", "--version"], "summarystore "),
+    (&["summarystore", "-V"], "summarystore "),
+    (&["summarystore", "-v"], ""),
     (&["summarystore", "./--help"], ""),
     (&["summarystore", "--Help"], ""),
     (&["summarystore", "--help", "run"], ""),
@@ -36,5 +44,39 @@ fn a_notice_is_printed_where_it_is_the_only_argument(rt: HostRuntime) -> Result<
     for (words, front) in ROWS {
         assert!(rt; is_noticed(rt.alloc(), words, front)?);
     }
+    Ok(())
+}
+
+// What the help text says of the parameters, the names and the times.
+fn limits(alloc: Global) -> Result<String, AllocError> {
+    let bits = LAST_TIME.trailing_zeros();
+    format!(in alloc;
+        "NAME has up to {LONGEST_NAME} letters, digits, _, - and . in it. B is 2 to {GREATEST_BASE}, P 1 to {GREATEST_POWER}, Q 0\n\
+        to {GREATEST_WIDENING}, R and S are 1 to {GREATEST_SCALE}, times are 0 to 2^{bits}, and values have 64 bits"
+    )
+}
+
+// What it says of the count of `gen`.
+fn most_values(alloc: Global) -> Result<String, AllocError> {
+    format!(in alloc; "COUNT values, 1 to {MOST_COUNT}, made from SEED")
+}
+
+// What it says of `--explain`.
+fn most_explained(alloc: Global) -> Result<String, AllocError> {
+    format!(in alloc; "for the first {MOST_EXPLAINED} of")
+}
+
+// What it says of the input.
+fn longest_input(alloc: Global) -> Result<String, AllocError> {
+    let bits = LONGEST_INPUT.trailing_zeros();
+    format!(in alloc; "the input has more than 2^{bits} bytes")
+}
+
+#[test]
+fn the_help_text_has_the_limits_of_the_crates(rt: HostRuntime) -> Result<(), Fail> {
+    assert!(rt; HELP.contains(limits(rt.alloc())?.as_str()));
+    assert!(rt; HELP.contains(most_values(rt.alloc())?.as_str()));
+    assert!(rt; HELP.contains(most_explained(rt.alloc())?.as_str()));
+    assert!(rt; HELP.contains(longest_input(rt.alloc())?.as_str()));
     Ok(())
 }

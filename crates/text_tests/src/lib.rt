@@ -7,6 +7,8 @@ mod arguments;
 #[cfg(test)]
 mod catalog;
 #[cfg(test)]
+mod explained;
+#[cfg(test)]
 mod generator;
 #[cfg(test)]
 mod lines;

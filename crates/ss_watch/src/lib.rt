@@ -1,0 +1,21 @@
+//! What standard error says while the program runs: why lines are refused, how far the run is, and which store it is.
+#![tactic(auto)]
+
+mod explain;
+mod last_times;
+mod numbers;
+mod progress;
+mod reasons;
+mod replies;
+mod syntax;
+mod terminals;
+mod waiting;
+mod watch;
+mod watched;
+mod words;
+
+pub use explain::{Counts, Explained, Explainer, MOST_EXPLAINED};
+pub use progress::{Done, progress_text};
+pub use terminals::Terminals;
+pub use watch::Watch;
+pub use watched::Watched;

@@ -1,0 +1,84 @@
+// Which word of a line isn't a number in its range.
+use crate::words::{has_digits_alone, word_at};
+use ss_catalog::LAST_TIME;
+use ss_fields::{read_i64, read_u64};
+use std::alloc::{AllocError, Global};
+
+// What a number stands for.
+#[derive(Clone, Copy)]
+enum Number {
+    Time,
+    Value,
+    Parameter,
+}
+
+// What the number at a place of a command stands for, where one stands there. Places are counted from 0.
+fn number_at(verb: &str, place: usize) -> Option<Number> {
+    if verb == "create" && place >= 3 {
+        Some(Number::Parameter)
+    } else if verb == "append" && place == 3 {
+        Some(Number::Value)
+    } else if verb == "append" && place == 2
+        || (verb == "landmark" || verb == "query") && place >= 3
+    {
+        Some(Number::Time)
+    } else {
+        None
+    }
+}
+
+// Whether a word is a number of digits up to this one.
+fn is_up_to(word: &str, most: u64) -> bool {
+    match read_u64(word.as_bytes()) {
+        Ok(number) => number <= most,
+        Err(_) => false,
+    }
+}
+
+// Whether a word is such a number.
+fn is_number(word: &str, number: Number) -> bool {
+    match number {
+        Number::Time => is_up_to(word, LAST_TIME),
+        Number::Value => read_i64(word.as_bytes()).is_ok(),
+        Number::Parameter => is_up_to(word, u64::from(u32::MAX)),
+    }
+}
+
+// The first word that isn't the number that it is to be.
+fn first_wrong<'a>(words: &[&'a str]) -> Option<(&'a str, Number)> {
+    let verb = word_at(words, 0);
+    for (place, word) in words.iter().enumerate() {
+        if let Some(number) = number_at(verb, place) {
+            if !is_number(word, number) {
+                return Some((*word, number));
+            }
+        }
+    }
+    None
+}
+
+// Whether a word is a whole number, also one that is out of range.
+fn is_whole(word: &str) -> bool {
+    has_digits_alone(word.strip_prefix('-').unwrap_or(word))
+}
+
+// The range of numbers that stand for this.
+fn range(alloc: Global, number: Number) -> Result<String, AllocError> {
+    match number {
+        Number::Time => format!(in alloc; "0 to {LAST_TIME}, as times are"),
+        Number::Value => format!(in alloc; "{} to {}, as values are", i64::MIN, i64::MAX),
+        Number::Parameter => format!(in alloc; "0 to {}, as parameters are", u32::MAX),
+    }
+}
+
+/// Why a number of these words is none, or is out of its range.
+pub fn number_reason(alloc: Global, words: &[&str]) -> Result<String, AllocError> {
+    match first_wrong(words) {
+        None => String::from_str(alloc, "a number is out of its range"),
+        Some((word, number)) if is_whole(word) => {
+            let range = range(alloc, number)?;
+            format!(in alloc; "{word} isn't within {range}")
+        }
+        Some((word, _)) => format!(in alloc; "{word} isn't a whole number"),
+    }
+}

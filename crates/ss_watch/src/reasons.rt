@@ -1,0 +1,161 @@
+// Why a line was refused, in words.
+use crate::numbers::number_reason;
+use crate::syntax::syntax;
+use crate::words::{shown, word_at, words_of};
+use ss_catalog::{
+    Event, GREATEST_BASE, GREATEST_POWER, GREATEST_SCALE, GREATEST_WIDENING, LONGEST_NAME,
+    MOST_STREAMS, Name, Params, Refusal,
+};
+use ss_command::{Command, LONGEST_LINE};
+use std::alloc::{AllocError, Global};
+
+// A line that was refused for what it is by itself.
+fn of_words(alloc: Global, line: &[u8], refusal: Refusal) -> Result<String, AllocError> {
+    let text = shown(alloc, line)?;
+    let words = words_of(alloc, text.as_str())?;
+    match refusal {
+        Refusal::Syntax => syntax(alloc, words.as_slice()),
+        Refusal::Number => number_reason(alloc, words.as_slice()),
+        _ => name(alloc, word_at(words.as_slice(), 1)),
+    }
+}
+
+// Why a word is no name.
+fn name(alloc: Global, word: &str) -> Result<String, AllocError> {
+    if Name::of(word.as_bytes()).is_none() && word.len() > LONGEST_NAME {
+        format!(in alloc; "the name {word} is longer than {LONGEST_NAME} letters")
+    } else {
+        format!(in alloc;
+            "the name {word} has something else in it than letters, digits, _, - and ."
+        )
+    }
+}
+
+// A parameter that is out of its range: its letter, itself, and the least and the greatest that it can be.
+fn outside(
+    letter: &'static str,
+    value: u32,
+    least: u32,
+    greatest: u32,
+) -> Option<(&'static str, u32, u32, u32)> {
+    if value < least || value > greatest {
+        Some((letter, value, least, greatest))
+    } else {
+        None
+    }
+}
+
+// The first parameter that is out of its range.
+fn first_outside(params: &Params) -> Option<(&'static str, u32, u32, u32)> {
+    match *params {
+        Params::Exp { b, r, s } => outside("B", b, 2, GREATEST_BASE)
+            .or(outside("R", r, 1, GREATEST_SCALE))
+            .or(outside("S", s, 1, GREATEST_SCALE)),
+        Params::Power { p, q, r, s } => outside("P", p, 1, GREATEST_POWER)
+            .or(outside("Q", q, 0, GREATEST_WIDENING))
+            .or(outside("R", r, 1, GREATEST_SCALE))
+            .or(outside("S", s, 1, GREATEST_SCALE)),
+    }
+}
+
+// Why no target has these parameters.
+fn params(alloc: Global, params: &Params) -> Result<String, AllocError> {
+    match first_outside(params) {
+        Some((letter, value, least, greatest)) => {
+            format!(in alloc; "{letter} is {value}, and can be {least} to {greatest}")
+        }
+        None => String::from_str(alloc, "no target has these parameters"),
+    }
+}
+
+// The stream that an event is for.
+fn name_of_event(event: &Event) -> &Name {
+    match event {
+        Event::Create { name, .. } => name,
+        Event::Value { name, .. } => name,
+        Event::Open { name, .. } => name,
+        Event::Close { name, .. } => name,
+    }
+}
+
+// The stream that a command is for, or the empty text where it is for all.
+fn stream_of(command: &Command) -> &str {
+    match command {
+        Command::Do(event) => name_of_event(event).as_str(),
+        Command::Ask(query) => query.name.as_str(),
+        Command::Windows(name) => name.as_str(),
+        Command::List => "",
+    }
+}
+
+// Why a time is refused, where the last time of the stream may be known.
+fn time(
+    alloc: Global,
+    t: u64,
+    rule: &str,
+    stream: &str,
+    last: Option<u64>,
+) -> Result<String, AllocError> {
+    match last {
+        Some(last) => format!(in alloc; "{t} {rule} the last time of {stream}, {last}"),
+        None => format!(in alloc; "{t} {rule} the last time of {stream}"),
+    }
+}
+
+// Why an event is refused for its parameters or its time.
+fn of_event(alloc: Global, event: &Event, last: Option<u64>) -> Result<String, AllocError> {
+    let stream = name_of_event(event).as_str();
+    match event {
+        Event::Create { params: given, .. } => params(alloc, given),
+        Event::Value { t, .. } => time(alloc, *t, "isn't later than", stream, last),
+        Event::Open { t, .. } => time(alloc, *t, "isn't later than", stream, last),
+        Event::Close { t, .. } => time(alloc, *t, "is before", stream, last),
+    }
+}
+
+// A command that was refused for what the store holds, or for its parameters or its times.
+fn of_command(
+    alloc: Global,
+    command: &Command,
+    refusal: Refusal,
+    last: Option<u64>,
+) -> Result<String, AllocError> {
+    let stream = stream_of(command);
+    match (refusal, command) {
+        (Refusal::Exists, _) => format!(in alloc; "a stream named {stream} stands already"),
+        (Refusal::Streams, _) => format!(in alloc;
+            "the store takes no more than {MOST_STREAMS} streams"
+        ),
+        (Refusal::Unknown, _) => format!(in alloc; "no stream is named {stream}"),
+        (Refusal::Open, _) => format!(in alloc; "a landmark of {stream} is open already"),
+        (Refusal::NotOpen, _) => format!(in alloc; "no landmark of {stream} is open"),
+        (Refusal::StreamFull, _) => format!(in alloc;
+            "{stream} takes no more values outside landmarks"
+        ),
+        (Refusal::StoreFull, _) => String::from_str(alloc, "the store takes no more records"),
+        (_, Command::Do(event)) => of_event(alloc, event, last),
+        (_, Command::Ask(query)) => {
+            format!(in alloc;
+                "the range ends before it begins: {} is later than {}",
+                query.from, query.to
+            )
+        }
+        _ => String::from_str(alloc, "it can't be done"),
+    }
+}
+
+/// Why a line was refused, in words. A line that was too long isn't there. The last time of its stream is there where it
+/// is known.
+pub fn reason(
+    alloc: Global,
+    line: Option<&[u8]>,
+    command: Option<&Command>,
+    refusal: Refusal,
+    last: Option<u64>,
+) -> Result<String, AllocError> {
+    match (line, command) {
+        (None, _) => format!(in alloc; "the line has more than {LONGEST_LINE} bytes"),
+        (Some(_), Some(command)) => of_command(alloc, command, refusal, last),
+        (Some(line), None) => of_words(alloc, line, refusal),
+    }
+}

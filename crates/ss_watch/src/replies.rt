@@ -1,0 +1,57 @@
+// What a reply says, as far as it is needed to tell which line it is to.
+use ss_catalog::Refusal;
+use std::str;
+
+const REFUSALS: [Refusal; 14] = [
+    Refusal::Line,
+    Refusal::Syntax,
+    Refusal::Number,
+    Refusal::Name,
+    Refusal::Param,
+    Refusal::Exists,
+    Refusal::Streams,
+    Refusal::Unknown,
+    Refusal::Open,
+    Refusal::NotOpen,
+    Refusal::Time,
+    Refusal::Range,
+    Refusal::StreamFull,
+    Refusal::StoreFull,
+];
+
+/// What the first line of a reply says.
+#[derive(Clone, Copy)]
+pub enum Said {
+    Refused(Refusal),
+    /// Something else, after which so many rows follow.
+    Rows(u64),
+}
+
+// The refusal of a name.
+fn refusal_named(name: &str) -> Option<Refusal> {
+    REFUSALS
+        .iter()
+        .copied()
+        .find(|refusal| refusal.text() == name)
+}
+
+// How many rows follow after a head.
+fn rows_after(head: &str) -> u64 {
+    let count = head.strip_prefix("windows ").or(head.strip_prefix("list "));
+    match count {
+        Some(count) => count.parse::<u64>().unwrap_or(0),
+        None => 0,
+    }
+}
+
+/// What the first line of a reply says, given with its line end.
+pub fn read_reply(reply: &[u8]) -> Said {
+    let text = str::from_utf8(reply).unwrap_or("").trim_end();
+    match text
+        .strip_prefix("refused ")
+        .and_then(|name| refusal_named(name))
+    {
+        Some(refusal) => Said::Refused(refusal),
+        None => Said::Rows(rows_after(text)),
+    }
+}

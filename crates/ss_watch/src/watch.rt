@@ -1,0 +1,210 @@
+// What standard error says while the program runs: why lines are refused, how far the run is, and which store it is.
+use crate::explain::{Counts, Explained, Explainer, MOST_EXPLAINED};
+use crate::progress::{Done, Progress, WIDTH, progress_text};
+use crate::terminals::Terminals;
+use std::alloc::{AllocError, Global};
+use std::rt::Clock;
+
+// What is said to who types commands.
+const HINT: &str = "Commands go one a line: summarystore --help lists them, and Ctrl-D ends.\n";
+
+/// Watches a run from beside it, and says on standard error what a person wants to know. It is told what the devices
+/// did, after they did it, and changes nothing of it.
+#[derive(Drop)]
+pub struct Watch<'a, R> {
+    rt: &'a R,
+    store: &'a str,
+    terminals: Terminals,
+    explains: bool,
+    // Whether the store is made by this run, and that has still to be said.
+    is_new: bool,
+    // Whether it still has to be said how commands are typed.
+    greets: bool,
+    // Whether a part of a line of a reply was written, and the rest wasn't.
+    is_inside: bool,
+    explainer: Explainer,
+    progress: Progress,
+    read: u64,
+    length: u64,
+    syncs: u64,
+}
+
+// What is said at the end, where so many refused lines weren't explained.
+fn ending(alloc: Global, counts: Counts, more: u64) -> Result<String, AllocError> {
+    let (refused, lines) = (counts.refused, counts.lines);
+    if more > 0 {
+        format!(in alloc; "and {more} more\n{refused} of {lines} lines refused\n")
+    } else {
+        format!(in alloc; "{refused} of {lines} lines refused\n")
+    }
+}
+
+impl<'a, R: Eprint + Clock + AllocGlobal> Watch<'a, R> {
+    /// The watch of a run over the store of this path. Where it says that the store is new, that is told once the first
+    /// bytes are written to it.
+    pub fn new(
+        rt: &'a R,
+        store: &'a str,
+        is_new: bool,
+        explains: bool,
+        terminals: Terminals,
+    ) -> Watch<'a, R> {
+        let most = if terminals.input {
+            u64::MAX
+        } else {
+            MOST_EXPLAINED
+        };
+        Watch {
+            rt,
+            store,
+            terminals,
+            explains: explains || terminals.error,
+            is_new,
+            greets: terminals.input,
+            is_inside: false,
+            explainer: Explainer::new(rt.alloc(), most),
+            progress: Progress::new(),
+            read: 0,
+            length: 0,
+            syncs: 0,
+        }
+    }
+
+    /// Whether there is anything to say in this run.
+    pub fn hears(&self) -> bool {
+        self.explains || self.terminals.input
+    }
+
+    // Writes a text to standard error. Where memory ran out, or standard error takes nothing, nobody hears it.
+    fn print(&self, text: Result<String, AllocError>) {
+        if let Ok(text) = text {
+            let _ = self.rt.eprint(text.as_str());
+        }
+    }
+
+    // Takes the line of progress away.
+    fn clear(&mut self) {
+        if self.progress.is_shown {
+            self.progress.is_shown = false;
+            self.print(format!(in self.rt.alloc(); "\r{:WIDTH$}\r", ""));
+        }
+    }
+
+    // Shows how far the run is, where that is due. A person who types sees it by the replies.
+    fn renew(&mut self) {
+        if !self.terminals.error || self.terminals.input && self.explainer.counts().lines > 0 {
+            return;
+        }
+        let Some(time) = self.progress.due(self.rt) else {
+            return;
+        };
+        let done = Done {
+            counts: self.explainer.counts(),
+            read: self.read,
+            length: self.length,
+            syncs: self.syncs,
+        };
+        self.progress.is_shown = true;
+        self.print(progress_text(self.rt.alloc(), &done, time));
+    }
+
+    // Says that the store was made.
+    fn announce(&mut self) {
+        if self.is_new {
+            self.is_new = false;
+            self.clear();
+            let store = self.store;
+            self.print(format!(in self.rt.alloc(); "summarystore: made a new store: {store}\n"));
+        }
+    }
+
+    // Says how commands are typed.
+    fn greet(&mut self) {
+        let store = self.store;
+        self.print(format!(in self.rt.alloc(); "summarystore: the store {store} is open\n{HINT}"));
+    }
+
+    /// The input is about to be read.
+    pub fn begin_read(&mut self) {
+        if self.explainer.counts().lines == 0 {
+            self.progress.restart(self.rt);
+        }
+        if self.greets {
+            self.greets = false;
+            self.clear();
+            self.greet();
+        }
+    }
+
+    /// These bytes of the input were read, and none at its end.
+    pub fn end_read(&mut self, bytes: &[u8]) {
+        self.explainer.read(bytes);
+        self.renew();
+    }
+
+    /// A piece of a reply is about to be written.
+    pub fn begin_put(&mut self) {
+        if self.terminals.output {
+            self.clear();
+        }
+    }
+
+    // Says why a line was refused.
+    fn say(&mut self, explained: &Explained) {
+        self.clear();
+        let (number, name, reason) = (
+            explained.number,
+            explained.refusal.text(),
+            explained.reason.as_str(),
+        );
+        self.print(format!(in self.rt.alloc(); "line {number}: {name}: {reason}\n"));
+    }
+
+    /// So many bytes of a piece of a reply were written.
+    pub fn end_put(&mut self, piece: &[u8], count: usize) {
+        let is_first = !self.is_inside;
+        self.is_inside = count < piece.len();
+        if is_first {
+            let explained = self.explainer.reply(piece);
+            if let Some(explained) = explained
+                && self.explains
+            {
+                self.say(&explained);
+            }
+        }
+        self.renew();
+    }
+
+    /// So many bytes of the store were read, or its length.
+    pub fn end_disk_read(&mut self, count: usize) {
+        self.read = self.read.saturating_add(count as u64);
+        self.renew();
+    }
+
+    /// The store has so many bytes.
+    pub fn end_len(&mut self, length: u64) {
+        self.length = length;
+    }
+
+    /// Something was written to the store.
+    pub fn end_write(&mut self) {
+        self.announce();
+    }
+
+    /// What was written to the store is durable.
+    pub fn end_sync(&mut self) {
+        self.syncs = self.syncs.saturating_add(1);
+        self.renew();
+    }
+
+    /// Says at the end how many lines were refused.
+    pub fn finish(&mut self) {
+        self.clear();
+        let counts = self.explainer.counts();
+        if counts.refused == 0 || !self.explains {
+            return;
+        }
+        let more = counts.refused.saturating_sub(self.explainer.most());
+        self.print(ending(self.rt.alloc(), counts, more));
+    }
+}

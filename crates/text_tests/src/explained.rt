@@ -1,0 +1,171 @@
+// Lines of an input with the replies to them, and why the refused ones were refused.
+use crate::tables::{Text, cut, pass, write, write_number};
+use arrayvec::ArrayVec;
+use ss_watch::Explainer;
+use std::alloc::Global;
+use std::test::Fail;
+
+// A text with '/' for a line end.
+fn meant(signs: &[u8], out: &mut Text) {
+    for sign in signs {
+        match *sign {
+            b'/' => write(b"\n", out),
+            other => write(&[other], out),
+        }
+    }
+}
+
+// Takes an input to its end.
+fn read(explainer: &mut Explainer, signs: &[u8]) {
+    let mut input = ArrayVec::new();
+    meant(signs, &mut input);
+    explainer.read(input.as_slice());
+    explainer.read(&[]);
+}
+
+// Takes a line of a reply, and writes what is explained.
+fn reply(explainer: &mut Explainer, line: &[u8], out: &mut Text) {
+    let mut text = ArrayVec::new();
+    write(line, &mut text);
+    write(b"\n", &mut text);
+    if let Some(explained) = explainer.reply(text.as_slice()) {
+        write_number(explained.number, out);
+        write(b" ", out);
+        write(explained.refusal.text().as_bytes(), out);
+        write(b": ", out);
+        write(explained.reason.as_str().as_bytes(), out);
+        write(b";", out);
+    }
+}
+
+// Takes the lines of all replies, of which each ends with '/'.
+fn reply_all(explainer: &mut Explainer, signs: &[u8], out: &mut Text) {
+    let mut rest = signs;
+    for _ in 0..signs.len() {
+        let (line, later) = cut(rest, b'/');
+        if !line.is_empty() {
+            reply(explainer, line, out);
+        }
+        rest = later;
+    }
+}
+
+// A row has the lines of an input, '>', the replies to them, '=', and what is explained. At most two lines are.
+fn is_right(alloc: Global, row: &[u8]) -> bool {
+    let (session, want) = cut(row, b'=');
+    let (input, replies) = cut(session, b'>');
+    let mut explainer = Explainer::new(alloc, 2);
+    let mut out = ArrayVec::new();
+    read(&mut explainer, input);
+    reply_all(&mut explainer, replies, &mut out);
+    out.as_slice() == want
+}
+
+// The first row that is wrong.
+fn first_wrong(alloc: Global, table: &[u8]) -> Option<u32> {
+    let mut rest = table;
+    for row in 0..1000 {
+        if rest.is_empty() {
+            return None;
+        }
+        let (line, later) = cut(rest, b'\n');
+        if !is_right(alloc, line) {
+            return Some(row);
+        }
+        rest = later;
+    }
+    Some(1000)
+}
+
+// Lines that fit no form.
+#[test]
+fn forms(rt: HostRuntime) -> Result<(), Fail> {
+    pass(first_wrong(
+        rt.alloc(),
+        b"2026-01-01,5/>refused SYNTAX/=1 SYNTAX: no command begins with \"2026-01-01,5\";\n\
+        List/>refused SYNTAX/=1 SYNTAX: no command begins with \"List\": commands are in small letters;\n\
+        \xef\xbb\xbflist/>refused SYNTAX/=1 SYNTAX: no command begins with \"\\xef\\xbb\\xbflist\": \
+        a byte order mark stands before it, and the file has to be saved without one;\n\
+        \xff\xfel\0/>refused SYNTAX/=1 SYNTAX: no command begins with \"\\xff\\xfel\\x00\": \
+        the file is in UTF-16, and has to be saved as UTF-8 or ASCII;\n\
+        help/>refused SYNTAX/=1 SYNTAX: no command begins with \"help\": summarystore --help lists the commands;\n\
+        quit/>refused SYNTAX/=1 SYNTAX: no command begins with \"quit\": \
+        the run ends where its input ends, at a terminal by Ctrl-D;\n\
+        append a 1/>refused SYNTAX/=1 SYNTAX: append NAME T V has 4 words, and this line has 3;\n\
+        \t append\ta 1 2 3/>refused SYNTAX/=1 SYNTAX: append NAME T V has 4 words, and this line has 5;\n\
+        windows/>refused SYNTAX/=1 SYNTAX: windows NAME has 2 words, and this line has 1;\n\
+        list a/>refused SYNTAX/=1 SYNTAX: list has 1 word, and this line has 2;\n\
+        create a/>refused SYNTAX/=1 SYNTAX: a create is create NAME exp B R S, or create NAME power P Q R S;\n\
+        create a linear 1/>refused SYNTAX/=1 SYNTAX: \"linear\" is neither exp nor power: \
+        create NAME exp B R S, or create NAME power P Q R S;\n\
+        create a exp 2 1/>refused SYNTAX/=1 SYNTAX: create NAME exp B R S has 6 words, and this line has 5;\n\
+        create a power 1 0 1/>refused SYNTAX/=1 SYNTAX: create NAME power P Q R S has 7 words, and this line has 6;\n\
+        landmark a open/>refused SYNTAX/=1 SYNTAX: landmark NAME open T, or close T, has 4 words, and this line has 3;\n\
+        landmark a shut 1/>refused SYNTAX/=1 SYNTAX: \"shut\" is neither open nor close;\n\
+        query a sum 1/>refused SYNTAX/=1 SYNTAX: query NAME count T1 T2, or sum, min or max, has 5 words, \
+        and this line has 4;\n\
+        query a mean 1 2/>refused SYNTAX/=1 SYNTAX: \"mean\" is none of count, sum, min and max;\n",
+    ))
+}
+
+// Words that are no numbers or names, and parameters that no target has.
+#[test]
+fn words(rt: HostRuntime) -> Result<(), Fail> {
+    pass(first_wrong(
+        rt.alloc(),
+        b"append a 1 21.5/>refused NUMBER/=1 NUMBER: 21.5 isn't a whole number;\n\
+        append a -1 x/>refused NUMBER/=1 NUMBER: -1 isn't within 0 to 4611686018427387904, as times are;\n\
+        append a 1 +1/>refused NUMBER/=1 NUMBER: +1 isn't a whole number;\n\
+        append a 1 9223372036854775808/>refused NUMBER/=1 NUMBER: 9223372036854775808 isn't within \
+        -9223372036854775808 to 9223372036854775807, as values are;\n\
+        landmark a open 4611686018427387905/>refused NUMBER/=1 NUMBER: 4611686018427387905 isn't within \
+        0 to 4611686018427387904, as times are;\n\
+        query a sum 1 now/>refused NUMBER/=1 NUMBER: now isn't a whole number;\n\
+        create a exp 2 1 4294967296/>refused NUMBER/=1 NUMBER: 4294967296 isn't within \
+        0 to 4294967295, as parameters are;\n\
+        append x! 1 1/>refused NAME/=1 NAME: the name x! has something else in it than letters, digits, _, - and .;\n\
+        windows abcdefghijklmnopqrstuvwxyz0123456/>refused NAME/=1 NAME: \
+        the name abcdefghijklmnopqrstuvwxyz0123456 is longer than 32 letters;\n\
+        create a exp 1 0 1/>refused PARAM/=1 PARAM: B is 1, and can be 2 to 16;\n\
+        create a exp 2 0 1/>refused PARAM/=1 PARAM: R is 0, and can be 1 to 65536;\n\
+        create a power 5 0 1 1/>refused PARAM/=1 PARAM: P is 5, and can be 1 to 4;\n\
+        create a power 1 4 1 1/>refused PARAM/=1 PARAM: Q is 4, and can be 0 to 3;\n\
+        create a power 1 0 1 65537/>refused PARAM/=1 PARAM: S is 65537, and can be 1 to 65536;\n",
+    ))
+}
+
+// What the store holds.
+#[test]
+fn states(rt: HostRuntime) -> Result<(), Fail> {
+    pass(first_wrong(
+        rt.alloc(),
+        b"create a exp 2 1 1/>refused EXISTS/=1 EXISTS: a stream named a stands already;\n\
+        create a exp 2 1 1/>refused STREAMS/=1 STREAMS: the store takes no more than 4096 streams;\n\
+        windows rom/>refused UNKNOWN/=1 UNKNOWN: no stream is named rom;\n\
+        landmark a open 1/>refused OPEN/=1 OPEN: a landmark of a is open already;\n\
+        landmark a close 1/>refused NOT_OPEN/=1 NOT_OPEN: no landmark of a is open;\n\
+        query a sum 5 4/>refused RANGE/=1 RANGE: the range ends before it begins: 5 is later than 4;\n\
+        append a 1 1/>refused STREAM_FULL/=1 STREAM_FULL: a takes no more values outside landmarks;\n\
+        append a 1 1/>refused STORE_FULL/=1 STORE_FULL: the store takes no more records;\n\
+        append a 50 1/>refused TIME/=1 TIME: 50 isn't later than the last time of a;\n\
+        append a 70 1/append a 50 1/>ok 1 1/refused TIME/=2 TIME: 50 isn't later than the last time of a, 70;\n\
+        append a 70 1/append b 9 1/append a 70 1/>ok 1 1/ok 1 1/refused TIME/=\
+        3 TIME: 70 isn't later than the last time of a, 70;\n\
+        landmark a open 8/landmark a close 7/>ok 0 0/refused TIME/=2 TIME: 7 is before the last time of a, 8;\n\
+        landmark a close 8/landmark a open 8/>ok 0 0/refused TIME/=2 TIME: 8 isn't later than the last time of a, 8;\n",
+    ))
+}
+
+// Lines are told from each other past lines without a reply and replies with rows, and two at the most are explained.
+#[test]
+fn lines_and_replies(rt: HostRuntime) -> Result<(), Fail> {
+    pass(first_wrong(
+        rt.alloc(),
+        b"# a//list/windows a/x/>list 2/a b c/d e f/windows 1/refused TIME/refused SYNTAX/=\
+        5 SYNTAX: no command begins with \"x\";\n\
+        x/y/z/>refused SYNTAX/refused SYNTAX/refused SYNTAX/=\
+        1 SYNTAX: no command begins with \"x\";2 SYNTAX: no command begins with \"y\";\n\
+        list/x>list 0/refused SYNTAX/=2 SYNTAX: no command begins with \"x\";\n\
+        >sum 1 1/refused SYNTAX/=\n",
+    ))
+}
