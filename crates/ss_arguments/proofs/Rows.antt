@@ -1,11 +1,11 @@
 -- Rows of the constants and of the definitions, each computed.
-use Rattle.std.proofs.Common.{◌≡◌, ℕ, ◌-◌, ◌^◌, List, [], ◌∷◌, ◌++◌, Option, Some, None, refl}
+use Rattle.std.proofs.Common.{◌≡◌, true, false, ℕ, ◌-◌, ◌^◌, List, [], ◌∷◌, ◌++◌, Option, Some, None, refl}
 use Rattle.std.specs.Prelude.{codes, replicate}
 use Rattle.ss_fields.specs.Words.{is_number, number_of, number_up_to}
 use Rattle.ss_arguments.specs.declared.TheConstants.{MOST_DIGITS}
 use Rattle.ss_arguments.specs.declared.mode.Mode.{Mode}
 use Rattle.ss_arguments.specs.declared.mode.Mode.TheVariants.{Run, Check, Gen}
-use Rattle.ss_arguments.specs.Modes.{mode_of, number_between}
+use Rattle.ss_arguments.specs.Modes.{are_refused_at_once, mode_of, number_between}
 
 most_digits : MOST_DIGITS ≡ 20
 most_digits = refl
@@ -114,3 +114,19 @@ gen-minus = refl
 gen-no_digits : gen_after [] (codes "1") ≡ None
 unfolding number_between number_up_to is_number number_of
 gen-no_digits = refl
+
+-- what is refused at a glance: no path, or an option after it
+at_once-no_words : are_refused_at_once [] ≡ true
+at_once-no_words = refl
+
+at_once-no_path : are_refused_at_once (codes "p" ∷ []) ≡ true
+at_once-no_path = refl
+
+at_once-path : are_refused_at_once (codes "p" ∷ codes "-s" ∷ []) ≡ false
+at_once-path = refl
+
+at_once-option : are_refused_at_once (codes "p" ∷ codes "s" ∷ codes "gen" ∷ codes "-x" ∷ []) ≡ true
+at_once-option = refl
+
+at_once-unknown : are_refused_at_once (codes "p" ∷ codes "s" ∷ codes "Run" ∷ []) ≡ false
+at_once-unknown = refl

@@ -1,6 +1,8 @@
 -- The modes of the program, by the words of the command line.
-use Rattle.std.specs.Prelude.{ℕ, ◌-◌, ◌^◌, nat_le, if◌then◌else◌, List, [], ◌∷◌, length, map, codes, Option, Some, None, Result, Ok, Err, String, string_bytes}
+use Rattle.std.specs.Prelude.{ℕ, ◌-◌, ◌^◌, nat_le, if◌then◌else◌, Bool, true, List, [], ◌∷◌, length, map, codes, Option, Some, None, Result, Ok, Err, String, string_bytes}
+use Rattle.std.specs.List.{list_any}
 use Rattle.std.specs.Str.{bytes_eq}
+use Rattle.std.specs.Str.Parse.{starts_with_minus}
 use Rattle.ss_fields.specs.Words.{number_up_to}
 use Rattle.ss_fields.specs.declared.number_error.NumberError.{NumberError}
 use Rattle.ss_generator.specs.declared.TheConstants.{MOST_COUNT}
@@ -53,3 +55,8 @@ asked _ = None
 abbrev pub mode_of : List (List ℕ) → Option Mode
 mode_of (program ∷ path ∷ arguments) = asked arguments
 mode_of _ = None
+
+-- whether the words are refused at a glance: no path stands among them, or a word after it begins with `-`
+abbrev pub are_refused_at_once : List (List ℕ) → Bool
+are_refused_at_once (program ∷ path ∷ arguments) = list_any starts_with_minus arguments
+are_refused_at_once _ = true

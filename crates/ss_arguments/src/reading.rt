@@ -1,9 +1,9 @@
 // The arguments of the command line as a mode.
-ghost use Rattle.std.specs.Prelude.{◌≡◌, ◌-◌, ◌^◌, false, codes, option_map, IfOk};
+ghost use Rattle.std.specs.Prelude.{◌≡◌, ◌-◌, ◌^◌, true, false, codes, option_map, IfOk, Ok, None};
 ghost use Rattle.std.specs.List.{list_any};
 ghost use Rattle.std.specs.Str.Parse.{starts_with_minus};
 ghost use Rattle.clap.specs.Words.{app_of};
-ghost use Rattle.ss_arguments.specs.Modes.{asked, count_of, gen_of, mode_of, named, seed_of, words_of};
+ghost use Rattle.ss_arguments.specs.Modes.{are_refused_at_once, asked, count_of, gen_of, mode_of, named, seed_of, words_of};
 ghost use Rattle.ss_arguments.specs.Places.{by_place, three_words};
 
 use crate::{MOST_DIGITS, Mode};
@@ -117,7 +117,9 @@ fn read_words(alloc: Global, words: &[String]) -> Result<Option<Mode>, AllocErro
 /// The mode that the words of the command line ask for: the program's name, the store's path, and then none, `run`, `check` or
 /// `gen SEED COUNT`. `None` at all other words.
 pub fn mode_of(alloc: Global, words: &[String]) -> Result<Option<Mode>, AllocError>
-    ensures { IfOk result (λ mode. mode ≡ mode_of (words_of words.now)) }
+    ensures mode { IfOk result (λ mode. mode ≡ mode_of (words_of words.now)) }
+    // Words that are refused at a glance want no memory.
+    ensures at_once { are_refused_at_once (words_of words.now) ≡ true → result ≡ Ok None }
 {
     if words.len() < 2 {
         return Ok(None);

@@ -6,8 +6,8 @@ use Rattle.ss_arguments.specs.Modes.{words_of}
 use Rattle.ss_arguments.proofs.ModeLemmas.{asked-option, mode_of-drop}
 use Rattle.ss_arguments.proofs.reading.mode_of.Goals as goal
 
-pub returns-then-has_option : goal.returns-then-has_option
-returns-then-has_option c =
+pub returns-then-has_option-clause-mode : goal.returns-then-has_option-clause-mode
+returns-then-has_option-clause-mode c =
     let option : list_any starts_with_minus (words_of (drop 2 c.args.words.now)) ≡ true =
     ap (λ words. list_any starts_with_minus (words_of words)) (sym (take_rest c.args.words.now 2)) ∙ sym c.has_option.ensures ∙ c.if-has_option.true in
     sym (mode_of-drop c.args.words.now c.if-words-lt2.false ∙ asked-option (words_of (drop 2 c.args.words.now)) option)
