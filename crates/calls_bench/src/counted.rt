@@ -10,13 +10,9 @@ pub struct Counted<D> {
 }
 
 impl<D: Disk> Disk for Counted<D> {
-    ghost tells = { λ s. (D.seen s.inner).tells };
+    ghost seen = { λ s. D.seen s.inner };
 
-    ghost told = { λ s. (D.seen s.inner).told };
-
-    ghost faults = { λ s. (D.seen s.inner).faults };
-
-    ghost knows_now = { λ s tells. D.knows_now s.inner tells };
+    ghost knows_now = { λ s. D.knows_now s.inner };
 
     fn len(&mut self) -> Result<u64, Failed> {
         self.calls.reads = self.calls.reads.saturating_add(1);

@@ -1,5 +1,6 @@
 // Commits of the journal, one after another, and reads.
 ghost use Rattle.std.specs.Prelude.{◌≡◌, ◌<◌, ◌≤◌, IsTrue, IfOk, OnOk};
+ghost use Rattle.ss_outside.specs.Disk.{OfContent};
 ghost use Rattle.ss_journal.specs.Kept.{IsKept, IsRunning, IsSettled};
 
 use crate::calls::Calls;
@@ -32,10 +33,9 @@ const SLOTS: u32 = 1024;
 // Brings the entries in use into their slots.
 fn settle<D: Disk>(journal: &mut Journal, disk: &mut D) -> Result<(), JournalError>
     requires running { IsRunning journal.old }
-    requires one_disk { IsTrue (D.seen disk.old).tells → IsKept journal.old (D.seen disk.old).told.content }
+    requires one_disk { OfContent (D.seen disk.old) (IsKept journal.old) }
     ensures settled { OnOk result (IsSettled journal.new) }
-    ensures one_disk { IsTrue (D.seen disk.old).tells → OnOk result (IsKept journal.new (D.seen disk.new).told.content) }
-    ensures tells { (D.seen disk.new).tells ≡ (D.seen disk.old).tells }
+    ensures one_disk { OfContent (D.seen disk.new) (λ content. OnOk result (IsKept journal.new content)) }
 {
     Ok(journal.settle(disk)?)
 }
@@ -43,8 +43,7 @@ fn settle<D: Disk>(journal: &mut Journal, disk: &mut D) -> Result<(), JournalErr
 // A journal on the disk, ready for commits.
 fn start<D: Disk>(alloc: Global, disk: &mut D) -> Result<Journal, JournalError>
     ensures settled { IfOk result (λ journal. IsSettled journal) }
-    ensures one_disk { IsTrue (D.seen disk.old).tells → IfOk result (λ journal. IsKept journal (D.seen disk.new).told.content) }
-    ensures tells { (D.seen disk.new).tells ≡ (D.seen disk.old).tells }
+    ensures one_disk { OfContent (D.seen disk.new) (λ content. IfOk result (λ journal. IsKept journal content)) }
 {
     let mut journal = Journal::open(alloc, disk)?;
     settle(&mut journal, disk)?;
@@ -62,10 +61,9 @@ fn commit_many<D: Disk>(
     requires some { 0 < puts }
     requires few { puts ≤ 4 }
     requires settled { IsSettled journal.old }
-    requires one_disk { IsTrue (D.seen disk.old).tells → IsKept journal.old (D.seen disk.old).told.content }
+    requires one_disk { OfContent (D.seen disk.old) (IsKept journal.old) }
     ensures settled { OnOk result (IsSettled journal.new) }
-    ensures one_disk { IsTrue (D.seen disk.old).tells → OnOk result (IsKept journal.new (D.seen disk.new).told.content) }
-    ensures tells { (D.seen disk.new).tells ≡ (D.seen disk.old).tells }
+    ensures one_disk { OfContent (D.seen disk.new) (λ content. OnOk result (IsKept journal.new content)) }
 {
     for k in 0..count {
         let first = (k % SLOTS).min(journal.extent());
@@ -103,7 +101,7 @@ fn time_of_commits<R: Clock, D: Disk>(
     commits: u32,
 ) -> f64
     requires settled { IsSettled journal.old }
-    requires one_disk { IsTrue (D.seen disk.old).tells → IsKept journal.old (D.seen disk.old).told.content }
+    requires one_disk { OfContent (D.seen disk.old) (IsKept journal.old) }
 {
     let begin = now(rt);
     let made = commit_many(journal, disk, commits, 1).is_ok();
@@ -146,10 +144,9 @@ pub fn warm_commit_time<R: AllocGlobal + Clock>(rt: &R, commits: u32) -> Result<
 // Gives the file all slots, and leaves so many entries in use.
 fn fill<D: Disk>(journal: &mut Journal, disk: &mut D, in_use: u32) -> Result<(), JournalError>
     requires settled { IsSettled journal.old }
-    requires one_disk { IsTrue (D.seen disk.old).tells → IsKept journal.old (D.seen disk.old).told.content }
+    requires one_disk { OfContent (D.seen disk.old) (IsKept journal.old) }
     ensures settled { OnOk result (IsSettled journal.new) }
-    ensures one_disk { IsTrue (D.seen disk.old).tells → OnOk result (IsKept journal.new (D.seen disk.new).told.content) }
-    ensures tells { (D.seen disk.new).tells ≡ (D.seen disk.old).tells }
+    ensures one_disk { OfContent (D.seen disk.new) (λ content. OnOk result (IsKept journal.new content)) }
 {
     commit_many(journal, disk, SLOTS, 1)?;
     settle(journal, disk)?;
@@ -159,7 +156,7 @@ fn fill<D: Disk>(journal: &mut Journal, disk: &mut D, in_use: u32) -> Result<(),
 // Reads round the slots, and answers the sum of the first bytes.
 fn read_many<D: Disk>(journal: &mut Journal, disk: &mut D) -> Result<u64, JournalError>
     requires running { IsRunning journal.old }
-    requires one_disk { IsTrue (D.seen disk.old).tells → IsKept journal.old (D.seen disk.old).told.content }
+    requires one_disk { OfContent (D.seen disk.old) (IsKept journal.old) }
 {
     let mut sum = 0u64;
     for k in 0..READS {
@@ -172,7 +169,7 @@ fn read_many<D: Disk>(journal: &mut Journal, disk: &mut D) -> Result<u64, Journa
 // The microseconds that a read takes of a journal whose file has all slots.
 fn time_of_reads<R: Clock, D: Disk>(rt: &R, journal: &mut Journal, disk: &mut D) -> f64
     requires settled { IsSettled journal.old }
-    requires one_disk { IsTrue (D.seen disk.old).tells → IsKept journal.old (D.seen disk.old).told.content }
+    requires one_disk { OfContent (D.seen disk.old) (IsKept journal.old) }
 {
     let begin = now(rt);
     let sum = read_many(journal, disk).unwrap_or(0);

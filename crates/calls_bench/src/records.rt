@@ -1,5 +1,6 @@
 // Records on a disk in memory.
 ghost use Rattle.std.specs.Prelude.{◌≡◌, ◌<◌, ◌≤◌, IsTrue, IfOk};
+ghost use Rattle.ss_outside.specs.Disk.{OfContent};
 ghost use Rattle.ss_journal.specs.Kept.{IsSettled};
 ghost use Rattle.ss_records.specs.Kept.{AreKept};
 
@@ -51,8 +52,7 @@ fn image(alloc: Global, count: u32) -> Result<MemDisk, AllocError>
 // Records on the disk, ready for transactions.
 fn start<D: Disk>(alloc: Global, disk: &mut D) -> Result<Records, JournalError>
     ensures settled { IfOk result (λ records. IsSettled records.journal) }
-    ensures one_disk { IsTrue (D.seen disk.old).tells → IfOk result (λ records. AreKept records (D.seen disk.new).told.content) }
-    ensures tells { (D.seen disk.new).tells ≡ (D.seen disk.old).tells }
+    ensures one_disk { OfContent (D.seen disk.new) (λ content. IfOk result (λ records. AreKept records content)) }
 {
     let mut records = Records::open(alloc, disk)?;
     records.settle(disk)?;
@@ -77,7 +77,7 @@ fn apply_many<D: Disk>(
     requires some { 0 < slots }
     requires few { slots ≤ MOST_RECORDS }
     requires settled { IsSettled records.old.journal }
-    requires one_disk { IsTrue (D.seen disk.old).tells → AreKept records.old (D.seen disk.old).told.content }
+    requires one_disk { OfContent (D.seen disk.old) (AreKept records.old) }
 {
     for k in 0..count {
         let slot = nth_slot(k / 2, slots).min(records.extent());
@@ -93,7 +93,7 @@ fn seen_of<D: Disk>(
     count: u32,
 ) -> Result<(u32, u32, u32), JournalError>
     requires settled { IsSettled records.old.journal }
-    requires one_disk { IsTrue (D.seen disk.old).tells → AreKept records.old (D.seen disk.old).told.content }
+    requires one_disk { OfContent (D.seen disk.old) (AreKept records.old) }
 {
     apply_many(records, disk, 1000, count)?;
     let lowest = records.lowest_free().unwrap_or(MOST_SLOTS);
@@ -166,7 +166,7 @@ fn time_of_applies<R: Clock, D: Disk>(
     requires some { 0 < count }
     requires few { count ≤ MOST_RECORDS }
     requires settled { IsSettled records.old.journal }
-    requires one_disk { IsTrue (D.seen disk.old).tells → AreKept records.old (D.seen disk.old).told.content }
+    requires one_disk { OfContent (D.seen disk.old) (AreKept records.old) }
 {
     let begin = now(rt);
     let made = apply_many(records, disk, count, APPLIES).is_ok();

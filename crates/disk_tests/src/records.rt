@@ -1,5 +1,6 @@
 // Records in use, over a disk in memory.
 ghost use Rattle.std.specs.Prelude.{◌≡◌, IsTrue, IfSome, OnOk};
+ghost use Rattle.ss_outside.specs.Disk.{OfContent};
 ghost use Rattle.ss_journal.specs.Puts.{slots_fit, IsTxn};
 ghost use Rattle.ss_journal.specs.Kept.{IsRunning, IsSettled};
 ghost use Rattle.ss_records.specs.Kept.{AreKept};
@@ -74,10 +75,9 @@ fn txn_of(step: Step, extent: u32) -> Option<Txn>
 
 fn take<D: Disk>(records: &mut Records, disk: &mut D, step: Step) -> Result<(), Failed>
     requires settled { IsSettled records.old.journal }
-    requires one_disk { IsTrue (D.seen disk.old).tells → AreKept records.old (D.seen disk.old).told.content }
+    requires one_disk { OfContent (D.seen disk.old) (AreKept records.old) }
     ensures settled { OnOk result (IsSettled records.new.journal) }
-    ensures one_disk { IsTrue (D.seen disk.old).tells → OnOk result (AreKept records.new (D.seen disk.new).told.content) }
-    ensures tells { (D.seen disk.new).tells ≡ (D.seen disk.old).tells }
+    ensures one_disk { OfContent (D.seen disk.new) (λ content. OnOk result (AreKept records.new content)) }
 {
     match txn_of(step, records.extent()) {
         Some(txn) => records.apply(disk, &txn),
@@ -99,7 +99,7 @@ fn first_wrong_step<D: Disk>(
     disk: &mut D,
 ) -> Result<Option<usize>, JournalError>
     requires running { IsRunning records.old.journal }
-    requires one_disk { IsTrue (D.seen disk.old).tells → AreKept records.old (D.seen disk.old).told.content }
+    requires one_disk { OfContent (D.seen disk.old) (AreKept records.old) }
 {
     records.settle(disk)?;
     'steps: for (row, (step, left)) in STEPS.iter().enumerate() {
@@ -119,7 +119,7 @@ fn first_wrong<D: Disk>(alloc: Global, disk: &mut D) -> Result<Option<usize>, Jo
 // Whether what the steps left is seen, and a slot holds this byte.
 fn is_left<D: Disk>(records: &mut Records, disk: &mut D, slot: u8, byte: u8) -> bool
     requires running { IsRunning records.old.journal }
-    requires one_disk { IsTrue (D.seen disk.old).tells → AreKept records.old (D.seen disk.old).told.content }
+    requires one_disk { OfContent (D.seen disk.old) (AreKept records.old) }
 {
     match records.read(disk, u32::from(slot)) {
         Ok(bytes) => bytes[0] == byte && is_seen(records, (1, 4, 0)),

@@ -1,5 +1,6 @@
 // Files, and the maps for which they stand.
 ghost use Rattle.std.specs.Prelude.{IsTrue};
+ghost use Rattle.ss_outside.specs.Disk.{OfContent};
 ghost use Rattle.ss_journal.specs.Kept.{IsKept, IsRunning};
 
 use ss_journal::{Journal, JournalError};
@@ -94,7 +95,7 @@ fn is_filled(bytes: &[u8; 128], byte: u8) -> bool {
 // Whether a journal has this map, of at most two slots.
 fn has<D: Disk>(journal: &mut Journal, disk: &mut D, map: Map<'_>) -> Result<bool, JournalError>
     requires running { IsRunning journal.old }
-    requires one_disk { IsTrue (D.seen disk.old).tells → IsKept journal.old (D.seen disk.old).told.content }
+    requires one_disk { OfContent (D.seen disk.old) (IsKept journal.old) }
 {
     let first = journal.read(disk, 0)?;
     let second = journal.read(disk, 1)?;

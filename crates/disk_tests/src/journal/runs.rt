@@ -1,5 +1,6 @@
 // Runs of a journal, as rows of a table.
 ghost use Rattle.std.specs.Prelude.{◌≡◌, IfOk, IsTrue, OnOk};
+ghost use Rattle.ss_outside.specs.Disk.{OfContent};
 ghost use Rattle.ss_journal.specs.Kept.{IsKept, IsSettled};
 
 use super::files::{File, Map};
@@ -24,8 +25,7 @@ fn put_of(slot: u32, byte: u8) -> Put
 // A journal that is opened and settled.
 pub fn settled<D: Disk>(alloc: Global, disk: &mut D) -> Result<Journal, JournalError>
     ensures settled { IfOk result (λ journal. IsSettled journal) }
-    ensures one_disk { IsTrue (D.seen disk.old).tells → IfOk result (λ journal. IsKept journal (D.seen disk.new).told.content) }
-    ensures tells { (D.seen disk.new).tells ≡ (D.seen disk.old).tells }
+    ensures one_disk { OfContent (D.seen disk.new) (λ content. IfOk result (λ journal. IsKept journal content)) }
 {
     let mut journal = Journal::open(alloc, disk)?;
     journal.settle(disk)?;
@@ -35,10 +35,9 @@ pub fn settled<D: Disk>(alloc: Global, disk: &mut D) -> Result<Journal, JournalE
 // Commits, if there is a slot 0.
 pub fn commit<D: Disk>(journal: &mut Journal, disk: &mut D, bytes: Commit) -> Result<(), Failed>
     requires settled { IsSettled journal.old }
-    requires one_disk { IsTrue (D.seen disk.old).tells → IsKept journal.old (D.seen disk.old).told.content }
+    requires one_disk { OfContent (D.seen disk.old) (IsKept journal.old) }
     ensures settled { OnOk result (IsSettled journal.new) }
-    ensures one_disk { IsTrue (D.seen disk.old).tells → OnOk result (IsKept journal.new (D.seen disk.new).told.content) }
-    ensures tells { (D.seen disk.new).tells ≡ (D.seen disk.old).tells }
+    ensures one_disk { OfContent (D.seen disk.new) (λ content. OnOk result (IsKept journal.new content)) }
 {
     if bytes.0 == 0 || journal.extent() == 0 {
         return Ok(());

@@ -1,6 +1,6 @@
-use Rattle.std.proofs.Common.{IsTrue}
+use Rattle.ss_outside.specs.Disk.{OfContent}
 use Rattle.ss_journal.specs.Kept.{IsKept, IsSettled}
 use Rattle.disk_tests.proofs.journal.commits.commits_before_failure.Given as goal
 
 abbrev pub invariant-loop-k : goal.invariant-loop-k
-invariant-loop-k g l = IsSettled l.journal × (IsTrue (g.D.Disk.seen l.disk).tells → IsKept l.journal (g.D.Disk.seen l.disk).told.content)
+invariant-loop-k g l = IsSettled l.journal × (OfContent (g.D.Disk.seen l.disk) (IsKept l.journal))
