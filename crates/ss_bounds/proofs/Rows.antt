@@ -6,7 +6,7 @@ use Rattle.ss_bounds.specs.declared.split.TheConstants.{MOST_VALUES, MOST_TIMES}
 use Rattle.ss_bounds.specs.declared.extreme.Extreme.TheVariants.{Nothing, Sure, Maybe}
 use Rattle.ss_bounds.specs.Split.{SplitFigures, count_interval, low_sum, high_sum, sum_interval}
 use Rattle.ss_bounds.specs.Times.{lies_in, split_of}
-use Rattle.ss_bounds.specs.Truth.{asked, RiseFree, AreSplit}
+use Rattle.ss_bounds.specs.Truth.{asked, Holds, RiseFree, AreSplit}
 use Rattle.ss_bounds.specs.Extremes.{min_interval, max_interval}
 
 most_values : MOST_VALUES ≡ 2 ^ 40
@@ -165,3 +165,22 @@ sum-least_and_greatest : sum_interval (extreme (negsuc 0) (negsuc 92233720368547
     ≡ (negsuc 9223372036854775807, pos 9223372036854775807)
 unfolding sum_interval
 sum-least_and_greatest = refl
+
+-- what is known of a least or a greatest value doesn't hold of one just past either end, nor of none where one is sure
+holds-maybe_above : Holds (Maybe (pos 1) (pos 2)) (Some (pos 3)) → ⊥
+holds-maybe_above holds = omega (arith, ints, holds.1)
+
+holds-maybe_below : Holds (Maybe (pos 1) (pos 2)) (Some (pos 0)) → ⊥
+holds-maybe_below holds = omega (arith, ints, holds.0)
+
+holds-sure_above : Holds (Sure (pos 1) (pos 2)) (Some (pos 3)) → ⊥
+holds-sure_above holds = omega (arith, ints, holds.1)
+
+holds-sure_below : Holds (Sure (pos 1) (pos 2)) (Some (pos 0)) → ⊥
+holds-sure_below holds = omega (arith, ints, holds.0)
+
+holds-sure_none : Holds (Sure (pos 1) (pos 2)) None → ⊥
+holds-sure_none holds = holds
+
+holds-nothing : Holds Nothing (Some (pos 1)) → ⊥
+holds-nothing holds = holds

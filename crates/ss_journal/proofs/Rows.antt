@@ -1,9 +1,12 @@
 -- Worked images, whole and in parts, and the numbers that are rules.
-use Rattle.std.proofs.Common.{◌≡◌, ℕ, ◌+◌, ◌-◌, ◌*◌, ◌^◌, true, false, List, [], ◌∷◌, ◌++◌, length, map, replicate, refl}
+use Rattle.std.proofs.Common.{◌≡◌, ℕ, ◌+◌, ◌-◌, ◌*◌, ◌^◌, true, false, List, [], ◌∷◌, ◌++◌, length, map, replicate, Ok, Err, refl}
 use Rattle.std.specs.List.{range_with_len}
 use Rattle.ss_fields.specs.Fields as Fields
 use Rattle.ss_journal.specs.declared.format.TheConstants.{GATE_OPEN, MAGIC_END, ENTRIES, ENTRY_SIZE, FIRST_ENTRY, MOST_PUTS, PUT_SIZE, MOST_WAITING, SLOT_SIZE, MOST_SLOTS, FIRST_SLOT, FILE_END}
-use Rattle.ss_journal.specs.Calls.{entries_after}
+use Rattle.ss_outside.specs.Verdict.{fine, refused, no_memory, failed}
+use Rattle.ss_journal.specs.Calls.{entries_after, verdict_of_open}
+use Rattle.ss_journal.specs.declared.journal_error.JournalError.{JournalError}
+use Rattle.ss_journal.specs.declared.journal_error.JournalError.TheVariants.{Disk, NotAStore, BadEntry, OutOfMemory}
 use Rattle.ss_journal.specs.Format.{magic, is_unborn, is_born, slots_in}
 use Rattle.ss_journal.specs.Gates.{entry_place, other_gates}
 use Rattle.ss_journal.specs.Entries.{puts_of, is_good, open_prefix, entries, entry_body}
@@ -248,3 +251,11 @@ entries_after-last = refl
 
 pub entries_after-full : entries_after 64 ≡ 1
 entries_after-full = refl
+
+-- the verdict of each answer of an opening
+verdicts-open : map (λ (e : JournalError). verdict_of_open {T = ℕ} (Err e)) (Disk ∷ NotAStore ∷ BadEntry 7 ∷ OutOfMemory ∷ []) ≡
+    failed ∷ refused ∷ refused ∷ no_memory ∷ []
+verdicts-open = refl
+
+verdict-open : verdict_of_open {T = ℕ} (Ok 7) ≡ fine
+verdict-open = refl

@@ -1,21 +1,25 @@
 -- Worked rows of what states answer to queries, each computed from a history.
-use Rattle.std.specs.Prelude.{◌≡◌, ℕ, pos, negsuc, List, [], ◌∷◌, map, Option, Some, None, codes}
-use Rattle.std.proofs.Common.{refl}
+use Rattle.std.specs.Prelude.{◌≡◌, ℕ, ℤ, pos, negsuc, List, [], ◌∷◌, map, Option, Some, None, codes}
+use Rattle.std.proofs.Common.{arith, refl}
+use Rattle.std.proofs.lemmas.Int.{ints}
 use Rattle.ss_windowing.specs.Windowing.{index_of}
 use Rattle.ss_power.specs.Power.{power_length}
 use Rattle.ss_catalog.specs.declared.event.Event.{Event}
 use Rattle.ss_catalog.specs.declared.event.Event.TheVariants.{Create, Value, Open, Close}
+use Rattle.ss_catalog.specs.declared.params.Params.{Params}
 use Rattle.ss_catalog.specs.declared.params.Params.TheVariants.{Exp, Power}
 use Rattle.ss_catalog.specs.declared.query.Kind.{Kind}
 use Rattle.ss_catalog.specs.declared.query.Kind.TheVariants as kinds
 use Rattle.ss_catalog.specs.declared.query.Query.{Query}
 use Rattle.ss_catalog.specs.declared.refusal.Refusal.{Refusal}
+use Rattle.ss_catalog.specs.declared.refusal.Refusal.TheVariants as refusal
 use Rattle.ss_catalog.specs.declared.refusal.Refusal.TheVariants.{Unknown, Range}
 use Rattle.ss_bounds.specs.declared.extreme.Extreme.TheVariants.{Nothing, Sure, Maybe}
 use Rattle.ss_bounds.specs.Split.{SplitFigures, sum_interval}
 use Rattle.ss_landmarks.specs.Free.{is_free}
-use Rattle.ss_model.specs.Answers.{outcome_of, refuses_query}
-use Rattle.ss_model.specs.Interval.{split_windows}
+use Rattle.ss_model.specs.Answers.{HoldsTruth, outcome_of, query_refusals, refuses_query}
+use Rattle.ss_model.specs.Interval.{IsExact, split_windows}
+use Rattle.ss_model.specs.Refusals.{refusals}
 use Rattle.ss_model.specs.State.{Stream, state}
 use Rattle.ss_model.specs.declared.outcome.Outcome.{Outcome}
 use Rattle.ss_model.specs.declared.outcome.Outcome.TheVariants.{Count, Sum, Min, Max}
@@ -133,3 +137,46 @@ answers-begun : map (outcome_of (state begun)) (query kinds.Count 15 25 ∷ quer
     Some (Count 1 1) ∷ Some (Sum (pos 12) (pos 12)) ∷ Some (Max Nothing) ∷ []
 unfolding outcome_of query state index_of sum_interval begun a
 answers-begun = refl
+
+-- of one value, 1 at time 5, an answer is wrong by one at either end
+abbrev holds_of_one : Kind → Outcome → Type 0
+holds_of_one kind outcome = HoldsTruth (record { name = []; kind = kind; from = 0; to = 9 }) ((5, pos 1) ∷ []) [] outcome
+
+truth-count_above : holds_of_one kinds.Count (Count 0 0) → ⊥
+truth-count_above holds = omega (arith, holds.1)
+
+truth-count_below : holds_of_one kinds.Count (Count 2 3) → ⊥
+truth-count_below holds = omega (arith, holds.0)
+
+truth-sum_above : holds_of_one kinds.Sum (Sum (pos 0) (pos 0)) → ⊥
+truth-sum_above holds = omega (arith, ints, holds.1)
+
+truth-sum_below : holds_of_one kinds.Sum (Sum (pos 2) (pos 3)) → ⊥
+truth-sum_below holds = omega (arith, ints, holds.0)
+
+-- what leaves something open isn't exact
+exact-maybe : IsExact (Maybe (pos 1) (pos 1)) → ⊥
+exact-maybe exact = exact
+
+exact-sure : IsExact (Sure (pos 1) (pos 2)) → pos 1 ≡ pos 2
+exact-sure exact = exact
+
+-- the order in which refusals are tested
+module _ (streams : List Stream) (name : List ℕ) (t : ℕ) where
+  order-create : (params : Params) → map (λ r. r.1) (refusals streams (Create name params)) ≡
+      refusal.Param ∷ refusal.Exists ∷ refusal.Streams ∷ refusal.StoreFull ∷ []
+  order-create params = refl
+
+  order-value : (v : ℤ) → map (λ r. r.1) (refusals streams (Value name t v)) ≡
+      refusal.Unknown ∷ refusal.Time ∷ refusal.StreamFull ∷ refusal.StoreFull ∷ []
+  order-value v = refl
+
+  order-open : map (λ r. r.1) (refusals streams (Open name t)) ≡
+      refusal.Unknown ∷ refusal.Open ∷ refusal.Time ∷ refusal.StoreFull ∷ []
+  order-open = refl
+
+  order-close : map (λ r. r.1) (refusals streams (Close name t)) ≡ refusal.Unknown ∷ refusal.NotOpen ∷ refusal.Time ∷ []
+  order-close = refl
+
+order-query : (streams : List Stream) (q : Query) → map (λ r. r.1) (query_refusals streams q) ≡ refusal.Unknown ∷ refusal.Range ∷ []
+order-query streams q = refl

@@ -5,4 +5,5 @@ pub mod MemDiskLemmas
 pub mod MemDiskTime
 pub mod PastLemmas
 mod Rows
+mod VerdictRows
 pub mod StepLemmas
