@@ -1,5 +1,4 @@
 // Gives the commands one after another.
-use crate::MOST_COUNT;
 use crate::phase::Phase;
 use crate::round::Round;
 use ss_command::Command;
@@ -31,8 +30,6 @@ impl Generator {
 
     /// All commands of `count` rounds, with `start` as the seed. At most three come in a round, and seven besides.
     pub fn new(start: u64, count: u32) -> Generator
-        requires some { 1 ≤ count }
-        requires few { count ≤ MOST_COUNT }
         ensures commands { result ≡ commands start count }
         ensures bound { length result ≤ 3 * count + 7 }
     {

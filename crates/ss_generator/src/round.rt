@@ -1,11 +1,10 @@
 // A round, and what comes after each of its commands.
-ghost use Rattle.std.specs.Prelude.{◌+◌, ◌*◌, ◌≤◌};
-ghost use Rattle.ss_generator.specs.declared.TheConstants.{MOST_COUNT};
+ghost use Rattle.std.specs.Prelude.{◌+◌, ◌*◌, ◌^◌, ◌<◌, ◌≤◌};
 
 use crate::commands::{append, close, create, open, query};
 use crate::numbers::{delay, number_after, value_of};
 use crate::phase::{Phase, Question};
-use crate::{CLOSING_ROUND, LANDMARK_ROUNDS, MOST_COUNT, OPENING_ROUND};
+use crate::{CLOSING_ROUND, LANDMARK_ROUNDS, OPENING_ROUND};
 use ss_command::Command;
 
 /// A round: its place, how many rounds come after it, its number and its time. At place 0 stands what comes before the first
@@ -16,7 +15,7 @@ pub struct Round {
     pub left: u32,
     pub number: u64,
     pub time: u64,
-    ghost few: { place + left ≤ MOST_COUNT },
+    ghost few: { place + left < 2 ^ 32 },
     ghost early: { time ≤ 16 * place },
 }
 
