@@ -3,6 +3,7 @@ use crate::host_system::HostSystem;
 use crate::system::{Access, Kind, Lock, System};
 use std::fs::{self, File};
 use std::io::{self, ErrorKind};
+use std::os::unix::fs::symlink;
 use std::rt::Files;
 use std::test::Fail;
 
@@ -40,8 +41,8 @@ fn tells_kinds<S: System>(system: &mut S) -> bool {
         && fails_as(system.open("missing", Access::Read), ErrorKind::NotFound)
 }
 
-// Whether a folder can't be read, a device can't be synced, nor the folder of one that the system makes up.
-fn passes_errors_on<S: System>(system: &mut S) -> bool {
+// Whether a folder can't be read, a device can't be synced, nor the folder of what the system makes up, also by a link.
+fn passes_errors_on<S: System>(system: &mut S, link: &str) -> bool {
     system.open("/", Access::Read).is_ok()
         && is(system.kind(), Kind::Folder)
         && system.read(0, &mut [0]).is_err()
@@ -51,6 +52,7 @@ fn passes_errors_on<S: System>(system: &mut S) -> bool {
         && system.sync_data().is_err()
         && system.sync_all().is_err()
         && system.sync_folder("/proc/version").is_err()
+        && system.sync_folder(link).is_err()
         && system.sync_folder("missing").is_err()
 }
 
@@ -72,14 +74,18 @@ fn keeps_bytes<S: System>(system: &mut S, second: &mut S, path: &str) -> bool {
         && second.write(0, b"a").is_err()
 }
 
-fn is_passed_on<R: Files<File = File> + AllocGlobal>(rt: &R) -> bool {
+fn is_passed_on<R: Files<File = File> + AllocGlobal>(rt: &R, link: &str) -> bool {
     let mut system = HostSystem::new(rt);
-    fails(&mut system) && tells_kinds(&mut system) && passes_errors_on(&mut system)
+    fails(&mut system) && tells_kinds(&mut system) && passes_errors_on(&mut system, link)
 }
 
 #[test]
 fn errors_of_the_system_are_passed_on(rt: HostRuntime) -> Result<(), Fail> {
-    assert!(rt; is_passed_on(&rt));
+    let link = "errors_of_the_system_are_passed_on.link";
+    let _ = fs::remove_file(&rt, link);
+    symlink(&rt, "/proc/version", link)?;
+    assert!(rt; is_passed_on(&rt, link));
+    fs::remove_file(&rt, link)?;
     Ok(())
 }
 
