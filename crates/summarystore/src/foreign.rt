@@ -35,7 +35,7 @@ fn holds_something<S: System>(system: &mut S, length: u64) -> io::Result<bool>
 }
 
 /// Whether the open file isn't formatted, but holds something where slots lie. A birth that a crash broke off leaves no
-/// such file, unless it was begun over one.
+/// such file, unless it began over one that had slots.
 pub fn is_foreign<S: System>(system: &mut S) -> io::Result<bool>
     ensures keeps { S.is_durable system.old → S.is_durable system.new }
 {

@@ -1,6 +1,9 @@
 // The real system: a thin layer over the standard library.
 ghost use Rattle.std.specs.Prelude.{⊤};
 
+#[cfg(test)]
+mod tests;
+
 use crate::system::{Access, Kind, Lock, System};
 use std::fs::{self, File, FileType, OpenOptions};
 use std::io::{self, ErrorKind};
