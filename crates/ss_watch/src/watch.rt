@@ -175,7 +175,7 @@ impl<'a, R: Eprint + Clock + AllocGlobal> Watch<'a, R> {
         self.renew();
     }
 
-    /// So many bytes of the store were read, or its length.
+    /// So many bytes of the store were read.
     pub fn end_disk_read(&mut self, count: usize) {
         self.read = self.read.saturating_add(count as u64);
         self.renew();
