@@ -14,8 +14,7 @@ mod watch;
 mod watched;
 mod words;
 
-pub use explain::{Counts, Explained, Explainer, MOST_EXPLAINED};
-pub use progress::{Done, progress_text};
+pub use explain::{Explained, Explainer, MOST_EXPLAINED};
 pub use terminals::Terminals;
 pub use watch::Watch;
 pub use watched::Watched;

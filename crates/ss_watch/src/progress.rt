@@ -17,9 +17,8 @@ pub const WIDTH: usize = 78;
 #[derive(Clone, Copy)]
 pub struct Done {
     pub counts: Counts,
-    /// How many bytes of the store were read, and how many it has, as far as it is known.
+    /// How many bytes of the store were read.
     pub read: u64,
-    pub length: u64,
     /// How many writes to the store were made durable.
     pub syncs: u64,
 }
@@ -54,8 +53,8 @@ fn done_text(alloc: Global, done: &Done, time: Duration) -> Result<String, Alloc
         let rate = rate(done.syncs, time);
         format!(in alloc; "{} syncs, {rate} a second", done.syncs)
     } else {
-        let (read, length) = (done.read / 1_000_000, done.length / 1_000_000);
-        format!(in alloc; "{read} of {length} MB of the store read")
+        let read = done.read / 1_000_000;
+        format!(in alloc; "{read} MB of the store read")
     }
 }
 

@@ -20,14 +20,20 @@ fn of_words(alloc: Global, line: &[u8], refusal: Refusal) -> Result<String, Allo
     }
 }
 
+// Whether a word has only letters that a name can have.
+fn has_name_letters(word: &str) -> bool {
+    word.bytes().all(|byte| byte.is_ascii_alphanumeric()
+        || byte == b'_'
+        || byte == b'-'
+        || byte == b'.')
+}
+
 // Why a word is no name.
 fn name(alloc: Global, word: &str) -> Result<String, AllocError> {
-    if Name::of(word.as_bytes()).is_none() && word.len() > LONGEST_NAME {
+    if has_name_letters(word) {
         format!(in alloc; "the name {word} is longer than {LONGEST_NAME} letters")
     } else {
-        format!(in alloc;
-            "the name {word} has something else in it than letters, digits, _, - and ."
-        )
+        format!(in alloc; "the name {word} has more in it than letters, digits, _, - and .")
     }
 }
 

@@ -25,7 +25,6 @@ pub struct Watch<'a, R> {
     explainer: Explainer,
     progress: Progress,
     read: u64,
-    length: u64,
     syncs: u64,
 }
 
@@ -65,7 +64,6 @@ impl<'a, R: Eprint + Clock + AllocGlobal> Watch<'a, R> {
             explainer: Explainer::new(rt.alloc(), most),
             progress: Progress::new(),
             read: 0,
-            length: 0,
             syncs: 0,
         }
     }
@@ -101,7 +99,6 @@ impl<'a, R: Eprint + Clock + AllocGlobal> Watch<'a, R> {
         let done = Done {
             counts: self.explainer.counts(),
             read: self.read,
-            length: self.length,
             syncs: self.syncs,
         };
         self.progress.is_shown = true;
@@ -175,15 +172,10 @@ impl<'a, R: Eprint + Clock + AllocGlobal> Watch<'a, R> {
         self.renew();
     }
 
-    /// So many bytes of the store were read, or its length.
+    /// So many bytes of the store were read.
     pub fn end_disk_read(&mut self, count: usize) {
         self.read = self.read.saturating_add(count as u64);
         self.renew();
-    }
-
-    /// The store has so many bytes.
-    pub fn end_len(&mut self, length: u64) {
-        self.length = length;
     }
 
     /// Something was written to the store.

@@ -66,13 +66,7 @@ impl<D: Disk, R: Eprint + Clock + AllocGlobal> Disk for Watched<'_, '_, D, R> {
     ghost knows_now = { λ s told. D.knows_now s.device told };
 
     fn len(&mut self) -> Result<u64, Failed> {
-        let answer = self.device.len();
-        if let Ok(length) = answer
-            && let Ok(mut watch) = self.watch.try_borrow_mut()
-        {
-            watch.end_len(length);
-        }
-        answer
+        self.device.len()
     }
 
     fn read_at(&mut self, at: u64, into: &mut [u8]) -> Result<(), Failed> {

@@ -123,7 +123,7 @@ fn words(rt: HostRuntime) -> Result<(), Fail> {
         query a sum 1 now/>refused NUMBER/=1 NUMBER: now isn't a whole number;\n\
         create a exp 2 1 4294967296/>refused NUMBER/=1 NUMBER: 4294967296 isn't within \
         0 to 4294967295, as parameters are;\n\
-        append x! 1 1/>refused NAME/=1 NAME: the name x! has something else in it than letters, digits, _, - and .;\n\
+        append x! 1 1/>refused NAME/=1 NAME: the name x! has more in it than letters, digits, _, - and .;\n\
         windows abcdefghijklmnopqrstuvwxyz0123456/>refused NAME/=1 NAME: \
         the name abcdefghijklmnopqrstuvwxyz0123456 is longer than 32 letters;\n\
         create a exp 1 0 1/>refused PARAM/=1 PARAM: B is 1, and can be 2 to 16;\n\
