@@ -2,7 +2,8 @@
 use Rattle.std.proofs.Common.{◌≡◌, ℕ, ◌+◌, ◌-◌, ◌*◌, ◌^◌, true, false, List, [], ◌∷◌, ◌++◌, length, map, replicate, refl}
 use Rattle.std.specs.List.{range_with_len}
 use Rattle.ss_fields.specs.Fields as Fields
-use Rattle.ss_journal.specs.declared.format.TheConstants.{GATE_OPEN, MAGIC_END, ENTRIES, ENTRY_SIZE, FIRST_ENTRY, MOST_PUTS, PUT_SIZE, MOST_WAITING, SLOT_SIZE, MOST_SLOTS, FIRST_SLOT, FILE_END}
+use Rattle.ss_journal.specs.declared.format.TheConstants.{GATE_OPEN, MAGIC_END, ENTRIES, ENTRY_SIZE, FIRST_ENTRY, MOST_PUTS, PUT_SIZE, MOST_WAITING, SLOT_SIZE}
+use Rattle.ss_journal.specs.declared.format.TheConstants.{MOST_SLOTS, FIRST_SLOT, FILE_END}
 use Rattle.ss_journal.specs.Calls.{entries_after}
 use Rattle.ss_journal.specs.Format.{magic, is_unborn, is_born, slots_in}
 use Rattle.ss_journal.specs.Gates.{entry_place, other_gates}
@@ -112,11 +113,13 @@ open_prefix-open = refl
 abbrev pub no_slots : SlotMap
 no_slots = record { bytes = λ slot. zeros; extent = 0 }
 
-pub redo_entries-two : redo_entries 0 (one_put 0 1 ∷ one_put 0 2 ∷ []) no_slots ≡ stands (changed no_slots (record { slot = 0; bytes = replicate 128 1 } ∷ record { slot = 0; bytes = replicate 128 2 } ∷ []))
+pub redo_entries-two : redo_entries 0 (one_put 0 1 ∷ one_put 0 2 ∷ []) no_slots ≡ stands
+    (changed no_slots (record { slot = 0; bytes = replicate 128 1 } ∷ record { slot = 0; bytes = replicate 128 2 } ∷ []))
 unfolding is_good puts_of Fields.number_at
 redo_entries-two = refl
 
-pub changed-two : (changed no_slots (record { slot = 0; bytes = replicate 128 1 } ∷ record { slot = 0; bytes = replicate 128 2 } ∷ [])).bytes 0 ≡ replicate 128 2
+pub changed-two : (changed no_slots (record { slot = 0; bytes = replicate 128 1 } ∷ record { slot = 0; bytes = replicate 128 2 } ∷ [])).bytes 0 ≡ replicate 128
+    2
 changed-two = refl
 
 pub changed-extent : (changed no_slots (record { slot = 0; bytes = replicate 128 1 } ∷ record { slot = 0; bytes = replicate 128 2 } ∷ [])).extent ≡ 1
