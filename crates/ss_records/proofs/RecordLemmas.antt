@@ -100,15 +100,14 @@ ReadTo-all journal n live old new kept all below before = record {
     | inr past ↦ false_from_ne_true (is_live live slot) (λ lives. absurd (omega (arith, below slot lives, past)))
         ∙ sym (ap not (are_zeros-unused journal old.content found slot kept is lt (omega (arith, past, all))))
   ];
-  refused = tt;
   reads = before.reads;
 }
 
 -- a journal was opened, and then each slot was read
-pub opens-failed : (journal : JournalState) (error : JournalError) (old mid new : Told) → Opens (Ok journal) old mid → ReadsLive (Err error) mid new
-    → OpensRecords (Err error) old new
-opens-failed journal error old mid new opened read = record {
-  opens = subst (λ (content : List ℕ). OpensAs content (Err error)) opened.reads.same.content read.refused;
+pub opens-failed : (journal : JournalState) (error : JournalError) (old mid new : Told) → ((content : List ℕ) → OpensAs content (Err error))
+    → Opens (Ok journal) old mid → ReadsLive (Err error) mid new → OpensRecords (Err error) old new
+opens-failed journal error old mid new refused opened read = record {
+  opens = refused old.content;
   kept = tt;
   reads = reads-joined old mid new opened.reads read.reads;
 }
