@@ -1,6 +1,7 @@
 -- The steps of the birth, and what a crash may leave of them.
 use Rattle.std.proofs.lemmas.Result.{on_ok_weaker}
-use Rattle.std.proofs.Common.{IsFalse, IsTrue, List, Ok, Result, [], ap, arith, drop, inl, inr, length, max, nat_eq, refl, replicate, subst, sym, take, ℕ, ◌++◌, ◌+◌, ◌-◌, ◌<◌, ◌∙◌, ◌∷◌, ◌≡◌, ◌≤◌}
+use Rattle.std.proofs.Common.{IsFalse, IsTrue, List, Ok, Result, [], ap, arith, drop, inl, inr, length, max, nat_eq, refl, replicate, subst, sym, take, ℕ, ◌++◌}
+use Rattle.std.proofs.Common.{◌+◌, ◌-◌, ◌<◌, ◌∙◌, ◌∷◌, ◌≡◌, ◌≤◌}
 use Rattle.std.proofs.lemmas.Bool.{cases_Bool, cases_lt, cond-false, cond-true, eqb-false, eqb-true}
 use Rattle.std.proofs.lemmas.List.{append-nil, get_or-replicate, get_or_past, length-replicate, take-append-drop}
 use Rattle.std.specs.Prelude.{IsErr, slice_index}
@@ -13,7 +14,7 @@ use Rattle.ss_outside.specs.declared.source.Failed.{Failed}
 use Rattle.ss_journal.specs.Format.{IsCleared, has_magic, is_born, is_unborn, magic, slots_in}
 use Rattle.ss_journal.specs.Gates.{ClosedFrom, entry_place, opens}
 use Rattle.ss_journal.specs.Redo.{Gives, Redone, SameMap, SlotMap, StandsFor, blank_map}
-use Rattle.ss_journal.specs.Steps.{Durably, Finds, Marks, Reaches, Rewrites, Writes, WritesZeros}
+use Rattle.ss_journal.specs.Steps.{Durably, Marks, Reaches, Rewrites, Writes, WritesZeros}
 use Rattle.ss_journal.specs.Writes.{SameRest, DiffersAt, DiffersIn, Tears, end_of}
 use Rattle.ss_journal.proofs.GateLemmas.{StandsFor-first_closed}
 use Rattle.ss_journal.proofs.HeaderLemmas.{has_magic-same, is_born-from, is_unborn-cases, is_unborn-gate, is_unborn-short, is_unborn-zero, long-has_magic}
@@ -21,7 +22,7 @@ use Rattle.ss_journal.proofs.MapLemmas.{SameMap-trans, file_map-blank}
 use Rattle.ss_journal.proofs.RangeLemmas.{SameRest-differs, DiffersIn-append, DiffersIn-overwrite, DiffersIn-refl, get_or-differs, length-differs}
 use Rattle.ss_journal.proofs.RedoLemmas.{StandsFor-from, redo-unborn}
 use Rattle.ss_journal.proofs.StepLemmas.{reaches-joined, reaches-read, reaches-rewritten, reaches-torn, rewrites-synced, writes-after_read}
-use Rattle.ss_journal.proofs.TearLemmas.{tears-joined, tears-read}
+use Rattle.ss_journal.proofs.TearLemmas.{tears-joined}
 
 -- unformatted files with as many slots stand for one map
 StandsFor-unborn : (content image : List ℕ) (found : SlotMap) → IsTrue (is_unborn content) → StandsFor content found → IsTrue (is_unborn image)
@@ -56,7 +57,8 @@ IsBegun-long content unborn long = record {
   some = omega (arith, long);
 }
 
-SameRest-overwrite : (content : List ℕ) (at : ℕ) (bytes : List ℕ) → at ≤ length content → at + length bytes ≤ 134254592 → SameRest content (overwrite content at bytes)
+SameRest-overwrite : (content : List ℕ) (at : ℕ) (bytes : List ℕ) → at ≤ length content → at + length bytes ≤ 134254592
+    → SameRest content (overwrite content at bytes)
 SameRest-overwrite content at bytes within below place past = get_or-overwrite_outside content bytes at within place (inr (omega (arith, below, past)))
 
 -- a write of one 0 after a read of the length
@@ -164,7 +166,8 @@ module _ (content : List ℕ) (begun : IsBegun content) where
     | inr other ↦
         let none : magic_bytes content ≡ [] = cond-false (nat_eq (slice_index content 0) 0) magic [] other in
         let there : IsTrue (has_magic content) = elim begun.gate [ inl zero ↦ absurd (eqb-false (slice_index content 0) 0 other zero) | inr stands ↦ stands ] in
-        subst (λ (bytes : List ℕ). IsTrue (has_magic (overwrite content 1 bytes))) (sym none) (subst (λ (list : List ℕ). IsTrue (has_magic list)) (sym (overwrite-nothing content)) there)
+        subst (λ (bytes : List ℕ). IsTrue (has_magic (overwrite content 1 bytes))) (sym none)
+        (subst (λ (list : List ℕ). IsTrue (has_magic list)) (sym (overwrite-nothing content)) there)
   ]
 
   pub long-marked : 9 ≤ length marked
@@ -194,7 +197,8 @@ module _ (content : List ℕ) (begun : IsBegun content) where
       | inl inside ↦
           let there : 9 + (place - 9) ≡ place = omega (arith, low) in
           let fits : place - 9 < end - 9 = omega (arith, low, inside) in
-          ap (slice_index blank) (sym there) ∙ get_or-overwrite_inside marked wiped 9 long-marked (place - 9) (omega (arith, fits, length-wiped)) ∙ get_or-replicate {A = ℕ} (end - 9) (place - 9) 0 0 fits
+          ap (slice_index blank) (sym there) ∙ get_or-overwrite_inside marked wiped 9 long-marked (place - 9) (omega (arith, fits, length-wiped))
+          ∙ get_or-replicate {A = ℕ} (end - 9) (place - 9) 0 0 fits
       | inr past ↦ get_or_past blank place 0 (omega (arith, past, high, is_end, length-blank, length-marked))
     ]
 
@@ -209,8 +213,10 @@ module _ (content : List ℕ) (begun : IsBegun content) where
     -- both writes differ from the content where they are made
     pub DiffersIn-blank : DiffersIn (form_ranges content) content blank
     DiffersIn-blank =
-        let wipes = subst (λ (count : ℕ). DiffersIn ((9, count) ∷ []) marked blank) (length-wiped ∙ ap (λ (n : ℕ). n - 9) is_end) (DiffersIn-overwrite 9 marked wiped long-marked) in
-        DiffersIn-append ((1, length (magic_bytes content)) ∷ []) ((9, blank_end (length content) - 9) ∷ []) content marked blank (DiffersIn-overwrite 1 content (magic_bytes content) within) wipes
+        let wipes = subst (λ (count : ℕ). DiffersIn ((9, count) ∷ []) marked blank) (length-wiped ∙ ap (λ (n : ℕ). n - 9) is_end)
+        (DiffersIn-overwrite 9 marked wiped long-marked) in
+        DiffersIn-append ((1, length (magic_bytes content)) ∷ []) ((9, blank_end (length content) - 9) ∷ []) content marked blank
+        (DiffersIn-overwrite 1 content (magic_bytes content) within) wipes
 
     SameRest-blank : SameRest content blank
     SameRest-blank = SameRest-differs (form_ranges content) content blank
@@ -273,7 +279,8 @@ module _ (content image : List ℕ) (formed : IsFormed content) (differs : Diffe
   beside place low = get_or-differs ((0, 1) ∷ []) content image inside differs place (inr low, tt)
 
   magic-image : IsTrue (has_magic image)
-  magic-image = has_magic-same content image (omega (arith, formed.long)) (omega (arith, formed.long, length-image)) (λ place low high. beside place low) ∙ formed.marked
+  magic-image = has_magic-same content image (omega (arith, formed.long)) (omega (arith, formed.long, length-image)) (λ place low high. beside place low)
+      ∙ formed.marked
 
   blank-image : (place : ℕ) → 9 ≤ place → place < 134254592 → slice_index image place ≡ 0
   blank-image place low high = beside place (omega (arith, low)) ∙ formed.blank place low high
@@ -290,8 +297,10 @@ module _ (content image : List ℕ) (formed : IsFormed content) (differs : Diffe
     | inl opened ↦
         let its : SameMap (blank_map content) found = subst (λ (r : Redone). Gives r found) (redo-unborn content (is_unborn-formed content formed)) is in
         let alike : SameMap (blank_map image) (blank_map content) = record { bytes = λ slot lt. refl; extent = ap slots_in length-image } in
-        StandsFor-first_closed image found (born-opened opened) (gate-image 512 (omega arith) (omega arith)) (SameMap-trans _ _ _ (file_map-blank image blank-image) (SameMap-trans _ _ _ alike its))
-    | inr closed ↦ StandsFor-unborn content image found (is_unborn-formed content formed) is (is_unborn-gate image magic-image closed) (ap slots_in length-image)
+        StandsFor-first_closed image found (born-opened opened) (gate-image 512 (omega arith) (omega arith))
+        (SameMap-trans _ _ _ (file_map-blank image blank-image) (SameMap-trans _ _ _ alike its))
+    | inr closed ↦ StandsFor-unborn content image found (is_unborn-formed content formed) is (is_unborn-gate image magic-image closed)
+        (ap slots_in length-image)
   ]
 
 -- the gate is opened
@@ -319,10 +328,12 @@ gate-opened old new result formed wrote = record {
 
 -- the whole birth
 pub born-joined : (old begun formed new : Told) (first second : Unit {0}) (result : Result (Unit {0}) Failed) → Reaches (Leads IsBegun) (Ok first) old begun
-    → Reaches (Leads IsFormed) (Ok second) begun formed → Durably (Reaches (Leads IsCleared)) result formed new → Durably (Reaches (Leads IsCleared)) result old new
+    → Reaches (Leads IsFormed) (Ok second) begun formed → Durably (Reaches (Leads IsCleared)) result formed new
+    → Durably (Reaches (Leads IsCleared)) result old new
 born-joined old begun formed new first second result begins forms opens = record {
   step = reaches-joined second result
-      (reaches-joined {S = Leads IsFormed} first (Ok second) begins forms (λ was is. (is.0, SameRest-trans old.content begun.content formed.content was.1 is.1)))
+      (reaches-joined {S = Leads IsFormed} first (Ok second) begins forms
+      (λ was is. (is.0, SameRest-trans old.content begun.content formed.content was.1 is.1)))
       opens.step (λ was is. (is.0, SameRest-trans old.content formed.content new.content was.1 is.1));
   durable = opens.durable;
 }

@@ -1,5 +1,6 @@
 -- A transaction in the next entry, and the gate that makes it count.
-use Rattle.std.proofs.Common.{IsFalse, IsTrue, List, [], ap, arith, drop, inl, inr, length, map, refl, subst, suc, sym, zero, ℕ, ⊎_elim, ◌++◌, ◌+◌, ◌<◌, ◌∙◌, ◌∷◌, ◌≡◌, ◌≤◌, ◌⊎◌}
+use Rattle.std.proofs.Common.{IsFalse, IsTrue, List, [], ap, arith, drop, inl, inr, length, map, refl, subst, suc, sym, zero, ℕ, ⊎_elim, ◌++◌, ◌+◌, ◌<◌, ◌∙◌}
+use Rattle.std.proofs.Common.{◌∷◌, ◌≡◌, ◌≤◌, ◌⊎◌}
 use Rattle.std.proofs.lemmas.Bool.{cases_Bool, cases_eq, eqb-true}
 use Rattle.std.proofs.lemmas.List.Concat.{flat_map-append}
 use Rattle.std.proofs.lemmas.List.FromFn.{map-range_with_len_more}
@@ -37,7 +38,8 @@ entry_is n image bytes gate long size first rest =
     by_place (suc k) lt = let there : entry_place n + suc k ≡ entry_place n + 1 + k = omega arith in ap (slice_index image) there ∙ rest k (omega (arith, lt))
 
 -- a content with n entries in use, and an image that differs in entry n alone
-module _ (n : ℕ) (puts : List Put) (content image : List ℕ) (ready : IsReadyFor n puts content) (free : n < 64) (size : length image ≡ length content) (beside : (place : ℕ) → (place < entry_place n) ⊎ (entry_place (n + 1) ≤ place) → slice_index image place ≡ slice_index content place) where
+module _ (n : ℕ) (puts : List Put) (content image : List ℕ) (ready : IsReadyFor n puts content) (free : n < 64) (size : length image ≡ length content)
+    (beside : (place : ℕ) → (place < entry_place n) ⊎ (entry_place (n + 1) ≤ place) → slice_index image place ≡ slice_index content place) where
   abbrev list : List (List ℕ)
   list = open_prefix (entries content)
 
@@ -51,7 +53,8 @@ module _ (n : ℕ) (puts : List Put) (content image : List ℕ) (ready : IsReady
   map-image = file_map-same content image size (λ place from. beside place (inr (omega (arith, from, free))))
 
   before : (k : ℕ) → k < n → entry_at image k ≡ entry_at content k
-  before k lt = piece-same content image (entry_place k) 544 (omega (arith, long, lt, free)) (omega (arith, long, size, lt, free)) (λ place low high. beside place (inl (omega (arith, high, lt))))
+  before k lt = piece-same content image (entry_place k) 544 (omega (arith, long, lt, free)) (omega (arith, long, size, lt, free))
+      (λ place low high. beside place (inl (omega (arith, high, lt))))
 
   in_prefix : IsPrefix (entry_at content) 0 64 n
   in_prefix = IsPrefix-entries content n (ready.number ∙ ap length (entries_in_use-formed content ready.born))
@@ -72,12 +75,14 @@ module _ (n : ℕ) (puts : List Put) (content image : List ℕ) (ready : IsReady
 
   -- the entries in use over the image's own slots
   redone-before : redo_entries 0 list (file_map image) ≡ stands (changed (file_map image) (flat_map puts_of list))
-  redone-before = redo_entries-again 0 list (file_map content) (file_map image) ready.found (sym (redo-formed content ready.born) ∙ ready.map) (omega (arith, map-image.extent))
+  redone-before = redo_entries-again 0 list (file_map content) (file_map image) ready.found (sym (redo-formed content ready.born) ∙ ready.map)
+      (omega (arith, map-image.extent))
 
   same-redone : SameMap (changed (file_map image) (flat_map puts_of list)) ready.found
   same-redone =
       let stood = redo_entries-stands 0 list (file_map content) ready.found (sym (redo-formed content ready.born) ∙ ready.map) in
-      subst (SameMap (changed (file_map image) (flat_map puts_of list))) (sym stood.0) (changed-same (flat_map puts_of list) (file_map image) (file_map content) map-image)
+      subst (SameMap (changed (file_map image) (flat_map puts_of list))) (sym stood.0)
+      (changed-same (flat_map puts_of list) (file_map image) (file_map content) map-image)
 
   same-found : (found : SlotMap) → StandsFor content found → SameMap (changed (file_map image) (flat_map puts_of list)) found
   same-found found is = SameMap-trans _ _ _ same-redone (subst (λ (r : Redone). Gives r found) ready.map is)
@@ -86,7 +91,8 @@ module _ (n : ℕ) (puts : List Put) (content image : List ℕ) (ready : IsReady
   module _ (closed : IsClosed n image) where
     prefix-closed : open_prefix (entries image) ≡ list
     prefix-closed =
-        open_prefix-entries image n (omega (arith, free)) opened-before (λ lt. subst (λ (byte : ℕ). IsFalse (opens byte)) (sym (gate-entry_at image n)) closed) ∙ same-before
+        open_prefix-entries image n (omega (arith, free)) opened-before (λ lt. subst (λ (byte : ℕ). IsFalse (opens byte)) (sym (gate-entry_at image n)) closed)
+        ∙ same-before
 
     pub StandsFor-closed : (found : SlotMap) → StandsFor content found → StandsFor image found
     StandsFor-closed found is =
@@ -128,7 +134,8 @@ module _ (n : ℕ) (puts : List Put) (content image : List ℕ) (ready : IsReady
         (changed-same puts (changed (file_map image) (flat_map puts_of list)) found (same-found found is))
 
     in_use-opened : entries_in_use image ≡ entries_in_use content ++ entry ∷ []
-    in_use-opened = entries_in_use-formed image born-image ∙ prefix-opened ∙ ap (λ (all : List (List ℕ)). all ++ entry ∷ []) (sym (entries_in_use-formed content ready.born))
+    in_use-opened = entries_in_use-formed image born-image ∙ prefix-opened ∙ ap (λ (all : List (List ℕ)). all ++ entry ∷ [])
+        (sym (entries_in_use-formed content ready.born))
 
     puts-opened : flat_map puts_of (entry ∷ []) ≡ puts
     puts-opened = append-nil (puts_of entry) ∙ puts_of-body puts 165 whole txn
@@ -138,7 +145,8 @@ module _ (n : ℕ) (puts : List Put) (content image : List ℕ) (ready : IsReady
       born = born-image;
       closed = closed-after;
       number = omega (arith, ready.number, ap length in_use-opened, length-append (entries_in_use content) (entry ∷ []));
-      all = ap (flat_map puts_of) in_use-opened ∙ flat_map-append puts_of (entries_in_use content) (entry ∷ []) ∙ ap (λ (p : List Put). puts_in_use content ++ p) puts-opened;
+      all = ap (flat_map puts_of) in_use-opened ∙ flat_map-append puts_of (entries_in_use content) (entry ∷ [])
+          ∙ ap (λ (p : List Put). puts_in_use content ++ p) puts-opened;
     }
 
 -- the entry is written, and then its gate is opened
@@ -172,7 +180,8 @@ module _ (n : ℕ) (puts : List Put) (content : List ℕ) (whole : AreWhole puts
       let inside : end_of ranges (length content) ≤ length content = omega (arith, long-ready, size-body) in
       let same : (place : ℕ) → (place < entry_place n + 1) ⊎ (entry_place n + 1 + length body ≤ place) → slice_index image place ≡ slice_index content place =
       λ place out. get_or-differs ranges content image inside differs place (out, tt) in
-      let closed : IsClosed n image = subst (λ (byte : ℕ). IsFalse (opens byte)) (sym (same (entry_place n) (inl (omega arith)))) (ready.closed n (omega arith) free) in
+      let closed : IsClosed n image = subst (λ (byte : ℕ). IsFalse (opens byte)) (sym (same (entry_place n) (inl (omega arith))))
+      (ready.closed n (omega arith) free) in
       StandsFor-closed n puts content image ready free (length-differs ranges content image inside differs)
       (λ place out. same place (⊎_elim (λ below. inl (omega (arith, below))) (λ above. inr (omega (arith, above, size-body))) out)) closed found is
 
@@ -191,13 +200,16 @@ module _ (n : ℕ) (puts : List Put) (content : List ℕ) (whole : AreWhole puts
     same-gate place out = get_or-differs gate spelled image inside-gate differs place (out, tt)
 
     beside-gate : (place : ℕ) → (place < entry_place n) ⊎ (entry_place (n + 1) ≤ place) → slice_index image place ≡ slice_index content place
-    beside-gate place (inl below) = same-gate place (inl below) ∙ get_or-overwrite_outside content body (entry_place n + 1) within-ready place (inl (omega (arith, below)))
+    beside-gate place (inl below) = same-gate place (inl below) ∙ get_or-overwrite_outside content body (entry_place n + 1) within-ready place
+        (inl (omega (arith, below)))
     beside-gate place (inr above) =
-        same-gate place (inr (omega (arith, above))) ∙ get_or-overwrite_outside content body (entry_place n + 1) within-ready place (inr (omega (arith, above, size-body)))
+        same-gate place (inr (omega (arith, above))) ∙ get_or-overwrite_outside content body (entry_place n + 1) within-ready place
+        (inr (omega (arith, above, size-body)))
 
     entry-gate : IsTrue (opens (slice_index image (entry_place n))) → entry_at image n ≡ 165 ∷ entry_body puts
     entry-gate opened = entry_is n image body 165 (omega (arith, long-ready, size-gate)) size-body (eqb-true (slice_index image (entry_place n)) 165 opened)
-        (λ k lt. same-gate (entry_place n + 1 + k) (inr (omega arith)) ∙ get_or-overwrite_inside content body (entry_place n + 1) within-ready k (omega (arith, lt, size-body)))
+        (λ k lt. same-gate (entry_place n + 1 + k) (inr (omega arith)) ∙ get_or-overwrite_inside content body (entry_place n + 1) within-ready k
+        (omega (arith, lt, size-body)))
 
     -- closed it leaves the map before, open the map after
     pub StandsFor-gate : (found : SlotMap) → StandsFor content found → StandsFor image found ⊎ StandsFor image (changed found puts)
@@ -218,13 +230,15 @@ module _ (n : ℕ) (puts : List Put) (content : List ℕ) (whole : AreWhole puts
   opened-gated : IsTrue (opens (slice_index gated (entry_place n)))
   opened-gated =
       let here : entry_place n + 0 ≡ entry_place n = omega arith in
-      subst (λ (byte : ℕ). IsTrue (opens byte)) (sym (ap (slice_index gated) (sym here) ∙ get_or-overwrite_inside spelled (165 ∷ []) (entry_place n) within-spelled 0 (omega arith))) refl
+      subst (λ (byte : ℕ). IsTrue (opens byte))
+      (sym (ap (slice_index gated) (sym here) ∙ get_or-overwrite_inside spelled (165 ∷ []) (entry_place n) within-spelled 0 (omega arith))) refl
 
   entry-gated : entry_at gated n ≡ 165 ∷ entry_body puts
   entry-gated = entry-gate gated differs-gated opened-gated
 
   pub StandsFor-gated : (found : SlotMap) → StandsFor content found → StandsFor gated (changed found puts)
-  StandsFor-gated found is = StandsFor-opened n puts content gated ready free (size-gate gated differs-gated) (beside-gate gated differs-gated) whole txn entry-gated found is
+  StandsFor-gated found is = StandsFor-opened n puts content gated ready free (size-gate gated differs-gated) (beside-gate gated differs-gated) whole txn
+      entry-gated found is
 
   pub AddsEntry-gated : AddsEntry n puts content gated
   AddsEntry-gated = AddsEntry-opened n puts content gated ready free (size-gate gated differs-gated) (beside-gate gated differs-gated) whole txn entry-gated

@@ -10,7 +10,7 @@ use Rattle.ss_journal.specs.Gates.{entry_place}
 use Rattle.ss_journal.specs.Puts.{AreWhole, IsTxn}
 use Rattle.ss_journal.specs.Redo.{StandsFor, changed}
 use Rattle.ss_journal.specs.Steps.{Durably, Enters, Reaches, Writes}
-use Rattle.ss_journal.specs.Writes.{DiffersAt, Tears}
+use Rattle.ss_journal.specs.Writes.{DiffersAt}
 use Rattle.ss_journal.specs.declared.put.Put.{Put}
 use Rattle.ss_journal.proofs.CommitLemmas.{AddsEntry-gated, StandsFor-gate, StandsFor-gated, StandsFor-spelled, long-spelled, within-ready}
 use Rattle.ss_journal.proofs.RangeLemmas.{DiffersIn-overwrite}
@@ -22,7 +22,8 @@ module _ (n : ℕ) (puts : List Put) (old : Told) (whole : AreWhole puts) (txn :
   pub entry-spelled : (new : Told) (result : Result (Unit {0}) Failed) (at : ℕ) (bytes : List ℕ) → at ≡ entry_place n + 1 → bytes ≡ entry_body puts
       → Durably (Writes at bytes) result old new → Durably (Reaches (IsSpelled n puts)) result old new
   entry-spelled new result at bytes there body wrote =
-      let spells = subst (λ (place : ℕ). Writes place (entry_body puts) result old new) there (subst (λ (list : List ℕ). Writes at list result old new) body wrote.step) in
+      let spells = subst (λ (place : ℕ). Writes place (entry_body puts) result old new) there
+      (subst (λ (list : List ℕ). Writes at list result old new) body wrote.step) in
       record {
         step = reaches-rewritten (IsSpelled n puts) result spells (λ only. wrote.durable)
             (λ found image stands differs. StandsFor-spelled n puts old.content whole txn ready free image found stands differs)
@@ -35,7 +36,8 @@ module _ (n : ℕ) (puts : List Put) (old : Told) (whole : AreWhole puts) (txn :
     within-gate = omega (arith, long-spelled n puts old.content whole txn ready free, ap length spelled.step.reached)
 
     -- and then its gate
-    module _ (new : Told) (result : Result (Unit {0}) Failed) (place : ℕ) (there : place ≡ entry_place n) (written_there : Durably (Writes place (165 ∷ [])) result mid new) where
+    module _ (new : Told) (result : Result (Unit {0}) Failed) (place : ℕ) (there : place ≡ entry_place n)
+        (written_there : Durably (Writes place (165 ∷ [])) result mid new) where
       opens : Durably (Writes (entry_place n) (165 ∷ [])) result mid new
       opens = subst (λ (at : ℕ). Durably (Writes at (165 ∷ [])) result mid new) there written_there
 
@@ -47,17 +49,20 @@ module _ (n : ℕ) (puts : List Put) (old : Told) (whole : AreWhole puts) (txn :
       gate-enters = record {
         changes_map = record {
           map = λ found is. on_ok_weaker result
-              (λ written. subst (λ (list : List ℕ). StandsFor list (changed found puts)) (sym (gated written)) (StandsFor-gated n puts old.content whole txn ready free found is))
+              (λ written. subst (λ (list : List ℕ). StandsFor list (changed found puts)) (sym (gated written))
+              (StandsFor-gated n puts old.content whole txn ready free found is))
               opens.step.written;
           any_moment = λ only found is.
               let P : List ℕ → Type 0 = λ image. StandsFor image found ⊎ StandsFor image (changed found puts) in
-              joined old mid new P (weaker old mid (λ image. StandsFor image found) P (λ image stands. inl stands) (spelled.step.keeps_map.any_moment only found is))
+              joined old mid new P (weaker old mid (λ image. StandsFor image found) P (λ image stands. inl stands)
+              (spelled.step.keeps_map.any_moment only found is))
               (weaker mid new (DiffersAt (entry_place n) 1 mid.content) P
               (λ image differs. StandsFor-gate n puts old.content whole txn ready free image
               (subst (λ (list : List ℕ). DiffersAt (entry_place n) 1 list image) spelled.step.reached differs) found is)
               (tears-content mid new ((entry_place n, 1) ∷ []) spelled.durable opens.step.tears));
           durable = opens.durable;
         };
-        added = on_ok_weaker result (λ written. subst (AddsEntry n puts old.content) (sym (gated written)) (AddsEntry-gated n puts old.content whole txn ready free))
+        added = on_ok_weaker result (λ written. subst (AddsEntry n puts old.content) (sym (gated written))
+            (AddsEntry-gated n puts old.content whole txn ready free))
             opens.step.written;
       }

@@ -1,12 +1,14 @@
 -- How an entry is judged, and how it is spelled.
-use Rattle.std.proofs.Common.{IsFalse, IsTrue, List, [], ap, arith, drop, get_or, length, refl, replicate, subst, suc, sym, take, true, zero, ℕ, ◌&&◌, ◌*◌, ◌++◌, ◌+◌, ◌-◌, ◌<◌, ◌==◌, ◌^◌, ◌∙◌, ◌∷◌, ◌≡◌, ◌≤◌}
+use Rattle.std.proofs.Common.{IsFalse, IsTrue, List, [], ap, arith, drop, get_or, length, refl, replicate, subst, suc, sym, take, true, zero, ℕ, ◌&&◌, ◌*◌}
+use Rattle.std.proofs.Common.{◌++◌, ◌+◌, ◌-◌, ◌<◌, ◌==◌, ◌^◌, ◌∙◌, ◌∷◌, ◌≡◌, ◌≤◌}
 use Rattle.std.proofs.Math.Nat.{zero-add}
 use Rattle.std.proofs.lemmas.Bool.Decides.{nat_tests}
 use Rattle.std.proofs.lemmas.Bool.{and_from, and_parts, le-leb, leb-true, lt-leb}
 use Rattle.std.proofs.lemmas.List.Concat.{flat_map-append}
 use Rattle.std.proofs.lemmas.List.Elements.{All-get_or, All-head, All-map, All-tail}
 use Rattle.std.proofs.lemmas.List.FromFn.{fill_by_all, get_or-range_with_len, length-map-range_with_len, length-range_with_len}
-use Rattle.std.proofs.lemmas.List.{append-nil, append_assoc, drop-drop, drop-replicate, drop_at, length-append, length-drop, length-replicate, length-take, take-append-drop, take_all, take_at, take_more}
+use Rattle.std.proofs.lemmas.List.{append-nil, append_assoc, drop-drop, drop-replicate, drop_at, length-append, length-drop, length-replicate, length-take}
+use Rattle.std.proofs.lemmas.List.{take-append-drop, take_all, take_at, take_more}
 use Rattle.std.specs.List.{list_all, range_with_len}
 use Rattle.std.specs.Prelude.{All, flat_map}
 use Rattle.ss_fields.proofs.FieldLemmas.{length-number_bytes, number_at-written}
@@ -61,7 +63,8 @@ is_good-again entry old new good le =
 
 -- an entry of so few puts is judged by them, and by what stands after them
 pub is_good-few : (entry : List ℕ) (extent : ℕ) → 1 ≤ count_of entry → count_of entry ≤ 4
-    → is_good entry extent ≡ (slots_rise_from 0 (puts_of entry) && slots_fit (puts_of entry) extent && list_all (λ byte. byte == 0) (drop (2 + 132 * count_of entry) entry))
+    → is_good entry extent ≡ (slots_rise_from 0 (puts_of entry) && slots_fit (puts_of entry) extent && list_all (λ byte. byte == 0)
+    (drop (2 + 132 * count_of entry) entry))
 unfolding is_good
 is_good-few entry extent some few = rw (le-leb 1 (count_of entry) some, le-leb (count_of entry) 4 few) refl
 
@@ -87,14 +90,16 @@ pub AreWhole-puts_of : (entry : List ℕ) → length entry ≡ 544 → count_of 
 unfolding puts_of
 AreWhole-puts_of entry long few =
     All-map (λ (put : Put). length put.bytes ≡ 128) (put_at entry) (range_with_len 0 (count_of entry))
-    (All-range_with_len (λ (k : ℕ). length (take 128 (drop (6 + 132 * k) entry)) ≡ 128) (count_of entry) (λ k lt. put_at-whole entry k long (omega (arith, lt, few))))
+    (All-range_with_len (λ (k : ℕ). length (take 128 (drop (6 + 132 * k) entry)) ≡ 128) (count_of entry)
+    (λ k lt. put_at-whole entry k long (omega (arith, lt, few))))
 
 -- a number reads back from where its bytes stand
 number_at-dropped : (bytes rest : List ℕ) (at x : ℕ) → x < 2 ^ 32 → drop at bytes ≡ number_bytes 4 x ++ rest → number_at 4 bytes at ≡ x
 number_at-dropped bytes rest at x fits there =
     let after : drop (at + 4) bytes ≡ rest = sym (drop-drop 4 at bytes) ∙ ap (drop 4) there ∙ drop_at (number_bytes 4 x) rest 4 (length-number_bytes 4 x) in
     let whole : take at bytes ++ number_bytes 4 x ++ drop (at + 4) bytes ≡ bytes =
-    append_assoc (take at bytes) (number_bytes 4 x) (drop (at + 4) bytes) ∙ ap (λ (list : List ℕ). take at bytes ++ (number_bytes 4 x ++ list)) after ∙ ap (λ (list : List ℕ). take at bytes ++ list) (sym there) ∙ take-append-drop at bytes in
+    append_assoc (take at bytes) (number_bytes 4 x) (drop (at + 4) bytes) ∙ ap (λ (list : List ℕ). take at bytes ++ (number_bytes 4 x ++ list)) after
+    ∙ ap (λ (list : List ℕ). take at bytes ++ list) (sym there) ∙ take-append-drop at bytes in
     let inside : at + 4 ≤ length bytes = omega (arith, ap length there, length-drop at bytes, length-append (number_bytes 4 x) rest, length-number_bytes 4 x) in
     ap (λ (list : List ℕ). number_at 4 list at) (sym whole) ∙ number_at-written 4 at x bytes inside (omega (arith, fits))
 
@@ -120,7 +125,8 @@ drop-puts_bytes (suc k) (put ∷ puts) end d whole lt =
       rest.0,
       ap (λ (n : ℕ). drop n (put_bytes put ++ flat_map put_bytes puts ++ end)) step
           ∙ sym (drop-drop (132 * k) 132 (put_bytes put ++ flat_map put_bytes puts ++ end))
-          ∙ ap (drop (132 * k)) (ap (drop 132) (append_assoc (put_bytes put) (flat_map put_bytes puts) end) ∙ drop_at (put_bytes put) (flat_map put_bytes puts ++ end) 132 first)
+          ∙ ap (drop (132 * k)) (ap (drop 132) (append_assoc (put_bytes put) (flat_map put_bytes puts) end)
+          ∙ drop_at (put_bytes put) (flat_map put_bytes puts ++ end) 132 first)
           ∙ rest.1,
     )
 
@@ -142,10 +148,12 @@ module _ (puts : List Put) (gate : ℕ) (whole : AreWhole puts) (txn : IsTxn put
       let put = get_or puts k none in
       let there = drop-puts_bytes k puts end none whole lt in
       let from : drop (2 + 132 * k) entry ≡ put_bytes put ++ there.0 = sym (drop-drop (132 * k) 2 entry) ∙ there.1 in
-      let split : drop (2 + 132 * k) entry ≡ number_bytes 4 put.slot ++ (put.bytes ++ there.0) = from ∙ append_assoc (number_bytes 4 put.slot) put.bytes there.0 in
+      let split : drop (2 + 132 * k) entry ≡ number_bytes 4 put.slot ++ (put.bytes ++ there.0) = from
+      ∙ append_assoc (number_bytes 4 put.slot) put.bytes there.0 in
       let place : 6 + 132 * k ≡ 2 + 132 * k + 4 = omega arith in
       let after : drop (6 + 132 * k) entry ≡ put.bytes ++ there.0 =
-      ap (λ (n : ℕ). drop n entry) place ∙ sym (drop-drop 4 (2 + 132 * k) entry) ∙ ap (drop 4) split ∙ drop_at (number_bytes 4 put.slot) (put.bytes ++ there.0) 4 (length-number_bytes 4 put.slot) in
+      ap (λ (n : ℕ). drop n entry) place ∙ sym (drop-drop 4 (2 + 132 * k) entry) ∙ ap (drop 4) split
+      ∙ drop_at (number_bytes 4 put.slot) (put.bytes ++ there.0) 4 (length-number_bytes 4 put.slot) in
       let below = All-get_or (λ (p : Put). p.slot < 2 ^ 20) puts k none lt (AreSlots-rise 0 puts txn.rise) in
       let full = All-get_or (λ (p : Put). length p.bytes ≡ 128) puts k none lt whole in
       same_put put (number_at 4 entry (2 + 132 * k)) (take 128 (drop (6 + 132 * k) entry))
@@ -176,7 +184,14 @@ is_good-body puts gate extent whole txn fit =
 pub length-entry_body : (puts : List Put) → AreWhole puts → length puts ≤ 4 → length (entry_body puts) ≡ 543
 unfolding entry_body
 length-entry_body puts whole few =
-    omega (arith, few, length-append (flat_map put_bytes puts) (replicate (542 - 132 * length puts) 0), length-puts_bytes puts whole, length-replicate {A = ℕ} (542 - 132 * length puts) 0)
+    omega (
+      arith,
+      few,
+      length-append (flat_map put_bytes puts) (replicate (542 - 132 * length puts) 0),
+      length-puts_bytes puts whole,
+      length-replicate {A = ℕ}
+          (542 - 132 * length puts) 0,
+    )
 
 -- what stands after the gate of a spelled entry
 pub body-entry : (puts : List Put) (entry : List ℕ) → AreWhole puts → length puts ≤ 4 → entry ≡ 0 ∷ entry_body puts
@@ -187,7 +202,8 @@ body-entry puts entry whole few is =
 -- one put more
 pub entry-more : (puts : List Put) (k : ℕ) (d : Put) (old : List ℕ) → k < length puts → length puts ≤ 4 → AreWhole (take k puts)
     → old ≡ 0 ∷ length puts ∷ flat_map put_bytes (take k puts) ++ replicate (542 - 132 * k) 0
-    → take (2 + 132 * k) old ++ put_bytes (get_or puts k d) ++ drop (2 + 132 * (k + 1)) old ≡ 0 ∷ length puts ∷ flat_map put_bytes (take (k + 1) puts) ++ replicate (542 - 132 * (k + 1)) 0
+    → take (2 + 132 * k) old ++ put_bytes (get_or puts k d) ++ drop (2 + 132 * (k + 1)) old ≡ 0 ∷ length puts ∷ flat_map put_bytes (take (k + 1) puts) ++
+    replicate (542 - 132 * (k + 1)) 0
 entry-more puts k d old lt few whole is =
     let front : List ℕ = 0 ∷ length puts ∷ flat_map put_bytes (take k puts) in
     let put = get_or puts k d in
@@ -197,17 +213,21 @@ entry-more puts k d old lt few whole is =
     let place : 2 + 132 * (k + 1) ≡ 2 + 132 * k + 132 = omega arith in
     let less : 542 - 132 * k - 132 ≡ 542 - 132 * (k + 1) = omega arith in
     let rest : drop (2 + 132 * (k + 1)) old ≡ replicate (542 - 132 * (k + 1)) 0 =
-    ap (λ (n : ℕ). drop n old) place ∙ sym (drop-drop 132 (2 + 132 * k) old) ∙ ap (drop 132) (ap (drop (2 + 132 * k)) is ∙ drop_at front zeros (2 + 132 * k) long)
+    ap (λ (n : ℕ). drop n old) place ∙ sym (drop-drop 132 (2 + 132 * k) old)
+    ∙ ap (drop 132) (ap (drop (2 + 132 * k)) is ∙ drop_at front zeros (2 + 132 * k) long)
     ∙ drop-replicate 132 (542 - 132 * k) 0 ∙ ap (λ (n : ℕ). replicate n 0) less in
     let puts_bytes : flat_map put_bytes (take (k + 1) puts) ≡ flat_map put_bytes (take k puts) ++ put_bytes put =
-    ap (flat_map put_bytes) (take_more puts k d lt) ∙ flat_map-append put_bytes (take k puts) (put ∷ []) ∙ ap (λ (list : List ℕ). flat_map put_bytes (take k puts) ++ list) (append-nil (put_bytes put)) in
+    ap (flat_map put_bytes) (take_more puts k d lt) ∙ flat_map-append put_bytes (take k puts) (put ∷ [])
+    ∙ ap (λ (list : List ℕ). flat_map put_bytes (take k puts) ++ list) (append-nil (put_bytes put)) in
     let tail : List ℕ = drop (2 + 132 * (k + 1)) old in
     let zeros_then : List ℕ = replicate (542 - 132 * (k + 1)) 0 in
-    let first : take (2 + 132 * k) old ++ put_bytes put ++ tail ≡ front ++ put_bytes put ++ tail = ap (λ (list : List ℕ). list ++ put_bytes put ++ tail) start in
+    let first : take (2 + 132 * k) old ++ put_bytes put ++ tail ≡ front ++ put_bytes put ++ tail = ap (λ (list : List ℕ). list ++ put_bytes put ++ tail)
+    start in
     let second : front ++ put_bytes put ++ tail ≡ front ++ put_bytes put ++ zeros_then = ap (λ (list : List ℕ). front ++ put_bytes put ++ list) rest in
     first ∙ second ∙ ap (λ (list : List ℕ). 0 ∷ length puts ∷ list ++ zeros_then) (sym puts_bytes)
 
 pub entry-all : (puts : List Put) (entry : List ℕ)
     → entry ≡ 0 ∷ length puts ∷ flat_map put_bytes (take (length puts) puts) ++ replicate (542 - 132 * length puts) 0 → entry ≡ 0 ∷ entry_body puts
 unfolding entry_body
-entry-all puts entry is = is ∙ ap (λ (list : List Put). 0 ∷ length puts ∷ flat_map put_bytes list ++ replicate (542 - 132 * length puts) 0) (take_all (length puts) puts (omega arith))
+entry-all puts entry is = is ∙ ap (λ (list : List Put). 0 ∷ length puts ∷ flat_map put_bytes list ++ replicate (542 - 132 * length puts) 0)
+    (take_all (length puts) puts (omega arith))

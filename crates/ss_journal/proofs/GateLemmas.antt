@@ -1,5 +1,6 @@
 -- What counts after a closed first gate, and how the other gates close.
-use Rattle.std.proofs.Common.{Bool, IsFalse, IsTrue, List, Ok, [], ap, arith, false, inl, inr, length, map, refl, subst, suc, sym, true, zero, ℕ, ⊎_elim, ◌+◌, ◌<◌, ◌∙◌, ◌∷◌, ◌≡◌, ◌≤◌, ◌⊎◌}
+use Rattle.std.proofs.Common.{Bool, IsFalse, IsTrue, List, Ok, [], ap, arith, false, inl, inr, length, map, refl, subst, suc, sym, true, zero, ℕ, ⊎_elim, ◌+◌}
+use Rattle.std.proofs.Common.{◌<◌, ◌∙◌, ◌∷◌, ◌≡◌, ◌≤◌, ◌⊎◌}
 use Rattle.std.proofs.lemmas.Bool.{cases_eq, cases_lt}
 use Rattle.std.specs.List.{range_with_len}
 use Rattle.std.specs.Prelude.{slice_index}
@@ -26,13 +27,19 @@ StandsFor-first_closed image found born closed same = StandsFor-from image (file
 -- after a closed first gate, what differs between the header and the slots counts for nothing
 StandsFor-entries : (ranges : List (ℕ × ℕ)) (content image : List ℕ) (found : SlotMap) → IsTrue (is_born content) → IsClosed 0 content
     → StandsFor content found → end_of ranges (length content) ≤ length content
-    → ((place : ℕ) → (place < 513) ⊎ (36864 ≤ place) → IsOutsideAll ranges place) → DiffersIn ranges content image → StandsFor image found × IsTrue (is_born image) × IsClosed 0 image
+    → ((place : ℕ) → (place < 513) ⊎ (36864 ≤ place) → IsOutsideAll ranges place) → DiffersIn ranges content image → StandsFor image found
+    × IsTrue (is_born image) × IsClosed 0 image
 StandsFor-entries ranges content image found born closed is inside out differs =
     let size = length-differs ranges content image inside differs in
-    let same : (place : ℕ) → (place < 513) ⊎ (36864 ≤ place) → slice_index image place ≡ slice_index content place = λ place beside. get_or-differs ranges content image inside differs place (out place beside) in
+    let same : (place : ℕ) → (place < 513) ⊎ (36864 ≤ place) → slice_index image place ≡ slice_index content place = λ place beside. get_or-differs ranges
+    content image inside differs place (out place beside) in
     let formed = is_born-same content image born size (λ place lt. same place (inl (omega (arith, lt)))) in
-    let gate : IsClosed 0 image = subst (λ (byte : ℕ). IsFalse (opens byte)) (sym (same 512 (inl (omega arith)))) closed in
-    (StandsFor-first_closed image found formed gate (SameMap-trans _ _ _ (file_map-same content image size (λ place from. same place (inr from))) (file_map-first_closed content found born closed is)), formed, gate)
+    let gate : IsClosed 0 image = subst (λ (byte : ℕ). IsFalse (opens byte)) (sym (same 512 (inl (omega arith)))) closed in (
+      StandsFor-first_closed image found formed gate (SameMap-trans _ _ _ (file_map-same content image size (λ place from. same place (inr from)))
+          (file_map-first_closed content found born closed is)),
+      formed,
+      gate,
+    )
 
 -- gates of entries in a row
 pub outside_gates : (from n place : ℕ) → (place < entry_place from) ⊎ (entry_place (from + n) ≤ place)
@@ -82,23 +89,28 @@ pub Covers-gate : (n : ℕ) → 0 < n → n < 64 → Covers other_gates (entry_p
 Covers-gate n low high = record { outside = λ place out. outside_gate 1 63 n place low high out; end = λ size. end_of-gate 1 63 n size low high }
 
 -- one gate more is closed
-module _ (content : List ℕ) (n : ℕ) (old new : Told) (low : 0 < n) (high : n < 64) (long : 36864 ≤ length content) (so_far : DiffersIn other_gates content old.content) where
+module _ (content : List ℕ) (n : ℕ) (old new : Told) (low : 0 < n) (high : n < 64) (long : 36864 ≤ length content)
+    (so_far : DiffersIn other_gates content old.content) where
   within : entry_place n ≤ length old.content
   within = omega (arith, high, long, so_far.no_shorter)
 
   pub DiffersIn-gate : (b : Bool) → ClosesGate n old new (Ok b) → DiffersIn other_gates content new.content
   DiffersIn-gate true gate = subst (DiffersIn other_gates content) (sym gate.1)
-      (DiffersIn-covered other_gates (entry_place n) 1 content old.content _ (Covers-gate n low high) so_far (DiffersIn-overwrite (entry_place n) old.content (0 ∷ []) within))
+      (DiffersIn-covered other_gates (entry_place n) 1 content old.content _ (Covers-gate n low high) so_far
+      (DiffersIn-overwrite (entry_place n) old.content (0 ∷ []) within))
   DiffersIn-gate false gate = subst (DiffersIn other_gates content) (sym gate.1.content) so_far
 
   pub closed-more : (b : Bool) → ClosesGate n old new (Ok b) → ((k : ℕ) → 0 < k → k < n → IsFalse (opens (slice_index old.content (entry_place k))))
       → (k : ℕ) → 0 < k → k < n + 1 → IsFalse (opens (slice_index new.content (entry_place k)))
   closed-more true gate below k some lt =
       subst (λ (list : List ℕ). IsFalse (opens (slice_index list (entry_place k)))) (sym gate.1) (elim (cases_lt k n) [
-        | inl before ↦ subst (λ (byte : ℕ). IsFalse (opens byte)) (sym (get_or-overwrite_outside old.content (0 ∷ []) (entry_place n) within (entry_place k) (inl (omega (arith, before))))) (below k some before)
+        | inl before ↦ subst (λ (byte : ℕ). IsFalse (opens byte))
+            (sym (get_or-overwrite_outside old.content (0 ∷ []) (entry_place n) within (entry_place k) (inl (omega (arith, before))))) (below k some before)
         | inr from ↦
             let place : entry_place n + 0 ≡ entry_place k = omega (arith, from, lt) in
-            subst (λ (byte : ℕ). IsFalse (opens byte)) (sym (ap (slice_index (overwrite old.content (entry_place n) (0 ∷ []))) (sym place) ∙ get_or-overwrite_inside old.content (0 ∷ []) (entry_place n) within 0 (omega arith))) refl
+            subst (λ (byte : ℕ). IsFalse (opens byte))
+            (sym (ap (slice_index (overwrite old.content (entry_place n) (0 ∷ []))) (sym place) ∙ get_or-overwrite_inside old.content (0 ∷ [])
+            (entry_place n) within 0 (omega arith))) refl
       ])
   closed-more false gate below k some lt =
       subst (λ (list : List ℕ). IsFalse (opens (slice_index list (entry_place k)))) (sym gate.1.content) (elim (cases_lt k n) [

@@ -1,8 +1,10 @@
 -- The header: whether a file is formatted, and how that is read.
-use Rattle.std.proofs.Common.{IsFalse, IsTrue, List, [], ap, arith, drop, eqb, inl, inr, length, nat_eq, nat_le, not, refl, rules, subst, suc, sym, take, ℕ, ◌&&◌, ◌+◌, ◌<◌, ◌==◌, ◌||◌, ◌∙◌, ◌∷◌, ◌≡◌, ◌≤◌, ◌⊎◌}
+use Rattle.std.proofs.Common.{IsFalse, IsTrue, List, [], ap, arith, drop, eqb, inl, inr, length, nat_eq, nat_le, not, refl, rules, subst, suc, sym, take, ℕ}
+use Rattle.std.proofs.Common.{◌&&◌, ◌+◌, ◌<◌, ◌==◌, ◌||◌, ◌∙◌, ◌∷◌, ◌≡◌, ◌≤◌, ◌⊎◌}
 use Rattle.std.proofs.Math.Nat.{zero-add}
 use Rattle.std.proofs.lemmas.Bool.Decides.{nat_tests}
-use Rattle.std.proofs.lemmas.Bool.{and_from, and_left, and_parts, both_ways, eq-eqb, eqb-true, false_from_ne_true, le-leb, leb-true, ne_eqb, not-true, not_from_false, or_cases, or_left, or_right}
+use Rattle.std.proofs.lemmas.Bool.{and_from, and_left, and_parts, both_ways, eq-eqb, eqb-true, false_from_ne_true, le-leb, leb-true, ne_eqb, not-true}
+use Rattle.std.proofs.lemmas.Bool.{not_from_false, or_cases, or_left, or_right}
 use Rattle.std.proofs.lemmas.Grind.{get_or_after_one, same_number_lists}
 use Rattle.std.proofs.lemmas.List.Elements.{All-from_recursion, All-head, All-tail}
 use Rattle.std.proofs.lemmas.List.{ext_get_or, get_or-drop, get_or-take, length-drop, length-take}
@@ -22,7 +24,8 @@ piece-same old new at count fits also same =
     ext_get_or 0 (take count (drop at new)) (take count (drop at old))
     (omega (arith, length-take count (drop at new), length-take count (drop at old), length-drop at new, length-drop at old))
     (λ i lt. let within : i < count = omega (arith, lt, length-take count (drop at new)) in
-    get_or-take count (drop at new) i 0 within ∙ get_or-drop at new i 0 ∙ same (at + i) (omega arith) (omega (arith, within)) ∙ sym (get_or-drop at old i 0) ∙ sym (get_or-take count (drop at old) i 0 within))
+    get_or-take count (drop at new) i 0 within ∙ get_or-drop at new i 0 ∙ same (at + i) (omega arith) (omega (arith, within)) ∙ sym (get_or-drop at old i 0)
+    ∙ sym (get_or-take count (drop at old) i 0 within))
 
 -- the magic is eight places
 pub has_magic-same : (old new : List ℕ) → 9 ≤ length old → 9 ≤ length new
@@ -82,13 +85,14 @@ is_unborn-gate image magic closed = or_right _ _ (and_from _ _ magic (not_from_f
 pub is_unborn-cases : (image : List ℕ) → IsTrue (is_unborn image)
     → (length image ≤ 1) ⊎ ((slice_index image 0 ≡ 0) ⊎ (IsTrue (has_magic image) × IsFalse (opens (slice_index image 0))))
 unfolding is_unborn
-is_unborn-cases image unborn = elim (or_cases (nat_le (length image) 1 || slice_index image 0 == 0) (has_magic image && not (opens (slice_index image 0))) unborn) [
-  | inl early ↦ elim (or_cases (nat_le (length image) 1) (slice_index image 0 == 0) early) [
-    | inl short ↦ inl (leb-true (length image) 1 short)
-    | inr zero ↦ inr (inl (eqb-true (slice_index image 0) 0 zero))
-  ]
-  | inr late ↦ let parts = and_parts (has_magic image) (not (opens (slice_index image 0))) late in inr (inr (parts.0, not-true _ parts.1))
-]
+is_unborn-cases image unborn = elim (or_cases (nat_le (length image) 1 || slice_index image 0 == 0) (has_magic image && not (opens (slice_index image 0)))
+    unborn) [
+      | inl early ↦ elim (or_cases (nat_le (length image) 1) (slice_index image 0 == 0) early) [
+        | inl short ↦ inl (leb-true (length image) 1 short)
+        | inr zero ↦ inr (inl (eqb-true (slice_index image 0) 0 zero))
+      ]
+      | inr late ↦ let parts = and_parts (has_magic image) (not (opens (slice_index image 0))) late in inr (inr (parts.0, not-true _ parts.1))
+    ]
 
 -- a buffer that was filled from within the file is that piece of it
 pub read-piece : (content buffer : List ℕ) (at count : ℕ) → length buffer ≡ count → at + count ≤ length content → IsReadFrom content at buffer

@@ -16,7 +16,8 @@ use Rattle.ss_journal.proofs.GateLemmas.{StandsFor-first_closed}
 use Rattle.ss_journal.proofs.HeaderLemmas.{is_born-parts, is_born-same}
 use Rattle.ss_journal.proofs.MapLemmas.{SameMap-refl, SameMap-trans, file_map-same}
 use Rattle.ss_journal.proofs.RangeLemmas.{DiffersIn-overwrite, get_or-differs, length-differs}
-use Rattle.ss_journal.proofs.RedoLemmas.{StandsFor-from, StandsFor-also, StandsFor-parts, StandsFor-same, entries_in_use-formed, redo-born, redo-first_closed, redo-formed, redo-same_header, redo_entries-idempotent}
+use Rattle.ss_journal.proofs.RedoLemmas.{StandsFor-from, StandsFor-also, StandsFor-parts, StandsFor-same, entries_in_use-formed, redo-born, redo-first_closed}
+use Rattle.ss_journal.proofs.RedoLemmas.{redo-formed, redo-same_header, redo_entries-idempotent}
 use Rattle.ss_journal.proofs.SlotLemmas.{AgreeBeside-torn, DiffersIn-slots_written, file_map-slots_written, outside_slots, slots_in-mono, slots_in-torn}
 
 -- the entries in use, by the file and the puts
@@ -47,7 +48,8 @@ module _ (puts : List Put) (content : List ℕ) (born : IsTrue (is_born content)
     }
 
     header : IsTrue (is_born image) × (entries image ≡ entries content)
-    header = redo-same_header content image born differs.no_shorter (λ place lt. differs.kept place (omega (arith, lt, long-in_use)) (outside_slots puts place lt))
+    header = redo-same_header content image born differs.no_shorter
+        (λ place lt. differs.kept place (omega (arith, lt, long-in_use)) (outside_slots puts place lt))
 
     same_entries : open_prefix (entries image) ≡ entries_in_use content
     same_entries = ap open_prefix header.1 ∙ sym (entries_in_use-formed content born)
@@ -55,10 +57,13 @@ module _ (puts : List Put) (content : List ℕ) (born : IsTrue (is_born content)
     -- redo is idempotent
     again : StandsFor image in_use.found
     again =
-        let was : redo_entries 0 (entries_in_use content) (file_map content) ≡ stands in_use.found = ap (λ (list : List (List ℕ)). redo_entries 0 list (file_map content)) (entries_in_use-formed content born) ∙ sym (redo-formed content born) ∙ in_use.map in
-        let its : redo image ≡ redo_entries 0 (entries_in_use content) (file_map image) = redo-formed image header.0 ∙ ap (λ (list : List (List ℕ)). redo_entries 0 list (file_map image)) same_entries in
+        let was : redo_entries 0 (entries_in_use content) (file_map content) ≡ stands in_use.found = ap
+        (λ (list : List (List ℕ)). redo_entries 0 list (file_map content)) (entries_in_use-formed content born) ∙ sym (redo-formed content born) ∙ in_use.map in
+        let its : redo image ≡ redo_entries 0 (entries_in_use content) (file_map image) = redo-formed image header.0
+        ∙ ap (λ (list : List (List ℕ)). redo_entries 0 list (file_map image)) same_entries in
         subst (λ (r : Redone). Gives r in_use.found) (sym its)
-        (redo_entries-idempotent 0 (entries_in_use content) (file_map content) in_use.found (file_map image) was (subst (λ (p : List Put). CameInPart p (file_map content) in_use.found (file_map image)) in_use.all part))
+        (redo_entries-idempotent 0 (entries_in_use content) (file_map content) in_use.found (file_map image) was
+        (subst (λ (p : List Put). CameInPart p (file_map content) in_use.found (file_map image)) in_use.all part))
 
     -- the map stays, since the entries stand
     pub StandsFor-slots_torn : (found : SlotMap) → StandsFor content found → StandsFor image found
@@ -78,7 +83,8 @@ module _ (puts : List Put) (content : List ℕ) (born : IsTrue (is_born content)
   -- written, they stand in their slots: the file alone gives the map
   pub SameMap-slots_written : (found : SlotMap) → StandsFor content found → SameMap (file_map (slots_written puts content)) found
   SameMap-slots_written found is =
-      SameMap-trans _ _ _ (file_map-slots_written puts content long-in_use redone.1 redone.2 redone.3) (subst (λ (map : SlotMap). SameMap map found) redone.0 (same_map found is))
+      SameMap-trans _ _ _ (file_map-slots_written puts content long-in_use redone.1 redone.2 redone.3)
+      (subst (λ (map : SlotMap). SameMap map found) redone.0 (same_map found is))
 
 -- with puts in use the first gate is open
 first_open : (puts : List Put) (content : List ℕ) → 0 < length puts → IsTrue (is_born content) → InUse puts content → IsTrue (opens (slice_index content 512))
@@ -97,17 +103,20 @@ StandsFor-first_gate puts content image found some formed in_use is same differs
     let ranges : List (ℕ × ℕ) = (512, 1) ∷ [] in
     let inside : end_of ranges (length content) ≤ length content = omega (arith, long) in
     let size = length-differs ranges content image inside differs in
-    let beside : (place : ℕ) → IsOutside 512 1 place → slice_index image place ≡ slice_index content place = λ place out. get_or-differs ranges content image inside differs place (out, tt) in
+    let beside : (place : ℕ) → IsOutside 512 1 place → slice_index image place ≡ slice_index content place = λ place out. get_or-differs ranges content image
+    inside differs place (out, tt) in
     let born = is_born-same content image formed size (λ place lt. beside place (inl (omega (arith, lt)))) in (
       elim (cases_Bool (opens (slice_index image 512))) [
         | inl opened ↦
-            let gate : slice_index image 512 ≡ slice_index content 512 = eqb-true (slice_index image 512) 165 opened ∙ sym (eqb-true (slice_index content 512) 165 (first_open puts content some formed in_use)) in
+            let gate : slice_index image 512 ≡ slice_index content 512 = eqb-true (slice_index image 512) 165 opened
+            ∙ sym (eqb-true (slice_index content 512) 165 (first_open puts content some formed in_use)) in
             let all : image ≡ content = ext_get_or 0 image content size (λ place lt. elim (cases_eq place 512) [
               | inl here ↦ subst (λ (p : ℕ). slice_index image p ≡ slice_index content p) (sym here) gate
               | inr other ↦ elim (cases_lt place 512) [ inl below ↦ beside place (inl below) | inr from ↦ beside place (inr (omega (arith, from, other))) ]
             ]) in
             subst (λ (file : List ℕ). StandsFor file found) (sym all) is
-        | inr closed ↦ StandsFor-first_closed image found born closed (SameMap-trans _ _ _ (file_map-same content image size (λ place from. beside place (inr (omega (arith, from))))) same)
+        | inr closed ↦ StandsFor-first_closed image found born closed
+            (SameMap-trans _ _ _ (file_map-same content image size (λ place from. beside place (inr (omega (arith, from))))) same)
       ],
       born,
     )
@@ -126,7 +135,8 @@ module _ (puts : List Put) (content : List ℕ) (born : IsTrue (is_born content)
 
   -- with the puts in their slots the file alone gives the map, and the same entries are in use
   stands-written : StandsFor (slots_written puts content) in_use.found
-  stands-written = StandsFor-slots_torn puts content born in_use (slots_written puts content) differs-written in_use.found (StandsFor-found puts content born in_use)
+  stands-written = StandsFor-slots_torn puts content born in_use (slots_written puts content) differs-written in_use.found
+      (StandsFor-found puts content born in_use)
 
   in_use-written : IsTrue (is_born (slots_written puts content)) × InUse puts (slots_written puts content)
   in_use-written = InUse-slots_torn puts content born in_use (slots_written puts content) differs-written
@@ -143,6 +153,7 @@ module _ (puts : List Put) (content : List ℕ) (born : IsTrue (is_born content)
       → IsTrue (is_born (overwrite (slots_written puts content) 512 (0 ∷ []))) × IsClosed 0 (overwrite (slots_written puts content) 512 (0 ∷ []))
   closed-written some =
       let within : 512 ≤ length (slots_written puts content) = omega (arith, long-slots_written) in (
-        (StandsFor-applied (overwrite (slots_written puts content) 512 (0 ∷ [])) in_use.found some stands-written (DiffersIn-overwrite 512 (slots_written puts content) (0 ∷ []) within)).1,
+        (StandsFor-applied (overwrite (slots_written puts content) 512 (0 ∷ [])) in_use.found some stands-written
+            (DiffersIn-overwrite 512 (slots_written puts content) (0 ∷ []) within)).1,
         subst (λ (byte : ℕ). IsFalse (opens byte)) (sym (get_or-overwrite_inside (slots_written puts content) (0 ∷ []) 512 within 0 (omega arith))) refl,
       )

@@ -1,5 +1,6 @@
 -- A journal and the content of its disk: opened, settled, read and committed.
-use Rattle.std.proofs.Common.{◌++◌, ◌+◌, Ok, Result, IsTrue, List, [], ap, arith, inl, inr, length, nat_lt, refl, subst, sym, ℕ, ⊎_elim, ◌<◌, ◌^◌, ◌∙◌, ◌≡◌, ◌≢◌, ◌≤◌, ◌⊎◌}
+use Rattle.std.proofs.Common.{◌++◌, ◌+◌, Ok, Result, IsTrue, List, [], ap, arith, inl, inr, length, nat_lt, refl, subst, sym, ℕ, ⊎_elim, ◌<◌, ◌^◌, ◌∙◌, ◌≡◌}
+use Rattle.std.proofs.Common.{◌≢◌, ◌≤◌, ◌⊎◌}
 use Rattle.std.proofs.lemmas.Bool.{both_ways, cond-false, cond-true, le-ltb, lt-ltb}
 use Rattle.std.proofs.lemmas.List.{length-append}
 use Rattle.ss_journal.specs.Commit.{AddsEntry, IsReadyFor}
@@ -80,7 +81,8 @@ born_formed phase in_use content (inr (inr is)) now = absurd (subst (λ p. IsInP
 
 -- a settled journal: the file alone gives the map, and no put waits
 pub IsKept-settled : (extent : ℕ) (waiting : List Put) (content : List ℕ) (found : SlotMap) → IsTrue (is_born content) → ClosedFrom 0 content
-    → StandsFor content found → found.extent ≡ extent → waiting ≡ [] → IsKept (record { phase = Settled; extent = extent; in_use = 0; waiting = waiting }) content
+    → StandsFor content found → found.extent ≡ extent → waiting ≡ [] → IsKept (record { phase = Settled; extent = extent; in_use = 0; waiting = waiting })
+    content
 IsKept-settled extent waiting content found born closed is same none =
     let first = closed 0 (omega arith) (omega arith) in
     let alone = redo-first_closed content born first in
@@ -140,9 +142,11 @@ module _ (journal : JournalState) (old new : Told) (kept : IsKept journal old.co
     reached = settled-kept waiting cleared.reached.0 cleared.reached.1 cleared.keeps_map.map none;
   }
 
-module _ (journal : JournalState) (content : List ℕ) (found : SlotMap) (slot : ℕ) (kept : IsKept journal content) (is : StandsFor content found) (lt : slot < 2 ^ 20) where
+module _ (journal : JournalState) (content : List ℕ) (found : SlotMap) (slot : ℕ) (kept : IsKept journal content) (is : StandsFor content found)
+    (lt : slot < 2 ^ 20) where
   unborn_bytes : IsTrue (is_unborn content) → zeros ≡ found.bytes slot
-  unborn_bytes unborn = let same : SameMap (blank_map content) found = subst (λ (r : Redone). Gives r found) (redo-unborn content unborn) is in same.bytes slot lt
+  unborn_bytes unborn = let same : SameMap (blank_map content) found = subst (λ (r : Redone). Gives r found) (redo-unborn content unborn) is in
+      same.bytes slot lt
 
   module _ (born : IsTrue (is_born content)) where
     map_is : kept.found ≡ changed (file_map content) journal.waiting
@@ -163,7 +167,8 @@ module _ (journal : JournalState) (content : List ℕ) (found : SlotMap) (slot :
     past_bytes : journal.extent ≤ slot → zeros ≡ found.bytes slot
     past_bytes past =
         let out = past_extent journal.waiting (slots_in (length content)) slot fit (omega (arith, extent_is, past)) in
-        sym (with_puts-beside journal.waiting (file_map content).bytes slot out.0 ∙ cond-false (nat_lt slot (slots_in (length content))) _ _ (le-ltb slot (slots_in (length content)) out.1)) ∙ born_bytes
+        sym (with_puts-beside journal.waiting (file_map content).bytes slot out.0 ∙ cond-false (nat_lt slot (slots_in (length content))) _ _
+        (le-ltb slot (slots_in (length content)) out.1)) ∙ born_bytes
 
     module _ (below : slot < journal.extent) (leaves : (map : ℕ → List ℕ) → with_puts journal.waiting map slot ≡ map slot) where
       pub slot_lies : slot < slots_in (length content)
@@ -171,7 +176,8 @@ module _ (journal : JournalState) (content : List ℕ) (found : SlotMap) (slot :
 
       pub slot_bytes : slot_at content slot ≡ found.bytes slot
       slot_bytes =
-          sym (leaves (file_map content).bytes ∙ cond-true (nat_lt slot (slots_in (length content))) _ _ (lt-ltb slot (slots_in (length content)) slot_lies)) ∙ born_bytes
+          sym (leaves (file_map content).bytes ∙ cond-true (nat_lt slot (slots_in (length content))) _ _ (lt-ltb slot (slots_in (length content)) slot_lies))
+          ∙ born_bytes
 
   -- a slot of an unformatted file, or from the extent on
   pub unused_bytes : IsTrue (is_unborn content) ⊎ (journal.extent ≤ slot) → zeros ≡ found.bytes slot

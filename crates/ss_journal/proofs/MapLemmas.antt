@@ -33,7 +33,8 @@ file_map-same old new long same = record {
   bytes = λ slot lt. elim (cases_lt slot (slots_in (length old))) [
     | inl within ↦
         cond-true _ _ _ (lt-ltb slot (slots_in (length new)) (subst (λ (n : ℕ). slot < slots_in n) (sym long) within))
-        ∙ piece-same old new (slot_place slot) 128 (slot_within (length old) slot within) (omega (arith, long, slot_within (length old) slot within)) (λ place low high. same place (omega (arith, low)))
+        ∙ piece-same old new (slot_place slot) 128 (slot_within (length old) slot within) (omega (arith, long, slot_within (length old) slot within))
+        (λ place low high. same place (omega (arith, low)))
         ∙ sym (cond-true _ _ _ (lt-ltb slot (slots_in (length old)) within))
     | inr past ↦
         cond-false _ _ _ (le-ltb slot (slots_in (length new)) (subst (λ (n : ℕ). slots_in n ≤ slot) (sym long) past))
@@ -49,7 +50,13 @@ file_map-blank image blank = record {
   bytes = λ slot lt. elim (cases_lt slot (slots_in (length image))) [
     | inl within ↦
         let inside = slot_within (length image) slot within in
-        let piece : length (slot_at image slot) ≡ 128 = omega (arith, inside, length-take 128 (drop (slot_place slot) image), length-drop (slot_place slot) image) in
+        let piece : length (slot_at image slot) ≡ 128 = omega (
+          arith,
+          inside,
+          length-take 128 (drop (slot_place slot) image),
+          length-drop
+              (slot_place slot) image,
+        ) in
         cond-true _ _ _ (lt-ltb slot (slots_in (length image)) within)
         ∙ ext_get_or 0 (slot_at image slot) zeros (omega (arith, piece, length-replicate {A = ℕ} 128 0)) (λ k low.
         let few : k < 128 = omega (arith, low, piece) in

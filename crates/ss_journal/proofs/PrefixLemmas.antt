@@ -26,7 +26,8 @@ pub entries-same : (old new : List ℕ) → 36864 ≤ length old → 36864 ≤ l
     → ((place : ℕ) → 512 ≤ place → place < 36864 → slice_index new place ≡ slice_index old place) → entries new ≡ entries old
 unfolding entries
 entries-same old new long also same =
-    map-range-same (entry_at new) (entry_at old) 0 64 (λ k low high. piece-same old new (entry_place k) 544 (omega (arith, high, long)) (omega (arith, high, also)) (λ place from to. same place (omega (arith, from)) (omega (arith, high, to))))
+    map-range-same (entry_at new) (entry_at old) 0 64 (λ k low high. piece-same old new (entry_place k) 544 (omega (arith, high, long))
+    (omega (arith, high, also)) (λ place from to. same place (omega (arith, from)) (omega (arith, high, to))))
 
 -- the entries after the first
 abbrev pub other_entries : List ℕ → List (List ℕ)
@@ -38,7 +39,8 @@ entries-first image = refl
 
 -- the gate of an entry is its first place
 pub gate-entry_at : (image : List ℕ) (n : ℕ) → slice_index (entry_at image n) 0 ≡ slice_index image (entry_place n)
-gate-entry_at image n = get_or-take 544 (drop (entry_place n) image) 0 0 (omega arith) ∙ get_or-drop (entry_place n) image 0 0 ∙ ap (slice_index image) (let none : entry_place n + 0 ≡ entry_place n = omega arith in none)
+gate-entry_at image n = get_or-take 544 (drop (entry_place n) image) 0 0 (omega arith) ∙ get_or-drop (entry_place n) image 0 0
+    ∙ ap (slice_index image) (let none : entry_place n + 0 ≡ entry_place n = omega arith in none)
 
 pub open_prefix-closed : (image : List ℕ) → IsClosed 0 image → open_prefix (entries image) ≡ []
 open_prefix-closed image closed =
@@ -92,7 +94,8 @@ open_prefix-run f from (suc m) zero le opened closed =
 open_prefix-run f from (suc m) (suc n) le opened closed =
     let there : from + suc n ≡ from + 1 + n = omega arith in
     cond-true _ _ _ (opened from (omega arith) (omega arith))
-    ∙ ap (λ (list : List (List ℕ)). f from ∷ list) (open_prefix-run f (from + 1) m n (omega (arith, le)) (λ k low high. opened k (omega (arith, low)) (omega (arith, high)))
+    ∙ ap (λ (list : List (List ℕ)). f from ∷ list)
+    (open_prefix-run f (from + 1) m n (omega (arith, le)) (λ k low high. opened k (omega (arith, low)) (omega (arith, high)))
     (λ lt. subst (λ (k : ℕ). IsFalse (is_open (f k))) there (closed (omega (arith, lt)))))
 
 -- the same of the entries of a file
@@ -116,13 +119,15 @@ pub open_prefix-drop : (image : List ℕ) (n : ℕ) → n < 64 → drop n (entri
 unfolding entries
 open_prefix-drop image n lt =
     let long = length-map-range_with_len (entry_at image) 0 64 in
-    drop_more (entries image) n [] (omega (arith, long)) ∙ ap (λ (entry : List ℕ). entry ∷ drop (n + 1) (entries image)) (get_or-map-range_with_len (entry_at image) 0 64 n n [] lt (zero-add n))
+    drop_more (entries image) n [] (omega (arith, long)) ∙ ap (λ (entry : List ℕ). entry ∷ drop (n + 1) (entries image))
+    (get_or-map-range_with_len (entry_at image) 0 64 n n [] lt (zero-add n))
 
 pub open_prefix-long : (list : List (List ℕ)) → All (λ entry. length entry ≡ 544) list → All (λ entry. length entry ≡ 544) (open_prefix list)
 open_prefix-long [] long = long
 open_prefix-long (entry ∷ rest) long =
     let P = λ (e : List ℕ). length e ≡ 544 in
-    cond_both (is_open entry) (entry ∷ open_prefix rest) [] (λ l. All P l) (λ opened. All-cons P entry (open_prefix rest) (All-head P entry rest long) (open_prefix-long rest (All-tail P entry rest long))) (λ closed. All-nil P)
+    cond_both (is_open entry) (entry ∷ open_prefix rest) [] (λ l. All P l)
+    (λ opened. All-cons P entry (open_prefix rest) (All-head P entry rest long) (open_prefix-long rest (All-tail P entry rest long))) (λ closed. All-nil P)
 
 entry_at-whole : (image : List ℕ) (n : ℕ) → 36864 ≤ length image → n < 64 → length (entry_at image n) ≡ 544
 entry_at-whole image n long lt = simp (length-take, length-drop) (omega arith)

@@ -1,5 +1,6 @@
 -- What puts make of maps and extents, and which puts fit.
-use Rattle.std.proofs.Common.{IsFalse, IsTrue, List, [], ap, arith, cond, drop, false, get_or, if◌then◌else◌, inl, inr, length, map, nat_eq, refl, subst, sym, take, true, ℕ, ⊎_elim, ◌++◌, ◌+◌, ◌<◌, ◌^◌, ◌∙◌, ◌∷◌, ◌≡◌, ◌≤◌}
+use Rattle.std.proofs.Common.{IsFalse, IsTrue, List, [], ap, arith, cond, drop, false, get_or, if◌then◌else◌, inl, inr, length, map, nat_eq, refl, subst, sym}
+use Rattle.std.proofs.Common.{take, true, ℕ, ⊎_elim, ◌++◌, ◌+◌, ◌<◌, ◌^◌, ◌∙◌, ◌∷◌, ◌≡◌, ◌≤◌}
 use Rattle.std.proofs.lemmas.Bool.Decides.{nat_tests}
 use Rattle.std.proofs.lemmas.Bool.{both_ways, cases_Bool, cases_lt, cond-false, cond-true, eq-eqb, false_from_ne_true, ne_eqb, or_cases, or_from, or_parts}
 use Rattle.std.proofs.lemmas.List.Elements.{All-append, All-cons, All-head, All-nil, All-tail, All-weaker}
@@ -66,7 +67,9 @@ with_puts-put (put ∷ puts) slot first second is =
     elim (cases_Bool (is_put puts slot)) [
       | inl later ↦ with_puts-put puts slot (with_put put first) (with_put put second) later
       | inr none ↦
-          let here = ⊎_elim (λ (same : IsTrue (nat_eq slot put.slot)). same) (λ (later : IsTrue (is_put puts slot)). absurd (both_ways (is_put puts slot) none later)) (or_cases (nat_eq slot put.slot) (is_put puts slot) is) in
+          let here = ⊎_elim (λ (same : IsTrue (nat_eq slot put.slot)). same)
+          (λ (later : IsTrue (is_put puts slot)). absurd (both_ways (is_put puts slot) none later))
+          (or_cases (nat_eq slot put.slot) (is_put puts slot) is) in
           let bytes = λ (map : ℕ → List ℕ). with_puts-beside puts (with_put put map) slot none ∙ cond-true (nat_eq slot put.slot) put.bytes (map slot) here in
           bytes first ∙ sym (bytes second)
     ]
@@ -138,7 +141,8 @@ pub slots_fit-again : (puts : List Put) (old new : ℕ) → IsTrue (slots_fit pu
 slots_fit-again [] old new fit le = fit
 slots_fit-again (put ∷ puts) old new fit le =
     let cases = slots_fit-cases put puts old fit in
-    slots_fit-make put puts new (omega (arith, cases.0, le)) (slots_fit-again puts (next put.slot old) (next put.slot new) cases.1 (next-mono put.slot old new cases.0 le))
+    slots_fit-make put puts new (omega (arith, cases.0, le))
+    (slots_fit-again puts (next put.slot old) (next put.slot new) cases.1 (next-mono put.slot old new cases.0 le))
 
 -- the new extent with the slot is still at most the last
 next-most : (put : Put) (puts : List Put) (old new : ℕ) → put.slot ≤ old → old ≤ new → new ≤ extent_after puts (next put.slot old)
@@ -179,7 +183,8 @@ pub waiting-below : (waiting puts : List Put) (extent : ℕ) → IsTrue (slots_f
     → All (λ put. put.slot < extent_after puts extent) (waiting ++ puts)
 waiting-below waiting puts extent fit below =
     let P = λ (p : Put). p.slot < extent_after puts extent in
-    All-append P waiting puts (All-weaker (λ (p : Put). p.slot < extent) P (λ p lt. omega (arith, lt, le-extent_after puts extent)) waiting below) (slots_fit-below puts extent fit)
+    All-append P waiting puts (All-weaker (λ (p : Put). p.slot < extent) P (λ p lt. omega (arith, lt, le-extent_after puts extent)) waiting below)
+    (slots_fit-below puts extent fit)
 
 below_next : (own extent slot : ℕ) → slot < next own extent → IsFalse (nat_eq slot own) → slot < extent
 below_next own extent slot below apart = grind (arith, nat_tests)

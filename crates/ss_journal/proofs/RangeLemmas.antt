@@ -1,7 +1,8 @@
 -- Contents that differ in some ranges: what writes there make of them, lost, torn or whole.
 use Rattle.std.proofs.Common.{List, [], ap, arith, drop, inl, inr, length, max, refl, replicate, sym, take, ℕ, ⊎_elim, ◌++◌, ◌+◌, ◌-◌, ◌∙◌, ◌∷◌, ◌≡◌, ◌≤◌}
 use Rattle.std.proofs.lemmas.Bool.{cases_lt}
-use Rattle.std.proofs.lemmas.List.{append_assoc, drop-drop, drop_at, get_or_past, length-append, length-replicate, length-take-le, replicate-append-replicate, take_at}
+use Rattle.std.proofs.lemmas.List.{append_assoc, drop-drop, drop_at, get_or_past, length-append, length-replicate, length-take-le, replicate-append-replicate}
+use Rattle.std.proofs.lemmas.List.{take_at}
 use Rattle.std.specs.Prelude.{slice_index}
 use Rattle.ss_outside.proofs.DiskLemmas.{get_or-overwrite_outside, length-overwrite}
 use Rattle.ss_outside.specs.Disk.{IsOutside, IsOutsideAll, Torn, overwrite}
@@ -109,7 +110,9 @@ overwrite-overwrite content first second at mid within there =
     let start : take mid (take at content ++ first ++ kept) ≡ take at content ++ first = take_at (take at content ++ first) kept mid front in
     let rest : drop (mid + length second) (take at content ++ first ++ kept) ≡ drop (at + length (first ++ second)) content =
     sym (drop-drop (length second) mid (take at content ++ first ++ kept)) ∙ ap (drop (length second)) (drop_at (take at content ++ first) kept mid front)
-    ∙ drop-drop (length second) (at + length first) content ∙ ap (λ (n : ℕ). drop n content) (let same : at + length first + length second ≡ at + length (first ++ second) = omega (arith, length-append first second) in same) in
+    ∙ drop-drop (length second) (at + length first) content
+    ∙ ap (λ (n : ℕ). drop n content) (let same : at + length first + length second ≡ at + length (first ++ second) = omega
+    (arith, length-append first second) in same) in
     ap (λ (list : List ℕ). list ++ second ++ drop (mid + length second) (take at content ++ first ++ kept)) start
     ∙ ap (λ (list : List ℕ). take at content ++ first ++ second ++ list) rest
     ∙ ap (λ (list : List ℕ). list ++ drop (at + length (first ++ second)) content) (append_assoc (take at content) first second)

@@ -1,5 +1,6 @@
 -- What an image stands for.
-use Rattle.std.proofs.Common.{IsFalse, IsTrue, List, [], ap, arith, cond, false, inl, inr, length, refl, subst, sym, true, ℕ, ◌++◌, ◌+◌, ◌<◌, ◌^◌, ◌∙◌, ◌∷◌, ◌≡◌, ◌≤◌}
+use Rattle.std.proofs.Common.{IsFalse, IsTrue, List, [], ap, arith, cond, false, inl, inr, length, refl, subst, sym, true, ℕ, ◌++◌, ◌+◌, ◌<◌, ◌^◌, ◌∙◌, ◌∷◌}
+use Rattle.std.proofs.Common.{◌≡◌, ◌≤◌}
 use Rattle.std.proofs.lemmas.Bool.Decides.{nat_tests}
 use Rattle.std.proofs.lemmas.Bool.{cases_Bool, cond-false, cond-true}
 use Rattle.std.proofs.lemmas.List.Elements.{All-append, All-head, All-nil, All-tail}
@@ -8,7 +9,8 @@ use Rattle.ss_journal.specs.Entries.{entries, is_good, open_prefix, puts_of}
 use Rattle.ss_journal.specs.Format.{entry_at, is_born, is_unborn, slots_in}
 use Rattle.ss_journal.specs.Gates.{IsClosed, opens}
 use Rattle.ss_journal.specs.Puts.{extent_after, AreWhole, slots_fit}
-use Rattle.ss_journal.specs.Redo.{CameInPart, entries_in_use, Gives, Redone, SameMap, SlotMap, StandsFor, bad_entry, blank_map, changed, file_map, not_a_store, puts_in_use, redo, redo_entries, stands}
+use Rattle.ss_journal.specs.Redo.{CameInPart, entries_in_use, Gives, Redone, SameMap, SlotMap, StandsFor, bad_entry, blank_map, changed, file_map, not_a_store}
+use Rattle.ss_journal.specs.Redo.{puts_in_use, redo, redo_entries, stands}
 use Rattle.ss_journal.specs.Writes.{AreSlots}
 use Rattle.ss_journal.specs.declared.put.Put.{Put}
 use Rattle.ss_journal.proofs.EntryLemmas.{AreWhole-puts_of, IsSoundEntry-good, is_good-again, is_good-some}
@@ -117,7 +119,8 @@ AreWhole-entries n (entry ∷ rest) found its long is =
 
 -- and so does a formatted file
 pub redo-born : (image : List ℕ) (its : SlotMap) → IsTrue (is_born image) → redo image ≡ stands its
-    → (its ≡ changed (file_map image) (puts_in_use image)) × IsTrue (slots_fit (puts_in_use image) (slots_in (length image))) × AreSlots (puts_in_use image) × AreWhole (puts_in_use image)
+    → (its ≡ changed (file_map image) (puts_in_use image)) × IsTrue (slots_fit (puts_in_use image) (slots_in (length image))) × AreSlots (puts_in_use image)
+    × AreWhole (puts_in_use image)
 redo-born image its born is =
     let list = open_prefix (entries image) in
     let here : redo_entries 0 list (file_map image) ≡ stands its = sym (redo-formed image born) ∙ is in
@@ -135,7 +138,8 @@ redo_entries-again n (entry ∷ rest) old new its is le = elim (cases_Bool (is_g
       let again = is_good-again entry old.extent new.extent good le in
       let stood : redo_entries (n + 1) rest (changed old (puts_of entry)) ≡ stands its = sym (cond-true _ _ _ good) ∙ is in
       cond-true _ _ _ again.0
-      ∙ redo_entries-again (n + 1) rest (changed old (puts_of entry)) (changed new (puts_of entry)) its stood (extent_after-mono (puts_of entry) old.extent new.extent again.1 le)
+      ∙ redo_entries-again (n + 1) rest (changed old (puts_of entry)) (changed new (puts_of entry)) its stood
+      (extent_after-mono (puts_of entry) old.extent new.extent again.1 le)
       ∙ ap stands (sym (changed-append new (puts_of entry) (flat_map puts_of rest)))
   | inr bad ↦ let other : bad_entry n ≡ stands its = sym (cond-false _ _ _ bad) ∙ is in absurd (cc)
 ]
@@ -161,7 +165,8 @@ redo_entries-idempotent n list old found new is part =
       bytes = λ slot lt. with_puts-again puts old.bytes new.bytes part.beside slot;
       extent = extent_after-again puts old.extent new.extent stood.1 part.no_less most;
     } in
-    subst (λ (r : Redone). Gives r found) (sym (redo_entries-again n list old new found is part.no_less)) (subst (SameMap (changed new puts)) (sym stood.0) same)
+    subst (λ (r : Redone). Gives r found) (sym (redo_entries-again n list old new found is part.no_less))
+    (subst (SameMap (changed new puts)) (sym stood.0) same)
 
 -- with the first gate closed a formatted file stands for its slots, and no entry is in use
 pub redo-first_closed : (image : List ℕ) → IsTrue (is_born image) → IsClosed 0 image
@@ -187,8 +192,10 @@ pub first_closed-none : (image : List ℕ) (its : SlotMap) → IsTrue (is_born i
 first_closed-none image its born is none = elim (cases_Bool (opens (slice_index image 512))) [
   | inl opened ↦
       let prefix = open_prefix-open image opened in
-      let stood : redo_entries 0 (entry_at image 0 ∷ open_prefix (other_entries image)) (file_map image) ≡ stands its = ap (λ (list : List (List ℕ)). redo_entries 0 list (file_map image)) (sym prefix) ∙ sym (redo-formed image born) ∙ is in
-      let empty : puts_of (entry_at image 0) ++ flat_map puts_of (open_prefix (other_entries image)) ≡ [] = ap (flat_map puts_of) (sym prefix) ∙ sym (puts_in_use-formed image born) ∙ none in
+      let stood : redo_entries 0 (entry_at image 0 ∷ open_prefix (other_entries image)) (file_map image) ≡ stands its = ap
+      (λ (list : List (List ℕ)). redo_entries 0 list (file_map image)) (sym prefix) ∙ sym (redo-formed image born) ∙ is in
+      let empty : puts_of (entry_at image 0) ++ flat_map puts_of (open_prefix (other_entries image)) ≡ [] = ap (flat_map puts_of) (sym prefix)
+      ∙ sym (puts_in_use-formed image born) ∙ none in
       absurd (is_good-some (entry_at image 0) _ (redo_entries-first (entry_at image 0) _ (file_map image) its stood) _ empty)
   | inr closed ↦ closed
 ]

@@ -2,8 +2,9 @@
 use Rattle.std.proofs.Common.{◌≡◌, ℕ, ◌+◌, ◌-◌, ◌*◌, ◌^◌, true, false, List, [], ◌∷◌, ◌++◌, length, map, replicate, Ok, Err, refl}
 use Rattle.std.specs.List.{range_with_len}
 use Rattle.ss_fields.specs.Fields as Fields
-use Rattle.ss_journal.specs.declared.format.TheConstants.{GATE_OPEN, MAGIC_END, ENTRIES, ENTRY_SIZE, FIRST_ENTRY, MOST_PUTS, PUT_SIZE, MOST_WAITING, SLOT_SIZE, MOST_SLOTS, FIRST_SLOT, FILE_END}
 use Rattle.ss_outside.specs.Verdict.{fine, refused, no_memory, failed}
+use Rattle.ss_journal.specs.declared.format.TheConstants.{GATE_OPEN, MAGIC_END, ENTRIES, ENTRY_SIZE, FIRST_ENTRY, MOST_PUTS, PUT_SIZE, MOST_WAITING, SLOT_SIZE}
+use Rattle.ss_journal.specs.declared.format.TheConstants.{MOST_SLOTS, FIRST_SLOT, FILE_END}
 use Rattle.ss_journal.specs.Calls.{entries_after, verdict_of_open}
 use Rattle.ss_journal.specs.declared.journal_error.JournalError.{JournalError}
 use Rattle.ss_journal.specs.declared.journal_error.JournalError.TheVariants.{Disk, NotAStore, BadEntry, OutOfMemory}
@@ -115,11 +116,13 @@ open_prefix-open = refl
 abbrev pub no_slots : SlotMap
 no_slots = record { bytes = λ slot. zeros; extent = 0 }
 
-pub redo_entries-two : redo_entries 0 (one_put 0 1 ∷ one_put 0 2 ∷ []) no_slots ≡ stands (changed no_slots (record { slot = 0; bytes = replicate 128 1 } ∷ record { slot = 0; bytes = replicate 128 2 } ∷ []))
+pub redo_entries-two : redo_entries 0 (one_put 0 1 ∷ one_put 0 2 ∷ []) no_slots ≡ stands
+    (changed no_slots (record { slot = 0; bytes = replicate 128 1 } ∷ record { slot = 0; bytes = replicate 128 2 } ∷ []))
 unfolding is_good puts_of Fields.number_at
 redo_entries-two = refl
 
-pub changed-two : (changed no_slots (record { slot = 0; bytes = replicate 128 1 } ∷ record { slot = 0; bytes = replicate 128 2 } ∷ [])).bytes 0 ≡ replicate 128 2
+pub changed-two : (changed no_slots (record { slot = 0; bytes = replicate 128 1 } ∷ record { slot = 0; bytes = replicate 128 2 } ∷ [])).bytes 0 ≡ replicate 128
+    2
 changed-two = refl
 
 pub changed-extent : (changed no_slots (record { slot = 0; bytes = replicate 128 1 } ∷ record { slot = 0; bytes = replicate 128 2 } ∷ [])).extent ≡ 1

@@ -1,6 +1,5 @@
 -- The steps of a settling: puts come into their slots, and gates close.
-use Rattle.std.proofs.Common.{Bool, IsFalse, List, Ok, Result, [], ap, arith, false, length, refl, subst, sym, ℕ, ◌+◌, ◌<◌, ◌∷◌, ◌≡◌, ◌≤◌}
-use Rattle.std.proofs.lemmas.Result.{on_ok_weaker}
+use Rattle.std.proofs.Common.{Bool, List, Ok, Result, [], ap, arith, false, length, refl, subst, sym, ℕ, ◌+◌, ◌<◌, ◌∷◌, ◌≡◌, ◌≤◌}
 use Rattle.std.specs.Prelude.{IsErr}
 use Rattle.ss_outside.proofs.CrashLemmas.{nothing_pending-same, reads-none, same-joined}
 use Rattle.ss_outside.specs.Crash.{KnowsNow}
@@ -10,15 +9,16 @@ use Rattle.ss_outside.specs.declared.source.Failed.{Failed}
 use Rattle.ss_journal.specs.Format.{IsCleared, IsShut}
 use Rattle.ss_journal.specs.Gates.{ClosesGate, IsClosed, entry_place, other_gates}
 use Rattle.ss_journal.specs.Redo.{HasEntries, StandsFor}
-use Rattle.ss_journal.specs.Steps.{Clears, Durably, Reaches, Rewrites, Shuts, Writes, WritesSlots}
+use Rattle.ss_journal.specs.Steps.{Clears, Durably, Reaches, Shuts, Writes, WritesSlots}
 use Rattle.ss_journal.specs.Writes.{DiffersAt, DiffersIn, Tears, slots_written}
 use Rattle.ss_journal.specs.declared.put.Put.{Put}
 use Rattle.ss_journal.proofs.GateLemmas.{ClosedFrom-others, Covers-gate, DiffersIn-gate, StandsFor-other_gates, born-others, closed-more}
 use Rattle.ss_journal.proofs.HeaderLemmas.{is_born-parts}
-use Rattle.ss_journal.proofs.InUseLemmas.{HasPlaces-in_use, StandsFor-applied, StandsFor-slots_torn, closed-written, differs-written, long-slots_written}
+use Rattle.ss_journal.proofs.InUseLemmas.{StandsFor-applied, StandsFor-slots_torn, closed-written, differs-written, long-slots_written}
 use Rattle.ss_journal.proofs.RangeLemmas.{DiffersIn-overwrite, DiffersIn-refl}
 use Rattle.ss_journal.proofs.StepLemmas.{reaches-joined, reaches-rewritten, reaches-torn}
-use Rattle.ss_journal.proofs.TearLemmas.{durable-sync_failed, durable-synced, keeps-failed, keeps-sync_failed, keeps-synced, keeps-torn, on_err, on_ok, tears-more, tears-none, tears-synced}
+use Rattle.ss_journal.proofs.TearLemmas.{durable-sync_failed, durable-synced, keeps-failed, keeps-sync_failed, keeps-synced, keeps-torn, on_err, on_ok}
+use Rattle.ss_journal.proofs.TearLemmas.{tears-more, tears-none, tears-synced}
 
 -- the puts of a formatted file's entries, written into their slots
 module _ (puts : List Put) (old mid : Told) (entries : HasEntries puts old.content) where
@@ -118,7 +118,8 @@ module _ (old mid : Told) (knows : KnowsNow old) (result : Result (Unit {0}) Fai
     makes_durable = durable-sync_failed old mid knows synced.time synced.no_other result is;
   }
 
-  pub clears-synced : (value : Unit {0}) (new : Told) → Syncs (Ok value) old mid → Reaches (λ _ content. IsCleared content) result mid new → Clears result old new
+  pub clears-synced : (value : Unit {0}) (new : Told) → Syncs (Ok value) old mid → Reaches (λ _ content. IsCleared content) result mid new
+      → Clears result old new
   clears-synced value new synced reaches = record {
     cleared = record {
       keeps_map = keeps-synced old mid knows synced.time synced.no_other result new synced.content synced.durable reaches.keeps_map;

@@ -1,5 +1,6 @@
 -- Puts that are written into their slots, and slots that a crash tears.
-use Rattle.std.proofs.Common.{IsFalse, IsTrue, List, [], ap, arith, drop, get_or, inl, inr, length, max, nat_eq, subst, suc, sym, take, zero, ℕ, ◌++◌, ◌+◌, ◌<◌, ◌^◌, ◌∙◌, ◌∷◌, ◌≡◌, ◌≤◌}
+use Rattle.std.proofs.Common.{IsFalse, IsTrue, List, [], ap, arith, drop, get_or, inl, inr, length, max, nat_eq, subst, suc, sym, take, zero, ℕ, ◌++◌, ◌+◌, ◌<◌}
+use Rattle.std.proofs.Common.{◌^◌, ◌∙◌, ◌∷◌, ◌≡◌, ◌≤◌}
 use Rattle.std.proofs.lemmas.Bool.{cases_eq, cases_lt, cases_order, cond-false, cond-true, eq-eqb, eqb-false, le-ltb, lt-ltb, ne_eqb, or_parts}
 use Rattle.std.proofs.lemmas.List.Elements.{All-head, All-tail}
 use Rattle.std.proofs.lemmas.List.{append_assoc, drop_at, drop_more, length-take-le, take_at}
@@ -44,12 +45,14 @@ slots_in-end_of [] size extent fit le = le
 slots_in-end_of (put ∷ puts) size extent fit le =
     let cases = slots_fit-cases put puts extent fit in
     let rest = slots_in-end_of puts size (next put.slot extent) cases.1 (omega (arith, le, next-le put.slot extent)) in
-    slots_in-max put.slot size (end_of (slot_ranges puts) size) (extent_after puts (next put.slot extent)) rest (omega (arith, lt-next put.slot extent cases.0, le-extent_after puts (next put.slot extent)))
+    slots_in-max put.slot size (end_of (slot_ranges puts) size) (extent_after puts (next put.slot extent)) rest
+    (omega (arith, lt-next put.slot extent cases.0, le-extent_after puts (next put.slot extent)))
 
 pub slots_in-mono : (old new : ℕ) → old ≤ new → slots_in old ≤ slots_in new
 slots_in-mono old new le = omega arith
 
-module _ (puts : List Put) (content image : List ℕ) (fit : IsTrue (slots_fit puts (slots_in (length content)))) (differs : DiffersIn (slot_ranges puts) content image) where
+module _ (puts : List Put) (content image : List ℕ) (fit : IsTrue (slots_fit puts (slots_in (length content))))
+    (differs : DiffersIn (slot_ranges puts) content image) where
   pub slots_in-torn : slots_in (length image) ≤ extent_after puts (slots_in (length content))
   slots_in-torn =
       let most = slots_in-end_of puts (length content) (slots_in (length content)) fit (omega arith) in
@@ -63,7 +66,8 @@ module _ (puts : List Put) (content image : List ℕ) (fit : IsTrue (slots_fit p
         let inside = slot_within (length content) slot within in
         let mono = slots_in-mono (length content) (length image) differs.no_shorter in
         cond-true _ _ _ (lt-ltb slot (slots_in (length image)) (omega (arith, within, mono)))
-        ∙ piece-same content image (slot_place slot) 128 inside (omega (arith, inside, differs.no_shorter)) (λ place low high. differs.kept place (omega (arith, high, inside)) (outside_slot puts slot place beside low high))
+        ∙ piece-same content image (slot_place slot) 128 inside (omega (arith, inside, differs.no_shorter))
+        (λ place low high. differs.kept place (omega (arith, high, inside)) (outside_slot puts slot place beside low high))
         ∙ sym (cond-true _ _ _ (lt-ltb slot (slots_in (length content)) within))
     | inr past ↦ elim (cases_lt slot (slots_in (length image))) [
       | inl below ↦ let lt = below_extent puts (slots_in (length content)) slot (omega (arith, below, slots_in-torn)) beside in absurd (omega (arith, lt, past))
@@ -75,8 +79,10 @@ module _ (puts : List Put) (content image : List ℕ) (fit : IsTrue (slots_fit p
 slots_in-put : (size slot : ℕ) → 36864 ≤ size → slot ≤ slots_in size → slot < 2 ^ 20
     → slots_in (max size (slot_place slot + 128)) ≡ next slot (slots_in size)
 slots_in-put size slot long fits lt = elim (cases_eq slot (slots_in size)) [
-  | inl same ↦ let more : next slot (slots_in size) ≡ slots_in size + 1 = cond-true _ _ _ (eq-eqb slot (slots_in size) same) in omega (arith, more, same, lt, long)
-  | inr other ↦ let none : next slot (slots_in size) ≡ slots_in size = cond-false _ _ _ (ne_eqb slot (slots_in size) other) in omega (arith, none, other, fits, long)
+  | inl same ↦ let more : next slot (slots_in size) ≡ slots_in size + 1 = cond-true _ _ _ (eq-eqb slot (slots_in size) same) in
+      omega (arith, more, same, lt, long)
+  | inr other ↦ let none : next slot (slots_in size) ≡ slots_in size = cond-false _ _ _ (ne_eqb slot (slots_in size) other) in
+      omega (arith, none, other, fits, long)
 ]
 
 -- a slot past the file is past it with another slot written
@@ -84,7 +90,8 @@ slots_in-other : (size slot other : ℕ) → 36864 ≤ size → slot ≤ slots_i
     → slots_in (max size (slot_place slot + 128)) ≤ other
 slots_in-other size slot other long fits past apart = omega (arith, apart)
 
-module _ (put : Put) (content : List ℕ) (long : 36864 ≤ length content) (fits : put.slot ≤ slots_in (length content)) (below : put.slot < 2 ^ 20) (whole : length put.bytes ≡ 128) where
+module _ (put : Put) (content : List ℕ) (long : 36864 ≤ length content) (fits : put.slot ≤ slots_in (length content)) (below : put.slot < 2 ^ 20)
+    (whole : length put.bytes ≡ 128) where
   abbrev written : List ℕ
   written = overwrite content (slot_place put.slot) put.bytes
 
@@ -100,8 +107,10 @@ module _ (put : Put) (content : List ℕ) (long : 36864 ≤ length content) (fit
   slot_at-written : slot_at written put.slot ≡ put.bytes
   slot_at-written =
       let front : length (take (slot_place put.slot) content) ≡ slot_place put.slot = length-take-le (slot_place put.slot) content place_within in
-      ap (λ (list : List ℕ). take 128 (drop (slot_place put.slot) list)) (append_assoc (take (slot_place put.slot) content) put.bytes (drop (slot_place put.slot + length put.bytes) content))
-      ∙ ap (take 128) (drop_at (take (slot_place put.slot) content) (put.bytes ++ drop (slot_place put.slot + length put.bytes) content) (slot_place put.slot) front)
+      ap (λ (list : List ℕ). take 128 (drop (slot_place put.slot) list))
+      (append_assoc (take (slot_place put.slot) content) put.bytes (drop (slot_place put.slot + length put.bytes) content))
+      ∙ ap (take 128) (drop_at (take (slot_place put.slot) content) (put.bytes ++ drop (slot_place put.slot + length put.bytes) content) (slot_place put.slot)
+      front)
       ∙ take_at put.bytes (drop (slot_place put.slot + length put.bytes) content) 128 whole
 
   bytes-written : (slot : ℕ) → (slot ≡ put.slot → ⊥) → (file_map written).bytes slot ≡ (file_map content).bytes slot
@@ -193,7 +202,9 @@ DiffersIn-slots_written (put ∷ puts) content long fit slots whole =
     let full = All-head (λ (p : Put). length p.bytes ≡ 128) put puts whole in
     let grown = length-written put content long cases.0 below full in
     let next = overwrite content (slot_place put.slot) put.bytes in
-    let first = subst (λ (n : ℕ). DiffersAt (slot_place put.slot) n content next) full (DiffersIn-overwrite (slot_place put.slot) content put.bytes (omega (arith, long, cases.0))) in
-    let rest = DiffersIn-slots_written puts next (omega (arith, grown, long)) (subst (λ (n : ℕ). IsTrue (slots_fit puts n)) (sym (slots-written put content long cases.0 below full)) cases.1)
+    let first = subst (λ (n : ℕ). DiffersAt (slot_place put.slot) n content next) full
+    (DiffersIn-overwrite (slot_place put.slot) content put.bytes (omega (arith, long, cases.0))) in
+    let rest = DiffersIn-slots_written puts next (omega (arith, grown, long))
+    (subst (λ (n : ℕ). IsTrue (slots_fit puts n)) (sym (slots-written put content long cases.0 below full)) cases.1)
     (All-tail (λ (p : Put). p.slot < 2 ^ 20) put puts slots) (All-tail (λ (p : Put). length p.bytes ≡ 128) put puts whole) in
     DiffersIn-append ((slot_place put.slot, 128) ∷ []) (slot_ranges puts) content next (slots_written puts next) first rest

@@ -1,5 +1,5 @@
 -- The steps of a call, one after another: what they leave of the disk, and of the map.
-use Rattle.std.proofs.Common.{Err, IsTrue, List, Ok, Result, [], ap, length, sym, subst, ℕ, ◌∙◌, ◌∷◌, ◌≡◌}
+use Rattle.std.proofs.Common.{Err, IsTrue, List, Ok, Result, [], ap, length, sym, subst, ℕ, ◌∙◌, ◌∷◌}
 use Rattle.std.proofs.lemmas.Result.{on_ok_weaker}
 use Rattle.std.specs.Prelude.{IsErr, OnOk}
 use Rattle.ss_outside.proofs.CrashLemmas.{reads-joined}

@@ -29,23 +29,30 @@ module _ (old new : Told) where
   tears-write at count knows pending time =
       let ranges : List (ℕ × ℕ) = (at, count) ∷ [] in
       goes_on old old new (IsTorn ranges old) (tears-none ranges old knows) time
-      (after_write at count old new (IsTorn ranges old) pending (IsTorn-none ranges old) (λ was image left torn. record { was = was; left = left; differs = DiffersAt-torn at count was image torn }))
+      (after_write at count old new (IsTorn ranges old) pending (IsTorn-none ranges old)
+      (λ was image left torn. record { was = was; left = left; differs = DiffersAt-torn at count was image torn }))
 
   -- with nothing pending they differ from the content there
   pub tears-content : (ranges : List (ℕ × ℕ)) → NothingPending old → Tears ranges old new → LeavesOnly old new (DiffersIn ranges old.content)
   tears-content ranges only run =
-      weaker old new (IsTorn ranges old) (DiffersIn ranges old.content) (λ image torn. subst (λ (was : List ℕ). DiffersIn ranges was image) (only torn.was torn.left) torn.differs) run
+      weaker old new (IsTorn ranges old) (DiffersIn ranges old.content)
+      (λ image torn. subst (λ (was : List ℕ). DiffersIn ranges was image) (only torn.was torn.left) torn.differs) run
 
 module _ (old mid new : Told) where
   -- a run after a read
   pub tears-after_read : (ranges : List (ℕ × ℕ)) → KnowsNow old → OnlyReads old mid → Tears ranges mid new → Tears ranges old new
   tears-after_read ranges knows reads run = joined old mid new (IsTorn ranges old) (tears-read old mid ranges knows reads)
-      (weaker mid new (IsTorn ranges mid) (IsTorn ranges old) (λ image torn. record { was = torn.was; left = (reads.same.images torn.was).1 torn.left; differs = torn.differs }) run)
+      (weaker mid new (IsTorn ranges mid) (IsTorn ranges old) (λ image torn. record {
+        was = torn.was;
+        left = (reads.same.images torn.was).1 torn.left;
+        differs = torn.differs;
+      }) run)
 
   module _ (first : List (ℕ × ℕ)) (knows : KnowsNow mid) (so_far : Tears first old mid) where
     -- a sync after a run
     pub tears-synced : Elapses mid new → ((image : List ℕ) → new.may_leave image → mid.may_leave image) → Tears first old new
-    tears-synced time no_other = goes_on old mid new (IsTorn first old) so_far time (λ image left. now old mid (IsTorn first old) knows so_far image (no_other image left))
+    tears-synced time no_other = goes_on old mid new (IsTorn first old) so_far time
+        (λ image left. now old mid (IsTorn first old) knows so_far image (no_other image left))
 
     -- a run after a run
     pub tears-joined : (second : List (ℕ × ℕ)) → Tears second mid new → Tears (first ++ second) old new
@@ -82,7 +89,8 @@ module _ {T E : Type 0} (old new : Told) (result : Result T E) where
       → OnOk result (DiffersIn ranges old.content new.content) → (NothingPending old → OnOk result (NothingPending new)) → KeepsMap old new result
   keeps-torn ranges run stays differs durable = record {
     map = λ found is. on_ok_weaker result (stays found new.content is) differs;
-    any_moment = λ only found is. weaker old new (DiffersIn ranges old.content) (λ image. StandsFor image found) (λ image. stays found image is) (tears-content old new ranges only run);
+    any_moment = λ only found is. weaker old new (DiffersIn ranges old.content) (λ image. StandsFor image found) (λ image. stays found image is)
+        (tears-content old new ranges only run);
     durable = durable;
   }
 
@@ -95,7 +103,8 @@ keeps-failed old new result failed ranges run stays = keeps-torn old new result 
 pub keeps-read : {T E : Type 0} (old new : Told) (result : Result T E) → KnowsNow old → OnlyReads old new → KeepsMap old new result
 keeps-read old new result knows reads = record {
   map = λ found is. on_ok result (subst (λ (list : List ℕ). StandsFor list found) (sym reads.same.content) is);
-  any_moment = λ only found is. weaker old new old.may_leave (λ image. StandsFor image found) (of_content old (λ image. StandsFor image found) only is) (read_leaves old new knows reads);
+  any_moment = λ only found is. weaker old new old.may_leave (λ image. StandsFor image found) (of_content old (λ image. StandsFor image found) only is)
+      (read_leaves old new knows reads);
   durable = λ only. on_ok result (nothing_pending-same old new reads.same only);
 }
 
@@ -112,7 +121,8 @@ pub changes-failed : {T E S : Type 0} (old new : Told) (puts : List Put) (result
     → KeepsMap old new step → ChangesMap puts old new result
 changes-failed old new puts result step failed keeps = record {
   map = λ found is. on_err result _ failed;
-  any_moment = λ only found is. weaker old new (λ image. StandsFor image found) (λ image. StandsFor image found ⊎ StandsFor image (changed found puts)) (λ image stands. inl stands) (keeps.any_moment only found is);
+  any_moment = λ only found is. weaker old new (λ image. StandsFor image found) (λ image. StandsFor image found ⊎ StandsFor image (changed found puts))
+      (λ image stands. inl stands) (keeps.any_moment only found is);
   durable = on_err result _ failed;
 }
 
@@ -120,7 +130,8 @@ module _ {T E : Type 0} (old mid new : Told) (result : Result T E) {S : Type 0} 
   pub keeps-joined : KeepsMap {T = S} {E = E} old mid (Ok value) → KeepsMap mid new result → KeepsMap old new result
   keeps-joined first second = record {
     map = λ found is. second.map found (first.map found is);
-    any_moment = λ only found is. joined old mid new (λ image. StandsFor image found) (first.any_moment only found is) (second.any_moment (first.durable only) found (first.map found is));
+    any_moment = λ only found is. joined old mid new (λ image. StandsFor image found) (first.any_moment only found is)
+        (second.any_moment (first.durable only) found (first.map found is));
     durable = λ only. second.durable (first.durable only);
   }
 
@@ -140,7 +151,8 @@ changes-after old mid new puts value result first second = record {
   map = λ found is. second.map found (first.map found is);
   any_moment = λ only found is.
       let P : List ℕ → Type 0 = λ image. StandsFor image found ⊎ StandsFor image (changed found puts) in
-      joined old mid new P (weaker old mid (λ image. StandsFor image found) P (λ image stands. inl stands) (first.any_moment only found is)) (second.any_moment (first.durable only) found (first.map found is));
+      joined old mid new P (weaker old mid (λ image. StandsFor image found) P (λ image stands. inl stands) (first.any_moment only found is))
+      (second.any_moment (first.durable only) found (first.map found is));
   durable = second.durable;
 }
 
@@ -152,7 +164,8 @@ module _ (old mid : Told) (knows : KnowsNow old) (time : Elapses old mid) (no_ot
 
   -- with nothing pending that is the content
   kept_before : NothingPending old → (found : SlotMap) → StandsFor old.content found → LeavesOnly old mid (λ image. StandsFor image found)
-  kept_before only found is = weaker old mid old.may_leave (λ image. StandsFor image found) (of_content old (λ image. StandsFor image found) only is) before_sync
+  kept_before only found is = weaker old mid old.may_leave (λ image. StandsFor image found) (of_content old (λ image. StandsFor image found) only is)
+      before_sync
 
   left_before : (found : SlotMap) → LeavesOnly old mid (λ image. old.may_leave image ⊎ StandsFor image found)
   left_before found = weaker old mid old.may_leave (λ image. old.may_leave image ⊎ StandsFor image found) (λ image left. inl left) before_sync
@@ -177,7 +190,8 @@ module _ (old mid : Told) (knows : KnowsNow old) (time : Elapses old mid) (no_ot
       pub keeps-synced : KeepsMap old new result
       keeps-synced = record {
         map = λ found is. keeps.map found (stands found is);
-        any_moment = λ none found is. joined old mid new (λ image. StandsFor image found) (kept_before none found is) (keeps.any_moment only found (stands found is));
+        any_moment = λ none found is. joined old mid new (λ image. StandsFor image found) (kept_before none found is)
+            (keeps.any_moment only found (stands found is));
         durable = λ none. keeps.durable only;
       }
 
@@ -186,5 +200,6 @@ module _ (old mid : Told) (knows : KnowsNow old) (time : Elapses old mid) (no_ot
         durable = keeps.durable only;
         any_moment = λ born found is.
             let P : List ℕ → Type 0 = λ image. old.may_leave image ⊎ StandsFor image found in
-            joined old mid new P (left_before found) (weaker mid new (λ image. StandsFor image found) P (λ image stood. inr stood) (keeps.any_moment only found (stands found is)));
+            joined old mid new P (left_before found) (weaker mid new (λ image. StandsFor image found) P (λ image stood. inr stood)
+            (keeps.any_moment only found (stands found is)));
       }

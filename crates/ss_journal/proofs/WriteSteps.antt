@@ -1,5 +1,6 @@
 -- Puts are written into their slots one after another, and zeros piece by piece.
-use Rattle.std.proofs.Common.{List, Ok, Result, [], ap, arith, drop, get_or, length, refl, replicate, sym, subst, take, ℕ, ◌++◌, ◌+◌, ◌-◌, ◌<◌, ◌^◌, ◌∙◌, ◌∷◌, ◌≡◌, ◌≤◌}
+use Rattle.std.proofs.Common.{List, Ok, Result, [], ap, arith, drop, get_or, length, refl, replicate, sym, subst, take, ℕ, ◌++◌, ◌+◌, ◌-◌, ◌<◌, ◌^◌, ◌∙◌, ◌∷◌}
+use Rattle.std.proofs.Common.{◌≡◌, ◌≤◌}
 use Rattle.std.proofs.lemmas.List.{append-nil, drop_all, length-replicate, take-append-drop, take-replicate}
 use Rattle.std.proofs.lemmas.Result.{on_ok_weaker}
 use Rattle.std.specs.Prelude.{IsErr}
@@ -74,9 +75,11 @@ BlankTo-none at end disk knows within = record {
   written = overwrite-none disk.content at within;
 }
 
-module _ (at from end count : ℕ) (old mid new : Told) (knows : KnowsNow mid) (low : at ≤ from) (high : from + count ≤ end) (so_far : BlankTo at from end old mid) where
+module _ (at from end count : ℕ) (old mid new : Told) (knows : KnowsNow mid) (low : at ≤ from) (high : from + count ≤ end)
+    (so_far : BlankTo at from end old mid) where
   tears-piece : {result : Result (Unit {0}) Failed} → WritesZeros from count result mid new → Tears ((at, end - at) ∷ []) old new
-  tears-piece step = tears-more old mid new ((at, end - at) ∷ []) knows so_far.tears from count (Covers-part at (end - at) from count low (omega (arith, low, high))) step.tears
+  tears-piece step = tears-more old mid new ((at, end - at) ∷ []) knows so_far.tears from count
+      (Covers-part at (end - at) from count low (omega (arith, low, high))) step.tears
 
   pub BlankTo-more : (value : Unit {0}) → at ≤ length old.content → WritesZeros from count (Ok value) mid new → BlankTo at (from + count) end old new
   BlankTo-more value within step = record {

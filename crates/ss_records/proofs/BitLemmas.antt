@@ -1,5 +1,6 @@
 -- Bits in words of 64.
-use Rattle.std.proofs.Common.{◌≡◌, ◌≢◌, ◌∙◌, sym, ap, refl, ℕ, ◌+◌, ◌-◌, ◌*◌, ◌/◌, ◌%◌, ◌^◌, ◌<◌, ◌≤◌, Bool, true, false, cond, nat_eq, List, length, get_or, set, arith, w64, inl, inr, bit_or, bit_and}
+use Rattle.std.proofs.Common.{◌≡◌, ◌≢◌, ◌∙◌, sym, ap, refl, ℕ, ◌+◌, ◌-◌, ◌*◌, ◌/◌, ◌%◌, ◌^◌, ◌<◌, ◌≤◌, Bool, true, false, cond, nat_eq, List, length, get_or}
+use Rattle.std.proofs.Common.{set, arith, w64, inl, inr, bit_or, bit_and}
 use Rattle.std.proofs.lemmas.Bool.{eq-eqb, ne_eqb, eqb-true, eqb-false, cases_eq, cond-true, cond-false}
 use Rattle.std.proofs.lemmas.List.{get_or-set_same, get_or-set_other}
 use Rattle.std.proofs.lemmas.Nat.Bits.{bit_at_set_same, bit_at_set_other, bit_at_clear_same, bit_at_clear_other, bit_at-trailing_ones, bit_at_ones}
@@ -48,7 +49,8 @@ is_set-put words word k to within bits j =
     elim (cases_eq (j / 64) (k / 64)) [
       | inl same ↦ (
           let old = get_or words (k / 64) 0 in
-          let read : get_or (set words (k / 64) word) (j / 64) 0 ≡ word = ap (λ (n : ℕ). get_or (set words (k / 64) word) n 0) same ∙ get_or-set_same words (k / 64) word 0 within in
+          let read : get_or (set words (k / 64) word) (j / 64) 0 ≡ word = ap (λ (n : ℕ). get_or (set words (k / 64) word) n 0) same
+          ∙ get_or-set_same words (k / 64) word 0 within in
           ap (λ (w : ℕ). nat_eq (bit_at w (j % 64)) 1) read
           ∙ ap (λ (n : ℕ). nat_eq n 1) (bits (j % 64) (omega arith))
           ∙ digit-cond (nat_eq (j % 64) (k % 64)) to (bit_at old (j % 64))
@@ -85,7 +87,8 @@ module _ (words : List ℕ) (n place : ℕ) (fits : get_or words n 0 < 2 ^ 64) (
         let ones = bit_at-trailing_ones w64 (get_or words n 0) not_full in
         let before : j - 64 * n < trailing_ones w64 (get_or words n 0) = omega (arith, from, lt, is) in
         let split : j ≡ 64 * n + (j - 64 * n) = omega (arith, from) in
-        ap (is_set words) split ∙ is_set-within words n (j - 64 * n) (omega (arith, before, ones.0)) ∙ ap (λ (bit : ℕ). nat_eq bit 1) (ones.2 (j - 64 * n) before)
+        ap (is_set words) split ∙ is_set-within words n (j - 64 * n) (omega (arith, before, ones.0))
+        ∙ ap (λ (bit : ℕ). nat_eq bit 1) (ones.2 (j - 64 * n) before)
 
 -- every bit of a full word
 pub is_set-full : (words : List ℕ) (j : ℕ) → is_full (get_or words (j / 64) 0) ≡ true → is_set words j ≡ true

@@ -1,6 +1,8 @@
 -- Which slots are live, after puts, and the lowest that isn't.
-use Rattle.std.proofs.Common.{◌≡◌, ◌∙◌, sym, ap, refl, ℕ, ◌+◌, ◌<◌, ◌≤◌, Bool, true, false, cond, not, nat_eq, List, [], ◌∷◌, length, replicate, get_or, set, All, arith, inl, inr, Option, Some, None, IsNone, IfSome, IsTrue, ◌↔◌, ◌⊎◌}
-use Rattle.std.proofs.lemmas.Bool.{eq-eqb, eqb-true, ne_eqb, cases_eq, cases_lt, cond-true, cond-false, lt-ltb, le-ltb, leb-true, and_parts, both_ways, not-false}
+use Rattle.std.proofs.Common.{◌≡◌, ◌∙◌, sym, ap, refl, ℕ, ◌+◌, ◌<◌, ◌≤◌, Bool, true, false, cond, not, nat_eq, List, [], ◌∷◌, length, replicate, get_or, set}
+use Rattle.std.proofs.Common.{All, arith, inl, inr, Option, Some, None, IsNone, IfSome, IsTrue, ◌↔◌, ◌⊎◌}
+use Rattle.std.proofs.lemmas.Bool.{eq-eqb, eqb-true, ne_eqb, cases_eq, cases_lt, cond-true, cond-false, lt-ltb, le-ltb, leb-true, and_parts, both_ways}
+use Rattle.std.proofs.lemmas.Bool.{not-false}
 use Rattle.std.proofs.lemmas.List.{get_or-set_same, get_or-set_other, get_or_past, length-set}
 use Rattle.std.proofs.lemmas.List.Elements.{All-head, All-tail}
 use Rattle.std.proofs.lemmas.List.Sums.{sum_by-cons, count_by-le-length, fails_before_first}
@@ -22,7 +24,8 @@ replicate-are_zeros (byte ∷ bytes) are =
 pub is_live-set : (live : List Bool) (slot k : ℕ) (is : Bool) → slot < length live → is_live (set live slot is) k ≡ cond (nat_eq k slot) is (is_live live k)
 is_live-set live slot k is lt =
     elim (cases_eq k slot) [
-      | inl here ↦ ap (λ (n : ℕ). get_or (set live slot is) n false) here ∙ get_or-set_same live slot is false lt ∙ sym (cond-true (nat_eq k slot) _ _ (eq-eqb k slot here))
+      | inl here ↦ ap (λ (n : ℕ). get_or (set live slot is) n false) here ∙ get_or-set_same live slot is false lt
+          ∙ sym (cond-true (nat_eq k slot) _ _ (eq-eqb k slot here))
       | inr other ↦ get_or-set_other live slot k is false other ∙ sym (cond-false (nat_eq k slot) _ _ (ne_eqb k slot other))
     ]
 
@@ -44,8 +47,10 @@ pub AreLiveIn-put : (put : Put) (live : List Bool) (map : ℕ → List ℕ) → 
     → AreLiveIn (set live put.slot (not (are_zeros put.bytes))) (with_put put map)
 AreLiveIn-put put live map lt are slot within =
     is_live-set live put.slot slot (not (are_zeros put.bytes)) lt ∙ elim (cases_eq slot put.slot) [
-      | inl here ↦ (let t = eq-eqb slot put.slot here in cond-true _ _ _ t ∙ sym (ap (λ (bytes : List ℕ). not (are_zeros bytes)) (cond-true _ put.bytes (map slot) t)))
-      | inr other ↦ (let f = ne_eqb slot put.slot other in cond-false _ _ _ f ∙ are slot within ∙ sym (ap (λ (bytes : List ℕ). not (are_zeros bytes)) (cond-false _ put.bytes (map slot) f)))
+      | inl here ↦ (let t = eq-eqb slot put.slot here in
+          cond-true _ _ _ t ∙ sym (ap (λ (bytes : List ℕ). not (are_zeros bytes)) (cond-true _ put.bytes (map slot) t)))
+      | inr other ↦ (let f = ne_eqb slot put.slot other in
+          cond-false _ _ _ f ∙ are slot within ∙ sym (ap (λ (bytes : List ℕ). not (are_zeros bytes)) (cond-false _ put.bytes (map slot) f)))
     ]
 
 pub AreLiveIn-puts : (puts : List Put) (live : List Bool) (map : ℕ → List ℕ) → All (λ put. put.slot < length live) puts → AreLiveIn live map
@@ -79,7 +84,8 @@ below-live_after (put ∷ puts) live extent within fit below =
     below-live_after puts live' next (λ k d lt. omega (arith, rest k d lt, length-set live put.slot is)) parts.1
     (λ slot lives. below_next put.slot extent slot (leb-true _ _ parts.0) (elim (cases_eq slot put.slot) [
       | inl here ↦ inl here
-      | inr other ↦ inr (below slot (sym (is_live-set live put.slot slot is first ∙ cond-false (nat_eq slot put.slot) _ _ (ne_eqb slot put.slot other)) ∙ lives))
+      | inr other ↦ inr (below slot (sym (is_live-set live put.slot slot is first ∙ cond-false (nat_eq slot put.slot) _ _ (ne_eqb slot put.slot other))
+          ∙ lives))
     ]))
 
 -- the lowest free slot of as many as the list tells of
@@ -95,7 +101,8 @@ some_free (true ∷ live) lt =
 some_free (false ∷ live) lt = omega (arith, count_by-le-length (λ (is : Bool). is) live, sum_by-cons (λ (is : Bool). cond is 1 0) false live)
 
 module _ (live : List Bool) (found : Option ℕ) (is : found ≡ position not live) where
-  lowest_cases : ((position_or_len not live < length live) × (found ≡ Some (position_or_len not live))) ⊎ ((length live ≤ position_or_len not live) × (found ≡ None))
+  lowest_cases : ((position_or_len not live < length live) × (found ≡ Some (position_or_len not live)))
+      ⊎ ((length live ≤ position_or_len not live) × (found ≡ None))
   lowest_cases =
       elim (cases_lt (position_or_len not live) (length live)) [
         | inl below ↦ inl (below, is ∙ cond-true _ _ _ (lt-ltb (position_or_len not live) (length live) below))

@@ -1,5 +1,6 @@
 -- Records over their journal.
-use Rattle.std.proofs.Common.{◌≡◌, ◌∙◌, sym, ap, subst, ℕ, ◌+◌, ◌<◌, ◌≤◌, ◌^◌, Bool, true, nat_eq, not, List, All, length, set, arith, inl, inr, Result, Ok, Err, OnOk, IsTrue}
+use Rattle.std.proofs.Common.{◌≡◌, ◌∙◌, sym, ap, subst, ℕ, ◌+◌, ◌<◌, ◌≤◌, ◌^◌, Bool, true, nat_eq, not, List, All, length, set, arith, inl, inr, Result, Ok}
+use Rattle.std.proofs.Common.{Err, OnOk, IsTrue}
 use Rattle.std.proofs.lemmas.Bool.{cases_eq, cases_lt, cond-false, cond-true, eq-eqb, false_from_ne_true, ne_eqb}
 use Rattle.ss_outside.proofs.CrashLemmas.{reads-joined, reads-none}
 use Rattle.ss_outside.specs.Crash.{OnlyReads}
@@ -50,15 +51,18 @@ module _ (journal : JournalState) (live : List Bool) (content : List ℕ) (kept 
 
   -- it changes the map by these puts
   pub AreKept-changed : (puts : List Put) (new : JournalState) (left : List ℕ) → All (λ put. put.slot < length live) puts → IsKept new left
-      → ((found : SlotMap) → StandsFor content found → StandsFor left (changed found puts)) → AreKept (record { journal = new; live = live_after puts live }) left
+      → ((found : SlotMap) → StandsFor content found → StandsFor left (changed found puts)) → AreKept (record { journal = new; live = live_after puts live })
+      left
   AreKept-changed puts new left within is map =
       let some = StandsFor-kept journal content kept.journal in
       record {
         journal = is;
-        free = λ found stands. AreLiveIn-same (live_after puts live) left (changed some.0 puts) found (map some.0 some.1) stands (AreLiveIn-puts puts live some.0.bytes within (kept.free some.0 some.1));
+        free = λ found stands. AreLiveIn-same (live_after puts live) left (changed some.0 puts) found (map some.0 some.1) stands
+            (AreLiveIn-puts puts live some.0.bytes within (kept.free some.0 some.1));
       }
 
-pub AreSound-changed : (journal new : JournalState) (live : List Bool) (puts : List Put) → AreSound (record { journal = journal; live = live }) → IsRunning journal
+pub AreSound-changed : (journal new : JournalState) (live : List Bool) (puts : List Put) → AreSound (record { journal = journal; live = live })
+    → IsRunning journal
     → All (λ put. put.slot < length live) puts → IsTrue (slots_fit puts journal.extent) → new.extent ≡ extent_after puts journal.extent
     → AreSound (record { journal = new; live = live_after puts live })
 AreSound-changed journal new live puts sound running within fit after = record {
@@ -96,15 +100,14 @@ ReadTo-all journal n live old new kept all below before = record {
     | inr past ↦ false_from_ne_true (is_live live slot) (λ lives. absurd (omega (arith, below slot lives, past)))
         ∙ sym (ap not (are_zeros-unused journal old.content found slot kept is lt (omega (arith, past, all))))
   ];
-  refused = tt;
   reads = before.reads;
 }
 
 -- a journal was opened, and then each slot was read
-pub opens-failed : (journal : JournalState) (error : JournalError) (old mid new : Told) → Opens (Ok journal) old mid → ReadsLive (Err error) mid new
-    → OpensRecords (Err error) old new
-opens-failed journal error old mid new opened read = record {
-  opens = subst (λ (content : List ℕ). OpensAs content (Err error)) opened.reads.same.content read.refused;
+pub opens-failed : (journal : JournalState) (error : JournalError) (old mid new : Told) → ((content : List ℕ) → OpensAs content (Err error))
+    → Opens (Ok journal) old mid → ReadsLive (Err error) mid new → OpensRecords (Err error) old new
+opens-failed journal error old mid new refused opened read = record {
+  opens = refused old.content;
   kept = tt;
   reads = reads-joined old mid new opened.reads read.reads;
 }
@@ -132,7 +135,8 @@ module _ (journal : JournalState) (live : List Bool) (old : Told) (kept : AreKep
     makes_durable = settles.makes_durable;
   }
 
-  pub reads-record : (new : Told) (left : JournalState) (slot : ℕ) (result : Result (List ℕ) Failed) → OnOk result (left ≡ journal) → ReadsSlot slot result old new
+  pub reads-record : (new : Told) (left : JournalState) (slot : ℕ) (result : Result (List ℕ) Failed) → OnOk result (left ≡ journal)
+      → ReadsSlot slot result old new
       → ReadsRecord (record { journal = left; live = live }) slot result old new
   reads-record new left slot result same read = record {
     bytes = read.bytes;

@@ -25,7 +25,8 @@ pub lowest_free-none : lowest_free (true ∷ true ∷ []) ≡ None
 lowest_free-none = refl
 
 -- the first is freed, and the fourth is taken
-pub live_after-both : live_after (record { slot = 0; bytes = 0 ∷ 0 ∷ [] } ∷ record { slot = 3; bytes = 0 ∷ 1 ∷ [] } ∷ []) live ≡ false ∷ false ∷ true ∷ true ∷ []
+pub live_after-both : live_after (record { slot = 0; bytes = 0 ∷ 0 ∷ [] } ∷ record { slot = 3; bytes = 0 ∷ 1 ∷ [] } ∷ []) live ≡ false ∷ false ∷ true ∷ true ∷
+    []
 live_after-both = refl
 
 -- bits 1 and 63 of a first word, and bit 0 of a second one

@@ -1,5 +1,6 @@
 -- The tree of bitmaps: a slot is put in or taken out, and the first one outside is found.
-use Rattle.std.proofs.Common.{◌≡◌, ◌≢◌, ◌∙◌, sym, ap, subst, ℕ, ◌+◌, ◌*◌, ◌/◌, ◌%◌, ◌^◌, ◌<◌, ◌≤◌, Bool, true, false, cond, not, nat_eq, List, length, count_by, get_or, set, replicate, arith, inl, inr, Some, None}
+use Rattle.std.proofs.Common.{◌≡◌, ◌≢◌, ◌∙◌, sym, ap, subst, ℕ, ◌+◌, ◌*◌, ◌/◌, ◌%◌, ◌^◌, ◌<◌, ◌≤◌, Bool, true, false, cond, not, nat_eq, List, length, count_by}
+use Rattle.std.proofs.Common.{get_or, set, replicate, arith, inl, inr, Some, None}
 use Rattle.std.proofs.lemmas.Bool.{eq-eqb, ne_eqb, cases_eq, cases_lt, cond-true, cond-false, lt-ltb, le-ltb}
 use Rattle.std.proofs.lemmas.List.{get_or-set_same, get_or-set_other, get_or_past, get_or-replicate, length-set, length-replicate, same_lists}
 use Rattle.std.proofs.lemmas.List.FromFn.{get_or-map-range_with_len, length-map-range_with_len}
@@ -55,7 +56,8 @@ position-none low middle top tree full =
     let lows = all-full middle low tree.over_low (all-full top middle tree.over_middle full) in
     let end : position_or_len not (members low) ≡ length (members low) =
     position_or_len_is not (members low) (length (members low)) false (omega arith)
-    (λ k lt. let within : k < 64 * length low = omega (arith, lt, length-members low) in ap not (get_or-members low k false within ∙ is_set-full low k (lows (k / 64) (omega (arith, within)))))
+    (λ k lt. let within : k < 64 * length low = omega (arith, lt, length-members low) in
+    ap not (get_or-members low k false within ∙ is_set-full low k (lows (k / 64) (omega (arith, within)))))
     (λ lt. absurd (omega (arith, lt))) in
     cond-false _ _ _ (le-ltb (position_or_len not (members low)) (length (members low)) (omega (arith, end)))
 
@@ -72,7 +74,8 @@ module _ (upper lower new-upper new-lower : List ℕ) (over : Summarizes upper l
     words = omega (arith, same-lower, same-upper, over.words);
     full = λ word lt. elim (cases_eq word (k / 64)) [
       | inl here ↦ bits word ∙ cond-true (nat_eq word (k / 64)) _ _ (eq-eqb word (k / 64) here) ∙ is ∙ ap (λ (n : ℕ). is_full (get_or new-lower n 0)) (sym here)
-      | inr other ↦ bits word ∙ cond-false (nat_eq word (k / 64)) _ _ (ne_eqb word (k / 64) other) ∙ over.full word (omega (arith, lt, same-lower)) ∙ ap is_full (sym (others word other))
+      | inr other ↦ bits word ∙ cond-false (nat_eq word (k / 64)) _ _ (ne_eqb word (k / 64) other) ∙ over.full word (omega (arith, lt, same-lower))
+          ∙ ap is_full (sym (others word other))
     ];
   }
 
@@ -84,7 +87,8 @@ members-put low new slot to same lt bits =
     (λ k d within.
     let below : k < 64 * length low = omega (arith, within, length-members new, same) in
     get_or-members new k d (omega (arith, below, same)) ∙ bits k ∙ elim (cases_eq k slot) [
-      | inl here ↦ cond-true (nat_eq k slot) _ _ (eq-eqb k slot here) ∙ sym (ap (λ (n : ℕ). get_or (set (members low) slot to) n d) here ∙ get_or-set_same (members low) slot to d (omega (arith, lt, length-members low)))
+      | inl here ↦ cond-true (nat_eq k slot) _ _ (eq-eqb k slot here)
+          ∙ sym (ap (λ (n : ℕ). get_or (set (members low) slot to) n d) here ∙ get_or-set_same (members low) slot to d (omega (arith, lt, length-members low)))
       | inr other ↦ cond-false (nat_eq k slot) _ _ (ne_eqb k slot other) ∙ sym (get_or-set_other (members low) slot k to d other ∙ get_or-members low k d below)
     ])
 
@@ -129,7 +133,8 @@ Summarizes-zeros n = record {
 pub IsTree-zeros : (n : ℕ) → n ≤ 4 → IsTree (zero_words (4096 * n)) (zero_words (64 * n)) (zero_words n)
 IsTree-zeros n few = record {
   few = omega (arith, few, length-zeros n);
-  over_low = let same : 64 * (64 * n) ≡ 4096 * n = omega arith in subst (λ (m : ℕ). Summarizes (zero_words (64 * n)) (zero_words m)) same (Summarizes-zeros (64 * n));
+  over_low = let same : 64 * (64 * n) ≡ 4096 * n = omega arith in
+      subst (λ (m : ℕ). Summarizes (zero_words (64 * n)) (zero_words m)) same (Summarizes-zeros (64 * n));
   over_middle = Summarizes-zeros n;
 }
 
@@ -147,7 +152,12 @@ count-zeros n =
 -- the number of slots in the set, after one of them is put
 module _ (low : List ℕ) (slot : ℕ) (lt : slot < 64 * length low) where
   pub count-some : is_set low slot ≡ true → 1 ≤ count_by (λ is. is) (members low)
-  count-some is = omega (arith, get_or-le-sum_by digit (members low) slot false (omega (arith, lt, length-members low)), ap digit (get_or-members low slot false lt ∙ is))
+  count-some is = omega (
+    arith,
+    get_or-le-sum_by digit (members low) slot false (omega (arith, lt, length-members low)),
+    ap digit
+        (get_or-members low slot false lt ∙ is),
+  )
 
   pub count-put : (to : Bool) (count new : ℕ) → count ≡ count_by (λ is. is) (members low)
       → new + digit (is_set low slot) ≡ count + digit to → new ≡ count_by (λ is. is) (set (members low) slot to)

@@ -1,5 +1,5 @@
 -- What the calls of records leave of their disk.
-use Rattle.std.specs.Prelude.{◌≡◌, ℕ, Bool, List, Result, Err, IfOk, IfErr, OnOk}
+use Rattle.std.specs.Prelude.{◌≡◌, ℕ, Bool, List, Result, IfOk, OnOk}
 use Rattle.ss_outside.specs.Crash.{OnlyReads}
 use Rattle.ss_outside.specs.Disk.{Told}
 use Rattle.ss_outside.specs.declared.source.Failed.{Failed}
@@ -11,10 +11,9 @@ use Rattle.ss_journal.specs.declared.put.Put.{Put}
 use Rattle.ss_records.specs.Live.{AreLiveIn}
 use Rattle.ss_records.specs.Kept.{AreKept, RecordsState, journal_of}
 
--- Each slot is read once: the live ones are those of the map. A failure says nothing of the content. Content and images stay.
+-- Each slot is read once: the live ones are those of the map. Content and images stay.
 pub record ReadsLive (result : Result (List Bool) JournalError) (old new : Told) : Type 0 where
   pub live : (found : SlotMap) → StandsFor old.content found → IfOk result (λ live. AreLiveIn live found.bytes)
-  pub refused : IfErr result (λ error. OpensAs old.content (Err error))
   pub reads : OnlyReads old new
 
 -- A disk is opened: the answer is the map of its content, or why it has none. Content and images stay.

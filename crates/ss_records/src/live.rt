@@ -1,9 +1,9 @@
 // Which slots are live: read once, and kept up with what is put.
-ghost use Rattle.std.specs.Prelude.{◌≡◌, ◌<◌, length, All, IfOk, OnOk};
+ghost use Rattle.std.specs.Prelude.{◌≡◌, ◌<◌, ℕ, List, length, All, Err, IfOk, IfErr, OnOk};
 ghost use Rattle.ss_outside.specs.Disk.{OfContent};
 ghost use Rattle.ss_outside.specs.Step.{Step};
 ghost use Rattle.ss_journal.specs.Calls.{verdict_of_open};
-ghost use Rattle.ss_journal.specs.Kept.{IsKept, IsRunning};
+ghost use Rattle.ss_journal.specs.Kept.{IsKept, IsRunning, OpensAs};
 ghost use Rattle.ss_records.specs.Calls.{ReadsLive};
 ghost use Rattle.ss_records.specs.Live.{are_zeros, live_after, AreBelow};
 
@@ -31,6 +31,8 @@ pub fn read_live<D: Disk>(
     requires running { IsRunning journal.old }
     requires one_disk { OfContent (D.seen disk.old) (IsKept journal.old) }
     ensures live { Step (verdict_of_open result) (D.seen disk.old) (D.seen disk.new) (ReadsLive result) }
+    // It fails only where the disk does or the memory runs out, and neither says anything of a content.
+    ensures refused { (content : List ℕ) → IfErr result (λ error. OpensAs content (Err error)) }
     ensures bounded { IfOk result (AreBelow journal.old.extent) }
     ensures journal { OnOk result (journal.new ≡ journal.old) }
 {

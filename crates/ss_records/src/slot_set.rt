@@ -1,5 +1,6 @@
 // A set of slots that gives the least one outside it in a few steps.
-ghost use Rattle.std.specs.Prelude.{◌≡◌, ◌+◌, ◌-◌, ◌*◌, ◌^◌, ◌<◌, ◌≤◌, false, true, length, slice_index, slice_set, replicate, count_by, All, IfOk, not, if◌then◌else◌};
+ghost use Rattle.std.specs.Prelude.{◌≡◌, ◌+◌, ◌-◌, ◌*◌, ◌^◌, ◌<◌, ◌≤◌, false, true, length, slice_index, slice_set, replicate, count_by, All, IfOk, not};
+ghost use Rattle.std.specs.Prelude.{if◌then◌else◌};
 ghost use Rattle.std.specs.List.{position, position_or_len, slice_index_or};
 ghost use Rattle.ss_records.specs.Bits.{is_full};
 ghost use Rattle.ss_records.specs.Tree.{members, IsTree, FullBefore};

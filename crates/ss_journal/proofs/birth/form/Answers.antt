@@ -7,7 +7,8 @@ pub returns-in_err-write_magic : goal.returns-in_err-write_magic
 returns-in_err-write_magic g c =
     let failed = c.from_residual-in_err-write_magic in
     step-next_failed failed.result failed.ensures.0 c.in_ok-len.ensures c.in_err-write_magic.ensures
-    (λ told then asked marks. marks-failed _ _ _ (g.met.D.Disk.knows_now c.args.disk.now told) asked.reads (c.requires.begun told) failed.result failed.ensures.0 marks)
+    (λ told then asked marks. marks-failed _ _ _ (g.met.D.Disk.knows_now c.args.disk.now told) asked.reads (c.requires.begun told) failed.result
+    failed.ensures.0 marks)
 
 pub write_zeros-requires-clause-within : goal.write_zeros-requires-clause-within
 write_zeros-requires-clause-within g c =
@@ -19,7 +20,8 @@ returns-in_err-write_zeros g c =
     let failed = c.from_residual-in_err-write_zeros in
     step-next_failed failed.result failed.ensures.0 (step-pair c.in_ok-len.ensures c.in_ok-write_magic.ensures) c.in_err-write_zeros.ensures
     (λ told then both wipes. wipes-failed _ _ _ (g.met.D.Disk.knows_now c.args.disk.now told) both.1.reads (c.requires.begun told) _ both.2
-    _ (g.met.D.Disk.knows_now c.write_magic.new.disk then) c.max-end.result (omega (arith, c.max-end.ensures, c.min.ensures, both.1.length)) failed.result failed.ensures.0 wipes)
+    _ (g.met.D.Disk.knows_now c.write_magic.new.disk then) c.max-end.result (omega (arith, c.max-end.ensures, c.min.ensures, both.1.length)) failed.result
+    failed.ensures.0 wipes)
 
 pub returns : goal.returns
 returns g c =

@@ -15,7 +15,8 @@ pub returns-in_err-form : goal.returns-in_err-form
 returns-in_err-form g c =
     let failed = c.from_residual-in_err-form in
     step-next_failed failed.result failed.ensures.0 c.in_ok-begin.ensures c.in_err-form.ensures
-    (λ told then begins forms. durably-failed failed.result failed.ensures.0 (reaches-joined {S = Leads IsFormed} _ _ begins forms (λ was is. (is.0, SameRest-trans _ _ _ was.1 is.1))))
+    (λ told then begins forms. durably-failed failed.result failed.ensures.0
+    (reaches-joined {S = Leads IsFormed} _ _ begins forms (λ was is. (is.0, SameRest-trans _ _ _ was.1 is.1))))
 
 pub open_gate-requires : goal.open_gate-requires
 open_gate-requires g c = record { formed = after-step c.in_ok-form.ensures (λ told forms. forms.reached.0) }

@@ -21,5 +21,6 @@ write_through-requires-clause-within g c =
 pub returns : goal.returns
 returns g c =
     step-next c.in_ok-write_entry.ensures.entry c.write_through.ensures (λ told then spells opens.
-    gate-enters c.args.n c.args.txn.now.items _ c.write_entry.ensures.whole c.requires.txn (c.requires.ready told) c.requires.number _ _ spells _ c.write_through.result
+    gate-enters c.args.n c.args.txn.now.items _ c.write_entry.ensures.whole c.requires.txn (c.requires.ready told) c.requires.number _ _ spells _
+    c.write_through.result
     c.entry_place.result c.entry_place.ensures opens)

@@ -16,4 +16,5 @@ returns-clause-entry g c =
     let whole = c.entry_of-entry.ensures.whole in
     let body = body-entry puts c.entry_of-entry.result whole c.requires.txn.few c.entry_of-entry.ensures.value in
     step-from c.write_through.ensures (λ told wrote.
-    entry-spelled c.args.n puts _ whole c.requires.txn (c.requires.ready told) c.requires.number _ c.write_through.result _ _ (ap (λ (at : ℕ). at + 1) c.entry_place.ensures) body wrote)
+    entry-spelled c.args.n puts _ whole c.requires.txn (c.requires.ready told) c.requires.number _ c.write_through.result _ _
+    (ap (λ (at : ℕ). at + 1) c.entry_place.ensures) body wrote)

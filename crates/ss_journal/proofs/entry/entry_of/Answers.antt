@@ -12,7 +12,8 @@ loop-k-preserved c =
     let d : Put = record { slot = 0; bytes = [] } in
     let few : length puts ≤ 4 = omega (arith, c.requires.few, ap length c.as_slice-puts.ensures.value) in
     record {
-      entry = c.write_put.ensures.written ∙ entry-more puts c.loop-k.k d c.loop-k.entry c.loop-k-test.true few c.loop-k.invariant.whole c.loop-k.invariant.entry;
+      entry = c.write_put.ensures.written ∙ entry-more puts c.loop-k.k d c.loop-k.entry c.loop-k-test.true few c.loop-k.invariant.whole
+          c.loop-k.invariant.entry;
       whole = All-more (λ (p : Put). length p.bytes ≡ 128) puts c.loop-k.k d c.loop-k-test.true c.loop-k.invariant.whole c.write_put.ensures.whole;
     }
 
@@ -20,5 +21,6 @@ pub returns-clause-value : goal.returns-clause-value
 returns-clause-value c =
     let puts = c.as_slice-puts.result.now in
     let all : c.loop-k.k ≡ length puts = omega arith in
-    entry-all puts c.loop-k.entry (subst (λ (n : ℕ). c.loop-k.entry ≡ 0 ∷ length puts ∷ flat_map put_bytes (take n puts) ++ replicate (542 - 132 * n) 0) all c.loop-k.invariant.entry)
+    entry-all puts c.loop-k.entry (subst (λ (n : ℕ). c.loop-k.entry ≡ 0 ∷ length puts ∷ flat_map put_bytes (take n puts) ++ replicate (542 - 132 * n) 0) all
+    c.loop-k.invariant.entry)
     ∙ ap (λ (list : List Put). 0 ∷ entry_body list) c.as_slice-puts.ensures.value

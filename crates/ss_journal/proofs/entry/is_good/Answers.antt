@@ -2,13 +2,15 @@ use Rattle.std.proofs.Common.{sym, arith}
 use Rattle.std.proofs.lemmas.Bool.Decides.{nat_tests}
 use Rattle.ss_journal.proofs.EntryLemmas.{is_good-few, is_good-none, is_good-many}
 use Rattle.ss_journal.proofs.entry.is_good.Goals as goal
-use Rattle.ss_journal.proofs.entry.is_good.Goals.{then-entry-lt1-via-then-entry-lt1, then-entry-lt1-via-else-entry-lt1+then-from-gt-MOST_PUTS, then-slots_rise, else-slots_rise}
+use Rattle.ss_journal.proofs.entry.is_good.Goals.{then-entry-lt1-via-then-entry-lt1, then-entry-lt1-via-else-entry-lt1+then-from-gt-MOST_PUTS, then-slots_rise}
+use Rattle.ss_journal.proofs.entry.is_good.Goals.{else-slots_rise}
 
 pub returns-then-entry-lt1-clause-value : goal.returns-then-entry-lt1-clause-value
 returns-then-entry-lt1-clause-value c =
     elim c.then-entry-lt1.branch [
       | then-entry-lt1-via-then-entry-lt1 w ↦ sym (is_good-none c.args.entry.now c.args.extent w.if-entry-lt1.true)
-      | then-entry-lt1-via-else-entry-lt1+then-from-gt-MOST_PUTS w ↦ sym (is_good-many c.args.entry.now c.args.extent (omega (arith, w.if-from-gt-MOST_PUTS.true, w.from.ensures)))
+      | then-entry-lt1-via-else-entry-lt1+then-from-gt-MOST_PUTS w ↦ sym
+          (is_good-many c.args.entry.now c.args.extent (omega (arith, w.if-from-gt-MOST_PUTS.true, w.from.ensures)))
     ]
 
 pub returns-then-slots_fit-clause-value : goal.returns-then-slots_fit-clause-value

@@ -19,7 +19,8 @@ returns-then-entry-clause-entry g c =
 pub returns-then-not-is_good-clause-entry : goal.returns-then-not-is_good-clause-entry
 returns-then-not-is_good-clause-entry g c =
     step-refused c.in_ok-entry.ensures (λ told read. record {
-      found = subst (λ (e : List ℕ). IsTrue (is_open e) × IsFalse (is_good e c.args.extent) × (c.args.n ≡ c.args.n)) (read.found (is_born-parts _ (c.requires.born told)).0)
+      found = subst (λ (e : List ℕ). IsTrue (is_open e) × IsFalse (is_good e c.args.extent) × (c.args.n ≡ c.args.n))
+          (read.found (is_born-parts _ (c.requires.born told)).0)
           (eq-eqb _ 165 c.if-entry.false, sym c.if-not-is_good.ensures.value, refl);
       reads = read.reads;
     })
@@ -34,4 +35,5 @@ returns-clause-entry g c =
 
 pub returns-clause-sound : goal.returns-clause-sound
 returns-clause-sound g c =
-    subst (λ (puts : List Put). IsTxn puts × IsTrue (slots_fit puts c.args.extent)) (sym c.puts_of.ensures) (IsTxn-good _ _ (sym c.if-not-is_good.ensures.value))
+    subst (λ (puts : List Put). IsTxn puts × IsTrue (slots_fit puts c.args.extent)) (sym c.puts_of.ensures)
+    (IsTxn-good _ _ (sym c.if-not-is_good.ensures.value))

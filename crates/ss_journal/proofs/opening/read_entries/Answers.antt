@@ -36,7 +36,8 @@ pub returns-in_err-puts-clause-entries : goal.returns-in_err-puts-clause-entries
 returns-in_err-puts-clause-entries g c =
     let error = err_from_is_err_and c.from_residual-in_err-puts.result c.from_residual-in_err-puts.ensures.1 in
     rw (error.1, error.2) (step-next c.loop-n.invariant.step c.in_err-puts.ensures.entry
-    (λ told then before next. finds-joined before next (λ was is. InUseAs-next _ c.loop-n.n c.loop-n.extent c.loop-n.waiting c.loop-n-test.true was c.in_err-puts.field-0.0 is)))
+    (λ told then before next. finds-joined before next
+    (λ was is. InUseAs-next _ c.loop-n.n c.loop-n.extent c.loop-n.waiting c.loop-n-test.true was c.in_err-puts.field-0.0 is)))
 
 pub returns-in-None-clause-entries : goal.returns-in-None-clause-entries
 returns-in-None-clause-entries g c =
@@ -50,15 +51,18 @@ loop-n-preserved g c =
     let puts = c.in-Some.puts.items in
     let extent = c.loop-n.extent in
     let more : c.add.new.self ≡ c.loop-n.waiting ++ puts = c.add.ensures ∙ ap (λ (l : List Put). c.loop-n.waiting ++ l) c.deref-in-Some.ensures.0 in
-    let last : c.extent_after-extent.result ≡ extent_after puts extent = c.extent_after-extent.ensures ∙ ap (λ (l : List Put). extent_after l extent) c.deref.ensures.0 in
-    let sound = subst (λ (o : Option (ArrayVec Put)). IfNext (Ok o) (λ puts. IsTxn puts × IsTrue (slots_fit puts extent))) c.in-Some.is c.in_ok-puts.ensures.sound in
+    let last : c.extent_after-extent.result ≡ extent_after puts extent = c.extent_after-extent.ensures
+    ∙ ap (λ (l : List Put). extent_after l extent) c.deref.ensures.0 in
+    let sound = subst (λ (o : Option (ArrayVec Put)). IfNext (Ok o) (λ puts. IsTxn puts × IsTrue (slots_fit puts extent))) c.in-Some.is
+    c.in_ok-puts.ensures.sound in
     let next = rw c.in-Some.is at c.in_ok-puts.ensures.entry in
     record {
       few = omega (arith, ap length more, length-append c.loop-n.waiting puts, sound.0.few, before.few);
       extent = subst (λ (n : ℕ). n ≤ 2 ^ 20) (sym last) (extent_after-most puts extent sound.0 before.extent);
       waiting = rw (more, last) (waiting-below c.loop-n.waiting puts extent sound.1 before.waiting);
       step = step-next before.step next
-          (λ told then before next. finds-joined before next (λ was is. IsReadTo-next _ c.loop-n.n extent c.loop-n.waiting c.loop-n-test.true was c.in-Some.puts _ _ is last more));
+          (λ told then before next. finds-joined before next (λ was is. IsReadTo-next _ c.loop-n.n extent c.loop-n.waiting c.loop-n-test.true was c.in-Some.puts
+          _ _ is last more));
     }
 
 pub returns-clause-entries : goal.returns-clause-entries
@@ -71,5 +75,6 @@ returns-clause-entries g c =
 pub add-requires : goal.add-requires
 add-requires g c =
     let before = c.loop-n.invariant in
-    let sound = subst (λ (o : Option (ArrayVec Put)). IfNext (Ok o) (λ puts. IsTxn puts × IsTrue (slots_fit puts c.loop-n.extent))) c.in-Some.is c.in_ok-puts.ensures.sound in
+    let sound = subst (λ (o : Option (ArrayVec Put)). IfNext (Ok o) (λ puts. IsTxn puts × IsTrue (slots_fit puts c.loop-n.extent))) c.in-Some.is
+    c.in_ok-puts.ensures.sound in
     omega (arith, before.few, sound.0.few, ap length c.deref-in-Some.ensures.0, c.loop-n-test.true)

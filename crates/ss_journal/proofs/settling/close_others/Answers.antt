@@ -1,4 +1,4 @@
-use Rattle.std.proofs.Common.{◌≡◌, Bool, true, false, sym, ◌∙◌, arith}
+use Rattle.std.proofs.Common.{◌≡◌, true, false, sym, ◌∙◌, arith}
 use Rattle.ss_outside.proofs.StepLemmas.{step-none}
 use Rattle.ss_journal.proofs.SettleSteps.{ClosedTo-all, ClosedTo-failed, ClosedTo-more, ClosedTo-none, ClosedTo-synced, long-gates}
 use Rattle.ss_journal.proofs.StepLemmas.{after-step, step-from, step-next, step-next_failed}
@@ -10,7 +10,8 @@ loop-n-init g c = step-none _ _ (λ told. ClosedTo-none _ (g.met.D.Disk.knows_no
 
 pub close_gate-requires-clause-long : goal.close_gate-requires-clause-long
 close_gate-requires-clause-long g c told_then =
-    after-step c.loop-n.invariant (λ told so_far. long-gates c.loop-n.n c.loop-n.any _ _ (c.requires.shut told) so_far (g.met.D.Disk.knows_now c.loop-n.disk told_then)) told_then
+    after-step c.loop-n.invariant (λ told so_far. long-gates c.loop-n.n c.loop-n.any _ _ (c.requires.shut told) so_far
+    (g.met.D.Disk.knows_now c.loop-n.disk told_then)) told_then
 
 pub returns-in_err-close_gate : goal.returns-in_err-close_gate
 returns-in_err-close_gate g c =
@@ -39,5 +40,6 @@ returns-then-any g c =
 pub returns : goal.returns
 returns g c =
     step-from c.loop-n.invariant
-    (λ told so_far. ClosedTo-all c.loop-n.n c.loop-n.any _ _ (c.requires.shut told) so_far (g.met.D.Disk.knows_now c.loop-n.disk (c.loop-n.invariant.tells ∙ told))
+    (λ told so_far. ClosedTo-all c.loop-n.n c.loop-n.any _ _ (c.requires.shut told) so_far
+    (g.met.D.Disk.knows_now c.loop-n.disk (c.loop-n.invariant.tells ∙ told))
     (omega arith) c.if-any.false _)

@@ -12,7 +12,8 @@ pub returns-in_err-write_slot : goal.returns-in_err-write_slot
 returns-in_err-write_slot g c =
     let d : Put = record { slot = 0; bytes = [] } in
     step-next_failed c.from_residual.result c.from_residual.ensures.0 c.loop-put.invariant c.in_err-write_slot.ensures.slot
-    (λ told then so_far wrote. WrittenTo-failed c.args.puts.now c.loop-put.put-index d _ _ _ (g.met.D.Disk.knows_now c.loop-put.disk then) c.loop-put-test.true so_far
+    (λ told then so_far wrote. WrittenTo-failed c.args.puts.now c.loop-put.put-index d _ _ _ (g.met.D.Disk.knows_now c.loop-put.disk then) c.loop-put-test.true
+    so_far
     c.from_residual.result c.from_residual.ensures.0 c.write_slot.ensures.whole wrote)
 
 pub loop-put-preserved : goal.loop-put-preserved
@@ -26,4 +27,5 @@ loop-put-preserved g c =
 pub returns : goal.returns
 returns g c =
     step-next c.loop-put.invariant c.sync.ensures
-    (λ told then so_far synced. WrittenTo-synced c.args.puts.now c.loop-put.put-index _ _ _ (g.met.D.Disk.knows_now c.loop-put.disk then) (omega arith) so_far c.sync.result synced)
+    (λ told then so_far synced. WrittenTo-synced c.args.puts.now c.loop-put.put-index _ _ _ (g.met.D.Disk.knows_now c.loop-put.disk then)
+    (omega arith) so_far c.sync.result synced)

@@ -1,8 +1,7 @@
-use Rattle.std.proofs.Common.{List, ℕ, ap, arith, subst, sym}
-use Rattle.ss_outside.proofs.StepLemmas.{step-none}
+use Rattle.std.proofs.Common.{arith, subst, sym}
 use Rattle.ss_journal.specs.Kept.{JournalState, IsKept}
-use Rattle.ss_journal.proofs.StepLemmas.{after-step, step-from, step-next}
-use Rattle.ss_records.proofs.RecordLemmas.{ReadTo-all, ReadTo-more, ReadTo-none}
+use Rattle.ss_journal.proofs.StepLemmas.{after-step, step-from}
+use Rattle.ss_records.proofs.RecordLemmas.{ReadTo-all}
 use Rattle.ss_records.proofs.live.read_live.Goals as goal
 
 pub read-requires-clause-one_disk : goal.read-requires-clause-one_disk
@@ -14,5 +13,6 @@ read-requires-clause-one_disk g c =
 pub returns-clause-live : goal.returns-clause-live
 returns-clause-live g c =
     step-from c.loop-slot.invariant.step (λ told before.
-    ReadTo-all c.args.journal.now c.loop-slot.slot c.loop-slot.live _ _ (c.requires.one_disk told) (omega (arith, c.loop-slot-test.false, c.extent-slot-end.ensures.value))
+    ReadTo-all c.args.journal.now c.loop-slot.slot c.loop-slot.live _ _ (c.requires.one_disk told)
+    (omega (arith, c.loop-slot-test.false, c.extent-slot-end.ensures.value))
     c.loop-slot.invariant.bounded.below before)

@@ -12,7 +12,9 @@ returns-clause-first c =
     let found = c.first_clear-block.ensures in
     let first = first-from top c.args.n block c.requires.word c.requires.full found.within found.clear found.before in
     let under = c.first_clear-word.ensures in
-    let second = first-from middle block word (first-word top middle c.requires.tree.over_middle block first) (first-full top middle c.requires.tree.over_middle block first) under.within under.clear under.before in
+    let second = first-from middle block word (first-word top middle c.requires.tree.over_middle block first)
+    (first-full top middle c.requires.tree.over_middle block first) under.within under.clear under.before in
     let last = c.first_clear.ensures in
-    let third = first-from low word c.first_clear.result (first-word middle low c.requires.tree.over_low word second) (first-full middle low c.requires.tree.over_low word second) last.within last.clear last.before in
+    let third = first-from low word c.first_clear.result (first-word middle low c.requires.tree.over_low word second)
+    (first-full middle low c.requires.tree.over_low word second) last.within last.clear last.before in
     sym (position-first low c.first_clear.result third)

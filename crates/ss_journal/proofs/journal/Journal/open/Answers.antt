@@ -9,7 +9,8 @@ use Rattle.ss_journal.proofs.journal.Journal.open.Goals as goal
 pub returns-then-is_unborn-clause-opens : goal.returns-then-is_unborn-clause-opens
 returns-then-is_unborn-clause-opens g c =
     step-from c.in_ok-head.ensures (λ told read. record {
-      opens = IsKept-unborn c.in_ok-head.head.length c.slots_in-slots.result c.in_ok-new.field-0 _ read.found.whole c.slots_in-slots.ensures.value c.in_ok-new.ensures
+      opens = IsKept-unborn c.in_ok-head.head.length c.slots_in-slots.result c.in_ok-new.field-0 _ read.found.whole c.slots_in-slots.ensures.value
+          c.in_ok-new.ensures
           (sym (c.if-is_unborn.ensures _ read.found));
       reads = read.reads;
     })

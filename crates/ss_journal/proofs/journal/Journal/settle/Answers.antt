@@ -16,17 +16,22 @@ returns-in_err-give_birth-in-Unborn-clause-settles g c =
     let content = (g.D.Disk.seen c.args.disk.now).told.content in
     step-failed failed.result failed.ensures.0 c.in_err-give_birth-in-Unborn.ensures (λ told birth.
     let kept = subst (λ (j : JournalState). IsKept j content) (sym c.self.view_is) (c.requires.one_disk told) in
-    settles-unborn _ _ _ kept (subst (λ (phase : Phase). IsInPhase phase c.self.inside.in_use content) c.in-Unborn.is kept.phase) _ failed.result failed.ensures.0 birth)
+    settles-unborn _ _ _ kept (subst (λ (phase : Phase). IsInPhase phase c.self.inside.in_use content) c.in-Unborn.is kept.phase) _ failed.result
+    failed.ensures.0 birth)
 
 pub returns-clause-settles : goal.returns-clause-settles
 returns-clause-settles g c =
     let content = (g.D.Disk.seen c.args.disk.now).told.content in
     let settled : JournalState = record { phase = Settled; extent = c.self.inside.extent; in_use = 0; waiting = c.clear.new.self } in
     elim c.match-phase.branch [
-      | in-Unborn+in_ok-give_birth-in-Unborn w ↦ subst (λ d. Step fine (g.D.Disk.seen c.args.disk.now) (g.D.Disk.seen d) (Settles settled (Ok tt))) (sym w.disk-is) (step-from w.in_ok-give_birth-in-Unborn.ensures (λ told birth.
+      | in-Unborn+in_ok-give_birth-in-Unborn w ↦ subst (λ d. Step fine (g.D.Disk.seen c.args.disk.now) (g.D.Disk.seen d) (Settles settled (Ok tt)))
+          (sym w.disk-is) (step-from w.in_ok-give_birth-in-Unborn.ensures (λ told birth.
           let kept = subst (λ (j : JournalState). IsKept j content) (sym c.self.view_is) (c.requires.one_disk told) in
-          settles-born _ _ _ kept (subst (λ (phase : Phase). IsInPhase phase c.self.inside.in_use content) w.in-Unborn.is kept.phase) _ _ c.clear.new.self c.clear.ensures birth))
-      | in-Born+in_ok-settle_formed-in-Born w ↦ subst (λ d. Step fine (g.D.Disk.seen c.args.disk.now) (g.D.Disk.seen d) (Settles settled (Ok tt))) (sym w.disk-is) (step-from w.in_ok-settle_formed-in-Born.ensures (λ told clears.
+          settles-born _ _ _ kept (subst (λ (phase : Phase). IsInPhase phase c.self.inside.in_use content) w.in-Unborn.is kept.phase) _ _ c.clear.new.self
+          c.clear.ensures birth))
+      | in-Born+in_ok-settle_formed-in-Born w ↦ subst (λ d. Step fine (g.D.Disk.seen c.args.disk.now) (g.D.Disk.seen d) (Settles settled (Ok tt)))
+          (sym w.disk-is) (step-from w.in_ok-settle_formed-in-Born.ensures (λ told clears.
           let kept = subst (λ (j : JournalState). IsKept j content) (sym c.self.view_is) (c.requires.one_disk told) in
-          settles-formed _ _ _ kept _ _ c.clear.new.self c.clear.ensures (born_formed c.self.inside.phase c.self.inside.in_use content w.in-Born.is kept.phase) clears))
+          settles-formed _ _ _ kept _ _ c.clear.new.self c.clear.ensures (born_formed c.self.inside.phase c.self.inside.in_use content w.in-Born.is kept.phase)
+          clears))
     ]

@@ -16,12 +16,14 @@ within puts live are slots k d lt = omega (arith, are k d lt, slots)
 
 pub commit-requires-clause-one_disk : goal.commit-requires-clause-one_disk
 commit-requires-clause-one_disk g c told =
-    subst (λ (records : RecordsState). IsKept records.journal (g.D.Disk.seen c.args.disk.now).told.content) (sym c.self.view_is) (c.requires.one_disk told).journal
+    subst (λ (records : RecordsState). IsKept records.journal (g.D.Disk.seen c.args.disk.now).told.content) (sym c.self.view_is)
+    (c.requires.one_disk told).journal
 
 pub note_puts-requires : goal.note_puts-requires
 note_puts-requires g c =
     let puts = c.args.txn.now.items in
-    subst (λ (all : List Put). All (λ (put : Put). put.slot < length c.self.inside.live) all) (sym c.deref.ensures.0) (within puts c.self.inside.live (AreSlots-rise 0 puts c.requires.txn.rise) c.self.invariant.slots)
+    subst (λ (all : List Put). All (λ (put : Put). put.slot < length c.self.inside.live) all) (sym c.deref.ensures.0)
+    (within puts c.self.inside.live (AreSlots-rise 0 puts c.requires.txn.rise) c.self.invariant.slots)
 
 pub invariant_of-self-2 : goal.invariant_of-self-2
 invariant_of-self-2 g c =

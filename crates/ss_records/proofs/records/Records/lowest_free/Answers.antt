@@ -8,16 +8,19 @@ pub returns-clause-full : goal.returns-clause-full
 returns-clause-full c =
     let now = c.args.self.now in
     let sound = subst (λ (records : RecordsState). AreSound records) c.self.view_is c.self.invariant in
-    lowest-full now.live c.least_outside.result (c.least_outside.ensures ∙ ap (λ (records : RecordsState). lowest_free records.live) c.self.view_is) _ sound.slots
+    lowest-full now.live c.least_outside.result (c.least_outside.ensures ∙ ap (λ (records : RecordsState). lowest_free records.live) c.self.view_is) _
+    sound.slots
 
 pub returns-clause-few : goal.returns-clause-few
 returns-clause-few c =
     let now = c.args.self.now in
     let sound = subst (λ (records : RecordsState). AreSound records) c.self.view_is c.self.invariant in
-    lowest-few now.live c.least_outside.result (c.least_outside.ensures ∙ ap (λ (records : RecordsState). lowest_free records.live) c.self.view_is) _ sound.slots
+    lowest-few now.live c.least_outside.result (c.least_outside.ensures ∙ ap (λ (records : RecordsState). lowest_free records.live) c.self.view_is) _
+    sound.slots
 
 pub returns-clause-fits : goal.returns-clause-fits
 returns-clause-fits c running =
     let now = c.args.self.now in
     let sound = subst (λ (records : RecordsState). AreSound records) c.self.view_is c.self.invariant in
-    lowest-fits now.live c.least_outside.result (c.least_outside.ensures ∙ ap (λ (records : RecordsState). lowest_free records.live) c.self.view_is) now.journal.extent (sound.below running)
+    lowest-fits now.live c.least_outside.result (c.least_outside.ensures ∙ ap (λ (records : RecordsState). lowest_free records.live) c.self.view_is)
+    now.journal.extent (sound.below running)

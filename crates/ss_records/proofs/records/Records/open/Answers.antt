@@ -13,7 +13,7 @@ pub returns-in_err-live-clause-opens : goal.returns-in_err-live-clause-opens
 returns-in_err-live-clause-opens g c =
     let error = err_from_is_err_and c.from_residual-in_err-live.result c.from_residual-in_err-live.ensures.1 in
     rw (error.1, error.2) (step-next c.in_ok-journal.ensures.opens c.in_err-live.ensures.live
-    (λ told then opened read. opens-failed c.in_ok-journal.journal c.in_err-live.field-0.0 _ _ _ opened read))
+    (λ told then opened read. opens-failed c.in_ok-journal.journal c.in_err-live.field-0.0 _ _ _ c.in_err-live.ensures.refused opened read))
 
 pub returns-clause-opens : goal.returns-clause-opens
 returns-clause-opens g c =

@@ -7,7 +7,8 @@ use Rattle.ss_records.proofs.records.Records.settle.Goals as goal
 
 pub settle-requires-clause-one_disk : goal.settle-requires-clause-one_disk
 settle-requires-clause-one_disk g c told =
-    subst (λ (records : RecordsState). IsKept records.journal (g.D.Disk.seen c.args.disk.now).told.content) (sym c.self.view_is) (c.requires.one_disk told).journal
+    subst (λ (records : RecordsState). IsKept records.journal (g.D.Disk.seen c.args.disk.now).told.content) (sym c.self.view_is)
+    (c.requires.one_disk told).journal
 
 pub returns-clause-settles : goal.returns-clause-settles
 returns-clause-settles g c =

@@ -15,5 +15,6 @@ returns-then-word c =
 pub returns : goal.returns
 returns c =
     let end = c.loop-n-test.false in
-    let none = position-none c.self.inside.low.items c.self.inside.middle.items c.self.inside.top.items c.self.invariant.0 (λ word lt. c.loop-n.invariant word (omega (arith, end, lt))) in
+    let none = position-none c.self.inside.low.items c.self.inside.middle.items c.self.inside.top.items c.self.invariant.0
+    (λ word lt. c.loop-n.invariant word (omega (arith, end, lt))) in
     sym (ap (position not) (sym c.self.view_is) ∙ none)

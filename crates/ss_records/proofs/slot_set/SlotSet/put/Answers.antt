@@ -2,7 +2,8 @@ use Rattle.std.proofs.Common.{◌≡◌, ◌∙◌, ◌+◌, ◌*◌, ◌/◌, �
 use Rattle.ss_records.specs.Bits.{is_set}
 use Rattle.ss_records.specs.Tree.{members}
 use Rattle.ss_records.proofs.BitLemmas.{digit}
-use Rattle.ss_records.proofs.TreeLemmas.{in_low, in_middle, in_top, length-members, length-members-most, length-count, count-some, count-put, members-put, Summarizes-put}
+use Rattle.ss_records.proofs.TreeLemmas.{in_low, in_middle, in_top, length-members, length-members-most, length-count, count-some, count-put, members-put}
+use Rattle.ss_records.proofs.TreeLemmas.{Summarizes-put}
 use Rattle.ss_records.proofs.slot_set.SlotSet.put.Goals as goal
 
 -- the slot is one of those of the set
@@ -49,12 +50,15 @@ invariant_of-self c =
     let put-middle = c.put_bit-full-2.ensures in
     let put-top = c.put_bit.ensures in
     let was = c.has_bit-was_in.ensures ∙ ap (λ (xs : List ℕ). is_set xs c.args.slot) c.deref.ensures.value in
-    let count = count-put low c.args.slot lt c.args.is_in c.self.inside.count c.counted-self-inside.result c.self.invariant.1 (ap (λ (b : Bool). c.counted-self-inside.result + digit b) (sym was) ∙ c.counted-self-inside.ensures) in
+    let count = count-put low c.args.slot lt c.args.is_in c.self.inside.count c.counted-self-inside.result c.self.invariant.1
+    (ap (λ (b : Bool). c.counted-self-inside.result + digit b) (sym was) ∙ c.counted-self-inside.ensures) in
     let left = members-put low c.put_bit-full.new.words.items c.args.slot c.args.is_in put-low.len lt put-low.bits in (
       record {
         few = omega (arith, tree.few, put-top.len);
-        over_low = Summarizes-put _ _ _ _ tree.over_low c.args.slot c.put_bit-full.result put-low.len put-middle.len put-low.others put-low.full put-middle.bits;
-        over_middle = Summarizes-put _ _ _ _ tree.over_middle (c.args.slot / 64) c.put_bit-full-2.result put-middle.len put-top.len put-middle.others put-middle.full put-top.bits;
+        over_low = Summarizes-put _ _ _ _ tree.over_low c.args.slot c.put_bit-full.result put-low.len put-middle.len put-low.others put-low.full
+            put-middle.bits;
+        over_middle = Summarizes-put _ _ _ _ tree.over_middle (c.args.slot / 64) c.put_bit-full-2.result put-middle.len put-top.len put-middle.others
+            put-middle.full put-top.bits;
       },
       count ∙ sym (ap (count_by (λ (is : Bool). is)) left),
     )
