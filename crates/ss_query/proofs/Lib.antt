@@ -1,0 +1,8 @@
+pub mod Places
+pub mod Records
+pub mod NearSums
+pub mod MarkedTallies
+pub mod Seeing
+pub mod SplitLemmas
+pub mod NextWindow
+pub mod AskedWindows

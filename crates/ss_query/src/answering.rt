@@ -1,0 +1,94 @@
+// What one stream answers to a query.
+ghost use Rattle.std.specs.Prelude.{◌≡◌, ◌<◌, ◌≤◌, All, IfOk};
+ghost use Rattle.std.specs.List.{Contains};
+ghost use Rattle.ss_outside.specs.Disk.{OfContent};
+ghost use Rattle.ss_outside.specs.Step.{Step};
+ghost use Rattle.ss_outside.specs.Verdict.{IfChanged};
+ghost use Rattle.ss_journal.specs.Kept.{IsRunning};
+ghost use Rattle.ss_journal.specs.declared.format.TheConstants.{MOST_SLOTS};
+ghost use Rattle.ss_records.specs.Kept.{AreKept};
+ghost use Rattle.ss_model.specs.Answers.{IsOfKind};
+ghost use Rattle.ss_steps.specs.Steps.{IsFresh};
+ghost use Rattle.ss_query.specs.Answered.{AnswersStream, window_slots_of};
+ghost use Rattle.ss_query.specs.Reading.{KeepsRecords, verdict_of_read};
+
+use crate::asking::{Seen, follows, outcome_seen, with_window};
+use crate::{Outcome, ReadError, read_window};
+use ss_catalog::Query;
+use ss_model::Window;
+use ss_outside::Disk;
+use ss_records::Records;
+use ss_recover::StreamParts;
+use ss_steps::Steps;
+use std::marker::Brand;
+use std::sync::ledger::{Blank, Ledger};
+
+/// What a stream answers to a query: it tallies the values of landmarks in the range, and reads the records of all windows, oldest
+/// first. It writes nothing, and takes no memory.
+pub fn answer<D: Disk>(
+    part: &StreamParts,
+    records: &mut Records,
+    disk: &mut D,
+    query: &Query,
+) -> Result<Outcome, ReadError>
+    requires order { query.now.from ≤ query.now.to }
+    requires running { IsRunning records.old.journal }
+    requires slots { All (λ slot. slot < MOST_SLOTS) (window_slots_of part.now) }
+    requires one_disk { OfContent (D.seen disk.old) (AreKept records.old) }
+    // The answer of the stream whose records the content has, each in the slot where it is held.
+    ensures answers { Step (verdict_of_read result) (D.seen disk.old) (D.seen disk.new)
+        (AnswersStream part.now query.now records.new result) }
+    // Over every disk it is to what was asked for.
+    ensures kind { IfOk result (IsOfKind query.now.kind) }
+    // A slot that has changed is that of a window.
+    ensures changed { IfChanged (verdict_of_read result) (Contains (window_slots_of part.now)) }
+    ensures records { KeepsRecords (verdict_of_read result) records.old records.new }
+{
+    answer_in::<D, Brand>(part, records, disk, query, Blank::new(1))
+}
+
+// The same, with a counter.
+fn answer_in<D: Disk, L: Ledger>(
+    part: &StreamParts,
+    records: &mut Records,
+    disk: &mut D,
+    query: &Query,
+    blank: Blank,
+) -> Result<Outcome, ReadError>
+    requires fresh { IsFresh L.name L.parts blank }
+    requires order { query.now.from ≤ query.now.to }
+    requires running { IsRunning records.old.journal }
+    requires slots { All (λ slot. slot < MOST_SLOTS) (window_slots_of part.now) }
+    requires one_disk { OfContent (D.seen disk.old) (AreKept records.old) }
+    ensures answers { Step (verdict_of_read result) (D.seen disk.old) (D.seen disk.new)
+        (AnswersStream part.now query.now records.new result) }
+    ensures kind { IfOk result (IsOfKind query.now.kind) }
+    ensures changed { IfChanged (verdict_of_read result) (Contains (window_slots_of part.now)) }
+    ensures records { KeepsRecords (verdict_of_read result) records.old records.new }
+{
+    let mut steps = Steps::<L>::new(blank);
+    let _len = part.line.len();
+    let _known = part.landmarks.count();
+    let mut seen = Seen {
+        marked: part.landmarks.values_in(query.from, query.to),
+        whole: None,
+        left: None,
+        right: None,
+        taken: 0,
+        next_time: 0,
+    };
+    let mut next = part.line.first();
+    while let Some(at) = next {
+        let entry = part.line.get(at, &mut steps);
+        let window = Window {
+            first: entry.first,
+            summary: read_window(records, disk, part, entry)?,
+        };
+        if !follows(seen, &window) {
+            return Err(ReadError::Changed { slot: entry.slot });
+        }
+        seen = with_window(seen, query, &part.landmarks, &window);
+        next = part.line.neighbours(at, &mut steps).1;
+    }
+    Ok(outcome_seen(seen, query.kind))
+}

@@ -1,0 +1,295 @@
+// What the windows of a stream say of a range of times, one after the other.
+ghost use Rattle.std.specs.Prelude.{◌≡◌, ◌↔◌, ◌+◌, ◌*◌, ◌<◌, ◌≤◌, Some, IsTrue, IfSome};
+ghost use Rattle.ss_bounds.specs.Times.{ends_in, times_inside};
+ghost use Rattle.ss_landmarks.specs.Free.{is_free};
+ghost use Rattle.ss_model.specs.Interval.{is_apart, is_split, is_whole, split_figures};
+ghost use Rattle.ss_model.specs.Marks.{lies_free};
+ghost use Rattle.ss_summary.specs.declared.summary.TheConstants.{GREATEST_COUNT};
+ghost use Rattle.ss_query.specs.Asked.{Follows, IsFewMarked, IsNear, counts_of, joined_with, known_count, known_sum, left_with};
+ghost use Rattle.ss_query.specs.Asked.{outcome_seen, right_with, seen_with, sums_of, whole_with};
+
+use ss_bounds::{Split, count_bounds, greater, lesser, max_bounds, min_bounds, sum_bounds};
+use ss_catalog::{Kind, LAST_TIME, Query};
+use ss_landmarks::{Landmarks, Tally};
+use ss_model::{Outcome, Window};
+use ss_summary::{GREATEST_COUNT, Summary};
+
+// What the landmarks and the windows that were read so far say of a range of times.
+#[derive(Clone, Copy)]
+pub struct Seen {
+    // The values of landmarks in the range.
+    pub marked: Tally,
+    // Those that lie whole in the range, as one.
+    pub whole: Option<Summary>,
+    // The one that the range splits and that begins before it, and the one that begins in it.
+    pub left: Option<Split>,
+    pub right: Option<Split>,
+    // How many values all of them have, and the least time at which the next one may begin.
+    pub taken: u64,
+    pub next_time: u64,
+}
+
+// Whether a window may come next: its positions and its times are after those so far.
+pub fn follows(seen: Seen, window: &Window) -> bool
+    requires { seen.taken ≤ GREATEST_COUNT }
+    ensures after { IsTrue result ↔ Follows seen window.now }
+    ensures rises { window.now.summary.t_first ≤ window.now.summary.t_last }
+{
+    let summary = window.summary;
+    window.first == seen.taken + 1
+        && summary.count <= GREATEST_COUNT - seen.taken
+        && seen.next_time <= summary.t_first
+}
+
+// Whether all times of a window lie in the range.
+fn is_whole(query: &Query, window: &Window) -> bool
+    ensures { result ≡ is_whole query.now.from query.now.to window.now }
+{
+    query.from <= window.summary.t_first && window.summary.t_last <= query.to
+}
+
+// Whether none does.
+fn is_apart(query: &Query, window: &Window) -> bool
+    ensures { result ≡ is_apart query.now.from query.now.to window.now }
+{
+    window.summary.t_last < query.from || query.to < window.summary.t_first
+}
+
+// Whether some do and some don't.
+fn is_split(query: &Query, window: &Window) -> bool
+    ensures { result ≡ is_split query.now.from query.now.to window.now }
+{
+    !is_whole(query, window) && !is_apart(query, window)
+}
+
+// How many of two times lie in the range.
+fn ends_in(query: &Query, first: u64, last: u64) -> u64
+    ensures { result ≡ ends_in query.now.from query.now.to first last }
+{
+    let is_first = query.from <= first && first <= query.to;
+    let is_last = query.from <= last && last <= query.to;
+    u64::from(is_first) + u64::from(is_last)
+}
+
+// How many free times strictly between two lie in the range.
+fn times_inside(query: &Query, landmarks: &Landmarks, first: u64, last: u64) -> u64
+    requires order { first < last }
+    requires time { last ≤ LAST_TIME }
+    ensures { result ≡ times_inside (is_free landmarks.now.landmarks) query.now.from query.now.to first last }
+{
+    let begin = query.from.max(first + 1);
+    let end = query.to.min(last - 1);
+    landmarks.free(begin, end)
+}
+
+// The figures of a window that the range splits.
+fn split_of(query: &Query, landmarks: &Landmarks, window: &Window) -> Split
+    requires order { query.now.from ≤ query.now.to }
+    requires split { IsTrue (is_split query.now.from query.now.to window.now) }
+    requires free { IsTrue (lies_free landmarks.now.landmarks window.now) }
+    ensures { result ≡ split_figures (is_free landmarks.now.landmarks) query.now.from query.now.to window.now }
+{
+    let summary = window.summary;
+    let inside = times_inside(query, landmarks, summary.t_first, summary.t_last);
+    let between = landmarks.free(summary.t_first + 1, summary.t_last - 1);
+    Split {
+        count: summary.count,
+        sum: summary.sum,
+        min: summary.min,
+        max: summary.max,
+        ends: ends_in(query, summary.t_first, summary.t_last),
+        inside,
+        outside: between - inside,
+    }
+}
+
+// A summary with the values of one more window.
+fn joined(whole: Option<Summary>, summary: Summary) -> Summary
+    requires { IfSome whole (λ older. (older.t_last < summary.t_first) × (older.count + summary.count ≤ GREATEST_COUNT)) }
+    ensures { Some result ≡ joined_with whole summary }
+{
+    match whole {
+        None => summary,
+        Some(older) => Summary::join(older, summary),
+    }
+}
+
+// The whole windows with one more, if it is one.
+fn whole_with(whole: Option<Summary>, query: &Query, window: &Window) -> Option<Summary>
+    requires { IfSome whole (λ older. (older.t_last < window.now.summary.t_first)
+        × (older.count + window.now.summary.count ≤ GREATEST_COUNT)) }
+    ensures { result ≡ whole_with query.now.from query.now.to whole window.now }
+{
+    if is_whole(query, window) {
+        Some(joined(whole, window.summary))
+    } else {
+        whole
+    }
+}
+
+// The split window that begins before the range, if this is the one.
+fn left_with(
+    left: Option<Split>,
+    query: &Query,
+    landmarks: &Landmarks,
+    window: &Window,
+) -> Option<Split>
+    requires order { query.now.from ≤ query.now.to }
+    requires free { IsTrue (lies_free landmarks.now.landmarks window.now) }
+    ensures { result ≡ left_with landmarks.now.landmarks query.now.from query.now.to left window.now }
+{
+    if is_split(query, window) && window.summary.t_first < query.from {
+        Some(split_of(query, landmarks, window))
+    } else {
+        left
+    }
+}
+
+// The split window that begins in the range, if this is the one.
+fn right_with(
+    right: Option<Split>,
+    query: &Query,
+    landmarks: &Landmarks,
+    window: &Window,
+) -> Option<Split>
+    requires order { query.now.from ≤ query.now.to }
+    requires free { IsTrue (lies_free landmarks.now.landmarks window.now) }
+    ensures { result ≡ right_with landmarks.now.landmarks query.now.from query.now.to right window.now }
+{
+    if is_split(query, window) && query.from <= window.summary.t_first {
+        Some(split_of(query, landmarks, window))
+    } else {
+        right
+    }
+}
+
+// What is known with one more window, all times of which are later.
+pub fn with_window(seen: Seen, query: &Query, landmarks: &Landmarks, window: &Window) -> Seen
+    requires few { seen.taken + window.now.summary.count ≤ GREATEST_COUNT }
+    requires order { query.now.from ≤ query.now.to }
+    requires free { IsTrue (lies_free landmarks.now.landmarks window.now) }
+    requires whole { IfSome seen.whole (λ older. (older.t_last < window.now.summary.t_first)
+        × (older.count + window.now.summary.count ≤ GREATEST_COUNT)) }
+    ensures { result ≡ seen_with landmarks.now.landmarks query.now.from query.now.to seen window.now }
+{
+    Seen {
+        marked: seen.marked,
+        whole: whole_with(seen.whole, query, window),
+        left: left_with(seen.left, query, landmarks, window),
+        right: right_with(seen.right, query, landmarks, window),
+        taken: seen.taken + window.summary.count,
+        next_time: window.summary.t_last + 1,
+    }
+}
+
+// How many values are known: those of the windows that lie whole in the range, and those of landmarks.
+fn known_count(whole: Option<Summary>, marked: Tally) -> u64
+    requires { IsFewMarked marked }
+    ensures value { result ≡ known_count whole marked }
+    ensures few { result ≤ 2 * GREATEST_COUNT }
+{
+    match whole {
+        None => marked.count,
+        Some(summary) => summary.count + marked.count,
+    }
+}
+
+// What the sum of these is.
+fn known_sum(whole: Option<Summary>, marked: Tally) -> i128
+    requires { IsFewMarked marked }
+    ensures value { result ≡ known_sum whole marked }
+    ensures near { IsNear result }
+{
+    match whole {
+        None => marked.sum,
+        Some(summary) => summary.sum + marked.sum,
+    }
+}
+
+// How many values of a split window may lie in the range, where there is one.
+fn counts_of(split: Option<Split>) -> (u64, u64)
+    ensures value { result ≡ counts_of split }
+    ensures few { (result.0 ≤ GREATEST_COUNT) × (result.1 ≤ GREATEST_COUNT) }
+{
+    match split {
+        None => (0, 0),
+        Some(split) => count_bounds(split),
+    }
+}
+
+// Which sums they may have.
+fn sums_of(split: Option<Split>) -> (i128, i128)
+    ensures value { result ≡ sums_of split }
+    ensures near { IsNear result.0 × IsNear result.1 }
+{
+    match split {
+        None => (0, 0),
+        Some(split) => {
+            let _count = split.count;
+            sum_bounds(split)
+        }
+    }
+}
+
+// How many values lie in the range.
+fn count_seen(seen: Seen) -> Outcome
+    requires { IsFewMarked seen.marked }
+    ensures { result ≡ outcome_seen Kind.Count seen }
+{
+    let known = known_count(seen.whole, seen.marked);
+    let left = counts_of(seen.left);
+    let right = counts_of(seen.right);
+    Outcome::Count {
+        lo: known + left.0 + right.0,
+        hi: known + left.1 + right.1,
+    }
+}
+
+// What their sum is.
+fn sum_seen(seen: Seen) -> Outcome
+    requires { IsFewMarked seen.marked }
+    ensures { result ≡ outcome_seen Kind.Sum seen }
+{
+    let known = known_sum(seen.whole, seen.marked);
+    let left = sums_of(seen.left);
+    let right = sums_of(seen.right);
+    Outcome::Sum {
+        lo: known + left.0 + right.0,
+        hi: known + left.1 + right.1,
+    }
+}
+
+// What the least of them is.
+fn least_seen(seen: Seen) -> Outcome
+    ensures { result ≡ outcome_seen Kind.Min seen }
+{
+    let whole = match seen.whole {
+        None => None,
+        Some(summary) => Some(summary.min),
+    };
+    Outcome::Min(min_bounds(lesser(whole, seen.marked.least), seen.left, seen.right))
+}
+
+// What the greatest of them is.
+fn greatest_seen(seen: Seen) -> Outcome
+    ensures { result ≡ outcome_seen Kind.Max seen }
+{
+    let whole = match seen.whole {
+        None => None,
+        Some(summary) => Some(summary.max),
+    };
+    Outcome::Max(max_bounds(greater(whole, seen.marked.greatest), seen.left, seen.right))
+}
+
+// What is answered from what is known.
+pub fn outcome_seen(seen: Seen, kind: Kind) -> Outcome
+    requires { IsFewMarked seen.marked }
+    ensures { result ≡ outcome_seen kind seen }
+{
+    match kind {
+        Kind::Count => count_seen(seen),
+        Kind::Sum => sum_seen(seen),
+        Kind::Min => least_seen(seen),
+        Kind::Max => greatest_seen(seen),
+    }
+}

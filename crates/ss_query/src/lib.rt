@@ -1,0 +1,12 @@
+//! The reading side of a store: windows are read again from their records, and a stream answers a query by them.
+#![tactic(auto)]
+
+mod answering;
+mod asking;
+mod read_error;
+mod reading;
+
+pub use answering::answer;
+pub use read_error::ReadError;
+pub use reading::read_window;
+pub use ss_model::Outcome;
