@@ -1,5 +1,6 @@
 -- What a walk answers at its end, and at a record that it refuses.
-use Rattle.std.proofs.Common.{◌≡◌, ◌∙◌, ℕ, zero, suc, ◌+◌, ◌<◌, ◌≤◌, All, List, [], ◌∷◌, ◌++◌, map, filter, length, get_or, take, drop, Option, Some, None, Result, Ok, Err, refl, sym, ap, subst, arith, append-nil}
+use Rattle.std.proofs.Common.{◌≡◌, ◌∙◌, ℕ, zero, suc, ◌+◌, ◌<◌, ◌≤◌, All, List, [], ◌∷◌, ◌++◌, map, filter, length, get_or, take, drop, Option, Some}
+use Rattle.std.proofs.Common.{None, Result, Ok, Err, refl, sym, ap, subst, arith, append-nil}
 use Rattle.std.specs.Prelude.{slice_index}
 use Rattle.std.specs.List.{AllByRecursion, IsDistinct}
 use Rattle.std.specs.List.Sorted.{IsStrictlyIncreasing}
@@ -17,14 +18,13 @@ use Rattle.ss_model.specs.State.{Stream, live, names_of, numbers_of}
 use Rattle.ss_model.specs.declared.types.TheConstants.{MOST_RECORDS}
 use Rattle.ss_recover.specs.Held.{entries_of, window_record}
 use Rattle.ss_recover.specs.Order.{Rises, found_key}
-use Rattle.ss_recover.specs.Walk.{AnswersAs, AreBuilt, CannotClose, Closes, IsDone, IsLowestUnsound, IsReady, IsUsable, records_of}
+use Rattle.ss_recover.specs.Walk.{AnswersAs, AreBuilt, CannotClose, Closes, IsDone, IsLowestUnsound, HasRoomForOne, IsUsable, without_slots}
 use Rattle.ss_recover.specs.declared.found.Found.{Found}
 use Rattle.ss_recover.specs.declared.parts.StreamParts.{StreamParts}
 use Rattle.ss_recover.specs.declared.walking.Open.{Open}
 use Rattle.ss_recover.specs.declared.walking.Walk.{Walk}
 use Rattle.ss_recover.specs.declared.recover_error.RecoverError.{RecoverError}
 use Rattle.ss_recover.specs.declared.recover_error.RecoverError.TheVariants.{BadSlot, BadStream, Disk, OutOfMemory}
-use Rattle.ss_recover.proofs.InOrder.{Rise}
 use Rattle.ss_recover.proofs.Marks.{length-marks_of, marks_of}
 use Rattle.ss_recover.proofs.Refusals.{lacks-at_end}
 use Rattle.ss_recover.proofs.WalkCurrent.{found_landmark, found_other}
@@ -32,16 +32,7 @@ use Rattle.ss_recover.proofs.WalkLemmas.{AreHeldSoFar, AreHeldSoFar-none, AreNam
 use Rattle.ss_recover.proofs.WalkOrder.{IsAmid, IsAmid-from_order}
 use Rattle.ss_recover.proofs.WalkRecords.{all_walked, walked}
 use Rattle.ss_recover.proofs.WalkSteps.{AreComing, Holds, HoldsAs, all-held}
-
--- keys that rise, from each to the next
-increasing-Rise : (ss : List Stream) → Rise (λ s. s.number) ss → IsStrictlyIncreasing (numbers_of ss)
-increasing-Rise [] rise k lt = absurd (omega (arith, lt))
-increasing-Rise (s ∷ []) rise k lt = absurd (omega (arith, lt))
-increasing-Rise (s ∷ u ∷ us) rise zero lt = rise.0.0
-increasing-Rise (s ∷ u ∷ us) rise (suc k) lt =
-    let next : suc (k + 1) ≡ suc k + 1 = omega arith in
-    let rest = increasing-Rise (u ∷ us) rise.1 k (omega (arith, lt)) in
-    subst (λ (j : ℕ). slice_index (numbers_of (s ∷ u ∷ us)) (suc k) < slice_index (numbers_of (s ∷ u ∷ us)) j) next rest
+use Rattle.ss_recover.proofs.InOrder.{increasing-Rise}
 
 -- how many records streams have
 length-records : (ss : List Stream) → length (all_walked ss) ≡ live ss
@@ -57,24 +48,32 @@ length-records (s ∷ ss) =
       sum_by-cons Streams.records_of s ss,
     )
 
-built : (parts : List StreamParts) (ss : List Stream) (names : List (List ℕ × StreamId)) (all : List Found) → AreHeldSoFar parts ss all → AreNames names (names_of ss) →
+built : (parts : List StreamParts) (ss : List Stream) (names : List (List ℕ × StreamId)) (all : List Found) → AreHeldSoFar parts ss all →
+    AreNames names (names_of ss) →
     length all ≤ MOST_RECORDS → AreBuilt parts ss all
 built parts ss names all so_far names_are few = record {
   each = so_far.each;
   records = so_far.records;
   state = record {
     each = All-from_recursion IsStream ss so_far.sound;
-    numbers = increasing-Rise ss so_far.rise;
+    numbers = increasing-Rise (λ (s : Stream). s.number) ss so_far.rise;
     names = subst (IsDistinct same_name) names_are.same names_are.distinct;
     few =
         let most = names_are.most in
-        omega (arith, most, length-map names (λ (n : List ℕ × StreamId). n.0), length-map ss (λ (s : Stream). s.name), ap (λ (ns : List (List ℕ)). length ns) names_are.same);
+        omega (
+          arith,
+          most,
+          length-map names (λ (n : List ℕ × StreamId). n.0),
+          length-map ss (λ (s : Stream). s.name),
+          ap (λ (ns : List (List ℕ)). length ns) names_are.same,
+        );
     room = omega (arith, few, length-records ss, ap (λ (rs : List Record). length rs) so_far.order, length-map all (λ (f : Found). f.holds));
   };
 }
 
 -- the end of a walk
-built-open : (o : Option Open) (done new : List StreamParts) (names : List (List ℕ × StreamId)) (all : List Found) → HoldsAs o done names all → IsDone o done new →
+built-open : (o : Option Open) (done new : List StreamParts) (names : List (List ℕ × StreamId)) (all : List Found) → HoldsAs o done names all →
+    IsDone o done new →
     length all ≤ MOST_RECORDS → (streams : List Stream) × AreBuilt new streams all
 built-open None done new names all holds is few = (
   [],
@@ -92,13 +91,14 @@ built-end old new all i holds end few closes =
     built-open old.current old.done.items new.done.items old.names all (subst (Holds old) (take_all i all end) holds) closes.done few
 
 -- at the end the stream whose records came lacks values
-pub lacks-end : (old : Walk) (all : List Found) (i n : ℕ) → Holds old (take i all) → length all ≤ i → CannotClose old n → IsLowestUnsound n (records_of all)
+pub lacks-end : (old : Walk) (all : List Found) (i n : ℕ) → Holds old (take i all) → length all ≤ i → CannotClose old n → IsLowestUnsound n (without_slots all)
 lacks-end old all i n holds end cannot =
-    subst (λ fs. IsLowestUnsound n (records_of fs)) (append-nil (take i all) ∙ take_all i all end)
+    subst (λ fs. IsLowestUnsound n (without_slots fs)) (append-nil (take i all) ∙ take_all i all end)
     (lacks-at_end old n (take i all) [] holds cannot (λ stream coming is. tt))
 
 -- there is room, since all that is held stands for a record
-room-coming : (stream : Open) (done : List StreamParts) (names : List (List ℕ × StreamId)) (all : List Found) → AreComing stream done names all → length all ≤ MOST_RECORDS → IsReady stream
+room-coming : (stream : Open) (done : List StreamParts) (names : List (List ℕ × StreamId)) (all : List Found) → AreComing stream done names all →
+    length all ≤ MOST_RECORDS → HasRoomForOne stream
 room-coming stream done names all coming few =
     let c = coming.current in
     let entries = ap (λ (slots : List ℕ). length slots) c.found_slots in
@@ -124,7 +124,8 @@ room-coming stream done names all coming few =
       in_time = c.in_time;
     }
 
-pub room : (walk : Walk) (stream : Open) (all : List Found) (i : ℕ) → Holds walk (take i all) → walk.current ≡ Some stream → length all ≤ MOST_RECORDS → IsReady stream
+pub room : (walk : Walk) (stream : Open) (all : List Found) (i : ℕ) → Holds walk (take i all) → walk.current ≡ Some stream → length all ≤ MOST_RECORDS →
+    HasRoomForOne stream
 room walk stream all i holds is few =
     room-coming stream walk.done.items walk.names (take i all) (subst (λ o. HoldsAs o walk.done.items walk.names (take i all)) is holds)
     (omega (arith, few, length-take i all))
@@ -156,7 +157,7 @@ at-index all i x within is =
     sym (take-append-drop i all) ∙ ap (λ l. take i all ++ l) (drop-cons all i x within ∙ ap (λ y. y ∷ drop (suc i) all) (sym is))
 
 pub amid-at : (all : List Found) (i : ℕ) (x : Found) → i < length all → x ≡ get_or all i x → Rises found_key all → All (λ (f : Found). IsUsable f.holds) all →
-    IsAmid (records_of (take i all)) x.holds (records_of (drop (suc i) all))
+    IsAmid (without_slots (take i all)) x.holds (without_slots (drop (suc i) all))
 amid-at all i x within is order usable =
     let split = at-index all i x within is in
     IsAmid-from_order (take i all) x (drop (suc i) all) (subst (Rises found_key) split order)

@@ -1,9 +1,10 @@
 -- What a map carries is a state.
-use Rattle.std.proofs.Common.{◌≡◌, ℕ, ◌+◌, ◌<◌, ◌≤◌, Bool, true, false, not, ◌&&◌, List, [], ◌∷◌, filter, map, length, get_or, refl, sym, ap, subst, ◌∙◌, arith, inl, inr, IsPermutation, Option, Some, None}
+use Rattle.std.proofs.Common.{◌≡◌, ℕ, ◌+◌, ◌<◌, ◌≤◌, Bool, true, false, not, ◌&&◌, List, [], ◌∷◌, filter, map, length, get_or, refl, sym, ap, subst, ◌∙◌}
+use Rattle.std.proofs.Common.{arith, inl, inr, IsPermutation, Option, Some, None}
 use Rattle.std.specs.Prelude.{◌==◌, nat_le, nat_lt, sum_by}
 use Rattle.std.specs.List.{AllByRecursion, IsDistinct, filter_map, list_all, list_any}
 use Rattle.std.specs.List.Sorted.{IsStrictlyIncreasing}
-use Rattle.std.proofs.lemmas.Bool.{and_parts, cases_Bool, eqb-true, leb-true, ltb-true, not-true, or_parts}
+use Rattle.std.proofs.lemmas.Bool.{and_parts, cases_Bool, eqb-true, leb-true, ltb-true, not-true, or_parts, true≢false}
 use Rattle.std.proofs.lemmas.Bool.Decides.{nat_tests}
 use Rattle.std.proofs.lemmas.List.{length-map}
 use Rattle.std.proofs.lemmas.List.Elements.{All-from_recursion, All-map, recursion_from_All}
@@ -24,18 +25,20 @@ use Rattle.ss_model.specs.Tiling.{AreWindows, StandFrom}
 use Rattle.ss_model.specs.Windows.{taken}
 use Rattle.ss_model.specs.declared.types.Window.{Window}
 use Rattle.ss_model.specs.declared.types.TheConstants.{MOST_RECORDS}
-use Rattle.ss_recover.specs.Carried.{in_order, is_mark_of, marks_carried, number_of, spelled, streams_created, window_of, windows_carried}
+use Rattle.ss_recover.specs.Carried.{in_order, is_mark_of, marks_carried, stream_number, spelled, streams_created, window_of, windows_carried}
 use Rattle.ss_recover.specs.Conditions.{has_new_name, has_one_record, has_place, is_named_before, is_sound, tile, tile_from, times_rise}
 use Rattle.ss_recover.specs.Marked.{are_marks, landmarks_made}
-use Rattle.ss_recover.specs.Order.{place_of}
-use Rattle.ss_recover.specs.Parts.{carried, carries, judged, least, lowest_bad_slot, lowest_bad_stream, records_in, stream_carried, streams_carried}
-use Rattle.ss_recover.proofs.InOrder.{IsPermutation-in_order, NoneFalls, NoneFalls-in_order, Rise, all-in_order, increasing-Rise}
+use Rattle.ss_recover.specs.Order.{place_of, Rises}
+use Rattle.ss_recover.specs.Parts.{carried, carries, judged, lowest_in, lowest_bad_slot, lowest_bad_stream, records_in, stream_carried, streams_carried}
+use Rattle.ss_recover.proofs.InOrder.{IsPermutation-in_order, Rise, all-in_order, increasing-Rise, Rises-in_order}
 use Rattle.ss_recover.proofs.Lists.{all-kept, all-passing, all_both, all_weaker, map-map}
 use Rattle.ss_recover.proofs.Marks.{length-marks_of, marks_of}
 use Rattle.ss_recover.proofs.MarksSoFar.{AreOf, AreOf-are_marks}
 use Rattle.ss_recover.proofs.RecordCounts.{all-counted, of_number, sum_by-le_each, sum_by-of_number}
-use Rattle.ss_recover.proofs.SoundStreams.{IsNew, IsOnce, at, lower}
+use Rattle.ss_recover.proofs.SoundStreams.{IsNew, IsOnce, at, lower, MeetsAll, MeetsAll-and}
 use Rattle.ss_recover.proofs.ValidRecords.{CanStand, IsValid, all-created_by, all-numbers_created, all-window_of, few-records, valid-records}
+use Rattle.ss_recover.specs.Walk.{IsUsable}
+use Rattle.ss_recover.proofs.Usable.{IsUsable-valid}
 
 -- where streams are carried, no stream is damaged
 carries-judged : (slot number : Option ℕ) (ss streams : List Stream) → judged slot number ss ≡ carries streams → (number ≡ None) × (ss ≡ streams)
@@ -43,7 +46,7 @@ carries-judged (Some slot) number ss streams is = absurd (cc)
 carries-judged None (Some number) ss streams is = absurd (cc)
 carries-judged None None ss streams is = (refl, cc)
 
-nil-least : (ns : List ℕ) → least ns ≡ None → ns ≡ []
+nil-least : (ns : List ℕ) → lowest_in ns ≡ None → ns ≡ []
 nil-least [] none = refl
 nil-least (n ∷ ns) none = absurd (cc)
 
@@ -55,40 +58,15 @@ all-filter test (n ∷ ns) none = elim (cases_Bool (test n)) [
 ]
 
 -- the conditions, one by one
-record IsSound (rs : List Record) (number : ℕ) : Type 0 where
-  one : has_one_record number (streams_created rs) ≡ true
-  place : has_place number (streams_created rs) ≡ true
-  new : has_new_name number (streams_created rs) ≡ true
-  tiles : tile (windows_carried number rs) ≡ true
-  rising : times_rise (windows_carried number rs) ≡ true
-  marks : are_marks (marks_carried number rs) ≡ true
-  free : list_all (lies_free (landmarks_made (marks_carried number rs))) (windows_carried number rs) ≡ true
+abbrev IsSound : List Record → ℕ → Type 0
+IsSound rs number =
+    MeetsAll (has_one_record number (streams_created rs)) (has_place number (streams_created rs)) (has_new_name number (streams_created rs))
+    (tile (windows_carried number rs)) (times_rise (windows_carried number rs)) (are_marks (marks_carried number rs))
+    (list_all (lies_free (landmarks_made (marks_carried number rs))) (windows_carried number rs))
 
 IsSound-is_sound : (rs : List Record) (number : ℕ) → is_sound rs number ≡ true → IsSound rs number
 unfolding is_sound
-IsSound-is_sound rs number sound =
-    let a = has_one_record number (streams_created rs) in
-    let b = has_place number (streams_created rs) in
-    let c = has_new_name number (streams_created rs) in
-    let d = tile (windows_carried number rs) in
-    let e = times_rise (windows_carried number rs) in
-    let f = are_marks (marks_carried number rs) in
-    let last = list_all (lies_free (landmarks_made (marks_carried number rs))) (windows_carried number rs) in
-    let seventh = and_parts (a && b && c && d && e && f) last sound in
-    let sixth = and_parts (a && b && c && d && e) f seventh.0 in
-    let fifth = and_parts (a && b && c && d) e sixth.0 in
-    let fourth = and_parts (a && b && c) d fifth.0 in
-    let third = and_parts (a && b) c fourth.0 in
-    let second = and_parts a b third.0 in
-    record {
-      one = second.0;
-      place = second.1;
-      new = third.1;
-      tiles = fourth.1;
-      rising = fifth.1;
-      marks = sixth.1;
-      free = seventh.1;
-    }
+IsSound-is_sound rs number sound = MeetsAll-and _ _ _ _ _ _ _ sound
 
 -- windows that tile, at rising times, from a time on
 abbrev BeginsFrom : ℕ → List Window → Type 0
@@ -146,7 +124,7 @@ once-tail s ss [] above once = tt
 once-tail s ss (u ∷ us) above once =
     (omega (arith, sum_by-cons (at u.number) s ss, at-above s u above.0, once.0), once-tail s ss us above.1 once.1)
 
-Rise-once : (ss : List Created) → NoneFalls (λ s. s.number) ss → AllByRecursion (IsOnce ss) ss → Rise (λ s. s.number) ss
+Rise-once : (ss : List Created) → Rises (λ s. s.number) ss → AllByRecursion (IsOnce ss) ss → Rise (λ s. s.number) ss
 Rise-once [] none once = tt
 Rise-once (s ∷ ss) none once =
     let zero_left : sum_by (at s.number) ss ≡ 0 = omega (arith, sum_by-cons (at s.number) s ss, at-self s, once.0) in
@@ -154,9 +132,6 @@ Rise-once (s ∷ ss) none once =
     (above, Rise-once ss none.1 (once-tail s ss ss above once.1))
 
 -- each has fewer before it than there may be
-lower-self : (s : Created) → lower s.number s ≡ 0
-lower-self s = grind (arith, nat_tests)
-
 lower-above : (s u : Created) → s.number < u.number → lower u.number s ≡ 1
 lower-above s u above = grind (arith, nat_tests)
 
@@ -209,7 +184,7 @@ each-own P ss each =
     (λ k d inside. All-from_recursion (λ (u : Created). u.number ≡ (get_or ss k d).number → P u) ss (at_each k d inside) k d inside refl)
 
 -- what the records of a map carry, where all are sound
-module _ (rs : List Record) (sound : AllByRecursion (λ number. is_sound rs number ≡ true) (filter_map number_of rs))
+module _ (rs : List Record) (sound : AllByRecursion (λ number. is_sound rs number ≡ true) (filter_map stream_number rs))
     (valid : AllByRecursion IsValid rs) where
   abbrev ordered : List Created
   ordered = in_order (λ s. s.number) (streams_created rs)
@@ -233,7 +208,7 @@ module _ (rs : List Record) (sound : AllByRecursion (λ number. is_sound rs numb
       (λ s is. sum_by-IsPermutation (at s.number) (streams_created rs) ordered ordered_moved ∙ once_created s.number is) ordered each_sound
 
   rise : Rise (λ s. s.number) ordered
-  rise = Rise-once ordered (NoneFalls-in_order (λ (s : Created). s.number) (streams_created rs)) once
+  rise = Rise-once ordered (Rises-in_order (λ (s : Created). s.number) (streams_created rs)) once
 
   few : length ordered ≤ MOST_STREAMS
   few =
@@ -272,9 +247,11 @@ module _ (rs : List Record) (sound : AllByRecursion (λ number. is_sound rs numb
 
   landmarks_are : (s : Created) → IsSound rs s.number → AreOf s.number (marks_carried s.number rs) (landmarks_made (marks_carried s.number rs))
   landmarks_are s is =
-      AreOf-are_marks s.number (marks_carried s.number rs)
-      (all-in_order place_of (λ r. is_mark_of s.number r ≡ true) (marks s) (all-passing (is_mark_of s.number) rs))
-      (all-in_order place_of IsValid (marks s) (all-kept IsValid (is_mark_of s.number) rs valid)) is.marks
+      let own = all-in_order place_of (λ r. is_mark_of s.number r ≡ true) (marks s) (all-passing (is_mark_of s.number) rs) in
+      AreOf-are_marks s.number (marks_carried s.number rs) own
+      (all_both (λ r. is_mark_of s.number r ≡ true) IsValid IsUsable
+      (λ r own is. IsUsable-valid r is (λ free. true≢false (sym own ∙ ap (is_mark_of s.number) free))) (marks_carried s.number rs) own
+      (all-in_order place_of IsValid (marks s) (all-kept IsValid (is_mark_of s.number) rs valid))) is.marks
 
   -- the streams
   carried_is : (s : Created) → IsSound rs s.number → CanStand s → IsStream (stream_carried rs s)
@@ -328,7 +305,7 @@ unfolding carried
 IsState-carries found streams inside is =
     let rs = records_in (spelled found) in
     let parts = carries-judged (lowest_bad_slot (spelled found)) (lowest_bad_stream rs) (streams_carried rs) streams is in
-    let numbers = filter_map number_of rs in
+    let numbers = filter_map stream_number rs in
     let sound = all-filter (is_sound rs) numbers (nil-least (filter (λ number. not (is_sound rs number)) numbers) parts.0) in
     let valid = valid-records found in
     subst IsState parts.1

@@ -1,5 +1,6 @@
 -- The slots that were read, and one more.
-use Rattle.std.proofs.Common.{◌≡◌, ◌∙◌, ℕ, zero, suc, ◌+◌, ◌-◌, ◌<◌, ◌≤◌, Bool, true, false, not, cond, List, [], ◌∷◌, ◌++◌, map, filter, length, replicate, get_or, Option, Some, None, Result, Err, Vec, Global, refl, sym, ap, ap₂, subst, inl, inr, arith, append-nil}
+use Rattle.std.proofs.Common.{◌≡◌, ◌∙◌, ℕ, zero, suc, ◌+◌, ◌-◌, ◌<◌, ◌≤◌, Bool, true, false, not, cond, List, [], ◌∷◌, ◌++◌, map, filter, length}
+use Rattle.std.proofs.Common.{replicate, get_or, Option, Some, None, Result, Err, Vec, Global, refl, sym, ap, ap₂, subst, inl, inr, arith, append-nil}
 use Rattle.std.specs.Prelude.{◌≢◌, is_none}
 use Rattle.std.specs.List.{position_or_len, range_with_len}
 use Rattle.std.proofs.lemmas.Bool.{cases_lt, true≢false, cond-true, cond-false, lt-ltb, false_from_ne_true}
@@ -37,7 +38,8 @@ use Rattle.ss_recover.proofs.Occupied.{filled, filled-append, filled-live, fille
 use Rattle.ss_recover.proofs.WholeSlots.{HasWholeSlots-StandsFor}
 
 -- a map's extent is that of the journal
-pub extent-kept : (journal : JournalState) (content : List ℕ) (found : SlotMap) → IsKept journal content → StandsFor content found → found.extent ≡ journal.extent
+pub extent-kept : (journal : JournalState) (content : List ℕ) (found : SlotMap) → IsKept journal content → StandsFor content found →
+    found.extent ≡ journal.extent
 extent-kept journal content found kept stands =
     let some = StandsFor-from content kept.found kept.found kept.map (SameMap-refl kept.found) in
     sym (StandsFor-same content kept.found found some stands).extent ∙ kept.extent
@@ -58,9 +60,6 @@ pub record AreRead (all : List Found) (found : SlotMap) (slot : ℕ) : Type 0 wh
   pub occupied_by : map in_slot all ≡ filled found.bytes (range_with_len 0 slot)
   pub spelled_all : (k : ℕ) → k < slot → decoded (found.bytes k) ≢ None
 
-pub AreRead-none : (found : SlotMap) → AreRead [] found 0
-AreRead-none found = record { occupied_by = refl; spelled_all = λ k lt. absurd (omega (arith, lt)) }
-
 pub AreRead-live : (all : List Found) (found : SlotMap) (slot : ℕ) (f : Found) → AreRead all found slot → are_zeros (found.bytes slot) ≡ false →
     f.slot ≡ slot → decoded (found.bytes slot) ≡ Some f.holds → AreRead (all ++ f ∷ []) found (slot + 1)
 AreRead-live all found slot f read live same is = record {
@@ -78,7 +77,8 @@ AreRead-zeros all found slot read zeros is = record {
   occupied_by =
       read.occupied_by
       ∙ sym (ap (filled found.bytes) (range-more slot) ∙ filled-append found.bytes (range_with_len 0 slot) (slot ∷ [])
-      ∙ ap (λ l. filled found.bytes (range_with_len 0 slot) ++ l) (filled-zeros found.bytes slot [] zeros) ∙ append-nil (filled found.bytes (range_with_len 0 slot)));
+      ∙ ap (λ l. filled found.bytes (range_with_len 0 slot) ++ l) (filled-zeros found.bytes slot [] zeros)
+      ∙ append-nil (filled found.bytes (range_with_len 0 slot)));
   spelled_all = below-more (λ k. decoded (found.bytes k) ≢ None) slot read.spelled_all (λ none. cc);
 }
 
@@ -153,7 +153,8 @@ gather-refused found slot all Disk refused read lt live = tt
 gather-refused found slot all OutOfMemory refused read lt live = tt
 
 -- a live slot isn't zeros, and a slot that isn't live is free
-pub live-zeros : (records : RecordsState) (content : List ℕ) (found : SlotMap) (slot : ℕ) (b : Bool) → AreKept records content → StandsFor content found → slot < MOST_SLOTS →
+pub live-zeros : (records : RecordsState) (content : List ℕ) (found : SlotMap) (slot : ℕ) (b : Bool) → AreKept records content → StandsFor content found →
+    slot < MOST_SLOTS →
     is_live records.live slot ≡ not b → are_zeros (found.bytes slot) ≡ b
 live-zeros records content found slot b kept stands lt is = not-same (are_zeros (found.bytes slot)) b (sym (kept.free found stands slot lt) ∙ is)
   where
@@ -163,7 +164,8 @@ live-zeros records content found slot b kept stands lt is = not-same (are_zeros 
     not-same true false same = sym same
     not-same false true same = sym same
 
-pub free-zeros : (content : List ℕ) (found : SlotMap) (slot : ℕ) → StandsFor content found → slot < MOST_SLOTS → are_zeros (found.bytes slot) ≡ true → decoded (found.bytes slot) ≡ Some Free
+pub free-zeros : (content : List ℕ) (found : SlotMap) (slot : ℕ) → StandsFor content found → slot < MOST_SLOTS → are_zeros (found.bytes slot) ≡ true →
+    decoded (found.bytes slot) ≡ Some Free
 free-zeros content found slot stands lt zeros = decoded-free (found.bytes slot) ((HasWholeSlots-StandsFor content found stands).whole slot lt) zeros
 
 -- more is found out of what was read

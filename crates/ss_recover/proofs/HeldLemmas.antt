@@ -1,5 +1,6 @@
 -- What is held is what the map carries.
-use Rattle.std.proofs.Common.{◌≡◌, ℕ, ◌≤◌, Bool, true, not, cond, List, [], ◌∷◌, filter, map, length, refl, sym, ap, ap₂, subst, ◌∙◌, arith, IsPermutation, None}
+use Rattle.std.proofs.Common.{◌≡◌, ℕ, ◌≤◌, Bool, true, not, cond, List, [], ◌∷◌, filter, map, length, refl, sym, ap, ap₂, subst, ◌∙◌, arith}
+use Rattle.std.proofs.Common.{IsPermutation, None}
 use Rattle.std.specs.Prelude.{◌==◌, is_none, sum_by}
 use Rattle.std.specs.List.{AllByRecursion, IsDistinct, filter_map, list_all}
 use Rattle.std.specs.List.Sorted.{IsStrictlyIncreasing}
@@ -16,27 +17,24 @@ use Rattle.ss_model.specs.Standing.{IsState, IsStream}
 use Rattle.ss_model.specs.State.{Created, Stream, live, records_of}
 use Rattle.ss_model.specs.declared.types.TheConstants.{MOST_RECORDS}
 use Rattle.ss_model.specs.declared.types.Window.{Window}
-use Rattle.ss_recover.specs.Carried.{created_by, is_mark_of, marks_carried, number_of, spelled, streams_created, window_of, windows_carried}
+use Rattle.ss_recover.specs.Carried.{created_by, is_mark_of, marks_carried, stream_number, spelled, streams_created, window_of, windows_carried}
 use Rattle.ss_recover.specs.Conditions.{is_sound, tile, times_rise}
 use Rattle.ss_recover.specs.Held.{AreHeld, HasWholeSlots}
 use Rattle.ss_recover.specs.Marked.{are_marks, landmarks_made}
-use Rattle.ss_recover.specs.Parts.{carried, carries, judged, least, lowest_bad_slot, lowest_bad_stream, records_in, stream_carried, streams_carried}
+use Rattle.ss_recover.specs.Parts.{carried, carries, judged, lowest_in, lowest_bad_slot, lowest_bad_stream, records_in, stream_carried, streams_carried}
 use Rattle.ss_recover.specs.declared.parts.StreamParts.{StreamParts}
-use Rattle.ss_recover.proofs.HeldRecords.{every_slot_spells, made_of_records, records_of_streams}
+use Rattle.ss_recover.proofs.HeldRecords.{every_slot_spells, made_of_records}
 use Rattle.ss_recover.proofs.InOrder.{Rise, Rise-increasing, in_order-IsPermutation}
-use Rattle.ss_recover.proofs.Lists.{all_both, filter_map-kept, kept, position-none}
+use Rattle.ss_recover.proofs.Lists.{all_both, filter_map-kept, kept, position-none, all-from_map, map-map}
 use Rattle.ss_recover.proofs.Marks.{are_marks-marks_of, in_order-marks_of, landmarks_made-marks_of, length-marks_of, marks_of}
-use Rattle.ss_recover.proofs.SoundStreams.{IsNew-each, IsOnce-each, Rise-AreWindows, has_new_name-moved, has_one_record-moved, has_place-moved, tile-AreWindows, times_rise-AreWindows}
-use Rattle.ss_recover.proofs.StreamRecords.{HasMarks-each, HasWindows-each, all-number_of, created, filter_map-created_by}
+use Rattle.ss_recover.proofs.SoundStreams.{IsNew-each, IsOnce-each, Rise-AreWindows, has_new_name-moved, has_one_record-moved, has_place-moved}
+use Rattle.ss_recover.proofs.SoundStreams.{tile-AreWindows, times_rise-AreWindows}
+use Rattle.ss_recover.proofs.WalkRecords.{HasOwn, HasOwn-each, all-number_of, all_walked, created, created-all_walked}
 
 -- where all are sound, none is the least that isn't
 filter-sound : (test : ℕ → Bool) (ns : List ℕ) → AllByRecursion (λ n. test n ≡ true) ns → filter (λ n. not (test n)) ns ≡ []
 filter-sound test [] all = refl
 filter-sound test (n ∷ ns) all = rw all.0 (filter-sound test ns all.1)
-
-map-map-created : {Y : Type 0} (f : Created → Y) (ss : List Stream) → map f (map created ss) ≡ map (λ s. f (created s)) ss
-map-map-created f [] = refl
-map-map-created f (s ∷ ss) = ap (λ l. f (created s) ∷ l) (map-map-created f ss)
 
 -- the streams of a state, and of each the windows and the landmarks that records carry
 abbrev Carries : List Record → Stream → Type 0
@@ -55,10 +53,6 @@ each-records_of [] most room = tt
 each-records_of (s ∷ ss) most room =
     let all = sum_by-cons records_of s ss in (omega (arith, all, room), each-records_of ss most (omega (arith, all, room)))
 
-all_created : (P : Created → Type 0) (ss : List Stream) → AllByRecursion P (map created ss) → AllByRecursion (λ s. P (created s)) ss
-all_created P [] all = tt
-all_created P (s ∷ ss) all = (all.0, all_created P ss all.1)
-
 -- what is held over a map of whole slots
 module _ (parts : List StreamParts) (streams : List Stream) (found : SlotMap) (whole : HasWholeSlots found) (held : AreHeld parts streams found) where
   abbrev records : List Record
@@ -73,11 +67,11 @@ module _ (parts : List StreamParts) (streams : List Stream) (found : SlotMap) (w
   rise_created : Rise (λ (s : Created). s.number) (map created streams)
   rise_created =
       Rise-increasing (λ (s : Created). s.number) (map created streams)
-      (subst IsStrictlyIncreasing (sym (map-map-created (λ s. s.number) streams)) state.numbers)
+      (subst IsStrictlyIncreasing (sym (map-map (λ (s : Created). s.number) created streams)) state.numbers)
 
   moved : IsPermutation (map created streams) (streams_created records)
   moved =
-      subst (λ l. IsPermutation l (streams_created records)) (filter_map-created_by streams)
+      subst (λ l. IsPermutation l (streams_created records)) (created-all_walked streams)
       (made_of_records parts streams found whole held created_by refl)
 
   each_is : AllByRecursion IsStream streams
@@ -86,21 +80,20 @@ module _ (parts : List StreamParts) (streams : List Stream) (found : SlotMap) (w
   -- the windows of each stream
   windows_are : AllByRecursion (λ s. windows_carried s.number records ≡ s.windows) streams
   windows_are =
-      all_both (λ s. filter_map (window_of s.number) (records_of_streams streams) ≡ s.windows) IsStream
-      (λ s. windows_carried s.number records ≡ s.windows)
+      all_both (HasOwn streams) IsStream (λ s. windows_carried s.number records ≡ s.windows)
       (λ s has is.
       in_order-IsPermutation (λ (w : Window). w.first) (filter_map (window_of s.number) records) s.windows
-      (subst (λ l. IsPermutation l (filter_map (window_of s.number) records)) has
+      (subst (λ l. IsPermutation l (filter_map (window_of s.number) records)) has.windows
       (made_of_records parts streams found whole held (window_of s.number) refl))
       (Rise-AreWindows s.windows is.windows))
-      streams (HasWindows-each streams rise) each_is
+      streams (HasOwn-each streams rise) each_is
 
   -- the landmarks of each stream
   marks_moved : (number : ℕ) →
-      IsPermutation (filter (is_mark_of number) (records_of_streams streams)) (filter (is_mark_of number) records)
+      IsPermutation (filter (is_mark_of number) (all_walked streams)) (filter (is_mark_of number) records)
   marks_moved number =
-      subst (λ l. IsPermutation l (filter (is_mark_of number) records)) (filter_map-kept (is_mark_of number) (records_of_streams streams))
-      (subst (λ l. IsPermutation (filter_map (kept (is_mark_of number)) (records_of_streams streams)) l) (filter_map-kept (is_mark_of number) records)
+      subst (λ l. IsPermutation l (filter (is_mark_of number) records)) (filter_map-kept (is_mark_of number) (all_walked streams))
+      (subst (λ l. IsPermutation (filter_map (kept (is_mark_of number)) (all_walked streams)) l) (filter_map-kept (is_mark_of number) records)
       (made_of_records parts streams found whole held (kept (is_mark_of number)) refl))
 
   abbrev MarksAre : Stream → Type 0
@@ -108,15 +101,12 @@ module _ (parts : List StreamParts) (streams : List Stream) (found : SlotMap) (w
 
   marks_are : AllByRecursion MarksAre streams
   marks_are =
-      let Has : Stream → Type 0 = λ s. IsPermutation (filter (is_mark_of s.number) (records_of_streams streams)) (marks_of s.number 1 s.landmarks) in
-      all_both Has (λ s. records_of s ≤ MOST_RECORDS) MarksAre
+      all_both (HasOwn streams) (λ s. records_of s ≤ MOST_RECORDS) MarksAre
       (λ s has room.
       in_order-marks_of s.number 1 s.landmarks (filter (is_mark_of s.number) records)
-      (IsPermutation-trans (marks_of s.number 1 s.landmarks) (filter (is_mark_of s.number) (records_of_streams streams))
-      (filter (is_mark_of s.number) records)
-      (IsPermutation-sym (filter (is_mark_of s.number) (records_of_streams streams)) (marks_of s.number 1 s.landmarks) has) (marks_moved s.number))
+      (subst (λ l. IsPermutation l (filter (is_mark_of s.number) records)) has.marks (marks_moved s.number))
       (omega (arith, length-marks_of s.number 1 s.landmarks, room)))
-      streams (HasMarks-each streams rise) (each-records_of streams MOST_RECORDS state.room)
+      streams (HasOwn-each streams rise) (each-records_of streams MOST_RECORDS state.room)
 
   carries_each : AllByRecursion (Carries records) streams
   carries_each =
@@ -138,13 +128,13 @@ module _ (parts : List StreamParts) (streams : List Stream) (found : SlotMap) (w
 
   once : AllByRecursion (λ (s : Stream). sum_by (λ (u : Created). cond (u.number == s.number) 1 0) (map created streams) ≡ 1) streams
   once =
-      all_created (λ s. sum_by (λ (u : Created). cond (u.number == s.number) 1 0) (map created streams) ≡ 1) streams
+      all-from_map (λ s. sum_by (λ (u : Created). cond (u.number == s.number) 1 0) (map created streams) ≡ 1) created streams
       (IsOnce-each (map created streams) rise_created)
 
   sound : AllByRecursion (λ s. is_sound records s.number ≡ true) streams
   unfolding is_sound
   sound =
-      let names = subst (IsDistinct same_name) (sym (map-map-created (λ s. s.name) streams)) state.names in
+      let names = subst (IsDistinct same_name) (sym (map-map (λ (s : Created). s.name) created streams)) state.names in
       let new = IsNew-each (map created streams) rise_created names in
       let Once : Stream → Type 0 = λ s. sum_by (λ (u : Created). cond (u.number == s.number) 1 0) (map created streams) ≡ 1 in
       let Both : Stream → Type 0 = λ s. Carries records s × MarksAre s in
@@ -169,13 +159,13 @@ module _ (parts : List StreamParts) (streams : List Stream) (found : SlotMap) (w
 
   none_bad : lowest_bad_stream records ≡ None
   none_bad =
-      let numbers = filter_map number_of records in
+      let numbers = filter_map stream_number records in
       let P : ℕ → Type 0 = λ number. is_sound records number ≡ true in
       let all : AllByRecursion P numbers =
       recursion_from_All P numbers
-      (All-permutation P (filter_map number_of (records_of_streams streams)) numbers (made_of_records parts streams found whole held number_of refl)
-      (All-from_recursion P (filter_map number_of (records_of_streams streams)) (all-number_of P streams sound))) in
-      ap least (filter-sound (is_sound records) numbers all)
+      (All-permutation P (filter_map stream_number (all_walked streams)) numbers (made_of_records parts streams found whole held stream_number refl)
+      (All-from_recursion P (filter_map stream_number (all_walked streams)) (all-number_of P streams sound))) in
+      ap lowest_in (filter-sound (is_sound records) numbers all)
 
   pub carried-AreHeld : carried found ≡ carries streams
   unfolding carried

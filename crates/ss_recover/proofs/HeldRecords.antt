@@ -1,10 +1,11 @@
 -- The records that are held, and those that the slots of a map spell.
-use Rattle.std.proofs.Common.{◌≡◌, ℕ, ◌<◌, true, false, ◌||◌, List, [], ◌∷◌, ◌++◌, map, flat_map, length, replicate, refl, sym, ap, ap₂, subst, ◌∙◌, arith, inl, inr, IsPermutation, Option, Some, None}
+use Rattle.std.proofs.Common.{◌≡◌, ℕ, ◌<◌, true, false, ◌||◌, List, [], ◌∷◌, ◌++◌, map, flat_map, length, replicate, refl, sym, ap, ap₂, subst, ◌∙◌}
+use Rattle.std.proofs.Common.{arith, inl, inr, IsPermutation, Option, Some, None}
 use Rattle.std.specs.Prelude.{is_none, zip}
 use Rattle.std.specs.List.{AllByRecursion, cons_option, filter_map, list_any, range_with_len}
 use Rattle.std.proofs.lemmas.Bool.{cases_Bool}
 use Rattle.std.proofs.lemmas.List.{length-map, map-append}
-use Rattle.std.proofs.lemmas.List.Sorted.{IsPermutation-map, list_any-IsPermutation}
+use Rattle.std.proofs.lemmas.List.Sorted.{IsPermutation-map, list_any-IsPermutation, IsPermutation-refl, IsPermutation-trans}
 use Rattle.ss_journal.specs.Redo.{SlotMap, zeros}
 use Rattle.ss_records.specs.Live.{are_zeros}
 use Rattle.ss_records.proofs.LiveLemmas.{replicate-are_zeros}
@@ -16,22 +17,24 @@ use Rattle.ss_landmarks.specs.Landmark.{all_values}
 use Rattle.ss_line.specs.declared.entry.Entry.{Entry}
 use Rattle.ss_model.specs.State.{Stream}
 use Rattle.ss_recover.specs.Carried.{spelled}
-use Rattle.ss_recover.specs.Held.{AllAgree, AreHeld, Agrees, HasWholeSlots, all_value_records, entries_of, in_slots, landmark_records, marks_held, occupied, records_held, span_held, span_of, stream_record, window_record, windows_held}
+use Rattle.ss_recover.specs.Held.{AllAgree, AreHeld, Agrees, HasWholeSlots, all_value_records, entries_of, in_slots, landmark_records, marks_held}
+use Rattle.ss_recover.specs.Held.{occupied, records_held, span_held, span_of, stream_record, window_record, windows_held}
 use Rattle.ss_recover.specs.Parts.{records_in}
 use Rattle.ss_recover.specs.declared.parts.StreamParts.{StreamParts}
 use Rattle.ss_recover.proofs.Lists.{all_weaker, map-map, range-within}
-use Rattle.ss_recover.proofs.Marks.{length-all_value_records, length-landmark_records}
+use Rattle.ss_recover.proofs.Marks.{length-all_value_records, length-landmark_records, IsPermutation-walked}
 use Rattle.ss_recover.proofs.Occupied.{filled, filled-live, filled-zeros}
-use Rattle.ss_recover.proofs.Permutations.{IsPermutation-filter_map}
+use Rattle.ss_recover.proofs.Permutations.{IsPermutation-filter_map, IsPermutation-append_both}
+use Rattle.ss_recover.proofs.WalkRecords.{all_walked, walked}
 
 -- the records of a stream, and of streams
-abbrev pub records_of_stream : Stream → List Record
+abbrev records_of_stream : Stream → List Record
 records_of_stream s =
     stream_record s
     ∷ map (window_record s.number) s.windows
     ++ (landmark_records s.number 1 s.landmarks ++ all_value_records s.number 1 s.landmarks)
 
-abbrev pub records_of_streams : List Stream → List Record
+abbrev records_of_streams : List Stream → List Record
 records_of_streams streams = flat_map records_of_stream streams
 
 map-second-zip : {X Y : Type 0} (xs : List X) (ys : List Y) → length xs ≡ length ys → map (λ (e : X × Y). e.1) (zip xs ys) ≡ ys
@@ -39,6 +42,13 @@ map-second-zip [] [] same = refl
 map-second-zip [] (y ∷ ys) same = absurd (omega arith)
 map-second-zip (x ∷ xs) [] same = absurd (omega arith)
 map-second-zip (x ∷ xs) (y ∷ ys) same = ap (λ l. y ∷ l) (map-second-zip xs ys (omega arith))
+
+-- as a walk takes them they are the same, in another order
+IsPermutation-all_walked : (ss : List Stream) → IsPermutation (all_walked ss) (records_of_streams ss)
+IsPermutation-all_walked [] = IsPermutation-refl []
+IsPermutation-all_walked (s ∷ ss) =
+    IsPermutation-append_both (walked s) (records_of_stream s) (all_walked ss) (records_of_streams ss) (IsPermutation-walked s)
+    (IsPermutation-all_walked ss)
 
 -- what is held of a stream, without the slots
 abbrev second : ℕ × Option Record → Option Record
@@ -152,27 +162,29 @@ list_any-Some (r ∷ rs) = list_any-Some rs
 
 -- what is held over a map of whole slots
 module _ (parts : List StreamParts) (streams : List Stream) (found : SlotMap) (whole : HasWholeSlots found) (held : AreHeld parts streams found) where
-  moved : IsPermutation (map Some (records_of_streams streams)) (map (λ e. e.1) (occupied found))
+  moved : IsPermutation (map Some (all_walked streams)) (map (λ e. e.1) (occupied found))
   moved =
-      subst (λ l. IsPermutation l (map (λ (e : ℕ × Option Record). e.1) (occupied found))) (second-held parts streams held.each)
-      (IsPermutation-map (λ (e : ℕ × Option Record). e.1) (flat_map records_held (zip parts streams)) (occupied found) held.records)
+      IsPermutation-trans (map Some (all_walked streams)) (map Some (records_of_streams streams)) (map (λ e. e.1) (occupied found))
+      (IsPermutation-map Some (all_walked streams) (records_of_streams streams) (IsPermutation-all_walked streams))
+      (subst (λ l. IsPermutation l (map (λ (e : ℕ × Option Record). e.1) (occupied found))) (second-held parts streams held.each)
+      (IsPermutation-map (λ (e : ℕ × Option Record). e.1) (flat_map records_held (zip parts streams)) (occupied found) held.records))
 
   -- each slot spells a record
   pub every_slot_spells : list_any is_none (spelled found) ≡ false
   unfolding spelled
   every_slot_spells =
       list_any-filled found.bytes (range_with_len 0 found.extent) (zeros_are_free found whole)
-      ∙ sym (list_any-IsPermutation is_none (map Some (records_of_streams streams)) (map (λ e. e.1) (occupied found)) moved)
-      ∙ list_any-Some (records_of_streams streams)
+      ∙ sym (list_any-IsPermutation is_none (map Some (all_walked streams)) (map (λ e. e.1) (occupied found)) moved)
+      ∙ list_any-Some (all_walked streams)
 
   -- what is made of the records of the streams is what is made of those of the slots
   pub made_of_records : {Y : Type 0} (f : Record → Option Y) → f Free ≡ None →
-      IsPermutation (filter_map f (records_of_streams streams)) (filter_map f (records_in (spelled found)))
+      IsPermutation (filter_map f (all_walked streams)) (filter_map f (records_in (spelled found)))
   unfolding spelled
   made_of_records f free =
-      subst (λ l. IsPermutation (filter_map f (records_of_streams streams)) l)
+      subst (λ l. IsPermutation (filter_map f (all_walked streams)) l)
       (sym (filter_map-filled f free found.bytes (range_with_len 0 found.extent) (zeros_are_free found whole)))
       (subst (λ l. IsPermutation (filter_map f l) (filter_map f (records_in (map (λ e. e.1) (occupied found)))))
-      (records_in-Some (records_of_streams streams))
-      (IsPermutation-filter_map f (records_in (map Some (records_of_streams streams))) (records_in (map (λ e. e.1) (occupied found)))
-      (IsPermutation-filter_map (λ o. o) (map Some (records_of_streams streams)) (map (λ e. e.1) (occupied found)) moved)))
+      (records_in-Some (all_walked streams))
+      (IsPermutation-filter_map f (records_in (map Some (all_walked streams))) (records_in (map (λ e. e.1) (occupied found)))
+      (IsPermutation-filter_map (λ o. o) (map Some (all_walked streams)) (map (λ e. e.1) (occupied found)) moved)))

@@ -12,6 +12,7 @@ use Rattle.std.proofs.lemmas.List.Sums.{sum_by-cons}
 use Rattle.ss_recover.specs.Carried.{put_in_order, in_order}
 pub use Rattle.ss_recover.proofs.Lists.{all_weaker}
 use Rattle.ss_recover.proofs.Permutations.{IsPermutation-turn}
+use Rattle.ss_recover.specs.Order.{Rises}
 
 le-nat_le : (m n : ℕ) → nat_le m n ≡ true → m ≤ n
 le-nat_le m n le = grind (arith, nat_tests)
@@ -25,11 +26,6 @@ module _ {X : Type 0} (key : X → ℕ) where
   Rise [] = Unit
   Rise (x ∷ xs) = AllByRecursion (λ y. key x < key y) xs × Rise xs
 
-  -- each key is at most those after it
-  abbrev pub NoneFalls : List X → Type 0
-  NoneFalls [] = Unit
-  NoneFalls (x ∷ xs) = AllByRecursion (λ y. key x ≤ key y) xs × NoneFalls xs
-
   -- an element put in its place
   all-put_in_order : (P : X → Type 0) (x : X) (ys : List X) → P x → AllByRecursion P ys → AllByRecursion P (put_in_order key x ys)
   all-put_in_order P x [] one all = (one, tt)
@@ -37,16 +33,16 @@ module _ {X : Type 0} (key : X → ℕ) where
       cond_both (nat_le (key x) (key y)) (x ∷ y ∷ ys) (y ∷ put_in_order key x ys) (AllByRecursion P)
       (λ le. (one, all)) (λ over. (all.0, all-put_in_order P x ys one all.1))
 
-  NoneFalls-put_in_order : (x : X) (ys : List X) → NoneFalls ys → NoneFalls (put_in_order key x ys)
-  NoneFalls-put_in_order x [] none = (tt, tt)
-  NoneFalls-put_in_order x (y ∷ ys) none =
-      cond_both (nat_le (key x) (key y)) (x ∷ y ∷ ys) (y ∷ put_in_order key x ys) NoneFalls
+  Rises-put_in_order : (x : X) (ys : List X) → Rises key ys → Rises key (put_in_order key x ys)
+  Rises-put_in_order x [] none = (tt, tt)
+  Rises-put_in_order x (y ∷ ys) none =
+      cond_both (nat_le (key x) (key y)) (x ∷ y ∷ ys) (y ∷ put_in_order key x ys) (Rises key)
       (λ test.
       let le = le-nat_le (key x) (key y) test in
       ((le, all_weaker (λ z. key y ≤ key z) (λ z. key x ≤ key z) (λ z more. omega arith) ys none.0), none))
       (λ test.
       let over = lt-nat_le (key x) (key y) test in
-      (all-put_in_order (λ z. key y ≤ key z) x ys (omega arith) none.0, NoneFalls-put_in_order x ys none.1))
+      (all-put_in_order (λ z. key y ≤ key z) x ys (omega arith) none.0, Rises-put_in_order x ys none.1))
 
   IsPermutation-put_in_order : (x : X) (ys : List X) → IsPermutation (x ∷ ys) (put_in_order key x ys)
   IsPermutation-put_in_order x [] = IsPermutation-refl (x ∷ [])
@@ -61,9 +57,9 @@ module _ {X : Type 0} (key : X → ℕ) where
   all-in_order P [] all = tt
   all-in_order P (x ∷ xs) all = all-put_in_order P x (in_order key xs) all.0 (all-in_order P xs all.1)
 
-  pub NoneFalls-in_order : (xs : List X) → NoneFalls (in_order key xs)
-  NoneFalls-in_order [] = tt
-  NoneFalls-in_order (x ∷ xs) = NoneFalls-put_in_order x (in_order key xs) (NoneFalls-in_order xs)
+  pub Rises-in_order : (xs : List X) → Rises key (in_order key xs)
+  Rises-in_order [] = tt
+  Rises-in_order (x ∷ xs) = Rises-put_in_order x (in_order key xs) (Rises-in_order xs)
 
   pub IsPermutation-in_order : (xs : List X) → IsPermutation xs (in_order key xs)
   IsPermutation-in_order [] = IsPermutation-refl []
@@ -91,7 +87,7 @@ module _ {X : Type 0} (key : X → ℕ) where
   AreThose ys z = AllByRecursion (λ y. key z ≡ key y → z ≡ y) ys
 
   -- of two lists with the same elements, the one in order is the one whose keys rise
-  same-in_order : (zs ys : List X) → NoneFalls zs → Rise ys → ((f : X → ℕ) → sum_by f zs ≡ sum_by f ys) →
+  same-in_order : (zs ys : List X) → Rises key zs → Rise ys → ((f : X → ℕ) → sum_by f zs ≡ sum_by f ys) →
       AllByRecursion (AreThose ys) zs → zs ≡ ys
   same-in_order [] [] none rise sums are = refl
   same-in_order [] (y ∷ ys) none rise sums are = absurd (omega (arith, sums (λ x. 1), sum_by-cons (λ (x : X). 1) y ys))
@@ -128,7 +124,7 @@ module _ {X : Type 0} (key : X → ℕ) where
   pub in_order-IsPermutation : (xs ys : List X) → IsPermutation ys xs → Rise ys → in_order key xs ≡ ys
   in_order-IsPermutation xs ys moved rise =
       let all_moved = IsPermutation-trans ys xs (in_order key xs) moved (IsPermutation-in_order xs) in
-      same-in_order (in_order key xs) ys (NoneFalls-in_order xs) rise
+      same-in_order (in_order key xs) ys (Rises-in_order xs) rise
       (λ f. sum_by-IsPermutation f ys (in_order key xs) all_moved)
       (recursion_from_All (AreThose ys) (in_order key xs)
       (All-permutation (AreThose ys) ys (in_order key xs) all_moved (All-from_recursion (AreThose ys) ys (AreThose-Rise ys rise))))

@@ -3,12 +3,13 @@ use Rattle.std.proofs.Common.{◌≡◌, ◌∙◌, ℕ, ◌<◌, ◌≤◌, Lis
 use Rattle.std.specs.Prelude.{option_to_list}
 use Rattle.std.specs.List.{AllByRecursion, fold}
 use Rattle.std.proofs.lemmas.List.{map-append}
-use Rattle.std.proofs.lemmas.List.Elements.{All-nil, All-cons, All-from_recursion}
+use Rattle.std.proofs.lemmas.List.Elements.{All-nil, All-cons, All-from_recursion, All-head, All-tail, recursion_from_All}
 use Rattle.std.proofs.lemmas.List.Sums.{fold-append}
 use Rattle.ss_landmarks.specs.Landmark.{Landmark, LandmarkValue, change_last, closed_at, opened_at, with_value}
 use Rattle.ss_landmarks.specs.Order.{AllEndBy, EndsBy}
 use Rattle.ss_model.specs.Marks.{later, latest_in, latest_of}
 use Rattle.ss_recover.specs.Walk.{IsAfter}
+use Rattle.ss_recover.proofs.Lists.{all_weaker, all-from_map, map-all}
 
 -- the greatest of some times
 fold-most : (t u : ℕ) (ts : List ℕ) → t ≤ u → AllByRecursion (λ x. x ≤ u) ts → fold max t ts ≤ u
@@ -23,40 +24,38 @@ fold-each : (t : ℕ) (ts : List ℕ) → AllByRecursion (λ x. x ≤ fold max t
 fold-each t [] = tt
 fold-each t (x ∷ xs) = (omega (arith, fold-least (max t x) xs), fold-each (max t x) xs)
 
-values-by : (values : List LandmarkValue) (m last : ℕ) → m ≤ last → AllByRecursion (λ t. t ≤ m) (map (λ (value : LandmarkValue). value.t) values) →
-    AllByRecursion (λ (value : LandmarkValue). value.t ≤ last) values
-values-by [] m last le all = tt
-values-by (x ∷ xs) m last le all = let here = all.0 in (omega (arith, here), values-by xs m last le all.1)
-
-times-by : (values : List LandmarkValue) (m last : ℕ) → m ≤ last → AllByRecursion (λ t. t ≤ m) (map (λ (value : LandmarkValue). value.t) values) →
-    AllByRecursion (λ t. t ≤ last) (map (λ (value : LandmarkValue). value.t) values)
-times-by [] m last le all = tt
-times-by (x ∷ xs) m last le all = let here = all.0 in (omega (arith, here), times-by xs m last le all.1)
-
--- no time of a landmark is after its latest
-pub record LatestBy (l : Landmark) (last : ℕ) : Type 0 where
-  pub start : l.start ≤ last
-  pub finish : IfSome l.finish (λ t. t ≤ last)
-  pub times : AllByRecursion (λ t. t ≤ last) (map (λ (value : LandmarkValue). value.t) l.values)
-  pub values : AllByRecursion (λ (value : LandmarkValue). value.t ≤ last) l.values
-
 finish-by : (start last : ℕ) (finish : Option ℕ) → fold max start (option_to_list finish) ≤ last → IfSome finish (λ t. t ≤ last)
 finish-by start last None le = tt
 finish-by start last (Some t) le = omega (arith, le)
 
-LatestBy-latest_in : (l : Landmark) (last : ℕ) → latest_in l ≤ last → LatestBy l last
-LatestBy-latest_in l last le =
-    let own = map (λ (value : LandmarkValue). value.t) l.values in
+begun-by : (start t : ℕ) (finish : Option ℕ) → start ≤ t → IfSome finish (λ f. f ≤ t) → fold max start (option_to_list finish) ≤ t
+begun-by start t None first last = first
+begun-by start t (Some f) first last = omega (arith, first, last)
+
+abbrev times_of : Landmark → List ℕ
+times_of l = map (λ (value : LandmarkValue). value.t) l.values
+
+-- no time of a landmark is after its latest
+EndsBy-latest_in : (l : Landmark) (last : ℕ) → latest_in l ≤ last → EndsBy last l
+EndsBy-latest_in l last le =
     let begun = fold max l.start (option_to_list l.finish) in
     let first = fold-least l.start (option_to_list l.finish) in
-    let second = fold-least begun own in
-    let end : begun ≤ last = omega (arith, second, le) in
-    record {
-      start = omega (arith, first, end);
-      finish = finish-by l.start last l.finish end;
-      times = times-by l.values (latest_in l) last le (fold-each begun own);
-      values = values-by l.values (latest_in l) last le (fold-each begun own);
-    }
+    let second = fold-least begun (times_of l) in
+    let end : begun ≤ last = omega (arith, second, le) in (
+      omega (arith, first, end),
+      finish-by l.start last l.finish end,
+      All-from_recursion (λ (value : LandmarkValue). value.t ≤ last) l.values
+          (all-from_map (λ t. t ≤ last) (λ (value : LandmarkValue). value.t) l.values
+          (all_weaker (λ t. t ≤ latest_in l) (λ t. t ≤ last) (λ t by. omega (arith, by, le)) (times_of l) (fold-each begun (times_of l)))),
+    )
+
+times-by : (t : ℕ) (l : Landmark) → EndsBy t l → AllByRecursion (λ u. u ≤ t) (times_of l)
+times-by t l ends =
+    map-all (λ u. u ≤ t) (λ (value : LandmarkValue). value.t) l.values (recursion_from_All (λ (value : LandmarkValue). value.t ≤ t) l.values ends.2)
+
+latest_in-EndsBy : (l : Landmark) (t : ℕ) → EndsBy t l → latest_in l ≤ t
+latest_in-EndsBy l t ends =
+    fold-most (fold max l.start (option_to_list l.finish)) t (times_of l) (begun-by l.start t l.finish ends.0 ends.1) (times-by t l ends)
 
 later-le : (o p : Option ℕ) (last : ℕ) → IfSome (later o p) (λ t. t ≤ last) → IfSome o (λ t. t ≤ last) × IfSome p (λ t. t ≤ last)
 later-le None p last by = (tt, by)
@@ -67,9 +66,7 @@ AllEndBy-by : (ls : List Landmark) (last : ℕ) → IfSome (latest_of ls) (λ t.
 AllEndBy-by [] last by = All-nil (EndsBy last)
 AllEndBy-by (l ∷ ls) last by =
     let both = later-le (Some (latest_in l)) (latest_of ls) last by in
-    let here = LatestBy-latest_in l last both.0 in
-    All-cons (EndsBy last) l ls
-    (here.start, here.finish, All-from_recursion (λ (value : LandmarkValue). value.t ≤ last) l.values here.values) (AllEndBy-by ls last both.1)
+    All-cons (EndsBy last) l ls (EndsBy-latest_in l last both.0) (AllEndBy-by ls last both.1)
 
 -- no time of landmarks is after their latest
 pub AllEndBy-latest : (ls : List Landmark) (last : ℕ) → latest_of ls ≡ Some last → AllEndBy last ls
@@ -84,20 +81,27 @@ none-latest [] is = refl
 none-latest (l ∷ ls) is = absurd (some-later (latest_in l) (latest_of ls) is)
 
 -- a landmark that takes a value, or that closes, at a time that none of its times is after
-latest_in-closed : (t : ℕ) (l : Landmark) → latest_in l ≤ t → latest_in (closed_at t l) ≡ t
-latest_in-closed t l le =
-    let by = LatestBy-latest_in l t le in
-    let begun : max l.start t ≤ t = omega (arith, by.start) in
-    let own = map (λ (value : LandmarkValue). value.t) l.values in
-    omega (arith, fold-most (max l.start t) t own begun by.times, fold-least (max l.start t) own)
+pub latest_in-closed : (l : Landmark) (t : ℕ) → EndsBy t l → latest_in (closed_at t l) ≡ t
+latest_in-closed l t ends =
+    let most = fold-most (max l.start t) t (times_of l) (omega (arith, ends.0)) (times-by t l ends) in
+    let least = fold-least (max l.start t) (times_of l) in
+    omega (arith, most, least)
 
-latest_in-value : (value : LandmarkValue) (l : Landmark) → latest_in l ≤ value.t → latest_in (with_value value l) ≡ value.t
-latest_in-value value l le =
-    let own = map (λ (x : LandmarkValue). x.t) l.values in
+pub latest_in-value : (l : Landmark) (value : LandmarkValue) → EndsBy value.t l → latest_in (with_value value l) ≡ value.t
+latest_in-value l value ends =
+    let before = latest_in-EndsBy l value.t ends in
     let begun = fold max l.start (option_to_list l.finish) in
-    let more : map (λ (x : LandmarkValue). x.t) (l.values ++ value ∷ []) ≡ own ++ value.t ∷ [] = map-append (λ (x : LandmarkValue). x.t) l.values (value ∷ []) in
-    let sum : fold max begun (own ++ value.t ∷ []) ≡ max (fold max begun own) value.t = fold-append max begun own (value.t ∷ []) in
-    ap (fold max begun) more ∙ sum ∙ omega (arith, le)
+    let times : map (λ (v : LandmarkValue). v.t) (l.values ++ value ∷ []) ≡ times_of l ++ value.t ∷ [] =
+    map-append (λ (v : LandmarkValue). v.t) l.values (value ∷ []) in
+    let last : max (latest_in l) value.t ≡ value.t = omega (arith, before) in
+    ap (fold max begun) times ∙ fold-append max begun (times_of l) (value.t ∷ []) ∙ last
+
+-- the latest time is that of the last one, where those before it end by then
+pub latest_of-last : (ls : List Landmark) (l : Landmark) → AllEndBy (latest_in l) ls → latest_of (ls ++ l ∷ []) ≡ Some (latest_in l)
+latest_of-last [] l ends = refl
+latest_of-last (x ∷ xs) l ends =
+    let here = latest_in-EndsBy x (latest_in l) (All-head (EndsBy (latest_in l)) x xs ends) in
+    ap (later (Some (latest_in x))) (latest_of-last xs l (All-tail (EndsBy (latest_in l)) x xs ends)) ∙ ap Some (omega (arith, here))
 
 some-latest : (ls : List Landmark) (l : Landmark) → (t : ℕ) × (latest_of (l ∷ ls) ≡ Some t)
 some-latest ls l =
@@ -121,11 +125,12 @@ latest_of-change change t gives last (l ∷ next ∷ ls) is le =
     ap (later (Some (latest_in l))) rest ∙ ap Some (omega (arith, most))
 
 pub latest_of-closed : (t last : ℕ) (ls : List Landmark) → latest_of ls ≡ Some last → last ≤ t → latest_of (change_last (closed_at t) ls) ≡ Some t
-latest_of-closed t last ls is le = latest_of-change (closed_at t) t (latest_in-closed t) last ls is le
+latest_of-closed t last ls is le = latest_of-change (closed_at t) t (λ l by. latest_in-closed l t (EndsBy-latest_in l t by)) last ls is le
 
 pub latest_of-value : (value : LandmarkValue) (last : ℕ) (ls : List Landmark) → latest_of ls ≡ Some last → last ≤ value.t →
     latest_of (change_last (with_value value) ls) ≡ Some value.t
-latest_of-value value last ls is le = latest_of-change (with_value value) value.t (latest_in-value value) last ls is le
+latest_of-value value last ls is le = latest_of-change (with_value value) value.t
+    (λ l by. latest_in-value l value (EndsBy-latest_in l value.t by)) last ls is le
 
 later-after : (t : ℕ) (o : Option ℕ) (first : ℕ) → IsAfter (later (Some first) o) t → (first < t) × IsAfter o t
 later-after t None first after = (after, tt)

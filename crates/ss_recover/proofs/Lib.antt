@@ -8,7 +8,6 @@ pub mod Occupied
 pub mod PutLemmas
 pub mod WholeSlots
 pub mod HeldRecords
-pub mod StreamRecords
 pub mod SoundStreams
 pub mod WalkLemmas
 pub mod SoundInOrder
@@ -27,7 +26,6 @@ pub mod CarriedStates
 pub mod Latest
 pub mod WalkCode
 pub mod Phases
-pub mod PhaseRecords
 pub mod WalkRecords
 pub mod WalkCurrent
 pub mod WalkClosed

@@ -1,5 +1,6 @@
 -- Lemmas on lists of anything, and on numbers in a row.
-use Rattle.std.proofs.Common.{◌≡◌, ℕ, zero, suc, ◌+◌, ◌<◌, ◌≤◌, Bool, true, false, cond, nat_eq, List, [], ◌∷◌, ◌++◌, map, filter, length, refl, ap, arith, inl, inr, Option, Some, None}
+use Rattle.std.proofs.Common.{◌≡◌, ℕ, zero, suc, ◌+◌, ◌<◌, ◌≤◌, Bool, true, false, cond, nat_eq, List, [], ◌∷◌, ◌++◌, map, filter, length, refl, ap}
+use Rattle.std.proofs.Common.{arith, inl, inr, Option, Some, None}
 use Rattle.std.specs.Prelude.{nat_lt}
 use Rattle.std.specs.List.{AllByRecursion, filter_map, list_all, list_any, position, position_or_len, range_with_len}
 use Rattle.std.proofs.lemmas.Bool.{and_from, and_parts, cases_Bool, cond-false, cond_both, le-ltb, or_parts}
@@ -21,6 +22,23 @@ all_append P (x ∷ xs) ys first second = (first.0, all_append P xs ys first.1 s
 
 pub all_push : {X : Type 0} (P : X → Type 0) (xs : List X) (x : X) → AllByRecursion P xs → P x → AllByRecursion P (xs ++ x ∷ [])
 all_push P xs x all one = all_append P xs (x ∷ []) all (one, tt)
+
+pub all_front : {X : Type 0} (P : X → Type 0) (xs ys : List X) → AllByRecursion P (xs ++ ys) → AllByRecursion P xs
+all_front P [] ys all = tt
+all_front P (x ∷ xs) ys all = (all.0, all_front P xs ys all.1)
+
+pub all_behind : {X : Type 0} (P : X → Type 0) (xs ys : List X) → AllByRecursion P (xs ++ ys) → AllByRecursion P ys
+all_behind P [] ys all = all
+all_behind P (x ∷ xs) ys all = all_behind P xs ys all.1
+
+-- what holds of what is made of each
+pub map-all : {X Y : Type 0} (P : Y → Type 0) (f : X → Y) (xs : List X) → AllByRecursion (λ x. P (f x)) xs → AllByRecursion P (map f xs)
+map-all P f [] all = tt
+map-all P f (x ∷ xs) all = (all.0, map-all P f xs all.1)
+
+pub all-from_map : {X Y : Type 0} (P : Y → Type 0) (f : X → Y) (xs : List X) → AllByRecursion P (map f xs) → AllByRecursion (λ x. P (f x)) xs
+all-from_map P f [] all = tt
+all-from_map P f (x ∷ xs) all = (all.0, all-from_map P f xs all.1)
 
 pub list_all-each : {X : Type 0} (p : X → Bool) (xs : List X) → AllByRecursion (λ x. p x ≡ true) xs → list_all p xs ≡ true
 list_all-each p [] all = refl

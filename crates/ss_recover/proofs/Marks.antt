@@ -1,11 +1,13 @@
 -- The records of landmarks in order, each landmark's before those of its values: the landmarks that they make, and the order of places.
-use Rattle.std.proofs.Common.{◌≡◌, ℕ, ℤ, ◌+◌, ◌*◌, ◌^◌, ◌<◌, ◌≤◌, true, false, List, [], ◌∷◌, ◌++◌, length, map, filter, refl, sym, ap, subst, ◌∙◌, arith, append-nil, append_assoc, length-append, inl, inr, IsPermutation, Option, Some, None, IfSome, MatchOption, is_none}
+use Rattle.std.proofs.Common.{◌≡◌, ℕ, ℤ, ◌+◌, ◌*◌, ◌^◌, ◌<◌, ◌≤◌, true, false, List, [], ◌∷◌, ◌++◌, length, map, filter, refl, sym, ap, subst, ◌∙◌}
+use Rattle.std.proofs.Common.{arith, append-nil, append_assoc, length-append, inl, inr, IsPermutation, Option, Some, None, IfSome, MatchOption, is_none}
 use Rattle.std.specs.Prelude.{◌==◌, ◌||◌, ◌&&◌, nat_lt, fold}
 use Rattle.std.specs.Option.{option_map_or}
 use Rattle.std.specs.List.{All, AllByRecursion}
 use Rattle.std.proofs.lemmas.Bool.{and_from, cond-true, eq-eqb, le-leb, lt-ltb}
 use Rattle.std.proofs.lemmas.List.Elements.{recursion_from_All}
-use Rattle.std.proofs.lemmas.List.Sorted.{IsPermutation-append_comm, IsPermutation-append_left, IsPermutation-append_right, IsPermutation-cons, IsPermutation-refl, IsPermutation-trans}
+use Rattle.std.proofs.lemmas.List.Sorted.{IsPermutation-append_comm, IsPermutation-append_left, IsPermutation-append_right, IsPermutation-cons}
+use Rattle.std.proofs.lemmas.List.Sorted.{IsPermutation-refl, IsPermutation-trans}
 use Rattle.std.proofs.lemmas.List.Sums.{fold-append}
 use Rattle.ss_codec.specs.declared.record.Record.{Record}
 use Rattle.ss_codec.specs.declared.record.Record.TheVariants as records
@@ -18,7 +20,8 @@ use Rattle.ss_model.specs.Marks.{later}
 use Rattle.ss_model.specs.State.{Stream}
 use Rattle.ss_recover.specs.Carried.{in_order, is_mark_of}
 use Rattle.ss_recover.specs.Held.{all_value_records, landmark_record, landmark_records, stream_record, value_records, values_said, window_record}
-use Rattle.ss_recover.specs.Marked.{Marked, are_marks, has_said, is_closed_before, is_next_landmark, is_next_value, is_whole, landmarks_in, landmarks_made, marked_on, nothing_marked}
+use Rattle.ss_recover.specs.Marked.{Marked, are_marks, has_said, is_closed_before, is_next_landmark, is_next_value, has_all_values, landmarks_in}
+use Rattle.ss_recover.specs.Marked.{landmarks_made, marked_on, nothing_marked}
 use Rattle.ss_recover.specs.Order.{place_of}
 use Rattle.ss_recover.proofs.InOrder.{Rise, in_order-IsPermutation}
 use Rattle.ss_recover.proofs.Lists.{all_append, all_push, all_weaker, filter-all, filter-none, list_all-each}
@@ -115,22 +118,9 @@ IsPermutation-marks_of number n (l ∷ ls) =
 module _ (P : Record → Type 0) (number : ℕ)
     (landmark : (n values start : ℕ) (finish : Option ℕ) → P (records.Landmark number n values start finish))
     (value : (n index t : ℕ) (v : ℤ) → P (records.Value number n index t v)) where
-  each-landmark_record : (n : ℕ) (ls : List Landmark) → AllByRecursion P (landmark_records number n ls)
-  each-landmark_record n [] = tt
-  each-landmark_record n (l ∷ ls) = (landmark n (values_said l) l.start l.finish, each-landmark_record (n + 1) ls)
-
   each-value_record : (n index : ℕ) (values : List LandmarkValue) → AllByRecursion P (value_records number n index values)
   each-value_record n index [] = tt
   each-value_record n index (v ∷ vs) = (value n index v.t v.v, each-value_record n (index + 1) vs)
-
-  each-all_value_record : (n : ℕ) (ls : List Landmark) → AllByRecursion P (all_value_records number n ls)
-  each-all_value_record n [] = tt
-  each-all_value_record n (l ∷ ls) =
-      all_append P (value_records number n 1 l.values) (all_value_records number (n + 1) ls) (each-value_record n 1 l.values)
-      (each-all_value_record (n + 1) ls)
-
-  pub each-mark : (ls : List Landmark) → AllByRecursion P (landmark_records number 1 ls ++ all_value_records number 1 ls)
-  each-mark ls = all_append P (landmark_records number 1 ls) (all_value_records number 1 ls) (each-landmark_record 1 ls) (each-all_value_record 1 ls)
 
   pub each-mark_of : (n : ℕ) (ls : List Landmark) → AllByRecursion P (marks_of number n ls)
   each-mark_of n [] = tt
@@ -156,7 +146,7 @@ pub record AreMarksFrom (m : Marked) (rs : List Record) (ls : List Landmark) : T
   pub marked : Marked
   pub by : fold marked_on (Some m) rs ≡ Some marked
   pub landmarks : landmarks_in marked ≡ ls
-  pub whole : is_whole marked ≡ true
+  pub whole : has_all_values marked ≡ true
 
 -- the landmarks that records make, with all their values
 abbrev pub AreMarks : List Record → List Landmark → Type 0
@@ -227,7 +217,7 @@ has_said-said l =
 abbrev IsOver : ℕ → Marked → Type 0
 IsOver from m = (t : ℕ) → from ≤ t → option_map_or (is_closed_before t) m.last true ≡ true
 
-next-whole : (m : Marked) (t : ℕ) → is_whole m ≡ true → option_map_or (is_closed_before t) m.last true ≡ true →
+next-whole : (m : Marked) (t : ℕ) → has_all_values m ≡ true → option_map_or (is_closed_before t) m.last true ≡ true →
     option_map_or (λ l. has_said m.said l && is_closed_before t l) m.last true ≡ true
 next-whole m t =
     elim m.last as (λ o. option_map_or (has_said m.said) o true ≡ true → option_map_or (is_closed_before t) o true ≡ true →
@@ -248,7 +238,7 @@ ends_by l is =
       | Some f ↦ λ by. recursion_from_All (λ (v : LandmarkValue). v.t ≤ f) l.values by.2
     ] is.finish
 
-take_landmark : (number n : ℕ) (m : Marked) (l : Landmark) → n ≡ length (landmarks_in m) + 1 → is_whole m ≡ true → IsOver l.start m → IsLandmark l →
+take_landmark : (number n : ℕ) (m : Marked) (l : Landmark) → n ≡ length (landmarks_in m) + 1 → has_all_values m ≡ true → IsOver l.start m → IsLandmark l →
     fold marked_on (Some m) (landmark_record number n l ∷ value_records number n 1 l.values) ≡ Some (followed_by m l)
 take_landmark number n m l next whole over is =
     let bare : Landmark = record { start = l.start; finish = l.finish; values = [] } in
@@ -264,7 +254,7 @@ IsOver-closed : (f said from : ℕ) (before : List Landmark) (l : Landmark) → 
 IsOver-closed f said from before l closed past t later =
     subst (λ o. option_map_or (λ finish. nat_lt finish t) o false ≡ true) (sym closed) (lt-ltb f t (omega (arith, past, later)))
 
-AreMarks-from : (number n from : ℕ) (ls : List Landmark) (m : Marked) → n ≡ length (landmarks_in m) + 1 → is_whole m ≡ true → IsOver from m →
+AreMarks-from : (number n from : ℕ) (ls : List Landmark) (m : Marked) → n ≡ length (landmarks_in m) + 1 → has_all_values m ≡ true → IsOver from m →
     FollowFrom from ls → AreMarksFrom m (marks_of number n ls) (landmarks_in m ++ ls)
 AreMarks-from number n from [] m next whole over follow = record { marked = m; by = refl; landmarks = sym (append-nil (landmarks_in m)); whole = whole }
 AreMarks-from number n from (l ∷ ls) m next whole over follow =
@@ -275,7 +265,7 @@ AreMarks-from number n from (l ∷ ls) m next whole over follow =
     let taken : fold marked_on (Some m) (own ++ rest) ≡ fold marked_on (Some m') rest =
     fold-append marked_on (Some m) own rest
     ∙ ap (λ o. fold marked_on o rest) (take_landmark number n m l next whole (λ t later. over t (omega (arith, low, later))) follow.1) in
-    let said : is_whole m' ≡ true = has_said-said l in
+    let said : has_all_values m' ≡ true = has_said-said l in
     elim (cases-finish l.finish) [
       | inl begun ↦
           let last : ls ≡ [] = subst (λ (f : Option ℕ). MatchOption f (ls ≡ []) (λ t. FollowFrom (t + 1) ls)) begun follow.2 in record {
@@ -304,7 +294,7 @@ AreMarks-marks_of number ls are = AreMarks-from number 1 0 ls nothing_marked ref
 pub are_marks-marks_of : (number : ℕ) (ls : List Landmark) → AreLandmarks ls → are_marks (marks_of number 1 ls) ≡ true
 are_marks-marks_of number ls are =
     let its = AreMarks-marks_of number ls are in
-    ap (λ o. option_map_or is_whole o false) its.by ∙ its.whole
+    ap (λ o. option_map_or has_all_values o false) its.by ∙ its.whole
 
 pub landmarks_made-marks_of : (number : ℕ) (ls : List Landmark) → AreLandmarks ls → landmarks_made (marks_of number 1 ls) ≡ ls
 landmarks_made-marks_of number ls are =

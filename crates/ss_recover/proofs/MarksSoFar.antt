@@ -1,5 +1,6 @@
 -- The records of landmarks so far, while they come one by one, and the landmarks that they make.
-use Rattle.std.proofs.Common.{◌≡◌, ℕ, ℤ, ◌+◌, ◌^◌, ◌<◌, ◌≤◌, Bool, true, false, cond, List, [], ◌∷◌, ◌++◌, length, map, refl, sym, ap, subst, ◌∙◌, arith, append-nil, append_assoc, length-append, Option, Some, None, IfSome, MatchOption, is_none}
+use Rattle.std.proofs.Common.{◌≡◌, ℕ, ℤ, ◌+◌, ◌^◌, ◌<◌, ◌≤◌, Bool, true, false, cond, List, [], ◌∷◌, ◌++◌, length, map, refl, sym, ap, subst, ◌∙◌, arith}
+use Rattle.std.proofs.Common.{append-nil, append_assoc, length-append, Option, Some, None, IfSome, MatchOption, is_none}
 use Rattle.std.specs.Prelude.{◌==◌, FitsSigned, ⊤, ◌||◌, max, ◌&&◌, nat_le, nat_lt, fold, option_to_list}
 use Rattle.std.specs.Int.{w64}
 use Rattle.std.specs.Option.{option_map_or}
@@ -8,10 +9,8 @@ use Rattle.std.proofs.lemmas.Bool.{and_parts, eqb-true, leb-true, ltb-true}
 use Rattle.std.proofs.lemmas.List.{map-append}
 use Rattle.std.proofs.lemmas.List.Elements.{All-from_recursion, All-push, All-tail, recursion_from_All}
 use Rattle.std.proofs.lemmas.List.Sums.{fold-append}
-use Rattle.ss_codec.specs.Record.{is_valid}
 use Rattle.ss_codec.specs.declared.record.Record.{Record}
 use Rattle.ss_codec.specs.declared.record.Record.TheVariants as records
-use Rattle.ss_codec.proofs.RecordLemmas.{IsLandmark-is_valid, IsValue-is_valid}
 use Rattle.ss_landmarks.specs.Free.{is_up_to}
 use Rattle.ss_landmarks.specs.Landmark.{Landmark, LandmarkValue, closed_at, with_value}
 use Rattle.ss_landmarks.specs.Order.{AllEndBy, AreLandmarks, EndsBy, FollowFrom, IsLandmark}
@@ -20,9 +19,12 @@ use Rattle.ss_landmarks.proofs.OrderLemmas.{RiseFrom_push}
 use Rattle.ss_model.specs.Marks.{later, latest_in, latest_of}
 use Rattle.ss_recover.specs.Carried.{is_mark_of}
 use Rattle.ss_recover.specs.Held.{value_records, values_said}
-use Rattle.ss_recover.specs.Marked.{Marked, are_marks, has_said, is_closed_before, is_next_landmark, is_next_value, is_whole, landmarks_in, landmarks_made, marked_by, marked_on, marked_with, nothing_marked}
+use Rattle.ss_recover.specs.Marked.{Marked, are_marks, has_said, is_closed_before, is_next_landmark, is_next_value, has_all_values, landmarks_in}
+use Rattle.ss_recover.specs.Marked.{landmarks_made, marked_by, marked_on, marked_with, nothing_marked}
 use Rattle.ss_recover.proofs.Lists.{all_weaker, each-list_all}
 use Rattle.ss_recover.proofs.Marks.{marks_of, marks_of-append, value_records-append}
+use Rattle.ss_recover.specs.Walk.{IsTimed, IsUsable}
+pub use Rattle.ss_recover.proofs.Latest.{latest_in-closed, latest_in-value, latest_of-last}
 
 -- and back: records of landmarks with all their values are those of the landmarks that they make
 pub record AreOf (number : ℕ) (rs : List Record) (ls : List Landmark) : Type 0 where
@@ -120,13 +122,12 @@ AreLandmarks-next said before None new follow rightly next is =
 AreLandmarks-next said before (Some l) new follow rightly next is =
     FollowFrom-next 0 before l new follow (and_parts (has_said said l) (is_closed_before new.start l) next).1 is
 
--- what a valid record of a landmark says of it
+-- what a usable record of a landmark says of it
 IsLandmark-bare : (said start : ℕ) (finish : Option ℕ) →
-    MatchOption finish ((said ≡ 0) × (start ≤ LATEST_TIME)) (λ f. (said < 2 ^ 32) × (start ≤ f) × (f ≤ LATEST_TIME)) →
-    IsLandmark (record { start = start; finish = finish; values = [] }) × SaysNone said finish
+    IsTimed said start finish → IsLandmark (record { start = start; finish = finish; values = [] }) × SaysNone said finish
 IsLandmark-bare said start None is = (record { start = is.1; values = tt; finish = tt }, is.0)
 IsLandmark-bare said start (Some f) is = (
-  record { start = omega (arith, is.1, is.2); values = tt; finish = (is.1, is.2, λ k d below. absurd (omega arith)) },
+  record { start = omega (arith, is.0, is.1); values = tt; finish = (is.0, is.1, λ k d below. absurd (omega arith)) },
   tt,
 )
 
@@ -157,7 +158,7 @@ Some-from_cond false x y is = absurd (cc)
 Stands-landmark : (number id n said start : ℕ) (finish : Option ℕ) (m m' : Marked) (rs : List Record) → id ≡ number →
     IsLandmark (record { start = start; finish = finish; values = [] }) × SaysNone said finish → Stands number m rs →
     marked_with m (records.Landmark id n said start finish) ≡ Some m' → Stands number m' (rs ++ records.Landmark id n said start finish ∷ [])
-Stands-landmark number id n said start finish m m' rs same valid stands is =
+Stands-landmark number id n said start finish m m' rs same usable stands is =
     let new : Landmark = record { start = start; finish = finish; values = [] } in
     let parts = Some-from_cond (is_next_landmark m n start) (record { before = landmarks_in m; last = Some new; said = said }) m' is in
     let tests = and_parts (n == length (landmarks_in m) + 1) (option_map_or (λ l. has_said m.said l && is_closed_before start l) m.last true) parts.0 in
@@ -166,8 +167,8 @@ Stands-landmark number id n said start finish m m' rs same valid stands is =
     let so_far = stands.records ∙ whole-records number m.said m.before m.last stands.rightly (whole-next m.said start m.last tests.1) in
     subst (λ k. Stands number k (rs ++ records.Landmark id n said start finish ∷ [])) parts.1
     (record {
-      follow = AreLandmarks-next m.said m.before m.last new stands.follow stands.rightly tests.1 valid.0;
-      rightly = valid.1;
+      follow = AreLandmarks-next m.said m.before m.last new stands.follow stands.rightly tests.1 usable.0;
+      rightly = usable.1;
       records = λ i. so_far i ++ records.Landmark (same i) (place i) said start finish ∷ [];
     })
 
@@ -215,19 +216,18 @@ Stands-value number id n index t said v before (Some l) m' rs same early fits st
           ∙ ap (λ vs. marks_of number 1 before ++ vs) longer;
     })
 
-Stands-record : (number : ℕ) (m m' : Marked) (rs : List Record) (r : Record) → is_mark_of number r ≡ true → is_valid r ≡ true → Stands number m rs →
+Stands-record : (number : ℕ) (m m' : Marked) (rs : List Record) (r : Record) → is_mark_of number r ≡ true → IsUsable r → Stands number m rs →
     marked_with m r ≡ Some m' → Stands number m' (rs ++ r ∷ [])
-Stands-record number m m' rs records.Free own valid stands is = absurd (cc)
-Stands-record number m m' rs (records.Stream id name params) own valid stands is = absurd (cc)
-Stands-record number m m' rs (records.Window id first f) own valid stands is = absurd (cc)
-Stands-record number m m' rs (records.Landmark id n said start finish) own valid stands is =
+Stands-record number m m' rs records.Free own usable stands is = absurd (cc)
+Stands-record number m m' rs (records.Stream id name params) own usable stands is = absurd (cc)
+Stands-record number m m' rs (records.Window id first f) own usable stands is = absurd (cc)
+Stands-record number m m' rs (records.Landmark id n said start finish) own usable stands is =
     Stands-landmark number id n said start finish m m' rs (eqb-true id number own)
-    (IsLandmark-bare said start finish (IsLandmark-is_valid id n said start finish valid).interval) stands is
-Stands-record number m m' rs (records.Value id n index t v) own valid stands is =
-    let its = IsValue-is_valid id n index t v valid in
-    Stands-value number id n index t m.said v m.before m.last m' rs (eqb-true id number own) its.early its.fits stands is
+    (IsLandmark-bare said start finish usable.2) stands is
+Stands-record number m m' rs (records.Value id n index t v) own usable stands is =
+    Stands-value number id n index t m.said v m.before m.last m' rs (eqb-true id number own) usable.3 usable.4 stands is
 
-marked_on-none : (rs : List Record) → fold marked_on None rs ≡ None
+pub marked_on-none : (rs : List Record) → fold marked_on None rs ≡ None
 marked_on-none [] = refl
 marked_on-none (r ∷ rs) = marked_on-none rs
 
@@ -238,124 +238,45 @@ next-marked None rs m' is = absurd (let never = sym (marked_on-none rs) ∙ is i
 next-marked (Some next) rs m' is = (next, refl, is)
 
 Stands-records : (number : ℕ) (rs done : List Record) (m m' : Marked) → AllByRecursion (λ r. is_mark_of number r ≡ true) rs →
-    AllByRecursion (λ r. is_valid r ≡ true) rs → Stands number m done → fold marked_on (Some m) rs ≡ Some m' → Stands number m' (done ++ rs)
-Stands-records number [] done m m' own valid stands is =
+    AllByRecursion IsUsable rs → Stands number m done → fold marked_on (Some m) rs ≡ Some m' → Stands number m' (done ++ rs)
+Stands-records number [] done m m' own usable stands is =
     let same : m ≡ m' = cc in
     subst (Stands number m') (sym (append-nil done)) (subst (λ k. Stands number k done) same stands)
-Stands-records number (r ∷ rs) done m m' own valid stands is =
+Stands-records number (r ∷ rs) done m m' own usable stands is =
     let step = next-marked (marked_with m r) rs m' is in
     subst (Stands number m') (append_assoc done (r ∷ []) rs)
-    (Stands-records number rs (done ++ r ∷ []) step.0 m' own.1 valid.1 (Stands-record number m step.0 done r own.0 valid.0 stands step.1) step.2)
+    (Stands-records number rs (done ++ r ∷ []) step.0 m' own.1 usable.1 (Stands-record number m step.0 done r own.0 usable.0 stands step.1) step.2)
 
 pub AreOf-marked_by : (number : ℕ) (rs : List Record) (m : Marked) → AllByRecursion (λ r. is_mark_of number r ≡ true) rs →
-    AllByRecursion (λ r. is_valid r ≡ true) rs → marked_by rs ≡ Some m → is_whole m ≡ true → AreOf number rs (landmarks_in m)
-AreOf-marked_by number rs m own valid by whole =
-    let stands = Stands-records number rs [] nothing_marked m own valid (record { follow = tt; rightly = refl; records = refl }) by in
+    AllByRecursion IsUsable rs → marked_by rs ≡ Some m → has_all_values m ≡ true → AreOf number rs (landmarks_in m)
+AreOf-marked_by number rs m own usable by whole =
+    let stands = Stands-records number rs [] nothing_marked m own usable (record { follow = tt; rightly = refl; records = refl }) by in
     record { records = stands.records ∙ whole-records number m.said m.before m.last stands.rightly whole; landmarks = stands.follow }
 
 pub AreOf-are_marks : (number : ℕ) (rs : List Record) → AllByRecursion (λ r. is_mark_of number r ≡ true) rs →
-    AllByRecursion (λ r. is_valid r ≡ true) rs → are_marks rs ≡ true → AreOf number rs (landmarks_made rs)
-AreOf-are_marks number rs own valid are = go (marked_by rs) refl are
+    AllByRecursion IsUsable rs → are_marks rs ≡ true → AreOf number rs (landmarks_made rs)
+AreOf-are_marks number rs own usable are = go (marked_by rs) refl are
   where
-    go : (o : Option Marked) → marked_by rs ≡ o → option_map_or is_whole o false ≡ true → AreOf number rs (option_map_or landmarks_in o [])
+    go : (o : Option Marked) → marked_by rs ≡ o → option_map_or has_all_values o false ≡ true → AreOf number rs (option_map_or landmarks_in o [])
     go None by whole = absurd (cc)
-    go (Some m) by whole = AreOf-marked_by number rs m own valid by whole
+    go (Some m) by whole = AreOf-marked_by number rs m own usable by whole
 
--- the latest time of landmarks
-later-assoc : (o p q : Option ℕ) → later o (later p q) ≡ later (later o p) q
-later-assoc None p q = refl
-later-assoc (Some a) None q = refl
-later-assoc (Some a) (Some b) None = refl
-later-assoc (Some a) (Some b) (Some c) = let same : max a (max b c) ≡ max (max a b) c = omega arith in ap Some same
+-- ---- the fold over the records
 
-pub latest_of-append : (ls : List Landmark) (l : Landmark) → latest_of (ls ++ l ∷ []) ≡ later (latest_of ls) (Some (latest_in l))
-latest_of-append [] l = refl
-latest_of-append (x ∷ xs) l =
-    ap (later (Some (latest_in x))) (latest_of-append xs l) ∙ later-assoc (Some (latest_in x)) (latest_of xs) (Some (latest_in l))
+pub marked-more : (rs : List Record) (r : Record) (m next : Marked) → marked_by rs ≡ Some m → marked_with m r ≡ Some next → marked_by (rs ++ r ∷ []) ≡ Some next
+marked-more rs r m next by with_r =
+    fold-append marked_on (Some nothing_marked) rs (r ∷ []) ∙ ap (λ o. marked_on o r) by ∙ with_r
 
-max-le : (from t : ℕ) (times : List ℕ) → from ≤ t → AllByRecursion (λ u. u ≤ t) times → fold max from times ≤ t
-max-le from t [] first all = first
-max-le from t (u ∷ us) first all = max-le (max from u) t us (omega (arith, first, all.0)) all.1
+-- a record that may not come after those before it makes none of all
+pub not-marks : (rs : List Record) (r : Record) (rest : List Record) (m : Marked) → marked_by rs ≡ Some m → marked_with m r ≡ None →
+    are_marks (rs ++ r ∷ rest) ≡ false
+not-marks rs r rest m by none =
+    ap (λ o. option_map_or has_all_values o false)
+    (fold-append marked_on (Some nothing_marked) rs (r ∷ rest) ∙ ap (λ o. fold marked_on (marked_on o r) rest) by ∙ ap (λ o. fold marked_on o rest) none
+    ∙ marked_on-none rest)
 
-le-max : (from : ℕ) (times : List ℕ) → from ≤ fold max from times
-le-max from [] = omega arith
-le-max from (u ∷ us) = omega (arith, le-max (max from u) us)
+pub marks-whole : (rs : List Record) (m : Marked) (b : Bool) → marked_by rs ≡ Some m → has_all_values m ≡ b → are_marks rs ≡ b
+marks-whole rs m b by whole = ap (λ o. option_map_or has_all_values o false) by ∙ whole
 
-all-le-max : (from : ℕ) (times : List ℕ) → AllByRecursion (λ u. u ≤ fold max from times) times
-all-le-max from [] = tt
-all-le-max from (u ∷ us) = (omega (arith, le-max (max from u) us), all-le-max (max from u) us)
-
-all-times : (P : ℕ → Type 0) (vs : List LandmarkValue) → AllByRecursion (λ v. P v.t) vs → AllByRecursion P (map (λ (v : LandmarkValue). v.t) vs)
-all-times P [] all = tt
-all-times P (v ∷ vs) all = (all.0, all-times P vs all.1)
-
-times-all : (P : ℕ → Type 0) (vs : List LandmarkValue) → AllByRecursion P (map (λ (v : LandmarkValue). v.t) vs) → AllByRecursion (λ v. P v.t) vs
-times-all P [] all = tt
-times-all P (v ∷ vs) all = (all.0, times-all P vs all.1)
-
-abbrev times_of : Landmark → List ℕ
-times_of l = map (λ (v : LandmarkValue). v.t) l.values
-
-abbrev ends_of : ℕ → Option ℕ → ℕ
-ends_of start finish = fold max start (option_to_list finish)
-
-ends-le : (start t : ℕ) (finish : Option ℕ) → start ≤ t → IfSome finish (λ f. f ≤ t) → ends_of start finish ≤ t
-ends-le start t None first last = first
-ends-le start t (Some f) first last = omega (arith, first, last)
-
-le-ends : (start : ℕ) (finish : Option ℕ) → (start ≤ ends_of start finish) × IfSome finish (λ f. f ≤ ends_of start finish)
-le-ends start None = (omega arith, tt)
-le-ends start (Some f) = (omega arith, omega arith)
-
-times-by : (t : ℕ) (l : Landmark) → All (λ value. value.t ≤ t) l.values → AllByRecursion (λ u. u ≤ t) (times_of l)
-times-by t l all = all-times (λ u. u ≤ t) l.values (recursion_from_All (λ (v : LandmarkValue). v.t ≤ t) l.values all)
-
-pub latest_in-EndsBy : (l : Landmark) (t : ℕ) → EndsBy t l → latest_in l ≤ t
-latest_in-EndsBy l t ends = max-le (ends_of l.start l.finish) t (times_of l) (ends-le l.start t l.finish ends.0 ends.1) (times-by t l ends.2)
-
-finish-by : (finish : Option ℕ) (t u : ℕ) → t ≤ u → IfSome finish (λ f. f ≤ t) → IfSome finish (λ f. f ≤ u)
-finish-by None t u le by = tt
-finish-by (Some f) t u le by = omega (arith, by, le)
-
-pub EndsBy-latest_in : (l : Landmark) → EndsBy (latest_in l) l
-EndsBy-latest_in l =
-    let ends = le-ends l.start l.finish in
-    let some = le-max (ends_of l.start l.finish) (times_of l) in (
-      omega (arith, ends.0, some),
-      finish-by l.finish (ends_of l.start l.finish) (latest_in l) some ends.1,
-      All-from_recursion (λ (v : LandmarkValue). v.t ≤ latest_in l) l.values
-          (times-all (λ u. u ≤ latest_in l) l.values (all-le-max (ends_of l.start l.finish) (times_of l))),
-    )
-
--- no time of landmarks is after one that all end by
-pub latest_of-AllEndBy : (ls : List Landmark) (t : ℕ) → AllEndBy t ls → IfSome (latest_of ls) (λ u. u ≤ t)
-latest_of-AllEndBy [] t ends = tt
-latest_of-AllEndBy (l ∷ ls) t ends =
-    let first = latest_in-EndsBy l t (ends 0 l (omega arith)) in
-    elim (latest_of ls) as (λ o. IfSome o (λ u. u ≤ t) → IfSome (later (Some (latest_in l)) o) (λ u. u ≤ t)) [
-      | None ↦ λ by. first
-      | Some u ↦ λ by. omega (arith, by, first)
-    ] (latest_of-AllEndBy ls t (All-tail (EndsBy t) l ls ends))
-
--- that of the last one, where those before it end by then
-pub latest_of-last : (ls : List Landmark) (l : Landmark) → AllEndBy (latest_in l) ls → latest_of (ls ++ l ∷ []) ≡ Some (latest_in l)
-latest_of-last ls l ends =
-    latest_of-append ls l
-    ∙ (elim (latest_of ls) as (λ o. IfSome o (λ u. u ≤ latest_in l) → later o (Some (latest_in l)) ≡ Some (latest_in l)) [
-      | None ↦ λ by. refl
-      | Some u ↦ λ by. let same : max u (latest_in l) ≡ latest_in l = omega (arith, by) in ap Some same
-    ] (latest_of-AllEndBy ls (latest_in l) ends))
-
-pub latest_in-value : (l : Landmark) (value : LandmarkValue) → EndsBy value.t l → latest_in (with_value value l) ≡ value.t
-latest_in-value l value ends =
-    let before = latest_in-EndsBy l value.t ends in
-    let times : map (λ (v : LandmarkValue). v.t) (l.values ++ value ∷ []) ≡ times_of l ++ value.t ∷ [] =
-    map-append (λ (v : LandmarkValue). v.t) l.values (value ∷ []) in
-    let last : max (latest_in l) value.t ≡ value.t = omega (arith, before) in
-    ap (fold max (ends_of l.start l.finish)) times ∙ fold-append max (ends_of l.start l.finish) (times_of l) (value.t ∷ []) ∙ last
-
-pub latest_in-closed : (l : Landmark) (t : ℕ) → EndsBy t l → latest_in (closed_at t l) ≡ t
-latest_in-closed l t ends =
-    let most = max-le (max l.start t) t (times_of l) (omega (arith, ends.0)) (times-by t l ends.2) in
-    let least = le-max (max l.start t) (times_of l) in
-    omega (arith, most, least)
+pub marks-made : (rs : List Record) (m : Marked) → marked_by rs ≡ Some m → landmarks_made rs ≡ landmarks_in m
+marks-made rs m by = ap (λ o. option_map_or landmarks_in o []) by

@@ -1,5 +1,6 @@
 -- Lists in the order of a key: what the order keeps, and that it is the only one that keeps ties as they stand.
-use Rattle.std.proofs.Common.{◌≡◌, ℕ, suc, ◌<◌, ◌≤◌, Bool, true, false, cond, eqb, ltb, leb, List, [], ◌∷◌, map, length, refl, sym, ap, ◌∙◌, subst, inl, inr, arith, get_or}
+use Rattle.std.proofs.Common.{◌≡◌, ℕ, suc, ◌<◌, ◌≤◌, Bool, true, false, cond, eqb, ltb, leb, List, [], ◌∷◌, map, length, refl, sym, ap, ◌∙◌, subst, inl}
+use Rattle.std.proofs.Common.{inr, arith, get_or}
 use Rattle.std.specs.List.{filter, AllByRecursion}
 use Rattle.std.specs.Prelude.{not, ◌&&◌}
 use Rattle.std.specs.List.Sorted.{IsSortedByKey, IsStableByKey, IsNonDecreasingBy, ties}
@@ -8,32 +9,14 @@ use Rattle.std.proofs.lemmas.List.Sorted.{IsNonDecreasingBy-from_sort}
 use Rattle.std.proofs.lemmas.Bool.{cases_order, le-ltb, lt-ltb, cases_Bool, cases_eq, cond-true, cond-false, cond_both, leb-true, leb-false, eq-eqb, ne_eqb}
 use Rattle.ss_recover.specs.Carried.{put_in_order, in_order}
 use Rattle.ss_recover.specs.Order.{Rises}
+use Rattle.ss_recover.proofs.InOrder.{Rises-in_order}
+use Rattle.std.proofs.lemmas.List.Elements.{recursion_from_All}
 
 pub put-less : {X : Type 0} (key : X → ℕ) (x y : X) (ys : List X) → leb (key x) (key y) ≡ true → put_in_order key x (y ∷ ys) ≡ x ∷ y ∷ ys
 put-less key x y ys is = cond-true _ _ _ is
 
 pub put-more : {X : Type 0} (key : X → ℕ) (x y : X) (ys : List X) → leb (key x) (key y) ≡ false → put_in_order key x (y ∷ ys) ≡ y ∷ put_in_order key x ys
 put-more key x y ys is = cond-false _ _ _ is
-
-pub each-put : {X : Type 0} (key : X → ℕ) (P : X → Type 0) (x : X) (ys : List X) → P x → AllByRecursion P ys → AllByRecursion P (put_in_order key x ys)
-each-put key P x [] one all = (one, tt)
-each-put key P x (y ∷ ys) one all =
-    cond_both (leb (key x) (key y)) _ _ (AllByRecursion P) (λ _. (one, all)) (λ _. (all.0, each-put key P x ys one all.1))
-
-each-weaken : {X : Type 0} (key : X → ℕ) (n m : ℕ) (ys : List X) → n ≤ m → AllByRecursion (λ y. m ≤ key y) ys → AllByRecursion (λ y. n ≤ key y) ys
-each-weaken key n m [] le all = tt
-each-weaken key n m (y ∷ ys) le all = let first = all.0 in (omega arith, each-weaken key n m ys le all.1)
-
-pub Rises-put : {X : Type 0} (key : X → ℕ) (x : X) (ys : List X) → Rises key ys → Rises key (put_in_order key x ys)
-Rises-put key x [] rises = (tt, tt)
-Rises-put key x (y ∷ ys) rises =
-    cond_both (leb (key x) (key y)) _ _ (Rises key)
-    (λ is. let le = leb-true _ _ is in ((le, each-weaken key (key x) (key y) ys le rises.0), rises))
-    (λ is. let lt = leb-false _ _ is in (each-put key (λ z. key y ≤ key z) x ys (omega arith) rises.0, Rises-put key x ys rises.1))
-
-pub Rises-in_order : {X : Type 0} (key : X → ℕ) (xs : List X) → Rises key (in_order key xs)
-Rises-in_order key [] = tt
-Rises-in_order key (x ∷ xs) = Rises-put key x (in_order key xs) (Rises-in_order key xs)
 
 -- a test that passes keys alone
 filter-put : {X : Type 0} (key : X → ℕ) (k : ℕ) (x : X) (ys : List X) →
@@ -77,7 +60,8 @@ tails : {X : Type 0} (key : X → ℕ) (z : X) (x : X) (xs ys : List X) →
 tails key z x xs ys is =
     elim (cases_Bool (eqb (key x) (key z))) [
       | inl passes ↦
-          let e : x ∷ filter (λ y. eqb (key y) (key z)) xs ≡ x ∷ filter (λ y. eqb (key y) (key z)) ys = sym (cond-true _ _ _ passes) ∙ is ∙ cond-true _ _ _ passes in cc
+          let e : x ∷ filter (λ y. eqb (key y) (key z)) xs ≡ x ∷ filter (λ y. eqb (key y) (key z)) ys = sym (cond-true _ _ _ passes) ∙ is
+          ∙ cond-true _ _ _ passes in cc
       | inr fails ↦ sym (cond-false _ _ _ fails) ∙ is ∙ cond-false _ _ _ fails
     ]
 
@@ -100,15 +84,10 @@ same_order key (x ∷ xs) (y ∷ ys) up_x up_y same =
     let rest : xs ≡ ys = same_order key xs ys up_x.1 up_y.1 (λ z. tails key z x xs ys (same z ∙ ap (λ h. filter (λ w. eqb (key w) (key z)) (h ∷ ys)) head)) in
     ap (λ h. h ∷ xs) (sym head) ∙ ap (λ zs. y ∷ zs) rest
 
--- from the same by indices
-each-indices : {X : Type 0} (P : X → Type 0) (xs : List X) → ((k : ℕ) (d : X) → k < length xs → P (get_or xs k d)) → AllByRecursion P xs
-each-indices P [] all = tt
-each-indices P (x ∷ xs) all = (all 0 x (omega arith), each-indices P xs (λ k d lt. all (suc k) d (omega arith)))
-
 Rises-from_sorted : {X : Type 0} (key : X → ℕ) (xs : List X) → IsNonDecreasingBy key xs → Rises key xs
 Rises-from_sorted key [] up = tt
 Rises-from_sorted key (x ∷ xs) up = (
-  each-indices (λ y. key x ≤ key y) xs (λ k d lt. up 0 (suc k) d (omega arith) (omega arith)),
+  recursion_from_All (λ y. key x ≤ key y) xs (λ k d lt. up 0 (suc k) d (omega arith) (omega arith)),
   Rises-from_sorted key xs (λ i j d le lt. up (suc i) (suc j) d (omega arith) (omega arith)),
 )
 

@@ -1,7 +1,9 @@
 -- Lists of the same elements in another order, and what goes along with them.
-use Rattle.std.proofs.Common.{◌≡◌, ℕ, zero, suc, ◌<◌, Bool, true, false, cond, List, [], ◌∷◌, length, get_or, set, swap, filter, subst, arith, IsPermutation, Option, Some, None}
+use Rattle.std.proofs.Common.{◌≡◌, ℕ, zero, suc, ◌<◌, Bool, true, false, cond, List, [], ◌∷◌, length, get_or, set, swap, filter, subst, arith}
+use Rattle.std.proofs.Common.{IsPermutation, Option, Some, None, ◌++◌}
 use Rattle.std.specs.List.{filter_map, cons_option}
-use Rattle.std.proofs.lemmas.List.Sorted.{IsPermutation-refl, IsPermutation-keeps, IsPermutation-trans, IsPermutation-cons, IsPermutation-append_left, IsPermutation-append_comm}
+use Rattle.std.proofs.lemmas.List.Sorted.{IsPermutation-refl, IsPermutation-keeps, IsPermutation-trans, IsPermutation-cons, IsPermutation-append_left}
+use Rattle.std.proofs.lemmas.List.Sorted.{IsPermutation-append_comm, IsPermutation-append_right}
 
 -- a relation holds along each permutation if it is reflexive and transitive, and goes under a head and over an exchange of
 -- the first two
@@ -39,6 +41,10 @@ IsPermutation-turn x y xs = IsPermutation-append_left xs (x ∷ y ∷ []) (y ∷
 
 pub IsPermutation-same : {X : Type 0} (xs ys : List X) → xs ≡ ys → IsPermutation xs ys
 IsPermutation-same xs ys same = subst (IsPermutation xs) same (IsPermutation-refl xs)
+
+pub IsPermutation-append_both : {X : Type 0} (xs ys us vs : List X) → IsPermutation xs ys → IsPermutation us vs → IsPermutation (xs ++ us) (ys ++ vs)
+IsPermutation-append_both xs ys us vs first second =
+    IsPermutation-trans (xs ++ us) (ys ++ us) (ys ++ vs) (IsPermutation-append_left us xs ys first) (IsPermutation-append_right ys us vs second)
 
 -- what is made of each, where something is
 pub IsPermutation-filter_map : {X Y : Type 0} (f : X → Option Y) (xs ys : List X) → IsPermutation xs ys →

@@ -1,16 +1,19 @@
 -- What is held of the landmarks that records make, while the values of the last one come and once it has ended.
-use Rattle.std.proofs.Common.{◌≡◌, ◌∙◌, ℕ, ℤ, ◌+◌, ◌<◌, ◌≤◌, Bool, true, false, cond, List, [], ◌∷◌, ◌++◌, length, Option, Some, None, IsNone, IfSome, MatchOption, is_none, refl, sym, ap, subst, inl, inr, arith, append-nil, length-append}
-use Rattle.std.specs.Prelude.{◌⊎◌, ◌==◌, ◌&&◌, nat_le, nat_lt, option_and_then}
+use Rattle.std.proofs.Common.{◌≡◌, ◌∙◌, ℕ, ℤ, ◌+◌, ◌<◌, ◌≤◌, Bool, true, false, cond, List, [], ◌∷◌, ◌++◌, length, Option, Some, None, IsNone, IfSome}
+use Rattle.std.proofs.Common.{MatchOption, is_none, refl, sym, ap, subst, inl, inr, arith, append-nil, length-append}
+use Rattle.std.specs.Prelude.{◌⊎◌, ◌==◌, ◌&&◌, nat_le, nat_lt, option_and_then, option_to_list}
 use Rattle.std.specs.Option.{option_map_or}
 use Rattle.std.specs.List.{AllByRecursion, list_all}
-use Rattle.std.proofs.lemmas.Bool.{and_from, and_parts, cases_eq, cond-true, cond-false, eq-eqb, eqb-true, false_from_ne_true, le-leb, leb-true, lt-ltb, ltb-true, ne_eqb}
+use Rattle.std.proofs.lemmas.Bool.{and_from, and_parts, cases_eq, cond-true, cond-false, eq-eqb, eqb-true, false_from_ne_true, le-leb, leb-true, lt-ltb}
+use Rattle.std.proofs.lemmas.Bool.{ltb-true, ne_eqb}
 use Rattle.ss_landmarks.specs.Free.{is_up_to}
 use Rattle.ss_landmarks.specs.Landmark.{Landmark, LandmarkValue, change_last, closed_at, open_landmark, opened_at, with_value}
 use Rattle.ss_landmarks.specs.Order.{AreLandmarks, FollowFrom, RiseFrom}
 use Rattle.ss_landmarks.proofs.OrderLemmas.{cases-finish}
 use Rattle.ss_recover.specs.Held.{values_said}
-use Rattle.ss_recover.specs.Marked.{Marked, has_said, is_closed_before, is_next_landmark, is_next_value, is_whole, landmarks_in}
-use Rattle.ss_recover.specs.Walk.{Adds, Begins, CanAdd, CanBegin, EndsLandmark, IsAfter, IsTimed, LacksValues, closing_at, finish_of, time_at_end, with_closing}
+use Rattle.ss_recover.specs.Marked.{Marked, has_said, is_closed_before, is_next_landmark, is_next_value, has_all_values, landmarks_in}
+use Rattle.ss_recover.specs.Walk.{TakesValue, Begins, CanAdd, CanBegin, EndsLandmark, IsAfter, IsTimed, LacksValues, closing_at, finish_of, time_at_end}
+use Rattle.ss_recover.specs.Walk.{with_closing}
 use Rattle.ss_recover.specs.declared.walking.Closing.{Closing}
 use Rattle.ss_recover.specs.declared.walking.Open.{Open}
 use Rattle.ss_recover.proofs.Lists.{all_weaker, each-list_all, list_all-each}
@@ -35,8 +38,11 @@ MarkingAs ls closing last_time before None said = (before ≡ []) × (ls ≡ [])
 MarkingAs ls closing last_time before (Some l) said =
     (ls ≡ before ++ still_open l ∷ []) × (l.finish ≡ finish_of closing) × (said ≡ said_of closing) × (last_time ≡ Some (ends_at l.start l.values))
 
+abbrev pub Marking : Open → List Landmark → Option Landmark → ℕ → Type 0
+Marking stream before last said = MarkingAs stream.part.landmarks.landmarks stream.closing stream.part.last_time before last said
+
 abbrev pub IsMarking : Open → Marked → Type 0
-IsMarking stream m = MarkingAs stream.part.landmarks.landmarks stream.closing stream.part.last_time m.before m.last m.said
+IsMarking stream m = Marking stream m.before m.last m.said
 
 -- once it has ended, it has the values that its record says
 abbrev pub EndedAs : List Landmark → Option Closing → Option ℕ → List Landmark → Option Landmark → ℕ → Type 0
@@ -44,8 +50,11 @@ EndedAs ls closing last_time before None said = (before ≡ []) × (ls ≡ []) �
 EndedAs ls closing last_time before (Some l) said =
     (ls ≡ before ++ l ∷ []) × (closing ≡ None) × (said ≡ values_said l) × IfSome l.finish (λ f. last_time ≡ Some f)
 
+abbrev pub Ended : Open → List Landmark → Option Landmark → ℕ → Type 0
+Ended stream before last said = EndedAs stream.part.landmarks.landmarks stream.closing stream.part.last_time before last said
+
 abbrev pub IsEnded : Open → Marked → Type 0
-IsEnded stream m = EndedAs stream.part.landmarks.landmarks stream.closing stream.part.last_time m.before m.last m.said
+IsEnded stream m = Ended stream m.before m.last m.said
 
 -- the open one is the last
 open-front : (from : ℕ) (front : List Landmark) (x : Landmark) → FollowFrom from (front ++ x ∷ []) →
@@ -87,11 +96,11 @@ has_said-is said l is =
 lacks-said : (said : ℕ) (l : Landmark) (f : ℕ) → l.finish ≡ Some f → (length l.values ≡ said → ⊥) → has_said said l ≡ false
 lacks-said said l f closed other = rw closed (ne_eqb (length l.values) said other)
 
-lacks-marking : (stream : Open) (before : List Landmark) (last : Option Landmark) (said : ℕ) → AreLandmarks stream.part.landmarks.landmarks →
-    MarkingAs stream.part.landmarks.landmarks stream.closing stream.part.last_time before last said → LacksValues stream →
+pub lacks-whole : (stream : Open) (before : List Landmark) (last : Option Landmark) (said : ℕ) → AreLandmarks stream.part.landmarks.landmarks →
+    Marking stream before last said → LacksValues stream →
     option_map_or (has_said said) last true ≡ false
-lacks-marking stream before None said order marking lacks = absurd (let none = marking.3 in let some = lacks.closes in cc)
-lacks-marking stream before (Some l) said order marking lacks =
+lacks-whole stream before None said order marking lacks = absurd (let none = marking.3 in let some = lacks.closes in cc)
+lacks-whole stream before (Some l) said order marking lacks =
     let follow : FollowFrom 0 (before ++ still_open l ∷ []) = subst (FollowFrom 0) marking.0 order in
     let one : Some lacks.landmark ≡ Some (still_open l) =
     sym lacks.is_open ∙ ap open_landmark marking.0 ∙ open-last 0 before (still_open l) follow refl in
@@ -100,22 +109,15 @@ lacks-marking stream before (Some l) said order marking lacks =
     lacks-said said l lacks.closing.finish (marking.1 ∙ ap finish_of lacks.closes)
     (λ is. lacks.other (ap (λ (x : Landmark). length x.values) same ∙ is ∙ count))
 
--- a landmark that lacks values isn't whole
-pub lacks-whole : (stream : Open) (m : Marked) → AreLandmarks stream.part.landmarks.landmarks → IsMarking stream m → LacksValues stream → is_whole m ≡ false
-lacks-whole stream m order marking lacks = lacks-marking stream m.before m.last m.said order marking lacks
+pub ended-lacks : (stream : Open) (before : List Landmark) (last : Option Landmark) (said : ℕ) →
+    Ended stream before last said → LacksValues stream → ⊥
+ended-lacks stream before None said ended lacks = let none = ended.3 in let some = lacks.closes in cc
+ended-lacks stream before (Some l) said ended lacks = let none = ended.1 in let some = lacks.closes in cc
 
-lacks-ended : (stream : Open) (before : List Landmark) (last : Option Landmark) (said : ℕ) →
-    EndedAs stream.part.landmarks.landmarks stream.closing stream.part.last_time before last said → LacksValues stream → ⊥
-lacks-ended stream before None said ended lacks = let none = ended.3 in let some = lacks.closes in cc
-lacks-ended stream before (Some l) said ended lacks = let none = ended.1 in let some = lacks.closes in cc
-
--- one that has ended lacks none
-pub ended-lacks : (stream : Open) (m : Marked) → IsEnded stream m → LacksValues stream → ⊥
-ended-lacks stream m ended lacks = lacks-ended stream m.before m.last m.said ended lacks
-
-ends-closing : (old new : Open) (before : List Landmark) (l : Landmark) (said : ℕ) (closing : Option Closing) → old.closing ≡ closing → AreLandmarks old.part.landmarks.landmarks →
+ends-closing : (old new : Open) (before : List Landmark) (l : Landmark) (said : ℕ) (closing : Option Closing) → old.closing ≡ closing →
+    AreLandmarks old.part.landmarks.landmarks →
     MarkingAs old.part.landmarks.landmarks closing old.part.last_time before (Some l) said → EndsLandmark old new →
-    EndedAs new.part.landmarks.landmarks new.closing new.part.last_time before (Some l) said
+    Ended new before (Some l) said
 ends-closing old new before l said None is order marking ends =
     let begun : l.finish ≡ None = marking.1 in
     let same : still_open l ≡ l = λ i. record { start = l.start; finish = sym begun i; values = l.values } in (
@@ -128,7 +130,8 @@ ends-closing old new before l said (Some c) is order marking ends =
     let closed : l.finish ≡ Some c.finish = marking.1 in
     let same : closed_at c.finish (still_open l) ≡ l = λ i. record { start = l.start; finish = sym closed i; values = l.values } in
     let follow : FollowFrom 0 (before ++ still_open l ∷ []) = subst (FollowFrom 0) marking.0 order in
-    let found : open_landmark old.part.landmarks.landmarks ≡ Some (still_open l) = ap open_landmark marking.0 ∙ open-last 0 before (still_open l) follow refl in (
+    let found : open_landmark old.part.landmarks.landmarks ≡ Some (still_open l) = ap open_landmark marking.0
+    ∙ open-last 0 before (still_open l) follow refl in (
       ends.landmarks ∙ ap (λ o. with_closing o old.part.landmarks.landmarks) is ∙ ap (change_last (closed_at c.finish)) marking.0
           ∙ change_last-front (closed_at c.finish) before (still_open l) ∙ ap (λ x. before ++ x ∷ []) same,
       ends.closing,
@@ -136,30 +139,27 @@ ends-closing old new before l said (Some c) is order marking ends =
       subst (λ (f : Option ℕ). IfSome f (λ t. new.part.last_time ≡ Some t)) (sym closed) (ends.last_time ∙ ap (λ o. time_at_end o old.part.last_time) is),
     )
 
-ends-marking : (old new : Open) (before : List Landmark) (last : Option Landmark) (said : ℕ) → AreLandmarks old.part.landmarks.landmarks →
-    MarkingAs old.part.landmarks.landmarks old.closing old.part.last_time before last said → EndsLandmark old new →
-    EndedAs new.part.landmarks.landmarks new.closing new.part.last_time before last said
-ends-marking old new before None said order marking ends = (
+pub marking-ends : (old new : Open) (before : List Landmark) (last : Option Landmark) (said : ℕ) → AreLandmarks old.part.landmarks.landmarks →
+    Marking old before last said → EndsLandmark old new →
+    Ended new before last said
+marking-ends old new before None said order marking ends = (
   marking.0,
   ends.landmarks ∙ ap (λ c. with_closing c old.part.landmarks.landmarks) marking.3 ∙ marking.1,
   ends.last_time ∙ ap (λ c. time_at_end c old.part.last_time) marking.3 ∙ marking.2,
   ends.closing,
 )
-ends-marking old new before (Some l) said order marking ends = ends-closing old new before l said old.closing refl order marking ends
+marking-ends old new before (Some l) said order marking ends = ends-closing old new before l said old.closing refl order marking ends
 
-pub marking-ends : (old new : Open) (m : Marked) → AreLandmarks old.part.landmarks.landmarks → IsMarking old m → EndsLandmark old new → IsEnded new m
-marking-ends old new m order marking ends = ends-marking old new m.before m.last m.said order marking ends
-
-ends-ended : (old new : Open) (before : List Landmark) (last : Option Landmark) (said : ℕ) →
-    EndedAs old.part.landmarks.landmarks old.closing old.part.last_time before last said → EndsLandmark old new →
-    EndedAs new.part.landmarks.landmarks new.closing new.part.last_time before last said
-ends-ended old new before None said ended ends = (
+pub ended-ends : (old new : Open) (before : List Landmark) (last : Option Landmark) (said : ℕ) →
+    Ended old before last said → EndsLandmark old new →
+    Ended new before last said
+ended-ends old new before None said ended ends = (
   ended.0,
   ends.landmarks ∙ ap (λ c. with_closing c old.part.landmarks.landmarks) ended.3 ∙ ended.1,
   ends.last_time ∙ ap (λ c. time_at_end c old.part.last_time) ended.3 ∙ ended.2,
   ends.closing,
 )
-ends-ended old new before (Some l) said ended ends =
+ended-ends old new before (Some l) said ended ends =
     let last : new.part.last_time ≡ old.part.last_time = ends.last_time ∙ ap (λ c. time_at_end c old.part.last_time) ended.1 in (
       ends.landmarks ∙ ap (λ c. with_closing c old.part.landmarks.landmarks) ended.1 ∙ ended.0,
       ends.closing,
@@ -167,25 +167,15 @@ ends-ended old new before (Some l) said ended ends =
       subst (λ (time : Option ℕ). IfSome l.finish (λ f. time ≡ Some f)) (sym last) ended.3,
     )
 
-pub ended-ends : (old new : Open) (m : Marked) → IsEnded old m → EndsLandmark old new → IsEnded new m
-ended-ends old new m ended ends = ends-ended old new m.before m.last m.said ended ends
+pub ended-landmarks : (stream : Open) (before : List Landmark) (last : Option Landmark) (said : ℕ) → Ended stream before last said →
+    before ++ option_to_list last ≡ stream.part.landmarks.landmarks
+ended-landmarks stream before None said ended = append-nil before ∙ ended.0 ∙ sym ended.1
+ended-landmarks stream before (Some l) said ended = sym ended.0
 
-in-ended : (ls : List Landmark) (closing : Option Closing) (time : Option ℕ) (before : List Landmark) (last : Option Landmark) (said : ℕ) →
-    EndedAs ls closing time before last said → landmarks_in (record { before = before; last = last; said = said }) ≡ ls
-in-ended ls closing time before None said ended = append-nil before ∙ ended.0 ∙ sym ended.1
-in-ended ls closing time before (Some l) said ended = sym ended.0
-
--- the landmarks that have ended are those that are held, and all have their values
-pub ended-landmarks : (stream : Open) (m : Marked) → IsEnded stream m → landmarks_in m ≡ stream.part.landmarks.landmarks
-ended-landmarks stream m ended = in-ended stream.part.landmarks.landmarks stream.closing stream.part.last_time m.before m.last m.said ended
-
-whole-ended : (ls : List Landmark) (closing : Option Closing) (time : Option ℕ) (before : List Landmark) (last : Option Landmark) (said : ℕ) →
-    EndedAs ls closing time before last said → option_map_or (has_said said) last true ≡ true
-whole-ended ls closing time before None said ended = refl
-whole-ended ls closing time before (Some l) said ended = has_said-is said l ended.2
-
-pub ended-whole : (stream : Open) (m : Marked) → IsEnded stream m → is_whole m ≡ true
-ended-whole stream m ended = whole-ended stream.part.landmarks.landmarks stream.closing stream.part.last_time m.before m.last m.said ended
+pub ended-whole : (stream : Open) (before : List Landmark) (last : Option Landmark) (said : ℕ) → Ended stream before last said →
+    option_map_or (has_said said) last true ≡ true
+ended-whole stream before None said ended = refl
+ended-whole stream before (Some l) said ended = has_said-is said l ended.2
 
 -- ---- the next landmark
 
@@ -199,7 +189,7 @@ closed-before start l is =
     ]
 
 begin-tests : (stream : Open) (before : List Landmark) (last : Option Landmark) (said number start : ℕ) → AreLandmarks stream.part.landmarks.landmarks →
-    EndedAs stream.part.landmarks.landmarks stream.closing stream.part.last_time before last said →
+    Ended stream before last said →
     number ≡ length stream.part.landmarks.landmarks + 1 → option_map_or (λ l. has_said said l && is_closed_before start l) last true ≡ true →
     CanBegin stream number start
 begin-tests stream before None said number start order ended count test = record {
@@ -219,7 +209,7 @@ begin-tests stream before (Some l) said number start order ended count test =
     }
 
 tests-begin : (stream : Open) (before : List Landmark) (last : Option Landmark) (said number start : ℕ) → AreLandmarks stream.part.landmarks.landmarks →
-    EndedAs stream.part.landmarks.landmarks stream.closing stream.part.last_time before last said → CanBegin stream number start →
+    Ended stream before last said → CanBegin stream number start →
     option_map_or (λ l. has_said said l && is_closed_before start l) last true ≡ true
 tests-begin stream before None said number start order ended can = refl
 tests-begin stream before (Some l) said number start order ended can =
@@ -236,20 +226,24 @@ tests-begin stream before (Some l) said number start order ended can =
     ])
 
 -- a landmark may come after those that have ended exactly where it may open
-pub begin-next : (stream : Open) (m : Marked) (number start : ℕ) → AreLandmarks stream.part.landmarks.landmarks → IsEnded stream m → CanBegin stream number start →
+pub begin-next : (stream : Open) (m : Marked) (number start : ℕ) → AreLandmarks stream.part.landmarks.landmarks → IsEnded stream m →
+    CanBegin stream number start →
     is_next_landmark m number start ≡ true
 begin-next stream m number start order ended can =
     and_from (number == length (landmarks_in m) + 1) _
-    (eq-eqb number (length (landmarks_in m) + 1) (can.in_turn ∙ ap (λ (ls : List Landmark). length ls + 1) (sym (ended-landmarks stream m ended))))
+    (eq-eqb number (length (landmarks_in m) + 1) (can.in_turn ∙ ap (λ (ls : List Landmark). length ls + 1)
+    (sym (ended-landmarks stream m.before m.last m.said ended))))
     (tests-begin stream m.before m.last m.said number start order ended can)
 
-pub next-begin : (stream : Open) (m : Marked) (number start : ℕ) → AreLandmarks stream.part.landmarks.landmarks → IsEnded stream m → ¬ CanBegin stream number start →
+pub next-begin : (stream : Open) (m : Marked) (number start : ℕ) → AreLandmarks stream.part.landmarks.landmarks → IsEnded stream m →
+    ¬ CanBegin stream number start →
     is_next_landmark m number start ≡ false
 next-begin stream m number start order ended cannot =
     false_from_ne_true (is_next_landmark m number start) (λ test.
     let parts = and_parts (number == length (landmarks_in m) + 1) _ test in
     cannot (begin-tests stream m.before m.last m.said number start order ended
-    (eqb-true number (length (landmarks_in m) + 1) parts.0 ∙ ap (λ (ls : List Landmark). length ls + 1) (ended-landmarks stream m ended)) parts.1))
+    (eqb-true number (length (landmarks_in m) + 1) parts.0 ∙ ap (λ (ls : List Landmark). length ls + 1)
+    (ended-landmarks stream m.before m.last m.said ended)) parts.1))
 
 -- none may come after one that lacks values
 next-lacks : (said start : ℕ) (last : Option Landmark) → option_map_or (has_said said) last true ≡ false →
@@ -261,7 +255,7 @@ and-false : (a b : Bool) → b ≡ false → (a && b) ≡ false
 and-false true b is = is
 and-false false b is = refl
 
-pub next-whole : (m : Marked) (number start : ℕ) → is_whole m ≡ false → is_next_landmark m number start ≡ false
+pub next-whole : (m : Marked) (number start : ℕ) → has_all_values m ≡ false → is_next_landmark m number start ≡ false
 next-whole m number start lacks = and-false (number == length (landmarks_in m) + 1) _ (next-lacks m.said start m.last lacks)
 
 -- the landmarks with one more
@@ -281,7 +275,7 @@ pub begin-marking : (old new : Open) (m : Marked) (slot number values start : �
     Begins old new slot number values start finish → IsMarking new (with_next m values start finish)
 begin-marking old new m slot number values start finish ended timed begins =
     let its = finish-closing values start finish timed in (
-      begins.landmarks ∙ ap (λ ls. ls ++ opened_at start ∷ []) (sym (ended-landmarks old m ended)),
+      begins.landmarks ∙ ap (λ ls. ls ++ opened_at start ∷ []) (sym (ended-landmarks old m.before m.last m.said ended)),
       its.0 ∙ ap finish_of (sym begins.closing),
       its.1 ∙ ap said_of (sym begins.closing),
       begins.last_time,
@@ -338,7 +332,7 @@ value_tests index t l =
     index == length l.values + 1 && nat_le l.start t && list_all (λ (value : LandmarkValue). nat_lt value.t t) l.values && is_up_to t l.finish
 
 module _ (stream : Open) (before : List Landmark) (l : Landmark) (said number index t : ℕ) (order : AreLandmarks stream.part.landmarks.landmarks)
-    (marking : MarkingAs stream.part.landmarks.landmarks stream.closing stream.part.last_time before (Some l) said) where
+    (marking : Marking stream before (Some l) said) where
   follow-last : FollowFrom 0 (before ++ still_open l ∷ [])
   follow-last = subst (FollowFrom 0) marking.0 order
 
@@ -387,47 +381,34 @@ with_more m t v = record {
   said = m.said;
 }
 
-next-added : (stream : Open) (before : List Landmark) (last : Option Landmark) (said number index t : ℕ) → AreLandmarks stream.part.landmarks.landmarks →
-    MarkingAs stream.part.landmarks.landmarks stream.closing stream.part.last_time before last said → CanAdd stream number index t →
+pub add-next : (stream : Open) (before : List Landmark) (last : Option Landmark) (said number index t : ℕ) → AreLandmarks stream.part.landmarks.landmarks →
+    Marking stream before last said → CanAdd stream number index t →
     is_next_value (record { before = before; last = last; said = said }) number index t ≡ true
-next-added stream before None said number index t order marking can =
+add-next stream before None said number index t order marking can =
     absurd (let wrong : None ≡ Some can.landmark = sym (ap open_landmark marking.1) ∙ can.is_open in cc)
-next-added stream before (Some l) said number index t order marking can =
+add-next stream before (Some l) said number index t order marking can =
     and_from _ _ (eq-eqb number (length (before ++ l ∷ [])) (can.of_last ∙ sym (count-last stream before l said number index t order marking)))
     (tests-add stream before l said number index t order marking can)
 
--- a value may come after those so far exactly where it may be added
-pub add-next : (stream : Open) (m : Marked) (number index t : ℕ) → AreLandmarks stream.part.landmarks.landmarks → IsMarking stream m → CanAdd stream number index t →
-    is_next_value m number index t ≡ true
-add-next stream m number index t order marking can = next-added stream m.before m.last m.said number index t order marking can
-
-not-added : (stream : Open) (before : List Landmark) (last : Option Landmark) (said number index t : ℕ) → AreLandmarks stream.part.landmarks.landmarks →
-    MarkingAs stream.part.landmarks.landmarks stream.closing stream.part.last_time before last said → ¬ CanAdd stream number index t →
+pub next-add : (stream : Open) (before : List Landmark) (last : Option Landmark) (said number index t : ℕ) → AreLandmarks stream.part.landmarks.landmarks →
+    Marking stream before last said → ¬ CanAdd stream number index t →
     is_next_value (record { before = before; last = last; said = said }) number index t ≡ false
-not-added stream before None said number index t order marking cannot = and-false (number == length (before ++ [])) false refl
-not-added stream before (Some l) said number index t order marking cannot =
+next-add stream before None said number index t order marking cannot = and-false (number == length (before ++ [])) false refl
+next-add stream before (Some l) said number index t order marking cannot =
     false_from_ne_true _ (λ test.
     let parts = and_parts (number == length (before ++ l ∷ [])) (value_tests index t l) test in
     cannot (add-tests stream before l said number index t order marking
     (eqb-true number (length (before ++ l ∷ [])) parts.0 ∙ count-last stream before l said number index t order marking) parts.1))
 
-pub next-add : (stream : Open) (m : Marked) (number index t : ℕ) → AreLandmarks stream.part.landmarks.landmarks → IsMarking stream m → ¬ CanAdd stream number index t →
-    is_next_value m number index t ≡ false
-next-add stream m number index t order marking cannot = not-added stream m.before m.last m.said number index t order marking cannot
-
-marking-added : (old new : Open) (before : List Landmark) (last : Option Landmark) (said slot number index t : ℕ) (v : ℤ) →
-    MarkingAs old.part.landmarks.landmarks old.closing old.part.last_time before last said → Adds old new slot number index t v →
-    MarkingAs new.part.landmarks.landmarks new.closing new.part.last_time before (option_and_then (λ l. Some (with_value (record { t = t; v = v }) l)) last) said
-marking-added old new before None said slot number index t v marking adds =
+pub add-marking : (old new : Open) (before : List Landmark) (last : Option Landmark) (said slot number index t : ℕ) (v : ℤ) →
+    Marking old before last said → TakesValue old new slot number index t v →
+    Marking new before (option_and_then (λ l. Some (with_value (record { t = t; v = v }) l)) last) said
+add-marking old new before None said slot number index t v marking adds =
     absurd (let can = adds.can in let wrong : None ≡ Some can.landmark = sym (ap open_landmark marking.1) ∙ can.is_open in cc)
-marking-added old new before (Some l) said slot number index t v marking adds =
+add-marking old new before (Some l) said slot number index t v marking adds =
     let value : LandmarkValue = record { t = t; v = v } in (
       adds.landmarks ∙ ap (change_last (with_value value)) marking.0 ∙ change_last-front (with_value value) before (still_open l),
       marking.1 ∙ ap finish_of (sym adds.closing),
       marking.2 ∙ ap said_of (sym adds.closing),
       adds.last_time ∙ ap Some (sym (ends_at-push l.start l.values value)),
     )
-
-pub add-marking : (old new : Open) (m : Marked) (slot number index t : ℕ) (v : ℤ) → IsMarking old m → Adds old new slot number index t v →
-    IsMarking new (with_more m t v)
-add-marking old new m slot number index t v marking adds = marking-added old new m.before m.last m.said slot number index t v marking adds

@@ -1,5 +1,6 @@
 -- What rebuilding answers, from what was read and what the walk over it answers.
-use Rattle.std.proofs.Common.{◌≡◌, ◌∙◌, ◌+◌, ◌-◌, ◌<◌, ◌≤◌, ℕ, zero, suc, Bool, false, not, ◌&&◌, All, List, [], ◌∷◌, ◌++◌, map, filter, flat_map, length, max, MatchOption, Option, Some, None, Result, Ok, Err, IfOk, Vec, Global, refl, sym, ap, ap₂, subst, arith, IsPermutation}
+use Rattle.std.proofs.Common.{◌≡◌, ◌∙◌, ◌+◌, ◌-◌, ◌<◌, ◌≤◌, ℕ, zero, suc, Bool, false, not, ◌&&◌, All, List, [], ◌∷◌, ◌++◌, map, filter, flat_map}
+use Rattle.std.proofs.Common.{length, max, MatchOption, Option, Some, None, Result, Ok, Err, IfOk, Vec, Global, refl, sym, ap, ap₂, subst, arith, IsPermutation}
 use Rattle.std.specs.Prelude.{zip, is_none, ◌≢◌}
 use Rattle.std.specs.List.{AllByRecursion, filter_map, list_all, list_any, range_with_len, IsDistinct}
 use Rattle.std.specs.List.Sorted.{IsStrictlyIncreasing}
@@ -26,16 +27,18 @@ use Rattle.ss_model.specs.State.{Stream, last_time, names_of, numbers_of}
 use Rattle.ss_model.specs.Tiling.{StandFrom}
 use Rattle.ss_model.specs.Windows.{newest_time, taken}
 use Rattle.ss_model.specs.declared.types.Window.{Window}
-use Rattle.ss_recover.specs.Carried.{created_by, in_order, is_mark_of, marks_carried, number_of, spelled, streams_created, window_of, windows_carried}
+use Rattle.ss_recover.specs.Carried.{created_by, in_order, is_mark_of, marks_carried, stream_number, spelled, streams_created, window_of, windows_carried}
 use Rattle.ss_recover.specs.Conditions.{has_new_name, has_one_record, has_place, is_sound, tile, times_rise}
 use Rattle.ss_recover.specs.Gathered.{AreFound, GathersAs}
-use Rattle.ss_recover.specs.Held.{Agrees, AllAgree, AreHeld, AreWhole, EndByLast, HasWholeSlots, TileFrom, all_value_records, entries_of, in_slots, landmark_records, mark_slots, marks_held, occupied, records_held, slots_held, span_held, span_of, window_record, window_slots, windows_held}
+use Rattle.ss_recover.specs.Held.{Agrees, AllAgree, AreHeld, AreWhole, EndByLast, HasWholeSlots, TileFrom, all_value_records, entries_of, in_slots}
+use Rattle.ss_recover.specs.Held.{landmark_records, mark_slots, marks_held, occupied, records_held, slots_held, span_held, span_of, window_record}
+use Rattle.ss_recover.specs.Held.{window_slots, windows_held}
 use Rattle.ss_recover.specs.Marked.{are_marks, landmarks_made}
 use Rattle.ss_recover.specs.Order.{found_key, key_of, place_of}
-use Rattle.ss_recover.specs.Parts.{bad_slot, bad_stream, carried, judged, least, lowest_bad_slot, lowest_bad_stream, records_in, streams_carried}
-use Rattle.ss_outside.specs.Verdict.{Counted, OnFailed, UnlessFailed}
+use Rattle.ss_recover.specs.Parts.{bad_slot, bad_stream, carried, judged, lowest_in, lowest_bad_slot, lowest_bad_stream, records_in, streams_carried}
+use Rattle.ss_outside.specs.Verdict.{Verdict, fine, refused, no_memory}
 use Rattle.ss_recover.specs.Rebuilt.{RebuildsAs, verdict_of_rebuild}
-use Rattle.ss_recover.specs.Walk.{IsLowestUnsound, IsUsable, WalksAs, in_slot, records_of}
+use Rattle.ss_recover.specs.Walk.{IsLowestUnsound, IsUsable, WalksAs, in_slot, without_slots}
 use Rattle.ss_recover.specs.declared.found.Found.{Found}
 use Rattle.ss_recover.specs.declared.parts.Parts.{Parts}
 use Rattle.ss_recover.specs.declared.parts.StreamParts.{StreamParts}
@@ -44,18 +47,18 @@ use Rattle.ss_recover.specs.declared.recover_error.RecoverError.TheVariants.{Bad
 use Rattle.ss_recover.proofs.HeldLemmas.{carried-AreHeld}
 use Rattle.ss_recover.proofs.HeldRecords.{filter_map-filled, zeros_are_free}
 use Rattle.ss_recover.proofs.Latest.{AllEndBy-latest, none-latest}
-use Rattle.ss_recover.proofs.Lists.{filter_map-kept, kept, position-none}
+use Rattle.ss_recover.proofs.Lists.{filter_map-kept, kept, position-none, map-all}
 use Rattle.ss_recover.proofs.Marks.{length-all_value_records, length-landmark_records}
 use Rattle.ss_recover.proofs.OrderLemmas.{map-in_order}
 use Rattle.ss_recover.proofs.Unordered.{lowest-bad}
 
 -- what is made of the records of a map is made of those that were found
-records_in-found : (all : List Found) → records_in (map (λ (e : ℕ × Option Record). e.1) (map in_slot all)) ≡ records_of all
+records_in-found : (all : List Found) → records_in (map (λ (e : ℕ × Option Record). e.1) (map in_slot all)) ≡ without_slots all
 records_in-found [] = refl
 records_in-found (f ∷ fs) = ap (λ l. f.holds ∷ l) (records_in-found fs)
 
 made-found : {Y : Type 0} (f : Record → Option Y) → f Free ≡ None → (found : SlotMap) (all : List Found) → HasWholeSlots found → AreFound all found →
-    filter_map f (records_in (spelled found)) ≡ filter_map f (records_of all)
+    filter_map f (records_in (spelled found)) ≡ filter_map f (without_slots all)
 unfolding spelled
 made-found f free found all whole are =
     filter_map-filled f free found.bytes (range_with_len 0 found.extent) (zeros_are_free found whole)
@@ -72,24 +75,27 @@ is_sound-made rs us n created windows marks =
     && are_marks (marked i) && list_all (lies_free (landmarks_made (marked i))) (ordered i)
 
 marks-made : (n : ℕ) (found : SlotMap) (all : List Found) → HasWholeSlots found → AreFound all found →
-    filter (is_mark_of n) (records_in (spelled found)) ≡ filter (is_mark_of n) (records_of all)
+    filter (is_mark_of n) (records_in (spelled found)) ≡ filter (is_mark_of n) (without_slots all)
 marks-made n found all whole are =
     sym (filter_map-kept (is_mark_of n) (records_in (spelled found))) ∙ made-found (kept (is_mark_of n)) refl found all whole are
-    ∙ filter_map-kept (is_mark_of n) (records_of all)
+    ∙ filter_map-kept (is_mark_of n) (without_slots all)
 
-lowest-made : (found : SlotMap) (all : List Found) → HasWholeSlots found → AreFound all found → lowest_bad_stream (records_in (spelled found)) ≡ lowest_bad_stream (records_of all)
+lowest-made : (found : SlotMap) (all : List Found) → HasWholeSlots found → AreFound all found →
+    lowest_bad_stream (records_in (spelled found)) ≡ lowest_bad_stream (without_slots all)
 lowest-made found all whole are =
     let rs = records_in (spelled found) in
-    let us = records_of all in
+    let us = without_slots all in
     let sound : (n : ℕ) → is_sound rs n ≡ is_sound us n =
-    λ n. is_sound-made rs us n (made-found created_by refl found all whole are) (made-found (window_of n) refl found all whole are) (marks-made n found all whole are) in
-    let numbers : filter_map number_of rs ≡ filter_map number_of us = made-found number_of refl found all whole are in
-    λ i. least (filter (λ m. not (sound m i)) (numbers i))
+    λ n. is_sound-made rs us n (made-found created_by refl found all whole are) (made-found (window_of n) refl found all whole are)
+    (marks-made n found all whole are) in
+    let numbers : filter_map stream_number rs ≡ filter_map stream_number us = made-found stream_number refl found all whole are in
+    λ i. lowest_in (filter (λ m. not (sound m i)) (numbers i))
 
 -- every slot spells a record
 no-none : (os : ℕ → Option Record) (a n : ℕ) → ((k : ℕ) → a ≤ k → k < a + n → os k ≢ None) → list_any is_none (map os (range_with_len a n)) ≡ false
 no-none os a zero some = refl
-no-none os a (suc n) some = or_from (is_none (os a)) _ (go (os a) (some a (omega arith) (omega arith))) (no-none os (a + 1) n (λ k ge lt. some k (omega arith) (omega arith)))
+no-none os a (suc n) some = or_from (is_none (os a)) _ (go (os a) (some a (omega arith) (omega arith)))
+    (no-none os (a + 1) n (λ k ge lt. some k (omega arith) (omega arith)))
   where
     go : (o : Option Record) → o ≢ None → is_none o ≡ false
     go None other = absurd (other refl)
@@ -98,19 +104,17 @@ no-none os a (suc n) some = or_from (is_none (os a)) _ (go (os a) (some a (omega
 no-bad-slot : (found : SlotMap) → ((slot : ℕ) → slot < found.extent → decoded (found.bytes slot) ≢ None) → lowest_bad_slot (spelled found) ≡ None
 unfolding spelled
 no-bad-slot found some =
-    position-none is_none (map (λ slot. decoded (found.bytes slot)) (range_with_len 0 found.extent)) (no-none (λ slot. decoded (found.bytes slot)) 0 found.extent (λ k ge lt. some k (omega (arith, lt))))
+    position-none is_none (map (λ slot. decoded (found.bytes slot)) (range_with_len 0 found.extent))
+    (no-none (λ slot. decoded (found.bytes slot)) 0 found.extent (λ k ge lt. some k (omega (arith, lt))))
 
-carried-bad_stream : (found : SlotMap) (n : ℕ) → lowest_bad_slot (spelled found) ≡ None → lowest_bad_stream (records_in (spelled found)) ≡ Some n → carried found ≡ bad_stream n
+carried-bad_stream : (found : SlotMap) (n : ℕ) → lowest_bad_slot (spelled found) ≡ None → lowest_bad_stream (records_in (spelled found)) ≡ Some n →
+    carried found ≡ bad_stream n
 unfolding carried
 carried-bad_stream found n slot stream = λ i. judged (slot i) (stream i) (streams_carried (records_in (spelled found)))
 
 pub carried-bad_slot : (found : SlotMap) (n : ℕ) → lowest_bad_slot (spelled found) ≡ Some n → carried found ≡ bad_slot n
 unfolding carried
 carried-bad_slot found n slot = λ i. judged (slot i) (lowest_bad_stream (records_in (spelled found))) (streams_carried (records_in (spelled found)))
-
-usable-records : (all : List Found) → AllByRecursion (λ (f : Found). IsUsable f.holds) all → AllByRecursion IsUsable (records_of all)
-usable-records [] usable = tt
-usable-records (f ∷ fs) usable = (usable.0, usable-records fs usable.1)
 
 -- what is rebuilt is what the map carries
 pub rebuilds : (found : SlotMap) (all sorted : List Found) (result : Result Parts RecoverError) → HasWholeSlots found → AreFound all found →
@@ -125,11 +129,12 @@ rebuilds found all sorted (Ok parts) whole are usable order moved walks =
     } in
     (walks.0, carried-AreHeld parts.streams.items walks.0 found whole held, held)
 rebuilds found all sorted (Err (BadStream n)) whole are usable order moved walks =
-    let rs = records_of all in
-    let in_records : records_of sorted ≡ in_order key_of rs = ap records_of order ∙ map-in_order key_of (λ (f : Found). f.holds) all in
+    let rs = without_slots all in
+    let in_records : without_slots sorted ≡ in_order key_of rs = ap without_slots order ∙ map-in_order key_of (λ (f : Found). f.holds) all in
     carried-bad_stream found n (no-bad-slot found are.spelled_all)
     (lowest-made found all whole are
-    ∙ lowest-bad rs n (usable-records all (recursion_from_All (λ (f : Found). IsUsable f.holds) all usable)) (subst (IsLowestUnsound n) in_records walks))
+    ∙ lowest-bad rs n (map-all IsUsable (λ (f : Found). f.holds) all (recursion_from_All (λ (f : Found). IsUsable f.holds) all usable))
+    (subst (IsLowestUnsound n) in_records walks))
 rebuilds found all sorted (Err (BadSlot n)) whole are usable order moved walks = absurd walks
 rebuilds found all sorted (Err Disk) whole are usable order moved walks = tt
 rebuilds found all sorted (Err OutOfMemory) whole are usable order moved walks = tt
@@ -147,7 +152,8 @@ names-agree [] (s ∷ ss) each = absurd each
 names-agree (p ∷ ps) [] each = absurd each
 names-agree (p ∷ ps) (s ∷ ss) each = ap₂ (λ (a : List ℕ) (l : List (List ℕ)). a ∷ l) each.0.name (names-agree ps ss each.1)
 
-tile-agree : (first time : ℕ) (es : List Entry) (ws : List Window) → StandFrom first time ws → 1 ≤ first → first + taken ws ≤ MOST_VALUES + 1 → map span_held es ≡ map span_of ws → TileFrom first es
+tile-agree : (first time : ℕ) (es : List Entry) (ws : List Window) → StandFrom first time ws → 1 ≤ first → first + taken ws ≤ MOST_VALUES + 1 →
+    map span_held es ≡ map span_of ws → TileFrom first es
 tile-agree first time [] ws stand low few spans = tt
 tile-agree first time (e ∷ es) [] stand low few spans = cc
 tile-agree first time (e ∷ es) (w ∷ ws) stand low few spans =
@@ -162,10 +168,12 @@ tile-agree first time (e ∷ es) (w ∷ ws) stand low few spans =
       begins ∙ stand.0,
       omega (arith, begins, ends, some),
       omega (arith, next, sum, few),
-      subst (λ (n : ℕ). TileFrom n es) (sym next) (tile-agree (first + w.summary.count) (w.summary.t_last + 1) es ws stand.3 (omega arith) (omega (arith, sum, few)) rest),
+      subst (λ (n : ℕ). TileFrom n es) (sym next) (tile-agree (first + w.summary.count) (w.summary.t_last + 1) es ws stand.3 (omega arith)
+          (omega (arith, sum, few)) rest),
     )
 
-tiles-agree : (parts : List StreamParts) (ss : List Stream) → AllAgree parts ss → AllByRecursion IsStream ss → AllByRecursion (λ (part : StreamParts). TileFrom 1 (entries_of part)) parts
+tiles-agree : (parts : List StreamParts) (ss : List Stream) → AllAgree parts ss → AllByRecursion IsStream ss →
+    AllByRecursion (λ (part : StreamParts). TileFrom 1 (entries_of part)) parts
 tiles-agree [] ss each sound = tt
 tiles-agree (p ∷ ps) [] each sound = absurd each
 tiles-agree (p ∷ ps) (s ∷ ss) each sound =
@@ -204,14 +212,17 @@ slots-windows part s agrees =
 
 slots-one : (part : StreamParts) (s : Stream) → Agrees part s → map (λ (e : ℕ × Option Record). e.0) (records_held (part, s)) ≡ slots_held part
 slots-one part s agrees =
-    map-append (λ (e : ℕ × Option Record). e.0) (windows_held (part, s)) (marks_held (part, s)) ∙ ap₂ ◌++◌ (slots-windows part s agrees) (slots-marks part s agrees)
+    map-append (λ (e : ℕ × Option Record). e.0) (windows_held (part, s)) (marks_held (part, s))
+    ∙ ap₂ ◌++◌ (slots-windows part s agrees) (slots-marks part s agrees)
 
-slots-agree : (parts : List StreamParts) (ss : List Stream) → AllAgree parts ss → map (λ (e : ℕ × Option Record). e.0) (flat_map records_held (zip parts ss)) ≡ flat_map slots_held parts
+slots-agree : (parts : List StreamParts) (ss : List Stream) → AllAgree parts ss →
+    map (λ (e : ℕ × Option Record). e.0) (flat_map records_held (zip parts ss)) ≡ flat_map slots_held parts
 slots-agree [] [] each = refl
 slots-agree [] (s ∷ ss) each = absurd each
 slots-agree (p ∷ ps) [] each = absurd each
 slots-agree (p ∷ ps) (s ∷ ss) each =
-    map-append (λ (e : ℕ × Option Record). e.0) (records_held (p, s)) (flat_map records_held (zip ps ss)) ∙ ap₂ ◌++◌ (slots-one p s each.0) (slots-agree ps ss each.1)
+    map-append (λ (e : ℕ × Option Record). e.0) (records_held (p, s)) (flat_map records_held (zip ps ss))
+    ∙ ap₂ ◌++◌ (slots-one p s each.0) (slots-agree ps ss each.1)
 
 -- landmarks end by the later of two times, where the second is their latest
 ends-later : (ls : List Landmark) (newest latest : Option ℕ) → latest_of ls ≡ latest → MatchOption (later newest latest) (ls ≡ []) (λ last. AllEndBy last ls)
@@ -222,10 +233,12 @@ ends-later ls (Some t) (Some u) is = AllEndBy-later ls u (max t u) (omega arith)
 
 EndByLast-Agrees : (part : StreamParts) (s : Stream) → Agrees part s → EndByLast part
 EndByLast-Agrees part s agrees =
-    let ends : MatchOption (last_time s) (s.landmarks ≡ []) (λ last. AllEndBy last s.landmarks) = ends-later s.landmarks (newest_time s.windows) (latest_of s.landmarks) refl in
+    let ends : MatchOption (last_time s) (s.landmarks ≡ []) (λ last. AllEndBy last s.landmarks) =
+    ends-later s.landmarks (newest_time s.windows) (latest_of s.landmarks) refl in
     rw (agrees.last_time, agrees.landmarks) ends
 
-landmarks-agree : (parts : List StreamParts) (ss : List Stream) → AllAgree parts ss → AllByRecursion (λ (part : StreamParts). AreKnown part.landmarks × EndByLast part) parts
+landmarks-agree : (parts : List StreamParts) (ss : List Stream) → AllAgree parts ss →
+    AllByRecursion (λ (part : StreamParts). AreKnown part.landmarks × EndByLast part) parts
 landmarks-agree [] ss each = tt
 landmarks-agree (p ∷ ps) [] each = absurd each
 landmarks-agree (p ∷ ps) (s ∷ ss) each = ((each.0.known, EndByLast-Agrees p s each.0), landmarks-agree ps ss each.1)
@@ -250,47 +263,42 @@ whole-from_walk live all sorted (Ok parts) slots moved walks =
     (IsPermutation-map first (flat_map records_held (zip ps ss)) (map in_slot sorted) built.records)) in
     let few = built.state.few in
     record {
-      few = omega (arith, few, length-map ps (λ (part : StreamParts). part.id.0), length-map ss (λ (s : Stream). s.number), ap (λ (ns : List ℕ). length ns) numbers);
+      few = omega (
+        arith,
+        few,
+        length-map ps (λ (part : StreamParts). part.id.0),
+        length-map ss (λ (s : Stream). s.number),
+        ap (λ (ns : List ℕ). length ns) numbers,
+      );
       numbers = subst IsStrictlyIncreasing (sym numbers) built.state.numbers;
       names = subst (IsDistinct same_name) (sym (names-agree ps ss built.each)) built.state.names;
-      tiles = All-from_recursion (λ (part : StreamParts). TileFrom 1 (entries_of part)) ps (tiles-agree ps ss built.each (recursion_from_All IsStream ss built.state.each));
+      tiles = All-from_recursion (λ (part : StreamParts). TileFrom 1 (entries_of part)) ps
+          (tiles-agree ps ss built.each (recursion_from_All IsStream ss built.state.each));
       landmarks =
           All-from_recursion (λ (part : StreamParts). AreKnown part.landmarks × EndByLast part) ps (landmarks-agree ps ss built.each);
       slots =
           IsPermutation-trans (flat_map slots_held ps) (map (λ (f : Found). f.slot) sorted) (filter (is_live live) (range_with_len 0 (length live))) held
-          (subst (IsPermutation (map (λ (f : Found). f.slot) sorted)) slots (IsPermutation-map (λ (f : Found). f.slot) sorted all (IsPermutation-sym all sorted moved)));
+          (subst (IsPermutation (map (λ (f : Found). f.slot) sorted)) slots
+          (IsPermutation-map (λ (f : Found). f.slot) sorted all (IsPermutation-sym all sorted moved)));
     }
 
 -- a walk doesn't blame the disk
-pub not-disk : (all : List Found) (result : Result Parts RecoverError) (P : Type 0) → WalksAs all result → P → UnlessFailed (verdict_of_rebuild result) P
-not-disk all (Ok parts) P walks holds = holds
-not-disk all (Err (BadSlot n)) P walks holds = holds
-not-disk all (Err (BadStream n)) P walks holds = holds
-not-disk all (Err Disk) P walks holds = tt
-not-disk all (Err OutOfMemory) P walks holds = holds
-
-pub on-disk : (all : List Found) (result : Result Parts RecoverError) (P : Type 0) → WalksAs all result → OnFailed (verdict_of_rebuild result) P
-on-disk all (Ok parts) P walks = tt
-on-disk all (Err (BadSlot n)) P walks = tt
-on-disk all (Err (BadStream n)) P walks = tt
-on-disk all (Err Disk) P walks = absurd walks
-on-disk all (Err OutOfMemory) P walks = tt
-
-pub no-blame : (all : List Found) (result : Result Parts RecoverError) (before now : ℕ) → WalksAs all result → now ≡ before
-    → Counted (verdict_of_rebuild result) before now
-no-blame all (Ok parts) before now walks same = same
-no-blame all (Err (BadSlot n)) before now walks same = same
-no-blame all (Err (BadStream n)) before now walks same = same
-no-blame all (Err Disk) before now walks same = absurd walks
-no-blame all (Err OutOfMemory) before now walks same = same
+pub walk-verdict : (F : Verdict → Type 0) (all : List Found) (result : Result Parts RecoverError) → WalksAs all result →
+    F fine → F refused → F no_memory → F (verdict_of_rebuild result)
+walk-verdict F all (Ok parts) walks is other none = is
+walk-verdict F all (Err (BadSlot n)) walks is other none = other
+walk-verdict F all (Err (BadStream n)) walks is other none = other
+walk-verdict F all (Err Disk) walks is other none = absurd walks
+walk-verdict F all (Err OutOfMemory) walks is other none = none
 
 -- what reading refuses is what the map carries
-pub refuses-found : (found : SlotMap) (answer : Result (Vec Found Global) RecoverError) (result : Result Parts RecoverError) (e : RecoverError) → GathersAs found answer → answer ≡ Err e →
+pub refuses-found : (found : SlotMap) (answer : Result (Vec Found Global) RecoverError) (result : Result Parts RecoverError) (e : RecoverError) →
+    GathersAs found answer → answer ≡ Err e →
     result ≡ Err e → RebuildsAs found result
 refuses-found found answer result e gathers is gives = subst (RebuildsAs found) (sym gives) (go e (subst (GathersAs found) is gathers))
   where
     go : (d : RecoverError) → GathersAs found (Err d) → RebuildsAs found (Err d)
-    go (BadSlot n) refused = carried-bad_slot found n refused
-    go (BadStream n) refused = absurd refused
-    go Disk refused = tt
-    go OutOfMemory refused = tt
+    go (BadSlot n) none = carried-bad_slot found n none
+    go (BadStream n) none = absurd none
+    go Disk none = tt
+    go OutOfMemory none = tt

@@ -13,6 +13,7 @@ use Rattle.ss_recover.specs.Carried.{created_by, is_mark_of, window_of}
 use Rattle.ss_recover.proofs.InOrder.{Rise}
 use Rattle.ss_recover.proofs.Lists.{all_weaker}
 use Rattle.ss_recover.proofs.SoundStreams.{at}
+use Rattle.ss_recover.specs.Order.{stream_of}
 
 -- sums over one list
 sum_by-add : {X : Type 0} (f g : X → ℕ) (xs : List X) → sum_by (λ x. f x + g x) xs ≡ sum_by f xs + sum_by g xs
@@ -29,11 +30,7 @@ sum_by-le_each f g (x ∷ xs) all = omega (arith, sum_by-cons f x xs, sum_by-con
 
 -- 1 at the records of a number
 abbrev pub of_number : ℕ → Record → ℕ
-of_number number Free = 0
-of_number number (Stream id name params) = cond (id == number) 1 0
-of_number number (Window id first f) = cond (id == number) 1 0
-of_number number (Landmark id n values start finish) = cond (id == number) 1 0
-of_number number (Value id n index t v) = cond (id == number) 1 0
+of_number number r = cond (stream_of r == number) 1 0
 
 length-window_of : (number id first : ℕ) (f : Figures) (rs : List Record) → length (filter_map (window_of number) (Window id first f ∷ rs))
     ≡ cond (id == number) 1 0 + length (filter_map (window_of number) rs)
@@ -44,9 +41,10 @@ length-mark_of : (number : ℕ) (r : Record) (rs : List Record) →
 length-mark_of number r rs = elim (cases_Bool (is_mark_of number r)) [ inl own ↦ rw own (omega arith) | inr other ↦ rw other (omega arith) ]
 
 -- the records of a number are those of streams, those of windows, and those of landmarks and their values
-pub sum_by-of_number : (number : ℕ) (rs : List Record) → sum_by (of_number number) rs
-    ≡ sum_by (at number) (filter_map created_by rs) + length (filter_map (window_of number) rs) + length (filter (is_mark_of number) rs)
-sum_by-of_number number [] = refl
+pub sum_by-of_number : (number : ℕ) (rs : List Record) →
+    sum_by (at number) (filter_map created_by rs) + length (filter_map (window_of number) rs) + length (filter (is_mark_of number) rs)
+    ≤ sum_by (of_number number) rs
+sum_by-of_number number [] = omega arith
 sum_by-of_number number (Free ∷ rs) = omega (arith, sum_by-cons (of_number number) Free rs, sum_by-of_number number rs)
 sum_by-of_number number (Stream id name params ∷ rs) =
     omega (
@@ -90,13 +88,6 @@ hits id (s ∷ ss) rise =
           omega (arith, parts, none, hits id ss rise.1)
     ]
 
-once-counted : (r : Record) (ss : List Created) → Rise (λ s. s.number) ss → sum_by (λ s. of_number s.number r) ss ≤ 1
-once-counted Free ss rise = omega (arith, sum_by-none ss)
-once-counted (Stream id name params) ss rise = hits id ss rise
-once-counted (Window id first f) ss rise = hits id ss rise
-once-counted (Landmark id n values start finish) ss rise = hits id ss rise
-once-counted (Value id n index t v) ss rise = hits id ss rise
-
 pub all-counted : (ss : List Created) (rs : List Record) → Rise (λ s. s.number) ss → sum_by (λ s. sum_by (of_number s.number) rs) ss ≤ length rs
 all-counted ss [] rise = omega (arith, sum_by-none ss)
 all-counted ss (r ∷ rs) rise =
@@ -106,6 +97,6 @@ all-counted ss (r ∷ rs) rise =
       arith,
       parts,
       sum_by-add (λ (s : Created). of_number s.number r) (λ (s : Created). sum_by (of_number s.number) rs) ss,
-      once-counted r ss rise,
+      hits (stream_of r) ss rise,
       all-counted ss rs rise,
     )

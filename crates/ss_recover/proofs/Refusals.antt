@@ -1,5 +1,6 @@
 -- The number that a walk tells where it refuses a record: the lowest whose records break a condition.
-use Rattle.std.proofs.Common.{◌≡◌, ◌∙◌, ℕ, ◌+◌, ◌^◌, ◌<◌, ◌≤◌, Bool, true, false, cond, List, [], ◌∷◌, ◌++◌, map, filter, length, Option, Some, None, IsSome, refl, sym, ap, ap₂, subst, inl, inr, arith, append_assoc, append-nil}
+use Rattle.std.proofs.Common.{◌≡◌, ◌∙◌, ℕ, ◌+◌, ◌^◌, ◌<◌, ◌≤◌, Bool, true, false, cond, List, [], ◌∷◌, ◌++◌, map, filter, length, Option, Some, None}
+use Rattle.std.proofs.Common.{IsSome, refl, sym, ap, ap₂, subst, inl, inr, arith, append_assoc, append-nil}
 use Rattle.std.specs.Prelude.{◌==◌, count_by}
 use Rattle.std.specs.List.{AllByRecursion, IsDistinct, cons_option, filter_map, list_all, list_any}
 use Rattle.std.proofs.lemmas.Bool.{and_left, and_right, cases_Bool, cases_eq, cond-true, cond-false, true≢false, eq-eqb, eqb-true, or_left, or_right}
@@ -24,29 +25,29 @@ use Rattle.ss_model.specs.Windows.{taken, newest_time}
 use Rattle.ss_model.specs.declared.types.Window.{Window}
 use Rattle.ss_recover.specs.Carried.{created_by, is_mark_of, window_of}
 use Rattle.ss_recover.specs.Held.{window_record}
-use Rattle.ss_recover.specs.Marked.{are_marks, is_next_landmark, is_next_value, is_whole, landmarks_made, marked_with}
+use Rattle.ss_recover.specs.Marked.{are_marks, is_next_landmark, is_next_value, has_all_values, landmarks_made, marked_with}
 use Rattle.ss_recover.specs.Order.{place_of, stream_of}
-use Rattle.ss_recover.specs.Walk.{CannotClose, IsAfter, IsLowestUnsound, LacksValues, Refuses, RefusesFirst, RefusesHere, RefusesNext, is_open, is_sound_in_order, records_of}
+use Rattle.ss_recover.specs.Walk.{CannotClose, IsAfter, IsLowestUnsound, LacksValues, Refuses, RefusesFirst, RefusesHere, RefusesNext, is_current}
+use Rattle.ss_recover.specs.Walk.{is_sound_in_order, without_slots}
 use Rattle.ss_recover.specs.declared.found.Found.{Found}
 use Rattle.ss_recover.specs.declared.parts.StreamParts.{StreamParts}
 use Rattle.ss_recover.specs.declared.walking.Open.{Open}
 use Rattle.ss_recover.specs.declared.walking.Walk.{Walk}
 use Rattle.ss_recover.proofs.InOrder.{Rise}
-use Rattle.ss_recover.proofs.Lists.{all_append, all_weaker}
+use Rattle.ss_recover.proofs.Lists.{all_append, all_weaker, all_front}
 use Rattle.ss_recover.proofs.Phases.{IsEnded, ended-lacks, ended-landmarks, lacks-whole, next-add, next-begin, next-whole, with_more, with_next}
-use Rattle.ss_recover.proofs.PhaseRecords.{marks-made, marks-whole, not-marks}
-use Rattle.ss_recover.proofs.SoundInOrder.{marks-apart, sound-below, unsound-back_free, unsound-back_marks, unsound-full, unsound-named, unsound-two_streams, unsound-window, unsound-without_stream}
+use Rattle.ss_recover.proofs.MarksSoFar.{marks-made, marks-whole, not-marks}
+use Rattle.ss_recover.proofs.SoundInOrder.{marks-apart, sound-below, unsound-back_free, unsound-back_marks, unsound-full, unsound-named}
+use Rattle.ss_recover.proofs.SoundInOrder.{unsound-two_streams, unsound-window, unsound-without_stream}
 use Rattle.ss_recover.proofs.WalkCurrent.{PhaseAs, phase-ended}
 use Rattle.ss_recover.proofs.WalkLemmas.{AreNames}
 use Rattle.ss_recover.proofs.WalkOrder.{IsAmid, no-marks-behind}
 use Rattle.ss_recover.proofs.WalkRecords.{all_walked, own-windows}
 use Rattle.ss_recover.proofs.WalkSteps.{AreComing, AreDone, Holds, HoldsAs, HoldsFor, coming-at_most, left, no-windows}
 
-abbrev digit : Bool → ℕ
-digit b = cond b 1 0
-
 lowest : (ss : List Stream) (back : List Record) (n : ℕ) (below : AllByRecursion (λ s. s.number < n) ss) (above : AllByRecursion (λ r. n ≤ stream_of r) back) →
-    Rise (λ s. s.number) ss → IsDistinct same_name (names_of ss) → AllByRecursion IsStream ss → length ss ≤ MOST_STREAMS → list_any (λ r. stream_of r == n) back ≡ true →
+    Rise (λ s. s.number) ss → IsDistinct same_name (names_of ss) → AllByRecursion IsStream ss → length ss ≤ MOST_STREAMS →
+    list_any (λ r. stream_of r == n) back ≡ true →
     is_sound_in_order (all_walked ss ++ back) n ≡ false → IsLowestUnsound n (all_walked ss ++ back)
 lowest ss back n below above rise distinct streams few has unsound = record {
   has = list_any-append (λ r. stream_of r == n) (all_walked ss) back ∙ or_right (list_any (λ r. stream_of r == n) (all_walked ss)) _ has;
@@ -56,16 +57,10 @@ lowest ss back n below above rise distinct streams few has unsound = record {
 
 -- a front of names that differ
 distinct-front : (xs : List (List ℕ)) (ys : List (List ℕ)) → IsDistinct same_name (xs ++ ys) → IsDistinct same_name xs
-distinct-front [] ys distinct = IsDistinct-nothing
-  where
-    IsDistinct-nothing : IsDistinct same_name []
-    IsDistinct-nothing = IsDistinct-from_apart same_name [] (λ i j d before within. absurd (omega (arith, within)))
+distinct-front [] ys distinct = IsDistinct-from_apart same_name [] (λ i j d before within. absurd (omega (arith, within)))
 distinct-front (x ∷ xs) ys distinct =
-    IsDistinct-cons same_name x xs (front xs (IsDistinct-head same_name x (xs ++ ys) distinct)) (distinct-front xs ys (IsDistinct-tail same_name x (xs ++ ys) distinct))
-  where
-    front : (zs : List (List ℕ)) → AllByRecursion (λ y. same_name x y ≡ false) (zs ++ ys) → AllByRecursion (λ y. same_name x y ≡ false) zs
-    front [] all = tt
-    front (z ∷ zs) all = (all.0, front zs all.1)
+    IsDistinct-cons same_name x xs (all_front (λ y. same_name x y ≡ false) xs ys (IsDistinct-head same_name x (xs ++ ys) distinct))
+    (distinct-front xs ys (IsDistinct-tail same_name x (xs ++ ys) distinct))
 
 -- as many names as streams
 long-names : (names : List (List ℕ × StreamId)) (own : List (List ℕ)) → AreNames names own → length own ≡ length names
@@ -76,18 +71,20 @@ long-streams ss = length-map ss (λ (s : Stream). s.name)
 
 -- ---- the first record of a stream is refused
 
-module _ (done : List StreamParts) (names : List (List ℕ × StreamId)) (front : List Found) (f : Found) (back : List Found) (held : AreDone done names front (stream_of f.holds))
-    (amid : IsAmid (records_of front) f.holds (records_of back)) where
+module _ (done : List StreamParts) (names : List (List ℕ × StreamId)) (front : List Found) (f : Found) (back : List Found)
+    (held : AreDone done names front (stream_of f.holds))
+    (amid : IsAmid (without_slots front) f.holds (without_slots back)) where
   abbrev rest : List Record
-  rest = f.holds ∷ records_of back
+  rest = f.holds ∷ without_slots back
 
-  all-done : records_of (front ++ f ∷ back) ≡ all_walked held.streams ++ rest
+  all-done : without_slots (front ++ f ∷ back) ≡ all_walked held.streams ++ rest
   all-done = map-append (λ (g : Found). g.holds) front (f ∷ back) ∙ ap (λ l. l ++ rest) held.held.order
 
   above-done : AllByRecursion (λ r. stream_of f.holds ≤ stream_of r) rest
   above-done = (omega arith, amid.behind)
 
-  after-others : is_sound_in_order (all_walked held.streams ++ rest) (stream_of f.holds) ≡ false → IsLowestUnsound (stream_of f.holds) (records_of (front ++ f ∷ back))
+  after-others : is_sound_in_order (all_walked held.streams ++ rest) (stream_of f.holds) ≡ false →
+      IsLowestUnsound (stream_of f.holds) (without_slots (front ++ f ∷ back))
   after-others unsound =
       subst (IsLowestUnsound (stream_of f.holds)) (sym all-done)
       (lowest held.streams rest (stream_of f.holds) held.below above-done held.held.rise
@@ -95,30 +92,33 @@ module _ (done : List StreamParts) (names : List (List ℕ × StreamId)) (front 
       (let most = held.names_are.most in omega (arith, most, long-names names (names_of held.streams) held.names_are, long-streams held.streams))
       (or_left (stream_of f.holds == stream_of f.holds) _ (eq-eqb (stream_of f.holds) (stream_of f.holds) refl)) unsound)
 
-  refused-without_stream : 1 ≤ place_of f.holds → IsLowestUnsound (stream_of f.holds) (records_of (front ++ f ∷ back))
+  refused-without_stream : 1 ≤ place_of f.holds → IsLowestUnsound (stream_of f.holds) (without_slots (front ++ f ∷ back))
   refused-without_stream place =
       after-others
-      (unsound-without_stream held.streams rest (stream_of f.holds) held.below above-done
-      ((λ _. place), all_weaker (λ r. stream_of r ≡ stream_of f.holds → place_of f.holds ≤ place_of r) (λ r. stream_of r ≡ stream_of f.holds → 1 ≤ place_of r) (λ r le same. let behind = le same in omega arith) (records_of back) amid.places))
+      (unsound-without_stream held.streams rest (stream_of f.holds) held.below above-done (
+        (λ _. place),
+        all_weaker (λ r. stream_of r ≡ stream_of f.holds → place_of f.holds ≤ place_of r)
+            (λ r. stream_of r ≡ stream_of f.holds → 1 ≤ place_of r) (λ r le same. let behind = le same in omega arith) (without_slots back) amid.places,
+      ))
 
-  refused-full : length names ≡ MOST_STREAMS → IsLowestUnsound (stream_of f.holds) (records_of (front ++ f ∷ back))
+  refused-full : length names ≡ MOST_STREAMS → IsLowestUnsound (stream_of f.holds) (without_slots (front ++ f ∷ back))
   refused-full full =
       after-others
       (unsound-full held.streams rest (stream_of f.holds) held.below above-done
       (sym (long-streams held.streams) ∙ long-names names (names_of held.streams) held.names_are ∙ full))
 
   refused-named : (name : List ℕ) (params : Params) → f.holds ≡ records.Stream (stream_of f.holds) name params → IsSome (id_of name names) →
-      IsLowestUnsound (stream_of f.holds) (records_of (front ++ f ∷ back))
+      IsLowestUnsound (stream_of f.holds) (without_slots (front ++ f ∷ back))
   refused-named name params is taken =
       after-others
-      (unsound-named held.streams rest (stream_of f.holds) held.below above-done name params (records_of back)
-      (ap (λ r. r ∷ records_of back) is)
+      (unsound-named held.streams rest (stream_of f.holds) held.below above-done name params (without_slots back)
+      (ap (λ r. r ∷ without_slots back) is)
       (ap (list_any (same_name name)) (sym held.names_are.same) ∙ sym (is_some-lookup (same_name name) names) ∙ taken))
 
 -- ---- a record of the stream whose records come is refused, or it lacks values of a landmark
 
 module _ (stream : Open) (done : List StreamParts) (names : List (List ℕ × StreamId)) (front back : List Found) (coming : AreComing stream done names front)
-    (behind : AllByRecursion (λ r. coming.head.number ≤ stream_of r) (records_of back)) where
+    (behind : AllByRecursion (λ r. coming.head.number ≤ stream_of r) (without_slots back)) where
   abbrev number : ℕ
   number = coming.head.number
 
@@ -126,7 +126,7 @@ module _ (stream : Open) (done : List StreamParts) (names : List (List ℕ × St
   head_record = records.Stream coming.head.number coming.head.name coming.head.params
 
   abbrev marks : List Record
-  marks = records_of coming.current.marks
+  marks = without_slots coming.current.marks
 
   abbrev windows : List Record
   windows = map (window_record coming.head.number) coming.current.windows
@@ -135,20 +135,20 @@ module _ (stream : Open) (done : List StreamParts) (names : List (List ℕ × St
   own = head_record ∷ (marks ++ windows)
 
   abbrev own_back : List Record
-  own_back = own ++ records_of back
+  own_back = own ++ without_slots back
 
-  own-records : records_of coming.own ≡ own
+  own-records : without_slots coming.own ≡ own
   own-records =
-      ap records_of coming.current.split
+      ap without_slots coming.current.split
       ∙ ap (λ l. head_record ∷ l)
       (map-append (λ (f : Found). f.holds) coming.current.marks coming.current.found ∙ ap (λ l. marks ++ l) coming.current.found_records)
 
-  all-coming : records_of (front ++ back) ≡ all_walked coming.streams ++ own_back
+  all-coming : without_slots (front ++ back) ≡ all_walked coming.streams ++ own_back
   all-coming =
       map-append (λ (g : Found). g.holds) front back
-      ∙ ap (λ l. l ++ records_of back)
-      (ap records_of coming.split ∙ map-append (λ (g : Found). g.holds) coming.before coming.own ∙ ap₂ ◌++◌ coming.held.order own-records)
-      ∙ append_assoc (all_walked coming.streams) own (records_of back)
+      ∙ ap (λ l. l ++ without_slots back)
+      (ap without_slots coming.split ∙ map-append (λ (g : Found). g.holds) coming.before coming.own ∙ ap₂ ◌++◌ coming.held.order own-records)
+      ∙ append_assoc (all_walked coming.streams) own (without_slots back)
 
   mark-number : (r : Record) → is_mark_of number r ≡ true → number ≤ stream_of r
   mark-number records.Free is = cc
@@ -157,7 +157,8 @@ module _ (stream : Open) (done : List StreamParts) (names : List (List ℕ × St
   mark-number (records.Landmark id n values start finish) is = let same = eqb-true id number is in omega (arith, same)
   mark-number (records.Value id n index t v) is = let same = eqb-true id number is in omega (arith, same)
 
-  marks-above : (fs : List Found) → AllByRecursion (λ (f : Found). is_mark_of number f.holds ≡ true) fs → AllByRecursion (λ r. number ≤ stream_of r) (records_of fs)
+  marks-above : (fs : List Found) → AllByRecursion (λ (f : Found). is_mark_of number f.holds ≡ true) fs →
+      AllByRecursion (λ r. number ≤ stream_of r) (without_slots fs)
   marks-above [] all = tt
   marks-above (f ∷ fs) all = (mark-number f.holds all.0, marks-above fs all.1)
 
@@ -167,14 +168,18 @@ module _ (stream : Open) (done : List StreamParts) (names : List (List ℕ × St
 
   above-coming : AllByRecursion (λ r. number ≤ stream_of r) own_back
   above-coming =
-      all_append (λ r. number ≤ stream_of r) own (records_of back)
-      (omega arith, all_append (λ r. number ≤ stream_of r) marks windows (marks-above coming.current.marks coming.current.of_number) (windows-above coming.current.windows)) behind
+      all_append (λ r. number ≤ stream_of r) own (without_slots back) (
+        omega arith,
+        all_append (λ r. number ≤ stream_of r) marks windows (marks-above coming.current.marks coming.current.of_number)
+            (windows-above coming.current.windows),
+      ) behind
 
-  of-coming : is_sound_in_order (all_walked coming.streams ++ own_back) number ≡ false → IsLowestUnsound number (records_of (front ++ back))
+  of-coming : is_sound_in_order (all_walked coming.streams ++ own_back) number ≡ false → IsLowestUnsound number (without_slots (front ++ back))
   of-coming unsound =
       subst (IsLowestUnsound number) (sym all-coming)
       (lowest coming.streams own_back number coming.above above-coming coming.held.rise
-      (distinct-front (names_of coming.streams) (coming.head.name ∷ []) (subst (IsDistinct same_name) coming.names_are.same coming.names_are.distinct)) coming.held.sound
+      (distinct-front (names_of coming.streams) (coming.head.name ∷ [])
+      (subst (IsDistinct same_name) coming.names_are.same coming.names_are.distinct)) coming.held.sound
       (let most = coming.names_are.most in
       omega (
         arith,
@@ -190,14 +195,15 @@ module _ (stream : Open) (done : List StreamParts) (names : List (List ℕ × St
   none-marks [] = refl
   none-marks (w ∷ ws) = none-marks ws
 
-  all-marks : (fs : List Found) → AllByRecursion (λ (f : Found). is_mark_of number f.holds ≡ true) fs → filter (is_mark_of number) (records_of fs) ≡ records_of fs
+  all-marks : (fs : List Found) → AllByRecursion (λ (f : Found). is_mark_of number f.holds ≡ true) fs →
+      filter (is_mark_of number) (without_slots fs) ≡ without_slots fs
   all-marks [] all = refl
   all-marks (f ∷ fs) all = rw all.0 (ap (λ l. f.holds ∷ l) (all-marks fs all.1))
 
-  own-marks : filter (is_mark_of number) own_back ≡ marks ++ filter (is_mark_of number) (records_of back)
+  own-marks : filter (is_mark_of number) own_back ≡ marks ++ filter (is_mark_of number) (without_slots back)
   own-marks =
-      filter-append (is_mark_of number) own (records_of back)
-      ∙ ap (λ l. l ++ filter (is_mark_of number) (records_of back))
+      filter-append (is_mark_of number) own (without_slots back)
+      ∙ ap (λ l. l ++ filter (is_mark_of number) (without_slots back))
       (filter-append (is_mark_of number) marks windows
       ∙ ap₂ ◌++◌ (all-marks coming.current.marks coming.current.of_number) (none-marks coming.current.windows) ∙ append-nil marks)
 
@@ -208,32 +214,33 @@ module _ (stream : Open) (done : List StreamParts) (names : List (List ℕ × St
   no-window (records.Landmark id n values start finish) is ws = refl
   no-window (records.Value id n index t v) is ws = refl
 
-  none-windows : (fs : List Found) → AllByRecursion (λ (f : Found). is_mark_of number f.holds ≡ true) fs → filter_map (window_of number) (records_of fs) ≡ []
+  none-windows : (fs : List Found) → AllByRecursion (λ (f : Found). is_mark_of number f.holds ≡ true) fs → filter_map (window_of number) (without_slots fs) ≡ []
   none-windows [] all = refl
-  none-windows (f ∷ fs) all = no-window f.holds all.0 (filter_map (window_of number) (records_of fs)) ∙ none-windows fs all.1
+  none-windows (f ∷ fs) all = no-window f.holds all.0 (filter_map (window_of number) (without_slots fs)) ∙ none-windows fs all.1
 
-  windows-own : filter_map (window_of number) own_back ≡ coming.current.windows ++ filter_map (window_of number) (records_of back)
+  windows-own : filter_map (window_of number) own_back ≡ coming.current.windows ++ filter_map (window_of number) (without_slots back)
   windows-own =
-      filter_map-append (window_of number) own (records_of back)
-      ∙ ap (λ l. l ++ filter_map (window_of number) (records_of back))
+      filter_map-append (window_of number) own (without_slots back)
+      ∙ ap (λ l. l ++ filter_map (window_of number) (without_slots back))
       (filter_map-append (window_of number) marks windows
       ∙ ap₂ ◌++◌ (none-windows coming.current.marks coming.current.of_number) (own-windows number coming.current.windows))
 
   -- its last landmark lacks values, and no more come
-  pub refused-lacks : filter (is_mark_of number) (records_of back) ≡ [] → AreKnown stream.part.landmarks → LacksValues stream →
-      IsLowestUnsound number (records_of (front ++ back))
+  pub refused-lacks : filter (is_mark_of number) (without_slots back) ≡ [] → AreKnown stream.part.landmarks → LacksValues stream →
+      IsLowestUnsound number (without_slots (front ++ back))
   refused-lacks none known lacks =
       of-coming (unsound-back_marks coming.streams own_back number coming.above above-coming
       (ap are_marks (own-marks ∙ ap (λ l. marks ++ l) none ∙ append-nil marks)
       ∙ marks-whole marks coming.current.marked false coming.current.by (lacking coming.current.windows coming.current.phase)))
     where
-      lacking : (ws : List Window) → PhaseAs stream coming.current.marked ws → is_whole coming.current.marked ≡ false
-      lacking [] phase = lacks-whole stream coming.current.marked known.order phase lacks
-      lacking (w ∷ ws) phase = absurd (ended-lacks stream coming.current.marked phase lacks)
+      lacking : (ws : List Window) → PhaseAs stream coming.current.marked ws → has_all_values coming.current.marked ≡ false
+      lacking [] phase = lacks-whole stream coming.current.marked.before coming.current.marked.last coming.current.marked.said known.order phase lacks
+      lacking (w ∷ ws) phase = absurd (ended-lacks stream coming.current.marked.before coming.current.marked.last coming.current.marked.said phase lacks)
 
   -- a record of a landmark or a value may not come next
-  pub refused-mark : (r : Record) (more : List Record) → records_of back ≡ r ∷ more → is_mark_of number r ≡ true → marked_with coming.current.marked r ≡ None →
-      IsLowestUnsound number (records_of (front ++ back))
+  pub refused-mark : (r : Record) (more : List Record) → without_slots back ≡ r ∷ more → is_mark_of number r ≡ true →
+      marked_with coming.current.marked r ≡ None →
+      IsLowestUnsound number (without_slots (front ++ back))
   refused-mark r more is own_mark none =
       of-coming (unsound-back_marks coming.streams own_back number coming.above above-coming
       (ap are_marks (own-marks ∙ ap (λ l. marks ++ filter (is_mark_of number) l) is
@@ -241,44 +248,48 @@ module _ (stream : Open) (done : List StreamParts) (names : List (List ℕ × St
       ∙ not-marks marks r (filter (is_mark_of number) more) coming.current.marked coming.current.by none))
 
   -- a window isn't the next one
-  window-next : (w : Window) (more : List Record) → records_of back ≡ window_record number w ∷ more →
+  window-next : (w : Window) (more : List Record) → without_slots back ≡ window_record number w ∷ more →
       filter_map (window_of number) own_back ≡ coming.current.windows ++ w ∷ filter_map (window_of number) more
   window-next w more is =
       windows-own
       ∙ ap (λ l. coming.current.windows ++ filter_map (window_of number) l) is
       ∙ ap (λ (b : Bool). coming.current.windows ++ cons_option (cond b (Some w) None) (filter_map (window_of number) more)) (eq-eqb number number refl)
 
-  pub refused-window : (w : Window) (more : List Record) → records_of back ≡ window_record number w ∷ more →
-      (w.first ≡ taken coming.current.windows + 1 → IsAfter (newest_time coming.current.windows) w.summary.t_first → ⊥) → IsLowestUnsound number (records_of (front ++ back))
+  pub refused-window : (w : Window) (more : List Record) → without_slots back ≡ window_record number w ∷ more →
+      (w.first ≡ taken coming.current.windows + 1 → IsAfter (newest_time coming.current.windows) w.summary.t_first → ⊥) →
+      IsLowestUnsound number (without_slots (front ++ back))
   refused-window w more is refused =
       of-coming (unsound-window coming.streams own_back number coming.above above-coming coming.current.windows w (filter_map (window_of number) more)
       (window-next w more is) refused)
 
   -- it doesn't lie free among the landmarks
-  pub refused-free : (mid : Open) (w : Window) (more : List Record) → records_of back ≡ window_record number w ∷ more → filter (is_mark_of number) (records_of back) ≡ [] →
-      IsEnded mid coming.current.marked → lies_free mid.part.landmarks.landmarks w ≡ false → IsLowestUnsound number (records_of (front ++ back))
+  pub refused-free : (mid : Open) (w : Window) (more : List Record) → without_slots back ≡ window_record number w ∷ more →
+      filter (is_mark_of number) (without_slots back) ≡ [] →
+      IsEnded mid coming.current.marked → lies_free mid.part.landmarks.landmarks w ≡ false → IsLowestUnsound number (without_slots (front ++ back))
   refused-free mid w more is none ended covered =
       let made : landmarks_made (filter (is_mark_of number) own_back) ≡ mid.part.landmarks.landmarks =
       ap landmarks_made (own-marks ∙ ap (λ l. marks ++ l) none ∙ append-nil marks) ∙ marks-made marks coming.current.marked coming.current.by
-      ∙ ended-landmarks mid coming.current.marked ended in
+      ∙ ended-landmarks mid coming.current.marked.before coming.current.marked.last coming.current.marked.said ended in
       of-coming (unsound-back_free coming.streams own_back number coming.above above-coming
-      (ap₂ (λ ls ws. list_all (lies_free ls) ws) made (window-next w more is) ∙ not-all (lies_free mid.part.landmarks.landmarks) coming.current.windows w (filter_map (window_of number) more) covered))
+      (ap₂ (λ ls ws. list_all (lies_free ls) ws) made (window-next w more is)
+      ∙ not-all (lies_free mid.part.landmarks.landmarks) coming.current.windows w (filter_map (window_of number) more) covered))
     where
       not-all : (p : Window → Bool) (xs : List Window) (x : Window) (ys : List Window) → p x ≡ false → list_all p (xs ++ x ∷ ys) ≡ false
       not-all p [] x ys fails = and_left (p x) (list_all p ys) fails
       not-all p (y ∷ xs) x ys fails = and_right (p y) (list_all p (xs ++ x ∷ ys)) (not-all p xs x ys fails)
 
   -- another record of the stream itself
-  pub refused-twice : (name : List ℕ) (params : Params) (more : List Record) → records_of back ≡ records.Stream number name params ∷ more →
-      IsLowestUnsound number (records_of (front ++ back))
+  pub refused-twice : (name : List ℕ) (params : Params) (more : List Record) → without_slots back ≡ records.Stream number name params ∷ more →
+      IsLowestUnsound number (without_slots (front ++ back))
   refused-twice name params more is =
       let n = number in
       let c : Created = record { number = n; name = name; params = params } in
       let first : Created = coming.head in
       let between : List Created = filter_map created_by (marks ++ windows) in
       let later : filter_map created_by own_back ≡ first ∷ (between ++ c ∷ filter_map created_by more) =
-      filter_map-append created_by own (records_of back) ∙ ap (λ rs. first ∷ (between ++ filter_map created_by rs)) is in
-      let count : count_by (λ (d : Created). d.number == n) (filter_map created_by own_back) ≡ count_by (λ (d : Created). d.number == n) (first ∷ (between ++ c ∷ filter_map created_by more)) =
+      filter_map-append created_by own (without_slots back) ∙ ap (λ rs. first ∷ (between ++ filter_map created_by rs)) is in
+      let count : count_by (λ (d : Created). d.number == n) (filter_map created_by own_back)
+      ≡ count_by (λ (d : Created). d.number == n) (first ∷ (between ++ c ∷ filter_map created_by more)) =
       ap (count_by (λ (d : Created). d.number == n)) later in
       of-coming (unsound-two_streams coming.streams own_back n coming.above above-coming
       (omega (
@@ -293,68 +304,79 @@ module _ (stream : Open) (done : List StreamParts) (names : List (List ℕ × St
 -- ---- any record that is refused
 
 others-behind : (n : ℕ) (rs : List Record) → AllByRecursion (λ r. n < stream_of r) rs → filter (is_mark_of n) rs ≡ []
-others-behind n rs above = marks-apart n rs (all_weaker (λ r. n < stream_of r) (λ r. stream_of r ≡ n → ⊥) (λ r lt same. absurd (omega (arith, lt, same))) rs above)
+others-behind n rs above = marks-apart n rs (all_weaker (λ r. n < stream_of r) (λ r. stream_of r ≡ n → ⊥)
+    (λ r lt same. absurd (omega (arith, lt, same))) rs above)
 
-module _ (stream : Open) (done : List StreamParts) (names : List (List ℕ × StreamId)) (front : List Found) (slot : ℕ) (back : List Found) (coming : AreComing stream done names front)
+module _ (stream : Open) (done : List StreamParts) (names : List (List ℕ × StreamId)) (front : List Found) (slot : ℕ) (back : List Found)
+    (coming : AreComing stream done names front)
     (known : AreKnown stream.part.landmarks) where
-  into : (r : Record) → stream_of r ≡ coming.head.number → IsAmid (records_of front) r (records_of back) → RefusesNext stream r →
-      IsLowestUnsound coming.head.number (records_of (front ++ record { slot = slot; holds = r } ∷ back))
+  into : (r : Record) → stream_of r ≡ coming.head.number → IsAmid (without_slots front) r (without_slots back) → RefusesNext stream r →
+      IsLowestUnsound coming.head.number (without_slots (front ++ record { slot = slot; holds = r } ∷ back))
   into r same amid refuses = go r same amid refuses
     where
-      at-least : (r : Record) → stream_of r ≡ coming.head.number → IsAmid (records_of front) r (records_of back) →
-          AllByRecursion (λ other. coming.head.number ≤ stream_of other) (r ∷ records_of back)
-      at-least r same amid =
-          (omega (arith, same), all_weaker (λ other. stream_of r ≤ stream_of other) (λ other. coming.head.number ≤ stream_of other) (λ other le. omega (arith, le, same)) (records_of back) amid.behind)
+      at-least : (r : Record) → stream_of r ≡ coming.head.number → IsAmid (without_slots front) r (without_slots back) →
+          AllByRecursion (λ other. coming.head.number ≤ stream_of other) (r ∷ without_slots back)
+      at-least r same amid = (
+        omega (arith, same),
+        all_weaker (λ other. stream_of r ≤ stream_of other) (λ other. coming.head.number ≤ stream_of other)
+            (λ other le. omega (arith, le, same)) (without_slots back) amid.behind,
+      )
 
-      go : (r : Record) → stream_of r ≡ coming.head.number → IsAmid (records_of front) r (records_of back) → RefusesNext stream r →
-          IsLowestUnsound coming.head.number (records_of (front ++ record { slot = slot; holds = r } ∷ back))
+      go : (r : Record) → stream_of r ≡ coming.head.number → IsAmid (without_slots front) r (without_slots back) → RefusesNext stream r →
+          IsLowestUnsound coming.head.number (without_slots (front ++ record { slot = slot; holds = r } ∷ back))
       go records.Free same amid refuses = absurd amid.usable
       go (records.Stream id name params) same amid refuses =
           let r = records.Stream id name params in
-          refused-twice stream done names front (record { slot = slot; holds = r } ∷ back) coming (at-least r same amid) name params (records_of back)
-          (ap (λ n. records.Stream n name params ∷ records_of back) same)
+          refused-twice stream done names front (record { slot = slot; holds = r } ∷ back) coming (at-least r same amid) name params (without_slots back)
+          (ap (λ n. records.Stream n name params ∷ without_slots back) same)
       go (records.Value id number index t v) same amid refuses =
           let r = records.Value id number index t v in
           let few = amid.usable.1 in
           let short = amid.usable.2 in
-          let none = no-windows stream done names front coming r (records_of back) amid same (omega (arith, few, short)) in
-          refused-mark stream done names front (record { slot = slot; holds = r } ∷ back) coming (at-least r same amid) r (records_of back) refl (eq-eqb id coming.head.number same)
+          let none = no-windows stream done names front coming r (without_slots back) amid same (omega (arith, few, short)) in
+          refused-mark stream done names front (record { slot = slot; holds = r } ∷ back) coming (at-least r same amid) r (without_slots back) refl
+          (eq-eqb id coming.head.number same)
           (cond-false (is_next_value coming.current.marked number index t) (Some (with_more coming.current.marked t v)) None
-          (next-add stream coming.current.marked number index t known.order (subst (PhaseAs stream coming.current.marked) none coming.current.phase) refuses))
+          (next-add stream coming.current.marked.before coming.current.marked.last coming.current.marked.said number index t known.order
+          (subst (PhaseAs stream coming.current.marked) none coming.current.phase) refuses))
       go (records.Landmark id number values start finish) same amid refuses =
           let r = records.Landmark id number values start finish in
           let few = amid.usable.1 in
-          let none = no-windows stream done names front coming r (records_of back) amid same (omega (arith, few)) in
+          let none = no-windows stream done names front coming r (without_slots back) amid same (omega (arith, few)) in
           let marking = subst (PhaseAs stream coming.current.marked) none coming.current.phase in
           let test : is_next_landmark coming.current.marked number start ≡ false = elim refuses [
-            | inl lacks ↦ next-whole coming.current.marked number start (lacks-whole stream coming.current.marked known.order marking lacks)
+            | inl lacks ↦ next-whole coming.current.marked number start
+                (lacks-whole stream coming.current.marked.before coming.current.marked.last coming.current.marked.said known.order marking lacks)
             | inr cannot ↦
                 next-begin cannot.0 coming.current.marked number start cannot.2.order
                 (phase-ended stream cannot.0 coming.current.marked coming.current.windows known.order coming.current.phase cannot.1) cannot.3
           ] in
-          refused-mark stream done names front (record { slot = slot; holds = r } ∷ back) coming (at-least r same amid) r (records_of back) refl (eq-eqb id coming.head.number same)
+          refused-mark stream done names front (record { slot = slot; holds = r } ∷ back) coming (at-least r same amid) r (without_slots back) refl
+          (eq-eqb id coming.head.number same)
           (cond-false (is_next_landmark coming.current.marked number start) (Some (with_next coming.current.marked values start finish)) None test)
       go (records.Window id first summary) same amid refuses =
           let r = records.Window id first summary in
           let m = coming.current.marked in
           let w : Window = record { first = first; summary = summary } in
           let x : Found = record { slot = slot; holds = r } in
-          let is : r ∷ records_of back ≡ window_record coming.head.number w ∷ records_of back = ap (λ n. records.Window n first summary ∷ records_of back) same in
+          let is : r ∷ without_slots back ≡ window_record coming.head.number w ∷ without_slots back =
+          ap (λ n. records.Window n first summary ∷ without_slots back) same in
           let least = at-least r same amid in
-          let places : AllByRecursion (λ other. stream_of other ≡ coming.head.number → 2 ^ 64 + first ≤ place_of other) (records_of back) =
-          all_weaker (λ other. stream_of other ≡ stream_of r → place_of r ≤ place_of other) (λ other. stream_of other ≡ coming.head.number → 2 ^ 64 + first ≤ place_of other)
-          (λ other le also. le (also ∙ sym same)) (records_of back) amid.places in
-          let none : filter (is_mark_of coming.head.number) (r ∷ records_of back) ≡ [] =
-          no-marks-behind coming.head.number first (records_of back) amid.rest places in
+          let places : AllByRecursion (λ other. stream_of other ≡ coming.head.number → 2 ^ 64 + first ≤ place_of other) (without_slots back) =
+          all_weaker (λ other. stream_of other ≡ stream_of r → place_of r ≤ place_of other)
+          (λ other. stream_of other ≡ coming.head.number → 2 ^ 64 + first ≤ place_of other)
+          (λ other le also. le (also ∙ sym same)) (without_slots back) amid.places in
+          let none : filter (is_mark_of coming.head.number) (r ∷ without_slots back) ≡ [] =
+          no-marks-behind coming.head.number first (without_slots back) amid.rest places in
           elim refuses [
             | inl lacks ↦ refused-lacks stream done names front (x ∷ back) coming least none known lacks
             | inr cannot ↦
                 let mid = cannot.0 in
                 let ended = phase-ended stream mid m coming.current.windows known.order coming.current.phase cannot.1 in
                 elim (cases_Bool (lies_free mid.part.landmarks.landmarks w)) [
-                  | inr covered ↦ refused-free stream done names front (x ∷ back) coming least mid w (records_of back) is none ended covered
+                  | inr covered ↦ refused-free stream done names front (x ∷ back) coming least mid w (without_slots back) is none ended covered
                   | inl free ↦
-                      refused-window stream done names front (x ∷ back) coming least w (records_of back) is
+                      refused-window stream done names front (x ∷ back) coming least w (without_slots back) is
                       (λ place after. cannot.2 (record {
                         in_turn = place ∙ sym (cannot.1.same.next ∙ coming.current.place);
                         after = subst (λ (o : Option ℕ). IsAfter o summary.t_first) (sym (cannot.1.same.newest ∙ coming.current.newest)) after;
@@ -365,19 +387,21 @@ module _ (stream : Open) (done : List StreamParts) (names : List (List ℕ × St
 
 -- the stream whose records came lacks values at its end
 pub lacks-at_end : (old : Walk) (n : ℕ) (front back : List Found) → Holds old front → CannotClose old n →
-    ((stream : Open) (coming : AreComing stream old.done.items old.names front) → stream.part.id.0 ≡ n → AllByRecursion (λ r. coming.head.number < stream_of r) (records_of back)) →
-    IsLowestUnsound n (records_of (front ++ back))
+    ((stream : Open) (coming : AreComing stream old.done.items old.names front) → stream.part.id.0 ≡ n →
+    AllByRecursion (λ r. coming.head.number < stream_of r) (without_slots back)) →
+    IsLowestUnsound n (without_slots (front ++ back))
 lacks-at_end old n front back holds cannot above =
     let coming : AreComing cannot.stream old.done.items old.names front = subst (λ o. HoldsAs o old.done.items old.names front) cannot.current holds in
     let others = above cannot.stream coming (sym cannot.number) in
     let same : coming.head.number ≡ n = sym coming.current.number ∙ sym cannot.number in
-    subst (λ k. IsLowestUnsound k (records_of (front ++ back))) same
+    subst (λ k. IsLowestUnsound k (without_slots (front ++ back))) same
     (refused-lacks cannot.stream old.done.items old.names front back coming
-    (all_weaker (λ r. coming.head.number < stream_of r) (λ r. coming.head.number ≤ stream_of r) (λ r lt. omega arith) (records_of back) others)
-    (others-behind coming.head.number (records_of back) others) cannot.known cannot.lacks)
+    (all_weaker (λ r. coming.head.number < stream_of r) (λ r. coming.head.number ≤ stream_of r) (λ r lt. omega arith) (without_slots back) others)
+    (others-behind coming.head.number (without_slots back) others) cannot.known cannot.lacks)
 
-refused-first : (mid : Walk) (slot : ℕ) (r : Record) (front back : List Found) → AreDone mid.done.items mid.names front (stream_of r) → IsAmid (records_of front) r (records_of back) →
-    RefusesFirst mid r → IsLowestUnsound (stream_of r) (records_of (front ++ record { slot = slot; holds = r } ∷ back))
+refused-first : (mid : Walk) (slot : ℕ) (r : Record) (front back : List Found) → AreDone mid.done.items mid.names front (stream_of r) →
+    IsAmid (without_slots front) r (without_slots back) →
+    RefusesFirst mid r → IsLowestUnsound (stream_of r) (without_slots (front ++ record { slot = slot; holds = r } ∷ back))
 refused-first mid slot records.Free front back held amid refuses = absurd amid.usable
 refused-first mid slot (records.Stream id name params) front back held amid refuses =
     let f : Found = record { slot = slot; holds = records.Stream id name params } in
@@ -390,27 +414,31 @@ refused-first mid slot (records.Window id first summary) front back held amid re
     refused-without_stream mid.done.items mid.names front (record { slot = slot; holds = records.Window id first summary }) back held amid (omega (arith, low))
 refused-first mid slot (records.Landmark id number values start finish) front back held amid refuses =
     let low = amid.usable.0 in
-    refused-without_stream mid.done.items mid.names front (record { slot = slot; holds = records.Landmark id number values start finish }) back held amid (omega (arith, low))
+    refused-without_stream mid.done.items mid.names front (record { slot = slot; holds = records.Landmark id number values start finish }) back held amid
+    (omega (arith, low))
 refused-first mid slot (records.Value id number index t v) front back held amid refuses =
     let low = amid.usable.0 in
-    refused-without_stream mid.done.items mid.names front (record { slot = slot; holds = records.Value id number index t v }) back held amid (omega (arith, low))
+    refused-without_stream mid.done.items mid.names front (record { slot = slot; holds = records.Value id number index t v }) back held amid
+    (omega (arith, low))
 
 refused-here : (mid : Walk) (slot : ℕ) (r : Record) (front back : List Found) → HoldsFor mid.current mid.done.items mid.names front (stream_of r) →
-    IsAmid (records_of front) r (records_of back) → RefusesHere mid r → IsLowestUnsound (stream_of r) (records_of (front ++ record { slot = slot; holds = r } ∷ back))
+    IsAmid (without_slots front) r (without_slots back) → RefusesHere mid r →
+    IsLowestUnsound (stream_of r) (without_slots (front ++ record { slot = slot; holds = r } ∷ back))
 refused-here mid slot r front back holds amid (inl first) =
     refused-first mid slot r front back (subst (λ o. HoldsFor o mid.done.items mid.names front (stream_of r)) first.0 holds) amid first.1
 refused-here mid slot r front back holds amid (inr next) =
     let its = subst (λ o. HoldsFor o mid.done.items mid.names front (stream_of r)) next.current holds in
     let coming = its.0 in
     let same : stream_of r ≡ coming.head.number = sym its.1 ∙ coming.current.number in
-    subst (λ n. IsLowestUnsound n (records_of (front ++ record { slot = slot; holds = r } ∷ back))) (sym same)
+    subst (λ n. IsLowestUnsound n (without_slots (front ++ record { slot = slot; holds = r } ∷ back))) (sym same)
     (into next.stream mid.done.items mid.names front slot back coming next.known r same amid next.refuses)
 
-open-other : (o : Option Open) (stream : Open) (n : ℕ) → o ≡ Some stream → is_open o n ≡ false → stream.part.id.0 ≡ n → ⊥
-open-other o stream n is other same = true≢false (sym (ap (λ q. is_open q n) is ∙ eq-eqb stream.part.id.0 n same) ∙ other)
+open-other : (o : Option Open) (stream : Open) (n : ℕ) → o ≡ Some stream → is_current o n ≡ false → stream.part.id.0 ≡ n → ⊥
+open-other o stream n is other same = true≢false (sym (ap (λ q. is_current q n) is ∙ eq-eqb stream.part.id.0 n same) ∙ other)
 
-pub refused : (old : Walk) (slot n : ℕ) (r : Record) (front back : List Found) → Holds old front → IsAmid (records_of front) r (records_of back) → Refuses old n r →
-    IsLowestUnsound n (records_of (front ++ record { slot = slot; holds = r } ∷ back))
+pub refused : (old : Walk) (slot n : ℕ) (r : Record) (front back : List Found) → Holds old front → IsAmid (without_slots front) r (without_slots back) →
+    Refuses old n r →
+    IsLowestUnsound n (without_slots (front ++ record { slot = slot; holds = r } ∷ back))
 refused old slot n r front back holds amid (inl ends) =
     let cannot = ends.1 in
     lacks-at_end old n front (record { slot = slot; holds = r } ∷ back) holds cannot
@@ -418,11 +446,14 @@ refused old slot n r front back holds amid (inl ends) =
     let le = coming-at_most stream old.done.items old.names front coming (stream_of r) amid.before in
     let differ : coming.head.number ≡ stream_of r → ⊥ =
     λ same. open-other old.current cannot.stream (stream_of r) cannot.current ends.0 (sym cannot.number ∙ sym is ∙ coming.current.number ∙ same) in
-    let lt : coming.head.number < stream_of r = not_same coming.head.number (stream_of r) le differ in
-    (lt, all_weaker (λ other. stream_of r ≤ stream_of other) (λ other. coming.head.number < stream_of other) (λ other le. omega (arith, le, lt)) (records_of back) amid.behind))
+    let lt : coming.head.number < stream_of r = not_same coming.head.number (stream_of r) le differ in (
+      lt,
+      all_weaker (λ other. stream_of r ≤ stream_of other) (λ other. coming.head.number < stream_of other) (λ other le. omega (arith, le, lt))
+          (without_slots back) amid.behind,
+    ))
   where
     not_same : (a b : ℕ) → a ≤ b → (a ≡ b → ⊥) → a < b
     not_same a b le ne = elim (cases_eq a b) [ inl same ↦ absurd (ne same) | inr other ↦ omega (arith, other, le) ]
 refused old slot n r front back holds amid (inr here) =
-    subst (λ m. IsLowestUnsound m (records_of (front ++ record { slot = slot; holds = r } ∷ back))) (sym here.0)
+    subst (λ m. IsLowestUnsound m (without_slots (front ++ record { slot = slot; holds = r } ∷ back))) (sym here.0)
     (refused-here here.1.0 slot r front back (left old here.1.0 (stream_of r) front amid.before holds here.1.1) amid here.1.2)

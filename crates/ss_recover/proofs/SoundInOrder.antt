@@ -1,8 +1,10 @@
 -- Records in order: those of lower numbers are sound, and why those of a number aren't.
-use Rattle.std.proofs.Common.{◌≡◌, ◌∙◌, ℕ, ◌+◌, ◌<◌, ◌≤◌, Bool, true, false, not, ◌&&◌, cond, List, [], ◌∷◌, ◌++◌, map, filter, length, refl, sym, ap, ap₂, subst, inl, inr, arith, append-nil}
+use Rattle.std.proofs.Common.{◌≡◌, ◌∙◌, ℕ, ◌+◌, ◌<◌, ◌≤◌, Bool, true, false, not, ◌&&◌, cond, List, [], ◌∷◌, ◌++◌, map, filter, length, refl, sym, ap}
+use Rattle.std.proofs.Common.{ap₂, subst, inl, inr, arith, append-nil}
 use Rattle.std.specs.Prelude.{◌==◌, nat_lt, count_by, sum_by}
 use Rattle.std.specs.List.{AllByRecursion, IsDistinct, filter_map, list_all, list_any}
-use Rattle.std.proofs.lemmas.Bool.{and_from, and_left, and_right, and_parts, cases_Bool, eq-eqb, eqb-true, ne_eqb, or_cases, or_from, or_left, or_right, ltb-true, lt-ltb, le-ltb, true≢false}
+use Rattle.std.proofs.lemmas.Bool.{and_from, and_left, and_right, and_parts, cases_Bool, eq-eqb, eqb-true, ne_eqb, or_cases, or_from, or_left, or_right}
+use Rattle.std.proofs.lemmas.Bool.{ltb-true, lt-ltb, le-ltb, true≢false, false_from_ne_true}
 use Rattle.std.proofs.lemmas.List.{length-map}
 use Rattle.std.proofs.lemmas.List.Elements.{filter-append, filter_map-append}
 use Rattle.std.proofs.lemmas.List.Folds.{list_any-append}
@@ -26,105 +28,22 @@ use Rattle.ss_recover.specs.Marked.{are_marks, landmarks_made}
 use Rattle.ss_recover.specs.Order.{place_of, stream_of}
 use Rattle.ss_recover.specs.Walk.{IsAfter, is_sound_in_order}
 use Rattle.ss_recover.proofs.InOrder.{Rise}
-use Rattle.ss_recover.proofs.Lists.{all_append, all_weaker}
-use Rattle.ss_recover.proofs.SoundStreams.{IsOnce-each, IsNew-each, tile-AreWindows, times_rise-AreWindows}
+use Rattle.ss_recover.proofs.Lists.{all_append, all_weaker, map-all, all-from_map}
+use Rattle.ss_recover.proofs.SoundStreams.{IsOnce-each, IsNew-each, tile-AreWindows, times_rise-AreWindows, MeetsAll, MeetsAll-and, and-MeetsAll, count-lower}
 use Rattle.ss_recover.proofs.Marks.{are_marks-marks_of, landmarks_made-marks_of, marks_of}
-use Rattle.ss_recover.proofs.StreamRecords.{created}
-use Rattle.ss_recover.proofs.WalkRecords.{HasOwn, HasOwn-each, all-all_walked, all_walked, created-all_walked, marks-others, windows-others}
+use Rattle.ss_recover.proofs.WalkRecords.{HasOwn, HasOwn-each, all-all_walked, all_walked, created-all_walked, marks-others, windows-others, created}
 
--- seven conditions, of which one isn't met
-module _ (a b c d e f g : Bool) where
-  from_6 : (a && b && c && d && e && f) ≡ false → (a && b && c && d && e && f && g) ≡ false
-  from_6 is = and_left (a && b && c && d && e && f) g is
-
-  from_5 : (a && b && c && d && e) ≡ false → (a && b && c && d && e && f && g) ≡ false
-  from_5 is = from_6 (and_left (a && b && c && d && e) f is)
-
-  from_4 : (a && b && c && d) ≡ false → (a && b && c && d && e && f && g) ≡ false
-  from_4 is = from_5 (and_left (a && b && c && d) e is)
-
-  from_3 : (a && b && c) ≡ false → (a && b && c && d && e && f && g) ≡ false
-  from_3 is = from_4 (and_left (a && b && c) d is)
-
-  from_2 : (a && b) ≡ false → (a && b && c && d && e && f && g) ≡ false
-  from_2 is = from_3 (and_left (a && b) c is)
-
-  fails-1 : a ≡ false → (a && b && c && d && e && f && g) ≡ false
-  fails-1 is = from_2 (and_left a b is)
-
-  fails-2 : b ≡ false → (a && b && c && d && e && f && g) ≡ false
-  fails-2 is = from_2 (and_right a b is)
-
-  fails-3 : c ≡ false → (a && b && c && d && e && f && g) ≡ false
-  fails-3 is = from_3 (and_right (a && b) c is)
-
-  fails-4 : d ≡ false → (a && b && c && d && e && f && g) ≡ false
-  fails-4 is = from_4 (and_right (a && b && c) d is)
-
-  fails-5 : e ≡ false → (a && b && c && d && e && f && g) ≡ false
-  fails-5 is = from_5 (and_right (a && b && c && d) e is)
-
-  fails-6 : f ≡ false → (a && b && c && d && e && f && g) ≡ false
-  fails-6 is = from_6 (and_right (a && b && c && d && e) f is)
-
-  fails-7 : g ≡ false → (a && b && c && d && e && f && g) ≡ false
-  fails-7 is = and_right (a && b && c && d && e && f) g is
-
-  sound-all : a ≡ true → b ≡ true → c ≡ true → d ≡ true → e ≡ true → f ≡ true → g ≡ true → (a && b && c && d && e && f && g) ≡ true
-  sound-all is_a is_b is_c is_d is_e is_f is_g =
-      and_from (a && b && c && d && e && f) g
-      (and_from (a && b && c && d && e) f (and_from (a && b && c && d) e (and_from (a && b && c) d (and_from (a && b) c (and_from a b is_a is_b) is_c) is_d) is_e) is_f) is_g
-
--- what each condition of a sound number makes of all
+-- one condition that isn't met
 module _ (rs : List Record) (n : ℕ) where
-  abbrev marks : List Record
-  marks = filter (is_mark_of n) rs
+  abbrev Meets : Type 0
+  Meets =
+      MeetsAll (has_one_record n (streams_created rs)) (has_place n (streams_created rs)) (has_new_name n (streams_created rs))
+      (tile (filter_map (window_of n) rs)) (times_rise (filter_map (window_of n) rs)) (are_marks (filter (is_mark_of n) rs))
+      (list_all (lies_free (landmarks_made (filter (is_mark_of n) rs))) (filter_map (window_of n) rs))
 
-  abbrev windows : List Window
-  windows = filter_map (window_of n) rs
-
-  -- the conditions, in their order
-  abbrev is_one : Bool
-  is_one = has_one_record n (streams_created rs)
-
-  abbrev is_placed : Bool
-  is_placed = has_place n (streams_created rs)
-
-  abbrev is_newly_named : Bool
-  is_newly_named = has_new_name n (streams_created rs)
-
-  abbrev are_tiles : Bool
-  are_tiles = tile windows
-
-  abbrev do_rise : Bool
-  do_rise = times_rise windows
-
-  abbrev are_marked : Bool
-  are_marked = are_marks marks
-
-  abbrev all_lie_free : Bool
-  all_lie_free = list_all (lies_free (landmarks_made marks)) windows
-
-  pub unsound-one : has_one_record n (streams_created rs) ≡ false → is_sound_in_order rs n ≡ false
-  unsound-one is = fails-1 is_one is_placed is_newly_named are_tiles do_rise are_marked all_lie_free is
-
-  pub unsound-place : has_place n (streams_created rs) ≡ false → is_sound_in_order rs n ≡ false
-  unsound-place is = fails-2 is_one is_placed is_newly_named are_tiles do_rise are_marked all_lie_free is
-
-  pub unsound-name : has_new_name n (streams_created rs) ≡ false → is_sound_in_order rs n ≡ false
-  unsound-name is = fails-3 is_one is_placed is_newly_named are_tiles do_rise are_marked all_lie_free is
-
-  pub unsound-tile : tile windows ≡ false → is_sound_in_order rs n ≡ false
-  unsound-tile is = fails-4 is_one is_placed is_newly_named are_tiles do_rise are_marked all_lie_free is
-
-  pub unsound-times : times_rise windows ≡ false → is_sound_in_order rs n ≡ false
-  unsound-times is = fails-5 is_one is_placed is_newly_named are_tiles do_rise are_marked all_lie_free is
-
-  pub unsound-marks : are_marks marks ≡ false → is_sound_in_order rs n ≡ false
-  unsound-marks is = fails-6 is_one is_placed is_newly_named are_tiles do_rise are_marked all_lie_free is
-
-  pub unsound-free : list_all (lies_free (landmarks_made marks)) windows ≡ false → is_sound_in_order rs n ≡ false
-  unsound-free is = fails-7 is_one is_placed is_newly_named are_tiles do_rise are_marked all_lie_free is
+  unsound : (b : Bool) → (Meets → b ≡ true) → b ≡ false → is_sound_in_order rs n ≡ false
+  unsound b condition is =
+      false_from_ne_true (is_sound_in_order rs n) (λ all. true≢false (sym (condition (MeetsAll-and _ _ _ _ _ _ _ all)) ∙ is))
 
 abbrev digit : Bool → ℕ
 digit b = cond b 1 0
@@ -147,20 +66,6 @@ count-lower-all m [] below = refl
 count-lower-all m (c ∷ cs) below =
     let all : nat_lt c.number m ≡ true = lt-ltb c.number m below.0 in
     omega (arith, sum_by-cons (λ (x : Created). cond (nat_lt x.number m) 1 0) c cs, ap digit all, count-lower-all m cs below.1)
-
--- of a number and of lower ones there aren't more than all
-count-both : (m : ℕ) (cs : List Created) → count_by (λ c. c.number == m) cs + count_by (λ c. nat_lt c.number m) cs ≤ length cs
-count-both m [] = omega arith
-count-both m (c ∷ cs) =
-    omega (arith, sum_by-cons (λ (x : Created). cond (x.number == m) 1 0) c cs, sum_by-cons (λ (x : Created). cond (nat_lt x.number m) 1 0) c cs, one c.number, count-both m cs)
-  where
-    one : (k : ℕ) → cond (k == m) 1 0 + cond (nat_lt k m) 1 0 ≤ 1
-    one k = elim (cases_Bool (k == m)) [
-      | inl same ↦
-          let equal = eqb-true k m same in
-          rw (same, le-ltb k m (omega (arith, equal))) (omega arith)
-      | inr other ↦ rw other (elim (cases_Bool (nat_lt k m)) [ inl less ↦ rw less (omega arith) | inr more ↦ rw more (omega arith) ])
-    ]
 
 -- a test that no element passes
 none-passes : {X : Type 0} (p : X → Bool) (xs : List X) → AllByRecursion (λ x. p x ≡ false) xs → list_any p xs ≡ false
@@ -192,14 +97,6 @@ marks-apart m (records.Window id first summary ∷ rs) apart = marks-apart m rs 
 marks-apart m (records.Landmark id number values start finish ∷ rs) apart = rw (ne_eqb id m apart.0) (marks-apart m rs apart.1)
 marks-apart m (records.Value id number index t v ∷ rs) apart = rw (ne_eqb id m apart.0) (marks-apart m rs apart.1)
 
-map-all : {X Y : Type 0} (P : Y → Type 0) (f : X → Y) (xs : List X) → AllByRecursion (λ x. P (f x)) xs → AllByRecursion P (map f xs)
-map-all P f [] all = tt
-map-all P f (x ∷ xs) all = (all.0, map-all P f xs all.1)
-
-all-from_map : {X Y : Type 0} (P : Y → Type 0) (f : X → Y) (xs : List X) → AllByRecursion P (map f xs) → AllByRecursion (λ x. P (f x)) xs
-all-from_map P f [] all = tt
-all-from_map P f (x ∷ xs) all = (all.0, all-from_map P f xs all.1)
-
 map-Rise : (ss : List Stream) → Rise (λ s. s.number) ss → Rise (λ c. c.number) (map created ss)
 map-Rise [] rise = tt
 map-Rise (s ∷ ss) rise = (map-all (λ c. s.number < c.number) created ss rise.0, map-Rise ss rise.1)
@@ -209,7 +106,8 @@ names-created [] = refl
 names-created (s ∷ ss) = ap (λ l. s.name ∷ l) (names-created ss)
 
 -- records of the number that have places after the first create no stream of it
-no-stream : (n : ℕ) (rs : List Record) → AllByRecursion (λ r. stream_of r ≡ n → 1 ≤ place_of r) rs → AllByRecursion (λ c. c.number ≡ n → ⊥) (filter_map created_by rs)
+no-stream : (n : ℕ) (rs : List Record) → AllByRecursion (λ r. stream_of r ≡ n → 1 ≤ place_of r) rs →
+    AllByRecursion (λ c. c.number ≡ n → ⊥) (filter_map created_by rs)
 no-stream n [] all = tt
 no-stream n (records.Free ∷ rs) all = no-stream n rs all.1
 no-stream n (records.Stream id name params ∷ rs) all = ((λ same. let first = all.0 same in absurd (omega arith)), no-stream n rs all.1)
@@ -240,7 +138,8 @@ times-next (v ∷ []) w rest rise = ltb-true v.summary.t_last w.summary.t_first 
 times-next (v ∷ u ∷ us) w rest rise = times-next (u ∷ us) w rest (and_parts (nat_lt v.summary.t_last u.summary.t_first) _ rise).1
 
 -- Streams of numbers below n, and records after them of numbers from n on.
-module _ (ss : List Stream) (back : List Record) (n : ℕ) (below : AllByRecursion (λ s. s.number < n) ss) (above : AllByRecursion (λ r. n ≤ stream_of r) back) where
+module _ (ss : List Stream) (back : List Record) (n : ℕ) (below : AllByRecursion (λ s. s.number < n) ss)
+    (above : AllByRecursion (λ r. n ≤ stream_of r) back) where
   abbrev all : List Record
   all = all_walked ss ++ back
 
@@ -277,41 +176,57 @@ module _ (ss : List Stream) (back : List Record) (n : ℕ) (below : AllByRecursi
       (λ o le. let low = low.0 in and_left _ _ (le-ltb o.number u.number (omega arith))) later later-above)) in
       or_from _ _ (and_right (u.number == m) _ here) (none-named m lt us low.1 new.1)
 
-  one-below : (m : ℕ) → m < n → sum_by (λ (c : Created). cond (c.number == m) 1 0) cs ≡ 1 → length ss ≤ MOST_STREAMS → AllByRecursion (λ c. is_named_before cs c ≡ false) cs →
+  one-below : (m : ℕ) → m < n → sum_by (λ (c : Created). cond (c.number == m) 1 0) cs ≡ 1 → length ss ≤ MOST_STREAMS →
+      AllByRecursion (λ c. is_named_before cs c ≡ false) cs →
       (ws : List Window) (ls : List Landmark) → filter_map (window_of m) (all_walked ss) ≡ ws → tile ws ≡ true → times_rise ws ≡ true →
       filter (is_mark_of m) (all_walked ss) ≡ marks_of m 1 ls → AreLandmarks ls → list_all (lies_free ls) ws ≡ true → is_sound_in_order all m ≡ true
   one-below m lt once few new ws ls windows tiles rise marks order free =
-      let apart : AllByRecursion (λ c. c.number ≡ m → ⊥) later = all_weaker (λ c. n ≤ c.number) (λ c. c.number ≡ m → ⊥) (λ c le same. absurd (omega arith)) later later-above in
+      let apart : AllByRecursion (λ c. c.number ≡ m → ⊥) later = all_weaker (λ c. n ≤ c.number) (λ c. c.number ≡ m → ⊥)
+      (λ c le same. absurd (omega arith)) later later-above in
       let others = all_weaker (λ r. n ≤ stream_of r) (λ r. stream_of r ≡ m → ⊥) (λ r le same. absurd (omega arith)) back above in
       let marks' : filter (is_mark_of m) all ≡ marks_of m 1 ls = marks-all m ∙ ap₂ ◌++◌ marks (marks-apart m back others) ∙ append-nil (marks_of m 1 ls) in
       let higher : AllByRecursion (λ c. m ≤ c.number) later = all_weaker (λ c. n ≤ c.number) (λ c. m ≤ c.number) (λ c le. omega arith) later later-above in
       let count : count_by (λ c. c.number == m) (cs ++ later) ≡ 1 =
       omega (arith, sum_by-append (λ (c : Created). cond (c.number == m) 1 0) cs later, count-apart m later apart, once) in
       let lower : count_by (λ c. nat_lt c.number m) (cs ++ later) < MOST_STREAMS =
-      omega (arith, sum_by-append (λ (c : Created). cond (nat_lt c.number m) 1 0) cs later, count-lower-none m later higher, once, count-both m cs, length-map ss created, few) in
+      omega (
+        arith,
+        sum_by-append (λ (c : Created). cond (nat_lt c.number m) 1 0) cs later,
+        count-lower-none m later higher,
+        once,
+        count-lower m cs,
+        length-map ss created,
+        few,
+      ) in
       let names : list_any (λ c. c.number == m && is_named_before (cs ++ later) c) (cs ++ later) ≡ false =
       list_any-append (λ (c : Created). c.number == m && is_named_before (cs ++ later) c) cs later
       ∙ or_from _ _ (none-named m lt cs cs-below new)
       (none-passes (λ (c : Created). c.number == m && is_named_before (cs ++ later) c) later
-      (all_weaker (λ c. c.number ≡ m → ⊥) (λ c. (c.number == m && is_named_before (cs ++ later) c) ≡ false) (λ c no. and_left _ _ (ne_eqb c.number m no)) later apart)) in
+      (all_weaker (λ c. c.number ≡ m → ⊥) (λ c. (c.number == m && is_named_before (cs ++ later) c) ≡ false)
+      (λ c no. and_left _ _ (ne_eqb c.number m no)) later apart)) in
       let windows' : filter_map (window_of m) all ≡ ws =
       windows-all m ∙ ap₂ ◌++◌ windows (windows-apart m back others) ∙ append-nil ws in
-      sound-all _ _ _ _ _ _ _
-      (ap (has_one_record m) created-all ∙ eq-eqb _ _ count)
-      (ap (has_place m) created-all ∙ lt-ltb _ _ lower)
-      (ap (has_new_name m) created-all ∙ ap not names)
-      (ap tile windows' ∙ tiles)
-      (ap times_rise windows' ∙ rise)
-      (ap are_marks marks' ∙ are_marks-marks_of m ls order)
-      (ap₂ (λ rs us. list_all (lies_free (landmarks_made rs)) us) marks' windows' ∙ ap (λ made. list_all (lies_free made) ws) (landmarks_made-marks_of m ls order) ∙ free)
+      and-MeetsAll _ _ _ _ _ _ _ (record {
+        one = ap (has_one_record m) created-all ∙ eq-eqb _ _ count;
+        place = ap (has_place m) created-all ∙ lt-ltb _ _ lower;
+        new = ap (has_new_name m) created-all ∙ ap not names;
+        tiles = ap tile windows' ∙ tiles;
+        rising = ap times_rise windows' ∙ rise;
+        marks = ap are_marks marks' ∙ are_marks-marks_of m ls order;
+        free =
+            ap₂ (λ rs us. list_all (lies_free (landmarks_made rs)) us) marks' windows'
+            ∙ ap (λ made. list_all (lies_free made) ws) (landmarks_made-marks_of m ls order) ∙ free;
+      })
 
   -- the first streams are sound
-  sounds : (us : List Stream) → AllByRecursion (λ s. s.number < n) us → AllByRecursion (λ s. sum_by (λ (c : Created). cond (c.number == s.number) 1 0) cs ≡ 1) us →
+  sounds : (us : List Stream) → AllByRecursion (λ s. s.number < n) us →
+      AllByRecursion (λ s. sum_by (λ (c : Created). cond (c.number == s.number) 1 0) cs ≡ 1) us →
       AllByRecursion (HasOwn ss) us → AllByRecursion IsStream us →
       length ss ≤ MOST_STREAMS → AllByRecursion (λ c. is_named_before cs c ≡ false) cs → AllByRecursion (λ s. is_sound_in_order all s.number ≡ true) us
   sounds [] low once own streams few new = tt
   sounds (u ∷ us) low once own streams few new = (
-    one-below u.number low.0 once.0 few new u.windows u.landmarks own.0.windows (tile-AreWindows u.windows streams.0.windows) (times_rise-AreWindows u.windows streams.0.windows)
+    one-below u.number low.0 once.0 few new u.windows u.landmarks own.0.windows (tile-AreWindows u.windows streams.0.windows)
+        (times_rise-AreWindows u.windows streams.0.windows)
         own.0.marks streams.0.landmarks streams.0.free,
     sounds us low.1 once.1 own.1 streams.1 few new,
   )
@@ -324,7 +239,8 @@ module _ (ss : List Stream) (back : List Record) (n : ℕ) (below : AllByRecursi
       let each = sounds ss below (all-from_map (λ c. sum_by (λ (o : Created). cond (o.number == c.number) 1 0) cs ≡ 1) created ss (IsOnce-each cs rise_cs))
       (HasOwn-each ss rise) streams few (IsNew-each cs rise_cs names) in
       all_append (λ r. stream_of r < n → is_sound_in_order all (stream_of r) ≡ true) (all_walked ss) back
-      (all-all_walked (λ k. k < n → is_sound_in_order all k ≡ true) ss (all_weaker (λ s. is_sound_in_order all s.number ≡ true) (λ s. s.number < n → is_sound_in_order all s.number ≡ true) (λ s is _. is) ss each))
+      (all-all_walked (λ k. k < n → is_sound_in_order all k ≡ true) ss
+      (all_weaker (λ s. is_sound_in_order all s.number ≡ true) (λ s. s.number < n → is_sound_in_order all s.number ≡ true) (λ s is _. is) ss each))
       (all_weaker (λ r. n ≤ stream_of r) (λ r. stream_of r < n → is_sound_in_order all (stream_of r) ≡ true) (λ r le lt. absurd (omega arith)) back above)
 
   cs-apart : AllByRecursion (λ c. c.number ≡ n → ⊥) cs
@@ -338,20 +254,29 @@ module _ (ss : List Stream) (back : List Record) (n : ℕ) (below : AllByRecursi
   -- no stream has the number
   pub unsound-without_stream : AllByRecursion (λ r. stream_of r ≡ n → 1 ≤ place_of r) back → is_sound_in_order all n ≡ false
   unsound-without_stream behind =
-      unsound-one all n (ne_eqb (count_by (λ c. c.number == n) (streams_created all)) 1 (λ e. absurd (omega (arith, e, count-all, count-apart n later (no-stream n back behind)))))
+      unsound all n _ (λ m. m.one) (ne_eqb (count_by (λ c. c.number == n) (streams_created all)) 1
+      (λ e. absurd (omega (arith, e, count-all, count-apart n later (no-stream n back behind)))))
 
   -- two streams have the number
   pub unsound-two_streams : 2 ≤ count_by (λ c. c.number == n) later → is_sound_in_order all n ≡ false
-  unsound-two_streams two = unsound-one all n (ne_eqb (count_by (λ c. c.number == n) (streams_created all)) 1 (λ e. absurd (omega (arith, e, count-all, two))))
+  unsound-two_streams two = unsound all n _ (λ m. m.one) (ne_eqb (count_by (λ c. c.number == n) (streams_created all)) 1
+      (λ e. absurd (omega (arith, e, count-all, two))))
 
   -- as many streams stand as can
   pub unsound-full : length ss ≡ MOST_STREAMS → is_sound_in_order all n ≡ false
   unsound-full full =
-      unsound-place all n (ap (has_place n) created-all
-      ∙ le-ltb _ MOST_STREAMS (omega (arith, full, sum_by-append (λ (c : Created). cond (nat_lt c.number n) 1 0) cs later, count-lower-all n cs cs-below, length-map ss created)))
+      unsound all n _ (λ m. m.place) (ap (has_place n) created-all
+      ∙ le-ltb _ MOST_STREAMS (omega (
+        arith,
+        full,
+        sum_by-append (λ (c : Created). cond (nat_lt c.number n) 1 0) cs later,
+        count-lower-all n cs cs-below,
+        length-map ss created,
+      )))
 
   -- the name is taken
-  pub unsound-named : (name : List ℕ) (params : Params) (rest : List Record) → back ≡ records.Stream n name params ∷ rest → list_any (same_name name) (names_of ss) ≡ true →
+  pub unsound-named : (name : List ℕ) (params : Params) (rest : List Record) → back ≡ records.Stream n name params ∷ rest →
+      list_any (same_name name) (names_of ss) ≡ true →
       is_sound_in_order all n ≡ false
   unsound-named name params rest is taken =
       let c : Created = record { number = n; name = name; params = params } in
@@ -363,7 +288,7 @@ module _ (ss : List Stream) (back : List Record) (n : ℕ) (below : AllByRecursi
       list_any-append (λ (o : Created). o.number == n && is_named_before (cs ++ later) o) cs later
       ∙ or_right _ _ (ap (list_any (λ (o : Created). o.number == n && is_named_before (cs ++ later) o)) later'
       ∙ or_left _ _ (and_from (n == n) _ (eq-eqb n n refl) named)) in
-      unsound-name all n (ap (has_new_name n) created-all ∙ ap not any)
+      unsound all n _ (λ m. m.new) (ap (has_new_name n) created-all ∙ ap not any)
 
   apart-below : AllByRecursion (λ s. s.number ≡ n → ⊥) ss
   apart-below = all_weaker (λ s. s.number < n) (λ s. s.number ≡ n → ⊥) (λ s lt same. absurd (omega arith)) ss below
@@ -376,11 +301,12 @@ module _ (ss : List Stream) (back : List Record) (n : ℕ) (below : AllByRecursi
 
   -- the records of landmarks and values aren't those of landmarks
   pub unsound-back_marks : are_marks (filter (is_mark_of n) back) ≡ false → is_sound_in_order all n ≡ false
-  unsound-back_marks fails = unsound-marks all n (ap are_marks marks-back ∙ fails)
+  unsound-back_marks fails = unsound all n _ (λ m. m.marks) (ap are_marks marks-back ∙ fails)
 
   -- a window doesn't lie free
-  pub unsound-back_free : list_all (lies_free (landmarks_made (filter (is_mark_of n) back))) (filter_map (window_of n) back) ≡ false → is_sound_in_order all n ≡ false
-  unsound-back_free fails = unsound-free all n (ap₂ (λ rs us. list_all (lies_free (landmarks_made rs)) us) marks-back windows-back ∙ fails)
+  pub unsound-back_free : list_all (lies_free (landmarks_made (filter (is_mark_of n) back))) (filter_map (window_of n) back) ≡ false →
+      is_sound_in_order all n ≡ false
+  unsound-back_free fails = unsound all n _ (λ m. m.free) (ap₂ (λ rs us. list_all (lies_free (landmarks_made rs)) us) marks-back windows-back ∙ fails)
 
   -- a window isn't the next one
   pub unsound-window : (ws : List Window) (w : Window) (rest : List Window) → filter_map (window_of n) back ≡ ws ++ w ∷ rest →
@@ -390,7 +316,7 @@ module _ (ss : List Stream) (back : List Record) (n : ℕ) (below : AllByRecursi
       elim (cases_Bool (tile (ws ++ w ∷ rest))) [
         | inl tiles ↦ elim (cases_Bool (times_rise (ws ++ w ∷ rest))) [
           | inl rise ↦ absurd (refused (omega (arith, tile-next 1 ws w rest (and_parts _ _ tiles).0)) (times-next ws w rest rise))
-          | inr falls ↦ unsound-times all n (ap times_rise have ∙ falls)
+          | inr falls ↦ unsound all n _ (λ m. m.rising) (ap times_rise have ∙ falls)
         ]
-        | inr fails ↦ unsound-tile all n (ap tile have ∙ fails)
+        | inr fails ↦ unsound all n _ (λ m. m.tiles) (ap tile have ∙ fails)
       ]

@@ -1,8 +1,8 @@
 -- The streams of a state meet the conditions that records have to meet.
-use Rattle.std.proofs.Common.{◌≡◌, ℕ, ◌+◌, ◌<◌, ◌≤◌, true, false, not, ◌&&◌, cond, List, [], ◌∷◌, length, map, refl, sym, ap, ◌∙◌, arith, IsPermutation}
+use Rattle.std.proofs.Common.{◌≡◌, ℕ, ◌+◌, ◌<◌, ◌≤◌, true, false, not, ◌&&◌, cond, List, [], ◌∷◌, length, map, refl, sym, ap, ◌∙◌, arith, IsPermutation, Bool}
 use Rattle.std.specs.Prelude.{◌==◌, nat_le, nat_lt, sum_by}
 use Rattle.std.specs.List.{AllByRecursion, IsDistinct, list_any}
-use Rattle.std.proofs.lemmas.Bool.{and_from, or_from}
+use Rattle.std.proofs.lemmas.Bool.{and_from, or_from, and_parts}
 use Rattle.std.proofs.lemmas.Bool.Decides.{nat_tests}
 use Rattle.std.proofs.lemmas.List.Sorted.{list_any-IsPermutation, sum_by-IsPermutation}
 use Rattle.std.proofs.lemmas.List.Sums.{sum_by-cons}
@@ -58,7 +58,7 @@ IsOnce-each (s ∷ ss) rise =
 at-lower : (number : ℕ) (s : Created) → at number s + lower number s ≤ 1
 at-lower number s = grind (arith, nat_tests)
 
-count-lower : (number : ℕ) (ss : List Created) → sum_by (at number) ss + sum_by (lower number) ss ≤ length ss
+pub count-lower : (number : ℕ) (ss : List Created) → sum_by (at number) ss + sum_by (lower number) ss ≤ length ss
 count-lower number [] = omega arith
 count-lower number (s ∷ ss) =
     omega (arith, sum_by-cons (at number) s ss, sum_by-cons (lower number) s ss, at-lower number s, count-lower number ss)
@@ -177,3 +177,31 @@ Rise-StandFrom first time (w ∷ ws) stand =
 
 pub Rise-AreWindows : (ws : List Window) → AreWindows ws → Rise (λ w. w.first) ws
 Rise-AreWindows ws are = Rise-StandFrom 1 0 ws are.stand
+
+-- the conditions of a sound number, one by one
+pub record MeetsAll (a b c d e f g : Bool) : Type 0 where
+  pub one : a ≡ true
+  pub place : b ≡ true
+  pub new : c ≡ true
+  pub tiles : d ≡ true
+  pub rising : e ≡ true
+  pub marks : f ≡ true
+  pub free : g ≡ true
+
+pub MeetsAll-and : (a b c d e f g : Bool) → (a && b && c && d && e && f && g) ≡ true → MeetsAll a b c d e f g
+MeetsAll-and a b c d e f g all =
+    let seventh = and_parts (a && b && c && d && e && f) g all in
+    let sixth = and_parts (a && b && c && d && e) f seventh.0 in
+    let fifth = and_parts (a && b && c && d) e sixth.0 in
+    let fourth = and_parts (a && b && c) d fifth.0 in
+    let third = and_parts (a && b) c fourth.0 in
+    let second = and_parts a b third.0 in
+    record { one = second.0; place = second.1; new = third.1; tiles = fourth.1; rising = fifth.1; marks = sixth.1; free = seventh.1 }
+
+pub and-MeetsAll : (a b c d e f g : Bool) → MeetsAll a b c d e f g → (a && b && c && d && e && f && g) ≡ true
+and-MeetsAll a b c d e f g all =
+    let two = and_from a b all.one all.place in
+    let three = and_from (a && b) c two all.new in
+    let four = and_from (a && b && c) d three all.tiles in
+    let five = and_from (a && b && c && d) e four all.rising in
+    and_from (a && b && c && d && e && f) g (and_from (a && b && c && d && e) f five all.marks) all.free

@@ -1,8 +1,10 @@
 -- Which numbers are sound doesn't hang on the order of the records.
-use Rattle.std.proofs.Common.{◌≡◌, ◌⊎◌, ◌∙◌, ℕ, ◌+◌, ◌*◌, ◌^◌, ◌<◌, ◌≤◌, Bool, true, false, not, ◌&&◌, cond, leb, List, [], ◌∷◌, filter, fold, min, Option, Some, None, refl, sym, ap, ap₂, inl, inr, arith, IsPermutation}
+use Rattle.std.proofs.Common.{◌≡◌, ◌⊎◌, ◌∙◌, ℕ, ◌+◌, ◌*◌, ◌^◌, ◌<◌, ◌≤◌, Bool, true, false, not, ◌&&◌, cond, leb, List, [], ◌∷◌, filter, fold, min}
+use Rattle.std.proofs.Common.{Option, Some, None, refl, sym, ap, ap₂, inl, inr, arith, IsPermutation}
 use Rattle.std.specs.Prelude.{◌==◌, nat_lt}
 use Rattle.std.specs.List.{AllByRecursion, cons_option, filter_map, list_all, list_any}
-use Rattle.std.proofs.lemmas.Bool.{cases_Bool, cases_lt, cond-true, cond-false, cond_both, eq-eqb, eqb-true, leb-true, leb-false, le-leb, lt-leb, or_cases, or_left, or_right, true≢false}
+use Rattle.std.proofs.lemmas.Bool.{cases_Bool, cases_lt, cond-true, cond-false, cond_both, eq-eqb, eqb-true, leb-true, leb-false, le-leb, lt-leb}
+use Rattle.std.proofs.lemmas.Bool.{or_cases, or_left, or_right, true≢false}
 use Rattle.std.proofs.lemmas.List.Elements.{All-from_recursion, recursion_from_All}
 use Rattle.std.proofs.lemmas.List.Sorted.{All-permutation, IsPermutation-sym, list_any-IsPermutation, sum_by-IsPermutation}
 use Rattle.ss_catalog.specs.Names.{same_name}
@@ -11,26 +13,28 @@ use Rattle.ss_codec.specs.declared.record.Record.TheVariants as records
 use Rattle.ss_model.specs.Marks.{lies_free}
 use Rattle.ss_model.specs.State.{Created}
 use Rattle.ss_model.specs.declared.types.Window.{Window}
-use Rattle.ss_recover.specs.Carried.{created_by, in_order, is_mark_of, marks_carried, number_of, put_in_order, streams_created, window_of, windows_carried}
+use Rattle.ss_recover.specs.Carried.{created_by, in_order, is_mark_of, marks_carried, stream_number, put_in_order, streams_created, window_of, windows_carried}
 use Rattle.ss_recover.specs.Conditions.{has_new_name, has_one_record, has_place, is_named_before, is_sound, tile, times_rise}
 use Rattle.ss_recover.specs.Marked.{are_marks, landmarks_made}
 use Rattle.ss_recover.specs.Order.{Rises, key_of, place_of, stream_of}
-use Rattle.ss_recover.specs.Parts.{least, lowest_bad_stream}
+use Rattle.ss_recover.specs.Parts.{lowest_in, lowest_bad_stream}
 use Rattle.ss_recover.specs.Walk.{IsLowestUnsound, IsUsable, is_sound_in_order}
-use Rattle.ss_recover.proofs.InOrder.{IsPermutation-in_order}
+use Rattle.ss_recover.proofs.InOrder.{IsPermutation-in_order, Rises-in_order}
 use Rattle.ss_catalog.specs.declared.TheConstants.{MOST_STREAMS}
 use Rattle.ss_recover.proofs.Lists.{all_weaker, filter_map-kept, kept}
 use Rattle.ss_recover.proofs.Permutations.{IsPermutation-filter_map}
-use Rattle.ss_recover.proofs.OrderLemmas.{Rises-in_order, put-less, put-more}
+use Rattle.ss_recover.proofs.OrderLemmas.{put-less, put-more}
 
 -- elements that give something are put in order as what they give is
 module _ {X Y : Type 0} (key : X → ℕ) (key' : Y → ℕ) (h : X → Option Y)
     (same : (x y : X) (z w : Y) → h x ≡ Some z → h y ≡ Some w → leb (key x) (key y) ≡ leb (key' z) (key' w)) where
-  first-put : (x : X) (z : Y) → h x ≡ Some z → (us : List X) → AllByRecursion (λ u. key x ≤ key u) us → put_in_order key' z (filter_map h us) ≡ z ∷ filter_map h us
+  first-put : (x : X) (z : Y) → h x ≡ Some z → (us : List X) → AllByRecursion (λ u. key x ≤ key u) us →
+      put_in_order key' z (filter_map h us) ≡ z ∷ filter_map h us
   first-put x z is [] above = refl
   first-put x z is (u ∷ us) above = go (h u) refl (first-put x z is us above.1)
     where
-      go : (o : Option Y) → h u ≡ o → put_in_order key' z (filter_map h us) ≡ z ∷ filter_map h us → put_in_order key' z (cons_option o (filter_map h us)) ≡ z ∷ cons_option o (filter_map h us)
+      go : (o : Option Y) → h u ≡ o → put_in_order key' z (filter_map h us) ≡ z ∷ filter_map h us →
+          put_in_order key' z (cons_option o (filter_map h us)) ≡ z ∷ cons_option o (filter_map h us)
       go None none rest = rest
       go (Some w) some rest = cond-true _ _ _ (sym (same x u z w is some) ∙ le-leb (key x) (key u) above.0)
 
@@ -55,7 +59,8 @@ module _ {X Y : Type 0} (key : X → ℕ) (key' : Y → ℕ) (h : X → Option Y
       weaken [] le all = tt
       weaken (u ∷ us) le all = let first = all.0 in (omega arith, weaken us le all.1)
 
-      go : leb (key x) (key y) ≡ false → (o : Option Y) → h y ≡ o → cons_option o (put_in_order key' z (filter_map h ys)) ≡ put_in_order key' z (cons_option o (filter_map h ys))
+      go : leb (key x) (key y) ≡ false → (o : Option Y) → h y ≡ o → cons_option o (put_in_order key' z (filter_map h ys))
+          ≡ put_in_order key' z (cons_option o (filter_map h ys))
       go more None none = refl
       go more (Some w) some = sym (cond-false _ _ _ (sym (same x y z w is some) ∙ more))
 
@@ -113,7 +118,8 @@ kept-is p r z is = elim (cases_Bool (p r)) [
   | inr fails ↦ let none : None ≡ Some z = sym (cond-false (p r) _ _ fails) ∙ is in cc
 ]
 
-mark-order : (n : ℕ) (x y z w : Record) → kept (is_mark_of n) x ≡ Some z → kept (is_mark_of n) y ≡ Some w → leb (key_of x) (key_of y) ≡ leb (place_of z) (place_of w)
+mark-order : (n : ℕ) (x y z w : Record) → kept (is_mark_of n) x ≡ Some z → kept (is_mark_of n) y ≡ Some w →
+    leb (key_of x) (key_of y) ≡ leb (place_of z) (place_of w)
 mark-order n x y z w is also =
     let first = kept-is (is_mark_of n) x z is in
     let second = kept-is (is_mark_of n) y w also in
@@ -135,7 +141,8 @@ is_sound-in_order rs n =
     let one : has_one_record n (streams_created rs) ≡ has_one_record n (streams_created qs) =
     ap (λ (k : ℕ). k == 1) (sym (sum_by-IsPermutation (λ (c : Created). cond (c.number == n) 1 0) (streams_created rs) (streams_created qs) moved)) in
     let place : has_place n (streams_created rs) ≡ has_place n (streams_created qs) =
-    ap (λ (k : ℕ). nat_lt k MOST_STREAMS) (sym (sum_by-IsPermutation (λ (c : Created). cond (nat_lt c.number n) 1 0) (streams_created rs) (streams_created qs) moved)) in
+    ap (λ (k : ℕ). nat_lt k MOST_STREAMS) (sym (sum_by-IsPermutation (λ (c : Created). cond (nat_lt c.number n) 1 0) (streams_created rs)
+    (streams_created qs) moved)) in
     let named : (s : Created) → is_named_before (streams_created rs) s ≡ is_named_before (streams_created qs) s =
     λ s. list_any-IsPermutation (λ (o : Created). nat_lt o.number s.number && same_name o.name s.name) (streams_created rs) (streams_created qs) moved in
     let new : has_new_name n (streams_created rs) ≡ has_new_name n (streams_created qs) =
@@ -158,13 +165,20 @@ fold-least n a (x ∷ xs) le all (inr has) =
       | inr there ↦ fold-least n (min a x) xs (omega arith) all.1 (inr there)
     ]
 
-least-is : (n : ℕ) (xs : List ℕ) → AllByRecursion (λ x. n ≤ x) xs → list_any (λ x. x == n) xs ≡ true → least xs ≡ Some n
+least-is : (n : ℕ) (xs : List ℕ) → AllByRecursion (λ x. n ≤ x) xs → list_any (λ x. x == n) xs ≡ true → lowest_in xs ≡ Some n
 least-is n [] all has = absurd (true≢false (sym has))
 least-is n (x ∷ xs) all has = ap Some (fold-least n x xs all.0 all.1 (go (or_cases (x == n) (list_any (λ y. y == n) xs) has)))
   where
     go : ((x == n) ≡ true) ⊎ (list_any (λ y. y == n) xs ≡ true) → (x ≡ n) ⊎ (list_any (λ y. y == n) xs ≡ true)
     go (inl here) = inl (eqb-true x n here)
     go (inr there) = inr there
+
+number-usable : (r : Record) → IsUsable r → stream_number r ≡ Some (stream_of r)
+number-usable records.Free usable = absurd usable
+number-usable (records.Stream id name params) usable = refl
+number-usable (records.Window id first summary) usable = refl
+number-usable (records.Landmark id number values start finish) usable = refl
+number-usable (records.Value id number index t v) usable = refl
 
 module _ (sound : ℕ → Bool) (n : ℕ) where
   abbrev bad : List ℕ → List ℕ
@@ -184,37 +198,20 @@ module _ (sound : ℕ → Bool) (n : ℕ) where
       not-less : not (sound m) ≡ true → n ≤ m
       not-less fails = elim (cases_lt m n) [ inl lt ↦ absurd (true≢false (sym fails ∙ ap not (fine lt))) | inr le ↦ le ]
 
-  numbers-has : sound n ≡ false → (us : List Record) → AllByRecursion IsUsable us → list_any (λ r. stream_of r == n) us ≡ true → list_any (λ k. k == n) (bad (filter_map number_of us)) ≡ true
+  numbers-has : sound n ≡ false → (us : List Record) → AllByRecursion IsUsable us → list_any (λ r. stream_of r == n) us ≡ true →
+      list_any (λ k. k == n) (bad (filter_map stream_number us)) ≡ true
   numbers-has fails [] usable has = absurd (true≢false (sym has))
-  numbers-has fails (records.Free ∷ us) usable has = absurd usable.0
-  numbers-has fails (records.Stream id name params ∷ us) usable has =
-      elim (or_cases (id == n) (list_any (λ r. stream_of r == n) us) has) [
-        | inl here ↦ bad-has fails id (filter_map number_of us) (inl (eqb-true id n here))
-        | inr there ↦ bad-has fails id (filter_map number_of us) (inr (numbers-has fails us usable.1 there))
-      ]
-  numbers-has fails (records.Window id first summary ∷ us) usable has =
-      elim (or_cases (id == n) (list_any (λ r. stream_of r == n) us) has) [
-        | inl here ↦ bad-has fails id (filter_map number_of us) (inl (eqb-true id n here))
-        | inr there ↦ bad-has fails id (filter_map number_of us) (inr (numbers-has fails us usable.1 there))
-      ]
-  numbers-has fails (records.Landmark id number values start finish ∷ us) usable has =
-      elim (or_cases (id == n) (list_any (λ r. stream_of r == n) us) has) [
-        | inl here ↦ bad-has fails id (filter_map number_of us) (inl (eqb-true id n here))
-        | inr there ↦ bad-has fails id (filter_map number_of us) (inr (numbers-has fails us usable.1 there))
-      ]
-  numbers-has fails (records.Value id number index t v ∷ us) usable has =
-      elim (or_cases (id == n) (list_any (λ r. stream_of r == n) us) has) [
-        | inl here ↦ bad-has fails id (filter_map number_of us) (inl (eqb-true id n here))
-        | inr there ↦ bad-has fails id (filter_map number_of us) (inr (numbers-has fails us usable.1 there))
-      ]
+  numbers-has fails (r ∷ us) usable has =
+      rw (number-usable r usable.0) (elim (or_cases (stream_of r == n) (list_any (λ q. stream_of q == n) us) has) [
+        | inl here ↦ bad-has fails (stream_of r) (filter_map stream_number us) (inl (eqb-true (stream_of r) n here))
+        | inr there ↦ bad-has fails (stream_of r) (filter_map stream_number us) (inr (numbers-has fails us usable.1 there))
+      ])
 
-  numbers-least : (us : List Record) → AllByRecursion (λ r. stream_of r < n → sound (stream_of r) ≡ true) us → AllByRecursion (λ k. n ≤ k) (bad (filter_map number_of us))
-  numbers-least [] fine = tt
-  numbers-least (records.Free ∷ us) fine = numbers-least us fine.1
-  numbers-least (records.Stream id name params ∷ us) fine = bad-least id (filter_map number_of us) fine.0 (numbers-least us fine.1)
-  numbers-least (records.Window id first summary ∷ us) fine = bad-least id (filter_map number_of us) fine.0 (numbers-least us fine.1)
-  numbers-least (records.Landmark id number values start finish ∷ us) fine = bad-least id (filter_map number_of us) fine.0 (numbers-least us fine.1)
-  numbers-least (records.Value id number index t v ∷ us) fine = bad-least id (filter_map number_of us) fine.0 (numbers-least us fine.1)
+  numbers-least : (us : List Record) → AllByRecursion IsUsable us → AllByRecursion (λ r. stream_of r < n → sound (stream_of r) ≡ true) us →
+      AllByRecursion (λ k. n ≤ k) (bad (filter_map stream_number us))
+  numbers-least [] usable fine = tt
+  numbers-least (r ∷ us) usable fine =
+      rw (number-usable r usable.0) (bad-least (stream_of r) (filter_map stream_number us) fine.0 (numbers-least us usable.1 fine.1))
 
 -- the number that a walk tells is the lowest bad one
 pub lowest-bad : (rs : List Record) (n : ℕ) → AllByRecursion IsUsable rs → IsLowestUnsound n (in_order key_of rs) → lowest_bad_stream rs ≡ Some n
@@ -227,6 +224,6 @@ lowest-bad rs n usable lowest =
     (All-from_recursion (λ r. stream_of r < n → is_sound rs (stream_of r) ≡ true) qs
     (all_weaker (λ r. stream_of r < n → is_sound_in_order qs (stream_of r) ≡ true) (λ r. stream_of r < n → is_sound rs (stream_of r) ≡ true)
     (λ r fine lt. is_sound-in_order rs (stream_of r) ∙ fine lt) qs lowest.lower))) in
-    least-is n (filter (λ m. not (is_sound rs m)) (filter_map number_of rs)) (numbers-least (is_sound rs) n rs lower)
+    least-is n (filter (λ m. not (is_sound rs m)) (filter_map stream_number rs)) (numbers-least (is_sound rs) n rs usable lower)
     (numbers-has (is_sound rs) n (is_sound-in_order rs n ∙ lowest.unsound) rs usable
     (list_any-IsPermutation (λ r. stream_of r == n) rs qs moved ∙ lowest.has))

@@ -14,7 +14,7 @@ use Rattle.ss_codec.specs.declared.record.Record.{Record}
 use Rattle.ss_codec.specs.declared.record.Record.TheVariants.{Free, Stream, Window, Landmark, Value}
 use Rattle.ss_codec.proofs.RecordLemmas.{IsStream-is_valid, IsWindow-is_valid, Spells-decoded}
 use Rattle.ss_model.specs.State.{Created}
-use Rattle.ss_recover.specs.Carried.{created_by, number_of, spelled, window_of}
+use Rattle.ss_recover.specs.Carried.{created_by, stream_number, spelled, window_of}
 use Rattle.ss_recover.specs.Parts.{records_in}
 
 abbrev pub IsValid : Record → Type 0
@@ -81,7 +81,7 @@ all-window_of number (Landmark id n values start finish ∷ rs) valid = all-wind
 all-window_of number (Value id n index t v ∷ rs) valid = all-window_of number rs valid.1
 
 -- what holds of the number of each record holds of that of each stream
-pub all-numbers_created : (P : ℕ → Type 0) (rs : List Record) → AllByRecursion P (filter_map number_of rs) →
+pub all-numbers_created : (P : ℕ → Type 0) (rs : List Record) → AllByRecursion P (filter_map stream_number rs) →
     AllByRecursion (λ s. P s.number) (filter_map created_by rs)
 all-numbers_created P [] all = tt
 all-numbers_created P (Free ∷ rs) all = all-numbers_created P rs all

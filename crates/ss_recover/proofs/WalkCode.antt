@@ -1,5 +1,6 @@
 -- What the steps of a walk do, from what its code does.
-use Rattle.std.proofs.Common.{◌≡◌, ◌∙◌, ℕ, ◌<◌, ◌≤◌, Bool, true, false, List, [], length, Option, Some, None, IsSome, IfSome, MatchOption, refl, sym, ap, subst, inl, inr, arith}
+use Rattle.std.proofs.Common.{◌≡◌, ◌∙◌, ℕ, ◌<◌, ◌≤◌, Bool, true, false, List, [], length, Option, Some, None, IsSome, IfSome, MatchOption, refl, sym, ap}
+use Rattle.std.proofs.Common.{subst, inl, inr, arith}
 use Rattle.std.specs.Prelude.{◌⊎◌, ◌-◌, slice_index, Result, Ok, Err, IfOk}
 use Rattle.std.specs.Option.{option_map}
 use Rattle.ss_landmarks.specs.Landmark.{Landmark, change_last, closed_at, open_landmark}
@@ -10,7 +11,8 @@ use Rattle.ss_landmarks.proofs.TimeLemmas.{CanClose-after, CanOpen-after, CanTak
 use Rattle.ss_line.specs.declared.line.Line.{Line}
 use Rattle.ss_model.specs.Marks.{latest_of}
 use Rattle.ss_model.specs.declared.types.TheConstants.{MOST_RECORDS}
-use Rattle.ss_recover.specs.Walk.{CanAdd, CanBegin, EndsLandmark, HasSameWindows, IsAfter, IsInTime, IsReady, RefusesFirst, Tells, with_closing, time_at_end}
+use Rattle.ss_recover.specs.Walk.{CanAdd, CanBegin, EndsLandmark, HasSameWindows, IsAfter, KeepsTime, HasRoomForOne, RefusesFirst, Tells, with_closing}
+use Rattle.ss_recover.specs.Walk.{time_at_end}
 use Rattle.ss_recover.specs.declared.recover_error.RecoverError.{RecoverError}
 use Rattle.ss_recover.specs.declared.walking.Closing.{Closing}
 use Rattle.ss_recover.specs.declared.walking.Open.{Open}
@@ -49,32 +51,12 @@ abbrev MayClose : List Landmark → Option ℕ → Option Closing → Type 0
 MayClose ls last closing =
     IfSome closing (λ c. (c.finish ≤ LATEST_TIME) × IsSome (open_landmark ls) × IfSome last (λ time. time ≤ c.finish))
 
-module _ (old new : Open) (in_time : IsInTime old) where
-  -- no landmark is to close
-  pub Ends-none : old.closing ≡ None → new.part ≡ old.part → new.closing ≡ None → new.next ≡ old.next → new.newest ≡ old.newest → EndsLandmark old new
-  Ends-none none part closing next newest = record {
-    same = record {
-      part = record { id = ap (λ p. p.id) part; name = ap (λ p. p.name) part; target = ap (λ p. p.target) part; slot = ap (λ p. p.slot) part };
-      line = ap (λ p. p.line) part;
-      next = next;
-      newest = newest;
-    };
-    closing = closing;
-    whole = λ c l is begun. cc (is, none);
-    landmarks = ap (λ p. p.landmarks.landmarks) part ∙ sym (ap (λ c. with_closing c old.part.landmarks.landmarks) none);
-    slots = ap (λ p. p.landmarks.slots) part;
-    value_slots = ap (λ p. p.landmarks.value_slots) part;
-    last_time = ap (λ p. p.last_time) part ∙ sym (ap (λ c. time_at_end c old.part.last_time) none);
-    in_time = record {
-      last = ap (λ p. p.last_time) part ∙ in_time.last ∙ sym (ap (λ p. latest_of p.landmarks.landmarks) part);
-      closing = subst (MayClose new.part.landmarks.landmarks new.part.last_time) (sym closing) tt;
-    };
-  }
-
+module _ (old new : Open) (in_time : KeepsTime old) where
   -- the landmark that is to close closes
   pub Ends-some : (c : Closing) (l : Landmark) → old.closing ≡ Some c → open_landmark old.part.landmarks.landmarks ≡ Some l → length l.values ≡ c.values →
       HasSameWindows old new → new.closing ≡ None → new.part.landmarks.landmarks ≡ change_last (closed_at c.finish) old.part.landmarks.landmarks →
-      new.part.landmarks.slots ≡ old.part.landmarks.slots → new.part.landmarks.value_slots ≡ old.part.landmarks.value_slots → new.part.last_time ≡ Some c.finish →
+      new.part.landmarks.slots ≡ old.part.landmarks.slots → new.part.landmarks.value_slots ≡ old.part.landmarks.value_slots →
+      new.part.last_time ≡ Some c.finish →
       EndsLandmark old new
   Ends-some c l closes begun long same closing landmarks slots value_slots last = record {
     same = same;
@@ -96,7 +78,8 @@ module _ (old new : Open) (in_time : IsInTime old) where
       bound : IfSome old.part.last_time (λ time. time ≤ c.finish)
       bound = (subst (MayClose old.part.landmarks.landmarks old.part.last_time) closes in_time.closing).2
 
-      latest : (o : Option ℕ) → latest_of old.part.landmarks.landmarks ≡ o → latest_of (change_last (closed_at c.finish) old.part.landmarks.landmarks) ≡ Some c.finish
+      latest : (o : Option ℕ) → latest_of old.part.landmarks.landmarks ≡ o →
+          latest_of (change_last (closed_at c.finish) old.part.landmarks.landmarks) ≡ Some c.finish
       latest None none =
           let nothing : old.part.landmarks.landmarks ≡ [] = none-latest old.part.landmarks.landmarks none in
           let wrong : None ≡ Some l = sym (ap open_landmark nothing) ∙ begun in
@@ -106,7 +89,7 @@ module _ (old new : Open) (in_time : IsInTime old) where
           (subst (λ (o : Option ℕ). IfSome o (λ t. t ≤ c.finish)) (in_time.last ∙ some) bound)
 
 -- the landmark that is to close may close then
-pub CanClose-in_time : (stream : Open) (c : Closing) → IsInTime stream → stream.closing ≡ Some c → CanClose stream.part.landmarks.landmarks c.finish
+pub CanClose-in_time : (stream : Open) (c : Closing) → KeepsTime stream → stream.closing ≡ Some c → CanClose stream.part.landmarks.landmarks c.finish
 CanClose-in_time stream c in_time closes =
     let parts = subst (MayClose stream.part.landmarks.landmarks stream.part.last_time) closes in_time.closing in
     go (latest_of stream.part.landmarks.landmarks) refl parts
@@ -121,7 +104,7 @@ CanClose-in_time stream c in_time closes =
         CanClose-after stream.part.landmarks.landmarks last c.finish (AllEndBy-latest stream.part.landmarks.landmarks last some) parts.1 le
 
 -- a landmark may open after the last time
-pub CanOpen-begin : (stream : Open) (number start : ℕ) → IsInTime stream → CanBegin stream number start → CanOpen stream.part.landmarks.landmarks start
+pub CanOpen-begin : (stream : Open) (number start : ℕ) → KeepsTime stream → CanBegin stream number start → CanOpen stream.part.landmarks.landmarks start
 CanOpen-begin stream number start in_time can = go (latest_of stream.part.landmarks.landmarks) refl
   where
     go : (o : Option ℕ) → latest_of stream.part.landmarks.landmarks ≡ o → CanOpen stream.part.landmarks.landmarks start
@@ -133,7 +116,7 @@ CanOpen-begin stream number start in_time can = go (latest_of stream.part.landma
         (subst (λ (o : Option ℕ). IsAfter o start) (in_time.last ∙ some) can.after)
 
 -- a value may come after the last time, and the first one at its landmark's opening
-pub CanTake-add : (stream : Open) (number index t : ℕ) → IsInTime stream → CanAdd stream number index t → CanTake stream.part.landmarks.landmarks t
+pub CanTake-add : (stream : Open) (number index t : ℕ) → KeepsTime stream → CanAdd stream number index t → CanTake stream.part.landmarks.landmarks t
 CanTake-add stream number index t in_time can = go can.after
   where
     open-some : IsSome (open_landmark stream.part.landmarks.landmarks)
@@ -154,15 +137,6 @@ CanTake-add stream number index t in_time can = go can.after
         (subst (λ (o : Option Landmark). MatchOption o ⊥ (λ l. (l.start ≤ t) × (length l.values ≡ 0))) (sym can.is_open) (omega (arith, first.1), first.0))
     go (inr after) = later-go after (latest_of stream.part.landmarks.landmarks) refl
 
--- once the last landmark has ended, there is as much room
-pub IsReady-ends : (old new : Open) → IsReady old → EndsLandmark old new → IsReady new
-IsReady-ends old new ready ends = record {
-  line = let line = ready.line in subst (λ (l : Line). length l.entries < MOST_RECORDS) (sym ends.same.line) line;
-  slots = let few = ready.slots in omega (arith, few, ap (λ (slots : List ℕ). length slots) ends.slots);
-  value_slots = let few = ready.value_slots in omega (arith, few, ap (λ (slots : List ℕ). length slots) ends.value_slots);
-  in_time = ends.in_time;
-}
-
 -- what an answer tells
 pub tells-true : (b : Bool) (P Q : Type 0) → Tells b P Q → b ≡ true → P
 tells-true true P Q tells is = tells
@@ -171,14 +145,6 @@ tells-true false P Q tells is = cc
 pub tells-false : (b : Bool) (P Q : Type 0) → Tells b P Q → b ≡ false → Q
 tells-false true P Q tells is = cc
 tells-false false P Q tells is = tells
-
--- a record that isn't a stream's own can't be its first
-pub first-other : (old : Walk) (r : Record) → ((id : ℕ) (name : List ℕ) (params : Params) → r ≡ records.Stream id name params → ⊥) → RefusesFirst old r
-first-other old records.Free other = tt
-first-other old (records.Stream id name params) other = absurd (other id name params refl)
-first-other old (records.Window id first summary) other = tt
-first-other old (records.Landmark id number values start finish) other = tt
-first-other old (records.Value id number index t v) other = tt
 
 -- an answer tells what follows from what another one tells
 pub tells-more : (result : Result Bool RecoverError) (K P Q R S : Type 0) → IfOk result (λ fits. K) → IfOk result (λ fits. Tells fits P Q) →

@@ -1,5 +1,6 @@
 -- What a walk holds of the stream whose records come, and how a record more of it changes that.
-use Rattle.std.proofs.Common.{◌≡◌, ◌∙◌, ℕ, ℤ, ◌+◌, ◌<◌, ◌≤◌, Bool, true, false, List, [], ◌∷◌, ◌++◌, map, filter, length, Option, Some, None, IsSome, IfSome, IsTrue, refl, sym, ap, ap₂, subst, inl, inr, arith, append_assoc, append-nil}
+use Rattle.std.proofs.Common.{◌≡◌, ◌∙◌, ℕ, ℤ, ◌+◌, ◌<◌, ◌≤◌, Bool, true, false, List, [], ◌∷◌, ◌++◌, map, filter, length, Option, Some, None, IsSome}
+use Rattle.std.proofs.Common.{IfSome, IsTrue, refl, sym, ap, ap₂, subst, inl, inr, arith, append_assoc, append-nil}
 use Rattle.std.specs.Prelude.{◌⊎◌, not}
 use Rattle.std.specs.List.{AllByRecursion, list_all}
 use Rattle.std.proofs.lemmas.Bool.{and_from, and_parts, cond-false, cond-true, eq-eqb, leb-true}
@@ -29,15 +30,17 @@ use Rattle.ss_model.specs.declared.types.Window.{Window}
 use Rattle.ss_recover.specs.Carried.{is_mark_of}
 use Rattle.ss_recover.specs.Held.{entries_of, span_held, span_of, window_record}
 use Rattle.ss_recover.specs.Marked.{Marked, is_next_landmark, is_next_value, marked_by, nothing_marked}
-use Rattle.ss_recover.specs.Walk.{Adds, Begins, CanAdd, EndsLandmark, IsAfter, IsInTime, IsNew, IsTimed, TakesWindow, closing_at, finish_of, records_of, with_closing}
+use Rattle.ss_recover.specs.Walk.{TakesValue, Begins, CanAdd, EndsLandmark, IsAfter, KeepsTime, HasBegun, IsTimed, TakesWindow, closing_at, finish_of}
+use Rattle.ss_recover.specs.Walk.{without_slots, with_closing, IsUsable}
 use Rattle.ss_recover.specs.declared.found.Found.{Found}
 use Rattle.ss_recover.specs.declared.walking.Closing.{Closing}
 use Rattle.ss_recover.specs.declared.walking.Open.{Open}
 use Rattle.ss_recover.proofs.Latest.{latest_of-opened, latest_of-value}
 use Rattle.ss_recover.proofs.Lists.{all_push}
-use Rattle.ss_recover.proofs.Phases.{EndedAs, IsEnded, IsMarking, MarkingAs, add-marking, add-next, begin-marking, begin-next, ended-ends, ends_at, found-last, marking-ends, still_open, with_more, with_next}
-use Rattle.ss_recover.proofs.PhaseRecords.{add-records, begin-records, marked-more, marks_so_far}
+use Rattle.ss_recover.proofs.Phases.{EndedAs, IsEnded, IsMarking, MarkingAs, add-marking, add-next, begin-marking, begin-next, ended-ends, ends_at}
+use Rattle.ss_recover.proofs.Phases.{found-last, marking-ends, still_open, with_more, with_next}
 use Rattle.ss_recover.proofs.WalkLemmas.{AreWindows-push, newest_time-push, taken-push}
+use Rattle.ss_recover.proofs.MarksSoFar.{marked-more}
 
 -- whether a record that was found is that of a landmark, and the others
 abbrev pub is_landmark : Record → Bool
@@ -79,14 +82,14 @@ pub record IsCurrent (stream : Open) (head : Created) (own : List Found) : Type 
   pub split : own ≡ head_found slot head ∷ (marks ++ found)
   pub positions : map span_held (entries_of stream.part) ≡ map span_of windows
   pub found_slots : map (λ (e : Entry). e.slot) (entries_of stream.part) ≡ slots_of found
-  pub found_records : records_of found ≡ map (window_record head.number) windows
-  pub by : marked_by (records_of marks) ≡ Some marked
-  pub records : records_of marks ≡ marks_so_far head.number marked
+  pub found_records : without_slots found ≡ map (window_record head.number) windows
+  pub by : marked_by (without_slots marks) ≡ Some marked
   pub of_number : AllByRecursion (λ (f : Found). is_mark_of head.number f.holds ≡ true) marks
+  pub usable : AllByRecursion (λ (f : Found). IsUsable f.holds) marks
   pub slots : stream.part.landmarks.slots ≡ slots_of (filter found_landmark marks)
   pub value_slots : stream.part.landmarks.value_slots ≡ slots_of (filter found_other marks)
   pub phase : PhaseAs stream marked windows
-  pub in_time : IsInTime stream
+  pub in_time : KeepsTime stream
   pub has_target : IsTrue (has_target head.params)
   pub has_number : head.number ≤ LAST_STREAM
   pub are_windows : AreWindows windows
@@ -101,7 +104,8 @@ MayClose ls last closing =
 
 -- ---- the stream's own record
 
-pub IsCurrent-new : (stream : Open) (slot id : ℕ) (name : List ℕ) (params : Params) → IsNew stream slot id name params → IsTrue (has_target params) → id ≤ LAST_STREAM →
+pub IsCurrent-new : (stream : Open) (slot id : ℕ) (name : List ℕ) (params : Params) → HasBegun stream slot id name params → IsTrue (has_target params) →
+    id ≤ LAST_STREAM →
     IsCurrent stream (record { number = id; name = name; params = params }) (record { slot = slot; holds = records.Stream id name params } ∷ [])
 IsCurrent-new stream slot id name params fresh target last = record {
   slot = slot;
@@ -118,8 +122,8 @@ IsCurrent-new stream slot id name params fresh target last = record {
   found_slots = ap (λ (es : List (At × Entry)). map (λ (e : Entry). e.slot) (map (λ e. e.1) es)) fresh.entries;
   found_records = refl;
   by = refl;
-  records = refl;
   of_number = tt;
+  usable = tt;
   slots = fresh.slots;
   value_slots = fresh.value_slots;
   phase = (refl, fresh.landmarks, fresh.last_time, fresh.closing);
@@ -141,16 +145,19 @@ IsCurrent-new stream slot id name params fresh target last = record {
 marking-phase : (stream : Open) (m : Marked) (ws : List Window) → ws ≡ [] → PhaseAs stream m ws → IsMarking stream m
 marking-phase stream m ws none phase = subst (PhaseAs stream m) none phase
 
-none-found : (number : ℕ) (found : List Found) (ws : List Window) → records_of found ≡ map (window_record number) ws → ws ≡ [] → found ≡ []
+none-found : (number : ℕ) (found : List Found) (ws : List Window) → without_slots found ≡ map (window_record number) ws → ws ≡ [] → found ≡ []
 none-found number [] ws is none = refl
 none-found number (f ∷ fs) ws is none =
-    absurd (let wrong : records_of (f ∷ fs) ≡ [] = is ∙ ap (map (window_record number)) none in cc)
+    absurd (let wrong : without_slots (f ∷ fs) ≡ [] = is ∙ ap (map (window_record number)) none in cc)
 
-split-mark : (x : Found) (own marks found : List Found) (head : Found) → own ≡ head ∷ (marks ++ found) → found ≡ [] → own ++ x ∷ [] ≡ head ∷ ((marks ++ x ∷ []) ++ [])
+split-mark : (x : Found) (own marks found : List Found) (head : Found) → own ≡ head ∷ (marks ++ found) → found ≡ [] →
+    own ++ x ∷ [] ≡ head ∷ ((marks ++ x ∷ []) ++ [])
 split-mark x own marks found head is none =
-    ap (λ l. l ++ x ∷ []) (is ∙ ap (λ l. head ∷ (marks ++ l)) none ∙ ap (λ l. head ∷ l) (append-nil marks)) ∙ ap (λ l. head ∷ l) (sym (append-nil (marks ++ x ∷ [])))
+    ap (λ l. l ++ x ∷ []) (is ∙ ap (λ l. head ∷ (marks ++ l)) none ∙ ap (λ l. head ∷ l) (append-nil marks))
+    ∙ ap (λ l. head ∷ l) (sym (append-nil (marks ++ x ∷ [])))
 
-slots-push : (p : Found → Bool) (marks : List Found) (x : Found) → slots_of (filter p (marks ++ x ∷ [])) ≡ slots_of (filter p marks) ++ slots_of (filter p (x ∷ []))
+slots-push : (p : Found → Bool) (marks : List Found) (x : Found) → slots_of (filter p (marks ++ x ∷ [])) ≡ slots_of (filter p marks)
+    ++ slots_of (filter p (x ∷ []))
 slots-push p marks x = ap slots_of (filter-append p marks (x ∷ [])) ∙ map-append (λ (f : Found). f.slot) (filter p marks) (filter p (x ∷ []))
 
 -- what stays of a stream where only its landmarks change
@@ -165,18 +172,19 @@ module _ (old new : Open) (head : Created) (own : List Found) (current : IsCurre
   )
 
   pub IsCurrent-begin : (mid : Open) (n values start : ℕ) (finish : Option ℕ) → current.windows ≡ [] → AreLandmarks old.part.landmarks.landmarks →
-      AreLandmarks mid.part.landmarks.landmarks → EndsLandmark old mid → Begins mid new x.slot n values start finish → IsTimed values start finish →
+      AreLandmarks mid.part.landmarks.landmarks → EndsLandmark old mid → Begins mid new x.slot n values start finish → IsUsable x.holds →
       x.holds ≡ records.Landmark head.number n values start finish → IsCurrent new head (own ++ x ∷ [])
-  IsCurrent-begin mid n values start finish none order order_mid ends begins timed is =
+  IsCurrent-begin mid n values start finish none order order_mid ends begins usable is =
+      let timed : IsTimed values start finish = (subst IsUsable is usable).2 in
       let m = current.marked in
       let r = records.Landmark head.number n values start finish in
       let no_found = none-found head.number current.found current.windows current.found_records none in
       let marking = marking-phase old m current.windows none current.phase in
-      let ended = marking-ends old mid m order marking ends in
+      let ended = marking-ends old mid m.before m.last m.said order marking ends in
       let next = with_next m values start finish in
       let test = begin-next mid m n start order_mid ended begins.can in
-      let more : records_of (current.marks ++ x ∷ []) ≡ records_of current.marks ++ r ∷ [] =
-      map-append (λ (f : Found). f.holds) current.marks (x ∷ []) ∙ ap (λ h. records_of current.marks ++ h ∷ []) is in
+      let more : without_slots (current.marks ++ x ∷ []) ≡ without_slots current.marks ++ r ∷ [] =
+      map-append (λ (f : Found). f.holds) current.marks (x ∷ []) ∙ ap (λ h. without_slots current.marks ++ h ∷ []) is in
       let same = begins.same.part in
       let before = ends.same.part in
       let line = begins.same.line ∙ ends.same.line in
@@ -195,12 +203,14 @@ module _ (old new : Open) (head : Created) (own : List Found) (current : IsCurre
         positions = ap (λ l. map span_held (map (λ (e : At × Entry). e.1) l.entries)) line ∙ current.positions ∙ ap (map span_of) none;
         found_slots = ap (λ l. map (λ (e : Entry). e.slot) (map (λ (e : At × Entry). e.1) l.entries)) line ∙ current.found_slots ∙ ap slots_of no_found;
         found_records = refl;
-        by = ap marked_by more ∙ marked-more (records_of current.marks) r m next current.by (cond-true (is_next_landmark m n start) (Some next) None test);
-        records = more ∙ ap (λ rs. rs ++ r ∷ []) current.records ∙ begin-records head.number mid m n values start finish ended begins.can.in_turn;
-        of_number = all_push (λ (f : Found). is_mark_of head.number f.holds ≡ true) current.marks x current.of_number (ap (is_mark_of head.number) is ∙ eq-eqb head.number head.number refl);
+        by = ap marked_by more ∙ marked-more (without_slots current.marks) r m next current.by (cond-true (is_next_landmark m n start) (Some next) None test);
+        of_number = all_push (λ (f : Found). is_mark_of head.number f.holds ≡ true) current.marks x current.of_number
+            (ap (is_mark_of head.number) is ∙ eq-eqb head.number head.number refl);
+        usable = all_push (λ (f : Found). IsUsable f.holds) current.marks x current.usable usable;
         slots =
             begins.slots ∙ ap (λ (slots : List ℕ). slots ++ x.slot ∷ []) (ends.slots ∙ current.slots)
-            ∙ sym (slots-push found_landmark current.marks x ∙ ap (λ l. slots_of (filter found_landmark current.marks) ++ slots_of l) (cond-true (found_landmark x) (x ∷ []) [] kept));
+            ∙ sym (slots-push found_landmark current.marks x ∙ ap (λ l. slots_of (filter found_landmark current.marks) ++ slots_of l)
+            (cond-true (found_landmark x) (x ∷ []) [] kept));
         value_slots =
             begins.value_slots ∙ ends.value_slots ∙ current.value_slots
             ∙ sym (slots-push found_other current.marks x
@@ -210,7 +220,8 @@ module _ (old new : Open) (head : Created) (own : List Found) (current : IsCurre
         in_time = record {
           last =
               begins.last_time
-              ∙ sym (ap latest_of begins.landmarks ∙ latest_of-opened start mid.part.landmarks.landmarks (subst (λ (o : Option ℕ). IsAfter o start) ends.in_time.last begins.can.after));
+              ∙ sym (ap latest_of begins.landmarks ∙ latest_of-opened start mid.part.landmarks.landmarks
+              (subst (λ (o : Option ℕ). IsAfter o start) ends.in_time.last begins.can.after));
           closing =
               subst (λ o. MayClose new.part.landmarks.landmarks o new.closing) (sym begins.last_time)
               (subst (MayClose new.part.landmarks.landmarks (Some start)) (sym begins.closing) (may-close-begin mid n values start finish begins timed));
@@ -235,14 +246,19 @@ module _ (old new : Open) (head : Created) (own : List Found) (current : IsCurre
       absurd (let wrong : None ≡ Some can.landmark = sym (ap open_landmark marking.1) ∙ can.is_open in cc)
   last-before before (Some l) said n index t order marking can =
       let one : Some can.landmark ≡ Some (still_open l) = sym can.is_open ∙ found-last old before l said n index t order marking in
-      let same : can.landmark ≡ still_open l = cc in
-      (ends_at l.start l.values, marking.3, go (subst (λ (x : Landmark). ((length x.values ≡ 0) × (t ≡ x.start)) ⊎ IsAfter old.part.last_time t) same can.after))
+      let same : can.landmark ≡ still_open l = cc in (
+        ends_at l.start l.values,
+        marking.3,
+        go (subst (λ (x : Landmark). ((length x.values ≡ 0) × (t ≡ x.start))
+            ⊎ IsAfter old.part.last_time t) same can.after),
+      )
     where
       go : ((length l.values ≡ 0) × (t ≡ l.start)) ⊎ IsAfter old.part.last_time t → ends_at l.start l.values ≤ t
       go (inl first) = omega (arith, begun-at l.start l.values first.0, first.1)
       go (inr after) = let lt : ends_at l.start l.values < t = subst (λ (o : Option ℕ). IsAfter o t) marking.3 after in omega (arith, lt)
 
-  may-close-add : (closing : Option Closing) (n index t : ℕ) (v : ℤ) → old.closing ≡ closing → AreLandmarks old.part.landmarks.landmarks → Adds old new x.slot n index t v →
+  may-close-add : (closing : Option Closing) (n index t : ℕ) (v : ℤ) → old.closing ≡ closing → AreLandmarks old.part.landmarks.landmarks →
+      TakesValue old new x.slot n index t v →
       MayClose new.part.landmarks.landmarks (Some t) closing
   may-close-add None n index t v is order adds = tt
   may-close-add (Some c) n index t v is order adds =
@@ -254,17 +270,18 @@ module _ (old new : Open) (head : Created) (own : List Found) (current : IsCurre
         leb-true t c.finish (sym (ap (λ o. is_up_to t (finish_of o)) is) ∙ can.before),
       )
 
-  pub IsCurrent-add : (n index t : ℕ) (v : ℤ) → current.windows ≡ [] → AreLandmarks old.part.landmarks.landmarks → Adds old new x.slot n index t v →
+  pub IsCurrent-add : (n index t : ℕ) (v : ℤ) → current.windows ≡ [] → AreLandmarks old.part.landmarks.landmarks → TakesValue old new x.slot n index t v →
+      IsUsable x.holds →
       x.holds ≡ records.Value head.number n index t v → IsCurrent new head (own ++ x ∷ [])
-  IsCurrent-add n index t v none order adds is =
+  IsCurrent-add n index t v none order adds usable is =
       let m = current.marked in
       let r = records.Value head.number n index t v in
       let no_found = none-found head.number current.found current.windows current.found_records none in
       let marking = marking-phase old m current.windows none current.phase in
       let next = with_more m t v in
-      let test = add-next old m n index t order marking adds.can in
-      let more : records_of (current.marks ++ x ∷ []) ≡ records_of current.marks ++ r ∷ [] =
-      map-append (λ (f : Found). f.holds) current.marks (x ∷ []) ∙ ap (λ h. records_of current.marks ++ h ∷ []) is in
+      let test = add-next old m.before m.last m.said n index t order marking adds.can in
+      let more : without_slots (current.marks ++ x ∷ []) ≡ without_slots current.marks ++ r ∷ [] =
+      map-append (λ (f : Found). f.holds) current.marks (x ∷ []) ∙ ap (λ h. without_slots current.marks ++ h ∷ []) is in
       let same = adds.same.part in
       let line = adds.same.line in
       let kept = ap is_landmark is in
@@ -283,9 +300,10 @@ module _ (old new : Open) (head : Created) (own : List Found) (current : IsCurre
         positions = ap (λ l. map span_held (map (λ (e : At × Entry). e.1) l.entries)) line ∙ current.positions ∙ ap (map span_of) none;
         found_slots = ap (λ l. map (λ (e : Entry). e.slot) (map (λ (e : At × Entry). e.1) l.entries)) line ∙ current.found_slots ∙ ap slots_of no_found;
         found_records = refl;
-        by = ap marked_by more ∙ marked-more (records_of current.marks) r m next current.by (cond-true (is_next_value m n index t) (Some next) None test);
-        records = more ∙ ap (λ rs. rs ++ r ∷ []) current.records ∙ add-records head.number old m n index t v order marking adds.can;
-        of_number = all_push (λ (f : Found). is_mark_of head.number f.holds ≡ true) current.marks x current.of_number (ap (is_mark_of head.number) is ∙ eq-eqb head.number head.number refl);
+        by = ap marked_by more ∙ marked-more (without_slots current.marks) r m next current.by (cond-true (is_next_value m n index t) (Some next) None test);
+        of_number = all_push (λ (f : Found). is_mark_of head.number f.holds ≡ true) current.marks x current.of_number
+            (ap (is_mark_of head.number) is ∙ eq-eqb head.number head.number refl);
+        usable = all_push (λ (f : Found). IsUsable f.holds) current.marks x current.usable usable;
         slots =
             adds.slots ∙ current.slots
             ∙ sym (slots-push found_landmark current.marks x
@@ -295,7 +313,7 @@ module _ (old new : Open) (head : Created) (own : List Found) (current : IsCurre
             adds.value_slots ∙ ap (λ (slots : List ℕ). slots ++ x.slot ∷ []) current.value_slots
             ∙ sym (slots-push found_other current.marks x
             ∙ ap (λ l. slots_of (filter found_other current.marks) ++ slots_of l) (cond-true (found_other x) (x ∷ []) [] (ap not kept)));
-        phase = add-marking old new m x.slot n index t v marking adds;
+        phase = add-marking old new m.before m.last m.said x.slot n index t v marking adds;
         in_time = record {
           last =
               adds.last_time
@@ -316,9 +334,10 @@ module _ (old new : Open) (head : Created) (own : List Found) (current : IsCurre
 -- ---- a window's record
 
 -- the last landmark has ended
-pub phase-ended : (old mid : Open) (m : Marked) (ws : List Window) → AreLandmarks old.part.landmarks.landmarks → PhaseAs old m ws → EndsLandmark old mid → IsEnded mid m
-phase-ended old mid m [] order phase ends = marking-ends old mid m order phase ends
-phase-ended old mid m (w ∷ ws) order phase ends = ended-ends old mid m phase ends
+pub phase-ended : (old mid : Open) (m : Marked) (ws : List Window) → AreLandmarks old.part.landmarks.landmarks → PhaseAs old m ws → EndsLandmark old mid →
+    IsEnded mid m
+phase-ended old mid m [] order phase ends = marking-ends old mid m.before m.last m.said order phase ends
+phase-ended old mid m (w ∷ ws) order phase ends = ended-ends old mid m.before m.last m.said phase ends
 
 closing-ended : (ls : List Landmark) (closing : Option Closing) (time : Option ℕ) (before : List Landmark) (last : Option Landmark) (said : ℕ) →
     EndedAs ls closing time before last said → closing ≡ None
@@ -326,7 +345,8 @@ closing-ended ls closing time before None said ended = ended.3
 closing-ended ls closing time before (Some l) said ended = ended.1
 
 -- the windows so far lie free
-pub free-ended : (old mid : Open) (m : Marked) (ws : List Window) → PhaseAs old m ws → EndsLandmark old mid → list_all (lies_free old.part.landmarks.landmarks) ws ≡ true →
+pub free-ended : (old mid : Open) (m : Marked) (ws : List Window) → PhaseAs old m ws → EndsLandmark old mid →
+    list_all (lies_free old.part.landmarks.landmarks) ws ≡ true →
     list_all (lies_free mid.part.landmarks.landmarks) ws ≡ true
 free-ended old mid m [] phase ends free = refl
 free-ended old mid m (w ∷ ws) phase ends free =
@@ -352,18 +372,22 @@ module _ (old mid new : Open) (head : Created) (own : List Found) (current : IsC
 
   ended-new : IsEnded new current.marked
   ended-new =
-      subst (λ ls. EndedAs ls new.closing new.part.last_time current.marked.before current.marked.last current.marked.said) (sym (ap (λ l. l.landmarks) takes.grows.landmarks))
+      subst (λ ls. EndedAs ls new.closing new.part.last_time current.marked.before current.marked.last current.marked.said)
+      (sym (ap (λ l. l.landmarks) takes.grows.landmarks))
       (subst (λ o. EndedAs mid.part.landmarks.landmarks o new.part.last_time current.marked.before current.marked.last current.marked.said) (sym takes.closing)
-      (subst (λ o. EndedAs mid.part.landmarks.landmarks mid.closing o current.marked.before current.marked.last current.marked.said) (sym takes.grows.last_time) ended-mid))
+      (subst (λ o. EndedAs mid.part.landmarks.landmarks mid.closing o current.marked.before current.marked.last current.marked.said)
+      (sym takes.grows.last_time) ended-mid))
 
-  pub IsCurrent-grow : IsPossible summary → first + summary.count ≤ GREATEST_COUNT + 1 → x.holds ≡ records.Window head.number first summary → IsCurrent new head (own ++ x ∷ [])
+  pub IsCurrent-grow : IsPossible summary → first + summary.count ≤ GREATEST_COUNT + 1 → x.holds ≡ records.Window head.number first summary →
+      IsCurrent new head (own ++ x ∷ [])
   IsCurrent-grow possible high is =
       let w : Window = record { first = first; summary = summary } in
       let grows = takes.grows in
       let place : first ≡ taken current.windows + 1 = takes.is_next.in_turn ∙ ends.same.next ∙ current.place in
       let line : mid.part.line ≡ old.part.line = ends.same.line in
       let entries : entries_of new.part ≡ entries_of old.part ++ grows.entry ∷ [] =
-      ap (λ (es : List (At × Entry)). map (λ e. e.1) es) grows.entries ∙ map-append (λ (e : At × Entry). e.1) mid.part.line.entries ((grows.at, grows.entry) ∷ [])
+      ap (λ (es : List (At × Entry)). map (λ e. e.1) es) grows.entries
+      ∙ map-append (λ (e : At × Entry). e.1) mid.part.line.entries ((grows.at, grows.entry) ∷ [])
       ∙ ap (λ l. map (λ (e : At × Entry). e.1) l.entries ++ grows.entry ∷ []) line in
       let span : span_held grows.entry ≡ span_of w = λ i. (grows.from i, grows.to i) in
       let last_time = grows.last_time in
@@ -388,8 +412,8 @@ module _ (old mid new : Open) (head : Created) (own : List Found) (current : IsC
             map-append (λ (f : Found). f.holds) current.found (x ∷ []) ∙ ap₂ (λ (a : List Record) (b : Record). a ++ b ∷ []) current.found_records is
             ∙ sym (map-append (window_record head.number) current.windows (w ∷ []));
         by = current.by;
-        records = current.records;
         of_number = current.of_number;
+        usable = current.usable;
         slots = ap (λ l. l.slots) grows.landmarks ∙ ends.slots ∙ current.slots;
         value_slots = ap (λ l. l.value_slots) grows.landmarks ∙ ends.value_slots ∙ current.value_slots;
         phase = phase-push new current.marked current.windows w ended-new;

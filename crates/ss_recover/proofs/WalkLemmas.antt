@@ -1,5 +1,6 @@
 -- What a walk over records in order holds, and how a record more changes it.
-use Rattle.std.proofs.Common.{◌≡◌, ◌∙◌, ℕ, ◌+◌, ◌<◌, ◌≤◌, List, [], ◌∷◌, ◌++◌, map, flat_map, length, Some, refl, sym, ap, ap₂, subst, arith, append_assoc, append-nil, IsPermutation}
+use Rattle.std.proofs.Common.{◌≡◌, ◌∙◌, ℕ, ◌+◌, ◌<◌, ◌≤◌, List, [], ◌∷◌, ◌++◌, map, flat_map, length, Some, refl, sym, ap, ap₂, subst, arith}
+use Rattle.std.proofs.Common.{append_assoc, append-nil, IsPermutation}
 use Rattle.std.specs.Prelude.{zip}
 use Rattle.std.specs.List.{AllByRecursion}
 use Rattle.std.proofs.lemmas.List.{map-append}
@@ -19,16 +20,18 @@ use Rattle.ss_model.specs.Tiling.{AreWindows, StandFrom}
 use Rattle.ss_model.specs.Windows.{taken, newest_time}
 use Rattle.ss_model.specs.declared.types.Window.{Window}
 use Rattle.ss_recover.specs.Held.{Agrees, AllAgree, records_held}
-use Rattle.ss_recover.specs.Walk.{IsAfter, in_slot, records_of}
+use Rattle.ss_recover.specs.Walk.{IsAfter, in_slot, without_slots}
 use Rattle.ss_recover.specs.declared.found.Found.{Found}
 use Rattle.ss_recover.specs.declared.parts.StreamParts.{StreamParts}
 use Rattle.ss_recover.proofs.InOrder.{Rise}
 use Rattle.ss_recover.proofs.WalkRecords.{all_walked, walked}
+use Rattle.ss_recover.proofs.Lists.{all_push}
+use Rattle.ss_recover.proofs.Permutations.{IsPermutation-append_both}
 
 -- Parts agree with streams that the records so far are of, in their order.
 pub record AreHeldSoFar (parts : List StreamParts) (streams : List Stream) (all : List Found) : Type 0 where
   pub each : AllAgree parts streams
-  pub order : records_of all ≡ all_walked streams
+  pub order : without_slots all ≡ all_walked streams
   pub records : IsPermutation (flat_map records_held (zip parts streams)) (map in_slot all)
   pub sound : AllByRecursion IsStream streams
   pub rise : Rise (λ s. s.number) streams
@@ -56,19 +59,9 @@ held-push (p ∷ ps) (s' ∷ ss) part s each =
     ap (λ l. records_held (p, s') ++ l) (held-push ps ss part s each.1)
     ∙ sym (append_assoc (records_held (p, s')) (flat_map records_held (zip ps ss)) (records_held (part, s)))
 
-pub each-push : {X : Type 0} (P : X → Type 0) (xs : List X) (x : X) → AllByRecursion P xs → P x → AllByRecursion P (xs ++ x ∷ [])
-each-push P [] x all one = (one, tt)
-each-push P (y ∷ ys) x all one = (all.0, each-push P ys x all.1 one)
-
 pub Rise-push : {X : Type 0} (key : X → ℕ) (xs : List X) (x : X) → Rise key xs → AllByRecursion (λ y. key y < key x) xs → Rise key (xs ++ x ∷ [])
 Rise-push key [] x rise below = (tt, tt)
-Rise-push key (y ∷ ys) x rise below = (each-push (λ z. key y < key z) ys x rise.0 below.0, Rise-push key ys x rise.1 below.1)
-
-zip-push : {X Y : Type 0} (xs : List X) (ys : List Y) (x : X) (y : Y) → length xs ≡ length ys → zip (xs ++ x ∷ []) (ys ++ y ∷ []) ≡ zip xs ys ++ (x, y) ∷ []
-zip-push [] [] x y same = refl
-zip-push [] (b ∷ bs) x y same = absurd (omega arith)
-zip-push (a ∷ rest) [] x y same = absurd (omega arith)
-zip-push (a ∷ rest) (b ∷ bs) x y same = ap (λ l. (a, b) ∷ l) (zip-push rest bs x y (omega arith))
+Rise-push key (y ∷ ys) x rise below = (all_push (λ z. key y < key z) ys x rise.0 below.0, Rise-push key ys x rise.1 below.1)
 
 pub newest_time-push : (ws : List Window) (w : Window) → newest_time (ws ++ w ∷ []) ≡ Some w.summary.t_last
 newest_time-push [] w = refl
@@ -76,7 +69,8 @@ newest_time-push (v ∷ []) w = refl
 newest_time-push (v ∷ u ∷ us) w = newest_time-push (u ∷ us) w
 
 pub taken-push : (ws : List Window) (w : Window) → taken (ws ++ w ∷ []) ≡ taken ws + w.summary.count
-taken-push ws w = sum_by-append (λ (v : Window). v.summary.count) ws (w ∷ []) ∙ ap (λ n. taken ws + n) (omega (arith, sum_by-cons (λ (v : Window). v.summary.count) w []))
+taken-push ws w = sum_by-append (λ (v : Window). v.summary.count) ws (w ∷ [])
+    ∙ ap (λ n. taken ws + n) (omega (arith, sum_by-cons (λ (v : Window). v.summary.count) w []))
 
 -- what comes after windows comes after the time that they were not before
 after-windows : (first time t : ℕ) (w : Window) (ws : List Window) → StandFrom first time (w ∷ ws) → IsAfter (newest_time (w ∷ ws)) t → time ≤ t
@@ -119,7 +113,7 @@ AreNames-none = record {
 -- one more stream is held, whose records come after those of the others
 pub AreHeldSoFar-push : (parts : List StreamParts) (streams : List Stream) (part : StreamParts) (s : Stream) (before own : List Found) →
     AreHeldSoFar parts streams before → Agrees part s → IsStream s → AllByRecursion (λ u. u.number < s.number) streams →
-    IsPermutation (records_held (part, s)) (map in_slot own) → records_of own ≡ walked s →
+    IsPermutation (records_held (part, s)) (map in_slot own) → without_slots own ≡ walked s →
     AreHeldSoFar (parts ++ part ∷ []) (streams ++ s ∷ []) (before ++ own)
 AreHeldSoFar-push parts streams part s before own held agrees is above records order = record {
   each = AllAgree-push parts streams part s held.each agrees;
@@ -129,11 +123,8 @@ AreHeldSoFar-push parts streams part s before own held agrees is above records o
   records =
       subst (λ l. IsPermutation l (map in_slot (before ++ own))) (sym (held-push parts streams part s held.each))
       (subst (IsPermutation (flat_map records_held (zip parts streams) ++ records_held (part, s))) (sym (map-append in_slot before own))
-      (IsPermutation-append_both (flat_map records_held (zip parts streams)) (map in_slot before) (records_held (part, s)) (map in_slot own) held.records records));
-  sound = each-push IsStream streams s held.sound is;
+      (IsPermutation-append_both (flat_map records_held (zip parts streams)) (map in_slot before) (records_held (part, s))
+      (map in_slot own) held.records records));
+  sound = all_push IsStream streams s held.sound is;
   rise = Rise-push (λ u. u.number) streams s held.rise above;
 }
-  where
-    IsPermutation-append_both : {X : Type 0} (xs ys us vs : List X) → IsPermutation xs ys → IsPermutation us vs → IsPermutation (xs ++ us) (ys ++ vs)
-    IsPermutation-append_both xs ys us vs first second =
-        IsPermutation-trans (xs ++ us) (ys ++ us) (ys ++ vs) (IsPermutation-append_left us xs ys first) (IsPermutation-append_right ys us vs second)

@@ -6,8 +6,9 @@ use Rattle.ss_codec.specs.declared.record.Record.{Record}
 use Rattle.ss_codec.specs.declared.record.Record.TheVariants as records
 use Rattle.ss_recover.specs.Carried.{is_mark_of}
 use Rattle.ss_recover.specs.Order.{Rises, found_key, place_of, stream_of}
-use Rattle.ss_recover.specs.Walk.{IsUsable, records_of}
+use Rattle.ss_recover.specs.Walk.{IsUsable, without_slots}
 use Rattle.ss_recover.specs.declared.found.Found.{Found}
+use Rattle.ss_recover.proofs.Lists.{all_behind, all_both, all_front, all_weaker, map-all}
 
 -- places have 65 bits
 place-below : (r : Record) → IsUsable r → place_of r < 2 ^ 65
@@ -46,52 +47,36 @@ pub record IsAmid (front : List Record) (r : Record) (back : List Record) : Type
   pub places : AllByRecursion (λ other. stream_of other ≡ stream_of r → place_of r ≤ place_of other) back
 
 pub IsAmid-from_order : (front : List Found) (f : Found) (back : List Found) → Rises found_key (front ++ f ∷ back) →
-    AllByRecursion (λ (g : Found). IsUsable g.holds) (front ++ f ∷ back) → IsAmid (records_of front) f.holds (records_of back)
-IsAmid-from_order front f back rises usable = record {
-  usable = here front usable;
-  before = below front (front-rises found_key front f back rises) usable;
-  earlier = sooner front (front-rises found_key front f back rises);
-  rest = holds-each back (rest front usable);
-  behind = above back (back-rises found_key front f back rises) (rest front usable);
-  places = places back (back-rises found_key front f back rises) (rest front usable);
-}
-  where
-    here : (gs : List Found) → AllByRecursion (λ (g : Found). IsUsable g.holds) (gs ++ f ∷ back) → IsUsable f.holds
-    here [] all = all.0
-    here (g ∷ gs) all = here gs all.1
-
-    rest : (gs : List Found) → AllByRecursion (λ (g : Found). IsUsable g.holds) (gs ++ f ∷ back) → AllByRecursion (λ (g : Found). IsUsable g.holds) back
-    rest [] all = all.1
-    rest (g ∷ gs) all = rest gs all.1
-
-    holds-each : (gs : List Found) → AllByRecursion (λ (g : Found). IsUsable g.holds) gs → AllByRecursion IsUsable (records_of gs)
-    holds-each [] all = tt
-    holds-each (g ∷ gs) all = (all.0, holds-each gs all.1)
-
-    below : (gs : List Found) → AllByRecursion (λ g. found_key g ≤ found_key f) gs → AllByRecursion (λ (g : Found). IsUsable g.holds) (gs ++ f ∷ back) →
-        AllByRecursion (λ other. stream_of other ≤ stream_of f.holds) (records_of gs)
-    below [] le all = tt
-    below (g ∷ gs) le all =
-        (key-le (stream_of g.holds) (stream_of f.holds) (place_of g.holds) (place_of f.holds) (place-below g.holds all.0) (place-below f.holds (here (g ∷ gs) all)) le.0, below gs le.1 all.1)
-
-    sooner : (gs : List Found) → AllByRecursion (λ g. found_key g ≤ found_key f) gs →
-        AllByRecursion (λ other. stream_of f.holds ≡ stream_of other → place_of other ≤ place_of f.holds) (records_of gs)
-    sooner [] le = tt
-    sooner (g ∷ gs) le = (key-place (stream_of g.holds) (stream_of f.holds) (place_of g.holds) (place_of f.holds) le.0, sooner gs le.1)
-
-    above : (gs : List Found) → AllByRecursion (λ g. found_key f ≤ found_key g) gs → AllByRecursion (λ (g : Found). IsUsable g.holds) gs →
-        AllByRecursion (λ other. stream_of f.holds ≤ stream_of other) (records_of gs)
-    above [] le all = tt
-    above (g ∷ gs) le all =
-        (key-le (stream_of f.holds) (stream_of g.holds) (place_of f.holds) (place_of g.holds) (place-below f.holds (here front usable)) (place-below g.holds all.0) le.0, above gs le.1 all.1)
-
-    places : (gs : List Found) → AllByRecursion (λ g. found_key f ≤ found_key g) gs → AllByRecursion (λ (g : Found). IsUsable g.holds) gs →
-        AllByRecursion (λ other. stream_of other ≡ stream_of f.holds → place_of f.holds ≤ place_of other) (records_of gs)
-    places [] le all = tt
-    places (g ∷ gs) le all = (key-place (stream_of f.holds) (stream_of g.holds) (place_of f.holds) (place_of g.holds) le.0, places gs le.1 all.1)
+    AllByRecursion (λ (g : Found). IsUsable g.holds) (front ++ f ∷ back) → IsAmid (without_slots front) f.holds (without_slots back)
+IsAmid-from_order front f back rises usable =
+    let low = front-rises found_key front f back rises in
+    let high = back-rises found_key front f back rises in
+    let few = all_front (λ (g : Found). IsUsable g.holds) front (f ∷ back) usable in
+    let rest = all_behind (λ (g : Found). IsUsable g.holds) front (f ∷ back) usable in
+    let at : Found → ℕ = λ g. place_of g.holds in
+    let of : Found → ℕ = λ g. stream_of g.holds in
+    record {
+      usable = rest.0;
+      before =
+          map-all (λ r. stream_of r ≤ of f) (λ (g : Found). g.holds) front
+          (all_both (λ g. found_key g ≤ found_key f) (λ g. IsUsable g.holds) (λ g. of g ≤ of f)
+          (λ g le small. key-le (of g) (of f) (at g) (at f) (place-below g.holds small) (place-below f.holds rest.0) le) front low few);
+      earlier =
+          map-all (λ r. of f ≡ stream_of r → place_of r ≤ at f) (λ (g : Found). g.holds) front
+          (all_weaker (λ g. found_key g ≤ found_key f) (λ g. of f ≡ of g → at g ≤ at f) (λ g. key-place (of g) (of f) (at g) (at f)) front low);
+      rest = map-all IsUsable (λ (g : Found). g.holds) back rest.1;
+      behind =
+          map-all (λ r. of f ≤ stream_of r) (λ (g : Found). g.holds) back
+          (all_both (λ g. found_key f ≤ found_key g) (λ g. IsUsable g.holds) (λ g. of f ≤ of g)
+          (λ g le small. key-le (of f) (of g) (at f) (at g) (place-below f.holds rest.0) (place-below g.holds small) le) back high rest.1);
+      places =
+          map-all (λ r. stream_of r ≡ of f → at f ≤ place_of r) (λ (g : Found). g.holds) back
+          (all_weaker (λ g. found_key f ≤ found_key g) (λ g. of g ≡ of f → at f ≤ at g) (λ g. key-place (of f) (of g) (at f) (at g)) back high);
+    }
 
 -- what comes at or after a window among those of its stream is no record of a landmark or of a value
-pub no-marks-behind : (n first : ℕ) (rs : List Record) → AllByRecursion IsUsable rs → AllByRecursion (λ other. stream_of other ≡ n → 2 ^ 64 + first ≤ place_of other) rs →
+pub no-marks-behind : (n first : ℕ) (rs : List Record) → AllByRecursion IsUsable rs →
+    AllByRecursion (λ other. stream_of other ≡ n → 2 ^ 64 + first ≤ place_of other) rs →
     filter (is_mark_of n) rs ≡ []
 no-marks-behind n first [] usable behind = refl
 no-marks-behind n first (records.Free ∷ rs) usable behind = no-marks-behind n first rs usable.1 behind.1

@@ -5,15 +5,19 @@ use Rattle.std.specs.List.{AllByRecursion, filter_map}
 use Rattle.std.proofs.lemmas.Bool.{eq-eqb, ne_eqb}
 use Rattle.std.proofs.lemmas.List.Elements.{filter-append, filter_map-append}
 use Rattle.ss_codec.specs.declared.record.Record.{Record}
-use Rattle.ss_model.specs.State.{Stream}
+use Rattle.ss_codec.specs.declared.record.Record.TheVariants as records
+use Rattle.ss_model.specs.State.{Stream, Created}
 use Rattle.ss_model.specs.declared.types.Window.{Window}
-use Rattle.ss_recover.specs.Carried.{created_by, is_mark_of, window_of}
+use Rattle.ss_recover.specs.Carried.{created_by, is_mark_of, window_of, stream_number}
 use Rattle.ss_recover.specs.Held.{stream_record, window_record}
 use Rattle.ss_recover.specs.Order.{stream_of}
 use Rattle.ss_recover.proofs.InOrder.{Rise}
 use Rattle.ss_recover.proofs.Lists.{all_append}
 use Rattle.ss_recover.proofs.Marks.{each-mark_of, marks_of, other-marks, own-marks}
-use Rattle.ss_recover.proofs.StreamRecords.{created}
+
+-- a stream as it was created
+abbrev pub created : Stream → Created
+created s = record { number = s.number; name = s.name; params = s.params }
 
 abbrev pub walked : Stream → List Record
 walked s = stream_record s ∷ (marks_of s.number 1 s.landmarks ++ map (window_record s.number) s.windows)
@@ -103,7 +107,8 @@ HasOwn-each (s ∷ ss) rise =
           ∙ ap₂ ◌++◌ (windows-walked s.number s ∙ own-windows s.number s.windows) (windows-others s.number ss apart) ∙ append-nil s.windows;
       marks =
           filter-append (is_mark_of s.number) (walked s) (all_walked ss)
-          ∙ ap₂ ◌++◌ (marks-walked s.number s ∙ own-marks s.number 1 s.landmarks) (marks-others s.number ss apart) ∙ append-nil (marks_of s.number 1 s.landmarks);
+          ∙ ap₂ ◌++◌ (marks-walked s.number s ∙ own-marks s.number 1 s.landmarks) (marks-others s.number ss apart)
+          ∙ append-nil (marks_of s.number 1 s.landmarks);
     } in
     (first, go ss rise.0 (HasOwn-each ss rise.1))
   where
@@ -138,12 +143,13 @@ pub all-all_walked : (P : ℕ → Type 0) (ss : List Stream) → AllByRecursion 
 all-all_walked P [] all = tt
 all-all_walked P (s ∷ ss) all = all_append (λ r. P (stream_of r)) (walked s) (all_walked ss) (all-own P s all.0) (all-all_walked P ss all.1)
 
-all-behind : {X : Type 0} (P : X → Type 0) (xs ys : List X) → AllByRecursion P (xs ++ ys) → AllByRecursion P ys
-all-behind P [] ys all = all
-all-behind P (x ∷ xs) ys all = all-behind P xs ys all.1
-
--- what each of them has, each stream's own has
-pub each-walked : (P : Record → Type 0) (ss : List Stream) → AllByRecursion P (all_walked ss) → AllByRecursion (λ s. P (stream_record s)) ss
-each-walked P [] all = tt
-each-walked P (s ∷ ss) all =
-    (all.0, each-walked P ss (all-behind P (marks_of s.number 1 s.landmarks ++ map (window_record s.number) s.windows) (all_walked ss) all.1))
+pub all-number_of : (P : ℕ → Type 0) (ss : List Stream) → AllByRecursion (λ s. P s.number) ss → AllByRecursion P (filter_map stream_number (all_walked ss))
+all-number_of P ss all = go (all_walked ss) (all-all_walked P ss all)
+  where
+    go : (rs : List Record) → AllByRecursion (λ r. P (stream_of r)) rs → AllByRecursion P (filter_map stream_number rs)
+    go [] each = tt
+    go (records.Free ∷ rs) each = go rs each.1
+    go (records.Stream id name params ∷ rs) each = (each.0, go rs each.1)
+    go (records.Window id first summary ∷ rs) each = (each.0, go rs each.1)
+    go (records.Landmark id number values start finish ∷ rs) each = (each.0, go rs each.1)
+    go (records.Value id number index t v ∷ rs) each = (each.0, go rs each.1)

@@ -1,5 +1,6 @@
 -- What a walk holds after each record.
-use Rattle.std.proofs.Common.{◌≡◌, ◌∙◌, ℕ, ◌^◌, ◌<◌, ◌≤◌, true, false, List, [], ◌∷◌, ◌++◌, map, Option, Some, None, refl, sym, ap, subst, inl, inr, arith, append_assoc}
+use Rattle.std.proofs.Common.{◌≡◌, ◌∙◌, ℕ, ◌^◌, ◌<◌, ◌≤◌, true, false, List, [], ◌∷◌, ◌++◌, map, Option, Some, None, refl, sym, ap, subst, inl, inr}
+use Rattle.std.proofs.Common.{arith, append_assoc}
 use Rattle.std.specs.List.{AllByRecursion}
 use Rattle.std.proofs.lemmas.Bool.{cases_eq, eq-eqb, eqb-true, true≢false}
 use Rattle.std.proofs.lemmas.List.{map-append}
@@ -12,12 +13,12 @@ use Rattle.ss_model.specs.State.{Created, Stream, names_of}
 use Rattle.ss_model.specs.declared.types.Window.{Window}
 use Rattle.ss_recover.specs.Held.{window_record}
 use Rattle.ss_recover.specs.Order.{place_of, stream_of}
-use Rattle.ss_recover.specs.Walk.{EndsLandmark, IsDone, Leaves, Takes, TakesHere, TakesInto, TakesNext, TakesStream, done_part, is_open, records_of}
+use Rattle.ss_recover.specs.Walk.{EndsLandmark, IsDone, LeavesStream, Takes, TakesHere, TakesInto, TakesNext, TakesStream, done_part, is_current, without_slots}
 use Rattle.ss_recover.specs.declared.found.Found.{Found}
 use Rattle.ss_recover.specs.declared.parts.StreamParts.{StreamParts}
 use Rattle.ss_recover.specs.declared.walking.Open.{Open}
 use Rattle.ss_recover.specs.declared.walking.Walk.{Walk}
-use Rattle.ss_recover.proofs.Lists.{all_push, all_weaker}
+use Rattle.ss_recover.proofs.Lists.{all_push, all_weaker, all_behind}
 use Rattle.ss_recover.proofs.WalkClosed.{done-agrees, done-held, done-is, done-records, done_stream}
 use Rattle.ss_recover.proofs.WalkCurrent.{IsCurrent, IsCurrent-add, IsCurrent-begin, IsCurrent-grow, IsCurrent-new}
 use Rattle.ss_recover.proofs.WalkLemmas.{AreHeldSoFar, AreHeldSoFar-none, AreHeldSoFar-push, AreNames, AreNames-none}
@@ -71,8 +72,10 @@ module _ (stream : Open) (done : List StreamParts) (names : List (List ℕ × St
   all-held mid new ends known_old known is =
       let s = done_stream stream mid coming.head coming.own coming.current known_old known ends in
       let pushed = AreHeldSoFar-push done coming.streams (done_part mid) s coming.before coming.own coming.held
-      (done-agrees stream mid coming.head coming.own coming.current known_old known ends) (done-is stream mid coming.head coming.own coming.current known_old known ends) coming.above
-      (done-held stream mid coming.head coming.own coming.current known_old known ends) (done-records stream mid coming.head coming.own coming.current known_old known ends) in
+      (done-agrees stream mid coming.head coming.own coming.current known_old known ends)
+      (done-is stream mid coming.head coming.own coming.current known_old known ends) coming.above
+      (done-held stream mid coming.head coming.own coming.current known_old known ends)
+      (done-records stream mid coming.head coming.own coming.current known_old known ends) in
       record {
         streams = coming.streams ++ s ∷ [];
         held =
@@ -86,13 +89,15 @@ module _ (stream : Open) (done : List StreamParts) (names : List (List ℕ × St
       }
 
 -- the number of the stream whose records come, and that of each of its records
-pub coming-at_most : (stream : Open) (done : List StreamParts) (names : List (List ℕ × StreamId)) (all : List Found) (coming : AreComing stream done names all) (n : ℕ) →
-    AllByRecursion (λ other. stream_of other ≤ n) (records_of all) → coming.head.number ≤ n
+pub coming-at_most : (stream : Open) (done : List StreamParts) (names : List (List ℕ × StreamId)) (all : List Found)
+    (coming : AreComing stream done names all) (n : ℕ) →
+    AllByRecursion (λ other. stream_of other ≤ n) (without_slots all) → coming.head.number ≤ n
 coming-at_most stream done names all coming n before =
-    let parts : records_of all ≡ records_of coming.before ++ records_of coming.own = ap records_of coming.split ∙ map-append (λ (f : Found). f.holds) coming.before coming.own in
-    let own = ap records_of coming.current.split in
-    first (records_of coming.before) (records_of coming.own) (records.Stream coming.head.number coming.head.name coming.head.params)
-    (records_of (coming.current.marks ++ coming.current.found)) own (subst (AllByRecursion (λ other. stream_of other ≤ n)) parts before)
+    let parts : without_slots all ≡ without_slots coming.before ++ without_slots coming.own = ap without_slots coming.split
+    ∙ map-append (λ (f : Found). f.holds) coming.before coming.own in
+    let own = ap without_slots coming.current.split in
+    first (without_slots coming.before) (without_slots coming.own) (records.Stream coming.head.number coming.head.name coming.head.params)
+    (without_slots (coming.current.marks ++ coming.current.found)) own (subst (AllByRecursion (λ other. stream_of other ≤ n)) parts before)
   where
     first : (xs ys : List Record) (r : Record) (rest : List Record) → ys ≡ r ∷ rest → AllByRecursion (λ other. stream_of other ≤ n) (xs ++ ys) → stream_of r ≤ n
     first [] ys r rest is all = (subst (AllByRecursion (λ other. stream_of other ≤ n)) is all).0
@@ -100,7 +105,8 @@ coming-at_most stream done names all coming n before =
 
 -- before a record of another number the stream is done
 left-open : (o : Option Open) (done new : List StreamParts) (names : List (List ℕ × StreamId)) (all : List Found) (n : ℕ) →
-    AllByRecursion (λ other. stream_of other ≤ n) (records_of all) → HoldsAs o done names all → is_open o n ≡ false → IsDone o done new → AreDone new names all n
+    AllByRecursion (λ other. stream_of other ≤ n) (without_slots all) → HoldsAs o done names all → is_current o n ≡ false → IsDone o done new →
+    AreDone new names all n
 left-open None done new names all n before holds other is = record {
   streams = [];
   held =
@@ -117,23 +123,27 @@ left-open (Some stream) done new names all n before holds other is =
     not_same : (a b : ℕ) → a ≤ b → (a ≡ b → ⊥) → a < b
     not_same a b le ne = elim (cases_eq a b) [ inl same ↦ absurd (ne same) | inr other ↦ omega (arith, other, le) ]
 
-stays-open : (o : Option Open) (done : List StreamParts) (names : List (List ℕ × StreamId)) (all : List Found) (n : ℕ) → HoldsAs o done names all → is_open o n ≡ true →
+stays-open : (o : Option Open) (done : List StreamParts) (names : List (List ℕ × StreamId)) (all : List Found) (n : ℕ) → HoldsAs o done names all →
+    is_current o n ≡ true →
     HoldsFor o done names all n
 stays-open None done names all n holds is = absurd (true≢false (sym is))
 stays-open (Some stream) done names all n holds is = (holds, eqb-true stream.part.id.0 n is)
 
-pub left : (old mid : Walk) (n : ℕ) (all : List Found) → AllByRecursion (λ other. stream_of other ≤ n) (records_of all) → Holds old all → Leaves old mid n →
+pub left : (old mid : Walk) (n : ℕ) (all : List Found) → AllByRecursion (λ other. stream_of other ≤ n) (without_slots all) → Holds old all →
+    LeavesStream old mid n →
     HoldsFor mid.current mid.done.items mid.names all n
 left old mid n all before holds (inl stays) =
     subst (λ (w : Walk). HoldsFor w.current w.done.items w.names all n) (sym stays.1) (stays-open old.current old.done.items old.names all n holds stays.0)
 left old mid n all before holds (inr closes) =
     subst (λ o. HoldsFor o mid.done.items mid.names all n) (sym closes.1.current)
-    (subst (λ ns. AreDone mid.done.items ns all n) (sym closes.1.names) (left-open old.current old.done.items mid.done.items old.names all n before holds closes.0 closes.1.done))
+    (subst (λ ns. AreDone mid.done.items ns all n) (sym closes.1.names)
+    (left-open old.current old.done.items mid.done.items old.names all n before holds closes.0 closes.1.done))
 
 -- ---- a record is taken
 
-holds-first : (mid new : Walk) (slot id : ℕ) (name : List ℕ) (params : Params) (all : List Found) (back : List Record) → AreDone mid.done.items mid.names all id →
-    IsAmid (records_of all) (records.Stream id name params) back → TakesStream mid new slot id name params →
+holds-first : (mid new : Walk) (slot id : ℕ) (name : List ℕ) (params : Params) (all : List Found) (back : List Record) →
+    AreDone mid.done.items mid.names all id →
+    IsAmid (without_slots all) (records.Stream id name params) back → TakesStream mid new slot id name params →
     Holds new (all ++ record { slot = slot; holds = records.Stream id name params } ∷ [])
 holds-first mid new slot id name params all back done amid takes =
     let x : Found = record { slot = slot; holds = records.Stream id name params } in
@@ -153,52 +163,55 @@ holds-first mid new slot id name params all back done amid takes =
     (subst (λ ps. AreComing takes.stream ps new.names (all ++ x ∷ [])) (sym (ap (λ v. v.items) takes.done)) have)
 
 -- no window comes before a record of a landmark or a value
-earlier-own : (P : Record → Type 0) (xs ys : List Record) → AllByRecursion P (xs ++ ys) → AllByRecursion P ys
-earlier-own P [] ys all = all
-earlier-own P (x ∷ xs) ys all = earlier-own P xs ys all.1
-
-pub no-windows : (stream : Open) (done : List StreamParts) (names : List (List ℕ × StreamId)) (all : List Found) (coming : AreComing stream done names all) (r : Record) (back : List Record) →
-    IsAmid (records_of all) r back → stream_of r ≡ coming.head.number → place_of r < 2 ^ 64 → coming.current.windows ≡ []
+pub no-windows : (stream : Open) (done : List StreamParts) (names : List (List ℕ × StreamId)) (all : List Found) (coming : AreComing stream done names all)
+    (r : Record) (back : List Record) →
+    IsAmid (without_slots all) r back → stream_of r ≡ coming.head.number → place_of r < 2 ^ 64 → coming.current.windows ≡ []
 no-windows stream done names all coming r back amid same low =
     let c = coming.current in
-    let parts : records_of all ≡ records_of coming.before ++ (stream_head ∷ (records_of c.marks ++ records_of c.found)) =
-    ap records_of coming.split ∙ map-append (λ (f : Found). f.holds) coming.before coming.own
-    ∙ ap (λ l. records_of coming.before ++ l) (ap records_of c.split ∙ ap (λ l. stream_head ∷ l) (map-append (λ (f : Found). f.holds) c.marks c.found)) in
+    let parts : without_slots all ≡ without_slots coming.before ++ (stream_head ∷ (without_slots c.marks ++ without_slots c.found)) =
+    ap without_slots coming.split ∙ map-append (λ (f : Found). f.holds) coming.before coming.own
+    ∙ ap (λ l. without_slots coming.before ++ l) (ap without_slots c.split ∙ ap (λ l. stream_head ∷ l) (map-append (λ (f : Found). f.holds) c.marks c.found)) in
     let P : Record → Type 0 = λ other. stream_of r ≡ stream_of other → place_of other ≤ place_of r in
-    let own = earlier-own P (records_of coming.before) (stream_head ∷ (records_of c.marks ++ records_of c.found)) (subst (AllByRecursion P) parts amid.earlier) in
-    let found = earlier-own P (records_of c.marks) (records_of c.found) own.1 in
+    let own = all_behind P (without_slots coming.before) (stream_head ∷ (without_slots c.marks ++ without_slots c.found))
+    (subst (AllByRecursion P) parts amid.earlier) in
+    let found = all_behind P (without_slots c.marks) (without_slots c.found) own.1 in
     go c.windows (subst (AllByRecursion P) c.found_records found)
   where
     stream_head : Record
     stream_head = records.Stream coming.head.number coming.head.name coming.head.params
 
-    go : (ws : List Window) → AllByRecursion (λ other. stream_of r ≡ stream_of other → place_of other ≤ place_of r) (map (window_record coming.head.number) ws) → ws ≡ []
+    go : (ws : List Window) → AllByRecursion (λ other. stream_of r ≡ stream_of other → place_of other ≤ place_of r)
+        (map (window_record coming.head.number) ws) → ws ≡ []
     go [] all = refl
     go (w ∷ ws) all = absurd (let le = all.0 same in omega (arith, le, low))
 
 into-next : (old new : Open) (done : List StreamParts) (names : List (List ℕ × StreamId)) (slot : ℕ) (r : Record) (all : List Found) (back : List Record) →
-    (coming : AreComing old done names all) → stream_of r ≡ coming.head.number → IsAmid (records_of all) r back → AreKnown old.part.landmarks → TakesNext old new slot r →
+    (coming : AreComing old done names all) → stream_of r ≡ coming.head.number → IsAmid (without_slots all) r back → AreKnown old.part.landmarks →
+    TakesNext old new slot r →
     IsCurrent new coming.head (coming.own ++ record { slot = slot; holds = r } ∷ [])
 into-next old new done names slot records.Free all back coming same amid known takes = absurd takes
 into-next old new done names slot (records.Stream id name params) all back coming same amid known takes = absurd takes
 into-next old new done names slot (records.Window id first summary) all back coming same amid known takes =
-    IsCurrent-grow old takes.0 new coming.head coming.own coming.current (record { slot = slot; holds = records.Window id first summary }) first summary known.order takes.1 takes.2
+    IsCurrent-grow old takes.0 new coming.head coming.own coming.current
+    (record { slot = slot; holds = records.Window id first summary }) first summary known.order takes.1 takes.2
     amid.usable.2 amid.usable.1 (ap (λ n. records.Window n first summary) same)
 into-next old new done names slot (records.Landmark id number values start finish) all back coming same amid known takes =
     let r = records.Landmark id number values start finish in
     let few = amid.usable.1 in
     IsCurrent-begin old new coming.head coming.own coming.current (record { slot = slot; holds = r }) takes.0 number values start finish
     (no-windows old done names all coming r back amid same (omega (arith, few)))
-    known.order takes.2.order takes.1 takes.3 amid.usable.2 (ap (λ n. records.Landmark n number values start finish) same)
+    known.order takes.2.order takes.1 takes.3 amid.usable (ap (λ n. records.Landmark n number values start finish) same)
 into-next old new done names slot (records.Value id number index t v) all back coming same amid known takes =
     let r = records.Value id number index t v in
     let few = amid.usable.1 in
     let short = amid.usable.2 in
     IsCurrent-add old new coming.head coming.own coming.current (record { slot = slot; holds = r }) number index t v
-    (no-windows old done names all coming r back amid same (omega (arith, few, short))) known.order takes (ap (λ n. records.Value n number index t v) same)
+    (no-windows old done names all coming r back amid same (omega (arith, few, short))) known.order takes amid.usable
+    (ap (λ n. records.Value n number index t v) same)
 
-holds-into : (mid new : Walk) (slot : ℕ) (r : Record) (all : List Found) (back : List Record) → HoldsFor mid.current mid.done.items mid.names all (stream_of r) →
-    IsAmid (records_of all) r back → TakesInto mid new slot r → Holds new (all ++ record { slot = slot; holds = r } ∷ [])
+holds-into : (mid new : Walk) (slot : ℕ) (r : Record) (all : List Found) (back : List Record) →
+    HoldsFor mid.current mid.done.items mid.names all (stream_of r) →
+    IsAmid (without_slots all) r back → TakesInto mid new slot r → Holds new (all ++ record { slot = slot; holds = r } ∷ [])
 holds-into mid new slot r all back holds amid takes =
     let x : Found = record { slot = slot; holds = r } in
     let its = subst (λ o. HoldsFor o mid.done.items mid.names all (stream_of r)) takes.was_current holds in
@@ -219,8 +232,9 @@ holds-into mid new slot r all back holds amid takes =
     (subst (λ ps. AreComing takes.stream ps new.names (all ++ x ∷ [])) (sym (ap (λ v. v.items) takes.done))
     (subst (λ ns. AreComing takes.stream mid.done.items ns (all ++ x ∷ [])) (sym takes.names) have))
 
-holds-here : (mid new : Walk) (slot : ℕ) (r : Record) (all : List Found) (back : List Record) → HoldsFor mid.current mid.done.items mid.names all (stream_of r) →
-    IsAmid (records_of all) r back → TakesHere mid new slot r → Holds new (all ++ record { slot = slot; holds = r } ∷ [])
+holds-here : (mid new : Walk) (slot : ℕ) (r : Record) (all : List Found) (back : List Record) →
+    HoldsFor mid.current mid.done.items mid.names all (stream_of r) →
+    IsAmid (without_slots all) r back → TakesHere mid new slot r → Holds new (all ++ record { slot = slot; holds = r } ∷ [])
 holds-here mid new slot r all back holds amid (inr into) = holds-into mid new slot r all back holds amid into
 holds-here mid new slot records.Free all back holds amid (inl first) = absurd first.1
 holds-here mid new slot (records.Window id w summary) all back holds amid (inl first) = absurd first.1
@@ -229,7 +243,8 @@ holds-here mid new slot (records.Value id number index t v) all back holds amid 
 holds-here mid new slot (records.Stream id name params) all back holds amid (inl first) =
     holds-first mid new slot id name params all back (subst (λ o. HoldsFor o mid.done.items mid.names all id) first.0 holds) amid first.1
 
-pub holds-step : (old new : Walk) (slot : ℕ) (r : Record) (all : List Found) (back : List Record) → Holds old all → IsAmid (records_of all) r back → Takes old new slot r →
+pub holds-step : (old new : Walk) (slot : ℕ) (r : Record) (all : List Found) (back : List Record) → Holds old all → IsAmid (without_slots all) r back →
+    Takes old new slot r →
     Holds new (all ++ record { slot = slot; holds = r } ∷ [])
 holds-step old new slot r all back holds amid takes =
     holds-here takes.0 new slot r all back (left old takes.0 (stream_of r) all amid.before holds takes.1) amid takes.2

@@ -14,12 +14,12 @@ unfoldable pub spelled : SlotMap → List (Option Record)
 spelled found = map (λ slot. decoded (found.bytes slot)) (range_with_len 0 found.extent)
 
 -- the number of the stream that a record is of; a free slot is of none
-abbrev pub number_of : Record → Option ℕ
-number_of Free = None
-number_of (Stream id name params) = Some id
-number_of (Window id first summary) = Some id
-number_of (Landmark id number values start finish) = Some id
-number_of (Value id number index t v) = Some id
+abbrev pub stream_number : Record → Option ℕ
+stream_number Free = None
+stream_number (Stream id name params) = Some id
+stream_number (Window id first summary) = Some id
+stream_number (Landmark id number values start finish) = Some id
+stream_number (Value id number index t v) = Some id
 
 -- the stream that a record creates, if it is a stream's record
 abbrev pub created_by : Record → Option State.Created

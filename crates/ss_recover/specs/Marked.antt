@@ -1,5 +1,6 @@
 -- The landmarks that records make, which come in order: each landmark's record, and then those of its values.
-use Rattle.std.specs.Prelude.{ℕ, ◌+◌, Bool, true, false, ◌==◌, ◌&&◌, ◌||◌, nat_le, nat_lt, if◌then◌else◌, List, [], ◌++◌, fold, length, is_none, option_and_then, option_to_list, Option, Some, None}
+use Rattle.std.specs.Prelude.{ℕ, ◌+◌, Bool, true, false, ◌==◌, ◌&&◌, ◌||◌, nat_le, nat_lt, if◌then◌else◌, List, [], ◌++◌, fold, length, is_none}
+use Rattle.std.specs.Prelude.{option_and_then, option_to_list, Option, Some, None}
 use Rattle.std.specs.List.{list_all}
 use Rattle.std.specs.Option.{option_map_or}
 use Rattle.ss_codec.specs.declared.record.Record.{Record}
@@ -77,12 +78,12 @@ abbrev pub marked_by : List Record → Option Marked
 marked_by records = fold marked_on (Some nothing_marked) records
 
 -- the last landmark has the values that its record says
-abbrev pub is_whole : Marked → Bool
-is_whole marked = option_map_or (has_said marked.said) marked.last true
+abbrev pub has_all_values : Marked → Bool
+has_all_values marked = option_map_or (has_said marked.said) marked.last true
 
 -- the records are those of landmarks with all their values
 abbrev pub are_marks : List Record → Bool
-are_marks records = option_map_or is_whole (marked_by records) false
+are_marks records = option_map_or has_all_values (marked_by records) false
 
 -- the landmarks that they make; none where they aren't those of landmarks
 abbrev pub landmarks_made : List Record → List marks.Landmark

@@ -4,7 +4,7 @@ use Rattle.std.specs.List.{filter_map, position}
 use Rattle.ss_journal.specs.Redo.{SlotMap}
 use Rattle.ss_codec.specs.declared.record.Record.{Record}
 use Rattle.ss_model.specs.State.{Created, Stream}
-use Rattle.ss_recover.specs.Carried.{spelled, number_of, in_order, marks_carried, streams_created, windows_carried}
+use Rattle.ss_recover.specs.Carried.{spelled, stream_number, in_order, marks_carried, streams_created, windows_carried}
 use Rattle.ss_recover.specs.Conditions.{is_sound}
 use Rattle.ss_recover.specs.Marked.{landmarks_made}
 
@@ -23,13 +23,13 @@ abbrev pub lowest_bad_slot : List (Option Record) → Option ℕ
 lowest_bad_slot slots = position is_none slots
 
 -- the least of some numbers
-abbrev pub least : List ℕ → Option ℕ
-least [] = None
-least (n ∷ ns) = Some (fold min n ns)
+abbrev pub lowest_in : List ℕ → Option ℕ
+lowest_in [] = None
+lowest_in (n ∷ ns) = Some (fold min n ns)
 
 -- the lowest number that some record has and whose records break a condition
 abbrev pub lowest_bad_stream : List Record → Option ℕ
-lowest_bad_stream records = least (filter (λ number. not (is_sound records number)) (filter_map number_of records))
+lowest_bad_stream records = lowest_in (filter (λ number. not (is_sound records number)) (filter_map stream_number records))
 
 -- a stream with the windows and the landmarks that records have of it
 abbrev pub stream_carried : List Record → Created → Stream

@@ -1,5 +1,6 @@
 -- A walk over records in the order of their streams: what each record changes, and when it is refused.
-use Rattle.std.specs.Prelude.{◌≡◌, ◌≢◌, ◌⊎◌, ℕ, ℤ, ◌+◌, ◌-◌, ◌^◌, ◌<◌, ◌≤◌, Bool, true, false, ◌==◌, ◌&&◌, List, [], ◌∷◌, ◌++◌, length, map, filter, flat_map, zip, Option, Some, None, IsSome, IsNone, IfSome, IsTrue, Result, Ok, Err, ⊤, FitsSigned}
+use Rattle.std.specs.Prelude.{◌≡◌, ◌≢◌, ◌⊎◌, ℕ, ℤ, ◌+◌, ◌-◌, ◌^◌, ◌<◌, ◌≤◌, Bool, true, false, ◌==◌, ◌&&◌, List, [], ◌∷◌, ◌++◌, length, map, filter}
+use Rattle.std.specs.Prelude.{flat_map, zip, Option, Some, None, IsSome, IsNone, IfSome, IsTrue, Result, Ok, Err, ⊤, FitsSigned}
 use Rattle.std.specs.Int.{w64}
 use Rattle.std.specs.List.{AllByRecursion, filter_map, list_all, list_any}
 use Rattle.std.specs.List.Sorted.{IsPermutation}
@@ -43,7 +44,7 @@ Tells true P Q = P
 Tells false P Q = Q
 
 -- a stream of which no other record came
-pub record IsNew (stream : Open) (slot id : ℕ) (name : List ℕ) (params : Params) : Type 0 where
+pub record HasBegun (stream : Open) (slot id : ℕ) (name : List ℕ) (params : Params) : Type 0 where
   pub has_id : stream.part.id.0 ≡ id
   pub has_name : stream.part.name ≡ name
   pub has_params : params_of stream.part.target ≡ params
@@ -78,7 +79,7 @@ IsAfter (Some last) time = last < time
 
 -- The last time of a stream's landmarks is the one that is held, and a landmark that is to close is open, and closes at that time
 -- or later.
-pub record IsInTime (stream : Open) : Type 0 where
+pub record KeepsTime (stream : Open) : Type 0 where
   pub last : stream.part.last_time ≡ latest_of stream.part.landmarks.landmarks
   pub closing : IfSome stream.closing (λ c. (c.finish ≤ LATEST_TIME) × IsSome (open_landmark stream.part.landmarks.landmarks)
       × IfSome stream.part.last_time (λ last. last ≤ c.finish))
@@ -111,7 +112,7 @@ pub record EndsLandmark (old new : Open) : Type 0 where
   pub slots : new.part.landmarks.slots ≡ old.part.landmarks.slots
   pub value_slots : new.part.landmarks.value_slots ≡ old.part.landmarks.value_slots
   pub last_time : new.part.last_time ≡ time_at_end old.closing old.part.last_time
-  pub in_time : IsInTime new
+  pub in_time : KeepsTime new
 
 -- a landmark of this number may open then
 pub record CanBegin (stream : Open) (number start : ℕ) : Type 0 where
@@ -149,7 +150,7 @@ pub record CanAdd (stream : Open) (number index t : ℕ) : Type 0 where
   pub before : is_up_to t (finish_of stream.closing) ≡ true
 
 -- The record of a value is taken.
-pub record Adds (old new : Open) (slot number index t : ℕ) (v : ℤ) : Type 0 where
+pub record TakesValue (old new : Open) (slot number index t : ℕ) (v : ℤ) : Type 0 where
   pub can : CanAdd old number index t
   pub same : HasSameWindows old new
   pub closing : new.closing ≡ old.closing
@@ -191,7 +192,7 @@ TakesNext old new slot (Stream id name params) = ⊥
 TakesNext old new slot (Window id first summary) = (mid : Open) × EndsLandmark old mid × TakesWindow mid new slot first summary
 TakesNext old new slot (records.Landmark id number values start finish) =
     (mid : Open) × EndsLandmark old mid × AreKnown mid.part.landmarks × Begins mid new slot number values start finish
-TakesNext old new slot (records.Value id number index t v) = Adds old new slot number index t v
+TakesNext old new slot (records.Value id number index t v) = TakesValue old new slot number index t v
 
 -- It is refused.
 abbrev pub RefusesNext : Open → Record → Type 0
@@ -204,19 +205,19 @@ RefusesNext old (records.Landmark id number values start finish) =
 RefusesNext old (records.Value id number index t v) = ¬ CanAdd old number index t
 
 -- there is room for one more record of the stream whose records come, which is in order of time
-pub record IsReady (stream : Open) : Type 0 where
+pub record HasRoomForOne (stream : Open) : Type 0 where
   pub line : length stream.part.line.entries < MOST_RECORDS
   pub slots : length stream.part.landmarks.slots < MOST_LANDMARK_SLOTS
   pub value_slots : length stream.part.landmarks.value_slots < MOST_LANDMARK_SLOTS
-  pub in_time : IsInTime stream
+  pub in_time : KeepsTime stream
 
-abbrev pub HasRoom : Walk → Type 0
-HasRoom walk = (stream : Open) → walk.current ≡ Some stream → IsReady stream
+abbrev pub AwaitsRecord : Walk → Type 0
+AwaitsRecord walk = (stream : Open) → walk.current ≡ Some stream → HasRoomForOne stream
 
 -- whether the stream whose records come has this number
-abbrev pub is_open : Option Open → ℕ → Bool
-is_open None id = false
-is_open (Some stream) id = stream.part.id.0 == id
+abbrev pub is_current : Option Open → ℕ → Bool
+is_current None id = false
+is_current (Some stream) id = stream.part.id.0 == id
 
 -- what is held of a stream once all its records came: its last time is that of its windows and of its landmarks
 abbrev pub done_part : Open → StreamParts
@@ -250,14 +251,14 @@ pub record CannotClose (old : Walk) (n : ℕ) : Type 0 where
   pub lacks : LacksValues stream
 
 -- before a record of another stream, the stream whose records came is done
-abbrev pub Leaves : Walk → Walk → ℕ → Type 0
-Leaves old new id = ((is_open old.current id ≡ true) × (new ≡ old)) ⊎ ((is_open old.current id ≡ false) × Closes old new)
+abbrev pub LeavesStream : Walk → Walk → ℕ → Type 0
+LeavesStream old new id = ((is_current old.current id ≡ true) × (new ≡ old)) ⊎ ((is_current old.current id ≡ false) × Closes old new)
 
 -- The record of a stream is taken, where no other stream's records come.
 pub record TakesStream (old new : Walk) (slot id : ℕ) (name : List ℕ) (params : Params) : Type 0 where
   pub stream : Open
   pub current : new.current ≡ Some stream
-  pub fresh : IsNew stream slot id name params
+  pub fresh : HasBegun stream slot id name params
   pub done : new.done ≡ old.done
   pub names : map (λ n. n.0) new.names ≡ map (λ n. n.0) old.names ++ name ∷ []
   pub distinct : HasDistinctNames new.names
@@ -310,14 +311,14 @@ RefusesHere old r = ((old.current ≡ None) × RefusesFirst old r) ⊎ RefusesIn
 
 -- a record is taken
 abbrev pub Takes : Walk → Walk → ℕ → Record → Type 0
-Takes old new slot r = (mid : Walk) × Leaves old mid (stream_of r) × TakesHere mid new slot r
+Takes old new slot r = (mid : Walk) × LeavesStream old mid (stream_of r) × TakesHere mid new slot r
 
 -- A record is refused: the stream whose records came lacks values of a landmark, or the record can't come then. The number is that
 -- of the stream whose records break a condition.
 abbrev pub Refuses : Walk → ℕ → Record → Type 0
 Refuses old n r =
-    ((is_open old.current (stream_of r) ≡ false) × CannotClose old n)
-    ⊎ ((n ≡ stream_of r) × ((mid : Walk) × Leaves old mid (stream_of r) × RefusesHere mid r))
+    ((is_current old.current (stream_of r) ≡ false) × CannotClose old n)
+    ⊎ ((n ≡ stream_of r) × ((mid : Walk) × LeavesStream old mid (stream_of r) × RefusesHere mid r))
 
 -- what a walk answers to a record that it takes or refuses
 abbrev pub AnswersAs : Type 0 → (ℕ → Type 0) → Result (Unit {0}) RecoverError → Type 0
@@ -346,8 +347,8 @@ abbrev pub in_slot : Found → ℕ × Option Record
 in_slot f = (f.slot, Some f.holds)
 
 -- the records without their slots
-abbrev pub records_of : List Found → List Record
-records_of all = map (λ (f : Found). f.holds) all
+abbrev pub without_slots : List Found → List Record
+without_slots all = map (λ (f : Found). f.holds) all
 
 -- the records of the number meet all conditions, where those of each stream come in order
 abbrev pub is_sound_in_order : List Record → ℕ → Bool
@@ -385,7 +386,7 @@ AreAllBuilt parts all = (streams : List Streams.Stream) × AreBuilt parts stream
 -- what a walk over records in order answers
 abbrev pub WalksAs : List Found → Result Parts RecoverError → Type 0
 WalksAs all (Ok parts) = AreAllBuilt parts.streams.items all
-WalksAs all (Err (BadStream number)) = IsLowestUnsound number (records_of all)
+WalksAs all (Err (BadStream number)) = IsLowestUnsound number (without_slots all)
 WalksAs all (Err OutOfMemory) = ⊤
 WalksAs all (Err (BadSlot n)) = ⊥
 WalksAs all (Err Disk) = ⊥

@@ -17,6 +17,7 @@ fn is_free(landmarks: &Landmarks, t: u64) -> bool
 }
 
 /// Whether no landmark covers an end of the window, and it has no more values than there are free times in it.
+#[tactic(auto, unfolding(ss_model::specs::Marks::lies_free))]
 pub fn lies_free(landmarks: &Landmarks, window: &Window) -> bool
     requires { IsPossible window.now.summary }
     ensures { result ≡ lies_free landmarks.now.landmarks window.now }

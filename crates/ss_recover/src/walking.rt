@@ -11,7 +11,10 @@ ghost use Rattle.ss_target.specs.Lengths.{has_target};
 ghost use Rattle.ss_model.specs.Marks.{later};
 ghost use Rattle.ss_model.specs.declared.types.TheConstants.{MOST_RECORDS};
 ghost use Rattle.ss_recover.specs.Order.{Rises, found_key, stream_of};
-ghost use Rattle.ss_recover.specs.Walk.{Tells, IsNew, Grows, IsAfter, IsInTime, IsReady, closing_at, finish_of, EndsLandmark, LacksValues, Begins, CanBegin, Adds, CanAdd, TakesWindow, IsNext, TakesNext, RefusesNext, is_open, Closes, CannotClose, Leaves, TakesFirst, RefusesFirst, TakesHere, RefusesHere, Takes, Refuses, AnswersAs, HasRoom, IsUsable, WalksAs, IsFront, AreAllBuilt, IsLowestUnsound, records_of};
+ghost use Rattle.ss_recover.specs.Walk.{Tells, HasBegun, Grows, IsAfter, KeepsTime, HasRoomForOne, closing_at, finish_of, EndsLandmark, LacksValues};
+ghost use Rattle.ss_recover.specs.Walk.{Begins, CanBegin, TakesValue, CanAdd, TakesWindow, IsNext, TakesNext, RefusesNext, is_current, Closes};
+ghost use Rattle.ss_recover.specs.Walk.{CannotClose, LeavesStream, TakesFirst, RefusesFirst, TakesHere, RefusesHere, Takes, Refuses, AnswersAs};
+ghost use Rattle.ss_recover.specs.Walk.{AwaitsRecord, IsUsable, WalksAs, IsFront, AreAllBuilt, IsLowestUnsound, without_slots};
 ghost use Rattle.ss_recover.specs.declared.recover_error.RecoverError.TheVariants.{OutOfMemory};
 
 use crate::found::Found;
@@ -122,7 +125,7 @@ impl Open {
         params: Params,
     ) -> Result<Open, RecoverError>
         requires { IsTrue (has_target params) }
-        ensures ok { IfOk result (λ stream. IsNew stream slot id name params) }
+        ensures ok { IfOk result (λ stream. HasBegun stream slot id name params) }
         ensures err { IfErr result (λ error. error ≡ OutOfMemory) }
     {
         match Target::of(params) {
@@ -147,7 +150,7 @@ impl Open {
     // Ends the landmark whose values came: it closes, unless it stays open. False says that it hasn't as many values as its
     // record says.
     fn end_landmark(&mut self) -> bool
-        requires { IsInTime self.old }
+        requires { KeepsTime self.old }
         ensures { Tells result (EndsLandmark self.old self.new) (LacksValues self.old) }
     {
         match self.closing.take() {
@@ -185,7 +188,7 @@ impl Open {
         start: u64,
         finish: Option<u64>,
     ) -> Result<bool, RecoverError>
-        requires ready { IsReady self.old }
+        requires ready { HasRoomForOne self.old }
         requires time { start ≤ LATEST_TIME }
         ensures known { IfOk result (λ fits. AreKnown self.old.part.landmarks) }
         ensures ok { IfOk result (λ fits. Tells fits (Begins self.old self.new slot number values start finish)
@@ -228,9 +231,9 @@ impl Open {
         t: u64,
         v: i64,
     ) -> Result<bool, RecoverError>
-        requires ready { IsReady self.old }
+        requires ready { HasRoomForOne self.old }
         requires time { t ≤ LATEST_TIME }
-        ensures ok { IfOk result (λ fits. Tells fits (Adds self.old self.new slot number index t v) (¬ CanAdd self.old number index t)) }
+        ensures ok { IfOk result (λ fits. Tells fits (TakesValue self.old self.new slot number index t v) (¬ CanAdd self.old number index t)) }
         ensures err { IfErr result (λ error. error ≡ OutOfMemory) }
     {
         if !self.can_add(number, index, t) {
@@ -260,7 +263,7 @@ impl Open {
         summary: Summary,
         steps: &mut Steps<L>,
     ) -> Result<bool, RecoverError>
-        requires ready { IsReady self.old }
+        requires ready { HasRoomForOne self.old }
         requires last { first + summary.count ≤ GREATEST_COUNT + 1 }
         requires possible { IsPossible summary }
         ensures ok { IfOk result (λ fits. Tells fits (TakesWindow self.old self.new slot first summary)
@@ -283,7 +286,7 @@ impl Open {
         holds: &Record,
         steps: &mut Steps<L>,
     ) -> Result<bool, RecoverError>
-        requires ready { IsReady self.old }
+        requires ready { HasRoomForOne self.old }
         requires valid { IsUsable holds.now }
         ensures known { IfOk result (λ fits. AreKnown self.old.part.landmarks) }
         ensures ok { IfOk result (λ fits. Tells fits (TakesNext self.old self.new slot holds.now) (RefusesNext self.old holds.now)) }
@@ -337,8 +340,8 @@ fn stream_of(holds: &Record) -> u32
 
 impl Walk {
     // Whether the stream whose records come has this number.
-    fn is_open(&self, id: u32) -> bool
-        ensures { result ≡ is_open self.now.current id }
+    fn is_current(&self, id: u32) -> bool
+        ensures { result ≡ is_current self.now.current id }
     {
         match &self.current {
             Some(stream) => stream.part.id.0 == id,
@@ -348,7 +351,7 @@ impl Walk {
 
     // The stream whose records came is done: its last landmark ends, and it has its last time.
     fn close(&mut self) -> Result<(), RecoverError>
-        requires { HasRoom self.old }
+        requires { AwaitsRecord self.old }
         ensures { AnswersAs (Closes self.old self.new) (λ n. CannotClose self.old n) result }
     {
         let Some(mut stream) = self.current.take() else {
@@ -370,10 +373,10 @@ impl Walk {
 
     // Before a record of another stream the one whose records came is done.
     fn leave(&mut self, id: u32) -> Result<(), RecoverError>
-        requires { HasRoom self.old }
-        ensures { AnswersAs (Leaves self.old self.new id) (λ n. (is_open self.old.current id ≡ false) × CannotClose self.old n) result }
+        requires { AwaitsRecord self.old }
+        ensures { AnswersAs (LeavesStream self.old self.new id) (λ n. (is_current self.old.current id ≡ false) × CannotClose self.old n) result }
     {
-        if self.is_open(id) {
+        if self.is_current(id) {
             return Ok(());
         }
         self.close()
@@ -407,7 +410,7 @@ impl Walk {
         found: &Found,
         steps: &mut Steps<L>,
     ) -> Result<bool, RecoverError>
-        requires room { HasRoom self.old }
+        requires room { AwaitsRecord self.old }
         requires valid { IsUsable found.now.holds }
         ensures ok { IfOk result (λ fits. Tells fits (TakesHere self.old self.new found.now.slot found.now.holds)
             (RefusesHere self.old found.now.holds)) }
@@ -426,7 +429,7 @@ impl Walk {
         found: &Found,
         steps: &mut Steps<L>,
     ) -> Result<(), RecoverError>
-        requires room { HasRoom self.old }
+        requires room { AwaitsRecord self.old }
         requires valid { IsUsable found.now.holds }
         ensures { AnswersAs (Takes self.old self.new found.now.slot found.now.holds)
             (λ n. Refuses self.old n found.now.holds) result }
@@ -451,7 +454,7 @@ impl Walk {
         requires usable { All (λ f. IsUsable f.holds) all.now }
         requires order { Rises found_key all.now }
         requires few { length all.now ≤ MOST_RECORDS }
-        ensures { AnswersAs (AreAllBuilt self.new.done.items all.now) (λ n. IsLowestUnsound n (records_of all.now)) result }
+        ensures { AnswersAs (AreAllBuilt self.new.done.items all.now) (λ n. IsLowestUnsound n (without_slots all.now)) result }
     {
         for found in all {
             self.take(alloc, found, steps)?;

@@ -1,4 +1,5 @@
-use Rattle.std.proofs.Common.{◌≡◌, ◌+◌, ◌≤◌, ◌<◌, ◌∙◌, ◌++◌, ℕ, [], ◌∷◌, All, List, Vec, Global, Bool, true, false, not, map, filter, length, Err, sym, ap, subst, arith}
+use Rattle.std.proofs.Common.{◌≡◌, ◌+◌, ◌≤◌, ◌<◌, ◌∙◌, ◌++◌, ℕ, [], ◌∷◌, All, List, Vec, Global, Bool, true, false, not, map, filter, length, Err, sym}
+use Rattle.std.proofs.Common.{ap, subst, arith}
 use Rattle.std.specs.List.{range_with_len}
 use Rattle.std.specs.Result.{is_ok}
 use Rattle.std.proofs.lemmas.Bool.{cond-true, cond-false}
@@ -15,7 +16,8 @@ use Rattle.std.proofs.lemmas.Result.{err_from_is_err_and}
 use Rattle.ss_outside.specs.Step.{Step}
 use Rattle.ss_journal.specs.Kept.{JournalState}
 use Rattle.ss_records.specs.Live.{is_live}
-use Rattle.ss_recover.proofs.GatherLemmas.{AreRead, AreRead-live, AreRead-zeros, extent-kept, free-zeros, finds-more, finds-then, gather-refused, live-zeros, slots-all, slots-more, verdict-same}
+use Rattle.ss_recover.proofs.GatherLemmas.{AreRead, AreRead-live, AreRead-zeros, extent-kept, free-zeros, finds-more, finds-then, gather-refused}
+use Rattle.ss_recover.proofs.GatherLemmas.{live-zeros, slots-all, slots-more, verdict-same}
 use Rattle.ss_recover.proofs.gathering.gather.Goals as goal
 use Rattle.ss_recover.proofs.gathering.gather.Goals.{then-is_live+in_ok-found+else-is_err, else-is_live}
 
@@ -36,7 +38,8 @@ returns-in_err-found-clause-gathers g c =
     (omega (arith, lt, finish.value, ap (λ (j : JournalState). j.extent) before.journal, extent-kept c.loop-slot.records.journal _ found kept.journal stands))
     (live-zeros c.loop-slot.records _ found slot false kept stands (omega (arith, lt, finish.value, finish.most)) live)
     )) in
-    subst (λ v. Step v (g.D.Disk.seen c.args.disk.now) (g.D.Disk.seen c.read_record.new.disk) (FindsOut v c.read_record.new.records (λ found. GathersAs found result)))
+    subst (λ v. Step v (g.D.Disk.seen c.args.disk.now) (g.D.Disk.seen c.read_record.new.disk)
+    (FindsOut v c.read_record.new.records (λ found. GathersAs found result)))
     (verdict-same answer result e c.in_err-found.was is) read
 
 pub returns-clause-gathers : goal.returns-clause-gathers
@@ -46,12 +49,20 @@ returns-clause-gathers g c =
     let at_end = c.loop-slot-test.false in
     finds-more before.gathers (λ found stands kept read.
     let size : c.loop-slot.slot ≡ found.extent =
-    omega (arith, at_end, finish.value, c.loop-slot.auto.slot-end, ap (λ (j : JournalState). j.extent) before.journal, extent-kept c.loop-slot.records.journal _ found kept.journal stands) in
+    omega (
+      arith,
+      at_end,
+      finish.value,
+      c.loop-slot.auto.slot-end,
+      ap (λ (j : JournalState). j.extent) before.journal,
+      extent-kept c.loop-slot.records.journal _ found kept.journal stands,
+    ) in
     let all : AreRead c.loop-slot.all.items found found.extent = subst (λ (n : ℕ). AreRead c.loop-slot.all.items found n) size read in
     record { occupied_by = all.occupied_by; spelled_all = all.spelled_all }
     )
 
-slots-now : (live : List Bool) (items : List Found) → map (λ (f : Found). f.slot) items ≡ filter (is_live live) (range_with_len 0 (length live)) → length live ≡ MOST_SLOTS → length items ≤ MOST_SLOTS
+slots-now : (live : List Bool) (items : List Found) → map (λ (f : Found). f.slot) items ≡ filter (is_live live) (range_with_len 0 (length live)) →
+    length live ≡ MOST_SLOTS → length items ≤ MOST_SLOTS
 slots-now live items slots sound =
     omega (
       arith,
@@ -71,15 +82,18 @@ returns-clause-slots g c =
     let end = c.loop-slot-test.false in
     let size : c.loop-slot.slot ≡ c.args.records.now.journal.extent = omega (arith, end, most.value, c.loop-slot.auto.slot-end) in
     before.slots ∙ ap (λ (n : ℕ). filter (is_live c.args.records.now.live) (range_with_len 0 n)) size
-    ∙ slots-all c.args.records.now.live c.args.records.now.journal.extent (length c.args.records.now.live) (omega (arith, sound.slots, most.value, most.most)) (sound.below c.requires.running)
+    ∙ slots-all c.args.records.now.live c.args.records.now.journal.extent (length c.args.records.now.live)
+    (omega (arith, sound.slots, most.value, most.most)) (sound.below c.requires.running)
 
 pub returns-clause-few : goal.returns-clause-few
 returns-clause-few g c = slots-now c.args.records.now.live c.loop-slot.all.items (returns-clause-slots g c) c.live.ensures.sound.slots
 
 -- a live slot was read
-live-step : (live : List Bool) (slots slots' : List ℕ) (slot : ℕ) → is_live live slot ≡ true → slots ≡ filter (is_live live) (range_with_len 0 slot) → slots' ≡ slots ++ slot ∷ [] →
+live-step : (live : List Bool) (slots slots' : List ℕ) (slot : ℕ) → is_live live slot ≡ true → slots ≡ filter (is_live live) (range_with_len 0 slot) →
+    slots' ≡ slots ++ slot ∷ [] →
     slots' ≡ filter (is_live live) (range_with_len 0 (slot + 1))
-live-step live slots slots' slot yes-live is more = more ∙ sym (cond-true (is_live live slot) (slots ++ slot ∷ []) slots yes-live) ∙ slots-more live slots slot is
+live-step live slots slots' slot yes-live is more = more ∙ sym (cond-true (is_live live slot) (slots ++ slot ∷ []) slots yes-live)
+    ∙ slots-more live slots slot is
 
 -- one that isn't live was not
 other-step : (live : List Bool) (slots : List ℕ) (slot : ℕ) → is_live live slot ≡ false → slots ≡ filter (is_live live) (range_with_len 0 slot) →
@@ -102,9 +116,11 @@ loop-slot-preserved g c =
           let read = w.in_ok-found.ensures in
           let is : is_live c.args.records.now.live slot ≡ true = sym value ∙ w.if-is_live.true in
           let pushed : now.all.items ≡ items ++ x ∷ [] =
-          ap (λ (v : Vec Found Global). v.items) w.all-is ∙ w.push.ensures.items ∙ cond-true (is_ok w.push.result) _ items (w.is_err.ensures.negation ∙ ap not w.if-is_err.false) in
+          ap (λ (v : Vec Found Global). v.items) w.all-is ∙ w.push.ensures.items
+          ∙ cond-true (is_ok w.push.result) _ items (w.is_err.ensures.negation ∙ ap not w.if-is_err.false) in
           let same-slots : map (λ (f : Found). f.slot) now.all.items ≡ map (λ (f : Found). f.slot) items ++ slot ∷ [] =
-          ap (λ (fs : List Found). map (λ f. f.slot) fs) pushed ∙ map-append (λ (f : Found). f.slot) items (x ∷ []) ∙ ap (λ (k : ℕ). map (λ (f : Found). f.slot) items ++ k ∷ []) read.slot in
+          ap (λ (fs : List Found). map (λ f. f.slot) fs) pushed ∙ map-append (λ (f : Found). f.slot) items (x ∷ [])
+          ∙ ap (λ (k : ℕ). map (λ (f : Found). f.slot) items ++ k ∷ []) read.slot in
           let gathers = finds-then before.gathers read.reads (λ found stands kept all one.
           let zeros = live-zeros c.loop-slot.records _ found slot false kept stands within (sym c.is_live.ensures.value ∙ w.if-is_live.true) in
           AreRead-live items found slot x all zeros one.0 one.1
@@ -113,8 +129,10 @@ loop-slot-preserved g c =
             gathers = rw (w.disk-is, w.records-is, pushed) gathers;
             journal = ap (λ (r : RecordsState). r.journal) w.records-is ∙ read.leaves.journal ∙ before.journal;
             live = ap (λ (r : RecordsState). r.live) w.records-is ∙ read.leaves.live ∙ before.live;
-            usable = subst (λ fs. All (λ (f : Found). IsUsable f.holds) fs) (sym pushed) (All-push (λ (f : Found). IsUsable f.holds) items x before.usable read.usable);
-            slots = live-step c.args.records.now.live (map (λ (f : Found). f.slot) items) (map (λ (f : Found). f.slot) now.all.items) slot is before.slots same-slots;
+            usable = subst (λ fs. All (λ (f : Found). IsUsable f.holds) fs) (sym pushed)
+                (All-push (λ (f : Found). IsUsable f.holds) items x before.usable read.usable);
+            slots = live-step c.args.records.now.live (map (λ (f : Found). f.slot) items)
+                (map (λ (f : Found). f.slot) now.all.items) slot is before.slots same-slots;
           }
       | else-is_live w ↦
           let is : is_live c.args.records.now.live slot ≡ false = sym value ∙ w.if-is_live.false in
@@ -128,6 +146,7 @@ loop-slot-preserved g c =
             journal = ap (λ (r : RecordsState). r.journal) w.records-is ∙ before.journal;
             live = ap (λ (r : RecordsState). r.live) w.records-is ∙ before.live;
             usable = subst (λ fs. All (λ (f : Found). IsUsable f.holds) fs) (sym kept) before.usable;
-            slots = ap (λ (fs : List Found). map (λ f. f.slot) fs) kept ∙ other-step c.args.records.now.live (map (λ (f : Found). f.slot) items) slot is before.slots;
+            slots = ap (λ (fs : List Found). map (λ f. f.slot) fs) kept
+                ∙ other-step c.args.records.now.live (map (λ (f : Found). f.slot) items) slot is before.slots;
           }
     ]

@@ -1,17 +1,18 @@
 use Rattle.std.proofs.Common.{◌≡◌, Err, ◌∙◌, All, List, length, refl, sym, ap, subst, arith}
 use Rattle.std.proofs.lemmas.Result.{err_from_is_err_and}
 use Rattle.std.proofs.lemmas.List.Sorted.{All-permutation, length_permutation}
-use Rattle.ss_outside.specs.Verdict.{UnlessFailed}
+use Rattle.ss_outside.specs.Verdict.{Counted, OnFailed, UnlessFailed}
 use Rattle.ss_outside.proofs.StepLemmas.{step-verdict}
 use Rattle.ss_records.specs.Kept.{AreKept}
 use Rattle.ss_recover.specs.Order.{Rises, found_key}
 use Rattle.ss_recover.specs.Walk.{IsUsable, WalksAs}
 use Rattle.ss_recover.specs.declared.found.Found.{Found}
 use Rattle.ss_recover.proofs.GatherLemmas.{verdict-same}
-use Rattle.ss_recover.proofs.OrderLemmas.{Rises-in_order}
-use Rattle.ss_recover.proofs.RebuiltParts.{no-blame, refuses-found, not-disk, on-disk, rebuilds, whole-from_walk}
+use Rattle.ss_recover.proofs.InOrder.{Rises-in_order}
+use Rattle.ss_recover.proofs.RebuiltParts.{refuses-found, rebuilds, walk-verdict, whole-from_walk}
 use Rattle.ss_recover.proofs.WholeSlots.{HasWholeSlots-StandsFor}
 use Rattle.ss_recover.proofs.rebuilding.rebuild.Goals as goal
+use Rattle.ss_journal.specs.Kept.{HasStopped}
 
 pub returns : goal.returns
 returns g c =
@@ -23,23 +24,27 @@ returns g c =
     let order = c.in_ok-sort.ensures.order in
     let moved = c.sort.ensures.permutation in
     let step = read.gathers in
+    let before = (g.D.Disk.seen c.args.disk.now).faults in
+    let after = (g.D.Disk.seen c.gather.new.disk).faults in
+    let Kept : Type 0 = AreKept c.gather.new.records (g.D.Disk.seen c.gather.new.disk).told.content in
+    let Same : Type 0 = c.gather.new.records.journal ≡ c.args.records.now.journal in
     record {
       rebuilds = record {
         tells = step.tells;
-        counted = no-blame sorted result _ _ walks step.counted;
+        counted = walk-verdict (λ v. Counted v before after) sorted result walks step.counted step.counted step.counted;
         told = λ told.
             let finds = step.told told in
             record {
               carried = λ found stands.
                   rebuilds found all sorted result (HasWholeSlots-StandsFor _ found stands) (finds.found found stands) read.usable order moved walks;
-              kept = not-disk sorted result _ walks finds.kept;
+              kept = walk-verdict (λ v. UnlessFailed v Kept) sorted result walks finds.kept finds.kept finds.kept;
               reads = finds.reads;
             };
       };
       whole = whole-from_walk c.args.records.now.live all sorted result read.slots moved walks;
-      journal = not-disk sorted result _ walks read.leaves.journal;
+      journal = walk-verdict (λ v. UnlessFailed v Same) sorted result walks read.leaves.journal read.leaves.journal read.leaves.journal;
       live = read.leaves.live;
-      stopped = on-disk sorted result _ walks;
+      stopped = walk-verdict (λ v. OnFailed v (HasStopped c.gather.new.records.journal)) sorted result walks tt tt tt;
     }
 
 pub returns-in_err-found-clause-rebuilds : goal.returns-in_err-found-clause-rebuilds

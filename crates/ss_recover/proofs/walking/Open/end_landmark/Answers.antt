@@ -1,25 +1,10 @@
 use Rattle.std.proofs.Common.{◌∙◌, sym, refl}
-use Rattle.ss_recover.proofs.WalkCode.{CanClose-in_time, Ends-none, Ends-some, IsTold-opened}
+use Rattle.ss_recover.proofs.WalkCode.{CanClose-in_time, Ends-some, IsTold-opened}
 use Rattle.ss_recover.proofs.walking.Open.end_landmark.Goals as goal
-
-pub returns-in-None : goal.returns-in-None
-returns-in-None c =
-    Ends-none c.args.self.now _ c.requires (sym c.take.ensures.value ∙ c.in-None.is) refl c.take.ensures.after refl refl
 
 pub finish-requires-clause-after : goal.finish-requires-clause-after
 finish-requires-clause-after c =
     CanClose-in_time c.args.self.now c.in-Some.closing c.requires (sym c.take.ensures.value ∙ c.in-Some.is)
-
-pub returns-then-values-closing : goal.returns-then-values-closing
-returns-then-values-closing c =
-    let told = IsTold-opened c.args.self.now.part.landmarks _ _ _ (sym c.opened.ensures.value ∙ c.in-Some-opened.is) in
-    record {
-      closing = c.in-Some.closing;
-      closes = sym c.take.ensures.value ∙ c.in-Some.is;
-      landmark = told.landmark;
-      is_open = told.is_open;
-      other = λ same. c.if-values-closing.true (c.in-Some-opened.values-is ∙ sym told.long ∙ same);
-    }
 
 pub returns-else-values-closing : goal.returns-else-values-closing
 returns-else-values-closing c =

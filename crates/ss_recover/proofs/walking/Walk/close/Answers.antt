@@ -32,8 +32,14 @@ returns c =
           subst (AnswersAs (Closes c.args.self.now _) (λ n. CannotClose c.args.self.now n)) (sym w.result-is)
           (record {
             current = c.take.ensures.after;
-            done = subst (λ o. IsDone o c.args.self.now.done.items c.push.new.self.items) (sym (sym c.take.ensures.value ∙ c.in-Some.is))
-                (c.end_landmark.new.self, c.if-not-end_landmark.ensures, c.count.ensures.state, c.count-2.ensures.state, w.in-Ok.ensures.items ∙ ap (λ (last : Option ℕ). c.args.self.now.done.items ++ with_last c.end_landmark.new.self.part last ∷ []) c.later-stream.ensures);
+            done = subst (λ o. IsDone o c.args.self.now.done.items c.push.new.self.items) (sym (sym c.take.ensures.value ∙ c.in-Some.is)) (
+              c.end_landmark.new.self,
+              c.if-not-end_landmark.ensures,
+              c.count.ensures.state,
+              c.count-2.ensures.state,
+              w.in-Ok.ensures.items
+                  ∙ ap (λ (last : Option ℕ). c.args.self.now.done.items ++ with_last c.end_landmark.new.self.part last ∷ []) c.later-stream.ensures,
+            );
             names = refl;
           })
       | in-Err w ↦ subst (AnswersAs (Closes c.args.self.now _) (λ n. CannotClose c.args.self.now n)) (sym w.result-is) tt

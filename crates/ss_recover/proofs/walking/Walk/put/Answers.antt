@@ -1,5 +1,5 @@
-use Rattle.std.proofs.Common.{refl, inl, inr}
-use Rattle.ss_recover.proofs.WalkCode.{tells-also, tells-more}
+use Rattle.std.proofs.Common.{refl, inr}
+use Rattle.ss_recover.proofs.WalkCode.{tells-more}
 use Rattle.ss_recover.proofs.walking.Walk.put.Goals as goal
 
 pub returns-in-Some-clause-ok : goal.returns-in-Some-clause-ok
@@ -16,9 +16,3 @@ returns-in-Some-clause-ok g c =
       names = refl;
     }))
     (λ known refuses. inr (record { stream = c.in-Some.stream; current = c.in-Some.is; known = known; refuses = refuses }))
-
-pub returns-in-None-clause-ok : goal.returns-in-None-clause-ok
-returns-in-None-clause-ok g c =
-    tells-also c.begin.result _ _ _ _ c.begin.ensures.ok
-    (λ takes. inl (c.in-None.is, takes))
-    (λ refuses. inl (c.in-None.is, refuses))
