@@ -1,5 +1,5 @@
 -- Steps of a disk, one after another.
-use Rattle.std.proofs.Common.{◌≡◌, ℕ, refl, ◌∙◌, subst}
+use Rattle.std.proofs.Common.{◌≡◌, refl, ◌∙◌, subst}
 use Rattle.std.specs.Prelude.{IsTrue}
 use Rattle.ss_outside.specs.Disk.{DiskView, Told}
 use Rattle.ss_outside.specs.Step.{Step}

@@ -1,5 +1,5 @@
 -- Rows that pin what each verdict says, and what is said of a disk that tells.
-use Rattle.std.proofs.Common.{◌≡◌, ℕ, ◌≤◌, List, true, IsTrue, Ok, Err, refl, sym, subst}
+use Rattle.std.proofs.Common.{◌≡◌, ℕ, ◌≤◌, List, IsTrue, Ok, Err, refl, sym, subst}
 use Rattle.ss_outside.specs.Disk.{DiskView, Told, Between, OfContent, WhereTold}
 use Rattle.ss_outside.specs.Step.{Step}
 use Rattle.ss_outside.specs.Verdict.{Verdict, Counted, IfChanged, IfUndone, IsFirm, OnFailed, OnFine, OnNoMemory, OnRefused, Rose, UnlessFailed}
