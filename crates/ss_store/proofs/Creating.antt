@@ -81,6 +81,7 @@ module _ {store : StoreState} {catalog : List (List ℕ × StreamId)} {name : Li
       (StepsState-created store before.told.content kept part name params is.fresh is.is_new.next (none-of kept) before.told after.told (Ok done) refl made.changes),
       StoreIsKept-created store before.told.content kept part name params is.fresh is.is_new.next (none-of kept) now store.stopped after.told.content
       made.kept ((made.changes others).content kept.held))))
+      (λ new_one. refl)
       (said_of_created store.streams part name params is.fresh is.is_new.named)
       (λ plain. let wrong : false ≡ true = plain in absurd (cc))
       refl (omega (arith, extent, low))

@@ -16,7 +16,7 @@ use Rattle.ss_records.specs.Kept.{RecordsState}
 use Rattle.ss_recover.specs.Held.{TileFrom, entries_of, mark_slots, slots_held}
 use Rattle.ss_recover.specs.declared.parts.StreamParts.{StreamParts}
 use Rattle.ss_store.specs.Admitted.{IsMarker}
-use Rattle.ss_store.specs.Applied.{Applies, StandsOn, is_plain_value}
+use Rattle.ss_store.specs.Applied.{Applies, StandsOn, is_creation, is_plain_value}
 use Rattle.ss_store.specs.Changing.{CanTakeMark, HasRoomFor, HasSameWindows, HasTakenMark, KeepsWhole, TakesMark}
 use Rattle.ss_store.specs.Held.{values_held}
 use Rattle.ss_store.specs.Kept.{IsSound, SameButSpare, StoreIsKept, StoreState, of_part, refuses_held, without_spare}
@@ -63,6 +63,12 @@ taking-mark {store} {view} {catalog} {name} {t} {mark} {place} {slot} {was} {mar
   read = read;
   room = room;
 }
+
+-- nor does a mark create a stream
+not-creation : (name : List ℕ) (t : ℕ) (mark : Mark) → is_creation (event_of name t mark) ≡ true → ⊥
+not-creation name t marks.Open made = let wrong : false ≡ true = made in cc
+not-creation name t (marks.Value v) made = let wrong : false ≡ true = made in cc
+not-creation name t marks.Close made = let wrong : false ≡ true = made in cc
 
 -- an event of landmarks is no value outside them
 not-plain : (parts : List StreamParts) (name : List ℕ) (t : ℕ) (mark : Mark) →
@@ -180,6 +186,7 @@ module _ {store : StoreState} {catalog : List (List ℕ × StreamId)} {name : Li
           after.told (Ok done) refl turns),
           StoreIsKept-marked store content kept name t mark place slot is.marker is.none said begun (record was { landmarks = marks }) now room records
           store.stopped after.told.content takes.kept (turns.content held))))
+          (λ made. absurd (not-creation name t mark made))
           (rw (event_name-mark name t mark)
           (said_of_set name store.streams place is.marker.part now n k is.sound.numbers is.marker.named is.marker.at same_name values windows))
           (λ plain. absurd (not-plain store.streams name t mark is.begun plain))

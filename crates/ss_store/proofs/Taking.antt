@@ -146,6 +146,7 @@ module _ {store : StoreState} {catalog : List (List ℕ × StreamId)} {name : Li
           (Ok done) refl turns),
           StoreIsKept-appended store content kept name t v place slot is.taker is.none is.said (record was { line = line }) now room records store.stopped
           after.told.content takes.kept (turns.content held))))
+          (λ made. let wrong : false ≡ true = made in absurd (cc))
           (said_of_set name store.streams place is.taker.part now n k is.sound.numbers is.taker.named is.taker.at same_name values windows)
           (λ plain. KeepsToTarget-taken store catalog name t place slot now n k is.sound is.taker same_name values windows whole.tiles none_due some)
           refl (omega (arith, extent, low))
