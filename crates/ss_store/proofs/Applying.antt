@@ -95,7 +95,8 @@ module _ (event : Event) (old : StoreState) where
 
     module _ (before after : DiskView) where
       pub Applies-done : (ack : Ack) → Step fine before after (λ o n. StepsState {E = ApplyError} event (Ok ack) o n × StoreIsKept new n.content) →
-          (is_creation event ≡ true → ack ≡ record { n = 0; k = 0 }) → ack ≡ said_of_held (part_named (event_name event) new.streams) → (is_plain_value old.streams event ≡ true → IsFew new.streams event ack) →
+          (is_creation event ≡ true → ack ≡ record { n = 0; k = 0 }) → ack ≡ said_of_held (part_named (event_name event) new.streams) →
+          (is_plain_value old.streams event ≡ true → IsFew new.streams event ack) →
           new.stopped ≡ old.stopped →
           new.records.journal.extent ≤ max old.records.journal.extent (length (flat_map slots_held old.streams) + 1) →
           Applies event old new before after (Ok ack)
@@ -115,7 +116,8 @@ module _ (event : Event) (old : StoreState) where
         changed = tt;
       }
 
-      pub Applies-failed : (why : ReadError) → Step (verdict_of_read {T = Unit {0}} (Err why)) before after (StepsState {T = Ack} event (Err (apply_of_fault why))) →
+      pub Applies-failed : (why : ReadError) →
+          Step (verdict_of_read {T = Unit {0}} (Err why)) before after (StepsState {T = Ack} event (Err (apply_of_fault why))) →
           (IsTrue before.tells → IsFirm (verdict_of_read {T = Unit {0}} (Err why))) →
           IfChanged (verdict_of_read {T = Unit {0}} (Err why))
           (λ slot. IfSome (part_named (event_name event) new.streams) (λ part. Contains (window_slots_of part) slot)) →
