@@ -82,7 +82,7 @@ module _ (event : Event) (old : StoreState) where
       stands = stands;
       ack = tt;
       decay = λ plain. tt;
-    created = λ made. tt;
+      created = λ made. tt;
       refused = accepted-exactly (refuses_held old.streams event) (Err apply.OutOfMemory) none (λ r wrong. cc);
       same = tt;
       starved = same;
@@ -128,7 +128,7 @@ module _ (event : Event) (old : StoreState) where
         stands = λ run. let wrong : true ≡ false = sym stops ∙ run in cc;
         ack = tt;
         decay = λ plain. tt;
-    created = λ made. tt;
+        created = λ made. tt;
         refused = accepted-exactly (refuses_held old.streams event) (Err apply.Disk) none (λ r wrong. cc);
         same = tt;
         starved = tt;
@@ -143,7 +143,7 @@ module _ (event : Event) (old : StoreState) where
         stands = λ run. let wrong : true ≡ false = sym stops ∙ run in cc;
         ack = tt;
         decay = λ plain. tt;
-    created = λ made. tt;
+        created = λ made. tt;
         refused = accepted-exactly (refuses_held old.streams event) (Err (apply.Changed slot)) none (λ r wrong. cc);
         same = tt;
         starved = tt;
