@@ -8,7 +8,6 @@ use Rattle.ss_outside.specs.Verdict.{IfChanged, IsFirm, fine}
 use Rattle.ss_catalog.specs.Events.{event_name}
 use Rattle.ss_catalog.specs.declared.event.Event.{Event}
 use Rattle.ss_catalog.specs.declared.refusal.Refusal.{Refusal}
-use Rattle.ss_model.specs.State.{Stream}
 use Rattle.ss_model.specs.Steps.{stepped}
 use Rattle.ss_model.specs.declared.types.Ack.{Ack}
 use Rattle.ss_recover.specs.Held.{slots_held}
