@@ -23,7 +23,6 @@ use Rattle.ss_model.specs.State.{Stream, state, stream_named}
 use Rattle.ss_model.specs.declared.outcome.Outcome.{Outcome}
 use Rattle.ss_model.specs.declared.outcome.Outcome.TheVariants.{Count, Sum, Min, Max}
 use Rattle.ss_model.specs.declared.types.Ack.{Ack}
-use Rattle.ss_outside.specs.Verdict.{HasCause}
 use Rattle.ss_outside.specs.declared.source.Failed.{Failed}
 use Rattle.std.specs.Fmt.{decimal, signed_decimal}
 use Rattle.ss_catalog.specs.Refusal.{refusal_name}
@@ -47,10 +46,10 @@ use Rattle.ss_store.proofs.AskedStreams.{refuses_query_held-is}
 use Rattle.ss_store.proofs.Calls.{Turns-reads, Turns-weaker}
 use Rattle.ss_store.proofs.KeptStates.{AllAgree-recovered}
 use Rattle.ss_program.specs.Answer.{Adds, Replies, at_sink}
-use Rattle.ss_program.specs.Line.{Brought, History, accepted_event, answered, brings, command_brings, history_after, line_text, meaning_brings, refused, shown, text_brought, the_event, unless_refused, window_rows}
+use Rattle.ss_program.specs.Line.{Brought, History, accepted_event, answered, brings, command_brings, history_after, kept_brings, line_text, meaning_brings, refused, shown, text_brought, the_event, unless_refused, window_rows}
 use Rattle.ss_program.specs.Sent.{appended, AppendsLess, Sends}
 use Rattle.ss_program.specs.Progress.{StandsAround, StopsWith}
-use Rattle.ss_program.specs.Status.{Counts, CountsIfEnded, IsApplyStop, IsDiskStop, IsShowStop, IsStop}
+use Rattle.ss_program.specs.Status.{IsApplyStop, IsDiskStop, IsShowStop, IsStop}
 use Rattle.ss_program.specs.declared.status.Status.{Status}
 use Rattle.ss_program.specs.declared.status.Status.TheVariants.{Done, Usage, RefusedStore, DiskFault, SourceFault, SinkFault, OutOfMemory, InputLimit, RecordChanged}
 use Rattle.ss_program.proofs.SendLemmas.{appended-appended, appended-nil}
@@ -139,32 +138,16 @@ line-kept kept line some = elim (cases_lt LONGEST_LINE (length line)) [
   | inr fits ↦ (let is = cond-true (nat_le (length line) LONGEST_LINE) (Some line) None (le-leb (length line) LONGEST_LINE fits) in cc)
 ]
 
+-- so what a line brings as it is kept is what it brings
+pub kept-brings : (history : History) (o : Option (List ℕ)) (line : List ℕ) → o ≡ unless_long line → kept_brings history o ≡ brings history line
+kept-brings history None line is = sym (ap (λ m. meaning_brings history m) (meaning-long line is))
+kept-brings history (Some bytes) line is = ap (λ l. brings history l) (line-kept bytes line is)
+
 -- what sending a reply answers
 pub Sends-at_sink : (before after : Option (List ℕ)) (text : List ℕ) (sent : Result Unit Failed) → Sends before after text sent →
     Sends before after text (at_sink sent)
 Sends-at_sink before after text (Ok u) sends = sends
 Sends-at_sink before after text (Err e) sends = sends
-
-pub SinkFault-at_sink : (sent : Result Unit Failed) → IfErr (at_sink sent) (λ status. status ≡ SinkFault)
-SinkFault-at_sink (Ok u) = tt
-SinkFault-at_sink (Err e) = refl
-
-pub CountsIfEnded-at_sink : (before now : ℕ) (sent : Result Unit Failed) → HasCause before now sent → CountsIfEnded SinkFault before now (at_sink sent)
-CountsIfEnded-at_sink before now (Ok u) cause = cause.fine
-CountsIfEnded-at_sink before now (Err e) cause = cause.failed
-
--- where the sink failed, the disk's count stayed, and where the disk stopped the run, that of the sink
-pub IsShowStop-sink : (tells : Bool) (sent : Result Unit Status) → IfErr sent (λ status. status ≡ SinkFault) → IfErr sent (IsShowStop tells)
-IsShowStop-sink tells (Ok u) is = tt
-IsShowStop-sink tells (Err status) is = subst (IsShowStop tells) (sym is) tt
-
-pub IsStop-sink : (tells : Bool) (sent : Result Unit Status) → IfErr sent (λ status. status ≡ SinkFault) → IfErr sent (IsStop tells)
-IsStop-sink tells (Ok u) is = tt
-IsStop-sink tells (Err status) is = subst (IsStop tells) (sym is) tt
-
-pub CountsIfEnded-sink : (n : ℕ) (sent : Result Unit Status) → IfErr sent (λ status. status ≡ SinkFault) → CountsIfEnded DiskFault n n sent
-CountsIfEnded-sink n (Ok u) is = refl
-CountsIfEnded-sink n (Err status) is = subst (Counts DiskFault n n) (sym is) refl
 
 pub IsShowStop-disk : (tells : Bool) (status : Status) → IsDiskStop tells status → IsShowStop tells status
 IsShowStop-disk tells DiskFault stop = tt
@@ -199,29 +182,6 @@ IsStop-apply tells SourceFault stop = absurd stop
 IsStop-apply tells SinkFault stop = absurd stop
 IsStop-apply tells InputLimit stop = absurd stop
 
--- the sink's count where a call of the store stopped the run
-pub Counts-apply : (tells : Bool) (n : ℕ) (status : Status) → IsApplyStop tells status → Counts SinkFault n n status
-Counts-apply tells n DiskFault stop = refl
-Counts-apply tells n RecordChanged stop = refl
-Counts-apply tells n OutOfMemory stop = refl
-Counts-apply tells n Done stop = absurd stop
-Counts-apply tells n Usage stop = absurd stop
-Counts-apply tells n RefusedStore stop = absurd stop
-Counts-apply tells n SourceFault stop = absurd stop
-Counts-apply tells n SinkFault stop = absurd stop
-Counts-apply tells n InputLimit stop = absurd stop
-
-pub Counts-disk : (tells : Bool) (n : ℕ) (status : Status) → IsDiskStop tells status → Counts SinkFault n n status
-Counts-disk tells n DiskFault stop = refl
-Counts-disk tells n RecordChanged stop = refl
-Counts-disk tells n OutOfMemory stop = absurd stop
-Counts-disk tells n Done stop = absurd stop
-Counts-disk tells n Usage stop = absurd stop
-Counts-disk tells n RefusedStore stop = absurd stop
-Counts-disk tells n SourceFault stop = absurd stop
-Counts-disk tells n SinkFault stop = absurd stop
-Counts-disk tells n InputLimit stop = absurd stop
-
 -- nothing was sent of a text that isn't empty
 pub AppendsLess-none : (held : Option (List ℕ)) (text : List ℕ) → 0 < length text → AppendsLess held held text
 AppendsLess-none held text some = (0, some, sym (appended-nil held))
@@ -247,13 +207,12 @@ reply_line-some (ListHead count) = line_of-some (codes "list") (decimal count �
 reply_line-some (StreamRow row) = line_of-some row.name (target_words row.params ++ decimal row.n ∷ decimal row.k ∷ decimal row.landmarks ∷ decimal row.values ∷ [])
 
 -- one reply was sent, or less than it
-pub Replies-sent : (brought : Brought) (before after : Option (List ℕ)) (reply : Reply) (sent : Result Unit Status) →
-    brought.replies ≡ reply ∷ [] → IfErr sent (λ status. status ≡ SinkFault) → Sends before after (reply_line reply) sent → Replies brought before after sent
-Replies-sent brought before after reply (Ok u) one is sends =
+pub Replies-sent : (brought : Brought) (before after : Option (List ℕ)) (reply : Reply) (sent : Result Unit Failed) →
+    brought.replies ≡ reply ∷ [] → Sends before after (reply_line reply) sent → Replies brought before after (at_sink sent)
+Replies-sent brought before after reply (Ok u) one sends =
     sends ∙ ap (λ bs. appended before bs) (sym (append-nil (reply_line reply)) ∙ ap (λ rs. flat_map reply_line rs) (sym one))
-Replies-sent brought before after reply (Err status) one is sends =
-    subst (StopsWith brought before after) (sym is)
-    (subst (λ bs. AppendsLess before after bs) (sym (append-nil (reply_line reply)) ∙ ap (λ rs. flat_map reply_line rs) (sym one)) sends)
+Replies-sent brought before after reply (Err e) one sends =
+    subst (λ bs. AppendsLess before after bs) (sym (append-nil (reply_line reply)) ∙ ap (λ rs. flat_map reply_line rs) (sym one)) sends
 
 -- what a command shows was sent, or less than it
 pub Replies-shown : (tells : Bool) (brought : Brought) (before after : Option (List ℕ)) (sent : Result Unit Status) → IfErr sent (IsShowStop tells) →

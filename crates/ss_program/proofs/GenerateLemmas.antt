@@ -25,10 +25,11 @@ use Rattle.ss_program.specs.Progress.{StandsAround, StandsWithin}
 use Rattle.ss_program.specs.Refused.{AsRefused, status_of_open}
 use Rattle.ss_program.specs.Sent.{appended, AppendsFront, AppendsLess, Sends}
 use Rattle.ss_program.specs.Session.{after_lines, replies}
-use Rattle.ss_program.specs.Status.{number_of}
 use Rattle.ss_program.specs.Tally.{HasRun, IsSingle, Tallies}
 use Rattle.ss_program.specs.declared.generate.Tally.{Tally}
 use Rattle.ss_program.specs.declared.status.Status.{Status}
+use Rattle.ss_program.specs.declared.status.Status.TheVariants.{Done, SinkFault}
+use Rattle.ss_outside.specs.declared.source.Failed.{Failed}
 use Rattle.ss_program.proofs.RunLemmas.{unopened}
 use Rattle.ss_program.proofs.HeldLemmas.{StandsForFirst-within}
 use Rattle.ss_program.proofs.SendLemmas.{AppendsFront-all, appended-appended, appended-nil}
@@ -150,7 +151,7 @@ IsAt-end history seed count left old new tally at none =
     subst (λ cs. HasRun history (map printed cs) old new tally) (sym (at.all ∙ ap (λ cs. at.done ++ cs) none ∙ append-nil at.done)) at.ran
 
 -- a text was sent, and then another, or less than it
-pub Sends-then : (before held after : Option (List ℕ)) (a b : List ℕ) (sent : Result (Unit {0}) Status) → held ≡ appended before a → Sends held after b sent →
+pub Sends-then : (before held after : Option (List ℕ)) (a b : List ℕ) (sent : Result (Unit {0}) Failed) → held ≡ appended before a → Sends held after b sent →
     Sends before after (a ++ b) sent
 Sends-then before held after a b (Ok u) is sends = sends ∙ ap (λ o. appended o b) is ∙ appended-appended before a b
 Sends-then before held after a b (Err e) is less = (
@@ -176,7 +177,7 @@ counts-tallied seed count lines all tally tallies =
     ∙ ap (λ n. counts_of seed count lines (count_by is_done all) n) tallies.refused
 
 -- the counts were sent, and then the last replies, or less than these
-pub Sends-summary : (before held after : Option (List ℕ)) (seed count lines : ℕ) (all : List Reply) (tally : Tally) (sent : Result (Unit {0}) Status) →
+pub Sends-summary : (before held after : Option (List ℕ)) (seed count lines : ℕ) (all : List Reply) (tally : Tally) (sent : Result (Unit {0}) Failed) →
     Tallies lines all tally → held ≡ appended before (counts_of seed count tally.lines tally.done tally.refused) → SendsRows held after tally.last.items sent →
     Sends before after (summary_of seed count lines all) sent
 Sends-summary before held after seed count lines all tally sent tallies is rows =
@@ -196,42 +197,46 @@ pub StandsForGenerated-within : (history : History) (seed count : ℕ) (image : 
     StandsForGenerated history seed count image
 StandsForGenerated-within history seed count image within = StandsForFirst-within history (generated seed count) image within
 
--- the run stopped at a command, or before the first
-pub Generates-stop : (history : History) (seed count : ℕ) (before after : Option (List ℕ)) (old new : Told) (status : ℕ) → (status ≡ 0 → ⊥) → KnowsNow new →
-    AppendsFront before after (summary history seed count) → LeavesOnly old new (StandsWithin history (generated seed count)) →
-    Generates history seed count before after old new status
-Generates-stop history seed count before after old new status going knows front run =
+-- the run stopped at a command, or before the first, or the sink failed at the summary
+pub Generates-stop : (history : History) (seed count : ℕ) (before after : Option (List ℕ)) (old new : Told) (status : Status) → (status ≡ Done → ⊥) →
+    ((status ≡ SinkFault → ⊥) → after ≡ before) → KnowsNow new → AppendsFront before after (summary history seed count) →
+    LeavesOnly old new (StandsWithin history (generated seed count)) → Generates history seed count before after old new status
+Generates-stop history seed count before after old new status going silent knows front run =
     let weak = weaker old new (StandsWithin history (generated seed count)) (StandsForGenerated history seed count) (StandsForGenerated-within history seed count) run in
     record {
       front = front;
-      whole = λ zero. absurd (going zero);
+      whole = λ is. absurd (going is);
+      silent = λ _. silent;
       any_moment = weak;
       kept = now old new (StandsForGenerated history seed count) knows weak;
-      done = λ zero. absurd (going zero);
-      all = λ zero. absurd (going zero);
+      done = λ is. absurd (going is);
+      all = λ is. absurd (going is);
     }
 
 -- all commands were done, and the summary was sent
 pub Generates-done : (history : History) (seed count : ℕ) (before after : Option (List ℕ)) (old new : Told) (tally : Tally) → KnowsNow new →
-    HasRun history (generated seed count) old new tally → after ≡ appended before (summary history seed count) → Generates history seed count before after old new 0
+    HasRun history (generated seed count) old new tally → after ≡ appended before (summary history seed count) →
+    Generates history seed count before after old new Done
 Generates-done history seed count before after old new tally knows ran sent =
     let weak = weaker old new (StandsWithin history (generated seed count)) (StandsForGenerated history seed count) (StandsForGenerated-within history seed count) ran.any_moment in
     let all : StandsForAll history seed count new.content = subst (λ h. Stands h new.content) (after_lines-accepted history (generated seed count)) ran.stands in
     record {
       front = AppendsFront-all before after (summary history seed count) sent;
-      whole = λ zero. sent;
+      whole = λ _. sent;
+      silent = λ going. absurd (going refl);
       any_moment = weak;
       kept = now old new (StandsForGenerated history seed count) knows weak;
-      done = λ zero. all;
-      all = λ zero. of_content new (StandsForAll history seed count) ran.durable all;
+      done = λ _. all;
+      all = λ _. of_content new (StandsForAll history seed count) ran.durable all;
     }
 
 -- What opening the store left comes before.
-pub Generates-opened : (history : History) (seed count : ℕ) (before after : Option (List ℕ)) (old mid new : Told) (status : ℕ) → LeavesOnly old mid (Stands history) →
+pub Generates-opened : (history : History) (seed count : ℕ) (before after : Option (List ℕ)) (old mid new : Told) (status : Status) → LeavesOnly old mid (Stands history) →
     Generates history seed count before after mid new status → Generates history seed count before after old new status
 Generates-opened history seed count before after old mid new status opened run = record {
   front = run.front;
   whole = run.whole;
+  silent = run.silent;
   any_moment = joined old mid new (StandsForGenerated history seed count)
       (weaker old mid (Stands history) (StandsForGenerated history seed count)
       (λ image is. StandsForGenerated-within history seed count image ([], generated seed count, refl, is)) opened) run.any_moment;
@@ -243,8 +248,8 @@ Generates-opened history seed count before after old mid new status opened run =
 -- the store wasn't opened
 pub Generates-unopened : (history : History) (seed count : ℕ) (before after : Option (List ℕ)) (had has : ℕ) (old new : Told) (error : OpenError) →
     OpensAs old.content (Err error) → Stands history old.content → AsRefused error before after had has → KnowsNow new → LeavesOnly old new (Stands history) →
-    Generates history seed count before after old new (number_of (status_of_open error))
+    Generates history seed count before after old new (status_of_open error)
 Generates-unopened history seed count before after had has old new error opens stands said knows opened =
     let un = unopened old.content (state history) before after had has error stands.state opens said in
-    Generates-stop history seed count before after old new (number_of (status_of_open error)) un.1 knows (0, un.0 ∙ sym (appended-nil before))
+    Generates-stop history seed count before after old new (status_of_open error) un.1 (λ _. un.0) knows (0, un.0 ∙ sym (appended-nil before))
     (weaker old new (Stands history) (StandsWithin history (generated seed count)) (λ image is. ([], generated seed count, refl, is)) opened)

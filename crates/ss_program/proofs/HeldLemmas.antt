@@ -10,9 +10,9 @@ use Rattle.ss_outside.specs.Disk.{Told}
 use Rattle.ss_report.specs.Text.{reply_line}
 use Rattle.ss_store.specs.Recover.{Stands}
 use Rattle.ss_program.specs.Held.{HoldsAcked, StandsForFirst, acks}
-use Rattle.ss_program.specs.Line.{Brought, History, brings, line_text, text_brought, the_event}
+use Rattle.ss_program.specs.Line.{Brought, History, brings, history_after, line_text, text_brought, the_event}
 use Rattle.ss_program.specs.Outcome.{HoldsReported}
-use Rattle.ss_program.specs.Progress.{StandsAround, StandsWithin, StopsAt, StopsWith}
+use Rattle.ss_program.specs.Progress.{StandsAround, StandsStopped, StandsWithin, StopsAt, StopsWith}
 use Rattle.ss_program.specs.Sent.{appended}
 use Rattle.ss_program.specs.Session.{accepted, after_line, after_lines, replies, text_of}
 use Rattle.ss_program.specs.declared.status.Status.{Status}
@@ -118,9 +118,9 @@ new_bytes had has a b k is within =
     omega (arith, ap (λ (bs : List ℕ). length bs) same, length-append (had ++ a) (take k b), length-append had a, length-take-le k b within)
 
 -- all lines before some others were answered
-pub HoldsReported-done : (history : History) (input : List ℕ) (before after : Option (List ℕ)) (disk : Told) (status : ℕ) (done others : List (List ℕ)) →
+pub HoldsReported-done : (history : History) (input : List ℕ) (before after : Option (List ℕ)) (disk : Told) (status : Status) (done others : List (List ℕ)) →
     lines input ≡ done ++ others → after ≡ appended before (text_of history done) →
-    ((image : List ℕ) → disk.may_leave image → Stands (after_lines history done) image) → (status ≡ 0 → others ≡ []) →
+    ((image : List ℕ) → disk.may_leave image → Stands (after_lines history done) image) → (status ≡ Done → others ≡ []) →
     HoldsReported history input before after disk status
 HoldsReported-done history input before after disk status done others are sent each end had has is_had is_has image left =
     let held : Some has ≡ appended (appended (Some had) (text_of history done)) (take 0 []) =
@@ -134,7 +134,8 @@ HoldsReported-done history input before after disk status done others are sent e
       few = few-events history done others;
       acked = omega (arith, acked);
       at_most = omega (arith, acked);
-      all = λ zero. ap (λ l. length (accepted history l)) (sym (append-nil done) ∙ ap (λ l. done ++ l) (sym (end zero)));
+      all = λ finished. ap (λ l. length (accepted history l)) (sym (append-nil done) ∙ ap (λ l. done ++ l) (sym (end finished)));
+      starved = λ _. omega (arith, acked);
     })
 
 -- what a stop leaves of what a line brings is so many bytes of its text
@@ -155,10 +156,30 @@ one-event : (event : Option Event) → length (the_event event) ≤ 1
 one-event None = omega arith
 one-event (Some event) = omega arith
 
+awake : (history : History) (brought : Brought) (status : Status) (image : List ℕ) → (status ≡ OutOfMemory → ⊥) → StandsAround history brought image →
+    Stands history image ⊎ (Stands (history_after history brought) image × (status ≡ OutOfMemory → ⊥))
+awake history brought status image other (inl is) = inl is
+awake history brought status image other (inr is) = inr (is, other)
+
+-- at the line at which a run stopped the image holds its event or not, and not where memory ran out
+stopped-cases : (history : History) (brought : Brought) (status : Status) (image : List ℕ) → StandsStopped history brought status image →
+    Stands history image ⊎ (Stands (history_after history brought) image × (status ≡ OutOfMemory → ⊥))
+stopped-cases history brought OutOfMemory image is = inl is
+stopped-cases history brought Done image is = awake history brought Done image (λ w. cc) is
+stopped-cases history brought Usage image is = awake history brought Usage image (λ w. cc) is
+stopped-cases history brought RefusedStore image is = awake history brought RefusedStore image (λ w. cc) is
+stopped-cases history brought DiskFault image is = awake history brought DiskFault image (λ w. cc) is
+stopped-cases history brought SourceFault image is = awake history brought SourceFault image (λ w. cc) is
+stopped-cases history brought SinkFault image is = awake history brought SinkFault image (λ w. cc) is
+stopped-cases history brought InputLimit image is = awake history brought InputLimit image (λ w. cc) is
+stopped-cases history brought RecordChanged image is = awake history brought RecordChanged image (λ w. cc) is
+
 -- the run stopped at a line: its event is held or not
-HoldsAcked-around : (history : History) (done others : List (List ℕ)) (line : List ℕ) (k bytes status : ℕ) (image : List ℕ) →
-    Cuts (after_lines history done) (line ∷ others) k → bytes ≡ length (text_of history done) + k → (status ≡ 0 → ⊥) →
-    StandsAround (after_lines history done) (brings (after_lines history done) line) image → HoldsAcked history (done ++ line ∷ others) bytes status image
+HoldsAcked-around : (history : History) (done others : List (List ℕ)) (line : List ℕ) (k bytes : ℕ) (status : Status) (image : List ℕ) →
+    Cuts (after_lines history done) (line ∷ others) k → bytes ≡ length (text_of history done) + k → (status ≡ Done → ⊥) →
+    Stands (after_lines history done) image
+    ⊎ (Stands (history_after (after_lines history done) (brings (after_lines history done) line)) image × (status ≡ OutOfMemory → ⊥)) →
+    HoldsAcked history (done ++ line ∷ others) bytes status image
 HoldsAcked-around history done others line k bytes status image cuts is going (inl stands) =
     let acked = acks-done history done (line ∷ others) k bytes cuts is in
     record {
@@ -167,9 +188,10 @@ HoldsAcked-around history done others line k bytes status image cuts is going (i
       few = few-events history done (line ∷ others);
       acked = omega (arith, acked);
       at_most = omega (arith, acked);
-      all = λ zero. absurd (going zero);
+      all = λ finished. absurd (going finished);
+      starved = λ _. omega (arith, acked);
     }
-HoldsAcked-around history done others line k bytes status image cuts is going (inr stands) =
+HoldsAcked-around history done others line k bytes status image cuts is going (inr more_stands) =
     let acked = acks-done history done (line ∷ others) k bytes cuts is in
     let ls = done ++ line ∷ [] in
     let are : ls ++ others ≡ done ++ line ∷ others = append_assoc done (line ∷ []) others in
@@ -178,16 +200,19 @@ HoldsAcked-around history done others line k bytes status image cuts is going (i
     record {
       j = length (accepted history ls);
       stands = subst (λ h. Stands h image)
-          (sym (ap (λ l. history ++ take (length (accepted history ls)) (accepted history l)) (sym are) ∙ first-events history ls others ∙ after_lines-push history done line)) stands;
+          (sym (ap (λ l. history ++ take (length (accepted history ls)) (accepted history l)) (sym are) ∙ first-events history ls others ∙ after_lines-push history done line))
+          more_stands.0;
       few = subst (λ l. length (accepted history ls) ≤ length (accepted history l)) are (few-events history ls others);
       acked = omega (arith, acked, more, length-append (accepted history done) (event ++ []));
-      at_most = omega (arith, acked, more, length-append (accepted history done) (event ++ []), length-append event [], one-event (brings (after_lines history done) line).event);
-      all = λ zero. absurd (going zero);
+      at_most = omega (arith, acked, more, length-append (accepted history done) (event ++ []), length-append event [],
+          one-event (brings (after_lines history done) line).event);
+      all = λ finished. absurd (going finished);
+      starved = λ memory. absurd (more_stands.1 memory);
     }
 
-pub HoldsReported-stop : (history : History) (input : List ℕ) (before after : Option (List ℕ)) (disk : Told) (number : ℕ) (status : Status) (ls others : List (List ℕ)) →
-    lines input ≡ ls ++ others → StopsAt history ls before after disk status → (number ≡ 0 → ⊥) → HoldsReported history input before after disk number
-HoldsReported-stop history input before after disk number status ls others are at going had has is_had is_has image left =
+pub HoldsReported-stop : (history : History) (input : List ℕ) (before after : Option (List ℕ)) (disk : Told) (status : Status) (ls others : List (List ℕ)) →
+    lines input ≡ ls ++ others → StopsAt history ls before after disk status → (status ≡ Done → ⊥) → HoldsReported history input before after disk status
+HoldsReported-stop history input before after disk status ls others are at going had has is_had is_has image left =
     let here = text_of history at.done in
     let brought = brings (after_lines history at.done) at.line in
     let cut = stop-bytes brought (appended before here) after status at.stop in
@@ -195,6 +220,7 @@ HoldsReported-stop history input before after disk number status ls others are a
     sym is_has ∙ cut.3 ∙ ap (λ o. appended (appended o here) (take cut.0 (text_brought brought))) is_had in
     let all : lines input ≡ at.done ++ at.line ∷ (at.others ++ others) =
     are ∙ ap (λ l. l ++ others) at.are ∙ append_assoc at.done (at.line ∷ at.others) others in
-    subst (λ l. HoldsAcked history l (length has - length had) number image) (sym all)
-    (HoldsAcked-around history at.done (at.others ++ others) at.line cut.0 (length has - length had) number image cut.2
-    (new_bytes had has here (text_brought brought) cut.0 held cut.1) going (at.left image left))
+    subst (λ l. HoldsAcked history l (length has - length had) status image) (sym all)
+    (HoldsAcked-around history at.done (at.others ++ others) at.line cut.0 (length has - length had) status image cut.2
+    (new_bytes had has here (text_brought brought) cut.0 held cut.1) going
+    (stopped-cases (after_lines history at.done) brought status image (at.left image left)))

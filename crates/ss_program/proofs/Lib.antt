@@ -1,10 +1,14 @@
+pub mod StepLemmas
 pub mod SendLemmas
 pub mod SessionLemmas
 pub mod TakeLemmas
 pub mod AnswerLemmas
+pub mod TakesLemmas
 pub mod RowLemmas
 pub mod HeldLemmas
 pub mod RunLemmas
+pub mod EndLemmas
 pub mod GenerateLemmas
 pub mod LawLemmas
 pub mod Rows
+pub mod FieldRows

@@ -5,7 +5,7 @@ use Rattle.std.proofs.lemmas.Grind.{flat_map-append}
 use Rattle.std.proofs.lemmas.List.{append-nil, length-append, length-map, take-append-drop, take-append-le, take_more}
 use Rattle.std.proofs.lemmas.Option.{get_or_from_slice_get, slice_get-map, slice_get_cases, slice_get_within}
 use Rattle.std.specs.List.{flat_map, slice_get}
-use Rattle.std.specs.Prelude.{option_map}
+use Rattle.std.specs.Prelude.{option_map, IsErr}
 use Rattle.ss_catalog.specs.declared.refusal.Refusal.TheVariants as refusals
 use Rattle.ss_command.specs.declared.command.Command.TheVariants.{Windows, List as ListAll}
 use Rattle.ss_line.specs.Line.{StandsIn, index_of, place_at}
@@ -19,22 +19,22 @@ use Rattle.ss_report.specs.declared.reply.Reply.{Reply}
 use Rattle.ss_report.specs.declared.reply.Reply.TheVariants.{Refused, WindowsHead, Window, ListHead}
 use Rattle.ss_program.specs.Line.{Brought, History, command_brings, stream_rows, text_brought, window_rows}
 use Rattle.ss_program.specs.Sent.{appended, AppendsLess, Sends}
-use Rattle.ss_program.specs.declared.status.Status.{Status}
+use Rattle.ss_outside.specs.declared.source.Failed.{Failed}
 use Rattle.ss_program.proofs.SendLemmas.{appended-appended, appended-nil}
 use Rattle.ss_program.proofs.AnswerLemmas.{AppendsLess-after, AppendsLess-none, brings-unknown, brings-windows, reply_line-some}
 
 -- one reply alone
-pub Sends-one : (before after : Option (List ℕ)) (reply : Reply) (sent : Result Unit Status) → Sends before after (reply_line reply) sent →
+pub Sends-one : (before after : Option (List ℕ)) {E : Type 0} (reply : Reply) (sent : Result (Unit {0}) E) → Sends before after (reply_line reply) sent →
     Sends before after (flat_map reply_line (reply ∷ [])) sent
 Sends-one before after reply sent sends = subst (λ bs. Sends before after bs sent) (sym (append-nil (reply_line reply))) sends
 
-pub Sends-only : (before after : Option (List ℕ)) (brought : Brought) (reply : Reply) (sent : Result Unit Status) → brought.replies ≡ reply ∷ [] →
+pub Sends-only : (before after : Option (List ℕ)) (brought : Brought) {E : Type 0} (reply : Reply) (sent : Result (Unit {0}) E) → brought.replies ≡ reply ∷ [] →
     Sends before after (reply_line reply) sent → Sends before after (text_brought brought) sent
 Sends-only before after brought reply sent one sends =
     subst (λ rs. Sends before after (flat_map reply_line rs) sent) (sym one) (Sends-one before after reply sent sends)
 
 -- a head was sent, and then its rows
-pub Sends-head : (before held after : Option (List ℕ)) (head : Reply) (rows : List Reply) (sent : Result Unit Status) →
+pub Sends-head : (before held after : Option (List ℕ)) (head : Reply) (rows : List Reply) {E : Type 0} (sent : Result (Unit {0}) E) →
     held ≡ appended before (reply_line head) → Sends held after (flat_map reply_line rows) sent → Sends before after (flat_map reply_line (head ∷ rows)) sent
 Sends-head before held after head rows (Ok u) is sends =
     sends ∙ ap (λ o. appended o (flat_map reply_line rows)) is ∙ appended-appended before (reply_line head) (flat_map reply_line rows)
@@ -105,7 +105,7 @@ list-head history before after count is less =
     AppendsLess-head before after (ListHead (length (state history))) (stream_rows (state history))
     (subst (λ n. AppendsLess before after (reply_line (ListHead n))) is less)
 
-pub list-rows : (history : History) (before held after : Option (List ℕ)) (count : ℕ) (sent : Result Unit Status) → count ≡ length (state history) →
+pub list-rows : (history : History) (before held after : Option (List ℕ)) (count : ℕ) {E : Type 0} (sent : Result (Unit {0}) E) → count ≡ length (state history) →
     held ≡ appended before (reply_line (ListHead count)) → Sends held after (flat_map reply_line (stream_rows (state history))) sent →
     Sends before after (text_brought (command_brings history ListAll)) sent
 list-rows history before held after count sent is first rows =
@@ -113,7 +113,7 @@ list-rows history before held after count sent is first rows =
     (subst (λ n. held ≡ appended before (reply_line (ListHead n))) is first) rows
 
 -- what `windows` brings: the head, and the rows after it, or the refusal
-pub windows-unknown : (history : History) (name : List ℕ) (before after : Option (List ℕ)) (sent : Result Unit Status) →
+pub windows-unknown : (history : History) (name : List ℕ) (before after : Option (List ℕ)) {E : Type 0} (sent : Result (Unit {0}) E) →
     stream_named name (state history) ≡ None → Sends before after (reply_line (Refused refusals.Unknown)) sent →
     Sends before after (text_brought (command_brings history (Windows name))) sent
 windows-unknown history name before after sent none sends =
@@ -129,7 +129,7 @@ windows-head history name s before after count is all less =
     (subst (λ n. AppendsLess before after (reply_line (WindowsHead n))) all less))
 
 pub windows-rows : (history : History) (name : List ℕ) (s : Stream) (before held after : Option (List ℕ)) (count : ℕ)
-    (sent : Result Unit Status) → stream_named name (state history) ≡ Some s → count ≡ length s.windows →
+    {E : Type 0} (sent : Result (Unit {0}) E) → stream_named name (state history) ≡ Some s → count ≡ length s.windows →
     held ≡ appended before (reply_line (WindowsHead count)) → Sends held after (flat_map reply_line (window_rows s)) sent →
     Sends before after (text_brought (command_brings history (Windows name))) sent
 windows-rows history name s before held after count sent is all first rows =
@@ -219,6 +219,15 @@ rows-cut (Some p) entries_of at s o before held after window is some so_far row 
     let found = subst (λ (x : Option Stream). IfSome x (λ y. slice_get (map placed_of y.windows) (index_of (entries_of p) at) ≡ Some window)) is row in
     rows-less before held after (window_rows s) (index_of (entries_of p) at) (Window window)
     (row-reply placed_of (λ w. Window w) s.windows (index_of (entries_of p) at) window found) so_far less
+
+pub rows-cut-sent : {P : Type 0} (part : Option P) (entries_of : P → List (At × Entry)) (at : At) (s : Stream) (o : Option Stream)
+    (before held after : Option (List ℕ)) (window : Placed) → o ≡ Some s → IsSome part →
+    IfSome part (λ p. held ≡ appended before (flat_map reply_line (take (index_of (entries_of p) at) (window_rows s)))) →
+    IfSome part (λ p. IfSome o (λ x. slice_get (map placed_of x.windows) (index_of (entries_of p) at) ≡ Some window)) →
+    (sent : Result Unit Failed) → IsErr sent → Sends held after (reply_line (Window window)) sent → Sends before after (flat_map reply_line (window_rows s)) sent
+rows-cut-sent part entries_of at s o before held after window is some so_far row (Ok u) failed less = cc
+rows-cut-sent part entries_of at s o before held after window is some so_far row (Err e) failed less =
+    rows-cut part entries_of at s o before held after window is some so_far row less
 
 -- or one more wasn't read
 unread : (before held : Option (List ℕ)) (rows : List Reply) (index : ℕ) → index < length rows →

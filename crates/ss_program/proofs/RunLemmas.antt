@@ -5,10 +5,10 @@ use Rattle.std.proofs.lemmas.List.{append-nil, drop-drop, drop_all, length-take-
 use Rattle.ss_command.specs.Lines.{lines, lines_so_far, unended, unless_empty, without_return}
 use Rattle.ss_command.proofs.LineLemmas.{lines-front}
 use Rattle.ss_outside.proofs.CrashLemmas.{joined, now, of_content, weaker}
-use Rattle.ss_outside.specs.Verdict.{Rose}
 use Rattle.ss_outside.specs.Crash.{KnowsNow, LeavesOnly}
 use Rattle.ss_outside.specs.Disk.{Told}
 use Rattle.ss_outside.specs.Source.{Moves}
+use Rattle.ss_outside.specs.declared.source.Failed.{Failed}
 use Rattle.ss_model.specs.State.{Stream, state}
 use Rattle.ss_store.specs.Causes.{OpensAs}
 use Rattle.ss_store.specs.Recover.{Recovers, Stands, no_store, damaged_entry, damaged_slot, damaged_stream, recovers}
@@ -17,12 +17,12 @@ use Rattle.ss_store.specs.declared.error.OpenError.{OpenError}
 use Rattle.ss_store.specs.declared.error.OpenError.TheVariants as opening
 use Rattle.ss_store.specs.declared.surveying.Survey.{Survey}
 use Rattle.ss_program.specs.Line.{History}
-use Rattle.ss_program.specs.Outcome.{Reports, Reads, Serves, Stopped, Took, lines_within}
+use Rattle.ss_program.specs.Outcome.{Moved, Reports, Reads, Serves, Stopped, Took, lines_within}
 use Rattle.ss_program.specs.Progress.{EndsWell, GoesOn, HasReplied, HasTaken, SessionState, StandsWithin, StopsIn}
 use Rattle.ss_program.specs.Refused.{AsRefused, status_of_open}
 use Rattle.ss_program.specs.Sent.{appended, AppendsFront}
 use Rattle.ss_program.specs.Session.{after_lines, report, report_so_far, text_of}
-use Rattle.ss_program.specs.Status.{number_of, IsStop, EndsServing, Counts}
+use Rattle.ss_program.specs.Status.{IsStop}
 use Rattle.ss_program.specs.declared.running.TheConstants.{LONGEST_INPUT}
 use Rattle.ss_program.specs.declared.status.Status.{Status}
 use Rattle.ss_program.specs.declared.status.Status.TheVariants.{Done, Usage, RefusedStore, DiskFault, SourceFault, SinkFault, OutOfMemory, InputLimit, RecordChanged}
@@ -38,6 +38,11 @@ moved None after count into left moves is = cc
 moved (Some bytes) after count into left moves is =
     let same : bytes ≡ left = cc in
     subst (λ bs. (count ≤ length bs) × (take count into ≡ take count bs) × (after ≡ Some (drop count bs))) same (moves.0, moves.2, moves.3)
+
+-- and what one that failed left
+pub unmoved : (before after : Option (List ℕ)) (e : Failed) (into left : List ℕ) → Moves before after (Err e) into → before ≡ Some left → after ≡ Some left
+unmoved None after e into left moves is = cc
+unmoved (Some bytes) after e into left moves is = moves ∙ is
 
 -- so many bytes of the input were taken since a moment, and the lines that end in them are answered
 pub record IsThrough (history : History) (start now : Told) (session : SessionState) (before held left : Option (List ℕ)) (input : List ℕ) (n : ℕ) : Type 0 where
@@ -176,33 +181,33 @@ Stopped-as history input left before after old new status has = (has.taken, has.
 
 Reports-stop : (history : History) (input : List ℕ) (left before after : Option (List ℕ)) (old new : Told) (status : Status) →
     AppendsFront before after (report history input) → HasStopped history input left before after old new status → IsStop true status →
-    Reports history input left before after new (number_of status)
+    Reports history input left before after new status
 Reports-stop history input left before after old new DiskFault front has stop = record {
   front = front;
-  whole = λ is. absurd (omega (arith, is));
+  whole = λ is. cc;
   broken = λ is. inr (Stopped-as history input left before after old new DiskFault has);
-  faulted = λ is. absurd (omega (arith, is));
-  cut = λ is. absurd (omega (arith, is));
-  starved = λ is. absurd (omega (arith, is));
-  limited = λ is. absurd (omega (arith, is));
+  faulted = λ is. cc;
+  cut = λ is. cc;
+  starved = λ is. cc;
+  limited = λ is. cc;
 }
 Reports-stop history input left before after old new SinkFault front has stop = record {
   front = front;
-  whole = λ is. absurd (omega (arith, is));
-  broken = λ is. absurd (omega (arith, is));
-  faulted = λ is. absurd (omega (arith, is));
+  whole = λ is. cc;
+  broken = λ is. cc;
+  faulted = λ is. cc;
   cut = λ is. Stopped-as history input left before after old new SinkFault has;
-  starved = λ is. absurd (omega (arith, is));
-  limited = λ is. absurd (omega (arith, is));
+  starved = λ is. cc;
+  limited = λ is. cc;
 }
 Reports-stop history input left before after old new OutOfMemory front has stop = record {
   front = front;
-  whole = λ is. absurd (omega (arith, is));
-  broken = λ is. absurd (omega (arith, is));
-  faulted = λ is. absurd (omega (arith, is));
-  cut = λ is. absurd (omega (arith, is));
+  whole = λ is. cc;
+  broken = λ is. cc;
+  faulted = λ is. cc;
+  cut = λ is. cc;
   starved = λ is. inr (Stopped-as history input left before after old new OutOfMemory has);
-  limited = λ is. absurd (omega (arith, is));
+  limited = λ is. cc;
 }
 Reports-stop history input left before after old new RecordChanged front has stop = absurd (stop refl)
 Reports-stop history input left before after old new Done front has stop = absurd stop
@@ -211,20 +216,25 @@ Reports-stop history input left before after old new RefusedStore front has stop
 Reports-stop history input left before after old new SourceFault front has stop = absurd stop
 Reports-stop history input left before after old new InputLimit front has stop = absurd stop
 
--- its status isn't 0 or 8
-pub stop-number : (tells : Bool) (status : Status) → IsStop tells status → (number_of status ≡ 0 → ⊥) × (number_of status ≡ 8 → ⊥)
-stop-number tells DiskFault stop = (λ is. absurd (omega (arith, is)), λ is. absurd (omega (arith, is)))
-stop-number tells SinkFault stop = (λ is. absurd (omega (arith, is)), λ is. absurd (omega (arith, is)))
-stop-number tells OutOfMemory stop = (λ is. absurd (omega (arith, is)), λ is. absurd (omega (arith, is)))
-stop-number tells RecordChanged stop = (λ is. absurd (omega (arith, is)), λ is. absurd (omega (arith, is)))
-stop-number tells Done stop = absurd stop
-stop-number tells Usage stop = absurd stop
-stop-number tells RefusedStore stop = absurd stop
-stop-number tells SourceFault stop = absurd stop
-stop-number tells InputLimit stop = absurd stop
+-- its status isn't that of a run that is done, nor that of an input that is too long
+pub stop-other : (tells : Bool) (status : Status) → IsStop tells status → (status ≡ Done → ⊥) × (status ≡ InputLimit → ⊥) × (status ≡ SourceFault → ⊥)
+stop-other tells DiskFault stop = (λ is. cc, λ is. cc, λ is. cc)
+stop-other tells SinkFault stop = (λ is. cc, λ is. cc, λ is. cc)
+stop-other tells OutOfMemory stop = (λ is. cc, λ is. cc, λ is. cc)
+stop-other tells RecordChanged stop = (λ is. cc, λ is. cc, λ is. cc)
+stop-other tells Done stop = absurd stop
+stop-other tells Usage stop = absurd stop
+stop-other tells RefusedStore stop = absurd stop
+stop-other tells SourceFault stop = absurd stop
+stop-other tells InputLimit stop = absurd stop
+
+-- and neither is it where the source failed
+pub end-other : (tells : Bool) (status : Status) → (status ≡ SourceFault) ⊎ IsStop tells status → (status ≡ Done → ⊥) × (status ≡ InputLimit → ⊥)
+end-other tells status (inl fault) = (λ is. cc, λ is. cc)
+end-other tells status (inr stop) = let other = stop-other tells status stop in (other.0, other.1)
 
 pub Serves-stop : (history : History) (input : List ℕ) (left before after : Option (List ℕ)) (old new : Told) (tells : Bool) (status : Status) → IsTrue tells →
-    IsStop tells status → HasStopped history input left before after old new status → Serves history input left before after old new (number_of status)
+    IsStop tells status → HasStopped history input left before after old new status → Serves history input left before after old new status
 Serves-stop history input left before after old new tells status told stop has =
     let all = lines-all input has.taken has.rest has.took.all in
     let ls = lines_within has.taken has.rest in
@@ -232,26 +242,26 @@ Serves-stop history input left before after old new tells status told stop has =
       report = Reports-stop history input left before after old new status
           (subst (λ l. AppendsFront before after (text_of history l)) (sym all.1) (StopsAt-front (StopsAt-more all.0 has.stops.at))) has
           (subst (λ b. IsStop b status) told stop);
-      kept = HoldsReported-stop history input before after new (number_of status) status ls all.0 all.1 has.stops.at (stop-number tells status stop).0;
+      kept = HoldsReported-stop history input before after new status ls all.0 all.1 has.stops.at (stop-other tells status stop).0;
       any_moment = subst (λ l. LeavesOnly old new (StandsWithin history l)) (sym all.1) (any_moment-more history old new ls all.0 has.stops.any_moment);
-      whole = λ is. absurd ((stop-number tells status stop).0 is);
+      whole = λ is. absurd ((stop-other tells status stop).0 is);
     }
 
 -- the session came to its end
 pub Serves-done : {history : History} {start mid : Told} {session : SessionState} {before held left : Option (List ℕ)} {input : List ℕ} (new : Told) (after : Option (List ℕ)) →
     IsAtEnd history start mid session before held left input → EndsWell history (lines input) mid new before after →
-    Serves history input left before after start new 0
+    Serves history input left before after start new Done
 Serves-done {history = history} {start = start} {mid = mid} {before = before} {input = input} new after end ends = record {
   report = record {
     front = AppendsFront-all before after (report history input) ends.replied;
     whole = λ _. ends.replied;
-    broken = λ is. absurd (omega (arith, is));
-    faulted = λ is. absurd (omega (arith, is));
-    cut = λ is. absurd (omega (arith, is));
-    starved = λ is. absurd (omega (arith, is));
-    limited = λ is. absurd (omega (arith, is));
+    broken = λ is. cc;
+    faulted = λ is. cc;
+    cut = λ is. cc;
+    starved = λ is. cc;
+    limited = λ is. cc;
   };
-  kept = HoldsReported-done history input before after new 0 (lines input) [] (sym (append-nil (lines input))) ends.replied
+  kept = HoldsReported-done history input before after new Done (lines input) [] (sym (append-nil (lines input))) ends.replied
       (of_content new (Stands (after_lines history (lines input))) ends.durable ends.stands) (λ _. refl);
   any_moment = joined start mid new (StandsWithin history (lines input)) (any_moment-lines history start mid input end.on.any_moment) ends.any_moment;
   whole = λ _. subst (λ h. Stands h new.content) (after_lines-accepted history (lines input)) ends.stands;
@@ -261,69 +271,98 @@ Serves-done {history = history} {start = start} {mid = mid} {before = before} {i
 pub Serves-finish : {history : History} {start mid : Told} {session : SessionState} {before held left : Option (List ℕ)} {input : List ℕ} (new : Told) (after : Option (List ℕ))
     (tells : Bool) (status : Status) → IsTrue tells → IsAtEnd history start mid session before held left input → (status ≡ Done) ⊎ IsStop tells status →
     (status ≡ Done → EndsWell history (lines input) mid new before after) → (IsStop tells status → StopsIn history (lines input) mid new before after status) →
-    Serves history input left before after start new (number_of status)
+    Serves history input left before after start new status
 Serves-finish {history = history} {start = start} {before = before} {left = left} {input = input} new after tells status told end (inl is) done stops =
-    subst (λ s. Serves history input left before after start new (number_of s)) (sym is) (Serves-done new after end (done is))
+    subst (λ s. Serves history input left before after start new s) (sym is) (Serves-done new after end (done is))
 Serves-finish {history = history} {start = start} {before = before} {left = left} {input = input} new after tells status told end (inr stop) done stops =
     Serves-stop history input left before after start new tells status told stop (HasStopped-end new after status end (stops stop))
 
 -- by which of the two statuses
-part-number : {A B : Type 0} {status : ℕ} → (status ≡ 5) × A ⊎ (status ≡ 8) × B → (4 < status) × (status ≡ 6 → ⊥) × (status ≡ 7 → ⊥)
-part-number (inl how) = (omega (arith, how.0), λ is. absurd (omega (arith, is, how.0)), λ is. absurd (omega (arith, is, how.0)))
-part-number (inr how) = (omega (arith, how.0), λ is. absurd (omega (arith, is, how.0)), λ is. absurd (omega (arith, is, how.0)))
+abbrev Partly : Status → Type 0 → Type 0 → Type 0
+Partly status A B = (status ≡ SourceFault) × A ⊎ (status ≡ InputLimit) × B
 
-part-left : {A B : Type 0} {status : ℕ} → (status ≡ 5) × A ⊎ (status ≡ 8) × B → status ≡ 5 → A
+part-other : {A B C : Type 0} {status : Status} (other : Status) → (SourceFault ≡ other → ⊥) → (InputLimit ≡ other → ⊥) → Partly status A B → status ≡ other → C
+part-other other one two (inl how) is = absurd (one (sym how.0 ∙ is))
+part-other other one two (inr how) is = absurd (two (sym how.0 ∙ is))
+
+part-left : {A B : Type 0} {status : Status} → Partly status A B → status ≡ SourceFault → A
 part-left (inl how) is = how.1
-part-left (inr how) is = absurd (omega (arith, is, how.0))
+part-left (inr how) is = cc
 
-part-limit : {A B : Type 0} {status : ℕ} → (status ≡ 5) × A ⊎ (status ≡ 8) × B → status ≡ 8 → B
-part-limit (inl how) is = absurd (omega (arith, is, how.0))
+part-limit : {A B : Type 0} {status : Status} → Partly status A B → status ≡ InputLimit → B
+part-limit (inl how) is = cc
 part-limit (inr how) is = how.1
 
 -- the source failed, or more is left than an input may have
-pub Serves-part : {history : History} {start now : Told} {session : SessionState} {before held left : Option (List ℕ)} {input : List ℕ} {n : ℕ} (status : ℕ)
+pub Serves-part : {history : History} {start now : Told} {session : SessionState} {before held left : Option (List ℕ)} {input : List ℕ} {n : ℕ} (status : Status)
     (after_left : Option (List ℕ)) → IsThrough history start now session before held left input n → n ≤ LONGEST_INPUT →
-    (status ≡ 5) × (after_left ≡ left) ⊎ (status ≡ 8) × (n ≡ LONGEST_INPUT) → Serves history input after_left before held start now status
+    (status ≡ SourceFault) × (after_left ≡ left) ⊎ (status ≡ InputLimit) × (n ≡ LONGEST_INPUT) → Serves history input after_left before held start now status
 Serves-part {history = history} {start = start} {now = now} {before = before} {held = held} {input = input} {n = n} status after_left through few how =
     let more = lines-front (take n input) (drop n input) in
     let all : lines input ≡ lines_so_far (take n input) ++ more.0 = ap (λ bs. lines bs) (sym (take-append-drop n input)) ∙ more.1 in
     let ls = lines_so_far (take n input) in
-    let late = part-number how in
     record {
       report = record {
         front = subst (λ bs. AppendsFront before held (report history bs)) (take-append-drop n input)
             (front-report history before held (take n input) (drop n input) (AppendsFront-all before held (report_so_far history (take n input)) through.on.replied));
-        whole = λ is. absurd (omega (arith, is, late.0));
-        broken = λ is. absurd (omega (arith, is, late.0));
+        whole = λ is. part-other Done (λ w. cc) (λ w. cc) how is;
+        broken = λ is. part-other DiskFault (λ w. cc) (λ w. cc) how is;
         faulted = λ is. (take n input, drop n input, Took-at input after_left n through.within few (part-left how is ∙ through.source), through.on.replied);
-        cut = λ is. absurd (late.1 is);
-        starved = λ is. absurd (late.2 is);
+        cut = λ is. part-other SinkFault (λ w. cc) (λ w. cc) how is;
+        starved = λ is. part-other OutOfMemory (λ w. cc) (λ w. cc) how is;
         limited = λ is. through.on.replied ∙ ap (λ m. appended before (report_so_far history (take m input))) (part-limit how is);
       };
       kept = HoldsReported-done history input before held now status ls more.0 all through.on.replied
-          (of_content now (Stands (after_lines history ls)) through.on.at.durable through.on.at.stands) (λ is. absurd (omega (arith, is, late.0)));
+          (of_content now (Stands (after_lines history ls)) through.on.at.durable through.on.at.stands) (λ is. part-other Done (λ w. cc) (λ w. cc) how is);
       any_moment = subst (λ l. LeavesOnly start now (StandsWithin history l)) (sym all) (any_moment-more history start now ls more.0 through.on.any_moment);
-      whole = λ is. absurd (omega (arith, is, late.0));
+      whole = λ is. part-other Done (λ w. cc) (λ w. cc) how is;
     }
+
+-- so many bytes were read
+pub Moved-at : (input : List ℕ) (left : Option (List ℕ)) (n : ℕ) → IsLeft left input n → n ≤ LONGEST_INPUT → Moved (LONGEST_INPUT + 1) input left
+Moved-at input left n at few = record { count = n; few = omega (arith, few); within = at.within; others = at.source }
+
+-- and some of a piece more
+pub Moved-piece : (input : List ℕ) (left : Option (List ℕ)) (n room : ℕ) → n ≤ length input → n + room ≤ LONGEST_INPUT + 1 → Moved room (drop n input) left →
+    Moved (LONGEST_INPUT + 1) input left
+Moved-piece input left n room within fits piece = record {
+  count = n + piece.count;
+  few = omega (arith, fits, piece.few);
+  within = omega (arith, within, piece.within, length-drop n input);
+  others = piece.others ∙ ap (λ bs. Some bs) (drop-drop piece.count n input);
+}
+
+-- the run stopped before the input's end was known
+pub Reads-stop : (input : List ℕ) (left : Option (List ℕ)) (status : Status) → (status ≡ Done → ⊥) → (status ≡ InputLimit → ⊥) →
+    Moved (LONGEST_INPUT + 1) input left → Reads input left status
+Reads-stop input left status going within moved = record { few = moved; whole = λ is. absurd (going is); limit = λ is. absurd (within is) }
+
+end-limit : {A : Type 0} (tells : Bool) (status : Status) → (status ≡ Done) ⊎ IsStop tells status → status ≡ InputLimit → A
+end-limit tells status (inl is) wrong = cc
+end-limit tells status (inr stop) wrong = absurd ((stop-other tells status stop).1 wrong)
 
 -- what was read, where the session came to its end
 pub Reads-end : (tells : Bool) (input : List ℕ) (left : Option (List ℕ)) (status : Status) → length input ≤ LONGEST_INPUT → left ≡ Some [] →
-    (status ≡ Done) ⊎ IsStop tells status → Reads input left (number_of status)
-Reads-end tells input left status fits source (inl is) =
-    let n = ap (λ s. number_of s) is in
-    record { whole = λ _. (fits, source); limit = λ wrong. absurd (omega (arith, n, wrong)) }
-Reads-end tells input left status fits source (inr stop) =
-    record { whole = λ _. (fits, source); limit = λ wrong. absurd ((stop-number tells status stop).1 wrong) }
-
-pub Reads-limit : (input : List ℕ) (left : Option (List ℕ)) (n : ℕ) → n ≡ LONGEST_INPUT → 0 < length (drop n input) → left ≡ Some (drop 1 (drop n input)) →
-    Reads input left 8
-Reads-limit input left n last some is = record {
-  whole = λ wrong. absurd (omega (arith, wrong));
-  limit = λ _. (omega (arith, last, some, length-drop n input), is ∙ ap (λ bs. Some bs) (drop-drop 1 n input ∙ ap (λ m. drop (m + 1) input) last));
+    (status ≡ Done) ⊎ IsStop tells status → Reads input left status
+Reads-end tells input left status fits source how = record {
+  few = record { count = length input; few = omega (arith, fits); within = omega arith; others = source ∙ ap (λ bs. Some bs) (sym (drop_all (length input) input (omega arith))) };
+  whole = λ _. (fits, source);
+  limit = λ wrong. end-limit tells status how wrong;
 }
 
+pub Reads-limit : (input : List ℕ) (left : Option (List ℕ)) (n : ℕ) → n ≡ LONGEST_INPUT → 0 < length (drop n input) → left ≡ Some (drop 1 (drop n input)) →
+    Reads input left InputLimit
+Reads-limit input left n last some is =
+    let all = is ∙ ap (λ bs. Some bs) (drop-drop 1 n input ∙ ap (λ m. drop (m + 1) input) last) in
+    let longer : LONGEST_INPUT < length input = omega (arith, last, some, length-drop n input) in
+    record {
+      few = record { count = LONGEST_INPUT + 1; few = omega arith; within = omega (arith, longer); others = all };
+      whole = λ wrong. cc;
+      limit = λ _. (longer, all);
+    }
+
 -- What opening the store left comes before what serving leaves.
-pub Serves-opened : (history : History) (input : List ℕ) (left before after : Option (List ℕ)) (old mid new : Told) (status : ℕ) →
+pub Serves-opened : (history : History) (input : List ℕ) (left before after : Option (List ℕ)) (old mid new : Told) (status : Status) →
     LeavesOnly old mid (Stands history) → Serves history input left before after mid new status → Serves history input left before after old new status
 Serves-opened history input left before after old mid new status opened serves = record {
   report = serves.report;
@@ -333,39 +372,41 @@ Serves-opened history input left before after old mid new status opened serves =
   whole = serves.whole;
 }
 
-unopened-number : {status : ℕ} → (status ≡ 4) ⊎ (status ≡ 7) → (status ≡ 0 → ⊥) × (status ≡ 5 → ⊥) × (status ≡ 6 → ⊥) × (status ≡ 8 → ⊥)
-unopened-number (inl four) = (λ is. absurd (omega (arith, is, four)), λ is. absurd (omega (arith, is, four)), λ is. absurd (omega (arith, is, four)), λ is. absurd (omega (arith, is, four)))
-unopened-number (inr seven) = (λ is. absurd (omega (arith, is, seven)), λ is. absurd (omega (arith, is, seven)), λ is. absurd (omega (arith, is, seven)), λ is. absurd (omega (arith, is, seven)))
+unopened-other : {A : Type 0} {status : Status} (other : Status) → (DiskFault ≡ other → ⊥) → (OutOfMemory ≡ other → ⊥) →
+    ((status ≡ DiskFault) ⊎ (status ≡ OutOfMemory)) → status ≡ other → A
+unopened-other other one two (inl how) is = absurd (one (sym how ∙ is))
+unopened-other other one two (inr how) is = absurd (two (sym how ∙ is))
 
 -- the store wasn't opened, and nothing was said of it
-Serves-unopened : (history : History) (input : List ℕ) (left before after : Option (List ℕ)) (old new : Told) (status : ℕ) → (status ≡ 4) ⊎ (status ≡ 7) →
+pub Serves-unopened : (history : History) (input : List ℕ) (left before after : Option (List ℕ)) (old new : Told) (status : Status) →
+    ((status ≡ DiskFault) ⊎ (status ≡ OutOfMemory)) →
     left ≡ Some input → after ≡ before → KnowsNow new → LeavesOnly old new (Stands history) → Serves history input left before after old new status
 Serves-unopened history input left before after old new status how still same knows opened =
     let held = same ∙ sym (appended-nil before) in
-    let number = unopened-number how in
     record {
       report = record {
         front = (0, held);
-        whole = λ is. absurd (number.0 is);
+        whole = λ is. unopened-other Done (λ w. cc) (λ w. cc) how is;
         broken = λ _. inl (still, same);
-        faulted = λ is. absurd (number.1 is);
-        cut = λ is. absurd (number.2 is);
+        faulted = λ is. unopened-other SourceFault (λ w. cc) (λ w. cc) how is;
+        cut = λ is. unopened-other SinkFault (λ w. cc) (λ w. cc) how is;
         starved = λ _. inl (still, same);
-        limited = λ is. absurd (number.3 is);
+        limited = λ is. unopened-other InputLimit (λ w. cc) (λ w. cc) how is;
       };
-      kept = HoldsReported-done history input before after new status [] (lines input) refl held (now old new (Stands history) knows opened) (λ is. absurd (number.0 is));
+      kept = HoldsReported-done history input before after new status [] (lines input) refl held (now old new (Stands history) knows opened)
+          (λ is. unopened-other Done (λ w. cc) (λ w. cc) how is);
       any_moment = weaker old new (Stands history) (StandsWithin history (lines input)) (λ image is. ([], lines input, refl, is)) opened;
-      whole = λ is. absurd (number.0 is);
+      whole = λ is. unopened-other Done (λ w. cc) (λ w. cc) how is;
     }
 
 -- a content that stands for a history isn't refused
 pub Serves-refused : (history : History) (input : List ℕ) (left before after : Option (List ℕ)) (had has : ℕ) (old new : Told) (error : OpenError) →
     OpensAs old.content (Err error) → Stands history old.content → AsRefused error before after had has → left ≡ Some input → KnowsNow new →
-    LeavesOnly old new (Stands history) → Serves history input left before after old new (number_of (status_of_open error))
+    LeavesOnly old new (Stands history) → Serves history input left before after old new (status_of_open error)
 Serves-refused history input left before after had has old new opening.Disk opens stands said still knows opened =
-    Serves-unopened history input left before after old new 4 (inl refl) still said.0 knows opened
+    Serves-unopened history input left before after old new DiskFault (inl refl) still said.0 knows opened
 Serves-refused history input left before after had has old new opening.OutOfMemory opens stands said still knows opened =
-    Serves-unopened history input left before after old new 7 (inr refl) still said.0 knows opened
+    Serves-unopened history input left before after old new OutOfMemory (inr refl) still said.0 knows opened
 Serves-refused history input left before after had has old new opening.NotAStore opens stands said still knows opened =
     let wrong : no_store ≡ recovers (state history) = sym opens ∙ stands.state in cc
 Serves-refused history input left before after had has old new (opening.BadEntry n) opens stands said still knows opened =
@@ -377,61 +418,25 @@ Serves-refused history input left before after had has old new (opening.BadStrea
 Serves-refused history input left before after had has old new (opening.Changed slot) opens stands said still knows opened = absurd opens
 
 -- and what was read then: nothing
-pub Reads-refused : (input : List ℕ) (left : Option (List ℕ)) (error : OpenError) → Reads input left (number_of (status_of_open error))
-Reads-refused input left opening.Disk = record { whole = λ is. absurd (omega (arith, is)); limit = λ is. absurd (omega (arith, is)) }
-Reads-refused input left opening.OutOfMemory = record { whole = λ is. absurd (omega (arith, is)); limit = λ is. absurd (omega (arith, is)) }
-Reads-refused input left opening.NotAStore = record { whole = λ is. absurd (omega (arith, is)); limit = λ is. absurd (omega (arith, is)) }
-Reads-refused input left (opening.BadEntry n) = record { whole = λ is. absurd (omega (arith, is)); limit = λ is. absurd (omega (arith, is)) }
-Reads-refused input left (opening.BadSlot n) = record { whole = λ is. absurd (omega (arith, is)); limit = λ is. absurd (omega (arith, is)) }
-Reads-refused input left (opening.BadStream id) = record { whole = λ is. absurd (omega (arith, is)); limit = λ is. absurd (omega (arith, is)) }
-Reads-refused input left (opening.Changed slot) = record { whole = λ is. absurd (omega (arith, is)); limit = λ is. absurd (omega (arith, is)) }
+unopened-status : (error : OpenError) → (status_of_open error ≡ Done → ⊥) × (status_of_open error ≡ InputLimit → ⊥)
+unopened-status opening.Disk = (λ is. cc, λ is. cc)
+unopened-status opening.OutOfMemory = (λ is. cc, λ is. cc)
+unopened-status opening.NotAStore = (λ is. cc, λ is. cc)
+unopened-status (opening.BadEntry n) = (λ is. cc, λ is. cc)
+unopened-status (opening.BadSlot n) = (λ is. cc, λ is. cc)
+unopened-status (opening.BadStream id) = (λ is. cc, λ is. cc)
+unopened-status (opening.Changed slot) = (λ is. cc, λ is. cc)
 
--- How a run ends where nothing fails but memory.
-pub completes : (tells : Bool) (status : Status) (d e s t k l : ℕ) → IsTrue tells → EndsServing tells status →
-    Counts DiskFault d e status → Counts SourceFault s t status → Counts SinkFault k l status →
-    (Rose d e → ⊥) → (Rose s t → ⊥) → (Rose k l → ⊥) → (number_of status ≡ 8 → ⊥) → (number_of status ≡ 0) ⊎ (number_of status ≡ 7)
-completes tells Done d e s t k l told ends disk source sink calm_disk calm_source calm_sink limit = inl refl
-completes tells OutOfMemory d e s t k l told ends disk source sink calm_disk calm_source calm_sink limit = inr refl
-completes tells DiskFault d e s t k l told ends disk source sink calm_disk calm_source calm_sink limit = absurd (calm_disk disk)
-completes tells SourceFault d e s t k l told ends disk source sink calm_disk calm_source calm_sink limit = absurd (calm_source source)
-completes tells SinkFault d e s t k l told ends disk source sink calm_disk calm_source calm_sink limit = absurd (calm_sink sink)
-completes tells InputLimit d e s t k l told ends disk source sink calm_disk calm_source calm_sink limit = absurd (limit refl)
-completes tells RecordChanged d e s t k l told ends disk source sink calm_disk calm_source calm_sink limit = absurd (ends told)
-completes tells Usage d e s t k l told ends disk source sink calm_disk calm_source calm_sink limit = absurd ends
-completes tells RefusedStore d e s t k l told ends disk source sink calm_disk calm_source calm_sink limit = absurd ends
+pub Reads-refused : (input : List ℕ) (left : Option (List ℕ)) (error : OpenError) → left ≡ Some input → Reads input left (status_of_open error)
+Reads-refused input left error is =
+    let other = unopened-status error in
+    Reads-stop input left (status_of_open error) other.0 other.1 (record { count = 0; few = omega arith; within = omega arith; others = is })
 
--- A run over no input doesn't end by a fault of a source,
-pub stop-unfed : (tells : Bool) (status : Status) → (status ≡ Done) ⊎ IsStop tells status → number_of status ≡ 5 → ⊥
-stop-unfed tells status (inl is) five = let zero = ap (λ s. number_of s) is in absurd (omega (arith, zero, five))
-stop-unfed tells DiskFault (inr stop) five = absurd (omega (arith, five))
-stop-unfed tells SinkFault (inr stop) five = absurd (omega (arith, five))
-stop-unfed tells OutOfMemory (inr stop) five = absurd (omega (arith, five))
-stop-unfed tells RecordChanged (inr stop) five = absurd (omega (arith, five))
-stop-unfed tells Done (inr stop) five = absurd stop
-stop-unfed tells Usage (inr stop) five = absurd stop
-stop-unfed tells RefusedStore (inr stop) five = absurd stop
-stop-unfed tells SourceFault (inr stop) five = absurd stop
-stop-unfed tells InputLimit (inr stop) five = absurd stop
-
--- and it ends where nothing fails but memory.
-pub completes-alone : (tells : Bool) (status : Status) (d e k l : ℕ) → IsTrue tells → (status ≡ Done) ⊎ IsStop tells status →
-    Counts DiskFault d e status → Counts SinkFault k l status → (Rose d e → ⊥) → (Rose k l → ⊥) → (number_of status ≡ 0) ⊎ (number_of status ≡ 7)
-completes-alone tells status d e k l told (inl is) disk sink calm_disk calm_sink = inl (ap (λ s. number_of s) is)
-completes-alone tells DiskFault d e k l told (inr stop) disk sink calm_disk calm_sink = absurd (calm_disk disk)
-completes-alone tells SinkFault d e k l told (inr stop) disk sink calm_disk calm_sink = absurd (calm_sink sink)
-completes-alone tells OutOfMemory d e k l told (inr stop) disk sink calm_disk calm_sink = inr refl
-completes-alone tells RecordChanged d e k l told (inr stop) disk sink calm_disk calm_sink = absurd (stop told)
-completes-alone tells Done d e k l told (inr stop) disk sink calm_disk calm_sink = absurd stop
-completes-alone tells Usage d e k l told (inr stop) disk sink calm_disk calm_sink = absurd stop
-completes-alone tells RefusedStore d e k l told (inr stop) disk sink calm_disk calm_sink = absurd stop
-completes-alone tells SourceFault d e k l told (inr stop) disk sink calm_disk calm_sink = absurd stop
-completes-alone tells InputLimit d e k l told (inr stop) disk sink calm_disk calm_sink = absurd stop
-
--- Nothing was said of a store that isn't refused, and the run isn't done, where it wasn't opened.
+-- Nothing was said of a store that isn't refused, and the run isn't done nor blames the sink, where it wasn't opened.
 pub unopened : (content : List ℕ) (streams : List Stream) (before after : Option (List ℕ)) (k l : ℕ) (error : OpenError) → Recovers streams content →
-    OpensAs content (Err error) → AsRefused error before after k l → (after ≡ before) × (number_of (status_of_open error) ≡ 0 → ⊥)
-unopened content streams before after k l opening.Disk is opens said = (said.0, λ zero. absurd (omega (arith, zero)))
-unopened content streams before after k l opening.OutOfMemory is opens said = (said.0, λ zero. absurd (omega (arith, zero)))
+    OpensAs content (Err error) → AsRefused error before after k l → (after ≡ before) × (status_of_open error ≡ Done → ⊥)
+unopened content streams before after k l opening.Disk is opens said = (said.0, λ w. cc)
+unopened content streams before after k l opening.OutOfMemory is opens said = (said.0, λ w. cc)
 unopened content streams before after k l opening.NotAStore is opens said = let wrong : no_store ≡ recovers streams = sym opens ∙ is in cc
 unopened content streams before after k l (opening.BadEntry n) is opens said = let wrong : damaged_entry n ≡ recovers streams = sym opens ∙ is in cc
 unopened content streams before after k l (opening.BadSlot n) is opens said = let wrong : damaged_slot n ≡ recovers streams = sym opens ∙ is in cc

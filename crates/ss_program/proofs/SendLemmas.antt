@@ -3,10 +3,9 @@ use Rattle.std.proofs.Common.{◌≡◌, ℕ, ◌+◌, ◌++◌, ◌-◌, ◌≤
 use Rattle.std.proofs.Math.Seq.{take-add, take-append-add}
 use Rattle.std.proofs.lemmas.Bool.{cases_lt}
 use Rattle.std.proofs.lemmas.List.{append-nil, take-append-le}
-use Rattle.ss_outside.specs.Verdict.{HasCause}
 use Rattle.ss_outside.specs.Sink.{Appends}
 use Rattle.ss_outside.specs.declared.source.Failed.{Failed}
-use Rattle.ss_program.specs.Sent.{appended, AppendsFront, SaysLine, Sends}
+use Rattle.ss_program.specs.Sent.{appended, AppendsFront, Puts, SaysLine, Sends}
 
 appends : (held after : Option (List ℕ)) (piece : List ℕ) (k : ℕ) → Appends held after (Ok k) piece → after ≡ appended held (take k piece)
 appends None after piece k is = is
@@ -65,7 +64,7 @@ AppendsFront-after before after a b part = (
 )
 
 -- what sending a line leaves, whatever it answers
-pub SaysLine-sent : (before after : Option (List ℕ)) (line : List ℕ) (faults_before faults : ℕ) (result : Result (Unit {0}) Failed) →
-    Sends before after line result → HasCause faults_before faults result → SaysLine line before after faults_before faults
-SaysLine-sent before after line faults_before faults (Ok u) sends cause = record { front = AppendsFront-all before after line sends; whole = λ _. sends }
-SaysLine-sent before after line faults_before faults (Err e) sends cause = record { front = (sends.0, sends.2); whole = λ calm. absurd (calm cause.failed) }
+pub SaysLine-sent : (before after : Option (List ℕ)) (line : List ℕ) (had has : ℕ) (result : Result (Unit {0}) Failed) →
+    Puts line before had after has result → SaysLine line before after had has
+SaysLine-sent before after line had has (Ok u) puts = record { front = AppendsFront-all before after line puts.sends; whole = λ _. puts.sends }
+SaysLine-sent before after line had has (Err e) puts = record { front = (puts.sends.0, puts.sends.2); whole = λ calm. absurd (calm puts.counted.1) }

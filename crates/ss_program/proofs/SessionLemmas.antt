@@ -10,7 +10,7 @@ use Rattle.ss_report.specs.declared.reply.Reply.{Reply}
 use Rattle.ss_program.specs.Line.{Brought, History, brings, line_text, text_brought, the_event}
 use Rattle.ss_outside.specs.Disk.{Told}
 use Rattle.ss_store.specs.Recover.{Stands}
-use Rattle.ss_program.specs.Progress.{StandsAround, StandsWithin, StopsAt, StopsWith}
+use Rattle.ss_program.specs.Progress.{StandsAround, StandsStopped, StandsWithin, StopsAt, StopsWith}
 use Rattle.ss_program.specs.Sent.{appended, AppendsFront}
 use Rattle.ss_program.specs.Session.{accepted, after_line, after_lines, replies, report, report_so_far, text_of}
 use Rattle.ss_program.specs.declared.status.Status.{Status}
@@ -75,7 +75,7 @@ StopsAt-more ms at = record {
 -- a run that stops at the line that comes next
 pub StopsAt-next : (history : History) (ls : List (List ℕ)) (line : List ℕ) (before held after : Option (List ℕ)) (disk : Told) (status : Status) →
     held ≡ appended before (text_of history ls) → StopsWith (brings (after_lines history ls) line) held after status →
-    ((image : List ℕ) → disk.may_leave image → StandsAround (after_lines history ls) (brings (after_lines history ls) line) image) →
+    ((image : List ℕ) → disk.may_leave image → StandsStopped (after_lines history ls) (brings (after_lines history ls) line) status image) →
     StopsAt history (ls ++ line ∷ []) before after disk status
 StopsAt-next history ls line before held after disk status is stop left = record {
   done = ls;

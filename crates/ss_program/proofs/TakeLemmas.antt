@@ -1,5 +1,5 @@
 -- What taking bytes up to a line end does to a session.
-use Rattle.std.proofs.Common.{◌≡◌, ℕ, ◌+◌, ◌++◌, ◌-◌, ◌≤◌, List, [], ◌∷◌, length, map, take, drop, Option, Some, None, IfSome, Ok, Err, sym, ap, ◌∙◌, subst, append_assoc, inl, inr}
+use Rattle.std.proofs.Common.{◌≡◌, ℕ, ◌+◌, ◌++◌, ◌-◌, ◌≤◌, List, [], ◌∷◌, length, map, take, drop, Option, Some, None, IfSome, Ok, Err, refl, sym, ap, ◌∙◌, subst, append_assoc, inl, inr}
 use Rattle.std.proofs.Math.Seq.{take-add}
 use Rattle.std.proofs.lemmas.Bool.{cond-true, cond-false, cases_lt, le-leb, lt-leb}
 use Rattle.std.specs.Prelude.{nat_le}
@@ -9,16 +9,17 @@ use Rattle.ss_command.specs.LineState.{Kept, ended_line, kept, unless_long}
 use Rattle.ss_command.specs.declared.TheConstants.{LONGEST_LINE}
 use Rattle.ss_command.proofs.LineLemmas.{ended_lines-append}
 use Rattle.ss_outside.proofs.CrashLemmas.{at_start, joined, now, of_content, weaker}
-use Rattle.ss_outside.specs.Crash.{KnowsNow, LeavesOnly}
+use Rattle.ss_outside.specs.Crash.{KnowsNow, LeavesOnly, OnlyReads}
 use Rattle.ss_outside.specs.Disk.{NothingPending, Told}
 use Rattle.ss_store.specs.Kept.{StoreState}
 use Rattle.ss_store.specs.Recover.{Stands}
 use Rattle.ss_program.specs.Answer.{Adds}
-use Rattle.ss_program.specs.Line.{History, brings, history_after, line_text}
-use Rattle.ss_program.specs.Progress.{EndsWell, GoesOn, HasReplied, HasTaken, SessionState, StandsAround, StandsWithin, StopsIn, StopsWith}
+use Rattle.ss_program.specs.Line.{Brought, History, brings, history_after, line_text}
+use Rattle.ss_program.specs.Progress.{EndsWell, GoesOn, HasReplied, HasTaken, SessionState, StandsAround, StandsStopped, StandsWithin, StopsIn, StopsWith}
 use Rattle.ss_program.specs.Sent.{appended}
 use Rattle.ss_program.specs.Session.{after_lines, text_of}
 use Rattle.ss_program.specs.declared.status.Status.{Status}
+use Rattle.ss_program.specs.declared.status.Status.TheVariants.{Done, Usage, RefusedStore, DiskFault, SourceFault, SinkFault, OutOfMemory, InputLimit, RecordChanged}
 use Rattle.ss_program.proofs.SendLemmas.{appended-appended, rest-slice}
 use Rattle.ss_program.proofs.SessionLemmas.{after_lines-push, text_of-push, StandsWithin-all, StandsWithin-around, StandsWithin-more, StopsAt-more, StopsAt-next}
 
@@ -95,17 +96,33 @@ GoesOn-ends history old new store before after under_way ls more same going ends
   any_moment = subst (λ l. LeavesOnly old new (StandsWithin history l)) (sym same) ends.any_moment;
 }
 
+-- what a crash leaves after the line at which a run stopped: where memory ran out nothing was done
+left-stopped : (history : History) (brought : Brought) (old new : Told) (status : Status) → KnowsNow new → Stands history old.content → NothingPending old →
+    LeavesOnly old new (StandsAround history brought) → (status ≡ OutOfMemory → OnlyReads old new) → (image : List ℕ) → new.may_leave image →
+    StandsStopped history brought status image
+left-stopped history brought old new OutOfMemory knows stands durable run untouched image left =
+    of_content old (Stands history) durable stands image (((untouched refl).same.images image).1 left)
+left-stopped history brought old new Done knows stands durable run untouched image left = now old new (StandsAround history brought) knows run image left
+left-stopped history brought old new Usage knows stands durable run untouched image left = now old new (StandsAround history brought) knows run image left
+left-stopped history brought old new RefusedStore knows stands durable run untouched image left = now old new (StandsAround history brought) knows run image left
+left-stopped history brought old new DiskFault knows stands durable run untouched image left = now old new (StandsAround history brought) knows run image left
+left-stopped history brought old new SourceFault knows stands durable run untouched image left = now old new (StandsAround history brought) knows run image left
+left-stopped history brought old new SinkFault knows stands durable run untouched image left = now old new (StandsAround history brought) knows run image left
+left-stopped history brought old new InputLimit knows stands durable run untouched image left = now old new (StandsAround history brought) knows run image left
+left-stopped history brought old new RecordChanged knows stands durable run untouched image left = now old new (StandsAround history brought) knows run image left
+
 -- the run stopped at the line that comes next
 pub StopsIn-next : (history : History) (old new : Told) (before held after : Option (List ℕ)) (ls : List (List ℕ)) (line : List ℕ) (status : Status) →
     KnowsNow new → held ≡ appended before (text_of history ls) → StopsWith (brings (after_lines history ls) line) held after status →
-    Stands (after_lines history ls) old.content → NothingPending old →
+    Stands (after_lines history ls) old.content → NothingPending old → (status ≡ OutOfMemory → OnlyReads old new) →
     Adds {T = Unit {0}} (after_lines history ls) (brings (after_lines history ls) line) old new (Err status) →
     StopsIn history (ls ++ line ∷ []) old new before after status
-StopsIn-next history old new before held after ls line status knows is stop stands durable adds =
+StopsIn-next history old new before held after ls line status knows is stop stands durable untouched adds =
+    let here = after_lines history ls in
     let around = adds.any_moment durable stands in
     record {
       at = StopsAt-next history ls line before held after new status is stop
-          (now old new (StandsAround (after_lines history ls) (brings (after_lines history ls) line)) knows around);
+          (left-stopped here (brings here line) old new status knows stands durable around untouched);
       any_moment = any_moment-line history old new ls line around;
     }
 

@@ -1,25 +1,38 @@
 -- What answering a line leaves.
-use Rattle.std.specs.Prelude.{◌≡◌, ℕ, List, flat_map, Bool, false, IsTrue, Option, Result, Ok, Err}
-use Rattle.ss_outside.specs.Disk.{Told}
+use Rattle.std.specs.Prelude.{◌≡◌, ℕ, List, [], ◌∷◌, flat_map, map, slice_get, false, IsSome, IfOk, IfErr, IfSome, OnOk, OnErr, Option, Some, Result, Ok, Err}
+use Rattle.ss_catalog.specs.declared.event.Event.{Event}
+use Rattle.ss_command.specs.declared.command.Command.{Command}
+use Rattle.ss_command.specs.declared.command.Command.TheVariants.{Do}
+use Rattle.ss_line.specs.Line.{index_of}
+use Rattle.ss_line.specs.declared.entry.At.{At}
+use Rattle.ss_model.specs.Shown.{placed_of}
+use Rattle.ss_model.specs.State.{Stream, state, stream_numbered}
+use Rattle.ss_model.specs.declared.types.Placed.{Placed}
+use Rattle.ss_outside.specs.Crash.{OnlyReads}
+use Rattle.ss_outside.specs.Disk.{Between, DiskView, OfContent, Told}
+use Rattle.ss_outside.specs.Step.{Step}
+use Rattle.ss_outside.specs.Verdict.{Counted}
 use Rattle.ss_outside.specs.declared.source.Failed.{Failed}
 use Rattle.ss_report.specs.Text.{reply_line}
 use Rattle.ss_report.specs.declared.reply.Reply.{Reply}
 use Rattle.ss_store.specs.Calls.{Turns}
-use Rattle.ss_store.specs.Kept.{StoreIsKept, StoreState}
+use Rattle.ss_store.specs.Kept.{StoreIsKept, StoreState, part_numbered}
 use Rattle.ss_store.specs.Recover.{Stands}
-use Rattle.ss_program.specs.Line.{Brought, History, history_after, text_brought}
+use Rattle.ss_program.specs.Devices.{Devices}
+use Rattle.ss_program.specs.Line.{Brought, History, command_brings, history_after, text_brought, window_rows}
 use Rattle.ss_program.specs.Progress.{StandsAround, StopsWith}
 use Rattle.ss_program.specs.Sent.{appended, Sends}
+use Rattle.ss_program.specs.Status.{disk_verdict, ended, sink_verdict, IsShowStop, IsStop}
 use Rattle.ss_program.specs.declared.status.Status.{Status}
-use Rattle.ss_program.specs.declared.status.Status.TheVariants.{SinkFault}
+use Rattle.ss_program.specs.declared.status.Status.TheVariants.{OutOfMemory, SinkFault}
 
 -- The store can be called: it hasn't stopped, and the disk is as it left it.
-pub record IsOpen (tells : Bool) (disk : Told) (store : StoreState) : Type 0 where
+pub record IsOpen (disk : DiskView) (store : StoreState) : Type 0 where
   pub runs : store.stopped ≡ false
-  pub kept : IsTrue tells → StoreIsKept store disk.content
+  pub kept : OfContent disk (StoreIsKept store)
 
 -- rows were sent, each in its turn, or less than all of them
-abbrev pub SendsRows : Option (List ℕ) → Option (List ℕ) → List Reply → Result Unit Status → Type 0
+abbrev pub SendsRows : {E : Type 0} → Option (List ℕ) → Option (List ℕ) → List Reply → Result Unit E → Type 0
 SendsRows before after rows result = Sends before after (flat_map reply_line rows) result
 
 -- the status of a run whose sink failed here
@@ -36,3 +49,58 @@ Replies brought before after (Err status) = StopsWith brought before after statu
 abbrev pub Adds : {T : Type 0} → History → Brought → Told → Told → Result T Status → Type 0
 Adds history brought old new result =
     Turns (Stands history) (StandsAround history brought) (Stands (history_after history brought)) old new result
+
+-- A command has one reply, the only one that it brings.
+abbrev pub RepliesOne : (History → Brought) → Result Reply Status → Told → Type 0
+RepliesOne brought result old =
+    (history : History) → Stands history old.content → IfOk result (λ reply. (brought history).replies ≡ reply ∷ [])
+
+-- A command is done whose one reply is answered. Where memory runs out, nothing was done.
+pub record DoesCommand (brought : History → Brought) (result : Result Reply Status) (old new : Told) : Type 0 where
+  pub adds : (history : History) → Adds history (brought history) old new result
+  pub reply : RepliesOne brought result old
+  pub untouched : ended result ≡ OutOfMemory → OnlyReads old new
+
+-- An event is applied. The run stops only at one that isn't refused.
+pub record AppliesEvent (event : Event) (result : Result Reply Status) (old new : Told) : Type 0 where
+  pub does : DoesCommand (λ history. command_brings history (Do event)) result old new
+  pub accepted : (history : History) → Stands history old.content → OnErr result (IsSome (command_brings history (Do event)).event)
+
+-- A query is asked. Content and images stay.
+pub record AsksQuery (brought : History → Brought) (result : Result Reply Status) (old new : Told) : Type 0 where
+  pub reply : RepliesOne brought result old
+  pub reads : OnlyReads old new
+
+-- The window at a place of the stream of a number is read. Content and images stay.
+pub record ReadsRow (number : ℕ) (at : At) (store : StoreState) (result : Result Placed Status) (old new : Told) : Type 0 where
+  pub row : (history : History) → Stands history old.content → IfOk result (λ placed. IfSome (part_numbered number store.streams) (λ part.
+      IfSome (stream_numbered number (state history)) (λ s.
+      slice_get (map placed_of s.windows) (index_of part.line.entries at) ≡ Some placed)))
+  pub reads : OnlyReads old new
+
+-- the text of what a command brings, and that of the rows of the windows of the stream of a number
+abbrev pub IsTextBrought : Command → History → List ℕ → Type 0
+IsTextBrought command history bytes = bytes ≡ text_brought (command_brings history command)
+
+abbrev pub IsRowsText : ℕ → History → List ℕ → Type 0
+IsRowsText number history bytes =
+    (s : Stream) × (stream_numbered number (state history) ≡ Some s) × (bytes ≡ flat_map reply_line (window_rows s))
+
+-- Something of the store is shown: the text of it is sent, which may go by the history, and the disk is only read.
+pub record Shows (text : History → List ℕ → Type 0) (old new : Devices) (store : StoreState) (result : Result Unit Status) : Type 0 where
+  pub reads : Step (disk_verdict (ended result)) old.disk new.disk OnlyReads
+  pub sends : OfContent old.disk (λ content. (history : History) → Stands history content →
+      (bytes : List ℕ) → text history bytes → Sends old.held new.held bytes result)
+  pub counted : Counted (sink_verdict (ended result)) old.faults new.faults
+  pub opens : OnOk result (IsOpen new.disk store)
+  pub status : IfErr result (IsShowStop old.disk.tells)
+
+-- A line is answered: what it brings is added and replied, or the run stops at it. Where memory runs out, nothing was done.
+pub record TakesLine (brought : History → Brought) (old new : Devices) (store : StoreState) (result : Result Unit Status) : Type 0 where
+  pub adds : Step (disk_verdict (ended result)) old.disk new.disk (λ a b. (history : History) → Adds history (brought history) a b result)
+  pub untouched : ended result ≡ OutOfMemory → Between old.disk new.disk OnlyReads
+  pub replies : OfContent old.disk (λ content. (history : History) → Stands history content →
+      Replies (brought history) old.held new.held result)
+  pub counted : Counted (sink_verdict (ended result)) old.faults new.faults
+  pub opens : OnOk result (IsOpen new.disk store)
+  pub status : IfErr result (IsStop old.disk.tells)

@@ -1,18 +1,64 @@
--- How a run ends whose arguments are known, whatever they ask for.
-use Rattle.std.specs.Prelude.{◌≡◌, ◌⊎◌, ℕ, Bool, List, Option, IsTrue, IsSome}
-use Rattle.ss_outside.specs.Verdict.{Rose}
-use Rattle.ss_outside.specs.Disk.{Told}
+-- How a run ends.
+use Rattle.std.specs.Prelude.{◌≡◌, ◌⊎◌, ◌≤◌, ℕ, List, IsSome, IsTrue, Option, ⊤}
+use Rattle.ss_arguments.specs.declared.mode.Mode.{Mode}
+use Rattle.ss_arguments.specs.declared.mode.Mode.TheVariants.{Run, Check, Gen}
+use Rattle.ss_generator.specs.declared.TheConstants.{MOST_COUNT}
+use Rattle.ss_outside.specs.Crash.{OnlyReads}
+use Rattle.ss_outside.specs.Disk.{Between, OfContent, Told}
+use Rattle.ss_outside.specs.Step.{Step}
+use Rattle.ss_outside.specs.Verdict.{Counted}
 use Rattle.ss_store.specs.Recover.{recover}
+use Rattle.ss_program.specs.Devices.{Devices}
 use Rattle.ss_program.specs.Refused.{RefusesStore, refusal_line}
+use Rattle.ss_program.specs.Sent.{SaysLine}
+use Rattle.ss_program.specs.Status.{disk_verdict, sink_verdict}
+use Rattle.ss_program.specs.Words.{usage}
+use Rattle.ss_program.specs.declared.status.Status.{Status}
+use Rattle.ss_program.specs.declared.status.Status.TheVariants.{Done, Usage, RefusedStore, DiskFault, SourceFault, OutOfMemory, InputLimit, RecordChanged}
 
--- By its exit status: what is said of a store that is refused, and which devices failed. The counts of faults are those of the
--- disk before and after, and those of the sink.
-pub record Ends (tells : Bool) (old new : Told) (before after : Option (List ℕ)) (disk_had disk_has sink_had sink_has : ℕ) (status : ℕ) : Type 0 where
-  pub known : status ≡ 2 → ⊥
-  pub refused : status ≡ 3 → IsTrue tells → RefusesStore old new before after sink_had sink_has
-  pub refuses : IsTrue tells → IsSome (refusal_line (recover old.content)) → (status ≡ 3) ⊎ (status ≡ 4) ⊎ (status ≡ 7)
-  pub disk_fault : status ≡ 4 → Rose disk_had disk_has
-  pub disk_fine : (status ≡ 4 → ⊥) → disk_has ≡ disk_had
-  pub sink_fault : status ≡ 6 → Rose sink_had sink_has
-  pub sink_fine : (status ≡ 3 → ⊥) → (status ≡ 6 → ⊥) → sink_has ≡ sink_had
-  pub firm : status ≡ 9 → IsTrue tells → ⊥
+-- the content is no store, or is damaged
+abbrev pub IsRefusedContent : List ℕ → Type 0
+IsRefusedContent content = IsSome (refusal_line (recover content))
+
+-- Over a content that is refused: nothing is written, whatever the status. The line is said or nothing is, and the run ends by it,
+-- unless the disk failed before, or memory ran out.
+pub record Refuses (before after : Option (List ℕ)) (status : Status) (old new : Told) : Type 0 where
+  pub how : (status ≡ RefusedStore) ⊎ (status ≡ DiskFault) ⊎ (status ≡ OutOfMemory)
+  pub unwritten : OnlyReads old new
+  pub silent : (status ≡ RefusedStore → ⊥) → after ≡ before
+
+-- How a run ends whose arguments are known, whatever they ask for: by its status, which devices failed, and what is said of a store
+-- that is refused.
+pub record Ends (old new : Devices) (status : Status) : Type 0 where
+  pub known : status ≡ Usage → ⊥
+  -- the disk is blamed exactly where its count of faults rose
+  pub disk : Step (disk_verdict status) old.disk new.disk (λ a b. IsRefusedContent a.content → Refuses old.held new.held status a b)
+  -- and so is the sink, but for the line that is said of a refused store, which may have failed to go out
+  pub sink : (status ≡ RefusedStore → ⊥) → Counted (sink_verdict status) old.faults new.faults
+  pub refused : status ≡ RefusedStore → Between old.disk new.disk (λ a b. RefusesStore a b old.held new.held old.faults new.faults)
+  -- no record has changed on a disk that tells
+  pub firm : status ≡ RecordChanged → IsTrue old.disk.tells → ⊥
+
+-- How a run ends whose arguments aren't known: the usage line is said, or memory ran out and nothing is.
+abbrev pub Rejects : Devices → Devices → Status → Type 0
+Rejects old new Usage = SaysLine usage old.held new.held old.faults new.faults
+Rejects old new OutOfMemory = (new.held ≡ old.held) × (new.faults ≡ old.faults)
+Rejects old new status = ⊥
+
+-- a run is done, unless memory ran out
+abbrev pub Completes : Status → Type 0
+Completes Done = ⊤
+Completes OutOfMemory = ⊤
+Completes status = ⊥
+
+-- a run that reads no input doesn't end by it
+abbrev pub IsUnfed : Status → Type 0
+IsUnfed SourceFault = ⊥
+IsUnfed InputLimit = ⊥
+IsUnfed status = ⊤
+
+-- the numbers of a generated file are those that a mode may have
+abbrev pub HasNumbers : Mode → Type 0
+HasNumbers Run = ⊤
+HasNumbers Check = ⊤
+HasNumbers (Gen seed count) = (1 ≤ count) × (count ≤ MOST_COUNT)

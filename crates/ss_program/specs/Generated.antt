@@ -4,15 +4,17 @@ use Rattle.std.specs.Fmt.{decimal}
 use Rattle.ss_command.specs.Printed.{printed}
 use Rattle.ss_generator.specs.Commands.{commands}
 use Rattle.ss_outside.specs.Crash.{LeavesOnly}
-use Rattle.ss_outside.specs.Disk.{Told}
+use Rattle.ss_outside.specs.Disk.{NothingPending, Told}
 use Rattle.ss_report.specs.Text.{reply_line}
 use Rattle.ss_report.specs.declared.reply.Reply.{Reply}
-use Rattle.ss_report.specs.declared.reply.Reply.TheVariants.{Done, Answered, Refused, WindowsHead, Window, ListHead, Stream}
+use Rattle.ss_report.specs.declared.reply.Reply.TheVariants.{Done as AckLine, Answered, Refused, WindowsHead, Window, ListHead, Stream}
 use Rattle.ss_store.specs.Recover.{Stands}
 use Rattle.ss_program.specs.Held.{StandsForFirst}
 use Rattle.ss_program.specs.Line.{History}
 use Rattle.ss_program.specs.Sent.{appended, AppendsFront}
 use Rattle.ss_program.specs.Session.{accepted, replies}
+use Rattle.ss_program.specs.declared.status.Status.{Status}
+use Rattle.ss_program.specs.declared.status.Status.TheVariants.{Done, SinkFault}
 
 -- the lines of the file
 abbrev pub generated : ℕ → ℕ → List (List ℕ)
@@ -20,7 +22,7 @@ generated seed count = map printed (commands seed count)
 
 -- whether a reply says that an event was accepted, and whether it says that a command was refused
 abbrev pub is_done : Reply → Bool
-is_done (Done ack) = true
+is_done (AckLine ack) = true
 is_done (Answered outcome) = false
 is_done (Refused refusal) = false
 is_done (WindowsHead count) = false
@@ -29,7 +31,7 @@ is_done (ListHead count) = false
 is_done (Stream row) = false
 
 abbrev pub is_refused : Reply → Bool
-is_refused (Done ack) = false
+is_refused (AckLine ack) = false
 is_refused (Answered outcome) = false
 is_refused (Refused refusal) = true
 is_refused (WindowsHead count) = false
@@ -71,12 +73,19 @@ StandsForGenerated history seed count image = StandsForFirst history (accepted h
 abbrev pub StandsForAll : History → ℕ → ℕ → List ℕ → Type 0
 StandsForAll history seed count image = Stands (history ++ accepted history (generated seed count)) image
 
--- What a run over the file leaves. The sink's new bytes are a front of the summary, and at status 0 all of it. A crash at any moment
--- leaves the history and some first of the accepted events, and so does one after the run; at status 0 it leaves all of them.
-pub record Generates (history : History) (seed count : ℕ) (before after : Option (List ℕ)) (old new : Told) (status : ℕ) : Type 0 where
+-- What a run over the file leaves. The sink's new bytes are a front of the summary, and all of it where the run is done; there are
+-- none where it stopped at a command. A crash at any moment leaves the history and some first of the accepted events, and so does
+-- one after the run; where it is done, all of them.
+pub record Generates (history : History) (seed count : ℕ) (before after : Option (List ℕ)) (old new : Told) (status : Status) : Type 0 where
   pub front : AppendsFront before after (summary history seed count)
-  pub whole : status ≡ 0 → after ≡ appended before (summary history seed count)
+  pub whole : status ≡ Done → after ≡ appended before (summary history seed count)
+  pub silent : (status ≡ Done → ⊥) → (status ≡ SinkFault → ⊥) → after ≡ before
   pub any_moment : LeavesOnly old new (StandsForGenerated history seed count)
   pub kept : (image : List ℕ) → new.may_leave image → StandsForGenerated history seed count image
-  pub done : status ≡ 0 → StandsForAll history seed count new.content
-  pub all : status ≡ 0 → (image : List ℕ) → new.may_leave image → StandsForAll history seed count image
+  pub done : status ≡ Done → StandsForAll history seed count new.content
+  pub all : status ≡ Done → (image : List ℕ) → new.may_leave image → StandsForAll history seed count image
+
+-- for each history for which the content stands, with nothing pending
+abbrev pub GeneratesFrom : ℕ → ℕ → Option (List ℕ) → Option (List ℕ) → Status → Told → Told → Type 0
+GeneratesFrom seed count before after status old new =
+    NothingPending old → (history : History) → Stands history old.content → Generates history seed count before after old new status

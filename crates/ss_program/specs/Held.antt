@@ -4,6 +4,8 @@ use Rattle.ss_catalog.specs.declared.event.Event.{Event}
 use Rattle.ss_store.specs.Recover.{Stands}
 use Rattle.ss_program.specs.Line.{History, brings, line_text, the_event}
 use Rattle.ss_program.specs.Session.{accepted, after_line}
+use Rattle.ss_program.specs.declared.status.Status.{Status}
+use Rattle.ss_program.specs.declared.status.Status.TheVariants.{Done, OutOfMemory}
 
 -- the image stands for the history and some first of these events
 abbrev pub StandsForFirst : History → List Event → List ℕ → Type 0
@@ -16,11 +18,12 @@ acks history (line ∷ ls) bytes = cond (nat_le (length (line_text history line)
     (length (the_event (brings history line).event) + acks (after_line history line) ls (bytes - length (line_text history line))) 0
 
 -- The image stands for the history and the first accepted events: those whose replies are whole within so many bytes of the
--- report, and at most one more. At status 0 it holds all of them.
-pub record HoldsAcked (history : History) (ls : List (List ℕ)) (bytes : ℕ) (status : ℕ) (image : List ℕ) : Type 0 where
+-- report, and at most one more. Done, it holds all of them; where memory ran out, no more than those.
+pub record HoldsAcked (history : History) (ls : List (List ℕ)) (bytes : ℕ) (status : Status) (image : List ℕ) : Type 0 where
   pub j : ℕ
   pub stands : Stands (history ++ take j (accepted history ls)) image
   pub few : j ≤ length (accepted history ls)
   pub acked : acks history ls bytes ≤ j
   pub at_most : j ≤ acks history ls bytes + 1
-  pub all : status ≡ 0 → j ≡ length (accepted history ls)
+  pub all : status ≡ Done → j ≡ length (accepted history ls)
+  pub starved : status ≡ OutOfMemory → j ≡ acks history ls bytes

@@ -1,6 +1,7 @@
 pub mod Line
 pub mod Session
 pub mod Sent
+pub mod Devices
 pub mod Progress
 pub mod Answer
 pub mod Words
@@ -12,3 +13,4 @@ pub mod Checked
 pub mod Generated
 pub mod Tally
 pub mod Ending
+pub mod Promises

@@ -3,6 +3,7 @@ use Rattle.std.specs.Prelude.{ℕ, List, [], ◌∷◌, ◌++◌, length, map, f
 use Rattle.ss_catalog.specs.Events.{event_name}
 use Rattle.ss_catalog.specs.declared.event.Event.{Event}
 use Rattle.ss_catalog.specs.declared.refusal.Refusal.{Refusal}
+use Rattle.ss_catalog.specs.declared.refusal.Refusal.TheVariants.{Line}
 use Rattle.ss_command.specs.Grammar.{meaning}
 use Rattle.ss_command.specs.declared.command.Command.{Command}
 use Rattle.ss_command.specs.declared.command.Command.TheVariants.{Do, Ask, Windows, List as ListAll}
@@ -81,6 +82,11 @@ abbrev pub meaning_brings : History → Result (Option Command) Refusal → Brou
 meaning_brings history (Err refusal) = refused refusal
 meaning_brings history (Ok None) = nothing
 meaning_brings history (Ok (Some command)) = command_brings history command
+
+-- what a line brings as it is kept: one that is too long isn't kept
+abbrev pub kept_brings : History → Option (List ℕ) → Brought
+kept_brings history None = refused Line
+kept_brings history (Some line) = meaning_brings history (meaning line)
 
 -- what a line brings after a history
 abbrev pub brings : History → List ℕ → Brought

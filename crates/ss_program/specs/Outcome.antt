@@ -1,15 +1,15 @@
--- What a run over an input leaves, by its exit status.
-use Rattle.std.specs.Prelude.{◌≡◌, ◌⊎◌, ℕ, ◌+◌, ◌-◌, ◌<◌, ◌≤◌, ◌++◌, ◌∷◌, List, [], take, drop, length, Option, Some}
+-- What a run over an input leaves, by its status.
+use Rattle.std.specs.Prelude.{◌≡◌, ◌⊎◌, ℕ, ◌+◌, ◌-◌, ◌<◌, ◌≤◌, ◌++◌, ◌∷◌, List, [], take, drop, length, IfOk, IfErr, Option, Some, Result}
 use Rattle.ss_command.specs.Lines.{lines, lines_so_far}
 use Rattle.ss_outside.specs.Crash.{LeavesOnly}
-use Rattle.ss_outside.specs.Disk.{Told}
+use Rattle.ss_outside.specs.Disk.{NothingPending, Told}
 use Rattle.ss_store.specs.Recover.{Stands}
 use Rattle.ss_program.specs.declared.running.TheConstants.{LONGEST_INPUT}
 use Rattle.ss_program.specs.declared.status.Status.{Status}
-use Rattle.ss_program.specs.declared.status.Status.TheVariants.{SinkFault, DiskFault, OutOfMemory}
+use Rattle.ss_program.specs.declared.status.Status.TheVariants.{Done, DiskFault, SourceFault, SinkFault, OutOfMemory, InputLimit}
 use Rattle.ss_program.specs.Held.{HoldsAcked}
 use Rattle.ss_program.specs.Line.{History}
-use Rattle.ss_program.specs.Progress.{StandsWithin, StopsAt}
+use Rattle.ss_program.specs.Progress.{GoesOn, OfTaken, SessionState, StandsWithin, StopsAt, StopsIn}
 use Rattle.ss_program.specs.Sent.{appended, AppendsFront}
 use Rattle.ss_program.specs.Session.{accepted, report, report_so_far}
 
@@ -33,32 +33,55 @@ Stopped history input left before after disk status =
 abbrev pub NotBegun : List ℕ → Option (List ℕ) → Option (List ℕ) → Option (List ℕ) → Type 0
 NotBegun input left before after = (left ≡ Some input) × (after ≡ before)
 
--- The report: the sink's new bytes are a front of the report of the input. At status 0 they are all of it. At 5 and 8
--- they are the replies to the lines that ended within the bytes taken. At 6 the run stopped at such a line, and at 4 and 7
--- there or in opening the store.
-pub record Reports (history : History) (input : List ℕ) (left before after : Option (List ℕ)) (disk : Told) (status : ℕ) : Type 0 where
+-- The report: the sink's new bytes are a front of the report of the input. Done, they are all of it. Where the source failed, or
+-- the input is too long, they are the replies to the lines that ended within the bytes taken. Where the sink failed, the run
+-- stopped at such a line, and where the disk failed or memory ran out, there or in opening the store.
+pub record Reports (history : History) (input : List ℕ) (left before after : Option (List ℕ)) (disk : Told) (status : Status) : Type 0 where
   pub front : AppendsFront before after (report history input)
-  pub whole : status ≡ 0 → after ≡ appended before (report history input)
-  pub broken : status ≡ 4 → NotBegun input left before after ⊎ Stopped history input left before after disk DiskFault
-  pub faulted : status ≡ 5 → (taken : List ℕ) × (rest : List ℕ) × Took input left taken rest × (after ≡ appended before (report_so_far history taken))
-  pub cut : status ≡ 6 → Stopped history input left before after disk SinkFault
-  pub starved : status ≡ 7 → NotBegun input left before after ⊎ Stopped history input left before after disk OutOfMemory
-  pub limited : status ≡ 8 → after ≡ appended before (report_so_far history (take LONGEST_INPUT input))
+  pub whole : status ≡ Done → after ≡ appended before (report history input)
+  pub broken : status ≡ DiskFault → NotBegun input left before after ⊎ Stopped history input left before after disk DiskFault
+  pub faulted : status ≡ SourceFault →
+      (taken : List ℕ) × (rest : List ℕ) × Took input left taken rest × (after ≡ appended before (report_so_far history taken))
+  pub cut : status ≡ SinkFault → Stopped history input left before after disk SinkFault
+  pub starved : status ≡ OutOfMemory → NotBegun input left before after ⊎ Stopped history input left before after disk OutOfMemory
+  pub limited : status ≡ InputLimit → after ≡ appended before (report_so_far history (take LONGEST_INPUT input))
 
--- What was read: at status 0 the input to its end; at 8 as many bytes as an input may have, and one more.
-pub record Reads (input : List ℕ) (left : Option (List ℕ)) (status : ℕ) : Type 0 where
-  pub whole : status ≡ 0 → (length input ≤ LONGEST_INPUT) × (left ≡ Some [])
-  pub limit : status ≡ 8 → (LONGEST_INPUT < length input) × (left ≡ Some (drop (LONGEST_INPUT + 1) input))
+-- the first bytes of the input were read, at most so many
+pub record Moved (most : ℕ) (input : List ℕ) (left : Option (List ℕ)) : Type 0 where
+  pub count : ℕ
+  pub few : count ≤ most
+  pub within : count ≤ length input
+  pub others : left ≡ Some (drop count input)
+
+-- What was read: never more than an input may have and one byte more. Done, the input to its end; where it is too long, so many.
+pub record Reads (input : List ℕ) (left : Option (List ℕ)) (status : Status) : Type 0 where
+  pub few : Moved (LONGEST_INPUT + 1) input left
+  pub whole : status ≡ Done → (length input ≤ LONGEST_INPUT) × (left ≡ Some [])
+  pub limit : status ≡ InputLimit → (LONGEST_INPUT < length input) × (left ≡ Some (drop (LONGEST_INPUT + 1) input))
 
 -- each image holds the acknowledged events, and at most one more, by the sink's new bytes
-abbrev pub HoldsReported : History → List ℕ → Option (List ℕ) → Option (List ℕ) → Told → ℕ → Type 0
+abbrev pub HoldsReported : History → List ℕ → Option (List ℕ) → Option (List ℕ) → Told → Status → Type 0
 HoldsReported history input before after disk status =
     (had has : List ℕ) → before ≡ Some had → after ≡ Some has →
     (image : List ℕ) → disk.may_leave image → HoldsAcked history (lines input) (length has - length had) status image
 
 -- What a session over an input leaves, of its report and of the disk.
-pub record Serves (history : History) (input : List ℕ) (left before after : Option (List ℕ)) (old new : Told) (status : ℕ) : Type 0 where
+pub record Serves (history : History) (input : List ℕ) (left before after : Option (List ℕ)) (old new : Told) (status : Status) : Type 0 where
   pub report : Reports history input left before after new status
   pub kept : HoldsReported history input before after new status
   pub any_moment : LeavesOnly old new (StandsWithin history (lines input))
-  pub whole : status ≡ 0 → Stands (history ++ accepted history (lines input)) new.content
+  pub whole : status ≡ Done → Stands (history ++ accepted history (lines input)) new.content
+
+-- A run over an input: what it leaves for each history for which the content stands, with nothing pending.
+abbrev pub ServesInput : List ℕ → Option (List ℕ) → Option (List ℕ) → Option (List ℕ) → Status → Told → Told → Type 0
+ServesInput input left before after status old new =
+    NothingPending old → (history : History) → Stands history old.content → Serves history input left before after old new status
+
+-- A session reads a piece of at most `room` bytes of the input, or the run stops at a line that ends in it.
+pub record ReadsPiece (room : ℕ) (from to : SessionState) (left rest held after : Option (List ℕ)) (result : Result ℕ Status)
+    (old new : Told) : Type 0 where
+  pub goes : IfOk result (λ count. (bytes : List ℕ) → left ≡ Some bytes → OfTaken from held old (λ history before input.
+      GoesOn history old new to before after (input ++ take count bytes)))
+  pub stops : IfErr result (λ status. (status ≡ SourceFault → ⊥) → (bytes : List ℕ) → left ≡ Some bytes →
+      OfTaken from held old (λ history before input. (count : ℕ) × (count ≤ room) × (count ≤ length bytes)
+      × (rest ≡ Some (drop count bytes)) × StopsIn history (lines_so_far (input ++ take count bytes)) old new before after status))

@@ -1,6 +1,6 @@
 -- How far a session has come, and where it stops.
-use Rattle.std.specs.Prelude.{◌≡◌, ◌⊎◌, ℕ, ◌++◌, List, ◌∷◌, Option, IsSome}
-use Rattle.ss_command.specs.Lines.{lines_so_far, unended}
+use Rattle.std.specs.Prelude.{◌≡◌, ◌⊎◌, ℕ, ◌++◌, List, ◌∷◌, Option, IsSome, IfOk, IfErr, Result}
+use Rattle.ss_command.specs.Lines.{lines, lines_so_far, unended}
 use Rattle.ss_command.specs.LineState.{kept}
 use Rattle.ss_outside.specs.Crash.{LeavesOnly}
 use Rattle.ss_outside.specs.Disk.{Told, NothingPending}
@@ -10,7 +10,7 @@ use Rattle.ss_program.specs.Line.{Brought, History, brings, history_after, text_
 use Rattle.ss_program.specs.Sent.{appended, AppendsLess}
 use Rattle.ss_program.specs.Session.{after_lines, text_of, report_so_far}
 use Rattle.ss_program.specs.declared.status.Status.{Status}
-use Rattle.ss_program.specs.declared.status.Status.TheVariants.{DiskFault, SinkFault, OutOfMemory, RecordChanged}
+use Rattle.ss_program.specs.declared.status.Status.TheVariants.{Done, DiskFault, SinkFault, OutOfMemory, RecordChanged}
 
 -- what contracts see of a session: its store, and what is kept of the line that is under way
 pub record SessionState : Type 0 where
@@ -31,6 +31,11 @@ HasReplied history before held taken = held ≡ appended before (report_so_far h
 -- the image stands for the history before what a line brings, or for the one after it
 abbrev pub StandsAround : History → Brought → List ℕ → Type 0
 StandsAround history brought image = Stands history image ⊎ Stands (history_after history brought) image
+
+-- At a line at which a run stops: where memory ran out, the image stands for the history before the line.
+abbrev pub StandsStopped : History → Brought → Status → List ℕ → Type 0
+StandsStopped history brought OutOfMemory image = Stands history image
+StandsStopped history brought status image = StandsAround history brought image
 
 -- the image stands for the history after some first lines of these
 abbrev pub StandsWithin : History → List (List ℕ) → List ℕ → Type 0
@@ -53,14 +58,15 @@ StopsWith brought before after OutOfMemory = (after ≡ before) × IsSome brough
 StopsWith brought before after status = ⊥
 
 -- A run stopped at one of these lines: the replies to those before it were sent, and a crash leaves the history before
--- this line or after it.
+-- this line or after it; only the one before it, where memory ran out.
 pub record StopsAt (history : History) (ls : List (List ℕ)) (before after : Option (List ℕ)) (disk : Told) (status : Status) : Type 0 where
   pub done : List (List ℕ)
   pub line : List ℕ
   pub others : List (List ℕ)
   pub are : ls ≡ done ++ line ∷ others
   pub stop : StopsWith (brings (after_lines history done) line) (appended before (text_of history done)) after status
-  pub left : (image : List ℕ) → disk.may_leave image → StandsAround (after_lines history done) (brings (after_lines history done) line) image
+  pub left : (image : List ℕ) → disk.may_leave image →
+      StandsStopped (after_lines history done) (brings (after_lines history done) line) status image
 
 -- From one moment on to another a session took further lines, and stopped at one of these.
 pub record StopsIn (history : History) (ls : List (List ℕ)) (old new : Told) (before after : Option (List ℕ)) (status : Status) : Type 0 where
@@ -74,3 +80,23 @@ pub record EndsWell (history : History) (ls : List (List ℕ)) (old new : Told) 
   pub durable : NothingPending new
   pub replied : after ≡ appended before (text_of history ls)
   pub any_moment : LeavesOnly old new (StandsWithin history ls)
+
+-- What a session says of its history and input at the start of a call, where it has taken these bytes and the sink got the
+-- replies to the lines of them.
+abbrev pub OfTaken : SessionState → Option (List ℕ) → Told → (History → Option (List ℕ) → List ℕ → Type 0) → Type 0
+OfTaken session held disk P =
+    (history : History) (before : Option (List ℕ)) (input : List ℕ) → HasTaken history disk session input →
+    HasReplied history before held input → P history before input
+
+-- A session takes bytes of a piece of the input, by the answer so many, or the run stops at a line that ends in the piece.
+pub record TakesPiece {T : Type 0} (moved : T → List ℕ) (piece : List ℕ) (from to : SessionState) (held after : Option (List ℕ))
+    (result : Result T Status) (old new : Told) : Type 0 where
+  pub goes : IfOk result (λ value. OfTaken from held old (λ history before input.
+      GoesOn history old new to before after (input ++ moved value)))
+  pub stops : IfErr result (λ status. OfTaken from held old (λ history before input.
+      StopsIn history (lines_so_far (input ++ piece)) old new before after status))
+
+-- A session ends its input: all lines are answered, or the run stops at the last one.
+pub record EndsSession (from : SessionState) (held after : Option (List ℕ)) (status : Status) (old new : Told) : Type 0 where
+  pub done : status ≡ Done → OfTaken from held old (λ history before input. EndsWell history (lines input) old new before after)
+  pub stops : (status ≡ Done → ⊥) → OfTaken from held old (λ history before input. StopsIn history (lines input) old new before after status)

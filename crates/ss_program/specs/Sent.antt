@@ -1,6 +1,7 @@
 -- What is sent to a sink.
 use Rattle.std.specs.Prelude.{◌≡◌, ℕ, ◌<◌, ◌++◌, List, take, length, Option, option_map, Result, Ok, Err}
-use Rattle.ss_outside.specs.Verdict.{Rose}
+use Rattle.ss_outside.specs.Verdict.{Counted, Rose, verdict}
+use Rattle.ss_outside.specs.declared.source.Failed.{Failed}
 
 -- what a sink holds with a text at its end, where it tells what it holds
 abbrev pub appended : Option (List ℕ) → List ℕ → Option (List ℕ)
@@ -18,6 +19,11 @@ AppendsLess before after text = (k : ℕ) × (k < length text) × (after ≡ app
 abbrev pub Sends : {E : Type 0} → Option (List ℕ) → Option (List ℕ) → List ℕ → Result Unit E → Type 0
 Sends before after text (Ok u) = after ≡ appended before text
 Sends before after text (Err e) = AppendsLess before after text
+
+-- What handing a text to a sink leaves: what is sent, and the count of faults goes by the answer.
+pub record Puts (text : List ℕ) (before : Option (List ℕ)) (had : ℕ) (after : Option (List ℕ)) (has : ℕ) (result : Result Unit Failed) : Type 0 where
+  pub sends : Sends before after text result
+  pub counted : Counted (verdict result) had has
 
 -- A line is said, whether or not the sink takes it: the sink gets a front of it, and all of it unless its count of faults rose.
 pub record SaysLine (line : List ℕ) (before after : Option (List ℕ)) (faults_before faults : ℕ) : Type 0 where

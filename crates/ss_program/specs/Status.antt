@@ -1,20 +1,20 @@
 -- The exit statuses.
 use Rattle.std.specs.Prelude.{◌≡◌, ℕ, Bool, IsTrue, Result, Ok, Err, ⊤}
-use Rattle.ss_outside.specs.Verdict.{Rose}
+use Rattle.ss_outside.specs.Verdict.{Verdict, failed, fine}
 use Rattle.ss_program.specs.declared.status.Status.{Status}
 use Rattle.ss_program.specs.declared.status.Status.TheVariants.{Done, Usage, RefusedStore, DiskFault, SourceFault, SinkFault, OutOfMemory, InputLimit, RecordChanged}
 
--- the number of a status
-abbrev pub number_of : Status → ℕ
-number_of Done = 0
-number_of Usage = 2
-number_of RefusedStore = 3
-number_of DiskFault = 4
-number_of SourceFault = 5
-number_of SinkFault = 6
-number_of OutOfMemory = 7
-number_of InputLimit = 8
-number_of RecordChanged = 9
+-- the exit status as a number
+abbrev pub exit_number : Status → ℕ
+exit_number Done = 0
+exit_number Usage = 2
+exit_number RefusedStore = 3
+exit_number DiskFault = 4
+exit_number SourceFault = 5
+exit_number SinkFault = 6
+exit_number OutOfMemory = 7
+exit_number InputLimit = 8
+exit_number RecordChanged = 9
 
 -- What ends a run at a call of the store that reads: the disk failed, or a record has changed, on a disk that doesn't tell.
 abbrev pub IsDiskStop : Bool → Status → Type 0
@@ -44,15 +44,24 @@ EndsServing tells SourceFault = ⊤
 EndsServing tells InputLimit = ⊤
 EndsServing tells status = IsStop tells status
 
--- A device's count of faults, by the status that a fault of the device has: the count rose where that is the status, and
--- is as it was at every other.
-abbrev pub Counts : Status → ℕ → ℕ → Status → Type 0
-Counts DiskFault before now DiskFault = Rose before now
-Counts SourceFault before now SourceFault = Rose before now
-Counts SinkFault before now SinkFault = Rose before now
-Counts device before now status = now ≡ before
+-- the verdict at a device of a run that ends with a status, which is that of a failure of the device or another
+abbrev pub disk_verdict : Status → Verdict
+disk_verdict DiskFault = failed
+disk_verdict status = fine
 
--- and of what goes on at Ok, where the count is as it was
-abbrev pub CountsIfEnded : {T : Type 0} → Status → ℕ → ℕ → Result T Status → Type 0
-CountsIfEnded device before now (Ok value) = now ≡ before
-CountsIfEnded device before now (Err status) = Counts device before now status
+abbrev pub source_verdict : Status → Verdict
+source_verdict SourceFault = failed
+source_verdict status = fine
+
+abbrev pub sink_verdict : Status → Verdict
+sink_verdict SinkFault = failed
+sink_verdict status = fine
+
+-- the status with which a call ends a run, or that of a run that is fine
+abbrev pub ended : {T : Type 0} → Result T Status → Status
+ended (Ok value) = Done
+ended (Err status) = status
+
+-- a number is that of a status
+abbrev pub EndsAs : ℕ → Status → Type 0
+EndsAs number status = number ≡ exit_number status

@@ -1,16 +1,17 @@
 -- What is counted of a session over a generated file.
-use Rattle.std.specs.Prelude.{◌≡◌, ℕ, List, length, count_by, ⊤}
+use Rattle.std.specs.Prelude.{◌≡◌, ℕ, List, length, count_by, IfOk, OnErr, Result, ⊤}
 use Rattle.ss_command.specs.declared.command.Command.{Command}
 use Rattle.ss_command.specs.declared.command.Command.TheVariants as commands
 use Rattle.ss_outside.specs.Crash.{LeavesOnly}
 use Rattle.ss_outside.specs.Disk.{NothingPending, Told}
 use Rattle.ss_report.specs.declared.reply.Reply.{Reply}
 use Rattle.ss_store.specs.Recover.{Stands}
-use Rattle.ss_program.specs.Generated.{is_done, is_refused, last_six}
+use Rattle.ss_program.specs.Generated.{generated, is_done, is_refused, last_six}
 use Rattle.ss_program.specs.Line.{History}
 use Rattle.ss_program.specs.Progress.{StandsWithin}
 use Rattle.ss_program.specs.Session.{after_lines, replies}
 use Rattle.ss_program.specs.declared.generate.Tally.{Tally}
+use Rattle.ss_program.specs.declared.status.Status.{Status}
 
 -- a command to which exactly one reply comes
 abbrev pub IsSingle : Command → Type 0
@@ -33,3 +34,10 @@ pub record HasRun (history : History) (ls : List (List ℕ)) (old new : Told) (t
   pub stands : Stands (after_lines history ls) new.content
   pub durable : NothingPending new
   pub any_moment : LeavesOnly old new (StandsWithin history ls)
+
+-- All commands of the file were done, and the replies to them counted, or the run stopped at one of them.
+pub record RunsAll (seed count : ℕ) (result : Result Tally Status) (old new : Told) : Type 0 where
+  pub ok : IfOk result (λ tally. NothingPending old → (history : History) → Stands history old.content →
+      HasRun history (generated seed count) old new tally)
+  pub stops : OnErr result (NothingPending old → (history : History) → Stands history old.content →
+      LeavesOnly old new (StandsWithin history (generated seed count)))

@@ -1,20 +1,20 @@
 // One line: what it says is done, and what it brings is replied.
-ghost use Rattle.std.specs.Prelude.{◌≡◌, ◌≤◌, ◌++◌, [], ◌∷◌, ℕ, List, length, map, slice_get, Option, Some, IsTrue, IsSome, IfOk, IfErr, IfSome, OnOk, OnErr};
+ghost use Rattle.std.specs.Prelude.{◌≡◌, ◌≤◌, [], ◌∷◌, ℕ, List, flat_map, length, Some, IsSome, IfErr, IfSome, OnOk};
 ghost use Rattle.std.specs.Option.{option_copied};
 ghost use Rattle.ss_catalog.specs.Events.{IsInTime};
-ghost use Rattle.ss_command.specs.LineState.{unless_long};
 ghost use Rattle.ss_command.specs.Printed.{IsCommandInTime};
-ghost use Rattle.ss_line.specs.Line.{StandsIn, index_of};
-ghost use Rattle.ss_model.specs.Shown.{placed_of};
+ghost use Rattle.ss_line.specs.Line.{StandsIn};
 ghost use Rattle.ss_model.specs.State.{Stream, state, stream_numbered};
-ghost use Rattle.ss_outside.specs.Crash.{OnlyReads};
+ghost use Rattle.ss_outside.specs.Step.{Step};
+ghost use Rattle.ss_outside.specs.Verdict.{Counted, verdict};
 ghost use Rattle.ss_report.specs.Text.{reply_line};
 ghost use Rattle.ss_store.specs.Kept.{StoreIsKept, part_numbered};
 ghost use Rattle.ss_store.specs.Recover.{Stands};
-ghost use Rattle.ss_program.specs.Answer.{Adds, IsOpen, Replies, SendsRows, at_sink};
-ghost use Rattle.ss_program.specs.Line.{History, brings, command_brings, stream_rows, text_brought, window_rows};
-ghost use Rattle.ss_program.specs.Sent.{Sends};
-ghost use Rattle.ss_program.specs.Status.{CountsIfEnded, IsApplyStop, IsDiskStop, IsShowStop, IsStop};
+ghost use Rattle.ss_program.specs.Answer.{AppliesEvent, AsksQuery, IsOpen, IsRowsText, IsTextBrought, ReadsRow, SendsRows, Shows, TakesLine, at_sink};
+ghost use Rattle.ss_program.specs.Devices.{over};
+ghost use Rattle.ss_program.specs.Line.{History, command_brings, kept_brings, stream_rows, text_brought, window_rows};
+ghost use Rattle.ss_program.specs.Sent.{Puts, Sends};
+ghost use Rattle.ss_program.specs.Status.{disk_verdict, ended, IsApplyStop, IsDiskStop};
 ghost use Rattle.ss_command.specs.declared.command.Command.TheVariants.{Do, Ask, Windows, List as ListAll};
 
 use crate::sending::send;
@@ -39,31 +39,23 @@ pub fn at_sink(sent: Result<(), Failed>) -> Result<(), Status>
 }
 
 /// Sends the text of a reply as one piece.
-pub fn send_reply<K: Sink>(reply: &Reply, sink: &mut K) -> Result<(), Status>
-    ensures sends { Sends (K.held sink.old) (K.held sink.new) (reply_line reply.now) result }
-    ensures status { IfErr result (λ status. status ≡ Status.SinkFault) }
-    ensures cause { CountsIfEnded Status.SinkFault (K.faults sink.old) (K.faults sink.new) result }
+pub fn send_reply<K: Sink>(reply: &Reply, sink: &mut K) -> Result<(), Failed>
+    ensures { Puts (reply_line reply.now) (K.held sink.old) (K.faults sink.old) (K.held sink.new) (K.faults sink.new) result }
 {
     let mut text = ArrayString::new();
     reply_text(reply, &mut text);
-    at_sink(send(sink, text.as_str().as_bytes()))
+    send(sink, text.as_str().as_bytes())
 }
 
 // Reads a window.
 fn read<D: Disk>(store: &mut Store, id: StreamId, at: At, disk: &mut D) -> Result<Placed, Status>
-    requires open { IsOpen (D.seen disk.old).tells (D.seen disk.old).told store.old }
+    requires open { IsOpen (D.seen disk.old) store.old }
     requires stands { IsSome (part_numbered id.0 store.old.streams) }
     requires at { IfSome (part_numbered id.0 store.old.streams) (λ part. StandsIn part.line.entries at) }
-    ensures window { IsTrue (D.seen disk.old).tells → (history : History) → Stands history (D.seen disk.old).told.content →
-        IfOk result (λ placed. IfSome (part_numbered id.0 store.old.streams) (λ part.
-        IfSome (stream_numbered id.0 (state history)) (λ s.
-        slice_get (map placed_of s.windows) (index_of part.line.entries at) ≡ Some placed))) }
+    ensures reads { Step (disk_verdict (ended result)) (D.seen disk.old) (D.seen disk.new) (ReadsRow id.0 at store.old result) }
     ensures streams { store.new.streams ≡ store.old.streams }
-    ensures reads { IsTrue (D.seen disk.old).tells → OnlyReads (D.seen disk.old).told (D.seen disk.new).told }
-    ensures open { OnOk result (IsOpen (D.seen disk.new).tells (D.seen disk.new).told store.new) }
-    ensures tells { (D.seen disk.new).tells ≡ (D.seen disk.old).tells }
+    ensures open { OnOk result (IsOpen (D.seen disk.new) store.new) }
     ensures status { IfErr result (IsDiskStop (D.seen disk.old).tells) }
-    ensures cause { CountsIfEnded Status.DiskFault (D.seen disk.old).faults (D.seen disk.new).faults result }
 {
     match store.window_read(disk, id, at) {
         Ok(window) => Ok(window),
@@ -80,34 +72,26 @@ fn send_windows<D: Disk, K: Sink>(
     disk: &mut D,
     sink: &mut K,
 ) -> Result<(), Status>
-    requires open { IsOpen (D.seen disk.old).tells (D.seen disk.old).told store.old }
+    requires open { IsOpen (D.seen disk.old) store.old }
     requires stands { IsSome (part_numbered id.0 store.old.streams) }
-    ensures sends { IsTrue (D.seen disk.old).tells → (history : History) → Stands history (D.seen disk.old).told.content →
-        (s : Stream) → stream_numbered id.0 (state history) ≡ Some s →
-        SendsRows (K.held sink.old) (K.held sink.new) (window_rows s) result }
-    ensures reads { IsTrue (D.seen disk.old).tells → OnlyReads (D.seen disk.old).told (D.seen disk.new).told }
-    ensures open { OnOk result (IsOpen (D.seen disk.new).tells (D.seen disk.new).told store.new) }
-    ensures tells { (D.seen disk.new).tells ≡ (D.seen disk.old).tells }
-    ensures status { IfErr result (IsShowStop (D.seen disk.old).tells) }
-    ensures disk_cause { CountsIfEnded Status.DiskFault (D.seen disk.old).faults (D.seen disk.new).faults result }
-    ensures sink_cause { CountsIfEnded Status.SinkFault (K.faults sink.old) (K.faults sink.new) result }
+    ensures { Shows (IsRowsText id.0) (over (D.seen disk.old) (K.held sink.old) (K.faults sink.old))
+        (over (D.seen disk.new) (K.held sink.new) (K.faults sink.new)) store.new result }
 {
     let mut next = store.window_first(id);
     while let Some(at) = next {
         let window = read(store, id, at, disk)?;
-        send_reply(&Reply::Window(window), sink)?;
+        at_sink(send_reply(&Reply::Window(window), sink))?;
         next = store.window_after(id, at);
     }
     Ok(())
 }
 
 // Sends a row for each stream, in order of creation.
-fn send_streams<K: Sink>(store: &Store, count: u32, sink: &mut K) -> Result<(), Status>
+fn send_streams<K: Sink>(store: &Store, count: u32, sink: &mut K) -> Result<(), Failed>
     requires { count ≡ length store.now.streams }
     ensures sends { (history : History) (content : List ℕ) → StoreIsKept store.now content → Stands history content →
         SendsRows (K.held sink.old) (K.held sink.new) (stream_rows (state history)) result }
-    ensures status { IfErr result (λ status. status ≡ Status.SinkFault) }
-    ensures cause { CountsIfEnded Status.SinkFault (K.faults sink.old) (K.faults sink.new) result }
+    ensures counted { Counted (verdict result) (K.faults sink.old) (K.faults sink.new) }
 {
     for place in 0..count {
         send_reply(&Reply::Stream(store.stream(place)), sink)?;
@@ -122,29 +106,22 @@ fn show_windows<D: Disk, K: Sink>(
     disk: &mut D,
     sink: &mut K,
 ) -> Result<(), Status>
-    requires open { IsOpen (D.seen disk.old).tells (D.seen disk.old).told store.old }
-    ensures sends { IsTrue (D.seen disk.old).tells → (history : History) → Stands history (D.seen disk.old).told.content →
-        Sends (K.held sink.old) (K.held sink.new) (text_brought (command_brings history (Windows name.now))) result }
-    ensures reads { IsTrue (D.seen disk.old).tells → OnlyReads (D.seen disk.old).told (D.seen disk.new).told }
-    ensures open { OnOk result (IsOpen (D.seen disk.new).tells (D.seen disk.new).told store.new) }
-    ensures tells { (D.seen disk.new).tells ≡ (D.seen disk.old).tells }
-    ensures status { IfErr result (IsShowStop (D.seen disk.old).tells) }
-    ensures disk_cause { CountsIfEnded Status.DiskFault (D.seen disk.old).faults (D.seen disk.new).faults result }
-    ensures sink_cause { CountsIfEnded Status.SinkFault (K.faults sink.old) (K.faults sink.new) result }
+    requires open { IsOpen (D.seen disk.old) store.old }
+    ensures { Shows (IsTextBrought (Windows name.now)) (over (D.seen disk.old) (K.held sink.old) (K.faults sink.old))
+        (over (D.seen disk.new) (K.held sink.new) (K.faults sink.new)) store.new result }
 {
     let Some(id) = store.find(name) else {
-        return send_reply(&Reply::Refused(Refusal::Unknown), sink);
+        return at_sink(send_reply(&Reply::Refused(Refusal::Unknown), sink));
     };
-    send_reply(&Reply::WindowsHead(store.windows(id)), sink)?;
+    at_sink(send_reply(&Reply::WindowsHead(store.windows(id)), sink))?;
     send_windows(store, id, disk, sink)
 }
 
 // Lists all streams.
-fn list<K: Sink>(store: &Store, sink: &mut K) -> Result<(), Status>
+fn list<K: Sink>(store: &Store, sink: &mut K) -> Result<(), Failed>
     ensures sends { (history : History) (content : List ℕ) → StoreIsKept store.now content → Stands history content →
         Sends (K.held sink.old) (K.held sink.new) (text_brought (command_brings history ListAll)) result }
-    ensures status { IfErr result (λ status. status ≡ Status.SinkFault) }
-    ensures cause { CountsIfEnded Status.SinkFault (K.faults sink.old) (K.faults sink.new) result }
+    ensures counted { Counted (verdict result) (K.faults sink.old) (K.faults sink.new) }
 {
     let count = store.streams();
     send_reply(&Reply::ListHead(count), sink)?;
@@ -153,14 +130,11 @@ fn list<K: Sink>(store: &Store, sink: &mut K) -> Result<(), Status>
 
 /// Asks the store, and answers the reply to it.
 pub fn ask<D: Disk>(store: &mut Store, query: &Query, disk: &mut D) -> Result<Reply, Status>
-    requires open { IsOpen (D.seen disk.old).tells (D.seen disk.old).told store.old }
-    ensures reply { IsTrue (D.seen disk.old).tells → (history : History) → Stands history (D.seen disk.old).told.content →
-        IfOk result (λ reply. (command_brings history (Ask query.now)).replies ≡ reply ∷ []) }
-    ensures reads { IsTrue (D.seen disk.old).tells → OnlyReads (D.seen disk.old).told (D.seen disk.new).told }
-    ensures open { OnOk result (IsOpen (D.seen disk.new).tells (D.seen disk.new).told store.new) }
-    ensures tells { (D.seen disk.new).tells ≡ (D.seen disk.old).tells }
+    requires open { IsOpen (D.seen disk.old) store.old }
+    ensures asks { Step (disk_verdict (ended result)) (D.seen disk.old) (D.seen disk.new)
+        (AsksQuery (λ history. command_brings history (Ask query.now)) result) }
+    ensures open { OnOk result (IsOpen (D.seen disk.new) store.new) }
     ensures status { IfErr result (IsDiskStop (D.seen disk.old).tells) }
-    ensures cause { CountsIfEnded Status.DiskFault (D.seen disk.old).faults (D.seen disk.new).faults result }
 {
     match store.ask(disk, query) {
         Ok(outcome) => Ok(Reply::Answered(outcome)),
@@ -178,34 +152,21 @@ fn show_answer<D: Disk, K: Sink>(
     disk: &mut D,
     sink: &mut K,
 ) -> Result<(), Status>
-    requires open { IsOpen (D.seen disk.old).tells (D.seen disk.old).told store.old }
-    ensures sends { IsTrue (D.seen disk.old).tells → (history : History) → Stands history (D.seen disk.old).told.content →
-        Sends (K.held sink.old) (K.held sink.new) (text_brought (command_brings history (Ask query.now))) result }
-    ensures reads { IsTrue (D.seen disk.old).tells → OnlyReads (D.seen disk.old).told (D.seen disk.new).told }
-    ensures open { OnOk result (IsOpen (D.seen disk.new).tells (D.seen disk.new).told store.new) }
-    ensures tells { (D.seen disk.new).tells ≡ (D.seen disk.old).tells }
-    ensures status { IfErr result (IsShowStop (D.seen disk.old).tells) }
-    ensures disk_cause { CountsIfEnded Status.DiskFault (D.seen disk.old).faults (D.seen disk.new).faults result }
-    ensures sink_cause { CountsIfEnded Status.SinkFault (K.faults sink.old) (K.faults sink.new) result }
+    requires open { IsOpen (D.seen disk.old) store.old }
+    ensures { Shows (IsTextBrought (Ask query.now)) (over (D.seen disk.old) (K.held sink.old) (K.faults sink.old))
+        (over (D.seen disk.new) (K.held sink.new) (K.faults sink.new)) store.new result }
 {
     let reply = ask(store, query, disk)?;
-    send_reply(&reply, sink)
+    at_sink(send_reply(&reply, sink))
 }
 
 /// Applies an event, and answers the reply to it.
 pub fn apply<D: Disk>(store: &mut Store, event: &Event, disk: &mut D) -> Result<Reply, Status>
     requires in_time { IsInTime event.now }
-    requires open { IsOpen (D.seen disk.old).tells (D.seen disk.old).told store.old }
-    ensures adds { IsTrue (D.seen disk.old).tells → (history : History) →
-        Adds history (command_brings history (Do event.now)) (D.seen disk.old).told (D.seen disk.new).told result }
-    ensures reply { IsTrue (D.seen disk.old).tells → (history : History) → Stands history (D.seen disk.old).told.content →
-        IfOk result (λ reply. (command_brings history (Do event.now)).replies ≡ reply ∷ []) }
-    ensures accepted { IsTrue (D.seen disk.old).tells → (history : History) → Stands history (D.seen disk.old).told.content →
-        OnErr result (IsSome (command_brings history (Do event.now)).event) }
-    ensures open { OnOk result (IsOpen (D.seen disk.new).tells (D.seen disk.new).told store.new) }
-    ensures tells { (D.seen disk.new).tells ≡ (D.seen disk.old).tells }
+    requires open { IsOpen (D.seen disk.old) store.old }
+    ensures applies { Step (disk_verdict (ended result)) (D.seen disk.old) (D.seen disk.new) (AppliesEvent event.now result) }
+    ensures open { OnOk result (IsOpen (D.seen disk.new) store.new) }
     ensures status { IfErr result (IsApplyStop (D.seen disk.old).tells) }
-    ensures cause { CountsIfEnded Status.DiskFault (D.seen disk.old).faults (D.seen disk.new).faults result }
 {
     match store.apply(disk, event) {
         Ok(ack) => Ok(Reply::Done(ack)),
@@ -225,19 +186,12 @@ fn take<D: Disk, K: Sink>(
     sink: &mut K,
 ) -> Result<(), Status>
     requires in_time { IsInTime event.now }
-    requires open { IsOpen (D.seen disk.old).tells (D.seen disk.old).told store.old }
-    ensures adds { IsTrue (D.seen disk.old).tells → (history : History) →
-        Adds history (command_brings history (Do event.now)) (D.seen disk.old).told (D.seen disk.new).told result }
-    ensures replies { IsTrue (D.seen disk.old).tells → (history : History) → Stands history (D.seen disk.old).told.content →
-        Replies (command_brings history (Do event.now)) (K.held sink.old) (K.held sink.new) result }
-    ensures open { OnOk result (IsOpen (D.seen disk.new).tells (D.seen disk.new).told store.new) }
-    ensures tells { (D.seen disk.new).tells ≡ (D.seen disk.old).tells }
-    ensures status { IfErr result (IsStop (D.seen disk.old).tells) }
-    ensures disk_cause { CountsIfEnded Status.DiskFault (D.seen disk.old).faults (D.seen disk.new).faults result }
-    ensures sink_cause { CountsIfEnded Status.SinkFault (K.faults sink.old) (K.faults sink.new) result }
+    requires open { IsOpen (D.seen disk.old) store.old }
+    ensures { TakesLine (λ history. command_brings history (Do event.now)) (over (D.seen disk.old) (K.held sink.old) (K.faults sink.old))
+        (over (D.seen disk.new) (K.held sink.new) (K.faults sink.new)) store.new result }
 {
     let reply = apply(store, event, disk)?;
-    send_reply(&reply, sink)
+    at_sink(send_reply(&reply, sink))
 }
 
 // Does what a command says, and replies to it.
@@ -248,22 +202,15 @@ fn obey<D: Disk, K: Sink>(
     sink: &mut K,
 ) -> Result<(), Status>
     requires in_time { IsCommandInTime command.now }
-    requires open { IsOpen (D.seen disk.old).tells (D.seen disk.old).told store.old }
-    ensures adds { IsTrue (D.seen disk.old).tells → (history : History) →
-        Adds history (command_brings history command.now) (D.seen disk.old).told (D.seen disk.new).told result }
-    ensures replies { IsTrue (D.seen disk.old).tells → (history : History) → Stands history (D.seen disk.old).told.content →
-        Replies (command_brings history command.now) (K.held sink.old) (K.held sink.new) result }
-    ensures open { OnOk result (IsOpen (D.seen disk.new).tells (D.seen disk.new).told store.new) }
-    ensures tells { (D.seen disk.new).tells ≡ (D.seen disk.old).tells }
-    ensures status { IfErr result (IsStop (D.seen disk.old).tells) }
-    ensures disk_cause { CountsIfEnded Status.DiskFault (D.seen disk.old).faults (D.seen disk.new).faults result }
-    ensures sink_cause { CountsIfEnded Status.SinkFault (K.faults sink.old) (K.faults sink.new) result }
+    requires open { IsOpen (D.seen disk.old) store.old }
+    ensures { TakesLine (λ history. command_brings history command.now) (over (D.seen disk.old) (K.held sink.old) (K.faults sink.old))
+        (over (D.seen disk.new) (K.held sink.new) (K.faults sink.new)) store.new result }
 {
     match command {
         Command::Do(event) => take(store, event, disk, sink),
         Command::Ask(query) => show_answer(store, query, disk, sink),
         Command::Windows(name) => show_windows(store, name, disk, sink),
-        Command::List => list(store, sink),
+        Command::List => at_sink(list(store, sink)),
     }
 }
 
@@ -276,23 +223,15 @@ pub fn answer<D: Disk, K: Sink>(
     sink: &mut K,
 ) -> Result<(), Status>
     requires short { IfSome (option_copied line) (λ bytes. length bytes ≤ LONGEST_LINE) }
-    requires open { IsOpen (D.seen disk.old).tells (D.seen disk.old).told store.old }
-    ensures adds { IsTrue (D.seen disk.old).tells → (history : History) (bytes : List ℕ) → option_copied line.entry ≡ unless_long bytes →
-        Adds history (brings history bytes) (D.seen disk.old).told (D.seen disk.new).told result }
-    ensures replies { IsTrue (D.seen disk.old).tells → (history : History) (bytes : List ℕ) → Stands history (D.seen disk.old).told.content →
-        option_copied line.entry ≡ unless_long bytes →
-        Replies (brings history bytes) (K.held sink.old) (K.held sink.new) result }
-    ensures open { OnOk result (IsOpen (D.seen disk.new).tells (D.seen disk.new).told store.new) }
-    ensures tells { (D.seen disk.new).tells ≡ (D.seen disk.old).tells }
-    ensures status { IfErr result (IsStop (D.seen disk.old).tells) }
-    ensures disk_cause { CountsIfEnded Status.DiskFault (D.seen disk.old).faults (D.seen disk.new).faults result }
-    ensures sink_cause { CountsIfEnded Status.SinkFault (K.faults sink.old) (K.faults sink.new) result }
+    requires open { IsOpen (D.seen disk.old) store.old }
+    ensures { TakesLine (λ history. kept_brings history (option_copied line.entry)) (over (D.seen disk.old) (K.held sink.old) (K.faults sink.old))
+        (over (D.seen disk.new) (K.held sink.new) (K.faults sink.new)) store.new result }
 {
     let Some(line) = line else {
-        return send_reply(&Reply::Refused(Refusal::Line), sink);
+        return at_sink(send_reply(&Reply::Refused(Refusal::Line), sink));
     };
     match parse(line) {
-        Err(refusal) => send_reply(&Reply::Refused(refusal), sink),
+        Err(refusal) => at_sink(send_reply(&Reply::Refused(refusal), sink)),
         Ok(None) => Ok(()),
         Ok(Some(command)) => obey(store, &command, disk, sink),
     }

@@ -1,13 +1,11 @@
 // Whether a store is sound, and what it holds.
-ghost use Rattle.std.specs.Prelude.{◌≡◌, ◌⊎◌, ◌≤◌, ◌+◌, ◌++◌, ℕ, List, IsTrue, IsNone, length};
-ghost use Rattle.ss_model.specs.State.{Stream};
-ghost use Rattle.ss_outside.specs.Verdict.{Rose, HasCause};
-ghost use Rattle.ss_store.specs.Recover.{Recovers, recover};
-ghost use Rattle.ss_program.specs.Checked.{Checks, and_number, survey_line};
-ghost use Rattle.ss_program.specs.Ending.{Ends};
-ghost use Rattle.ss_program.specs.Refused.{refusal_line};
-ghost use Rattle.ss_program.specs.Sent.{Sends};
-ghost use Rattle.ss_program.specs.Status.{number_of};
+ghost use Rattle.std.specs.Prelude.{◌≡◌, ◌≤◌, ◌+◌, ◌++◌, length};
+ghost use Rattle.ss_outside.specs.Crash.{OnlyReads};
+ghost use Rattle.ss_outside.specs.Disk.{Between, OfContent};
+ghost use Rattle.ss_program.specs.Checked.{ChecksContent, and_number, survey_line};
+ghost use Rattle.ss_program.specs.Devices.{over};
+ghost use Rattle.ss_program.specs.Ending.{Ends, IsUnfed};
+ghost use Rattle.ss_program.specs.Sent.{Puts};
 
 use crate::refuse::refuse;
 use crate::sending::send;
@@ -32,8 +30,7 @@ fn put(word: &str, number: u32, line: &mut ArrayString<256>)
 
 // Sends the line of a survey.
 fn send_survey<K: Sink>(survey: Survey, sink: &mut K) -> Result<(), Failed>
-    ensures sends { Sends (K.held sink.old) (K.held sink.new) (survey_line survey) result }
-    ensures cause { HasCause (K.faults sink.old) (K.faults sink.new) result }
+    ensures { Puts (survey_line survey) (K.held sink.old) (K.faults sink.old) (K.held sink.new) (K.faults sink.new) result }
 {
     let mut line = ArrayString::new();
     line.push_str("sound");
@@ -47,14 +44,10 @@ fn send_survey<K: Sink>(survey: Survey, sink: &mut K) -> Result<(), Failed>
 
 /// Reads the store and says what it holds, or why it is refused. It writes nothing to the disk.
 pub fn check<D: Disk, K: Sink>(alloc: Global, disk: &mut D, sink: &mut K) -> Status
-    ensures ends { Ends (D.seen disk.old).tells (D.seen disk.old).told (D.seen disk.new).told (K.held sink.old) (K.held sink.new)
-        (D.seen disk.old).faults (D.seen disk.new).faults (K.faults sink.old) (K.faults sink.new) (number_of result) }
-    ensures unfed { number_of result ≡ 5 → ⊥ }
-    ensures checks { IsTrue (D.seen disk.old).tells → (streams : List Stream) → Recovers streams (D.seen disk.old).told.content →
-        Checks streams (K.held sink.old) (K.held sink.new) (D.seen disk.old).told (D.seen disk.new).told (number_of result) }
-    ensures completes { IsTrue (D.seen disk.old).tells → IsNone (refusal_line (recover (D.seen disk.old).told.content)) →
-        (Rose (D.seen disk.old).faults (D.seen disk.new).faults → ⊥) → (Rose (K.faults sink.old) (K.faults sink.new) → ⊥) →
-        (number_of result ≡ 0) ⊎ (number_of result ≡ 7) }
+    ensures ends { Ends (over (D.seen disk.old) (K.held sink.old) (K.faults sink.old)) (over (D.seen disk.new) (K.held sink.new) (K.faults sink.new)) result }
+    ensures unfed { IsUnfed result }
+    ensures unwritten { Between (D.seen disk.old) (D.seen disk.new) OnlyReads }
+    ensures checks { OfContent (D.seen disk.old) (ChecksContent (K.held sink.old) (K.held sink.new) result) }
 {
     match Store::survey(alloc, disk) {
         Ok(survey) => match send_survey(survey, sink) {

@@ -1,29 +1,28 @@
 // A run over a generated command file.
-ghost use Rattle.std.specs.Prelude.{◌≡◌, ◌⊎◌, ◌+◌, ◌-◌, ◌^◌, ◌<◌, ◌≤◌, ◌++◌, ℕ, List, [], ◌∷◌, length, IsTrue, IsNone, IfOk, IfErr, OnOk, OnErr};
+ghost use Rattle.std.specs.Prelude.{◌≡◌, ◌⊎◌, ◌+◌, ◌-◌, ◌^◌, ◌<◌, ◌≤◌, ◌++◌, ℕ, List, [], ◌∷◌, flat_map, length, IfErr, OnOk};
 ghost use Rattle.ss_command.specs.Printed.{IsCommandInTime};
 ghost use Rattle.ss_generator.specs.declared.TheConstants.{MOST_COUNT};
-ghost use Rattle.ss_outside.specs.Verdict.{Rose};
-ghost use Rattle.ss_outside.specs.Crash.{LeavesOnly};
-ghost use Rattle.ss_outside.specs.Disk.{NothingPending};
-ghost use Rattle.ss_store.specs.Recover.{Stands, recover};
-ghost use Rattle.ss_program.specs.Answer.{Adds, IsOpen, SendsRows};
-ghost use Rattle.ss_program.specs.Ending.{Ends};
-ghost use Rattle.ss_program.specs.Generated.{Generates, counted_line, counts_of, generated, last_six, summary_of};
-ghost use Rattle.ss_program.specs.Line.{History, command_brings};
-ghost use Rattle.ss_program.specs.Progress.{StandsWithin};
-ghost use Rattle.ss_program.specs.Refused.{refusal_line};
-ghost use Rattle.ss_program.specs.Sent.{Sends};
-ghost use Rattle.ss_program.specs.Status.{number_of, Counts, CountsIfEnded, IsApplyStop, IsStop};
-ghost use Rattle.ss_program.specs.Tally.{HasRun, IsSingle, Tallies};
+ghost use Rattle.ss_outside.specs.Disk.{Between};
+ghost use Rattle.ss_outside.specs.Step.{Step};
+ghost use Rattle.ss_outside.specs.Verdict.{Counted, verdict};
+ghost use Rattle.ss_report.specs.Text.{reply_line};
+ghost use Rattle.ss_program.specs.Answer.{DoesCommand, IsOpen};
+ghost use Rattle.ss_program.specs.Devices.{over};
+ghost use Rattle.ss_program.specs.Ending.{Ends, IsUnfed};
+ghost use Rattle.ss_program.specs.Generated.{GeneratesFrom, counted_line, counts_of, last_six, summary_of};
+ghost use Rattle.ss_program.specs.Line.{command_brings};
+ghost use Rattle.ss_program.specs.Sent.{Puts, Sends};
+ghost use Rattle.ss_program.specs.Status.{disk_verdict, ended, sink_verdict, IsApplyStop, IsStop};
+ghost use Rattle.ss_program.specs.Tally.{IsSingle, RunsAll, Tallies};
 
-use crate::answer::{apply, ask, at_sink, send_reply};
+use crate::answer::{apply, ask, send_reply};
 use crate::refuse::refuse;
 use crate::sending::send;
 use crate::status::Status;
 use arrayvec::{ArrayString, ArrayVec};
 use ss_command::{Command, put_number};
 use ss_generator::Generator;
-use ss_outside::{Disk, Sink};
+use ss_outside::{Disk, Failed, Sink};
 use ss_report::Reply;
 use ss_store::Store;
 use std::alloc::Global;
@@ -88,15 +87,11 @@ impl Tally {
 fn reply_to<D: Disk>(store: &mut Store, command: &Command, disk: &mut D) -> Result<Reply, Status>
     requires single { IsSingle command.now }
     requires in_time { IsCommandInTime command.now }
-    requires open { IsOpen (D.seen disk.old).tells (D.seen disk.old).told store.old }
-    ensures adds { IsTrue (D.seen disk.old).tells → (history : History) →
-        Adds history (command_brings history command.now) (D.seen disk.old).told (D.seen disk.new).told result }
-    ensures reply { IsTrue (D.seen disk.old).tells → (history : History) → Stands history (D.seen disk.old).told.content →
-        IfOk result (λ reply. (command_brings history command.now).replies ≡ reply ∷ []) }
-    ensures open { OnOk result (IsOpen (D.seen disk.new).tells (D.seen disk.new).told store.new) }
-    ensures tells { (D.seen disk.new).tells ≡ (D.seen disk.old).tells }
+    requires open { IsOpen (D.seen disk.old) store.old }
+    ensures does { Step (disk_verdict (ended result)) (D.seen disk.old) (D.seen disk.new)
+        (DoesCommand (λ history. command_brings history command.now) result) }
+    ensures open { OnOk result (IsOpen (D.seen disk.new) store.new) }
     ensures status { IfErr result (IsApplyStop (D.seen disk.old).tells) }
-    ensures cause { CountsIfEnded Status.DiskFault (D.seen disk.old).faults (D.seen disk.new).faults result }
 {
     match command {
         Command::Do(event) => apply(store, event, disk),
@@ -109,15 +104,9 @@ fn reply_to<D: Disk>(store: &mut Store, command: &Command, disk: &mut D) -> Resu
 fn run_all<D: Disk>(store: &mut Store, seed: u64, count: u32, disk: &mut D) -> Result<Tally, Status>
     requires some { 1 ≤ count }
     requires few { count ≤ MOST_COUNT }
-    requires open { IsOpen (D.seen disk.old).tells (D.seen disk.old).told store.old }
-    ensures ok { IfOk result (λ tally. IsTrue (D.seen disk.old).tells → NothingPending (D.seen disk.old).told → (history : History) →
-        Stands history (D.seen disk.old).told.content → HasRun history (generated seed count) (D.seen disk.old).told (D.seen disk.new).told tally) }
-    ensures stops { OnErr result (IsTrue (D.seen disk.old).tells → NothingPending (D.seen disk.old).told → (history : History) →
-        Stands history (D.seen disk.old).told.content →
-        LeavesOnly (D.seen disk.old).told (D.seen disk.new).told (StandsWithin history (generated seed count))) }
-    ensures tells { (D.seen disk.new).tells ≡ (D.seen disk.old).tells }
+    requires open { IsOpen (D.seen disk.old) store.old }
+    ensures runs { Step (disk_verdict (ended result)) (D.seen disk.old) (D.seen disk.new) (RunsAll seed count result) }
     ensures status { IfErr result (IsApplyStop (D.seen disk.old).tells) }
-    ensures cause { CountsIfEnded Status.DiskFault (D.seen disk.old).faults (D.seen disk.new).faults result }
 {
     let mut generator = Generator::new(seed, count);
     let mut tally = Tally::new();
@@ -141,10 +130,9 @@ fn put_line(word: &str, number: u64, text: &mut ArrayString<256>)
 }
 
 // Sends the first four lines of the summary.
-fn send_counts<K: Sink>(seed: u64, count: u32, tally: &Tally, sink: &mut K) -> Result<(), Status>
-    ensures sends { Sends (K.held sink.old) (K.held sink.new) (counts_of seed count tally.now.lines tally.now.done tally.now.refused) result }
-    ensures status { IfErr result (λ status. status ≡ Status.SinkFault) }
-    ensures cause { CountsIfEnded Status.SinkFault (K.faults sink.old) (K.faults sink.new) result }
+fn send_counts<K: Sink>(seed: u64, count: u32, tally: &Tally, sink: &mut K) -> Result<(), Failed>
+    ensures { Puts (counts_of seed count tally.now.lines tally.now.done tally.now.refused)
+        (K.held sink.old) (K.faults sink.old) (K.held sink.new) (K.faults sink.new) result }
 {
     let mut text = ArrayString::new();
     text.push_str("gen");
@@ -154,14 +142,12 @@ fn send_counts<K: Sink>(seed: u64, count: u32, tally: &Tally, sink: &mut K) -> R
     put_line("lines", tally.lines, &mut text);
     put_line("ok", tally.done, &mut text);
     put_line("refused", tally.refused, &mut text);
-    at_sink(send(sink, text.as_str().as_bytes()))
+    send(sink, text.as_str().as_bytes())
 }
 
 // Sends some replies.
-fn send_replies<K: Sink>(replies: &[Reply], sink: &mut K) -> Result<(), Status>
-    ensures sends { SendsRows (K.held sink.old) (K.held sink.new) replies.now result }
-    ensures status { IfErr result (λ status. status ≡ Status.SinkFault) }
-    ensures cause { CountsIfEnded Status.SinkFault (K.faults sink.old) (K.faults sink.new) result }
+fn send_replies<K: Sink>(replies: &[Reply], sink: &mut K) -> Result<(), Failed>
+    ensures { Puts (flat_map reply_line replies.now) (K.held sink.old) (K.faults sink.old) (K.held sink.new) (K.faults sink.new) result }
 {
     for reply in replies {
         send_reply(reply, sink)?;
@@ -170,11 +156,10 @@ fn send_replies<K: Sink>(replies: &[Reply], sink: &mut K) -> Result<(), Status>
 }
 
 // Sends the summary.
-fn send_summary<K: Sink>(seed: u64, count: u32, tally: &Tally, sink: &mut K) -> Result<(), Status>
+fn send_summary<K: Sink>(seed: u64, count: u32, tally: &Tally, sink: &mut K) -> Result<(), Failed>
     ensures sends { (lines : ℕ) (all : List Reply) → Tallies lines all tally.now →
         Sends (K.held sink.old) (K.held sink.new) (summary_of seed count lines all) result }
-    ensures status { IfErr result (λ status. status ≡ Status.SinkFault) }
-    ensures cause { CountsIfEnded Status.SinkFault (K.faults sink.old) (K.faults sink.new) result }
+    ensures counted { Counted (verdict result) (K.faults sink.old) (K.faults sink.new) }
 {
     send_counts(seed, count, tally, sink)?;
     send_replies(tally.last.as_slice(), sink)
@@ -190,18 +175,16 @@ fn summarize<D: Disk, K: Sink>(
 ) -> Status
     requires some { 1 ≤ count }
     requires few { count ≤ MOST_COUNT }
-    requires open { IsOpen (D.seen disk.old).tells (D.seen disk.old).told store.old }
-    ensures generates { IsTrue (D.seen disk.old).tells → NothingPending (D.seen disk.old).told → (history : History) →
-        Stands history (D.seen disk.old).told.content →
-        Generates history seed count (K.held sink.old) (K.held sink.new) (D.seen disk.old).told (D.seen disk.new).told (number_of result) }
+    requires open { IsOpen (D.seen disk.old) store.old }
+    ensures generates { Step (disk_verdict result) (D.seen disk.old) (D.seen disk.new)
+        (GeneratesFrom seed count (K.held sink.old) (K.held sink.new) result) }
     ensures status { (result ≡ Status.Done) ⊎ IsStop (D.seen disk.old).tells result }
-    ensures disk_cause { Counts Status.DiskFault (D.seen disk.old).faults (D.seen disk.new).faults result }
-    ensures sink_cause { Counts Status.SinkFault (K.faults sink.old) (K.faults sink.new) result }
+    ensures counted { Counted (sink_verdict result) (K.faults sink.old) (K.faults sink.new) }
 {
     match run_all(store, seed, count, disk) {
         Ok(tally) => match send_summary(seed, count, &tally, sink) {
             Ok(()) => Status::Done,
-            Err(status) => status,
+            Err(_) => Status::SinkFault,
         },
         Err(status) => status,
     }
@@ -217,15 +200,9 @@ pub fn generate<D: Disk, K: Sink>(
 ) -> Status
     requires some { 1 ≤ count }
     requires few { count ≤ MOST_COUNT }
-    ensures ends { Ends (D.seen disk.old).tells (D.seen disk.old).told (D.seen disk.new).told (K.held sink.old) (K.held sink.new)
-        (D.seen disk.old).faults (D.seen disk.new).faults (K.faults sink.old) (K.faults sink.new) (number_of result) }
-    ensures unfed { number_of result ≡ 5 → ⊥ }
-    ensures generates { IsTrue (D.seen disk.old).tells → NothingPending (D.seen disk.old).told → (history : History) →
-        Stands history (D.seen disk.old).told.content →
-        Generates history seed count (K.held sink.old) (K.held sink.new) (D.seen disk.old).told (D.seen disk.new).told (number_of result) }
-    ensures completes { IsTrue (D.seen disk.old).tells → IsNone (refusal_line (recover (D.seen disk.old).told.content)) →
-        (Rose (D.seen disk.old).faults (D.seen disk.new).faults → ⊥) → (Rose (K.faults sink.old) (K.faults sink.new) → ⊥) →
-        (number_of result ≡ 0) ⊎ (number_of result ≡ 7) }
+    ensures ends { Ends (over (D.seen disk.old) (K.held sink.old) (K.faults sink.old)) (over (D.seen disk.new) (K.held sink.new) (K.faults sink.new)) result }
+    ensures unfed { IsUnfed result }
+    ensures generates { Between (D.seen disk.old) (D.seen disk.new) (GeneratesFrom seed count (K.held sink.old) (K.held sink.new) result) }
 {
     match Store::open(alloc, disk) {
         Ok(mut store) => summarize(&mut store, seed, count, disk, sink),

@@ -6,6 +6,7 @@ mod answer;
 mod check;
 mod generate;
 mod laws;
+mod promises;
 mod refuse;
 mod running;
 mod sending;
@@ -13,6 +14,7 @@ mod session;
 mod status;
 
 pub use laws::{queries_hold_the_truth, sessions_leave_a_history};
+pub use promises::run_store;
 pub use running::{LONGEST_INPUT, run};
 pub use sending::send;
 pub use status::{Status, complaint, exit_code};

@@ -1,14 +1,12 @@
 // Hands text to a sink.
-ghost use Rattle.ss_outside.specs.Verdict.{HasCause};
-ghost use Rattle.ss_program.specs.Sent.{Sends};
+ghost use Rattle.ss_program.specs.Sent.{Puts};
 
 use ss_outside::{Failed, Sink};
 
 /// Hands a text to the sink as one piece, and again what the sink didn't take. At an error the sink got less than all of
 /// the text.
 pub fn send<K: Sink>(sink: &mut K, text: &[u8]) -> Result<(), Failed>
-    ensures sends { Sends (K.held sink.old) (K.held sink.new) text.now result }
-    ensures cause { HasCause (K.faults sink.old) (K.faults sink.new) result }
+    ensures { Puts text.now (K.held sink.old) (K.faults sink.old) (K.held sink.new) (K.faults sink.new) result }
 {
     let mut sent = 0;
     while sent < text.len() {

@@ -1,12 +1,13 @@
 // One run over an input: bytes come in, and each line that ends is answered.
-ghost use Rattle.std.specs.Prelude.{◌≡◌, ◌↔◌, ◌⊎◌, ◌+◌, ◌^◌, ◌<◌, ◌≤◌, ◌++◌, ℕ, List, [], Option, true, length, take, IsTrue, IsSome, IfOk, IfErr, OnOk};
+ghost use Rattle.std.specs.Prelude.{◌≡◌, ◌↔◌, ◌⊎◌, ◌<◌, ◌≤◌, [], true, length, take, IsSome, IfOk, IfErr, OnOk};
 ghost use Rattle.std.specs.Option.{option_copied};
-ghost use Rattle.ss_command.specs.Lines.{lines, lines_so_far, unended};
+ghost use Rattle.ss_command.specs.Lines.{unended};
 ghost use Rattle.ss_command.specs.LineState.{kept};
+ghost use Rattle.ss_outside.specs.Step.{Step};
+ghost use Rattle.ss_outside.specs.Verdict.{Counted};
 ghost use Rattle.ss_program.specs.Answer.{IsOpen};
-ghost use Rattle.ss_program.specs.Line.{History};
-ghost use Rattle.ss_program.specs.Progress.{EndsWell, GoesOn, HasTaken, HasReplied, StopsIn};
-ghost use Rattle.ss_program.specs.Status.{IsStop, Counts, CountsIfEnded};
+ghost use Rattle.ss_program.specs.Progress.{EndsSession, TakesPiece};
+ghost use Rattle.ss_program.specs.Status.{disk_verdict, ended, sink_verdict, IsStop};
 
 use crate::answer::answer;
 use crate::status::Status;
@@ -63,19 +64,13 @@ impl Session {
         sink: &mut K,
     ) -> Result<usize, Status>
         requires some { 0 < length piece.now }
-        requires open { IsOpen (D.seen disk.old).tells (D.seen disk.old).told self.old.store }
-        ensures ok { IfOk result (λ count. IsTrue (D.seen disk.old).tells → (history : History) (before : Option (List ℕ)) (input : List ℕ) →
-            HasTaken history (D.seen disk.old).told self.old input → HasReplied history before (K.held sink.old) input →
-            GoesOn history (D.seen disk.old).told (D.seen disk.new).told self.new before (K.held sink.new) (input ++ take count piece.now)) }
-        ensures stops { IfErr result (λ status. IsTrue (D.seen disk.old).tells → (history : History) (before : Option (List ℕ)) (input : List ℕ) →
-            HasTaken history (D.seen disk.old).told self.old input → HasReplied history before (K.held sink.old) input →
-            StopsIn history (lines_so_far (input ++ piece.now)) (D.seen disk.old).told (D.seen disk.new).told before (K.held sink.new) status) }
+        requires open { IsOpen (D.seen disk.old) self.old.store }
+        ensures takes { Step (disk_verdict (ended result)) (D.seen disk.old) (D.seen disk.new)
+            (TakesPiece (λ count. take count piece.now) piece.now self.old self.new (K.held sink.old) (K.held sink.new) result) }
         ensures count { IfOk result (λ count. (0 < count) × (count ≤ length piece.now)) }
-        ensures open { OnOk result (IsOpen (D.seen disk.new).tells (D.seen disk.new).told self.new.store) }
-        ensures tells { (D.seen disk.new).tells ≡ (D.seen disk.old).tells }
+        ensures open { OnOk result (IsOpen (D.seen disk.new) self.new.store) }
         ensures status { IfErr result (IsStop (D.seen disk.old).tells) }
-        ensures disk_cause { CountsIfEnded Status.DiskFault (D.seen disk.old).faults (D.seen disk.new).faults result }
-        ensures sink_cause { CountsIfEnded Status.SinkFault (K.faults sink.old) (K.faults sink.new) result }
+        ensures counted { Counted (sink_verdict (ended result)) (K.faults sink.old) (K.faults sink.new) }
     {
         let (count, ended) = self.reader.feed(piece);
         match ended {
@@ -98,18 +93,12 @@ impl Session {
         disk: &mut D,
         sink: &mut K,
     ) -> Result<(), Status>
-        requires { IsOpen (D.seen disk.old).tells (D.seen disk.old).told self.old.store }
-        ensures ok { OnOk result (IsTrue (D.seen disk.old).tells → (history : History) (before : Option (List ℕ)) (input : List ℕ) →
-            HasTaken history (D.seen disk.old).told self.old input → HasReplied history before (K.held sink.old) input →
-            GoesOn history (D.seen disk.old).told (D.seen disk.new).told self.new before (K.held sink.new) (input ++ piece.now)) }
-        ensures stops { IfErr result (λ status. IsTrue (D.seen disk.old).tells → (history : History) (before : Option (List ℕ)) (input : List ℕ) →
-            HasTaken history (D.seen disk.old).told self.old input → HasReplied history before (K.held sink.old) input →
-            StopsIn history (lines_so_far (input ++ piece.now)) (D.seen disk.old).told (D.seen disk.new).told before (K.held sink.new) status) }
-        ensures open { OnOk result (IsOpen (D.seen disk.new).tells (D.seen disk.new).told self.new.store) }
-        ensures tells { (D.seen disk.new).tells ≡ (D.seen disk.old).tells }
+        requires { IsOpen (D.seen disk.old) self.old.store }
+        ensures takes { Step (disk_verdict (ended result)) (D.seen disk.old) (D.seen disk.new)
+            (TakesPiece (λ _. piece.now) piece.now self.old self.new (K.held sink.old) (K.held sink.new) result) }
+        ensures open { OnOk result (IsOpen (D.seen disk.new) self.new.store) }
         ensures status { IfErr result (IsStop (D.seen disk.old).tells) }
-        ensures disk_cause { CountsIfEnded Status.DiskFault (D.seen disk.old).faults (D.seen disk.new).faults result }
-        ensures sink_cause { CountsIfEnded Status.SinkFault (K.faults sink.old) (K.faults sink.new) result }
+        ensures counted { Counted (sink_verdict (ended result)) (K.faults sink.old) (K.faults sink.new) }
     {
         let mut done = 0;
         while done < piece.len() {
@@ -123,17 +112,11 @@ impl Session {
 
     /// Ends the input, and answers a last line that no line end ended.
     pub fn finish<D: Disk, K: Sink>(&mut self, disk: &mut D, sink: &mut K) -> Status
-        requires { IsOpen (D.seen disk.old).tells (D.seen disk.old).told self.old.store }
-        ensures done { result ≡ Status.Done → IsTrue (D.seen disk.old).tells → (history : History) (before : Option (List ℕ)) (input : List ℕ) →
-            HasTaken history (D.seen disk.old).told self.old input → HasReplied history before (K.held sink.old) input →
-            EndsWell history (lines input) (D.seen disk.old).told (D.seen disk.new).told before (K.held sink.new) }
-        ensures stops { IsStop (D.seen disk.old).tells result → IsTrue (D.seen disk.old).tells → (history : History) (before : Option (List ℕ))
-            (input : List ℕ) → HasTaken history (D.seen disk.old).told self.old input → HasReplied history before (K.held sink.old) input →
-            StopsIn history (lines input) (D.seen disk.old).told (D.seen disk.new).told before (K.held sink.new) result }
+        requires { IsOpen (D.seen disk.old) self.old.store }
+        ensures ends { Step (disk_verdict result) (D.seen disk.old) (D.seen disk.new)
+            (EndsSession self.old (K.held sink.old) (K.held sink.new) result) }
         ensures status { (result ≡ Status.Done) ⊎ IsStop (D.seen disk.old).tells result }
-        ensures tells { (D.seen disk.new).tells ≡ (D.seen disk.old).tells }
-        ensures disk_cause { Counts Status.DiskFault (D.seen disk.old).faults (D.seen disk.new).faults result }
-        ensures sink_cause { Counts Status.SinkFault (K.faults sink.old) (K.faults sink.new) result }
+        ensures counted { Counted (sink_verdict result) (K.faults sink.old) (K.faults sink.new) }
     {
         match self.reader.finish() {
             None => Status::Done,

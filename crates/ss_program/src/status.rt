@@ -1,5 +1,5 @@
 // How a run ends.
-ghost use Rattle.std.specs.Prelude.{◌≡◌, ◌⊎◌, ◌↔◌, ◌<◌, codes, IsNone, IsSomeAnd};
+ghost use Rattle.std.specs.Prelude.{◌≡◌};
 ghost use Rattle.std.specs.Process.{exit_status};
 
 use std::process::ExitCode;
@@ -19,11 +19,11 @@ pub enum Status {
 }
 
 impl Status {
-    ghost use Rattle.ss_program.specs.Status.{number_of};
+    ghost use Rattle.ss_program.specs.Status.{exit_number};
 
     /// The exit status.
     pub fn number(self) -> u8
-        ensures { result ≡ number_of self }
+        ensures { result ≡ exit_number self }
     {
         match self {
             Status::Done => 0,
@@ -40,15 +40,7 @@ impl Status {
 }
 
 /// What standard error says of an exit status, where it says something.
-pub fn complaint(number: u8) -> Option<&'static str>
-    ensures disk { number ≡ 4 → IsSomeAnd result (λ text. text.now ≡ codes "summarystore: disk fault") }
-    ensures input { number ≡ 5 → IsSomeAnd result (λ text. text.now ≡ codes "summarystore: input fault") }
-    ensures output { number ≡ 6 → IsSomeAnd result (λ text. text.now ≡ codes "summarystore: output fault") }
-    ensures memory { number ≡ 7 → IsSomeAnd result (λ text. text.now ≡ codes "summarystore: out of memory") }
-    ensures limit { number ≡ 8 → IsSomeAnd result (λ text. text.now ≡ codes "summarystore: input too long") }
-    ensures changed { number ≡ 9 → IsSomeAnd result (λ text. text.now ≡ codes "summarystore: record changed") }
-    ensures none { IsNone result ↔ (number < 4) ⊎ (9 < number) }
-{
+pub fn complaint(number: u8) -> Option<&'static str> {
     match number {
         4 => Some("summarystore: disk fault"),
         5 => Some("summarystore: input fault"),

@@ -1,95 +1,135 @@
-use Rattle.std.proofs.Common.{◌≡◌, ◌++◌, ◌∷◌, [], ◌∙◌, Err, Ok, Result, refl, sym, ap, subst}
+use Rattle.std.proofs.Common.{◌≡◌, ◌∙◌, ◌++◌, ◌∷◌, [], Err, Ok, Result, Some, None, inl, refl, sym, ap, subst}
+use Rattle.std.specs.Prelude.{◌↔◌, IsTrue}
 use Rattle.ss_catalog.specs.Events.{event_name}
+use Rattle.ss_catalog.specs.declared.event.Event.{Event}
+use Rattle.ss_catalog.specs.declared.refusal.Refusal.{Refusal}
 use Rattle.ss_command.specs.declared.command.Command.TheVariants.{Do}
+use Rattle.ss_model.specs.Refusals.{refuses}
+use Rattle.ss_model.specs.State.{state}
+use Rattle.ss_model.specs.declared.types.Ack.{Ack}
+use Rattle.ss_outside.proofs.CrashLemmas.{reads-none}
+use Rattle.ss_outside.proofs.StepLemmas.{step-none}
+use Rattle.ss_outside.specs.Disk.{DiskView, Told}
+use Rattle.ss_outside.specs.Step.{Step}
+use Rattle.ss_outside.specs.Verdict.{fine}
 use Rattle.ss_report.specs.declared.reply.Reply.{Reply}
 use Rattle.ss_report.specs.declared.reply.Reply.TheVariants.{Done, Refused}
 use Rattle.ss_store.specs.Calls.{StandsForEither}
+use Rattle.ss_store.specs.Kept.{StoreState, refuses_held}
 use Rattle.ss_store.specs.Recover.{Stands}
-use Rattle.ss_store.proofs.Calls.{Turns-answers, Turns-failed}
+use Rattle.ss_store.specs.declared.error.ApplyError.{ApplyError}
+use Rattle.ss_store.specs.declared.error.ApplyError.TheVariants as errors
+use Rattle.ss_store.proofs.Calls.{Turns-answers, Turns-failed, Turns-same}
 use Rattle.ss_store.proofs.FoundAlike.{refuses-kept, said-kept}
-use Rattle.ss_store.specs.Kept.{refuses_held}
-use Rattle.ss_program.specs.Answer.{Adds}
-use Rattle.ss_program.specs.Line.{Brought, command_brings}
+use Rattle.ss_program.specs.Answer.{AppliesEvent, IsOpen}
+use Rattle.ss_program.specs.Line.{Brought, History, command_brings, history_after}
+use Rattle.ss_program.specs.Progress.{StandsAround}
 use Rattle.ss_program.specs.declared.status.Status.{Status}
-use Rattle.ss_program.specs.declared.status.Status.TheVariants.{DiskFault}
+use Rattle.ss_program.specs.declared.status.Status.TheVariants.{DiskFault, OutOfMemory}
 use Rattle.ss_program.proofs.AnswerLemmas.{Adds-applied, Adds-none, IsSome-accepted, brings-accepted, brings-refused, not_refused}
 use Rattle.ss_program.proofs.answer.apply.Goals as goal
 
-pub returns-in-Ok-clause-adds : goal.returns-in-Ok-clause-adds
-returns-in-Ok-clause-adds g c told history =
-    let event = c.args.event.now in
-    let old = (g.D.Disk.seen c.args.disk.now).told in
-    let new = (g.D.Disk.seen c.apply.new.disk).told in
-    let result : Result Reply Status = Ok (Done c.in-Ok.ack) in
-    Adds-applied history event old new result
-    (λ stands.
-    let same = refuses-kept c.args.store.now old.content history c.args.event.now (c.requires.open.kept told) stands in
-    same ∙ not_refused (Ok c.in-Ok.ack) (refuses_held c.args.store.now.streams event) (c.in-Ok.ensures.refused c.requires.open.runs) (λ r is. cc))
-    (Turns-answers (Stands history) (StandsForEither history event) (Stands (history ++ event ∷ [])) old new c.in-Ok.ack result
-    (c.in-Ok.ensures.history told c.requires.open.runs history))
+-- an event that the store doesn't refuse isn't refused by any history that its disk stands for
+accepted : (event : Event) (store : StoreState) (disk : DiskView) (result : Result Ack ApplyError) → IsOpen disk store →
+    ((r : Refusal) → (result ≡ Err (errors.Refused r)) ↔ (refuses_held store.streams event ≡ Some r)) →
+    ((r : Refusal) → result ≡ Err (errors.Refused r) → ⊥) → IsTrue disk.tells → (history : History) → Stands history disk.told.content →
+    refuses (state history) event ≡ None
+accepted event store disk result opens refused other told history stands =
+    refuses-kept store disk.told.content history event (opens.kept told) stands ∙ not_refused result (refuses_held store.streams event) refused other
 
-pub returns-in-Ok-clause-reply : goal.returns-in-Ok-clause-reply
-returns-in-Ok-clause-reply g c told history stands =
+pub returns-in-Ok-clause-applies : goal.returns-in-Ok-clause-applies
+returns-in-Ok-clause-applies g c =
     let event = c.args.event.now in
     let old = (g.D.Disk.seen c.args.disk.now).told in
     let new = (g.D.Disk.seen c.apply.new.disk).told in
     let runs = c.requires.open.runs in
-    let same = refuses-kept c.args.store.now old.content history c.args.event.now (c.requires.open.kept told) stands in
-    let none = same ∙ not_refused (Ok c.in-Ok.ack) (refuses_held c.args.store.now.streams event) (c.in-Ok.ensures.refused runs) (λ r is. cc) in
-    let said = said-kept c.apply.new.self new.content (history ++ event ∷ []) (event_name event)
-    (c.in-Ok.ensures.one_disk told (c.in-Ok.ensures.stops ∙ runs)) ((c.in-Ok.ensures.history told runs history).content stands) in
-    ap (λ (b : Brought). b.replies) (brings-accepted history event none) ∙ ap (λ ack. Done ack ∷ []) (sym (c.in-Ok.ensures.ack ∙ said))
+    let applies = c.in-Ok.ensures.applies runs in
+    let turns = c.in-Ok.ensures.history runs in
+    let fits = accepted event c.args.store.now (g.D.Disk.seen c.args.disk.now) (Ok c.in-Ok.ack) c.requires.open applies.refused (λ r is. cc) in
+    let result : Result Reply Status = Ok (Done c.in-Ok.ack) in
+    record {
+      tells = applies.step.tells;
+      counted = applies.step.counted;
+      told = λ told. record {
+        does = record {
+          adds = λ history. Adds-applied history event old new result (fits told history)
+              (Turns-answers (Stands history) (StandsForEither history event) (Stands (history ++ event ∷ [])) old new c.in-Ok.ack result (turns told history));
+          reply = λ history stands.
+              let said = said-kept c.apply.new.self new.content (history ++ event ∷ []) (event_name event)
+              (applies.stands (applies.stops ∙ runs) (applies.step.tells ∙ told)) ((turns told history).content stands) in
+              ap (λ (b : Brought). b.replies) (brings-accepted history event (fits told history stands)) ∙ ap (λ ack. Done ack ∷ []) (sym (applies.ack ∙ said));
+          untouched = λ memory. cc;
+        };
+        accepted = λ history stands. tt;
+      };
+    }
 
-pub returns-in-Err-Refused-clause-adds : goal.returns-in-Err-Refused-clause-adds
-returns-in-Err-Refused-clause-adds g c told history =
+pub returns-in-Err-Refused-clause-applies : goal.returns-in-Err-Refused-clause-applies
+returns-in-Err-Refused-clause-applies g c =
     let event = c.args.event.now in
-    let old = (g.D.Disk.seen c.args.disk.now).told in
-    let brought = command_brings history (Do event) in
+    let disk = g.D.Disk.seen c.args.disk.now in
+    let r = c.in-Err-Refused.refusal in
     let still : c.apply.new.disk ≡ c.args.disk.now = rw c.in-Err-Refused.field-0-is at c.in-Err-Refused.ensures.uncalled in
-    let result : Result Reply Status = Ok (Refused c.in-Err-Refused.refusal) in
-    subst (λ d. Adds history brought old (g.D.Disk.seen d).told result) (sym still)
-    (Adds-none history brought old result
-    (λ stands.
-    let same = refuses-kept c.args.store.now old.content history c.args.event.now (c.requires.open.kept told) stands in
-    let refused = same ∙ (c.in-Err-Refused.ensures.refused c.requires.open.runs c.in-Err-Refused.refusal).0
-    (ap (λ e. Err e) c.in-Err-Refused.field-0-is) in
-    ap (λ (b : Brought). b.event) (brings-refused history event c.in-Err-Refused.refusal refused))
-    (g.met.D.Disk.knows_now c.args.disk.now told))
+    let result : Result Reply Status = Ok (Refused r) in
+    let refused : IsTrue disk.tells → (history : History) → Stands history disk.told.content → refuses (state history) event ≡ Some r = λ told history stands.
+    refuses-kept c.args.store.now disk.told.content history event (c.requires.open.kept told) stands
+    ∙ ((c.in-Err-Refused.ensures.applies c.requires.open.runs).refused r).0 (ap (λ e. Err e) c.in-Err-Refused.field-0-is) in
+    subst (λ d. Step fine disk (g.D.Disk.seen d) (AppliesEvent event result)) (sym still)
+    (step-none disk (AppliesEvent event result) (λ told. record {
+      does = record {
+        adds = λ history. Adds-none history (command_brings history (Do event)) disk.told result
+            (λ stands. ap (λ (b : Brought). b.event) (brings-refused history event r (refused told history stands))) (g.met.D.Disk.knows_now c.args.disk.now told);
+        reply = λ history stands. ap (λ (b : Brought). b.replies) (brings-refused history event r (refused told history stands));
+        untouched = λ _. reads-none disk.told;
+      };
+      accepted = λ history stands. tt;
+    }))
 
-pub returns-in-Err-Refused-clause-reply : goal.returns-in-Err-Refused-clause-reply
-returns-in-Err-Refused-clause-reply g c told history stands =
-    let old = (g.D.Disk.seen c.args.disk.now).told in
-    let same = refuses-kept c.args.store.now old.content history c.args.event.now (c.requires.open.kept told) stands in
-    let refused = same ∙ (c.in-Err-Refused.ensures.refused c.requires.open.runs c.in-Err-Refused.refusal).0
-    (ap (λ e. Err e) c.in-Err-Refused.field-0-is) in
-    ap (λ (b : Brought). b.replies) (brings-refused history c.args.event.now c.in-Err-Refused.refusal refused)
-
-pub returns-in-Err-OutOfMemory-clause-accepted : goal.returns-in-Err-OutOfMemory-clause-accepted
-returns-in-Err-OutOfMemory-clause-accepted g c told history stands =
+pub returns-in-Err-OutOfMemory-clause-applies : goal.returns-in-Err-OutOfMemory-clause-applies
+returns-in-Err-OutOfMemory-clause-applies g c =
     let event = c.args.event.now in
-    let same = refuses-kept c.args.store.now (g.D.Disk.seen c.args.disk.now).told.content history c.args.event.now (c.requires.open.kept told) stands in
-    IsSome-accepted history event
-    (same ∙ not_refused (Err c.in-Err-OutOfMemory.field-0) (refuses_held c.args.store.now.streams event) (c.in-Err-OutOfMemory.ensures.refused c.requires.open.runs)
-    (λ r is. let e = c.in-Err-OutOfMemory.field-0-is in cc))
+    let disk = g.D.Disk.seen c.args.disk.now in
+    let e = c.in-Err-OutOfMemory.field-0-is in
+    let still : c.apply.new.disk ≡ c.args.disk.now = rw e at c.in-Err-OutOfMemory.ensures.uncalled in
+    let result : Result Reply Status = Err OutOfMemory in
+    subst (λ d. Step fine disk (g.D.Disk.seen d) (AppliesEvent event result)) (sym still)
+    (step-none disk (AppliesEvent event result) (λ told. record {
+      does = record {
+        adds = λ history.
+            let before = Stands history in
+            let around = StandsAround history (command_brings history (Do event)) in
+            Turns-failed before around before (Stands (history_after history (command_brings history (Do event)))) disk.told disk.told result result refl
+            (Turns-same before around disk.told result (g.met.D.Disk.knows_now c.args.disk.now told) (λ has. inl has));
+        reply = λ history stands. tt;
+        untouched = λ _. reads-none disk.told;
+      };
+      accepted = λ history stands. IsSome-accepted history event (accepted event c.args.store.now disk (Err c.in-Err-OutOfMemory.field-0) c.requires.open
+          (c.in-Err-OutOfMemory.ensures.applies c.requires.open.runs).refused (λ r is. cc) told history stands);
+    }))
 
-pub returns-in-Err-Disk-clause-adds : goal.returns-in-Err-Disk-clause-adds
-returns-in-Err-Disk-clause-adds g c told history =
+pub returns-in-Err-Disk-clause-applies : goal.returns-in-Err-Disk-clause-applies
+returns-in-Err-Disk-clause-applies g c =
     let event = c.args.event.now in
     let old = (g.D.Disk.seen c.args.disk.now).told in
     let new = (g.D.Disk.seen c.apply.new.disk).told in
+    let e = c.in-Err-Disk.field-0-is in
+    let applies = c.in-Err-Disk.ensures.applies c.requires.open.runs in
+    let fits = accepted event c.args.store.now (g.D.Disk.seen c.args.disk.now) (Err c.in-Err-Disk.field-0) c.requires.open applies.refused (λ r is. cc) in
     let result : Result Reply Status = Err DiskFault in
-    Adds-applied history event old new result
-    (λ stands.
-    let same = refuses-kept c.args.store.now old.content history c.args.event.now (c.requires.open.kept told) stands in
-    same ∙ not_refused (Err c.in-Err-Disk.field-0) (refuses_held c.args.store.now.streams event) (c.in-Err-Disk.ensures.refused c.requires.open.runs)
-    (λ r is. let e = c.in-Err-Disk.field-0-is in cc))
-    (Turns-failed (Stands history) (StandsForEither history event) (Stands (history ++ event ∷ [])) (Stands (history ++ event ∷ [])) old new (Err c.in-Err-Disk.field-0) result refl
-    (c.in-Err-Disk.ensures.history told c.requires.open.runs history))
-
-pub returns-in-Err-Disk-clause-accepted : goal.returns-in-Err-Disk-clause-accepted
-returns-in-Err-Disk-clause-accepted g c told history stands =
-    let event = c.args.event.now in
-    let same = refuses-kept c.args.store.now (g.D.Disk.seen c.args.disk.now).told.content history c.args.event.now (c.requires.open.kept told) stands in
-    IsSome-accepted history event
-    (same ∙ not_refused (Err c.in-Err-Disk.field-0) (refuses_held c.args.store.now.streams event) (c.in-Err-Disk.ensures.refused c.requires.open.runs)
-    (λ r is. let e = c.in-Err-Disk.field-0-is in cc))
+    let step = rw e at applies.step in
+    record {
+      tells = step.tells;
+      counted = step.counted;
+      told = λ told. record {
+        does = record {
+          adds = λ history.
+              let after = Stands (history ++ event ∷ []) in
+              Adds-applied history event old new result (fits told history)
+              (Turns-failed (Stands history) (StandsForEither history event) after after old new (Err c.in-Err-Disk.field-0) result refl
+              (c.in-Err-Disk.ensures.history c.requires.open.runs told history));
+          reply = λ history stands. tt;
+          untouched = λ memory. cc;
+        };
+        accepted = λ history stands. IsSome-accepted history event (fits told history stands);
+      };
+    }

@@ -5,16 +5,45 @@ use Rattle.ss_program.specs.Line.{Brought}
 use Rattle.ss_program.proofs.AnswerLemmas.{brings-answered, brings-unanswered, not_unanswered, refuses_query-kept}
 use Rattle.ss_program.proofs.answer.ask.Goals as goal
 
-pub returns-in-Ok-clause-reply : goal.returns-in-Ok-clause-reply
-returns-in-Ok-clause-reply g c told history stands =
+pub returns-in-Ok-clause-asks : goal.returns-in-Ok-clause-asks
+returns-in-Ok-clause-asks g c =
     let query = c.args.query.now in
-    let same = refuses_query-kept c.args.store.now (g.D.Disk.seen c.args.disk.now).told.content history query (c.requires.open.kept told) stands in
-    let none = same ∙ not_unanswered (Ok c.in-Ok.outcome) (refuses_query_held c.args.store.now.streams query) (c.in-Ok.ensures.refused c.requires.open.runs) (λ r is. cc) in
-    ap (λ (b : Brought). b.replies) (brings-answered history query c.in-Ok.outcome none (c.in-Ok.ensures.answer told (state history) stands.state))
+    let answers = c.in-Ok.ensures.answers in
+    record {
+      tells = answers.tells;
+      counted = answers.counted;
+      told = λ told. record {
+        reply = λ history stands.
+            let same = refuses_query-kept c.args.store.now (g.D.Disk.seen c.args.disk.now).told.content history query (c.requires.open.kept told) stands in
+            let none = same ∙ not_unanswered (Ok c.in-Ok.outcome) (refuses_query_held c.args.store.now.streams query)
+            (c.in-Ok.ensures.refused c.requires.open.runs) (λ r is. cc) in
+            ap (λ (b : Brought). b.replies) (brings-answered history query c.in-Ok.outcome none ((answers.told told).answer (state history) stands.state));
+        reads = (answers.told told).reads;
+      };
+    }
 
-pub returns-in-Err-Refused-clause-reply : goal.returns-in-Err-Refused-clause-reply
-returns-in-Err-Refused-clause-reply g c told history stands =
+pub returns-in-Err-Refused-clause-asks : goal.returns-in-Err-Refused-clause-asks
+returns-in-Err-Refused-clause-asks g c =
     let query = c.args.query.now in
-    let same = refuses_query-kept c.args.store.now (g.D.Disk.seen c.args.disk.now).told.content history query (c.requires.open.kept told) stands in
-    let refused = same ∙ (c.in-Err-Refused.ensures.refused c.requires.open.runs c.in-Err-Refused.refusal).0 (ap (λ e. Err e) c.in-Err-Refused.field-0-is) in
-    ap (λ (b : Brought). b.replies) (brings-unanswered history query c.in-Err-Refused.refusal refused)
+    let e = c.in-Err-Refused.field-0-is in
+    let answers = rw e at c.in-Err-Refused.ensures.answers in
+    record {
+      tells = answers.tells;
+      counted = answers.counted;
+      told = λ told. record {
+        reply = λ history stands.
+            let same = refuses_query-kept c.args.store.now (g.D.Disk.seen c.args.disk.now).told.content history query (c.requires.open.kept told) stands in
+            let refused = same ∙ (c.in-Err-Refused.ensures.refused c.requires.open.runs c.in-Err-Refused.refusal).0 (ap (λ e. Err e) e) in
+            ap (λ (b : Brought). b.replies) (brings-unanswered history query c.in-Err-Refused.refusal refused);
+        reads = (answers.told told).reads;
+      };
+    }
+
+pub returns-in-Err-Disk-clause-asks : goal.returns-in-Err-Disk-clause-asks
+returns-in-Err-Disk-clause-asks g c =
+    let answers = rw c.in-Err-Disk.field-0-is at c.in-Err-Disk.ensures.answers in
+    record {
+      tells = answers.tells;
+      counted = answers.counted;
+      told = λ told. record { reply = λ history stands. tt; reads = (answers.told told).reads };
+    }

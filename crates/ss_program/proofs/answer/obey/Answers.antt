@@ -1,19 +1,40 @@
-use Rattle.std.proofs.Common.{refl}
+use Rattle.std.proofs.Common.{refl, subst}
 use Rattle.ss_command.specs.declared.command.Command.TheVariants.{Ask, Windows, List as ListAll}
-use Rattle.ss_program.specs.Line.{command_brings}
-use Rattle.ss_program.proofs.AnswerLemmas.{Adds-none, Adds-reads, ask-event, windows-event}
+use Rattle.ss_program.specs.Answer.{IsTextBrought}
+use Rattle.ss_program.specs.Devices.{over}
+use Rattle.ss_program.specs.Line.{command_brings, text_brought}
+use Rattle.ss_program.specs.Sent.{Sends}
+use Rattle.ss_program.proofs.AnswerLemmas.{ask-event, windows-event}
+use Rattle.ss_program.proofs.TakesLemmas.{Shows-sent, TakesLine-shown, still}
+use Rattle.std.proofs.Common.{sym, ◌∙◌}
 use Rattle.ss_program.proofs.answer.obey.Goals as goal
 
-pub returns-in-Ask-clause-adds : goal.returns-in-Ask-clause-adds
-returns-in-Ask-clause-adds g c told history = rw c.in-Ask.is
-    (Adds-reads history (command_brings history (Ask c.in-Ask.query)) (g.D.Disk.seen c.args.disk.now).told (g.D.Disk.seen c.show_answer.new.disk).told c.show_answer.result
-    (λ has. ask-event history c.in-Ask.query) (g.met.D.Disk.knows_now c.args.disk.now told) (c.show_answer.ensures.reads told))
+pub returns-in-Ask : goal.returns-in-Ask
+returns-in-Ask g c = rw c.in-Ask.is
+    (TakesLine-shown (λ history. command_brings history (Ask c.in-Ask.query)) (IsTextBrought (Ask c.in-Ask.query))
+    (over (g.D.Disk.seen c.args.disk.now) (g.K.Sink.held c.args.sink.now) (g.K.Sink.faults c.args.sink.now))
+    (over (g.D.Disk.seen c.show_answer.new.disk) (g.K.Sink.held c.show_answer.new.sink) (g.K.Sink.faults c.show_answer.new.sink))
+    c.show_answer.new.store c.show_answer.result (g.met.D.Disk.knows_now c.args.disk.now) (λ history. ask-event history c.in-Ask.query) (λ history. refl)
+    c.show_answer.ensures)
 
-pub returns-in-Windows-clause-adds : goal.returns-in-Windows-clause-adds
-returns-in-Windows-clause-adds g c told history = rw c.in-Windows.is
-    (Adds-reads history (command_brings history (Windows c.in-Windows.name)) (g.D.Disk.seen c.args.disk.now).told (g.D.Disk.seen c.show_windows.new.disk).told c.show_windows.result
-    (λ has. windows-event history c.in-Windows.name) (g.met.D.Disk.knows_now c.args.disk.now told) (c.show_windows.ensures.reads told))
+pub returns-in-Windows : goal.returns-in-Windows
+returns-in-Windows g c = rw c.in-Windows.is
+    (TakesLine-shown (λ history. command_brings history (Windows c.in-Windows.name)) (IsTextBrought (Windows c.in-Windows.name))
+    (over (g.D.Disk.seen c.args.disk.now) (g.K.Sink.held c.args.sink.now) (g.K.Sink.faults c.args.sink.now))
+    (over (g.D.Disk.seen c.show_windows.new.disk) (g.K.Sink.held c.show_windows.new.sink) (g.K.Sink.faults c.show_windows.new.sink))
+    c.show_windows.new.store c.show_windows.result (g.met.D.Disk.knows_now c.args.disk.now) (λ history. windows-event history c.in-Windows.name) (λ history. refl)
+    c.show_windows.ensures)
 
-pub returns-in-List-clause-adds : goal.returns-in-List-clause-adds
-returns-in-List-clause-adds g c told history = rw c.in-List.is
-    (Adds-none history (command_brings history ListAll) (g.D.Disk.seen c.args.disk.now).told c.list.result (λ has. refl) (g.met.D.Disk.knows_now c.args.disk.now told))
+pub returns-in-List : goal.returns-in-List
+returns-in-List g c =
+    let disk = g.D.Disk.seen c.args.disk.now in
+    let before = g.K.Sink.held c.args.sink.now in
+    let after = g.K.Sink.held c.list.new.sink in
+    let had = g.K.Sink.faults c.args.sink.now in
+    let has = g.K.Sink.faults c.list.new.sink in
+    rw (c.in-List.is, c.at_sink.ensures)
+    (TakesLine-shown (λ history. command_brings history ListAll) (IsTextBrought ListAll) (over disk before had) (over disk after has) c.args.store.now _
+    (g.met.D.Disk.knows_now c.args.disk.now) (λ history. refl) (λ history. refl)
+    (Shows-sent (IsTextBrought ListAll) disk disk c.args.store.now before after had has c.list.result (still disk) c.requires.open c.list.ensures.counted
+    (λ told history stands bytes is. subst (λ bs. Sends before after bs c.list.result) (sym is)
+    (c.list.ensures.sends history disk.told.content (c.requires.open.kept told) stands))))

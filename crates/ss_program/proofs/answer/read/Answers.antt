@@ -1,5 +1,23 @@
 use Rattle.ss_model.specs.State.{state}
 use Rattle.ss_program.proofs.answer.read.Goals as goal
 
-pub returns-in-Ok-clause-window : goal.returns-in-Ok-clause-window
-returns-in-Ok-clause-window g c told history stands = c.in-Ok.ensures.window told (state history) stands.state
+pub returns-in-Ok-clause-reads : goal.returns-in-Ok-clause-reads
+returns-in-Ok-clause-reads g c =
+    let shows = c.in-Ok.ensures.shows in
+    record {
+      tells = shows.tells;
+      counted = shows.counted;
+      told = λ told. record {
+        row = λ history stands. (shows.told told).window (state history) stands.state;
+        reads = (shows.told told).reads;
+      };
+    }
+
+pub returns-in-Err-Disk-clause-reads : goal.returns-in-Err-Disk-clause-reads
+returns-in-Err-Disk-clause-reads g c =
+    let shows = rw c.in-Err-Disk.field-0-is at c.in-Err-Disk.ensures.shows in
+    record {
+      tells = shows.tells;
+      counted = shows.counted;
+      told = λ told. record { row = λ history stands. tt; reads = (shows.told told).reads };
+    }

@@ -26,7 +26,7 @@ loop-place-preserved g c = record {
       let at = row-reply row_of (λ r. StreamRow r) (state history) c.loop-place.place c.stream.result (c.stream.ensures.row (state history) both.1 both.0) in
       rows-more (g.K.Sink.held c.args.sink.now) (g.K.Sink.held c.loop-place.sink) (g.K.Sink.held c.send_reply.new.sink) (stream_rows (state history))
       c.loop-place.place (StreamRow c.stream.result) at (c.loop-place.invariant.held history content kept stands) c.in_ok-send_reply.ensures.sends;
-  faults = c.in_ok-send_reply.ensures.cause ∙ c.loop-place.invariant.faults;
+  faults = c.in_ok-send_reply.ensures.counted ∙ c.loop-place.invariant.faults;
 }
 
 pub returns-clause-sends : goal.returns-clause-sends

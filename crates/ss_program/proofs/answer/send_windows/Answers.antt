@@ -1,80 +1,123 @@
-use Rattle.std.proofs.Common.{◌≡◌, ◌∙◌, Err, refl, sym, subst, rules}
+use Rattle.std.proofs.Common.{◌≡◌, ◌∙◌, Ok, Err, refl, sym, subst, rules}
 use Rattle.ss_model.specs.State.{state, stream_numbered}
-use Rattle.ss_outside.proofs.CrashLemmas.{reads-joined, reads-none}
+use Rattle.ss_outside.proofs.CrashLemmas.{reads-joined}
+use Rattle.ss_outside.proofs.StepLemmas.{step-then}
+use Rattle.ss_outside.specs.Crash.{OnlyReads}
+use Rattle.ss_outside.specs.Step.{Step}
+use Rattle.ss_outside.specs.Verdict.{Counted, fine, verdict}
 use Rattle.ss_store.specs.Kept.{part_numbered}
 use Rattle.ss_store.specs.Recover.{Stands}
 use Rattle.ss_store.proofs.FoundAlike.{windows-kept}
-use Rattle.ss_program.specs.Answer.{SendsRows}
+use Rattle.ss_program.specs.Answer.{IsRowsText, Shows}
+use Rattle.ss_program.specs.Devices.{over}
 use Rattle.ss_program.specs.Line.{window_rows}
-use Rattle.ss_program.proofs.RowLemmas.{none-sent, rows-after, rows-cut, rows-end, rows-first, rows-step, rows-unread}
+use Rattle.ss_program.specs.Sent.{appended, AppendsLess, Sends}
+use Rattle.ss_program.specs.Status.{disk_verdict, IsDiskStop}
+use Rattle.ss_program.proofs.RowLemmas.{none-sent, rows-after, rows-cut-sent, rows-end, rows-first, rows-step, rows-unread}
+use Rattle.ss_program.proofs.TakesLemmas.{Shows-sent, Shows-stopped, failed-err, sent-all, still}
 use Rattle.ss_program.proofs.answer.send_windows.Goals as goal
 
 pub loop-next-init : goal.loop-next-init
 loop-next-init g c = record {
   is_open = c.requires.open;
-  tells = refl;
   streams = refl;
-  reads = λ told. reads-none (g.D.Disk.seen c.args.disk.now).told;
+  reads = still (g.D.Disk.seen c.args.disk.now);
   at = c.window_first-next.ensures.stands;
   held = λ told history stands s is.
       none-sent (part_numbered c.args.id.0 c.args.store.now.streams) (λ part. part.line.entries) c.window_first-next.result s (g.K.Sink.held c.args.sink.now)
       (rows-first (part_numbered c.args.id.0 c.args.store.now.streams) (λ part. part.line.entries) c.window_first-next.result c.window_first-next.ensures.at
       c.window_first-next.ensures.index);
-  disk_faults = refl;
-  sink_faults = refl;
+  faults = refl;
 }
 
-pub returns-in_err-window-clause-sends : goal.returns-in_err-window-clause-sends
-returns-in_err-window-clause-sends g c told history stands s is =
+pub returns-in_err-window : goal.returns-in_err-window
+returns-in_err-window g c =
+    let old = g.D.Disk.seen c.args.disk.now in
+    let mid = g.D.Disk.seen c.loop-next.disk in
+    let new = g.D.Disk.seen c.read.new.disk in
+    let before = g.K.Sink.held c.args.sink.now in
+    let held = g.K.Sink.held c.loop-next.sink in
+    let had = g.K.Sink.faults c.args.sink.now in
+    let has = g.K.Sink.faults c.loop-next.sink in
     let o = part_numbered c.args.id.0 c.args.store.now.streams in
-    let at = rw c.in-Some.is at c.loop-next.invariant.at in
-    let held = rw c.in-Some.is at (c.loop-next.invariant.held told history stands s is) in
-    let same : c.from_residual.result ≡ Err c.in_err-window.field-0.0 = search rules in
-    subst (λ r. SendsRows (g.K.Sink.held c.args.sink.now) (g.K.Sink.held c.loop-next.sink) (window_rows s) r) (sym same)
-    (rows-unread o (λ part. part.line.entries) c.in-Some.at s (g.K.Sink.held c.args.sink.now) (g.K.Sink.held c.loop-next.sink) c.requires.stands at
-    (windows-kept c.args.store.now (g.D.Disk.seen c.args.disk.now).told.content history c.args.id.0 s (c.requires.open.kept told) stands is) held)
+    let text = IsRowsText c.args.id.0 in
+    let status = c.in_err-window.field-0.0 in
+    let inv = c.loop-next.invariant in
+    let at = rw c.in-Some.is at inv.at in
+    let reads : Step (disk_verdict status) old new OnlyReads =
+    step-then inv.reads c.in_err-window.ensures.reads (λ first second. reads-joined old.told mid.told new.told first second.reads) in
+    let same : c.from_residual.result ≡ Err status = search rules in
+    subst (λ r. Shows text (over old before had) (over new held has) c.read.new.store r) (sym same)
+    (Shows-stopped text old new c.read.new.store before held had has status (subst (λ b. IsDiskStop b status) inv.reads.tells c.in_err-window.ensures.status) reads
+    inv.faults (λ told history stands bytes is. subst (λ bs. AppendsLess before held bs) (sym is.2)
+    (rows-unread o (λ part. part.line.entries) c.in-Some.at is.0 before held c.requires.stands at
+    (windows-kept c.args.store.now old.told.content history c.args.id.0 is.0 (c.requires.open.kept told) stands is.1)
+    (rw c.in-Some.is at (inv.held told history stands is.0 is.1)))))
 
-pub returns-in_err-send_reply-clause-sends : goal.returns-in_err-send_reply-clause-sends
-returns-in_err-send_reply-clause-sends g c told history stands s is =
+pub returns-in_err-at_sink : goal.returns-in_err-at_sink
+returns-in_err-at_sink g c =
+    let old = g.D.Disk.seen c.args.disk.now in
+    let mid = g.D.Disk.seen c.loop-next.disk in
+    let new = g.D.Disk.seen c.read.new.disk in
+    let before = g.K.Sink.held c.args.sink.now in
+    let held = g.K.Sink.held c.loop-next.sink in
+    let after = g.K.Sink.held c.send_reply.new.sink in
+    let had = g.K.Sink.faults c.args.sink.now in
+    let has = g.K.Sink.faults c.send_reply.new.sink in
     let o = part_numbered c.args.id.0 c.args.store.now.streams in
-    let held = rw c.in-Some.is at (c.loop-next.invariant.held told history stands s is) in
-    let told_then = c.loop-next.invariant.tells ∙ told in
-    let stands_then = subst (Stands history) (sym (c.loop-next.invariant.reads told).same.content) stands in
-    let row = rw c.loop-next.invariant.streams at (c.in_ok-window.ensures.window told_then history stands_then) in
-    let same : c.from_residual-in_err-send_reply.result ≡ Err c.in_err-send_reply.field-0.0 = search rules in
-    subst (λ r. SendsRows (g.K.Sink.held c.args.sink.now) (g.K.Sink.held c.send_reply.new.sink) (window_rows s) r) (sym same)
-    (rows-cut o (λ part. part.line.entries) c.in-Some.at s (stream_numbered c.args.id.0 (state history)) (g.K.Sink.held c.args.sink.now) (g.K.Sink.held c.loop-next.sink)
-    (g.K.Sink.held c.send_reply.new.sink) c.in_ok-window.window is c.requires.stands held row c.in_err-send_reply.ensures.sends)
+    let text = IsRowsText c.args.id.0 in
+    let inv = c.loop-next.invariant in
+    let read = c.in_ok-window.ensures in
+    let reads : Step fine old new OnlyReads =
+    step-then inv.reads read.reads (λ first second. reads-joined old.told mid.told new.told first second.reads) in
+    let same : c.from_residual-in_err-at_sink.result ≡ Err c.in_err-at_sink.field-0.0 = search rules in
+    subst (λ r. Shows text (over old before had) (over new after has) c.read.new.store r) (sym (same ∙ c.in_err-at_sink.ensures))
+    (Shows-sent text old new c.read.new.store before after had has c.send_reply.result reads read.open
+    (subst (λ n. Counted (verdict c.send_reply.result) n has) inv.faults c.send_reply.ensures.counted)
+    (λ told history stands bytes is. subst (λ bs. Sends before after bs c.send_reply.result) (sym is.2)
+    (rows-cut-sent o (λ part. part.line.entries) c.in-Some.at is.0 (stream_numbered c.args.id.0 (state history)) before held after c.in_ok-window.window is.1 c.requires.stands
+    (rw c.in-Some.is at (inv.held told history stands is.0 is.1))
+    (rw inv.streams at ((read.reads.told (inv.reads.tells ∙ told)).row history (subst (Stands history) (sym (inv.reads.told told).same.content) stands)))
+    c.send_reply.result (failed-err c.send_reply.result c.in_err-at_sink.field-0.0 c.in_err-at_sink.ensures) c.send_reply.ensures.sends)))
 
 pub loop-next-preserved : goal.loop-next-preserved
 loop-next-preserved g c =
+    let old = g.D.Disk.seen c.args.disk.now in
+    let mid = g.D.Disk.seen c.loop-next.disk in
+    let new = g.D.Disk.seen c.read.new.disk in
+    let before = g.K.Sink.held c.args.sink.now in
+    let held = g.K.Sink.held c.loop-next.sink in
     let o = part_numbered c.args.id.0 c.args.store.now.streams in
-    let streams = c.read.ensures.streams ∙ c.loop-next.invariant.streams in
-    let at = rw c.in-Some.is at c.loop-next.invariant.at in
-    let next_at = rw streams at c.window_after-next.ensures.at in
-    let next_index = rw streams at c.window_after-next.ensures.index in
+    let inv = c.loop-next.invariant in
+    let read = c.in_ok-window.ensures in
+    let streams = read.streams ∙ inv.streams in
+    let at = rw c.in-Some.is at inv.at in
+    let sent = sent-all c.send_reply.result c.in_ok-at_sink.field-0 c.in_ok-at_sink.ensures c.send_reply.ensures in
     record {
-      is_open = c.in_ok-window.ensures.open;
-      tells = c.read.ensures.tells ∙ c.loop-next.invariant.tells;
+      is_open = read.open;
       streams = streams;
-      reads = λ told. reads-joined (g.D.Disk.seen c.args.disk.now).told (g.D.Disk.seen c.loop-next.disk).told (g.D.Disk.seen c.read.new.disk).told (c.loop-next.invariant.reads told)
-          (c.read.ensures.reads (c.loop-next.invariant.tells ∙ told));
+      reads = step-then inv.reads read.reads (λ first second. reads-joined old.told mid.told new.told first second.reads);
       at = rw streams at c.window_after-next.ensures.stands;
       held = λ told history stands s is.
-          let held = rw c.in-Some.is at (c.loop-next.invariant.held told history stands s is) in
-          let told_then = c.loop-next.invariant.tells ∙ told in
-          let stands_then = subst (Stands history) (sym (c.loop-next.invariant.reads told).same.content) stands in
-          let row = rw c.loop-next.invariant.streams at (c.in_ok-window.ensures.window told_then history stands_then) in
-          rows-step o (λ part. part.line.entries) c.in-Some.at c.window_after-next.result s (stream_numbered c.args.id.0 (state history)) (g.K.Sink.held c.args.sink.now)
-          (g.K.Sink.held c.loop-next.sink) (g.K.Sink.held c.send_reply.new.sink) c.in_ok-window.window is held row
-          (rows-after o (λ part. part.line.entries) c.in-Some.at c.window_after-next.result at next_at next_index) c.in_ok-send_reply.ensures.sends;
-      disk_faults = c.in_ok-window.ensures.cause ∙ c.loop-next.invariant.disk_faults;
-      sink_faults = c.in_ok-send_reply.ensures.cause ∙ c.loop-next.invariant.sink_faults;
+          let so_far = rw c.in-Some.is at (inv.held told history stands s is) in
+          let stands_then = subst (Stands history) (sym (inv.reads.told told).same.content) stands in
+          let row = rw inv.streams at ((read.reads.told (inv.reads.tells ∙ told)).row history stands_then) in
+          rows-step o (λ part. part.line.entries) c.in-Some.at c.window_after-next.result s (stream_numbered c.args.id.0 (state history)) before
+          held (g.K.Sink.held c.send_reply.new.sink) c.in_ok-window.window is so_far row
+          (rows-after o (λ part. part.line.entries) c.in-Some.at c.window_after-next.result at (rw streams at c.window_after-next.ensures.at)
+          (rw streams at c.window_after-next.ensures.index)) sent.0;
+      faults = sent.1 ∙ inv.faults;
     }
 
-pub returns-clause-sends : goal.returns-clause-sends
-returns-clause-sends g c told history stands s is =
-    rows-end (part_numbered c.args.id.0 c.args.store.now.streams) (λ part. part.line.entries) c.loop-next.next s (g.K.Sink.held c.args.sink.now)
-    (g.K.Sink.held c.loop-next.sink) c.requires.stands c.in_default.is
-    (windows-kept c.args.store.now (g.D.Disk.seen c.args.disk.now).told.content history c.args.id.0 s (c.requires.open.kept told) stands is)
-    (c.loop-next.invariant.held told history stands s is)
+pub returns : goal.returns
+returns g c =
+    let old = g.D.Disk.seen c.args.disk.now in
+    let inv = c.loop-next.invariant in
+    let before = g.K.Sink.held c.args.sink.now in
+    let held = g.K.Sink.held c.loop-next.sink in
+    Shows-sent (IsRowsText c.args.id.0) old (g.D.Disk.seen c.loop-next.disk) c.loop-next.store before held (g.K.Sink.faults c.args.sink.now)
+    (g.K.Sink.faults c.loop-next.sink) (Ok tt) inv.reads inv.is_open inv.faults
+    (λ told history stands bytes is. subst (λ bs. held ≡ appended before bs) (sym is.2)
+    (rows-end (part_numbered c.args.id.0 c.args.store.now.streams) (λ part. part.line.entries) c.loop-next.next is.0 before held c.requires.stands c.in_default.is
+    (windows-kept c.args.store.now old.told.content history c.args.id.0 is.0 (c.requires.open.kept told) stands is.1)
+    (inv.held told history stands is.0 is.1)))

@@ -1,10 +1,12 @@
 use Rattle.std.proofs.Common.{◌≡◌, take, Some, IfSome}
-use Rattle.std.specs.Bool.{IsTrue}
 use Rattle.std.specs.List.{flat_map}
 use Rattle.std.specs.Option.{option_map}
 use Rattle.ss_line.specs.Line.{StandsIn}
 use Rattle.ss_model.specs.State.{Stream, state, stream_numbered}
 use Rattle.ss_outside.specs.Crash.{OnlyReads}
+use Rattle.ss_outside.specs.Disk.{OfContent}
+use Rattle.ss_outside.specs.Step.{Step}
+use Rattle.ss_outside.specs.Verdict.{fine}
 use Rattle.ss_report.specs.Text.{reply_line}
 use Rattle.ss_store.specs.Kept.{part_numbered}
 use Rattle.ss_store.specs.Recover.{Stands}
@@ -17,16 +19,14 @@ use Rattle.ss_program.proofs.answer.send_windows.Given as goal
 -- the rows of the windows before the next one were sent, and the disk was only read
 abbrev pub invariant-loop-next : goal.invariant-loop-next
 invariant-loop-next g l = record {
-  is_open : IsOpen (g.D.Disk.seen l.disk).tells (g.D.Disk.seen l.disk).told l.store;
-  tells : (g.D.Disk.seen l.disk).tells ≡ (g.D.Disk.seen l.fn.disk).tells;
+  is_open : IsOpen (g.D.Disk.seen l.disk) l.store;
   streams : l.store.streams ≡ l.fn.store.streams;
-  reads : IsTrue (g.D.Disk.seen l.fn.disk).tells → OnlyReads (g.D.Disk.seen l.fn.disk).told (g.D.Disk.seen l.disk).told;
+  reads : Step fine (g.D.Disk.seen l.fn.disk) (g.D.Disk.seen l.disk) OnlyReads;
   at : IfSome (part_numbered l.id.0 l.fn.store.streams) (λ part. IfSome l.next (StandsIn part.line.entries));
-  held : IsTrue (g.D.Disk.seen l.fn.disk).tells → (history : History) → Stands history (g.D.Disk.seen l.fn.disk).told.content →
-      (s : Stream) → stream_numbered l.id.0 (state history) ≡ Some s → IfSome (part_numbered l.id.0 l.fn.store.streams) (λ part.
-      g.K.Sink.held l.sink ≡ appended (g.K.Sink.held l.fn.sink) (flat_map reply_line (take (rows_done part.line.entries l.next) (window_rows s))));
-  disk_faults : (g.D.Disk.seen l.disk).faults ≡ (g.D.Disk.seen l.fn.disk).faults;
-  sink_faults : g.K.Sink.faults l.sink ≡ g.K.Sink.faults l.fn.sink;
+  held : OfContent (g.D.Disk.seen l.fn.disk) (λ content. (history : History) → Stands history content → (s : Stream) →
+      stream_numbered l.id.0 (state history) ≡ Some s → IfSome (part_numbered l.id.0 l.fn.store.streams) (λ part.
+      g.K.Sink.held l.sink ≡ appended (g.K.Sink.held l.fn.sink) (flat_map reply_line (take (rows_done part.line.entries l.next) (window_rows s)))));
+  faults : g.K.Sink.faults l.sink ≡ g.K.Sink.faults l.fn.sink;
 }
 
 abbrev pub decreases-loop-next : goal.decreases-loop-next

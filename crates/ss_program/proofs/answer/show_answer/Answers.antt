@@ -1,19 +1,43 @@
-use Rattle.std.proofs.Common.{◌≡◌, Err, sym, subst, rules}
+use Rattle.std.proofs.Common.{◌≡◌, ◌∙◌, Err, refl, sym, ap, subst, rules}
+use Rattle.std.proofs.lemmas.List.{append-nil}
+use Rattle.std.specs.List.{flat_map}
 use Rattle.ss_command.specs.declared.command.Command.TheVariants.{Ask}
+use Rattle.ss_outside.proofs.StepLemmas.{step-as}
+use Rattle.ss_outside.specs.Crash.{OnlyReads}
+use Rattle.ss_outside.specs.Step.{Step}
+use Rattle.ss_outside.specs.Verdict.{fine}
+use Rattle.ss_report.specs.Text.{reply_line}
+use Rattle.ss_program.specs.Answer.{IsTextBrought, Shows}
+use Rattle.ss_program.specs.Devices.{over}
 use Rattle.ss_program.specs.Line.{command_brings, text_brought}
-use Rattle.ss_program.specs.Sent.{Sends}
+use Rattle.ss_program.specs.Sent.{AppendsLess}
+use Rattle.ss_program.specs.Status.{disk_verdict}
 use Rattle.ss_program.proofs.AnswerLemmas.{AppendsLess-none, ask-some}
-use Rattle.ss_program.proofs.RowLemmas.{Sends-only}
+use Rattle.ss_program.proofs.TakesLemmas.{Shows-reply, Shows-stopped}
 use Rattle.ss_program.proofs.answer.show_answer.Goals as goal
 
-pub returns-in_err-reply-clause-sends : goal.returns-in_err-reply-clause-sends
-returns-in_err-reply-clause-sends g c told history stands =
+pub returns-in_err-reply : goal.returns-in_err-reply
+returns-in_err-reply g c =
+    let old = g.D.Disk.seen c.args.disk.now in
+    let new = g.D.Disk.seen c.ask.new.disk in
     let held = g.K.Sink.held c.args.sink.now in
-    let text = text_brought (command_brings history (Ask c.args.query.now)) in
-    let same : c.from_residual.result ≡ Err c.in_err-reply.field-0.0 = search rules in
-    subst (λ r. Sends held held text r) (sym same) (AppendsLess-none held text (ask-some history c.args.query.now))
+    let n = g.K.Sink.faults c.args.sink.now in
+    let text = IsTextBrought (Ask c.args.query.now) in
+    let status = c.in_err-reply.field-0.0 in
+    let same : c.from_residual.result ≡ Err status = search rules in
+    let reads : Step (disk_verdict status) old new OnlyReads = step-as c.in_err-reply.ensures.asks (λ asks. asks.reads) in
+    subst (λ r. Shows text (over old held n) (over new held n) c.ask.new.store r) (sym same)
+    (Shows-stopped text old new c.ask.new.store held held n n status c.in_err-reply.ensures.status reads refl
+    (λ told history stands bytes is. subst (λ bs. AppendsLess held held bs) (sym is)
+    (AppendsLess-none held (text_brought (command_brings history (Ask c.args.query.now))) (ask-some history c.args.query.now))))
 
-pub returns-clause-sends : goal.returns-clause-sends
-returns-clause-sends g c told history stands =
-    Sends-only (g.K.Sink.held c.args.sink.now) (g.K.Sink.held c.send_reply.new.sink) (command_brings history (Ask c.args.query.now)) c.in_ok-reply.reply
-    c.send_reply.result (c.in_ok-reply.ensures.reply told history stands) c.send_reply.ensures.sends
+pub returns : goal.returns
+returns g c =
+    let old = g.D.Disk.seen c.args.disk.now in
+    let new = g.D.Disk.seen c.ask.new.disk in
+    let asks = c.in_ok-reply.ensures.asks in
+    let reads : Step fine old new OnlyReads = step-as asks (λ asks. asks.reads) in
+    rw c.at_sink.ensures
+    (Shows-reply (IsTextBrought (Ask c.args.query.now)) old new c.ask.new.store (g.K.Sink.held c.args.sink.now) (g.K.Sink.held c.send_reply.new.sink)
+    (g.K.Sink.faults c.args.sink.now) (g.K.Sink.faults c.send_reply.new.sink) c.in_ok-reply.reply c.send_reply.result reads c.in_ok-reply.ensures.open c.send_reply.ensures
+    (λ told history stands bytes is. is ∙ ap (λ rs. flat_map reply_line rs) ((asks.told told).reply history stands) ∙ append-nil (reply_line c.in_ok-reply.reply)))

@@ -1,53 +1,79 @@
-use Rattle.std.proofs.Common.{◌≡◌, ◌∙◌, Err, sym, subst, rules}
+use Rattle.std.proofs.Common.{◌≡◌, ◌∙◌, Err, refl, sym, subst, rules}
+use Rattle.std.specs.List.{flat_map}
 use Rattle.ss_command.specs.declared.command.Command.TheVariants.{Windows}
-use Rattle.ss_outside.proofs.CrashLemmas.{reads-none}
+use Rattle.ss_outside.specs.Verdict.{Counted}
+use Rattle.ss_report.specs.Text.{reply_line}
+use Rattle.ss_report.specs.declared.reply.Reply.TheVariants.{WindowsHead}
 use Rattle.ss_store.specs.Kept.{part_numbered}
 use Rattle.ss_store.proofs.FoundAlike.{found-kept, unknown-kept, windows-kept}
-use Rattle.ss_program.specs.Line.{command_brings, text_brought}
+use Rattle.ss_program.specs.Answer.{IsTextBrought, Shows}
+use Rattle.ss_program.specs.Devices.{over}
+use Rattle.ss_program.specs.Line.{command_brings, text_brought, window_rows}
 use Rattle.ss_program.specs.Sent.{Sends}
-use Rattle.ss_program.proofs.AnswerLemmas.{CountsIfEnded-sink, IsShowStop-sink}
+use Rattle.ss_program.specs.Status.{ended, sink_verdict}
 use Rattle.ss_program.proofs.RowLemmas.{windows-count, windows-head, windows-rows, windows-unknown}
+use Rattle.ss_program.proofs.TakesLemmas.{Shows-sent, failed-err, less-sent, sends-less, sent-all, still}
 use Rattle.ss_program.proofs.answer.show_windows.Goals as goal
 
-pub returns-in_default-clause-sends : goal.returns-in_default-clause-sends
-returns-in_default-clause-sends g c told history stands =
-    windows-unknown history c.args.name.now (g.K.Sink.held c.args.sink.now) (g.K.Sink.held c.send_reply.new.sink) c.send_reply.result
-    (unknown-kept c.args.store.now (g.D.Disk.seen c.args.disk.now).told.content history c.args.name.now (c.requires.open.kept told) stands
-    (sym c.in_default.is ∙ c.find.ensures.number)) c.send_reply.ensures.sends
+pub returns-in_default : goal.returns-in_default
+returns-in_default g c =
+    let disk = g.D.Disk.seen c.args.disk.now in
+    let before = g.K.Sink.held c.args.sink.now in
+    let after = g.K.Sink.held c.send_reply.new.sink in
+    let name = c.args.name.now in
+    rw c.at_sink.ensures
+    (Shows-sent (IsTextBrought (Windows name)) disk disk c.args.store.now before after (g.K.Sink.faults c.args.sink.now)
+    (g.K.Sink.faults c.send_reply.new.sink) c.send_reply.result (still disk) c.requires.open c.send_reply.ensures.counted
+    (λ told history stands bytes is. subst (λ bs. Sends before after bs c.send_reply.result) (sym is)
+    (windows-unknown history name before after c.send_reply.result
+    (unknown-kept c.args.store.now disk.told.content history name (c.requires.open.kept told) stands (sym c.in_default.is ∙ c.find.ensures.number))
+    c.send_reply.ensures.sends)))
 
-pub returns-in_default-clause-reads : goal.returns-in_default-clause-reads
-returns-in_default-clause-reads g c told = reads-none (g.D.Disk.seen c.args.disk.now).told
-
-pub returns-in_default-clause-status : goal.returns-in_default-clause-status
-returns-in_default-clause-status g c = IsShowStop-sink (g.D.Disk.seen c.args.disk.now).tells c.send_reply.result c.send_reply.ensures.status
-
-pub returns-in_default-clause-disk_cause : goal.returns-in_default-clause-disk_cause
-returns-in_default-clause-disk_cause g c = CountsIfEnded-sink (g.D.Disk.seen c.args.disk.now).faults c.send_reply.result c.send_reply.ensures.status
-
-pub returns-in_err-send_reply-clause-sends : goal.returns-in_err-send_reply-clause-sends
-returns-in_err-send_reply-clause-sends g c told history stands =
+pub returns-in_err-at_sink : goal.returns-in_err-at_sink
+returns-in_err-at_sink g c =
     let store = c.args.store.now in
-    let content = (g.D.Disk.seen c.args.disk.now).told.content in
+    let disk = g.D.Disk.seen c.args.disk.now in
+    let before = g.K.Sink.held c.args.sink.now in
+    let after = g.K.Sink.held c.send_reply-2.new.sink in
+    let had = g.K.Sink.faults c.args.sink.now in
+    let has = g.K.Sink.faults c.send_reply-2.new.sink in
+    let sent = c.send_reply-2.result in
+    let text = IsTextBrought (Windows c.args.name.now) in
+    let failed = failed-err sent c.in_err-at_sink.field-0.0 c.in_err-at_sink.ensures in
+    let same : c.from_residual.result ≡ Err c.in_err-at_sink.field-0.0 = search rules in
+    subst (λ r. Shows text (over disk before had) (over disk after has) store r) (sym (same ∙ c.in_err-at_sink.ensures))
+    (Shows-sent text disk disk store before after had has sent (still disk) c.requires.open c.send_reply-2.ensures.counted
+    (λ told history stands bytes is.
     let kept = c.requires.open.kept told in
-    let found = found-kept store content history c.args.name.now c.in-Some.id kept stands c.in-Some.ensures.number c.in-Some.ensures.same in
+    let found = found-kept store disk.told.content history c.args.name.now c.in-Some.id kept stands c.in-Some.ensures.number c.in-Some.ensures.same in
     let all = windows-count (part_numbered c.in-Some.id.0 store.streams) (λ part. part.line.entries) found.0 c.windows.result c.in-Some.ensures.stands c.windows.ensures
-    (windows-kept store content history c.in-Some.id.0 found.0 kept stands found.2) in
-    let same : c.from_residual.result ≡ Err c.in_err-send_reply.field-0.0 = search rules in
-    subst (λ r. Sends (g.K.Sink.held c.args.sink.now) (g.K.Sink.held c.send_reply-2.new.sink) (text_brought (command_brings history (Windows c.args.name.now))) r) (sym same)
-    (windows-head history c.args.name.now found.0 (g.K.Sink.held c.args.sink.now) (g.K.Sink.held c.send_reply-2.new.sink)
-    c.windows.result found.1 all c.in_err-send_reply.ensures.sends)
+    (windows-kept store disk.told.content history c.in-Some.id.0 found.0 kept stands found.2) in
+    subst (λ bs. Sends before after bs sent) (sym is)
+    (sends-less before after (text_brought (command_brings history (Windows c.args.name.now))) sent failed
+    (windows-head history c.args.name.now found.0 before after c.windows.result found.1 all
+    (less-sent before after (reply_line (WindowsHead c.windows.result)) sent failed c.send_reply-2.ensures.sends)))))
 
-pub returns-in_err-send_reply-clause-reads : goal.returns-in_err-send_reply-clause-reads
-returns-in_err-send_reply-clause-reads g c told = reads-none (g.D.Disk.seen c.args.disk.now).told
-
-pub returns-clause-sends : goal.returns-clause-sends
-returns-clause-sends g c told history stands =
+pub returns : goal.returns
+returns g c =
     let store = c.args.store.now in
-    let content = (g.D.Disk.seen c.args.disk.now).told.content in
-    let kept = c.requires.open.kept told in
-    let found = found-kept store content history c.args.name.now c.in-Some.id kept stands c.in-Some.ensures.number c.in-Some.ensures.same in
-    let all = windows-count (part_numbered c.in-Some.id.0 store.streams) (λ part. part.line.entries) found.0 c.windows.result c.in-Some.ensures.stands c.windows.ensures
-    (windows-kept store content history c.in-Some.id.0 found.0 kept stands found.2) in
-    windows-rows history c.args.name.now found.0 (g.K.Sink.held c.args.sink.now) (g.K.Sink.held c.send_reply-2.new.sink)
-    (g.K.Sink.held c.send_windows.new.sink) c.windows.result c.send_windows.result found.1 all c.in_ok-send_reply.ensures.sends
-    (c.send_windows.ensures.sends told history stands found.0 found.2)
+    let disk = g.D.Disk.seen c.args.disk.now in
+    let before = g.K.Sink.held c.args.sink.now in
+    let held = g.K.Sink.held c.send_reply-2.new.sink in
+    let after = g.K.Sink.held c.send_windows.new.sink in
+    let result = c.send_windows.result in
+    let shows = c.send_windows.ensures in
+    let sent = sent-all c.send_reply-2.result c.in_ok-at_sink.field-0 c.in_ok-at_sink.ensures c.send_reply-2.ensures in
+    record {
+      reads = shows.reads;
+      sends = λ told history stands bytes is.
+          let kept = c.requires.open.kept told in
+          let found = found-kept store disk.told.content history c.args.name.now c.in-Some.id kept stands c.in-Some.ensures.number c.in-Some.ensures.same in
+          let all = windows-count (part_numbered c.in-Some.id.0 store.streams) (λ part. part.line.entries) found.0 c.windows.result c.in-Some.ensures.stands c.windows.ensures
+          (windows-kept store disk.told.content history c.in-Some.id.0 found.0 kept stands found.2) in
+          subst (λ bs. Sends before after bs result) (sym is)
+          (windows-rows history c.args.name.now found.0 before held after c.windows.result result found.1 all sent.0
+          (shows.sends told history stands (flat_map reply_line (window_rows found.0)) (found.0, found.2, refl)));
+      counted = subst (λ n. Counted (sink_verdict (ended result)) n (g.K.Sink.faults c.send_windows.new.sink)) sent.1 shows.counted;
+      opens = shows.opens;
+      status = shows.status;
+    }

@@ -1,19 +1,64 @@
-use Rattle.std.proofs.Common.{◌≡◌, subst}
+use Rattle.std.proofs.Common.{◌≡◌, ◌∙◌, refl, sym, subst}
 use Rattle.ss_store.specs.Surveyed.{survey_of}
+use Rattle.ss_store.specs.declared.surveying.Survey.{Survey}
 use Rattle.ss_program.specs.Checked.{survey_line}
-use Rattle.ss_program.specs.Sent.{appended}
-use Rattle.ss_program.proofs.RunLemmas.{surveyed}
-use Rattle.ss_program.proofs.SendLemmas.{AppendsFront-all}
+use Rattle.ss_program.specs.Sent.{appended, AppendsLess}
+use Rattle.ss_program.specs.declared.status.Status.TheVariants.{Done, SinkFault}
+use Rattle.ss_program.proofs.EndLemmas.{Ends-opened, Ends-unopened, surveys-opens, unfed-unopened}
+use Rattle.ss_program.proofs.RunLemmas.{surveyed, unopened}
+use Rattle.ss_program.proofs.SendLemmas.{AppendsFront-all, appended-nil}
+use Rattle.ss_program.proofs.TakesLemmas.{still}
 use Rattle.ss_program.proofs.check.check.Goals as goal
+
+pub returns-in-Ok-send_survey-clause-ends : goal.returns-in-Ok-send_survey-clause-ends
+returns-in-Ok-send_survey-clause-ends g c =
+    let new = g.D.Disk.seen c.survey.new.disk in
+    Ends-opened (g.D.Disk.seen c.args.disk.now) new new (g.K.Sink.held c.args.sink.now) (g.K.Sink.held c.send_survey.new.sink) (g.K.Sink.faults c.args.sink.now)
+    (g.K.Sink.faults c.send_survey.new.sink) Done c.in-Ok.ensures.surveys (λ found. (found.surveys.0, found.surveys.1)) (still new) tt c.in-Ok-send_survey.ensures.counted
 
 pub returns-in-Ok-send_survey-clause-checks : goal.returns-in-Ok-send_survey-clause-checks
 returns-in-Ok-send_survey-clause-checks g c told streams is =
     let before = g.K.Sink.held c.args.sink.now in
     let after = g.K.Sink.held c.send_survey.new.sink in
-    let same = surveyed (g.D.Disk.seen c.args.disk.now).told.content streams c.in-Ok.survey (c.in-Ok.ensures.surveys told) is in
+    let same = surveyed (g.D.Disk.seen c.args.disk.now).told.content streams c.in-Ok.survey (c.in-Ok.ensures.surveys.told told).surveys is in
     let sent = subst (λ s. after ≡ appended before (survey_line s)) same c.in-Ok-send_survey.ensures.sends in
     record {
       front = AppendsFront-all before after (survey_line (survey_of streams)) sent;
       whole = λ _. sent;
-      unwritten = c.survey.ensures.reads told;
+      silent = λ going. absurd (going refl);
     }
+
+pub returns-in-Err-send_survey-clause-ends : goal.returns-in-Err-send_survey-clause-ends
+returns-in-Err-send_survey-clause-ends g c =
+    let new = g.D.Disk.seen c.survey.new.disk in
+    Ends-opened (g.D.Disk.seen c.args.disk.now) new new (g.K.Sink.held c.args.sink.now) (g.K.Sink.held c.send_survey.new.sink) (g.K.Sink.faults c.args.sink.now)
+    (g.K.Sink.faults c.send_survey.new.sink) SinkFault c.in-Ok.ensures.surveys (λ found. (found.surveys.0, found.surveys.1)) (still new) tt
+    c.in-Err-send_survey.ensures.counted
+
+pub returns-in-Err-send_survey-clause-checks : goal.returns-in-Err-send_survey-clause-checks
+returns-in-Err-send_survey-clause-checks g c told streams is =
+    let before = g.K.Sink.held c.args.sink.now in
+    let after = g.K.Sink.held c.send_survey.new.sink in
+    let same = surveyed (g.D.Disk.seen c.args.disk.now).told.content streams c.in-Ok.survey (c.in-Ok.ensures.surveys.told told).surveys is in
+    let less = subst (λ s. AppendsLess before after (survey_line s)) same c.in-Err-send_survey.ensures.sends in
+    record { front = (less.0, less.2); whole = λ w. cc; silent = λ _ other. absurd (other refl) }
+
+pub returns-in-Err-clause-ends : goal.returns-in-Err-clause-ends
+returns-in-Err-clause-ends g c =
+    let old = g.D.Disk.seen c.args.disk.now in
+    let surveys = c.in-Err.ensures.surveys in
+    rw c.refuse.ensures.status
+    (Ends-unopened Survey c.in-Err.error old (g.D.Disk.seen c.survey.new.disk) (g.K.Sink.held c.args.sink.now) (g.K.Sink.held c.refuse.new.sink)
+    (g.K.Sink.faults c.args.sink.now) (g.K.Sink.faults c.refuse.new.sink) surveys.tells surveys.counted
+    (λ told. surveys-opens old.told.content c.in-Err.error (surveys.told told).surveys) (λ told refused. (surveys.told told).reads) c.refuse.ensures.says)
+
+pub returns-in-Err-clause-unfed : goal.returns-in-Err-clause-unfed
+returns-in-Err-clause-unfed g c = rw c.refuse.ensures.status (unfed-unopened c.in-Err.error)
+
+pub returns-in-Err-clause-checks : goal.returns-in-Err-clause-checks
+returns-in-Err-clause-checks g c told streams is =
+    let content = (g.D.Disk.seen c.args.disk.now).told.content in
+    let before = g.K.Sink.held c.args.sink.now in
+    let un = unopened content streams before (g.K.Sink.held c.refuse.new.sink) (g.K.Sink.faults c.args.sink.now) (g.K.Sink.faults c.refuse.new.sink) c.in-Err.error is
+    (surveys-opens content c.in-Err.error (c.in-Err.ensures.surveys.told told).surveys) c.refuse.ensures.says in
+    rw c.refuse.ensures.status (record { front = (0, un.0 ∙ sym (appended-nil before)); whole = λ done. absurd (un.1 done); silent = λ _ _. un.0 })

@@ -1,27 +1,46 @@
-use Rattle.std.proofs.Common.{◌∙◌, sym}
-use Rattle.ss_program.specs.Status.{number_of}
-use Rattle.ss_program.proofs.RunLemmas.{completes-alone, stop-unfed}
+use Rattle.std.proofs.Common.{◌∙◌, subst}
+use Rattle.ss_store.specs.Kept.{StoreState}
+use Rattle.ss_program.specs.Status.{EndsServing}
+use Rattle.ss_program.proofs.EndLemmas.{Ends-opened, Ends-unopened, judged-refused, serving-stop, unfed-stop, unfed-unopened}
 use Rattle.ss_program.proofs.GenerateLemmas.{Generates-opened, Generates-unopened}
 use Rattle.ss_program.proofs.generate.generate.Goals as goal
 
-pub returns-in-Ok-clause-generates : goal.returns-in-Ok-clause-generates
-returns-in-Ok-clause-generates g c told none history stands =
-    let opened = c.in-Ok.ensures.history told history in
-    Generates-opened history c.args.seed c.args.count (g.K.Sink.held c.args.sink.now) (g.K.Sink.held c.summarize.new.sink) (g.D.Disk.seen c.args.disk.now).told
-    (g.D.Disk.seen c.open.new.disk).told (g.D.Disk.seen c.summarize.new.disk).told (number_of c.summarize.result) (opened.any_moment none stands)
-    (c.summarize.ensures.generates (c.open.ensures.tells ∙ told) (opened.durable none) history (opened.content stands))
+pub returns-in-Ok-clause-ends : goal.returns-in-Ok-clause-ends
+returns-in-Ok-clause-ends g c =
+    let mid = g.D.Disk.seen c.open.new.disk in
+    Ends-opened (g.D.Disk.seen c.args.disk.now) mid (g.D.Disk.seen c.summarize.new.disk) (g.K.Sink.held c.args.sink.now) (g.K.Sink.held c.summarize.new.sink)
+    (g.K.Sink.faults c.args.sink.now) (g.K.Sink.faults c.summarize.new.sink) c.summarize.result c.in-Ok.ensures.opens (λ opened. (opened.opens.0, opened.opens.1))
+    c.summarize.ensures.generates
+    (subst (λ b. EndsServing b c.summarize.result) c.in-Ok.ensures.opens.tells (serving-stop mid.tells c.summarize.result c.summarize.ensures.status))
+    c.summarize.ensures.counted
 
 pub returns-in-Ok-clause-unfed : goal.returns-in-Ok-clause-unfed
-returns-in-Ok-clause-unfed g c = stop-unfed (g.D.Disk.seen c.open.new.disk).tells c.summarize.result c.summarize.ensures.status
+returns-in-Ok-clause-unfed g c = unfed-stop (g.D.Disk.seen c.open.new.disk).tells c.summarize.result c.summarize.ensures.status
 
-pub returns-in-Ok-clause-completes : goal.returns-in-Ok-clause-completes
-returns-in-Ok-clause-completes g c told none calm_disk calm_sink =
-    completes-alone (g.D.Disk.seen c.open.new.disk).tells c.summarize.result (g.D.Disk.seen c.open.new.disk).faults (g.D.Disk.seen c.summarize.new.disk).faults
-    (g.K.Sink.faults c.args.sink.now) (g.K.Sink.faults c.summarize.new.sink) (c.open.ensures.tells ∙ told) c.summarize.ensures.status
-    c.summarize.ensures.disk_cause c.summarize.ensures.sink_cause (rw (sym c.in-Ok.ensures.cause) at calm_disk) calm_sink
+pub returns-in-Ok-clause-generates : goal.returns-in-Ok-clause-generates
+returns-in-Ok-clause-generates g c told none history stands =
+    let opens = c.in-Ok.ensures.opens in
+    let opened = (opens.told told).history history in
+    Generates-opened history c.args.seed c.args.count (g.K.Sink.held c.args.sink.now) (g.K.Sink.held c.summarize.new.sink) (g.D.Disk.seen c.args.disk.now).told
+    (g.D.Disk.seen c.open.new.disk).told (g.D.Disk.seen c.summarize.new.disk).told c.summarize.result (opened.any_moment none stands)
+    (c.summarize.ensures.generates.told (opens.tells ∙ told) (opened.durable none) history (opened.content stands))
+
+pub returns-in-Err-clause-ends : goal.returns-in-Err-clause-ends
+returns-in-Err-clause-ends g c =
+    let old = g.D.Disk.seen c.args.disk.now in
+    let opens = c.in-Err.ensures.opens in
+    rw c.refuse.ensures.status
+    (Ends-unopened StoreState c.in-Err.error old (g.D.Disk.seen c.open.new.disk) (g.K.Sink.held c.args.sink.now) (g.K.Sink.held c.refuse.new.sink)
+    (g.K.Sink.faults c.args.sink.now) (g.K.Sink.faults c.refuse.new.sink) opens.tells opens.counted (λ told. (opens.told told).opens)
+    (λ told refused. (opens.told told).judged (judged-refused old.told.content refused)) c.refuse.ensures.says)
+
+pub returns-in-Err-clause-unfed : goal.returns-in-Err-clause-unfed
+returns-in-Err-clause-unfed g c = rw c.refuse.ensures.status (unfed-unopened c.in-Err.error)
 
 pub returns-in-Err-clause-generates : goal.returns-in-Err-clause-generates
-returns-in-Err-clause-generates g c told none history stands = rw c.refuse.ensures.status
+returns-in-Err-clause-generates g c told none history stands =
+    let opens = c.in-Err.ensures.opens in
+    rw c.refuse.ensures.status
     (Generates-unopened history c.args.seed c.args.count (g.K.Sink.held c.args.sink.now) (g.K.Sink.held c.refuse.new.sink) (g.K.Sink.faults c.args.sink.now)
-    (g.K.Sink.faults c.refuse.new.sink) (g.D.Disk.seen c.args.disk.now).told (g.D.Disk.seen c.open.new.disk).told c.in-Err.error (c.in-Err.ensures.opens told) stands
-    c.refuse.ensures.says (g.met.D.Disk.knows_now c.open.new.disk (c.open.ensures.tells ∙ told)) ((c.in-Err.ensures.history told history).any_moment none stands))
+    (g.K.Sink.faults c.refuse.new.sink) (g.D.Disk.seen c.args.disk.now).told (g.D.Disk.seen c.open.new.disk).told c.in-Err.error (opens.told told).opens stands
+    c.refuse.ensures.says (g.met.D.Disk.knows_now c.open.new.disk (opens.tells ∙ told)) (((opens.told told).history history).any_moment none stands))

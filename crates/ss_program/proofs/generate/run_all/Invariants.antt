@@ -1,6 +1,7 @@
-use Rattle.std.proofs.Common.{◌≡◌, ◌+◌, ◌*◌, ◌≤◌, length}
-use Rattle.std.specs.Bool.{IsTrue}
+use Rattle.std.proofs.Common.{◌+◌, ◌*◌, ◌≤◌, length}
 use Rattle.ss_outside.specs.Disk.{NothingPending}
+use Rattle.ss_outside.specs.Step.{Step}
+use Rattle.ss_outside.specs.Verdict.{fine}
 use Rattle.ss_store.specs.Recover.{Stands}
 use Rattle.ss_program.specs.Answer.{IsOpen}
 use Rattle.ss_program.specs.Line.{History}
@@ -14,11 +15,9 @@ invariant-loop-command g l = record {
   lines : l.tally.lines + length l.generator ≤ 3 * l.fn.count + 7;
   done : l.tally.done ≤ l.tally.lines;
   refused : l.tally.refused ≤ l.tally.lines;
-  is_open : IsOpen (g.D.Disk.seen l.disk).tells (g.D.Disk.seen l.disk).told l.store;
-  tells : (g.D.Disk.seen l.disk).tells ≡ (g.D.Disk.seen l.fn.disk).tells;
-  at : IsTrue (g.D.Disk.seen l.fn.disk).tells → NothingPending (g.D.Disk.seen l.fn.disk).told → (history : History) → Stands history (g.D.Disk.seen l.fn.disk).told.content →
-      IsAt history l.fn.seed l.fn.count l.generator (g.D.Disk.seen l.fn.disk).told (g.D.Disk.seen l.disk).told l.tally;
-  faults : (g.D.Disk.seen l.disk).faults ≡ (g.D.Disk.seen l.fn.disk).faults;
+  is_open : IsOpen (g.D.Disk.seen l.disk) l.store;
+  at : Step fine (g.D.Disk.seen l.fn.disk) (g.D.Disk.seen l.disk) (λ old now. NothingPending old → (history : History) → Stands history old.content →
+      IsAt history l.fn.seed l.fn.count l.generator old now l.tally);
 }
 
 abbrev pub decreases-loop-command : goal.decreases-loop-command

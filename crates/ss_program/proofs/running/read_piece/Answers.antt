@@ -1,18 +1,68 @@
-use Rattle.std.proofs.Common.{◌≤◌, ◌++◌, rules, subst, arith}
+use Rattle.std.proofs.Common.{◌≤◌, ◌++◌, ◌∙◌, Ok, Err, rules, refl, subst, take, arith}
 use Rattle.std.proofs.lemmas.Grind.{common_steps}
 use Rattle.ss_command.specs.Lines.{lines_so_far}
-use Rattle.ss_program.specs.Progress.{StopsIn}
-use Rattle.ss_program.proofs.RunLemmas.{moved}
+use Rattle.ss_outside.proofs.StepLemmas.{step-as, step-none}
+use Rattle.ss_program.specs.Outcome.{ReadsPiece}
+use Rattle.ss_program.specs.Progress.{GoesOn, StopsIn}
+use Rattle.ss_program.specs.declared.status.Status.TheVariants.{SourceFault}
+use Rattle.ss_program.proofs.RunLemmas.{moved, stop-other, unmoved}
 use Rattle.ss_program.proofs.running.read_piece.Goals as goal
 
-pub returns-in-Err-take-clause-stops : goal.returns-in-Err-take-clause-stops
-returns-in-Err-take-clause-stops g c _ told history before input left is at replied =
-    let move = moved (g.S.Source.left c.args.source.now) (g.S.Source.left c.read.new.self) c.in-Ok.count c.read.new.into left c.in-Ok.ensures.moves is in
-    let small : c.in-Ok.count ≤ c.args.room = first_of (search rules, grind (arith, common_steps)) in (
-      c.in-Ok.count,
-      small,
-      move.0,
-      move.2,
-      subst (λ bs. StopsIn history (lines_so_far (input ++ bs)) (g.D.Disk.seen c.args.disk.now).told (g.D.Disk.seen c.take.new.disk).told before (g.K.Sink.held c.take.new.sink) c.in-Err-take.status)
-          move.1 (c.in-Err-take.ensures.stops told history before input at replied),
-    )
+pub returns-in-Err-clause-reads : goal.returns-in-Err-clause-reads
+returns-in-Err-clause-reads g c =
+    let disk = g.D.Disk.seen c.args.disk.now in
+    let held = g.K.Sink.held c.args.sink.now in
+    step-none disk (ReadsPiece c.args.room c.args.session.now c.args.session.now (g.S.Source.left c.args.source.now) (g.S.Source.left c.read.new.self) held held (Err SourceFault))
+    (λ told. record { goes = tt; stops = λ other. absurd (other refl) })
+
+pub returns-in-Err-clause-stopped : goal.returns-in-Err-clause-stopped
+returns-in-Err-clause-stopped g c left is = record {
+  count = 0;
+  few = omega arith;
+  within = omega arith;
+  others = unmoved (g.S.Source.left c.args.source.now) (g.S.Source.left c.read.new.self) c.in-Err.field-0 c.read.new.into left c.in-Err.ensures.moves is;
+}
+
+pub returns-in-Ok-take-clause-reads : goal.returns-in-Ok-take-clause-reads
+returns-in-Ok-take-clause-reads g c =
+    let old = (g.D.Disk.seen c.args.disk.now).told in
+    let new = (g.D.Disk.seen c.take.new.disk).told in
+    let count = c.in-Ok.count in
+    step-as c.in-Ok-take.ensures.takes (λ takes. record {
+      goes = λ bytes is history before input at replied.
+          let move = moved (g.S.Source.left c.args.source.now) (g.S.Source.left c.read.new.self) count c.read.new.into bytes c.in-Ok.ensures.moves is in
+          subst (λ bs. GoesOn history old new c.take.new.self before (g.K.Sink.held c.take.new.sink) (input ++ bs)) move.1
+          (takes.goes history before input at replied);
+      stops = tt;
+    })
+
+pub returns-in-Err-take-clause-reads : goal.returns-in-Err-take-clause-reads
+returns-in-Err-take-clause-reads g c =
+    let old = (g.D.Disk.seen c.args.disk.now).told in
+    let new = (g.D.Disk.seen c.take.new.disk).told in
+    let count = c.in-Ok.count in
+    let status = c.in-Err-take.status in
+    step-as c.in-Err-take.ensures.takes (λ takes. record {
+      goes = tt;
+      stops = λ _ bytes is history before input at replied.
+          let move = moved (g.S.Source.left c.args.source.now) (g.S.Source.left c.read.new.self) count c.read.new.into bytes c.in-Ok.ensures.moves is in
+          let small : count ≤ c.args.room = first_of (search rules, grind (arith, common_steps)) in (
+            count,
+            small,
+            move.0,
+            move.2,
+            subst (λ bs. StopsIn history (lines_so_far (input ++ bs)) old new before (g.K.Sink.held c.take.new.sink) status)
+                move.1 (takes.stops history before input at replied),
+          );
+    })
+
+pub returns-in-Err-take-clause-stopped : goal.returns-in-Err-take-clause-stopped
+returns-in-Err-take-clause-stopped g c left is =
+    let count = c.in-Ok.count in
+    let move = moved (g.S.Source.left c.args.source.now) (g.S.Source.left c.read.new.self) count c.read.new.into left c.in-Ok.ensures.moves is in
+    let small : count ≤ c.args.room = first_of (search rules, grind (arith, common_steps)) in
+    record { count = count; few = small; within = move.0; others = move.2 }
+
+pub returns-in-Err-take-clause-fault : goal.returns-in-Err-take-clause-fault
+returns-in-Err-take-clause-fault g c is =
+    absurd ((stop-other (g.D.Disk.seen c.args.disk.now).tells c.in-Err-take.status c.in-Err-take.ensures.status).2 is)

@@ -1,105 +1,149 @@
-use Rattle.std.proofs.Common.{◌-◌, take, drop, Err, refl, sym, ap, ◌∙◌, subst, arith, inl, inr}
+use Rattle.std.proofs.Common.{◌≡◌, ◌-◌, ◌+◌, List, ℕ, Some, take, drop, Err, refl, sym, ap, ◌∙◌, subst, arith, inl, inr}
 use Rattle.ss_command.specs.Lines.{ended_lines}
+use Rattle.ss_outside.proofs.StepLemmas.{step-as, step-none, step-then}
+use Rattle.ss_outside.specs.Disk.{NothingPending, Told}
+use Rattle.ss_outside.specs.Verdict.{Counted}
+use Rattle.ss_store.specs.Recover.{Stands}
+use Rattle.ss_program.specs.Line.{History}
 use Rattle.ss_program.specs.Outcome.{Serves}
-use Rattle.ss_program.specs.Status.{number_of}
+use Rattle.ss_program.specs.Status.{sink_verdict}
+use Rattle.ss_program.specs.declared.running.TheConstants.{LONGEST_INPUT}
+use Rattle.ss_program.specs.declared.status.Status.TheVariants.{InputLimit, SourceFault}
 use Rattle.ss_program.proofs.SendLemmas.{appended-nil}
-use Rattle.ss_program.proofs.RunLemmas.{HasStopped-piece, IsLeft-more, IsThrough-end, IsThrough-more, IsThrough-start, Reads-end, Reads-limit, Serves-finish, Serves-part, Serves-stop, left-none, length_of-none}
+use Rattle.ss_program.proofs.StepLemmas.{step-told}
+use Rattle.ss_program.proofs.RunLemmas.{HasStopped-piece, end-other, IsLeft-more, IsThrough, IsThrough-end, IsThrough-more, IsThrough-start, Moved-at, Moved-piece, Reads-end, Reads-limit, Reads-stop, Serves-finish, Serves-part, Serves-stop, left-none, length_of-none, stop-other}
 use Rattle.ss_program.proofs.running.serve.Goals as goal
 
 pub loop-done-init : goal.loop-done-init
 unfolding ended_lines
-loop-done-init g c = record {
-  fits = omega arith;
-  is_open = c.requires.open;
-  tells = refl;
-  left = λ input is. record { within = omega arith; source = is };
-  through = λ told none history stands input is.
-      IsThrough-start history (g.D.Disk.seen c.args.disk.now).told c.args.session.now (g.K.Sink.held c.args.sink.now) (g.S.Source.left c.args.source.now) input
-      (g.met.D.Disk.knows_now c.args.disk.now told) (record { stands = stands; durable = none; line = c.requires.front })
-      (sym (appended-nil (g.K.Sink.held c.args.sink.now))) is;
-  disk_faults = refl;
-  source_faults = refl;
-  sink_faults = refl;
-}
+loop-done-init g c =
+    let disk = g.D.Disk.seen c.args.disk.now in
+    let before = g.K.Sink.held c.args.sink.now in
+    let left = g.S.Source.left c.args.source.now in
+    record {
+      fits = omega arith;
+      is_open = c.requires.open;
+      left = λ input is. record { within = omega arith; source = is };
+      through = step-none disk (λ old now. (input : List ℕ) → left ≡ Some input → NothingPending old → (history : History) → Stands history old.content →
+          IsThrough history old now c.args.session.now before before left input 0)
+          (λ told input is none history stands.
+          IsThrough-start history disk.told c.args.session.now before left input (g.met.D.Disk.knows_now c.args.disk.now told)
+          (record { stands = stands; durable = none; line = c.requires.front }) (sym (appended-nil before)) is);
+      source = refl;
+      sink = refl;
+    }
 
 pub loop-done-preserved : goal.loop-done-preserved
-loop-done-preserved g c = record {
-  fits = omega (arith, c.in-Ok.ensures.count, c.loop-done.invariant.fits);
-  is_open = c.in-Ok.ensures.open;
-  tells = c.read_piece.ensures.tells ∙ c.loop-done.invariant.tells;
-  left = λ input is.
-      let old = c.loop-done.invariant.left input is in
-      let moves = c.in-Ok.ensures.moves (drop c.loop-done.done input) old.source in
-      IsLeft-more (g.S.Source.left c.read_piece.new.source) input c.loop-done.done c.in-Ok.count old.within moves.0 moves.2;
-  through = λ told none history stands input is.
-      let old = c.loop-done.invariant.through told none history stands input is in
-      let new = c.in-Ok.ensures.ok (c.loop-done.invariant.tells ∙ told) history (g.K.Sink.held c.args.sink.now) (take c.loop-done.done input) (drop c.loop-done.done input)
-      old.source old.on.at old.on.replied in
-      IsThrough-more history (g.D.Disk.seen c.args.disk.now).told (g.D.Disk.seen c.loop-done.disk).told (g.D.Disk.seen c.read_piece.new.disk).told c.loop-done.session c.read_piece.new.session
-      (g.K.Sink.held c.args.sink.now) (g.K.Sink.held c.loop-done.sink) (g.K.Sink.held c.read_piece.new.sink) (g.S.Source.left c.loop-done.source)
-      (g.S.Source.left c.read_piece.new.source) input c.loop-done.done c.in-Ok.count old new.0 new.1 new.2;
-  disk_faults = c.in-Ok.ensures.disk_cause ∙ c.loop-done.invariant.disk_faults;
-  source_faults = c.in-Ok.ensures.source_cause ∙ c.loop-done.invariant.source_faults;
-  sink_faults = c.in-Ok.ensures.sink_cause ∙ c.loop-done.invariant.sink_faults;
-}
+loop-done-preserved g c =
+    let old = (g.D.Disk.seen c.args.disk.now).told in
+    let mid = (g.D.Disk.seen c.loop-done.disk).told in
+    let new = (g.D.Disk.seen c.read_piece.new.disk).told in
+    let inv = c.loop-done.invariant in
+    let done = c.loop-done.done in
+    let after_left = g.S.Source.left c.read_piece.new.source in
+    record {
+      fits = omega (arith, c.in-Ok.ensures.count, inv.fits);
+      is_open = c.in-Ok.ensures.open;
+      left = λ input is.
+          let at = inv.left input is in
+          let moves = c.in-Ok.ensures.moves (drop done input) at.source in
+          IsLeft-more after_left input done c.in-Ok.count at.within moves.0 moves.2;
+      through = step-then inv.through c.in-Ok.ensures.reads (λ first second input is none history stands.
+          let one = first input is none history stands in
+          let rest = drop done input in
+          let moves = c.in-Ok.ensures.moves rest one.source in
+          IsThrough-more history old mid new c.loop-done.session c.read_piece.new.session (g.K.Sink.held c.args.sink.now) (g.K.Sink.held c.loop-done.sink)
+          (g.K.Sink.held c.read_piece.new.sink) (g.S.Source.left c.loop-done.source) after_left input done c.in-Ok.count one moves.0 moves.2
+          (second.goes rest one.source history (g.K.Sink.held c.args.sink.now) (take done input) one.on.at one.on.replied));
+      source = c.in-Ok.ensures.source ∙ inv.source;
+      sink = c.in-Ok.ensures.sink ∙ inv.sink;
+    }
 
 -- the piece of no bytes is the end
 pub returns-in-Ok-eq0-clause-reads : goal.returns-in-Ok-eq0-clause-reads
 returns-in-Ok-eq0-clause-reads g c input is =
-    let old = c.loop-done.invariant.left input is in
+    let at = c.loop-done.invariant.left input is in
     let rest = drop c.loop-done.done input in
-    let moves = c.in-Ok-eq0.ensures.moves rest old.source in
+    let left = g.S.Source.left c.read_piece.new.source in
+    let moves = c.in-Ok-eq0.ensures.moves rest at.source in
     let none = moves.1 c.in-Ok-eq0.field-0-test in
-    Reads-end (g.D.Disk.seen c.read_piece.new.disk).tells input (g.S.Source.left c.read_piece.new.source) c.finish.result
-    (omega (arith, length_of-none input c.loop-done.done none, c.loop-done.invariant.fits))
-    (left-none (g.S.Source.left c.read_piece.new.source) rest c.in-Ok-eq0.field-0 none moves.2) c.finish.ensures.status
+    Reads-end (g.D.Disk.seen c.read_piece.new.disk).tells input left c.finish.result (omega (arith, length_of-none input c.loop-done.done none, c.loop-done.invariant.fits))
+    (left-none left rest c.in-Ok-eq0.field-0 none moves.2) c.finish.ensures.status
 
 pub returns-in-Ok-eq0-clause-serves : goal.returns-in-Ok-eq0-clause-serves
-returns-in-Ok-eq0-clause-serves g c told none history stands input is =
+returns-in-Ok-eq0-clause-serves g c =
+    let old = (g.D.Disk.seen c.args.disk.now).told in
+    let mid = (g.D.Disk.seen c.loop-done.disk).told in
+    let then = g.D.Disk.seen c.read_piece.new.disk in
     let before = g.K.Sink.held c.args.sink.now in
     let n = c.loop-done.done in
     let k = c.in-Ok-eq0.field-0 in
-    let rest = drop n input in
     let left = g.S.Source.left c.read_piece.new.source in
-    let old = c.loop-done.invariant.through told none history stands input is in
-    let told_then = c.loop-done.invariant.tells ∙ told in
-    let told_now = c.read_piece.ensures.tells ∙ told_then in
-    let new = c.in-Ok-eq0.ensures.ok told_then history before (take n input) rest old.source old.on.at old.on.replied in
-    let moves = c.in-Ok-eq0.ensures.moves rest old.source in
+    let inv = c.loop-done.invariant in
+    let read = step-then {S = λ a b. (input : List ℕ) → g.S.Source.left c.args.source.now ≡ Some input → NothingPending a → (history : History) → Stands history a.content →
+        IsThrough history a b c.read_piece.new.session before (g.K.Sink.held c.read_piece.new.sink) left input (n + k)}
+    inv.through c.in-Ok-eq0.ensures.reads (λ first second input is none history stands.
+    let one = first input is none history stands in
+    let rest = drop n input in
+    let moves = c.in-Ok-eq0.ensures.moves rest one.source in
+    IsThrough-more history old mid then.told c.loop-done.session c.read_piece.new.session before (g.K.Sink.held c.loop-done.sink)
+    (g.K.Sink.held c.read_piece.new.sink) (g.S.Source.left c.loop-done.source) left input n k one moves.0 moves.2
+    (second.goes rest one.source history before (take n input) one.on.at one.on.replied)) in
+    step-told read c.finish.ensures.ends (λ tells through ends input is none history stands.
+    let at = inv.left input is in
+    let rest = drop n input in
+    let moves = c.in-Ok-eq0.ensures.moves rest at.source in
     let empty = moves.1 c.in-Ok-eq0.field-0-test in
     let all = length_of-none input n empty in
-    let through = IsThrough-more history (g.D.Disk.seen c.args.disk.now).told (g.D.Disk.seen c.loop-done.disk).told (g.D.Disk.seen c.read_piece.new.disk).told c.loop-done.session
-    c.read_piece.new.session before (g.K.Sink.held c.loop-done.sink) (g.K.Sink.held c.read_piece.new.sink) (g.S.Source.left c.loop-done.source) left input n k old new.0 new.1 new.2 in
-    let end = IsThrough-end left through (omega (arith, all)) (omega (arith, all, c.loop-done.invariant.fits)) (left-none left rest k empty moves.2) in
-    Serves-finish (g.D.Disk.seen c.finish.new.disk).told (g.K.Sink.held c.finish.new.sink) (g.D.Disk.seen c.read_piece.new.disk).tells c.finish.result told_now end c.finish.ensures.status
-    (λ is_done. c.finish.ensures.done is_done told_now history before input end.on.at end.on.replied)
-    (λ stop. c.finish.ensures.stops stop told_now history before input end.on.at end.on.replied)
+    let end = IsThrough-end left (through input is none history stands) (omega (arith, all)) (omega (arith, all, inv.fits)) (left-none left rest k empty moves.2) in
+    Serves-finish (g.D.Disk.seen c.finish.new.disk).told (g.K.Sink.held c.finish.new.sink) then.tells c.finish.result tells end c.finish.ensures.status
+    (λ is_done. ends.done is_done history before input end.on.at end.on.replied) (λ stop. ends.stops (stop-other then.tells c.finish.result stop).0 history before input end.on.at end.on.replied))
+
+pub returns-in-Err-clause-reads : goal.returns-in-Err-clause-reads
+returns-in-Err-clause-reads g c input is =
+    let at = c.loop-done.invariant.left input is in
+    let n = c.loop-done.done in
+    let left = g.S.Source.left c.read_piece.new.source in
+    let other = end-other (g.D.Disk.seen c.loop-done.disk).tells c.in-Err.status c.in-Err.ensures.status in
+    Reads-stop input left c.in-Err.status other.0 other.1
+    (Moved-piece input left n (68719476736 - n) at.within (omega (arith, c.loop-done.invariant.fits)) (c.in-Err.ensures.stopped (drop n input) at.source))
 
 pub returns-in-Err-clause-serves : goal.returns-in-Err-clause-serves
-returns-in-Err-clause-serves g c told none history stands input is =
+returns-in-Err-clause-serves g c =
     let before = g.K.Sink.held c.args.sink.now in
     let n = c.loop-done.done in
     let start = (g.D.Disk.seen c.args.disk.now).told in
+    let mid = g.D.Disk.seen c.loop-done.disk in
+    let new = (g.D.Disk.seen c.read_piece.new.disk).told in
     let left = g.S.Source.left c.read_piece.new.source in
-    let old = c.loop-done.invariant.through told none history stands input is in
-    let told_then = c.loop-done.invariant.tells ∙ told in
-    let number = number_of c.in-Err.status in
+    let after = g.K.Sink.held c.read_piece.new.sink in
+    let status = c.in-Err.status in
+    let inv = c.loop-done.invariant in
+    step-told inv.through c.in-Err.ensures.reads (λ tells first second input is none history stands.
+    let old = first input is none history stands in
     elim c.in-Err.ensures.status [
-      | inl fault ↦ (let same = c.in-Err.ensures.fault (ap (λ s. Err s) fault) in
-          subst (λ o. Serves history input left before o start (g.D.Disk.seen c.read_piece.new.disk).told number) (sym same.2)
-          (subst (λ d. Serves history input left before (g.K.Sink.held c.loop-done.sink) start (g.D.Disk.seen d).told number) (sym same.3)
-          (Serves-part number left old c.loop-done.invariant.fits (inl (ap (λ s. number_of s) fault, same.0)))))
-      | inr stop ↦ Serves-stop history input left before (g.K.Sink.held c.read_piece.new.sink) start (g.D.Disk.seen c.read_piece.new.disk).told (g.D.Disk.seen c.loop-done.disk).tells
-          c.in-Err.status told_then stop
-          (HasStopped-piece history start (g.D.Disk.seen c.loop-done.disk).told (g.D.Disk.seen c.read_piece.new.disk).told c.loop-done.session input (g.S.Source.left c.loop-done.source) left
-          before (g.K.Sink.held c.loop-done.sink) (g.K.Sink.held c.read_piece.new.sink) c.in-Err.status n (68719476736 - n) old (omega (arith, c.loop-done.invariant.fits))
-          (c.in-Err.ensures.stops stop told_then history before (take n input) (drop n input) old.source old.on.at old.on.replied))
-    ]
+      | inl fault ↦ (let same = c.in-Err.ensures.fault fault in
+          subst (λ o. Serves history input left before o start new status) (sym same.2)
+          (subst (λ d. Serves history input left before (g.K.Sink.held c.loop-done.sink) start (g.D.Disk.seen d).told status) (sym same.3)
+          (Serves-part status left old inv.fits (inl (fault, same.0)))))
+      | inr stop ↦ Serves-stop history input left before after start new mid.tells status tells stop
+          (HasStopped-piece history start mid.told new c.loop-done.session input (g.S.Source.left c.loop-done.source) left
+          before (g.K.Sink.held c.loop-done.sink) after status n (68719476736 - n) old (omega (arith, inv.fits))
+          (second.stops (stop-other mid.tells status stop).2 (drop n input) old.source history before (take n input) old.on.at old.on.replied))
+    ])
+
+pub returns-in-Err-is_at_end-clause-reads : goal.returns-in-Err-is_at_end-clause-reads
+returns-in-Err-is_at_end-clause-reads g c input is =
+    let at = c.loop-done.invariant.left input is in
+    Reads-stop input (g.S.Source.left c.is_at_end.new.source) SourceFault (λ w. cc) (λ w. cc)
+    (Moved-at input (g.S.Source.left c.is_at_end.new.source) c.loop-done.done (record { within = at.within; source = c.in-Err-is_at_end.ensures.err ∙ at.source })
+    c.loop-done.invariant.fits)
 
 pub returns-in-Err-is_at_end-clause-serves : goal.returns-in-Err-is_at_end-clause-serves
-returns-in-Err-is_at_end-clause-serves g c told none history stands input is =
-    Serves-part 5 (g.S.Source.left c.is_at_end.new.source) (c.loop-done.invariant.through told none history stands input is) c.loop-done.invariant.fits
-    (inl (refl, c.in-Err-is_at_end.ensures.err))
+returns-in-Err-is_at_end-clause-serves g c =
+    step-as c.loop-done.invariant.through (λ through input is none history stands.
+    Serves-part SourceFault (g.S.Source.left c.is_at_end.new.source) (through input is none history stands) c.loop-done.invariant.fits
+    (inl (refl, c.in-Err-is_at_end.ensures.err)))
 
 -- the input ends at the limit
 pub returns-in-Ok-true-clause-reads : goal.returns-in-Ok-true-clause-reads
@@ -109,16 +153,16 @@ returns-in-Ok-true-clause-reads g c input is =
     (omega (arith, length_of-none input c.loop-done.done ends.0, c.loop-done.invariant.fits)) ends.1 c.finish-in-Ok-true.ensures.status
 
 pub returns-in-Ok-true-clause-serves : goal.returns-in-Ok-true-clause-serves
-returns-in-Ok-true-clause-serves g c told none history stands input is =
+returns-in-Ok-true-clause-serves g c =
     let before = g.K.Sink.held c.args.sink.now in
-    let old = c.loop-done.invariant.through told none history stands input is in
-    let told_then = c.loop-done.invariant.tells ∙ told in
-    let ends = c.in-Ok-true.ensures.ends (drop c.loop-done.done input) old.source c.in-Ok-true.field-0-test in
+    step-told c.loop-done.invariant.through c.finish-in-Ok-true.ensures.ends (λ tells through finished input is none history stands.
+    let one = through input is none history stands in
+    let ends = c.in-Ok-true.ensures.ends (drop c.loop-done.done input) one.source c.in-Ok-true.field-0-test in
     let all = length_of-none input c.loop-done.done ends.0 in
-    let end = IsThrough-end (g.S.Source.left c.is_at_end.new.source) old all (omega (arith, all, c.loop-done.invariant.fits)) ends.1 in
-    Serves-finish (g.D.Disk.seen c.finish-in-Ok-true.new.disk).told (g.K.Sink.held c.finish-in-Ok-true.new.sink) (g.D.Disk.seen c.loop-done.disk).tells c.finish-in-Ok-true.result told_then end
-    c.finish-in-Ok-true.ensures.status (λ is_done. c.finish-in-Ok-true.ensures.done is_done told_then history before input end.on.at end.on.replied)
-    (λ stop. c.finish-in-Ok-true.ensures.stops stop told_then history before input end.on.at end.on.replied)
+    let end = IsThrough-end (g.S.Source.left c.is_at_end.new.source) one all (omega (arith, all, c.loop-done.invariant.fits)) ends.1 in
+    Serves-finish (g.D.Disk.seen c.finish-in-Ok-true.new.disk).told (g.K.Sink.held c.finish-in-Ok-true.new.sink) (g.D.Disk.seen c.loop-done.disk).tells
+    c.finish-in-Ok-true.result tells end c.finish-in-Ok-true.ensures.status (λ is_done. finished.done is_done history before input end.on.at end.on.replied)
+    (λ stop. finished.stops (stop-other (g.D.Disk.seen c.loop-done.disk).tells c.finish-in-Ok-true.result stop).0 history before input end.on.at end.on.replied))
 
 pub returns-in-Ok-false-clause-reads : goal.returns-in-Ok-false-clause-reads
 returns-in-Ok-false-clause-reads g c input is =
@@ -126,6 +170,7 @@ returns-in-Ok-false-clause-reads g c input is =
     Reads-limit input (g.S.Source.left c.is_at_end.new.source) c.loop-done.done (omega (arith, c.loop-done.invariant.fits, c.loop-done-test.false)) more.0 more.1
 
 pub returns-in-Ok-false-clause-serves : goal.returns-in-Ok-false-clause-serves
-returns-in-Ok-false-clause-serves g c told none history stands input is =
-    Serves-part 8 (g.S.Source.left c.is_at_end.new.source) (c.loop-done.invariant.through told none history stands input is) c.loop-done.invariant.fits
-    (inr (refl, omega (arith, c.loop-done.invariant.fits, c.loop-done-test.false)))
+returns-in-Ok-false-clause-serves g c =
+    step-as c.loop-done.invariant.through (λ through input is none history stands.
+    Serves-part InputLimit (g.S.Source.left c.is_at_end.new.source) (through input is none history stands) c.loop-done.invariant.fits
+    (inr (refl, omega (arith, c.loop-done.invariant.fits, c.loop-done-test.false))))

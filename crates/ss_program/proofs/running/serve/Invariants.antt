@@ -1,6 +1,7 @@
 use Rattle.std.proofs.Common.{◌≡◌, ◌-◌, ◌≤◌, List, ℕ, Some}
-use Rattle.std.specs.Bool.{IsTrue}
 use Rattle.ss_outside.specs.Disk.{NothingPending}
+use Rattle.ss_outside.specs.Step.{Step}
+use Rattle.ss_outside.specs.Verdict.{fine}
 use Rattle.ss_store.specs.Recover.{Stands}
 use Rattle.ss_program.specs.Answer.{IsOpen}
 use Rattle.ss_program.specs.Line.{History}
@@ -12,15 +13,13 @@ use Rattle.ss_program.proofs.running.serve.Given as goal
 abbrev pub invariant-loop-done : goal.invariant-loop-done
 invariant-loop-done g l = record {
   fits : l.done ≤ LONGEST_INPUT;
-  is_open : IsOpen (g.D.Disk.seen l.disk).tells (g.D.Disk.seen l.disk).told l.session.store;
-  tells : (g.D.Disk.seen l.disk).tells ≡ (g.D.Disk.seen l.fn.disk).tells;
+  is_open : IsOpen (g.D.Disk.seen l.disk) l.session.store;
   left : (input : List ℕ) → g.S.Source.left l.fn.source ≡ Some input → IsLeft (g.S.Source.left l.source) input l.done;
-  through : IsTrue (g.D.Disk.seen l.fn.disk).tells → NothingPending (g.D.Disk.seen l.fn.disk).told → (history : History) →
-      Stands history (g.D.Disk.seen l.fn.disk).told.content → (input : List ℕ) → g.S.Source.left l.fn.source ≡ Some input →
-      IsThrough history (g.D.Disk.seen l.fn.disk).told (g.D.Disk.seen l.disk).told l.session (g.K.Sink.held l.fn.sink) (g.K.Sink.held l.sink) (g.S.Source.left l.source) input l.done;
-  disk_faults : (g.D.Disk.seen l.disk).faults ≡ (g.D.Disk.seen l.fn.disk).faults;
-  source_faults : g.S.Source.faults l.source ≡ g.S.Source.faults l.fn.source;
-  sink_faults : g.K.Sink.faults l.sink ≡ g.K.Sink.faults l.fn.sink;
+  through : Step fine (g.D.Disk.seen l.fn.disk) (g.D.Disk.seen l.disk) (λ old now. (input : List ℕ) → g.S.Source.left l.fn.source ≡ Some input →
+      NothingPending old → (history : History) → Stands history old.content →
+      IsThrough history old now l.session (g.K.Sink.held l.fn.sink) (g.K.Sink.held l.sink) (g.S.Source.left l.source) input l.done);
+  source : g.S.Source.faults l.source ≡ g.S.Source.faults l.fn.source;
+  sink : g.K.Sink.faults l.sink ≡ g.K.Sink.faults l.fn.sink;
 }
 
 abbrev pub decreases-loop-done : goal.decreases-loop-done

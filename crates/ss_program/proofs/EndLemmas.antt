@@ -1,0 +1,216 @@
+-- How a run ends.
+use Rattle.std.proofs.Common.{◌≡◌, ◌⊎◌, inl, inr, ℕ, List, Option, Some, None, Ok, Err, Result, Bool, IsSome, cond, nat_eq, refl, sym, ap, ◌∙◌, subst}
+use Rattle.std.specs.Prelude.{IsTrue}
+use Rattle.ss_arguments.specs.Modes.{mode_of}
+use Rattle.ss_arguments.specs.declared.mode.Mode.{Mode}
+use Rattle.ss_arguments.specs.declared.mode.Mode.TheVariants.{Run, Check, Gen}
+use Rattle.ss_arguments.proofs.ModeLemmas.{mode_of-gen}
+use Rattle.ss_model.specs.State.{Stream}
+use Rattle.ss_outside.proofs.StepLemmas.{step-then}
+use Rattle.ss_outside.specs.Crash.{OnlyReads}
+use Rattle.ss_outside.specs.Disk.{DiskView, Told}
+use Rattle.ss_outside.specs.Step.{Step}
+use Rattle.ss_outside.specs.Verdict.{Counted, Rose, fine}
+use Rattle.ss_store.specs.Causes.{OpensAs}
+use Rattle.ss_store.specs.Errors.{verdict_of_opening}
+use Rattle.ss_store.specs.Recover.{Recovered, Recovers, recover, no_store, damaged_entry, damaged_slot, damaged_stream, recovers}
+use Rattle.ss_store.specs.Surveyed.{SurveysAs}
+use Rattle.ss_store.specs.declared.error.OpenError.{OpenError}
+use Rattle.ss_store.specs.declared.error.OpenError.TheVariants as opening
+use Rattle.ss_program.specs.Devices.{Devices, over}
+use Rattle.ss_program.specs.Ending.{Completes, Ends, HasNumbers, IsRefusedContent, IsUnfed, Refuses}
+use Rattle.ss_program.specs.Refused.{AsRefused, damage_line, refusal_line, status_of_open}
+use Rattle.ss_program.specs.Sent.{SaysLine}
+use Rattle.ss_program.specs.Status.{EndsAs, EndsServing, IsStop, disk_verdict, exit_number, sink_verdict, source_verdict}
+use Rattle.ss_program.specs.declared.status.Status.{Status}
+use Rattle.ss_program.specs.declared.status.Status.TheVariants.{Done, Usage, RefusedStore, DiskFault, SourceFault, SinkFault, OutOfMemory, InputLimit, RecordChanged}
+
+-- a content that is refused recovers to nothing, and one that recovers isn't refused
+unrefused : (found : Recovered) (streams : List Stream) → found ≡ recovers streams → IsSome (refusal_line found) → ⊥
+unrefused found streams is some = let none = subst (λ f. IsSome (refusal_line f)) is some in cc
+
+pub not-refused : (content : List ℕ) (streams : List Stream) → Recovers streams content → IsRefusedContent content → ⊥
+not-refused content streams is some = unrefused (recover content) streams is some
+
+pub judged-refused : (content : List ℕ) → IsRefusedContent content → (streams : List Stream) → Recovers streams content → ⊥
+judged-refused content some streams is = not-refused content streams is some
+
+-- Opening, or surveying, answered an error, of which nothing or a line was said.
+open-refuses : (error : OpenError) (old new : Told) (before after : Option (List ℕ)) (had has : ℕ) → OpensAs old.content (Err error) → OnlyReads old new →
+    AsRefused error before after had has → Refuses before after (status_of_open error) old new
+open-refuses opening.Disk old new before after had has opens reads said = record { how = inr (inl refl); unwritten = reads; silent = λ _. said.0 }
+open-refuses opening.OutOfMemory old new before after had has opens reads said = record { how = inr (inr refl); unwritten = reads; silent = λ _. said.0 }
+open-refuses opening.NotAStore old new before after had has opens reads said = record { how = inl refl; unwritten = reads; silent = λ other. absurd (other refl) }
+open-refuses (opening.BadEntry n) old new before after had has opens reads said = record { how = inl refl; unwritten = reads; silent = λ other. absurd (other refl) }
+open-refuses (opening.BadSlot n) old new before after had has opens reads said = record { how = inl refl; unwritten = reads; silent = λ other. absurd (other refl) }
+open-refuses (opening.BadStream id) old new before after had has opens reads said = record { how = inl refl; unwritten = reads; silent = λ other. absurd (other refl) }
+open-refuses (opening.Changed slot) old new before after had has opens reads said = absurd opens
+
+Ends-refused : (error : OpenError) (line : List ℕ) (old new : DiskView) (before after : Option (List ℕ)) (had has : ℕ) → new.tells ≡ old.tells →
+    new.faults ≡ old.faults → (IsTrue old.tells → OpensAs old.told.content (Err error)) →
+    (IsTrue old.tells → IsRefusedContent old.told.content → OnlyReads old.told new.told) → AsRefused error before after had has →
+    (IsTrue old.tells → refusal_line (recover old.told.content) ≡ Some line) → SaysLine line before after had has → status_of_open error ≡ RefusedStore →
+    Ends (over old before had) (over new after has) RefusedStore
+Ends-refused error line old new before after had has tells counted opens reads said is_line says status =
+    let refused = λ (told : IsTrue old.tells). subst (λ o. IsSome o) (sym (is_line told)) refl in
+    record {
+      known = λ w. cc;
+      disk = record { tells = tells; counted = counted; told = λ told some.
+          subst (λ s. Refuses before after s old.told new.told) status
+          (open-refuses error old.told new.told before after had has (opens told) (reads told some) said) };
+      sink = λ other. absurd (other refl);
+      refused = λ _ told. record { line = line; is_line = is_line told; said = says; unwritten = reads told (refused told) };
+      firm = λ w. cc;
+    }
+
+-- The store wasn't opened: nothing but the line of a refusal is said.
+pub Ends-unopened : (T : Type 0) (error : OpenError) (old new : DiskView) (before after : Option (List ℕ)) (had has : ℕ) → new.tells ≡ old.tells →
+    Counted (verdict_of_opening {T = T} (Err error)) old.faults new.faults → (IsTrue old.tells → OpensAs old.told.content (Err error)) →
+    (IsTrue old.tells → IsRefusedContent old.told.content → OnlyReads old.told new.told) → AsRefused error before after had has →
+    Ends (over old before had) (over new after has) (status_of_open error)
+Ends-unopened T opening.Disk old new before after had has tells counted opens reads said = record {
+  known = λ w. cc;
+  disk = record { tells = tells; counted = counted; told = λ told refused.
+      open-refuses opening.Disk old.told new.told before after had has (opens told) (reads told refused) said };
+  sink = λ _. said.1;
+  refused = λ w. cc;
+  firm = λ w. cc;
+}
+Ends-unopened T opening.OutOfMemory old new before after had has tells counted opens reads said = record {
+  known = λ w. cc;
+  disk = record { tells = tells; counted = counted; told = λ told refused.
+      open-refuses opening.OutOfMemory old.told new.told before after had has (opens told) (reads told refused) said };
+  sink = λ _. said.1;
+  refused = λ w. cc;
+  firm = λ w. cc;
+}
+Ends-unopened T (opening.Changed slot) old new before after had has tells counted opens reads said = record {
+  known = λ w. cc;
+  disk = record { tells = tells; counted = counted; told = λ told. absurd (opens told) };
+  sink = λ _. said.1;
+  refused = λ w. cc;
+  firm = λ _ told. opens told;
+}
+Ends-unopened T opening.NotAStore old new before after had has tells counted opens reads said =
+    Ends-refused opening.NotAStore _ old new before after had has tells counted opens reads said (λ told. ap (λ f. refusal_line f) (opens told)) said refl
+Ends-unopened T (opening.BadEntry n) old new before after had has tells counted opens reads said =
+    Ends-refused (opening.BadEntry n) _ old new before after had has tells counted opens reads said (λ told. ap (λ f. refusal_line f) (opens told)) said refl
+Ends-unopened T (opening.BadSlot n) old new before after had has tells counted opens reads said =
+    Ends-refused (opening.BadSlot n) _ old new before after had has tells counted opens reads said (λ told. ap (λ f. refusal_line f) (opens told)) said refl
+Ends-unopened T (opening.BadStream id) old new before after had has tells counted opens reads said =
+    Ends-refused (opening.BadStream id) _ old new before after had has tells counted opens reads said (λ told. ap (λ f. refusal_line f) (opens told)) said refl
+
+-- how a run ends whose store was opened
+serving-other : (tells : Bool) (status : Status) → EndsServing tells status →
+    (status ≡ Usage → ⊥) × (status ≡ RefusedStore → ⊥) × (status ≡ RecordChanged → IsTrue tells → ⊥)
+serving-other tells Done ends = (λ w. cc, λ w. cc, λ w. cc)
+serving-other tells SourceFault ends = (λ w. cc, λ w. cc, λ w. cc)
+serving-other tells InputLimit ends = (λ w. cc, λ w. cc, λ w. cc)
+serving-other tells DiskFault ends = (λ w. cc, λ w. cc, λ w. cc)
+serving-other tells SinkFault ends = (λ w. cc, λ w. cc, λ w. cc)
+serving-other tells OutOfMemory ends = (λ w. cc, λ w. cc, λ w. cc)
+serving-other tells RecordChanged ends = (λ w. cc, λ w. cc, λ _. ends)
+serving-other tells Usage ends = absurd ends
+serving-other tells RefusedStore ends = absurd ends
+
+pub serving-stop : (tells : Bool) (status : Status) → (status ≡ Done) ⊎ IsStop tells status → EndsServing tells status
+serving-stop tells status (inl is) = subst (EndsServing tells) (sym is) tt
+serving-stop tells DiskFault (inr stop) = tt
+serving-stop tells SinkFault (inr stop) = tt
+serving-stop tells OutOfMemory (inr stop) = tt
+serving-stop tells RecordChanged (inr stop) = stop
+serving-stop tells Done (inr stop) = absurd stop
+serving-stop tells Usage (inr stop) = absurd stop
+serving-stop tells RefusedStore (inr stop) = absurd stop
+serving-stop tells SourceFault (inr stop) = absurd stop
+serving-stop tells InputLimit (inr stop) = absurd stop
+
+pub unfed-stop : (tells : Bool) (status : Status) → (status ≡ Done) ⊎ IsStop tells status → IsUnfed status
+unfed-stop tells status (inl is) = subst IsUnfed (sym is) tt
+unfed-stop tells DiskFault (inr stop) = tt
+unfed-stop tells SinkFault (inr stop) = tt
+unfed-stop tells OutOfMemory (inr stop) = tt
+unfed-stop tells RecordChanged (inr stop) = tt
+unfed-stop tells Done (inr stop) = absurd stop
+unfed-stop tells Usage (inr stop) = absurd stop
+unfed-stop tells RefusedStore (inr stop) = absurd stop
+unfed-stop tells SourceFault (inr stop) = absurd stop
+unfed-stop tells InputLimit (inr stop) = absurd stop
+
+pub Ends-opened : {R Q : Told → Told → Type 0} (old mid new : DiskView) (before after : Option (List ℕ)) (had has : ℕ) (status : Status) →
+    Step fine old mid R → (R old.told mid.told → (streams : List Stream) × Recovers streams old.told.content) → Step (disk_verdict status) mid new Q →
+    EndsServing old.tells status → Counted (sink_verdict status) had has → Ends (over old before had) (over new after has) status
+Ends-opened old mid new before after had has status first found second ends counted =
+    let other = serving-other old.tells status ends in
+    record {
+      known = other.0;
+      disk = step-then first second (λ opened served refused. let some = found opened in absurd (not-refused old.told.content some.0 some.1 refused));
+      sink = λ _. counted;
+      refused = λ is. absurd (other.1 is);
+      firm = other.2;
+    }
+
+-- how a run that no device failed ends
+pub Completes-calm : (old new : Devices) (status : Status) (s t : ℕ) → Ends old new status → Counted (source_verdict status) s t → IsTrue old.disk.tells →
+    (IsRefusedContent old.disk.told.content → ⊥) → (status ≡ InputLimit → ⊥) → (Rose old.disk.faults new.disk.faults → ⊥) → (Rose s t → ⊥) →
+    (Rose old.faults new.faults → ⊥) → Completes status
+Completes-calm old new Done s t ends source told fits limit calm_disk calm_source calm_sink = tt
+Completes-calm old new OutOfMemory s t ends source told fits limit calm_disk calm_source calm_sink = tt
+Completes-calm old new Usage s t ends source told fits limit calm_disk calm_source calm_sink = absurd (ends.known refl)
+Completes-calm old new RefusedStore s t ends source told fits limit calm_disk calm_source calm_sink =
+    absurd (fits (subst (λ o. IsSome o) (sym (ends.refused refl told).is_line) refl))
+Completes-calm old new DiskFault s t ends source told fits limit calm_disk calm_source calm_sink = absurd (calm_disk ends.disk.counted.1)
+Completes-calm old new SourceFault s t ends source told fits limit calm_disk calm_source calm_sink = absurd (calm_source source.1)
+Completes-calm old new SinkFault s t ends source told fits limit calm_disk calm_source calm_sink = absurd (calm_sink (ends.sink (λ w. cc)).1)
+Completes-calm old new InputLimit s t ends source told fits limit calm_disk calm_source calm_sink = absurd (limit refl)
+Completes-calm old new RecordChanged s t ends source told fits limit calm_disk calm_source calm_sink = absurd (ends.firm refl told)
+
+-- the status of a number, and only one
+status_at : ℕ → Status
+status_at n =
+    cond (nat_eq n 0) Done (cond (nat_eq n 2) Usage (cond (nat_eq n 3) RefusedStore (cond (nat_eq n 4) DiskFault (cond (nat_eq n 5) SourceFault
+    (cond (nat_eq n 6) SinkFault (cond (nat_eq n 7) OutOfMemory (cond (nat_eq n 8) InputLimit RecordChanged)))))))
+
+status_at-number : (status : Status) → status_at (exit_number status) ≡ status
+unfolding status_at
+status_at-number Done = refl
+status_at-number Usage = refl
+status_at-number RefusedStore = refl
+status_at-number DiskFault = refl
+status_at-number SourceFault = refl
+status_at-number SinkFault = refl
+status_at-number OutOfMemory = refl
+status_at-number InputLimit = refl
+status_at-number RecordChanged = refl
+
+pub one-status : (number : ℕ) (a b : Status) → EndsAs number a → EndsAs number b → a ≡ b
+one-status number a b is_a is_b = sym (status_at-number a) ∙ ap (λ n. status_at n) (sym is_a ∙ is_b) ∙ status_at-number b
+
+pub by-number : (P : Status → Type 0) (number : ℕ) (actual : Status) → EndsAs number actual → P actual → (status : Status) → EndsAs number status → P status
+by-number P number actual is has status other = subst P (one-status number actual status is other) has
+
+-- what a survey answers where it is refused
+pub surveys-opens : (content : List ℕ) (error : OpenError) → SurveysAs content (Err error) → OpensAs content (Err error)
+surveys-opens content opening.Disk is = tt
+surveys-opens content opening.OutOfMemory is = tt
+surveys-opens content opening.NotAStore is = is
+surveys-opens content (opening.BadEntry n) is = is
+surveys-opens content (opening.BadSlot n) is = is
+surveys-opens content (opening.BadStream id) is = is
+surveys-opens content (opening.Changed slot) is = absurd is
+
+-- a run that reads no input doesn't end by it, where the store wasn't opened
+pub unfed-unopened : (error : OpenError) → IsUnfed (status_of_open error)
+unfed-unopened opening.Disk = tt
+unfed-unopened opening.OutOfMemory = tt
+unfed-unopened opening.NotAStore = tt
+unfed-unopened (opening.BadEntry n) = tt
+unfed-unopened (opening.BadSlot n) = tt
+unfed-unopened (opening.BadStream id) = tt
+unfed-unopened (opening.Changed slot) = tt
+
+-- a mode that was asked for has the numbers that it may have
+pub has-numbers : (words : List (List ℕ)) (mode : Mode) → mode_of words ≡ Some mode → HasNumbers mode
+has-numbers words Run is = tt
+has-numbers words Check is = tt
+has-numbers words (Gen seed count) is = let range = mode_of-gen words seed count is in (range.1, range.2)

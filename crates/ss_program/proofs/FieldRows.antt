@@ -1,0 +1,218 @@
+-- What each field of the records of a run says, in fixed form, and bounds that are false just past them.
+use Rattle.std.proofs.Common.{◌≡◌, ◌⊎◌, ℕ, ◌+◌, ◌<◌, ◌≤◌, ◌++◌, List, [], ◌∷◌, length, take, drop, Option, Some, IsSome, refl, arith}
+use Rattle.std.specs.Prelude.{IsTrue}
+use Rattle.ss_command.specs.Lines.{lines}
+use Rattle.ss_model.specs.State.{Stream}
+use Rattle.ss_outside.specs.Crash.{LeavesOnly, OnlyReads}
+use Rattle.ss_outside.specs.Disk.{Told}
+use Rattle.ss_outside.specs.Verdict.{Rose}
+use Rattle.ss_store.specs.Recover.{Stands, recover}
+use Rattle.ss_store.specs.Surveyed.{survey_of}
+use Rattle.ss_program.specs.Checked.{Checks, survey_line}
+use Rattle.ss_program.specs.Devices.{Devices}
+use Rattle.ss_program.specs.Ending.{Completes, Ends, IsRefusedContent, IsUnfed, Refuses, Rejects}
+use Rattle.ss_program.specs.Generated.{Generates, StandsForAll, StandsForGenerated, summary}
+use Rattle.ss_program.specs.Held.{HoldsAcked, StandsForFirst, acks}
+use Rattle.ss_program.specs.Line.{History}
+use Rattle.ss_program.specs.Outcome.{Moved, NotBegun, Reads, Reports, Serves, Stopped, Took}
+use Rattle.ss_program.specs.Refused.{RefusesStore, refusal_line}
+use Rattle.ss_program.specs.Sent.{appended, AppendsFront, SaysLine}
+use Rattle.ss_program.specs.Session.{accepted, report, report_so_far}
+use Rattle.ss_program.specs.declared.running.TheConstants.{LONGEST_INPUT}
+use Rattle.ss_program.specs.declared.status.Status.{Status}
+use Rattle.ss_program.specs.declared.status.Status.TheVariants.{Done, Usage, RefusedStore, DiskFault, SourceFault, SinkFault, OutOfMemory, InputLimit, RecordChanged}
+
+-- the acknowledged events are held, and at most one more; all where the run is done, and no more where memory ran out
+module _ (history : History) (ls : List (List ℕ)) (bytes : ℕ) (image : List ℕ) where
+  acked-stands : (status : Status) (h : HoldsAcked history ls bytes status image) → Stands (history ++ take h.j (accepted history ls)) image
+  acked-stands status h = h.stands
+
+  acked-few : (status : Status) (h : HoldsAcked history ls bytes status image) → h.j ≤ length (accepted history ls)
+  acked-few status h = h.few
+
+  acked-all_of_them : (status : Status) (h : HoldsAcked history ls bytes status image) → acks history ls bytes ≤ h.j
+  acked-all_of_them status h = h.acked
+
+  acked-one_more : (status : Status) (h : HoldsAcked history ls bytes status image) → h.j ≤ acks history ls bytes + 1
+  acked-one_more status h = h.at_most
+
+  acked-done : (h : HoldsAcked history ls bytes Done image) → h.j ≡ length (accepted history ls)
+  acked-done h = h.all refl
+
+  acked-starved : (h : HoldsAcked history ls bytes OutOfMemory image) → h.j ≡ acks history ls bytes
+  acked-starved h = h.starved refl
+
+  -- two more are too many, and one less is too few
+  acked-two_more : (status : Status) (h : HoldsAcked history ls bytes status image) → h.j ≡ acks history ls bytes + 2 → ⊥
+  acked-two_more status h is = omega (arith, h.at_most, is)
+
+  acked-one_less : (status : Status) (h : HoldsAcked history ls bytes status image) → h.j + 1 ≡ acks history ls bytes → ⊥
+  acked-one_less status h is = omega (arith, h.acked, is)
+
+  first-few : (h : StandsForFirst history (accepted history ls) image) → h.0 ≤ length (accepted history ls)
+  first-few h = h.1
+
+-- the report of a run over an input, by its status
+module _ (history : History) (input : List ℕ) (left before after : Option (List ℕ)) (disk : Told) where
+  reports-front : (status : Status) → Reports history input left before after disk status → AppendsFront before after (report history input)
+  reports-front status r = r.front
+
+  reports-whole : Reports history input left before after disk Done → after ≡ appended before (report history input)
+  reports-whole r = r.whole refl
+
+  reports-broken : Reports history input left before after disk DiskFault →
+      NotBegun input left before after ⊎ Stopped history input left before after disk DiskFault
+  reports-broken r = r.broken refl
+
+  reports-faulted : Reports history input left before after disk SourceFault →
+      (taken : List ℕ) × (rest : List ℕ) × Took input left taken rest × (after ≡ appended before (report_so_far history taken))
+  reports-faulted r = r.faulted refl
+
+  reports-cut : Reports history input left before after disk SinkFault → Stopped history input left before after disk SinkFault
+  reports-cut r = r.cut refl
+
+  reports-starved : Reports history input left before after disk OutOfMemory →
+      NotBegun input left before after ⊎ Stopped history input left before after disk OutOfMemory
+  reports-starved r = r.starved refl
+
+  reports-limited : Reports history input left before after disk InputLimit →
+      after ≡ appended before (report_so_far history (take LONGEST_INPUT input))
+  reports-limited r = r.limited refl
+
+-- what was taken and read of an input
+module _ (input : List ℕ) (left : Option (List ℕ)) where
+  took-all : (taken rest : List ℕ) → Took input left taken rest → taken ++ rest ≡ input
+  took-all taken rest t = t.all
+
+  took-others : (taken rest : List ℕ) → Took input left taken rest → left ≡ Some rest
+  took-others taken rest t = t.others
+
+  took-few : (taken rest : List ℕ) → Took input left taken rest → length taken ≤ LONGEST_INPUT
+  took-few taken rest t = t.few
+
+  reads-few : (status : Status) (r : Reads input left status) → r.few.count ≤ LONGEST_INPUT + 1
+  reads-few status r = r.few.few
+
+  reads-others : (status : Status) (r : Reads input left status) → left ≡ Some (drop r.few.count input)
+  reads-others status r = r.few.others
+
+  reads-whole : Reads input left Done → (length input ≤ LONGEST_INPUT) × (left ≡ Some [])
+  reads-whole r = r.whole refl
+
+  reads-limit : Reads input left InputLimit → (LONGEST_INPUT < length input) × (left ≡ Some (drop (LONGEST_INPUT + 1) input))
+  reads-limit r = r.limit refl
+
+-- a check
+module _ (streams : List Stream) (before after : Option (List ℕ)) where
+  checks-front : (status : Status) → Checks streams before after status → AppendsFront before after (survey_line (survey_of streams))
+  checks-front status c = c.front
+
+  checks-whole : Checks streams before after Done → after ≡ appended before (survey_line (survey_of streams))
+  checks-whole c = c.whole refl
+
+  checks-starved : Checks streams before after OutOfMemory → after ≡ before
+  checks-starved c = c.silent (λ w. cc) (λ w. cc)
+
+  checks-broken : Checks streams before after DiskFault → after ≡ before
+  checks-broken c = c.silent (λ w. cc) (λ w. cc)
+
+-- a generated file
+module _ (history : History) (seed count : ℕ) (before after : Option (List ℕ)) (old new : Told) where
+  generates-front : (status : Status) → Generates history seed count before after old new status → AppendsFront before after (summary history seed count)
+  generates-front status g = g.front
+
+  generates-whole : Generates history seed count before after old new Done → after ≡ appended before (summary history seed count)
+  generates-whole g = g.whole refl
+
+  generates-starved : Generates history seed count before after old new OutOfMemory → after ≡ before
+  generates-starved g = g.silent (λ w. cc) (λ w. cc)
+
+  generates-any_moment : (status : Status) → Generates history seed count before after old new status →
+      LeavesOnly old new (StandsForGenerated history seed count)
+  generates-any_moment status g = g.any_moment
+
+  generates-kept : (status : Status) → Generates history seed count before after old new status → (image : List ℕ) → new.may_leave image →
+      StandsForGenerated history seed count image
+  generates-kept status g = g.kept
+
+  generates-done : Generates history seed count before after old new Done → StandsForAll history seed count new.content
+  generates-done g = g.done refl
+
+  generates-all : Generates history seed count before after old new Done → (image : List ℕ) → new.may_leave image →
+      StandsForAll history seed count image
+  generates-all g = g.all refl
+
+-- how a run ends: the devices that are blamed
+module _ (old new : Devices) where
+  ends-known : Ends old new Usage → ⊥
+  ends-known e = e.known refl
+
+  ends-disk : Ends old new DiskFault → Rose old.disk.faults new.disk.faults
+  ends-disk e = e.disk.counted.1
+
+  ends-disk_fine : Ends old new Done → new.disk.faults ≡ old.disk.faults
+  ends-disk_fine e = e.disk.counted
+
+  ends-sink : Ends old new SinkFault → Rose old.faults new.faults
+  ends-sink e = (e.sink (λ w. cc)).1
+
+  ends-sink_fine : Ends old new Done → new.faults ≡ old.faults
+  ends-sink_fine e = e.sink (λ w. cc)
+
+  ends-refused : Ends old new RefusedStore → IsTrue old.disk.tells →
+      RefusesStore old.disk.told new.disk.told old.held new.held old.faults new.faults
+  ends-refused e = e.refused refl
+
+  ends-refuses : (status : Status) → Ends old new status → IsTrue old.disk.tells → IsRefusedContent old.disk.told.content →
+      Refuses old.held new.held status old.disk.told new.disk.told
+  ends-refuses status e told refused = e.disk.told told refused
+
+  ends-firm : Ends old new RecordChanged → IsTrue old.disk.tells → ⊥
+  ends-firm e = e.firm refl
+
+-- a store that is refused
+module _ (before after : Option (List ℕ)) (old new : Told) where
+  refuses-how : (status : Status) → Refuses before after status old new → (status ≡ RefusedStore) ⊎ (status ≡ DiskFault) ⊎ (status ≡ OutOfMemory)
+  refuses-how status r = r.how
+
+  refuses-unwritten : (status : Status) → Refuses before after status old new → OnlyReads old new
+  refuses-unwritten status r = r.unwritten
+
+  refuses-starved : Refuses before after OutOfMemory old new → after ≡ before
+  refuses-starved r = r.silent (λ w. cc)
+
+  refuses-broken : Refuses before after DiskFault old new → after ≡ before
+  refuses-broken r = r.silent (λ w. cc)
+
+  refuses_store-line : (had has : ℕ) (r : RefusesStore old new before after had has) → refusal_line (recover old.content) ≡ Some r.line
+  refuses_store-line had has r = r.is_line
+
+  refuses_store-said : (had has : ℕ) (r : RefusesStore old new before after had has) → SaysLine r.line before after had has
+  refuses_store-said had has r = r.said
+
+  refuses_store-unwritten : (had has : ℕ) → RefusesStore old new before after had has → OnlyReads old new
+  refuses_store-unwritten had has r = r.unwritten
+
+-- a line that is said
+module _ (line : List ℕ) (before after : Option (List ℕ)) (had has : ℕ) where
+  says-front : SaysLine line before after had has → AppendsFront before after line
+  says-front s = s.front
+
+  says-whole : SaysLine line before after had has → (Rose had has → ⊥) → after ≡ appended before line
+  says-whole s = s.whole
+
+-- statuses with which a run doesn't end
+rejects-disk : (old new : Devices) → Rejects old new DiskFault → ⊥
+rejects-disk old new r = r
+
+rejects-starved : (old new : Devices) → Rejects old new OutOfMemory → (new.held ≡ old.held) × (new.faults ≡ old.faults)
+rejects-starved old new r = r
+
+completes-disk : Completes DiskFault → ⊥
+completes-disk c = c
+
+completes-changed : Completes RecordChanged → ⊥
+completes-changed c = c
+
+unfed-source : IsUnfed SourceFault → ⊥
+unfed-source u = u

@@ -1,0 +1,21 @@
+-- Steps in a row, where the disk tells.
+use Rattle.std.proofs.Common.{◌≡◌, ℕ, ◌∙◌, subst}
+use Rattle.std.specs.Prelude.{IsTrue}
+use Rattle.ss_outside.specs.Disk.{DiskView, Told}
+use Rattle.ss_outside.specs.Step.{Step}
+use Rattle.ss_outside.specs.Verdict.{Verdict, Counted, fine}
+
+module _ {old mid new : DiskView} {v : Verdict} {R Q S : Told → Told → Type 0} where
+  -- one step after another that was fine: at its end the disk tells as well
+  pub step-told : Step fine old mid R → Step v mid new Q →
+      (IsTrue mid.tells → R old.told mid.told → Q mid.told new.told → S old.told new.told) → Step v old new S
+  step-told first second joins = record {
+    tells = second.tells ∙ first.tells;
+    counted = subst (λ before. Counted v before new.faults) first.counted second.counted;
+    told = λ told. joins (first.tells ∙ told) (first.told told) (second.told (first.tells ∙ told));
+  }
+
+module _ {old new : DiskView} {v : Verdict} {R S : Told → Told → Type 0} where
+  -- what follows of a step at whose end the disk tells
+  pub step-so : Step v old new R → (IsTrue new.tells → R old.told new.told → S old.told new.told) → Step v old new S
+  step-so step gives = record { tells = step.tells; counted = step.counted; told = λ told. gives (step.tells ∙ told) (step.told told) }

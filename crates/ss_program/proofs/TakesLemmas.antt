@@ -1,0 +1,212 @@
+-- What a line does to the devices: what is shown, and what is added and replied.
+use Rattle.std.proofs.Common.{◌≡◌, ℕ, Bool, List, [], Option, None, Ok, Err, Result, IfErr, refl, sym, ◌∙◌, subst}
+use Rattle.std.proofs.lemmas.List.{append-nil}
+use Rattle.std.specs.Prelude.{IsErr}
+use Rattle.ss_catalog.specs.declared.event.Event.{Event}
+use Rattle.ss_catalog.specs.declared.refusal.Refusal.{Refusal}
+use Rattle.ss_command.specs.declared.command.Command.TheVariants.{Do}
+use Rattle.ss_model.specs.Refusals.{refuses}
+use Rattle.ss_model.specs.State.{state}
+use Rattle.ss_outside.proofs.CrashLemmas.{reads-joined, reads-none}
+use Rattle.ss_outside.proofs.StepLemmas.{step-none}
+use Rattle.ss_outside.specs.Crash.{KnowsNow, OnlyReads}
+use Rattle.ss_outside.specs.Disk.{DiskView, OfContent, Told, WhereTold}
+use Rattle.ss_outside.specs.Step.{Step}
+use Rattle.ss_outside.specs.Verdict.{Counted, fine, verdict}
+use Rattle.ss_outside.specs.declared.source.Failed.{Failed}
+use Rattle.ss_report.specs.Text.{reply_line}
+use Rattle.ss_report.specs.declared.reply.Reply.{Reply}
+use Rattle.ss_report.specs.declared.reply.Reply.TheVariants.{Refused}
+use Rattle.ss_store.specs.Kept.{StoreState}
+use Rattle.ss_store.specs.Recover.{Stands}
+use Rattle.ss_store.proofs.Calls.{Turns-answers, Turns-failed}
+use Rattle.ss_program.specs.Answer.{Adds, AppliesEvent, AsksQuery, DoesCommand, IsOpen, Replies, Shows, TakesLine, at_sink}
+use Rattle.ss_program.specs.Devices.{Devices, over}
+use Rattle.ss_program.specs.Line.{Brought, History, command_brings, history_after, nothing, refused, text_brought}
+use Rattle.ss_program.specs.Progress.{StandsAround}
+use Rattle.ss_program.specs.Sent.{appended, AppendsLess, Puts, Sends}
+use Rattle.ss_program.specs.Status.{IsApplyStop, IsDiskStop, IsShowStop, IsStop, disk_verdict, ended, sink_verdict}
+use Rattle.ss_program.specs.declared.status.Status.{Status}
+use Rattle.ss_program.specs.declared.status.Status.TheVariants.{Done, Usage, RefusedStore, DiskFault, SourceFault, SinkFault, OutOfMemory, InputLimit, RecordChanged}
+use Rattle.ss_program.proofs.SendLemmas.{appended-nil}
+use Rattle.ss_program.proofs.AnswerLemmas.{Adds-reads, IsShowStop-disk, IsStop-apply, IsStop-show, Replies-sent, Replies-shown, Replies-stopped, event-some}
+
+-- the disk was only read, and then a text was sent
+pub Shows-sent : (text : History → List ℕ → Type 0) (old new : DiskView) (store : StoreState) (before after : Option (List ℕ)) (had has : ℕ)
+    (sent : Result Unit Failed) → Step fine old new OnlyReads → IsOpen new store → Counted (verdict sent) had has →
+    OfContent old (λ content. (history : History) → Stands history content → (bytes : List ℕ) → text history bytes → Sends before after bytes sent) →
+    Shows text (over old before had) (over new after has) store (at_sink sent)
+Shows-sent text old new store before after had has (Ok u) reads opens counted sends =
+    record { reads = reads; sends = sends; counted = counted; opens = opens; status = tt }
+Shows-sent text old new store before after had has (Err e) reads opens counted sends =
+    record { reads = reads; sends = sends; counted = counted; opens = tt; status = tt }
+
+-- the disk wasn't called
+pub still : (disk : DiskView) → Step fine disk disk OnlyReads
+still disk = step-none disk OnlyReads (λ _. reads-none disk.told)
+
+-- what was sent, where the sink didn't fail
+pub sent-all : {text : List ℕ} {before after : Option (List ℕ)} {had has : ℕ} (sent : Result Unit Failed) (u : Unit {0}) → Ok u ≡ at_sink sent →
+    Puts text before had after has sent → (after ≡ appended before text) × (has ≡ had)
+sent-all (Ok v) u is puts = (puts.sends, puts.counted)
+sent-all (Err e) u is puts = cc
+
+-- and where it did
+pub failed-err : (sent : Result Unit Failed) (status : Status) → Err status ≡ at_sink sent → IsErr sent
+failed-err (Ok u) status is = cc
+failed-err (Err e) status is = refl
+
+-- what was sent then is less than the text
+pub less-sent : (before after : Option (List ℕ)) (text : List ℕ) (sent : Result Unit Failed) → IsErr sent → Sends before after text sent → AppendsLess before after text
+less-sent before after text (Ok u) failed sends = cc
+less-sent before after text (Err e) failed less = less
+
+pub sends-less : (before after : Option (List ℕ)) (text : List ℕ) (sent : Result Unit Failed) → IsErr sent → AppendsLess before after text → Sends before after text sent
+sends-less before after text (Ok u) failed less = cc
+sends-less before after text (Err e) failed less = less
+
+-- one reply was sent, whatever the history
+pub Shows-reply : (text : History → List ℕ → Type 0) (old new : DiskView) (store : StoreState) (before after : Option (List ℕ)) (had has : ℕ)
+    (reply : Reply) (sent : Result Unit Failed) → Step fine old new OnlyReads → IsOpen new store → Puts (reply_line reply) before had after has sent →
+    OfContent old (λ content. (history : History) → Stands history content → (bytes : List ℕ) → text history bytes → bytes ≡ reply_line reply) →
+    Shows text (over old before had) (over new after has) store (at_sink sent)
+Shows-reply text old new store before after had has reply sent reads opens puts are =
+    Shows-sent text old new store before after had has sent reads opens puts.counted
+    (λ told history stands bytes is. subst (λ bs. Sends before after bs sent) (sym (are told history stands bytes is)) puts.sends)
+
+-- the run stopped at a call that reads
+pub Shows-stopped : (text : History → List ℕ → Type 0) (old new : DiskView) (store : StoreState) (before held : Option (List ℕ)) (had has : ℕ)
+    (status : Status) → IsDiskStop old.tells status → Step (disk_verdict status) old new OnlyReads → has ≡ had →
+    OfContent old (λ content. (history : History) → Stands history content → (bytes : List ℕ) → text history bytes → AppendsLess before held bytes) →
+    Shows text (over old before had) (over new held has) store (Err status)
+Shows-stopped text old new store before held had has DiskFault stop reads same less =
+    record { reads = reads; sends = less; counted = same; opens = tt; status = tt }
+Shows-stopped text old new store before held had has RecordChanged stop reads same less =
+    record { reads = reads; sends = less; counted = same; opens = tt; status = stop }
+Shows-stopped text old new store before held had has Done stop reads same less = absurd stop
+Shows-stopped text old new store before held had has Usage stop reads same less = absurd stop
+Shows-stopped text old new store before held had has RefusedStore stop reads same less = absurd stop
+Shows-stopped text old new store before held had has SourceFault stop reads same less = absurd stop
+Shows-stopped text old new store before held had has SinkFault stop reads same less = absurd stop
+Shows-stopped text old new store before held had has OutOfMemory stop reads same less = absurd stop
+Shows-stopped text old new store before held had has InputLimit stop reads same less = absurd stop
+
+-- memory doesn't run out where something is shown
+show-memory : {A : Type 0} (tells : Bool) (result : Result Unit Status) → IfErr result (IsShowStop tells) → ended result ≡ OutOfMemory → A
+show-memory tells (Ok u) stop is = cc
+show-memory tells (Err DiskFault) stop is = cc
+show-memory tells (Err RecordChanged) stop is = cc
+show-memory tells (Err SinkFault) stop is = cc
+show-memory tells (Err Done) stop is = absurd stop
+show-memory tells (Err Usage) stop is = absurd stop
+show-memory tells (Err RefusedStore) stop is = absurd stop
+show-memory tells (Err SourceFault) stop is = absurd stop
+show-memory tells (Err OutOfMemory) stop is = absurd stop
+show-memory tells (Err InputLimit) stop is = absurd stop
+
+show-stop : (tells : Bool) (result : Result Unit Status) → IfErr result (IsShowStop tells) → IfErr result (IsStop tells)
+show-stop tells (Ok u) stop = tt
+show-stop tells (Err status) stop = IsStop-show tells status stop
+
+-- a line that brings no event: what it brings was shown
+pub TakesLine-shown : (brought : History → Brought) (text : History → List ℕ → Type 0) (old new : Devices) (store : StoreState) (result : Result Unit Status) →
+    WhereTold old.disk KnowsNow → ((history : History) → (brought history).event ≡ None) →
+    ((history : History) → text history (text_brought (brought history))) → Shows text old new store result → TakesLine brought old new store result
+TakesLine-shown brought text old new store result knows none is shows = record {
+  adds = record {
+    tells = shows.reads.tells;
+    counted = shows.reads.counted;
+    told = λ told history. Adds-reads history (brought history) old.disk.told new.disk.told result (λ _. none history) (knows told) (shows.reads.told told);
+  };
+  untouched = λ memory. show-memory old.disk.tells result shows.status memory;
+  replies = λ told history stands. Replies-shown old.disk.tells (brought history) old.held new.held result shows.status
+      (shows.sends told history stands (text_brought (brought history)) (is history));
+  counted = shows.counted;
+  opens = shows.opens;
+  status = show-stop old.disk.tells result shows.status;
+}
+
+-- an event was applied, and its reply sent
+pub TakesLine-applied : (event : Event) (old new : DiskView) (store : StoreState) (before after : Option (List ℕ)) (had has : ℕ) (reply : Reply)
+    (sent : Result Unit Failed) → Step fine old new (AppliesEvent event (Ok reply)) → IsOpen new store → Puts (reply_line reply) before had after has sent →
+    TakesLine (λ history. command_brings history (Do event)) (over old before had) (over new after has) store (at_sink sent)
+TakesLine-applied event old new store before after had has reply (Ok u) applies opens puts = record {
+  adds = record { tells = applies.tells; counted = applies.counted; told = λ told history.
+      let brought = command_brings history (Do event) in
+      Turns-answers (Stands history) (StandsAround history brought) (Stands (history_after history brought)) old.told new.told reply (Ok u)
+      ((applies.told told).does.adds history) };
+  untouched = λ memory. cc;
+  replies = λ told history stands. Replies-sent (command_brings history (Do event)) before after reply (Ok u) ((applies.told told).does.reply history stands) puts.sends;
+  counted = puts.counted;
+  opens = opens;
+  status = tt;
+}
+TakesLine-applied event old new store before after had has reply (Err e) applies opens puts = record {
+  adds = record { tells = applies.tells; counted = applies.counted; told = λ told history.
+      let brought = command_brings history (Do event) in
+      Turns-answers (Stands history) (StandsAround history brought) (Stands (history_after history brought)) old.told new.told reply (Err SinkFault)
+      ((applies.told told).does.adds history) };
+  untouched = λ memory. cc;
+  replies = λ told history stands. Replies-sent (command_brings history (Do event)) before after reply (Err e) ((applies.told told).does.reply history stands) puts.sends;
+  counted = puts.counted;
+  opens = tt;
+  status = tt;
+}
+
+-- the sink's count where a call of the store stopped the run
+pub apply-counted : (tells : Bool) (n : ℕ) (status : Status) → IsApplyStop tells status → Counted (sink_verdict status) n n
+apply-counted tells n DiskFault stop = refl
+apply-counted tells n RecordChanged stop = refl
+apply-counted tells n OutOfMemory stop = refl
+apply-counted tells n Done stop = absurd stop
+apply-counted tells n Usage stop = absurd stop
+apply-counted tells n RefusedStore stop = absurd stop
+apply-counted tells n SourceFault stop = absurd stop
+apply-counted tells n SinkFault stop = absurd stop
+apply-counted tells n InputLimit stop = absurd stop
+
+-- the run stopped at an event
+pub TakesLine-stopped : (event : Event) (old new : DiskView) (store : StoreState) (held : Option (List ℕ)) (n : ℕ) (status : Status) →
+    Step (disk_verdict status) old new (AppliesEvent event (Err status)) → IsApplyStop old.tells status →
+    TakesLine (λ history. command_brings history (Do event)) (over old held n) (over new held n) store (Err status)
+TakesLine-stopped event old new store held n status applies stop = record {
+  adds = record { tells = applies.tells; counted = applies.counted; told = λ told history.
+      let brought = command_brings history (Do event) in
+      let after = Stands (history_after history brought) in
+      Turns-failed (Stands history) (StandsAround history brought) after after old.told new.told (Err status) (Err status) refl
+      ((applies.told told).does.adds history) };
+  untouched = λ memory told. (applies.told told).does.untouched memory;
+  replies = λ told history stands.
+      let some = (applies.told told).accepted history stands in
+      Replies-stopped old.tells (command_brings history (Do event)) held status stop some (event-some history event (refuses (state history) event) some);
+  counted = apply-counted old.tells n status stop;
+  opens = tt;
+  status = IsStop-apply old.tells status stop;
+}
+
+-- a query is a command that adds nothing
+pub DoesCommand-asked : (brought : History → Brought) (result : Result Reply Status) (old new : Told) → KnowsNow old →
+    ((history : History) → (brought history).event ≡ None) → AsksQuery brought result old new → DoesCommand brought result old new
+DoesCommand-asked brought result old new knows none asks = record {
+  adds = λ history. Adds-reads history (brought history) old new result (λ _. none history) knows asks.reads;
+  reply = asks.reply;
+  untouched = λ _. asks.reads;
+}
+
+-- a line that is refused, and one that brings nothing
+pub TakesLine-refused : (refusal : Refusal) (disk : DiskView) (store : StoreState) (before after : Option (List ℕ)) (had has : ℕ)
+    (sent : Result Unit Failed) → WhereTold disk KnowsNow → IsOpen disk store → Puts (reply_line (Refused refusal)) before had after has sent →
+    TakesLine (λ history. refused refusal) (over disk before had) (over disk after has) store (at_sink sent)
+TakesLine-refused refusal disk store before after had has sent knows opens puts =
+    let text : History → List ℕ → Type 0 = λ history bytes. bytes ≡ text_brought (refused refusal) in
+    TakesLine-shown (λ history. refused refusal) text (over disk before had) (over disk after has) store (at_sink sent) knows (λ history. refl) (λ history. refl)
+    (Shows-reply text disk disk store before after had has (Refused refusal) sent (still disk) opens puts
+    (λ told history stands bytes is. is ∙ append-nil (reply_line (Refused refusal))))
+
+pub TakesLine-nothing : (disk : DiskView) (store : StoreState) (held : Option (List ℕ)) (n : ℕ) (u : Unit {0}) → WhereTold disk KnowsNow → IsOpen disk store →
+    TakesLine (λ history. nothing) (over disk held n) (over disk held n) store (Ok u)
+TakesLine-nothing disk store held n u knows opens =
+    let text : History → List ℕ → Type 0 = λ history bytes. bytes ≡ [] in
+    TakesLine-shown (λ history. nothing) text (over disk held n) (over disk held n) store (Ok u) knows (λ history. refl) (λ history. refl)
+    (Shows-sent text disk disk store held held n n (Ok u) (still disk) opens refl
+    (λ told history stands bytes is. subst (λ bs. held ≡ appended held bs) (sym is) (sym (appended-nil held))))

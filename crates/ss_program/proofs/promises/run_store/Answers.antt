@@ -1,0 +1,73 @@
+use Rattle.std.proofs.Common.{◌≡◌, ℕ, List, Option, Some, None, IsSome, refl, sym, subst}
+use Rattle.ss_arguments.specs.Modes.{mode_of, words_of}
+use Rattle.ss_arguments.specs.declared.mode.Mode.{Mode}
+use Rattle.ss_outside.specs.Verdict.{Rose}
+use Rattle.ss_program.specs.Devices.{Devices}
+use Rattle.ss_program.specs.Ending.{Ends, Rejects}
+use Rattle.ss_program.specs.Status.{EndsAs}
+use Rattle.ss_program.specs.declared.status.Status.{Status}
+use Rattle.ss_program.specs.declared.status.Status.TheVariants.{Done, Usage, RefusedStore, DiskFault, SourceFault, SinkFault, OutOfMemory, RecordChanged}
+use Rattle.ss_program.proofs.promises.run_store.Goals as goal
+
+pub returns-clause-whole_report : goal.returns-clause-whole_report
+returns-clause-whole_report g c history input begins is =
+    (c.run.ensures.serves begins.plain Done is input begins.source begins.tells begins.durable history begins.stands).report.whole refl
+
+pub returns-clause-all_held : goal.returns-clause-all_held
+returns-clause-all_held g c history input begins is =
+    (c.run.ensures.serves begins.plain Done is input begins.source begins.tells begins.durable history begins.stands).whole refl
+
+pub returns-clause-acked_held : goal.returns-clause-acked_held
+returns-clause-acked_held g c history input begins had has is_had is_has image left =
+    let known = c.run.ensures.known in
+    let holds = (c.run.ensures.serves begins.plain known.0 known.1 input begins.source begins.tells begins.durable history begins.stands).kept had has is_had is_has image left in
+    (holds.j, holds.acked, holds.at_most, holds.stands)
+
+pub returns-clause-starved : goal.returns-clause-starved
+returns-clause-starved g c history input begins is had has is_had is_has image left =
+    let holds = (c.run.ensures.serves begins.plain OutOfMemory is input begins.source begins.tells begins.durable history begins.stands).kept had has is_had is_has image left in
+    rw (sym (holds.starved refl)) holds.stands
+
+pub returns-clause-checked : goal.returns-clause-checked
+returns-clause-checked g c asked is told streams recovers = (c.run.ensures.checks asked Done is told streams recovers).whole refl
+
+pub returns-clause-generated : goal.returns-clause-generated
+returns-clause-generated g c seed count asked is durable told history stands =
+    (c.run.ensures.generates seed count asked Done is told (durable told) history stands).whole refl
+
+pub returns-clause-refused : goal.returns-clause-refused
+returns-clause-refused g c some is told =
+    let refuses = (c.run.ensures.ends some RefusedStore is).refused refl told in
+    subst (λ o. IsSome o) (sym refuses.is_line) refl
+
+pub returns-clause-refused_unwritten : goal.returns-clause-refused_unwritten
+returns-clause-refused_unwritten g c some told refused =
+    let known = c.run.ensures.known in
+    ((c.run.ensures.ends some known.0 known.1).disk.told told refused).unwritten
+
+-- the arguments are known, or not
+known-or-not : (mode : Option Mode) → (IsSome mode → mode ≡ None) → mode ≡ None
+known-or-not None none = refl
+known-or-not (Some mode) none = none refl
+
+pub returns-clause-usage : goal.returns-clause-usage
+returns-clause-usage g c is =
+    known-or-not (mode_of (words_of c.args.words.now)) (λ some. absurd ((c.run.ensures.ends some Usage is).known refl))
+
+-- a fact of a status with which a run of unknown arguments doesn't end
+by-mode : {A : Type 0} (mode : Option Mode) → (IsSome mode → A) → (mode ≡ None → A) → A
+by-mode None some none = none refl
+by-mode (Some mode) some none = some refl
+
+pub returns-clause-faults : goal.returns-clause-faults
+returns-clause-faults g c =
+    let mode = mode_of (words_of c.args.words.now) in (
+      λ is. by-mode mode (λ some. (c.run.ensures.ends some DiskFault is).disk.counted.1) (λ none. absurd (c.run.ensures.rejects none DiskFault is)),
+      λ is. (c.run.ensures.source SourceFault is).1,
+      λ is. by-mode mode (λ some. ((c.run.ensures.ends some SinkFault is).sink (λ w. cc)).1) (λ none. absurd (c.run.ensures.rejects none SinkFault is)),
+    )
+
+pub returns-clause-firm : goal.returns-clause-firm
+returns-clause-firm g c is told =
+    by-mode (mode_of (words_of c.args.words.now)) (λ some. (c.run.ensures.ends some RecordChanged is).firm refl told)
+    (λ none. c.run.ensures.rejects none RecordChanged is)

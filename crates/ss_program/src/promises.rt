@@ -1,0 +1,78 @@
+// What is promised to whoever runs the program.
+ghost use Rattle.std.specs.Prelude.{◌≡◌, ◌+◌, ◌-◌, ◌≤◌, ◌++◌, ℕ, List, Some, None, take, length, IsTrue, IsSome};
+ghost use Rattle.ss_arguments.specs.Modes.{mode_of, words_of};
+ghost use Rattle.ss_command.specs.Lines.{lines};
+ghost use Rattle.ss_model.specs.State.{Stream};
+ghost use Rattle.ss_outside.specs.Crash.{OnlyReads};
+ghost use Rattle.ss_outside.specs.Disk.{Between, WhereTold, NothingPending};
+ghost use Rattle.ss_outside.specs.Verdict.{Rose};
+ghost use Rattle.ss_store.specs.Recover.{Recovers, Stands};
+ghost use Rattle.ss_store.specs.Surveyed.{survey_of};
+ghost use Rattle.ss_program.specs.Checked.{survey_line};
+ghost use Rattle.ss_program.specs.Ending.{IsRefusedContent};
+ghost use Rattle.ss_program.specs.Generated.{summary};
+ghost use Rattle.ss_program.specs.Held.{acks};
+ghost use Rattle.ss_program.specs.Line.{History};
+ghost use Rattle.ss_program.specs.Promises.{BeginsOver};
+ghost use Rattle.ss_program.specs.Sent.{appended};
+ghost use Rattle.ss_program.specs.Session.{accepted, report};
+ghost use Rattle.ss_program.specs.Status.{EndsAs};
+
+use crate::running::run;
+use crate::status::Status;
+use ss_arguments::Mode;
+use ss_outside::{Disk, Sink, Source};
+use std::alloc::Global;
+
+/// Runs the program as `run` does. Its contract is what a user is promised, each promise by itself.
+pub fn run_store<D: Disk, S: Source, K: Sink>(
+    alloc: Global,
+    words: &[String],
+    disk: &mut D,
+    source: &mut S,
+    sink: &mut K,
+) -> u8
+    // A run that ends with 0 has replied to every line of its input: the sink got the whole report.
+    ensures whole_report { (history : History) (input : List ℕ) →
+        BeginsOver (mode_of (words_of words.now)) (D.seen disk.old) (S.left source.old) history input → EndsAs result Status.Done →
+        K.held sink.new ≡ appended (K.held sink.old) (report history input) }
+    // And the store holds all events that were accepted.
+    ensures all_held { (history : History) (input : List ℕ) →
+        BeginsOver (mode_of (words_of words.now)) (D.seen disk.old) (S.left source.old) history input → EndsAs result Status.Done →
+        Stands (history ++ accepted history (lines input)) (D.seen disk.new).told.content }
+    // However a run ends, whatever a crash leaves after it holds each event whose reply the sink got, and at most one more.
+    ensures acked_held { (history : History) (input : List ℕ) →
+        BeginsOver (mode_of (words_of words.now)) (D.seen disk.old) (S.left source.old) history input → (had has : List ℕ) →
+        K.held sink.old ≡ Some had → K.held sink.new ≡ Some has → (image : List ℕ) → (D.seen disk.new).told.may_leave image →
+        (j : ℕ) × (acks history (lines input) (length has - length had) ≤ j) × (j ≤ acks history (lines input) (length has - length had) + 1)
+        × Stands (history ++ take j (accepted history (lines input))) image }
+    // Where memory ran out it holds no more than those.
+    ensures starved { (history : History) (input : List ℕ) →
+        BeginsOver (mode_of (words_of words.now)) (D.seen disk.old) (S.left source.old) history input → EndsAs result Status.OutOfMemory →
+        (had has : List ℕ) → K.held sink.old ≡ Some had → K.held sink.new ≡ Some has → (image : List ℕ) → (D.seen disk.new).told.may_leave image →
+        Stands (history ++ take (acks history (lines input) (length has - length had)) (accepted history (lines input))) image }
+    // A check writes nothing, whatever the disk holds. Where it ends with 0, it has said what the store has.
+    ensures check_unwritten { mode_of (words_of words.now) ≡ Some Mode.Check → Between (D.seen disk.old) (D.seen disk.new) OnlyReads }
+    ensures checked { mode_of (words_of words.now) ≡ Some Mode.Check → EndsAs result Status.Done → IsTrue (D.seen disk.old).tells →
+        (streams : List Stream) → Recovers streams (D.seen disk.old).told.content →
+        K.held sink.new ≡ appended (K.held sink.old) (survey_line (survey_of streams)) }
+    // A run over a generated file that ends with 0 has said the whole summary.
+    ensures generated { (seed count : ℕ) → mode_of (words_of words.now) ≡ Some (Mode.Gen seed count) → EndsAs result Status.Done →
+        WhereTold (D.seen disk.old) NothingPending → IsTrue (D.seen disk.old).tells → (history : History) → Stands history (D.seen disk.old).told.content →
+        K.held sink.new ≡ appended (K.held sink.old) (summary history seed count) }
+    // A store that is no store or is damaged is never written, and no reply is made of it; 3 comes only of such a store.
+    ensures refused { IsSome (mode_of (words_of words.now)) → EndsAs result Status.RefusedStore → IsTrue (D.seen disk.old).tells →
+        IsRefusedContent (D.seen disk.old).told.content }
+    ensures refused_unwritten { IsSome (mode_of (words_of words.now)) → IsTrue (D.seen disk.old).tells → IsRefusedContent (D.seen disk.old).told.content →
+        OnlyReads (D.seen disk.old).told (D.seen disk.new).told }
+    // 2 comes only of arguments that aren't known.
+    ensures usage { EndsAs result Status.Usage → mode_of (words_of words.now) ≡ None }
+    // 4, 5 and 6 come only of a fault of the disk, the source and the sink.
+    ensures faults { (EndsAs result Status.DiskFault → Rose (D.seen disk.old).faults (D.seen disk.new).faults)
+        × (EndsAs result Status.SourceFault → Rose (S.faults source.old) (S.faults source.new))
+        × (EndsAs result Status.SinkFault → Rose (K.faults sink.old) (K.faults sink.new)) }
+    // 9 never comes of a disk that tells what it holds.
+    ensures firm { EndsAs result Status.RecordChanged → IsTrue (D.seen disk.old).tells → ⊥ }
+{
+    run(alloc, words, disk, source, sink)
+}
