@@ -38,6 +38,17 @@ impl Calls {
         own == (other.reads, other.writes, other.syncs, other.bytes)
     }
 
+    /// Those of opening and settling an empty file, by the steps in docs/FORMAT.md: the length twice over, the first bytes and
+    /// the birth gate are read; a 0, the magic, the zeros after it in pieces and the gate are written, with three syncs.
+    pub fn of_birth() -> Calls {
+        Calls {
+            reads: 5,
+            writes: 12,
+            syncs: 3,
+            bytes: 36_865,
+        }
+    }
+
     /// Those of so many commits of so many puts each on an empty journal, by the steps in docs/FORMAT.md: the entry after
     /// its gate and the gate, each with a sync. Where all 64 entries are in use, first the puts' slots, the first gate
     /// and the other gates, each with a sync; the other gates are read.

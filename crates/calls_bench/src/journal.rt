@@ -24,9 +24,6 @@ const READS: u32 = 100_000;
 // The commits that come before the timed ones: the first in a process take longer.
 const WARM_UP: u32 = 64;
 
-// How often opening and settling call an empty disk.
-const CALLS_OF_BIRTH: u64 = 20;
-
 // The commits go round this many slots.
 const SLOTS: u32 = 1024;
 
@@ -70,6 +67,19 @@ fn commit_many<D: Disk>(
         journal.commit(disk, &txn_of(first, puts, (k % 256) as u8))?;
     }
     Ok(())
+}
+
+// The calls of an empty disk that the birth of a journal makes.
+fn birth_on<D: Disk>(alloc: Global, disk: &mut Counted<D>) -> Result<Calls, JournalError> {
+    start(alloc, disk)?;
+    Ok(disk.calls)
+}
+
+/// The calls that opening and settling make of an empty disk.
+pub fn calls_of_birth(alloc: Global) -> Result<Calls, JournalError> {
+    let inner = MemDisk::new(alloc, Vec::new(alloc))?;
+    let calls = Calls::none();
+    birth_on(alloc, &mut Counted { inner, calls })
 }
 
 // The calls of the disk that the counted commits make, once the journal is ready.
@@ -122,7 +132,7 @@ fn time_on<R: AllocGlobal + Clock, D: Disk>(
 fn wanted_calls(commits: u32) -> u64 {
     Calls::of_commits(commits, 1)
         .number()
-        .saturating_add(CALLS_OF_BIRTH)
+        .saturating_add(Calls::of_birth().number())
 }
 
 // Makes so many commits of one put each on a new disk in memory, and answers the microseconds that they took.

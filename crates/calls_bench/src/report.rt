@@ -3,7 +3,7 @@ ghost use Rattle.std.specs.Prelude.{◌<◌, ◌≤◌};
 
 use crate::calls::Calls;
 use crate::codec::{decode_time, encode_time};
-use crate::journal::{COUNTED, calls_of, read_time, warm_commit_time};
+use crate::journal::{COUNTED, calls_of, calls_of_birth, read_time, warm_commit_time};
 use crate::landmarks::{MOST_VALUES, landmark_times, landmarks_with};
 use crate::records::{MOST_RECORDS, record_times, seen_after};
 use crate::targets::{Cover, TAKEN, TARGETS, cover_of, look_up_time};
@@ -57,12 +57,19 @@ fn print_row<R: Print + AllocGlobal>(rt: &R, puts: u32) -> Result<u8, JournalErr
     Ok(print_calls(rt, puts, &calls, &Calls::of_commits(COUNTED, puts)))
 }
 
-const HEAD: &str = " commits\nputs  syncs format  writes format     bytes   format  reads format\n";
+// Counts the calls of the birth of a journal, and prints them.
+fn print_birth<R: Print + AllocGlobal>(rt: &R) -> Result<u8, JournalError> {
+    let calls = calls_of_birth(rt.alloc())?;
+    Ok(print_calls(rt, 0, &calls, &Calls::of_birth()))
+}
 
-/// Prints what 10,000 commits of 1 to 4 puts do on a disk in memory beside the format's own count. The exit status: 1
-/// where they differ.
+const HEAD: &str =
+    " commits after a birth\nputs  syncs format  writes format     bytes   format  reads format\n";
+
+/// Prints what the birth of a journal does on a disk in memory, in the row of no puts, and what 10,000 commits of 1 to 4
+/// puts do, beside the format's own count. The exit status: 1 where they differ.
 pub fn print_commits<R: Print + AllocGlobal>(rt: &R) -> Result<u8, JournalError> {
-    let mut worst = status(whole(rt, u64::from(COUNTED), HEAD));
+    let mut worst = status(whole(rt, u64::from(COUNTED), HEAD)).max(print_birth(rt)?);
     for puts in 1..5 {
         worst = worst.max(print_row(rt, puts)?);
     }

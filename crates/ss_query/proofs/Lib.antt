@@ -6,3 +6,4 @@ pub mod Seeing
 pub mod SplitLemmas
 pub mod NextWindow
 pub mod AskedWindows
+mod Rows

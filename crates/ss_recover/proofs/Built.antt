@@ -1,9 +1,7 @@
 -- What a walk answers at its end, and at a record that it refuses.
-use Rattle.std.proofs.Common.{◌≡◌, ◌∙◌, ℕ, zero, suc, ◌+◌, ◌<◌, ◌≤◌, All, List, [], ◌∷◌, ◌++◌, map, filter, length, get_or, take, drop, Option, Some}
+use Rattle.std.proofs.Common.{◌≡◌, ◌∙◌, ℕ, suc, ◌<◌, ◌≤◌, All, List, [], ◌∷◌, ◌++◌, map, filter, length, get_or, take, drop, Option, Some}
 use Rattle.std.proofs.Common.{None, Result, Ok, Err, refl, sym, ap, subst, arith, append-nil}
-use Rattle.std.specs.Prelude.{slice_index}
 use Rattle.std.specs.List.{AllByRecursion, IsDistinct}
-use Rattle.std.specs.List.Sorted.{IsStrictlyIncreasing}
 use Rattle.std.proofs.Math.Seq.{drop-cons}
 use Rattle.std.proofs.lemmas.List.{length-append, length-map, length-take, take_all, take-append-drop}
 use Rattle.std.proofs.lemmas.List.Elements.{All-from_recursion, recursion_from_All}
@@ -28,9 +26,8 @@ use Rattle.ss_recover.specs.declared.recover_error.RecoverError.TheVariants.{Bad
 use Rattle.ss_recover.proofs.Marks.{length-marks_of, marks_of}
 use Rattle.ss_recover.proofs.Refusals.{lacks-at_end}
 use Rattle.ss_recover.proofs.WalkCurrent.{found_landmark, found_other}
-use Rattle.ss_recover.proofs.WalkLemmas.{AreHeldSoFar, AreHeldSoFar-none, AreNames, AreNames-none}
-use Rattle.ss_recover.proofs.WalkOrder.{IsAmid, IsAmid-from_order}
-use Rattle.ss_recover.proofs.WalkRecords.{all_walked, walked}
+use Rattle.ss_recover.proofs.WalkLemmas.{AreHeldSoFar, AreHeldSoFar-none, AreNames, AreNames-none, IsAmid, IsAmid-from_order}
+use Rattle.ss_recover.proofs.HeldRecords.{all_walked, walked}
 use Rattle.ss_recover.proofs.WalkSteps.{AreComing, Holds, HoldsAs, all-held}
 use Rattle.ss_recover.proofs.InOrder.{increasing-Rise}
 

@@ -34,11 +34,11 @@ use Rattle.ss_recover.proofs.InOrder.{IsPermutation-in_order, Rise, all-in_order
 use Rattle.ss_recover.proofs.Lists.{all-kept, all-passing, all_both, all_weaker, map-map}
 use Rattle.ss_recover.proofs.Marks.{length-marks_of, marks_of}
 use Rattle.ss_recover.proofs.MarksSoFar.{AreOf, AreOf-are_marks}
-use Rattle.ss_recover.proofs.RecordCounts.{all-counted, of_number, sum_by-le_each, sum_by-of_number}
+use Rattle.ss_recover.proofs.ValidRecords.{all-counted, of_number, sum_by-le_each, sum_by-of_number}
 use Rattle.ss_recover.proofs.SoundStreams.{IsNew, IsOnce, at, lower, MeetsAll, MeetsAll-and}
 use Rattle.ss_recover.proofs.ValidRecords.{CanStand, IsValid, all-created_by, all-numbers_created, all-window_of, few-records, valid-records}
 use Rattle.ss_recover.specs.Walk.{IsUsable}
-use Rattle.ss_recover.proofs.Usable.{IsUsable-valid}
+use Rattle.ss_recover.proofs.ValidRecords.{IsUsable-valid}
 
 -- where streams are carried, no stream is damaged
 carries-judged : (slot number : Option ℕ) (ss streams : List Stream) → judged slot number ss ≡ carries streams → (number ≡ None) × (ss ≡ streams)

@@ -1,6 +1,6 @@
 -- The slots that were read, and one more.
 use Rattle.std.proofs.Common.{◌≡◌, ◌∙◌, ℕ, zero, suc, ◌+◌, ◌-◌, ◌<◌, ◌≤◌, Bool, true, false, not, cond, List, [], ◌∷◌, ◌++◌, map, filter, length}
-use Rattle.std.proofs.Common.{replicate, get_or, Option, Some, None, Result, Err, Vec, Global, refl, sym, ap, ap₂, subst, inl, inr, arith, append-nil}
+use Rattle.std.proofs.Common.{replicate, get_or, Option, Some, None, Result, Err, refl, sym, ap, ap₂, subst, inl, inr, arith, append-nil}
 use Rattle.std.specs.Prelude.{◌≢◌, is_none}
 use Rattle.std.specs.List.{position_or_len, range_with_len}
 use Rattle.std.proofs.lemmas.Bool.{cases_lt, true≢false, cond-true, cond-false, lt-ltb, false_from_ne_true}
@@ -10,7 +10,7 @@ use Rattle.std.proofs.lemmas.List.FromFn.{get_or-map-range_with_len, length-map-
 use Rattle.std.proofs.lemmas.List.Sums.{position_or_len_is}
 use Rattle.ss_outside.specs.Disk.{DiskView}
 use Rattle.ss_outside.specs.Step.{Step}
-use Rattle.ss_outside.specs.Verdict.{Verdict, UnlessFailed, fine}
+use Rattle.ss_outside.specs.Verdict.{Verdict, fine}
 use Rattle.ss_outside.proofs.CrashLemmas.{reads-joined}
 use Rattle.ss_outside.proofs.StepLemmas.{step-as, step-then}
 use Rattle.ss_journal.specs.Kept.{JournalState, IsKept}

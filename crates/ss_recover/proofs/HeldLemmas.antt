@@ -7,7 +7,7 @@ use Rattle.std.specs.List.Sorted.{IsStrictlyIncreasing}
 use Rattle.std.proofs.lemmas.Bool.{and_from}
 use Rattle.std.proofs.lemmas.List.{length-map}
 use Rattle.std.proofs.lemmas.List.Elements.{All-from_recursion, recursion_from_All}
-use Rattle.std.proofs.lemmas.List.Sorted.{All-permutation, IsPermutation-sym, IsPermutation-trans}
+use Rattle.std.proofs.lemmas.List.Sorted.{All-permutation}
 use Rattle.std.proofs.lemmas.List.Sums.{sum_by-cons}
 use Rattle.ss_catalog.specs.Names.{same_name}
 use Rattle.ss_journal.specs.Redo.{SlotMap}
@@ -29,7 +29,7 @@ use Rattle.ss_recover.proofs.Lists.{all_both, filter_map-kept, kept, position-no
 use Rattle.ss_recover.proofs.Marks.{are_marks-marks_of, in_order-marks_of, landmarks_made-marks_of, length-marks_of, marks_of}
 use Rattle.ss_recover.proofs.SoundStreams.{IsNew-each, IsOnce-each, Rise-AreWindows, has_new_name-moved, has_one_record-moved, has_place-moved}
 use Rattle.ss_recover.proofs.SoundStreams.{tile-AreWindows, times_rise-AreWindows}
-use Rattle.ss_recover.proofs.WalkRecords.{HasOwn, HasOwn-each, all-number_of, all_walked, created, created-all_walked}
+use Rattle.ss_recover.proofs.HeldRecords.{HasOwn, HasOwn-each, all-number_of, all_walked, created, created-all_walked}
 
 -- where all are sound, none is the least that isn't
 filter-sound : (test : ℕ → Bool) (ns : List ℕ) → AllByRecursion (λ n. test n ≡ true) ns → filter (λ n. not (test n)) ns ≡ []

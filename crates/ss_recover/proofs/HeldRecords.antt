@@ -1,34 +1,180 @@
--- The records that are held, and those that the slots of a map spell.
-use Rattle.std.proofs.Common.{◌≡◌, ℕ, ◌<◌, true, false, ◌||◌, List, [], ◌∷◌, ◌++◌, map, flat_map, length, replicate, refl, sym, ap, ap₂, subst, ◌∙◌}
-use Rattle.std.proofs.Common.{arith, inl, inr, IsPermutation, Option, Some, None}
-use Rattle.std.specs.Prelude.{is_none, zip}
-use Rattle.std.specs.List.{AllByRecursion, cons_option, filter_map, list_any, range_with_len}
-use Rattle.std.proofs.lemmas.Bool.{cases_Bool}
-use Rattle.std.proofs.lemmas.List.{length-map, map-append}
+-- The records of streams, as a walk takes them and as they are held, and those that the slots of a map spell.
+use Rattle.std.proofs.Common.{◌≡◌, ◌∙◌, ℕ, ◌<◌, false, List, [], ◌∷◌, ◌++◌, map, filter, flat_map, Option, None, refl, ap, ap₂, arith, append-nil, true, ◌||◌}
+use Rattle.std.proofs.Common.{length, replicate, sym, subst, inl, inr, IsPermutation, Some}
+use Rattle.std.specs.Prelude.{◌==◌, is_none, zip}
+use Rattle.std.specs.List.{AllByRecursion, filter_map, cons_option, list_any, range_with_len}
+use Rattle.std.proofs.lemmas.Bool.{eq-eqb, ne_eqb, cases_Bool}
+use Rattle.std.proofs.lemmas.List.Elements.{filter-append, filter_map-append}
+use Rattle.ss_codec.specs.declared.record.Record.{Record}
+use Rattle.ss_codec.specs.declared.record.Record.TheVariants as records
+use Rattle.ss_model.specs.State.{Stream, Created}
+use Rattle.ss_model.specs.declared.types.Window.{Window}
+use Rattle.ss_recover.specs.Carried.{created_by, is_mark_of, window_of, stream_number, spelled}
+use Rattle.ss_recover.specs.Held.{stream_record, window_record, AllAgree, AreHeld, Agrees, HasWholeSlots, all_value_records, entries_of, landmark_records}
+use Rattle.ss_recover.specs.Held.{marks_held, mark_slots, slots_held, window_slots, occupied, records_held, span_held, span_of}
+use Rattle.ss_recover.specs.Order.{stream_of}
+use Rattle.ss_recover.proofs.InOrder.{Rise}
+use Rattle.ss_recover.proofs.Lists.{all_append, all_weaker, map-map, range-within}
+use Rattle.ss_recover.proofs.Marks.{each-mark_of, marks_of, other-marks, own-marks, length-all_value_records, length-landmark_records, IsPermutation-walked}
+use Rattle.std.proofs.lemmas.List.{length-map, map-append, length-append}
 use Rattle.std.proofs.lemmas.List.Sorted.{IsPermutation-map, list_any-IsPermutation, IsPermutation-refl, IsPermutation-trans}
 use Rattle.ss_journal.specs.Redo.{SlotMap, zeros}
 use Rattle.ss_records.specs.Live.{are_zeros}
 use Rattle.ss_records.proofs.LiveLemmas.{replicate-are_zeros}
 use Rattle.ss_codec.specs.Decoded.{decoded}
-use Rattle.ss_codec.specs.declared.record.Record.{Record}
 use Rattle.ss_codec.specs.declared.record.Record.TheVariants.{Free}
 use Rattle.ss_codec.proofs.RecordLemmas.{decoded-spelling, is_valid-free, spelling-free}
 use Rattle.ss_landmarks.specs.Landmark.{all_values}
 use Rattle.ss_line.specs.declared.entry.Entry.{Entry}
-use Rattle.ss_model.specs.State.{Stream}
-use Rattle.ss_recover.specs.Carried.{spelled}
-use Rattle.ss_recover.specs.Held.{AllAgree, AreHeld, Agrees, HasWholeSlots, all_value_records, entries_of, in_slots, landmark_records, marks_held}
-use Rattle.ss_recover.specs.Held.{occupied, records_held, span_held, span_of, stream_record, window_record, windows_held}
 use Rattle.ss_recover.specs.Parts.{records_in}
 use Rattle.ss_recover.specs.declared.parts.StreamParts.{StreamParts}
-use Rattle.ss_recover.proofs.Lists.{all_weaker, map-map, range-within}
-use Rattle.ss_recover.proofs.Marks.{length-all_value_records, length-landmark_records, IsPermutation-walked}
 use Rattle.ss_recover.proofs.Occupied.{filled, filled-live, filled-zeros}
 use Rattle.ss_recover.proofs.Permutations.{IsPermutation-filter_map, IsPermutation-append_both}
-use Rattle.ss_recover.proofs.WalkRecords.{all_walked, walked}
+use Rattle.std.proofs.lemmas.Slice.Zip.{seconds-zip}
+
+-- a stream as it was created
+abbrev pub created : Stream → Created
+created s = record { number = s.number; name = s.name; params = s.params }
+
+abbrev pub walked : Stream → List Record
+walked s = stream_record s ∷ (marks_of s.number 1 s.landmarks ++ map (window_record s.number) s.windows)
+
+abbrev pub all_walked : List Stream → List Record
+all_walked streams = flat_map walked streams
+
+-- records of which nothing is made
+made-none : {Y : Type 0} (f : Record → Option Y) (rs : List Record) → AllByRecursion (λ r. f r ≡ None) rs → filter_map f rs ≡ []
+made-none f [] none = refl
+made-none f (r ∷ rs) none = rw none.0 (made-none f rs none.1)
+
+pub created-marks : (number n : ℕ) (s : Stream) → filter_map created_by (marks_of number n s.landmarks) ≡ []
+created-marks number n s =
+    made-none created_by (marks_of number n s.landmarks)
+    (each-mark_of (λ r. created_by r ≡ None) number (λ n values start finish. refl) (λ n index t v. refl) n s.landmarks)
+
+created-windows : (number : ℕ) (ws : List Window) → filter_map created_by (map (window_record number) ws) ≡ []
+created-windows number [] = refl
+created-windows number (w ∷ ws) = created-windows number ws
+
+created-walked : (s : Stream) → filter_map created_by (walked s) ≡ created s ∷ []
+created-walked s =
+    ap (λ l. created s ∷ l)
+    (filter_map-append created_by (marks_of s.number 1 s.landmarks) (map (window_record s.number) s.windows)
+    ∙ ap₂ ◌++◌ (created-marks s.number 1 s) (created-windows s.number s.windows))
+
+-- the streams that they create
+pub created-all_walked : (ss : List Stream) → filter_map created_by (all_walked ss) ≡ map created ss
+created-all_walked [] = refl
+created-all_walked (s ∷ ss) = filter_map-append created_by (walked s) (all_walked ss) ∙ ap₂ ◌++◌ (created-walked s) (created-all_walked ss)
+
+pub own-windows : (number : ℕ) (ws : List Window) → filter_map (window_of number) (map (window_record number) ws) ≡ ws
+own-windows number [] = refl
+own-windows number (w ∷ ws) = rw (eq-eqb number number refl) (ap (λ l. w ∷ l) (own-windows number ws))
+
+other-windows : (number other : ℕ) (ws : List Window) → (other == number) ≡ false → filter_map (window_of number) (map (window_record other) ws) ≡ []
+other-windows number other [] apart = refl
+other-windows number other (w ∷ ws) apart = rw apart (other-windows number other ws apart)
+
+windows-walked : (number : ℕ) (s : Stream) → filter_map (window_of number) (walked s) ≡ filter_map (window_of number) (map (window_record s.number) s.windows)
+windows-walked number s =
+    filter_map-append (window_of number) (marks_of s.number 1 s.landmarks) (map (window_record s.number) s.windows)
+    ∙ ap (λ l. l ++ filter_map (window_of number) (map (window_record s.number) s.windows))
+    (made-none (window_of number) (marks_of s.number 1 s.landmarks)
+    (each-mark_of (λ r. window_of number r ≡ None) s.number (λ n values start finish. refl) (λ n index t v. refl) 1 s.landmarks))
+
+no-marks : (number other : ℕ) (ws : List Window) → filter (is_mark_of number) (map (window_record other) ws) ≡ []
+no-marks number other [] = refl
+no-marks number other (w ∷ ws) = no-marks number other ws
+
+marks-walked : (number : ℕ) (s : Stream) → filter (is_mark_of number) (walked s) ≡ filter (is_mark_of number) (marks_of s.number 1 s.landmarks)
+marks-walked number s =
+    filter-append (is_mark_of number) (marks_of s.number 1 s.landmarks) (map (window_record s.number) s.windows)
+    ∙ ap (λ l. filter (is_mark_of number) (marks_of s.number 1 s.landmarks) ++ l) (no-marks number s.number s.windows)
+    ∙ append-nil (filter (is_mark_of number) (marks_of s.number 1 s.landmarks))
+
+-- among them each stream has its own windows and marks
+pub record HasOwn (ss : List Stream) (s : Stream) : Type 0 where
+  pub windows : filter_map (window_of s.number) (all_walked ss) ≡ s.windows
+  pub marks : filter (is_mark_of s.number) (all_walked ss) ≡ marks_of s.number 1 s.landmarks
+
+-- none is of another number
+pub windows-others : (number : ℕ) (ss : List Stream) → AllByRecursion (λ s. s.number ≡ number → ⊥) ss → filter_map (window_of number) (all_walked ss) ≡ []
+windows-others number [] apart = refl
+windows-others number (s ∷ ss) apart =
+    filter_map-append (window_of number) (walked s) (all_walked ss)
+    ∙ ap₂ ◌++◌ (windows-walked number s ∙ other-windows number s.number s.windows (ne_eqb s.number number apart.0)) (windows-others number ss apart.1)
+
+pub marks-others : (number : ℕ) (ss : List Stream) → AllByRecursion (λ s. s.number ≡ number → ⊥) ss → filter (is_mark_of number) (all_walked ss) ≡ []
+marks-others number [] apart = refl
+marks-others number (s ∷ ss) apart =
+    filter-append (is_mark_of number) (walked s) (all_walked ss)
+    ∙ ap₂ ◌++◌ (marks-walked number s ∙ other-marks number s.number 1 s.landmarks (ne_eqb s.number number apart.0)) (marks-others number ss apart.1)
+
+above-apart : (number : ℕ) (ss : List Stream) → AllByRecursion (λ s. number < s.number) ss → AllByRecursion (λ s. s.number ≡ number → ⊥) ss
+above-apart number [] above = tt
+above-apart number (s ∷ ss) above = let first = above.0 in ((λ same. absurd (omega (arith, same, first))), above-apart number ss above.1)
+
+pub HasOwn-each : (ss : List Stream) → Rise (λ s. s.number) ss → AllByRecursion (HasOwn ss) ss
+HasOwn-each [] rise = tt
+HasOwn-each (s ∷ ss) rise =
+    let apart = above-apart s.number ss rise.0 in
+    let first : HasOwn (s ∷ ss) s = record {
+      windows =
+          filter_map-append (window_of s.number) (walked s) (all_walked ss)
+          ∙ ap₂ ◌++◌ (windows-walked s.number s ∙ own-windows s.number s.windows) (windows-others s.number ss apart) ∙ append-nil s.windows;
+      marks =
+          filter-append (is_mark_of s.number) (walked s) (all_walked ss)
+          ∙ ap₂ ◌++◌ (marks-walked s.number s ∙ own-marks s.number 1 s.landmarks) (marks-others s.number ss apart)
+          ∙ append-nil (marks_of s.number 1 s.landmarks);
+    } in
+    (first, go ss rise.0 (HasOwn-each ss rise.1))
+  where
+    go : (us : List Stream) → AllByRecursion (λ u. s.number < u.number) us → AllByRecursion (HasOwn ss) us → AllByRecursion (HasOwn (s ∷ ss)) us
+    go [] above has = tt
+    go (u ∷ us) above has =
+        let greater = above.0 in
+        let apart : (s.number == u.number) ≡ false = ne_eqb s.number u.number (λ same. absurd (omega (arith, same, greater))) in
+        let here : HasOwn (s ∷ ss) u = record {
+          windows =
+              filter_map-append (window_of u.number) (walked s) (all_walked ss)
+              ∙ ap₂ ◌++◌ (windows-walked u.number s ∙ other-windows u.number s.number s.windows apart) has.0.windows;
+          marks =
+              filter-append (is_mark_of u.number) (walked s) (all_walked ss)
+              ∙ ap₂ ◌++◌ (marks-walked u.number s ∙ other-marks u.number s.number 1 s.landmarks apart) has.0.marks;
+        } in
+        (here, go us above.1 has.1)
+
+-- each is of the number of its stream
+pub all-own : (P : ℕ → Type 0) (s : Stream) → P s.number → AllByRecursion (λ r. P (stream_of r)) (walked s)
+all-own P s own = (
+  own,
+  all_append (λ r. P (stream_of r)) (marks_of s.number 1 s.landmarks) (map (window_record s.number) s.windows)
+      (each-mark_of (λ r. P (stream_of r)) s.number (λ n values start finish. own) (λ n index t v. own) 1 s.landmarks) (go s.windows),
+)
+  where
+    go : (ws : List Window) → AllByRecursion (λ r. P (stream_of r)) (map (window_record s.number) ws)
+    go [] = tt
+    go (w ∷ ws) = (own, go ws)
+
+pub all-all_walked : (P : ℕ → Type 0) (ss : List Stream) → AllByRecursion (λ s. P s.number) ss → AllByRecursion (λ r. P (stream_of r)) (all_walked ss)
+all-all_walked P [] all = tt
+all-all_walked P (s ∷ ss) all = all_append (λ r. P (stream_of r)) (walked s) (all_walked ss) (all-own P s all.0) (all-all_walked P ss all.1)
+
+pub all-number_of : (P : ℕ → Type 0) (ss : List Stream) → AllByRecursion (λ s. P s.number) ss → AllByRecursion P (filter_map stream_number (all_walked ss))
+all-number_of P ss all = go (all_walked ss) (all-all_walked P ss all)
+  where
+    go : (rs : List Record) → AllByRecursion (λ r. P (stream_of r)) rs → AllByRecursion P (filter_map stream_number rs)
+    go [] each = tt
+    go (records.Free ∷ rs) each = go rs each.1
+    go (records.Stream id name params ∷ rs) each = (each.0, go rs each.1)
+    go (records.Window id first summary ∷ rs) each = (each.0, go rs each.1)
+    go (records.Landmark id number values start finish ∷ rs) each = (each.0, go rs each.1)
+    go (records.Value id number index t v ∷ rs) each = (each.0, go rs each.1)
+
+-- ---- as they are held
 
 -- the records of a stream, and of streams
-abbrev records_of_stream : Stream → List Record
+abbrev pub records_of_stream : Stream → List Record
 records_of_stream s =
     stream_record s
     ∷ map (window_record s.number) s.windows
@@ -37,12 +183,6 @@ records_of_stream s =
 abbrev records_of_streams : List Stream → List Record
 records_of_streams streams = flat_map records_of_stream streams
 
-map-second-zip : {X Y : Type 0} (xs : List X) (ys : List Y) → length xs ≡ length ys → map (λ (e : X × Y). e.1) (zip xs ys) ≡ ys
-map-second-zip [] [] same = refl
-map-second-zip [] (y ∷ ys) same = absurd (omega arith)
-map-second-zip (x ∷ xs) [] same = absurd (omega arith)
-map-second-zip (x ∷ xs) (y ∷ ys) same = ap (λ l. y ∷ l) (map-second-zip xs ys (omega arith))
-
 -- as a walk takes them they are the same, in another order
 IsPermutation-all_walked : (ss : List Stream) → IsPermutation (all_walked ss) (records_of_streams ss)
 IsPermutation-all_walked [] = IsPermutation-refl []
@@ -50,63 +190,89 @@ IsPermutation-all_walked (s ∷ ss) =
     IsPermutation-append_both (walked s) (records_of_stream s) (all_walked ss) (records_of_streams ss) (IsPermutation-walked s)
     (IsPermutation-all_walked ss)
 
--- what is held of a stream, without the slots
-abbrev second : ℕ × Option Record → Option Record
-second e = e.1
+-- lists of one length side by side
+zip-append : {X Y : Type 0} (xs vs : List X) (ys ws : List Y) → length xs ≡ length ys → zip (xs ++ vs) (ys ++ ws) ≡ zip xs ys ++ zip vs ws
+zip-append [] vs [] ws long = refl
+zip-append [] vs (y ∷ ys) ws long = absurd (omega arith)
+zip-append (x ∷ xs) vs [] ws long = absurd (omega arith)
+zip-append (x ∷ xs) vs (y ∷ ys) ws long = ap (λ l. (x, y) ∷ l) (zip-append xs vs ys ws (omega arith))
 
-second-in_slots : (slots : List ℕ) (held : List Record) → length slots ≡ length held → map second (in_slots slots held) ≡ map Some held
-second-in_slots slots held long = map-second-zip slots (map Some held) (omega (arith, long, length-map held Some))
+-- what is held of a stream: its slots, each with a record of the stream
+module _ (part : StreamParts) (s : Stream) (agrees : Agrees part s) where
+  abbrev window_records : List Record
+  window_records = map (window_record s.number) s.windows
 
-second-windows_held : (part : StreamParts) (s : Stream) → Agrees part s →
-    map second (windows_held (part, s)) ≡ map Some (stream_record s ∷ map (window_record s.number) s.windows)
-second-windows_held part s agrees =
-    let slots : List ℕ = map (λ (e : Entry). e.slot) (entries_of part) in
-    let records : List (Option Record) = map (λ w. Some (window_record s.number w)) s.windows in
-    let long : length slots ≡ length records =
-    omega (
-      arith,
-      length-map (entries_of part) (λ (e : Entry). e.slot),
-      length-map s.windows (λ w. Some (window_record s.number w)),
-      length-map (entries_of part) span_held,
-      length-map s.windows span_of,
-      ap length agrees.positions,
-    ) in
-    ap (λ l. Some (stream_record s) ∷ l) (map-second-zip slots records long ∙ sym (map-map Some (window_record s.number) s.windows))
+  abbrev firsts : List Record
+  firsts = landmark_records s.number 1 s.landmarks
 
-second-marks_held : (part : StreamParts) (s : Stream) → Agrees part s →
-    map second (marks_held (part, s)) ≡ map Some (landmark_records s.number 1 s.landmarks ++ all_value_records s.number 1 s.landmarks)
-second-marks_held part s agrees =
-    let its = part.landmarks in
-    let first = landmark_records s.number 1 s.landmarks in
-    let others = all_value_records s.number 1 s.landmarks in
-    let long : length its.slots ≡ length first =
-    omega (arith, agrees.known.slots, ap length agrees.landmarks, length-landmark_records s.number 1 s.landmarks) in
-    let many : length its.value_slots ≡ length others =
-    omega (
-      arith,
-      agrees.known.value_slots,
-      ap (λ ls. length (all_values ls)) agrees.landmarks,
-      length-all_value_records s.number 1 s.landmarks,
-    ) in
-    map-append second (in_slots its.slots first) (in_slots its.value_slots others)
-    ∙ ap₂ ◌++◌ (second-in_slots its.slots first long) (second-in_slots its.value_slots others many)
-    ∙ sym (map-append Some first others)
+  abbrev others : List Record
+  others = all_value_records s.number 1 s.landmarks
 
-second-records_held : (part : StreamParts) (s : Stream) → Agrees part s → map second (records_held (part, s)) ≡ map Some (records_of_stream s)
-second-records_held part s agrees =
-    map-append second (windows_held (part, s)) (marks_held (part, s))
-    ∙ ap₂ ◌++◌ (second-windows_held part s agrees) (second-marks_held part s agrees)
-    ∙ sym (map-append Some (stream_record s ∷ map (window_record s.number) s.windows)
-    (landmark_records s.number 1 s.landmarks ++ all_value_records s.number 1 s.landmarks))
+  long-windows : length (window_slots part) ≡ length (map Some (stream_record s ∷ window_records))
+  long-windows =
+      omega (
+        arith,
+        length-map (entries_of part) (λ (e : Entry). e.slot),
+        length-map (stream_record s ∷ window_records) Some,
+        length-map s.windows (window_record s.number),
+        length-map (entries_of part) span_held,
+        length-map s.windows span_of,
+        ap length agrees.positions,
+      )
 
-pub second-held : (parts : List StreamParts) (streams : List Stream) → AllAgree parts streams →
+  long-firsts : length part.landmarks.slots ≡ length (map Some firsts)
+  long-firsts =
+      omega (arith, agrees.known.slots, ap length agrees.landmarks, length-landmark_records s.number 1 s.landmarks, length-map firsts Some)
+
+  long-others : length part.landmarks.value_slots ≡ length (map Some others)
+  long-others =
+      omega (
+        arith,
+        agrees.known.value_slots,
+        ap (λ ls. length (all_values ls)) agrees.landmarks,
+        length-all_value_records s.number 1 s.landmarks,
+        length-map others Some,
+      )
+
+  marks-zip : marks_held (part, s) ≡ zip (mark_slots part) (map Some (firsts ++ others))
+  marks-zip =
+      sym (zip-append part.landmarks.slots part.landmarks.value_slots (map Some firsts) (map Some others) long-firsts)
+      ∙ ap (zip (mark_slots part)) (sym (map-append Some firsts others))
+
+  pub held-zip : records_held (part, s) ≡ zip (slots_held part) (map Some (records_of_stream s))
+  held-zip =
+      ap₂ ◌++◌ (ap (λ l. (part.slot, Some (stream_record s)) ∷ zip (map (λ (e : Entry). e.slot) (entries_of part)) l)
+      (sym (map-map Some (window_record s.number) s.windows))) marks-zip
+      ∙ sym (zip-append (window_slots part) (mark_slots part) (map Some (stream_record s ∷ window_records)) (map Some (firsts ++ others)) long-windows)
+      ∙ ap (zip (slots_held part)) (sym (map-append Some (stream_record s ∷ window_records) (firsts ++ others)))
+
+  pub held-long : length (slots_held part) ≡ length (map Some (records_of_stream s))
+  held-long =
+      omega (
+        arith,
+        long-windows,
+        long-firsts,
+        long-others,
+        length-append (window_slots part) (mark_slots part),
+        length-append part.landmarks.slots part.landmarks.value_slots,
+        length-map (records_of_stream s) Some,
+        length-append (stream_record s ∷ window_records) (firsts ++ others),
+        length-append firsts others,
+        length-map (stream_record s ∷ window_records) Some,
+        length-map firsts Some,
+        length-map others Some,
+      )
+
+second-held : (parts : List StreamParts) (streams : List Stream) → AllAgree parts streams →
     map (λ (e : ℕ × Option Record). e.1) (flat_map records_held (zip parts streams)) ≡ map Some (records_of_streams streams)
 second-held [] [] each = refl
 second-held [] (s ∷ ss) each = absurd each
 second-held (part ∷ parts) [] each = absurd each
 second-held (part ∷ parts) (s ∷ ss) each =
     map-append (λ (e : ℕ × Option Record). e.1) (records_held (part, s)) (flat_map records_held (zip parts ss))
-    ∙ ap₂ ◌++◌ (second-records_held part s each.0) (second-held parts ss each.1)
+    ∙ ap₂ ◌++◌
+    (ap (map (λ (e : ℕ × Option Record). e.1)) (held-zip part s each.0)
+    ∙ seconds-zip (slots_held part) (map Some (records_of_stream s)) (sym (held-long part s each.0))) (second-held parts ss each.1)
     ∙ sym (map-append Some (records_of_stream s) (records_of_streams ss))
 
 records_in-Some : (rs : List Record) → records_in (map Some rs) ≡ rs

@@ -11,22 +11,18 @@ pub mod HeldRecords
 pub mod SoundStreams
 pub mod WalkLemmas
 pub mod SoundInOrder
-pub mod WalkOrder
 pub mod WalkSteps
 pub mod Refusals
 pub mod Built
-pub mod Usable
 pub mod GatherLemmas
 pub mod Unordered
 pub mod RebuiltParts
 pub mod HeldLemmas
 pub mod ValidRecords
-pub mod RecordCounts
 pub mod CarriedStates
 pub mod Latest
 pub mod WalkCode
 pub mod Phases
-pub mod WalkRecords
 pub mod WalkCurrent
 pub mod WalkClosed
 mod Rows

@@ -1,22 +1,20 @@
 -- The records of landmarks so far, while they come one by one, and the landmarks that they make.
-use Rattle.std.proofs.Common.{◌≡◌, ℕ, ℤ, ◌+◌, ◌^◌, ◌<◌, ◌≤◌, Bool, true, false, cond, List, [], ◌∷◌, ◌++◌, length, map, refl, sym, ap, subst, ◌∙◌, arith}
+use Rattle.std.proofs.Common.{◌≡◌, ℕ, ℤ, ◌+◌, ◌<◌, ◌≤◌, Bool, true, false, cond, List, [], ◌∷◌, ◌++◌, length, refl, sym, ap, subst, ◌∙◌, arith}
 use Rattle.std.proofs.Common.{append-nil, append_assoc, length-append, Option, Some, None, IfSome, MatchOption, is_none}
-use Rattle.std.specs.Prelude.{◌==◌, FitsSigned, ⊤, ◌||◌, max, ◌&&◌, nat_le, nat_lt, fold, option_to_list}
+use Rattle.std.specs.Prelude.{◌==◌, FitsSigned, ⊤, ◌||◌, ◌&&◌, nat_le, nat_lt, fold, option_to_list}
 use Rattle.std.specs.Int.{w64}
 use Rattle.std.specs.Option.{option_map_or}
 use Rattle.std.specs.List.{All, AllByRecursion, list_all}
 use Rattle.std.proofs.lemmas.Bool.{and_parts, eqb-true, leb-true, ltb-true}
-use Rattle.std.proofs.lemmas.List.{map-append}
-use Rattle.std.proofs.lemmas.List.Elements.{All-from_recursion, All-push, All-tail, recursion_from_All}
+use Rattle.std.proofs.lemmas.List.Elements.{All-from_recursion, All-push}
 use Rattle.std.proofs.lemmas.List.Sums.{fold-append}
 use Rattle.ss_codec.specs.declared.record.Record.{Record}
 use Rattle.ss_codec.specs.declared.record.Record.TheVariants as records
 use Rattle.ss_landmarks.specs.Free.{is_up_to}
-use Rattle.ss_landmarks.specs.Landmark.{Landmark, LandmarkValue, closed_at, with_value}
-use Rattle.ss_landmarks.specs.Order.{AllEndBy, AreLandmarks, EndsBy, FollowFrom, IsLandmark}
+use Rattle.ss_landmarks.specs.Landmark.{Landmark, LandmarkValue, with_value}
+use Rattle.ss_landmarks.specs.Order.{AreLandmarks, FollowFrom, IsLandmark}
 use Rattle.ss_landmarks.specs.declared.landmarks.TheConstants.{LATEST_TIME}
 use Rattle.ss_landmarks.proofs.OrderLemmas.{RiseFrom_push}
-use Rattle.ss_model.specs.Marks.{later, latest_in, latest_of}
 use Rattle.ss_recover.specs.Carried.{is_mark_of}
 use Rattle.ss_recover.specs.Held.{value_records, values_said}
 use Rattle.ss_recover.specs.Marked.{Marked, are_marks, has_said, is_closed_before, is_next_landmark, is_next_value, has_all_values, landmarks_in}

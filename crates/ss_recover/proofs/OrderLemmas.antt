@@ -1,12 +1,12 @@
 -- Lists in the order of a key: what the order keeps, and that it is the only one that keeps ties as they stand.
-use Rattle.std.proofs.Common.{◌≡◌, ℕ, suc, ◌<◌, ◌≤◌, Bool, true, false, cond, eqb, ltb, leb, List, [], ◌∷◌, map, length, refl, sym, ap, ◌∙◌, subst, inl}
-use Rattle.std.proofs.Common.{inr, arith, get_or}
+use Rattle.std.proofs.Common.{◌≡◌, ℕ, suc, ◌≤◌, Bool, true, false, cond, eqb, ltb, leb, List, [], ◌∷◌, map, refl, sym, ap, ◌∙◌, subst, inl}
+use Rattle.std.proofs.Common.{inr, arith}
 use Rattle.std.specs.List.{filter, AllByRecursion}
 use Rattle.std.specs.Prelude.{not, ◌&&◌}
 use Rattle.std.specs.List.Sorted.{IsSortedByKey, IsStableByKey, IsNonDecreasingBy, ties}
 use Rattle.std.specs.Ordering.{is_lt, nat_cmp}
 use Rattle.std.proofs.lemmas.List.Sorted.{IsNonDecreasingBy-from_sort}
-use Rattle.std.proofs.lemmas.Bool.{cases_order, le-ltb, lt-ltb, cases_Bool, cases_eq, cond-true, cond-false, cond_both, leb-true, leb-false, eq-eqb, ne_eqb}
+use Rattle.std.proofs.lemmas.Bool.{cases_order, le-ltb, lt-ltb, cases_Bool, cases_eq, cond-true, cond-false, cond_both, leb-false, eq-eqb, ne_eqb}
 use Rattle.ss_recover.specs.Carried.{put_in_order, in_order}
 use Rattle.ss_recover.specs.Order.{Rises}
 use Rattle.ss_recover.proofs.InOrder.{Rises-in_order}

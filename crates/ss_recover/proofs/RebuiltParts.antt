@@ -15,7 +15,7 @@ use Rattle.ss_catalog.specs.Names.{same_name}
 use Rattle.ss_codec.specs.Decoded.{decoded}
 use Rattle.ss_codec.specs.declared.record.Record.{Record}
 use Rattle.ss_codec.specs.declared.record.Record.TheVariants.{Free}
-use Rattle.ss_landmarks.specs.Landmark.{Landmark, all_values}
+use Rattle.ss_landmarks.specs.Landmark.{Landmark}
 use Rattle.ss_landmarks.specs.Landmarks.{IsState as AreKnown}
 use Rattle.ss_landmarks.specs.Order.{AllEndBy, EndsBy}
 use Rattle.ss_landmarks.proofs.TimeLemmas.{AllEndBy-later}
@@ -30,9 +30,8 @@ use Rattle.ss_model.specs.declared.types.Window.{Window}
 use Rattle.ss_recover.specs.Carried.{created_by, in_order, is_mark_of, marks_carried, stream_number, spelled, streams_created, window_of, windows_carried}
 use Rattle.ss_recover.specs.Conditions.{has_new_name, has_one_record, has_place, is_sound, tile, times_rise}
 use Rattle.ss_recover.specs.Gathered.{AreFound, GathersAs}
-use Rattle.ss_recover.specs.Held.{Agrees, AllAgree, AreHeld, AreWhole, EndByLast, HasWholeSlots, TileFrom, all_value_records, entries_of, in_slots}
-use Rattle.ss_recover.specs.Held.{landmark_records, mark_slots, marks_held, occupied, records_held, slots_held, span_held, span_of, window_record}
-use Rattle.ss_recover.specs.Held.{window_slots, windows_held}
+use Rattle.ss_recover.specs.Held.{Agrees, AllAgree, AreHeld, AreWhole, EndByLast, HasWholeSlots, TileFrom, entries_of}
+use Rattle.ss_recover.specs.Held.{occupied, records_held, slots_held, span_held, span_of}
 use Rattle.ss_recover.specs.Marked.{are_marks, landmarks_made}
 use Rattle.ss_recover.specs.Order.{found_key, key_of, place_of}
 use Rattle.ss_recover.specs.Parts.{bad_slot, bad_stream, carried, judged, lowest_in, lowest_bad_slot, lowest_bad_stream, records_in, streams_carried}
@@ -45,12 +44,12 @@ use Rattle.ss_recover.specs.declared.parts.StreamParts.{StreamParts}
 use Rattle.ss_recover.specs.declared.recover_error.RecoverError.{RecoverError}
 use Rattle.ss_recover.specs.declared.recover_error.RecoverError.TheVariants.{BadSlot, BadStream, Disk, OutOfMemory}
 use Rattle.ss_recover.proofs.HeldLemmas.{carried-AreHeld}
-use Rattle.ss_recover.proofs.HeldRecords.{filter_map-filled, zeros_are_free}
+use Rattle.ss_recover.proofs.HeldRecords.{filter_map-filled, zeros_are_free, held-long, held-zip, records_of_stream}
 use Rattle.ss_recover.proofs.Latest.{AllEndBy-latest, none-latest}
 use Rattle.ss_recover.proofs.Lists.{filter_map-kept, kept, position-none, map-all}
-use Rattle.ss_recover.proofs.Marks.{length-all_value_records, length-landmark_records}
 use Rattle.ss_recover.proofs.OrderLemmas.{map-in_order}
 use Rattle.ss_recover.proofs.Unordered.{lowest-bad}
+use Rattle.std.proofs.lemmas.Slice.Zip.{firsts-zip}
 
 -- what is made of the records of a map is made of those that were found
 records_in-found : (all : List Found) → records_in (map (λ (e : ℕ × Option Record). e.1) (map in_slot all)) ≡ without_slots all
@@ -180,41 +179,6 @@ tiles-agree (p ∷ ps) (s ∷ ss) each sound =
     let few = sound.0.windows.few in
     (tile-agree 1 0 (entries_of p) s.windows sound.0.windows.stand (omega arith) (omega (arith, few)) each.0.positions, tiles-agree ps ss each.1 sound.1)
 
-map-first-zip : {X Y : Type 0} (xs : List X) (ys : List Y) → length xs ≡ length ys → map (λ (e : X × Y). e.0) (zip xs ys) ≡ xs
-map-first-zip [] ys same = refl
-map-first-zip (x ∷ xs) [] same = absurd (omega arith)
-map-first-zip (x ∷ xs) (y ∷ ys) same = ap (λ l. x ∷ l) (map-first-zip xs ys (omega arith))
-
-first-in_slots : (slots : List ℕ) (rs : List Record) → length slots ≡ length rs → map (λ (e : ℕ × Option Record). e.0) (in_slots slots rs) ≡ slots
-first-in_slots slots rs same = map-first-zip slots (map Some rs) (omega (arith, length-map rs (λ (r : Record). Some r), same))
-
-slots-marks : (part : StreamParts) (s : Stream) → Agrees part s → map (λ (e : ℕ × Option Record). e.0) (marks_held (part, s)) ≡ mark_slots part
-slots-marks part s agrees =
-    let known = agrees.known in
-    let landmarks = ap (λ (ls : List Landmark). length ls) agrees.landmarks in
-    let values = ap (λ (ls : List Landmark). length (all_values ls)) agrees.landmarks in
-    let rs = landmark_records s.number 1 s.landmarks in
-    let vs = all_value_records s.number 1 s.landmarks in
-    let one = length-landmark_records s.number 1 s.landmarks in
-    let two = length-all_value_records s.number 1 s.landmarks in
-    map-append (λ (e : ℕ × Option Record). e.0) (in_slots part.landmarks.slots rs) (in_slots part.landmarks.value_slots vs)
-    ∙ ap₂ ◌++◌ (first-in_slots part.landmarks.slots rs (omega (arith, known.slots, landmarks, one)))
-    (first-in_slots part.landmarks.value_slots vs (omega (arith, known.value_slots, values, two)))
-
-slots-windows : (part : StreamParts) (s : Stream) → Agrees part s → map (λ (e : ℕ × Option Record). e.0) (windows_held (part, s)) ≡ window_slots part
-slots-windows part s agrees =
-    let spans = ap (λ (ps : List (ℕ × ℕ)). length ps) agrees.positions in
-    let one = length-map (entries_of part) span_held in
-    let two = length-map s.windows span_of in
-    let three = length-map (entries_of part) (λ (e : Entry). e.slot) in
-    let four = length-map s.windows (λ w. Some (window_record s.number w)) in
-    ap (λ l. part.slot ∷ l) (map-first-zip (map (λ (e : Entry). e.slot) (entries_of part)) (map (λ w. Some (window_record s.number w)) s.windows) (omega arith))
-
-slots-one : (part : StreamParts) (s : Stream) → Agrees part s → map (λ (e : ℕ × Option Record). e.0) (records_held (part, s)) ≡ slots_held part
-slots-one part s agrees =
-    map-append (λ (e : ℕ × Option Record). e.0) (windows_held (part, s)) (marks_held (part, s))
-    ∙ ap₂ ◌++◌ (slots-windows part s agrees) (slots-marks part s agrees)
-
 slots-agree : (parts : List StreamParts) (ss : List Stream) → AllAgree parts ss →
     map (λ (e : ℕ × Option Record). e.0) (flat_map records_held (zip parts ss)) ≡ flat_map slots_held parts
 slots-agree [] [] each = refl
@@ -222,7 +186,9 @@ slots-agree [] (s ∷ ss) each = absurd each
 slots-agree (p ∷ ps) [] each = absurd each
 slots-agree (p ∷ ps) (s ∷ ss) each =
     map-append (λ (e : ℕ × Option Record). e.0) (records_held (p, s)) (flat_map records_held (zip ps ss))
-    ∙ ap₂ ◌++◌ (slots-one p s each.0) (slots-agree ps ss each.1)
+    ∙ ap₂ ◌++◌
+    (ap (map (λ (e : ℕ × Option Record). e.0)) (held-zip p s each.0)
+    ∙ firsts-zip (slots_held p) (map Some (records_of_stream s)) (sym (held-long p s each.0))) (slots-agree ps ss each.1)
 
 -- landmarks end by the later of two times, where the second is their latest
 ends-later : (ls : List Landmark) (newest latest : Option ℕ) → latest_of ls ≡ latest → MatchOption (later newest latest) (ls ≡ []) (λ last. AllEndBy last ls)

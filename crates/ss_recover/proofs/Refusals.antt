@@ -40,9 +40,8 @@ use Rattle.ss_recover.proofs.MarksSoFar.{marks-made, marks-whole, not-marks}
 use Rattle.ss_recover.proofs.SoundInOrder.{marks-apart, sound-below, unsound-back_free, unsound-back_marks, unsound-full, unsound-named}
 use Rattle.ss_recover.proofs.SoundInOrder.{unsound-two_streams, unsound-window, unsound-without_stream}
 use Rattle.ss_recover.proofs.WalkCurrent.{PhaseAs, phase-ended}
-use Rattle.ss_recover.proofs.WalkLemmas.{AreNames}
-use Rattle.ss_recover.proofs.WalkOrder.{IsAmid, no-marks-behind}
-use Rattle.ss_recover.proofs.WalkRecords.{all_walked, own-windows}
+use Rattle.ss_recover.proofs.WalkLemmas.{AreNames, IsAmid, no-marks-behind}
+use Rattle.ss_recover.proofs.HeldRecords.{all_walked, own-windows}
 use Rattle.ss_recover.proofs.WalkSteps.{AreComing, AreDone, Holds, HoldsAs, HoldsFor, coming-at_most, left, no-windows}
 
 lowest : (ss : List Stream) (back : List Record) (n : ℕ) (below : AllByRecursion (λ s. s.number < n) ss) (above : AllByRecursion (λ r. n ≤ stream_of r) back) →
@@ -238,7 +237,7 @@ module _ (stream : Open) (done : List StreamParts) (names : List (List ℕ × St
       lacking (w ∷ ws) phase = absurd (ended-lacks stream coming.current.marked.before coming.current.marked.last coming.current.marked.said phase lacks)
 
   -- a record of a landmark or a value may not come next
-  pub refused-mark : (r : Record) (more : List Record) → without_slots back ≡ r ∷ more → is_mark_of number r ≡ true →
+  refused-mark : (r : Record) (more : List Record) → without_slots back ≡ r ∷ more → is_mark_of number r ≡ true →
       marked_with coming.current.marked r ≡ None →
       IsLowestUnsound number (without_slots (front ++ back))
   refused-mark r more is own_mark none =
@@ -255,7 +254,7 @@ module _ (stream : Open) (done : List StreamParts) (names : List (List ℕ × St
       ∙ ap (λ l. coming.current.windows ++ filter_map (window_of number) l) is
       ∙ ap (λ (b : Bool). coming.current.windows ++ cons_option (cond b (Some w) None) (filter_map (window_of number) more)) (eq-eqb number number refl)
 
-  pub refused-window : (w : Window) (more : List Record) → without_slots back ≡ window_record number w ∷ more →
+  refused-window : (w : Window) (more : List Record) → without_slots back ≡ window_record number w ∷ more →
       (w.first ≡ taken coming.current.windows + 1 → IsAfter (newest_time coming.current.windows) w.summary.t_first → ⊥) →
       IsLowestUnsound number (without_slots (front ++ back))
   refused-window w more is refused =
@@ -263,7 +262,7 @@ module _ (stream : Open) (done : List StreamParts) (names : List (List ℕ × St
       (window-next w more is) refused)
 
   -- it doesn't lie free among the landmarks
-  pub refused-free : (mid : Open) (w : Window) (more : List Record) → without_slots back ≡ window_record number w ∷ more →
+  refused-free : (mid : Open) (w : Window) (more : List Record) → without_slots back ≡ window_record number w ∷ more →
       filter (is_mark_of number) (without_slots back) ≡ [] →
       IsEnded mid coming.current.marked → lies_free mid.part.landmarks.landmarks w ≡ false → IsLowestUnsound number (without_slots (front ++ back))
   refused-free mid w more is none ended covered =
@@ -279,7 +278,7 @@ module _ (stream : Open) (done : List StreamParts) (names : List (List ℕ × St
       not-all p (y ∷ xs) x ys fails = and_right (p y) (list_all p (xs ++ x ∷ ys)) (not-all p xs x ys fails)
 
   -- another record of the stream itself
-  pub refused-twice : (name : List ℕ) (params : Params) (more : List Record) → without_slots back ≡ records.Stream number name params ∷ more →
+  refused-twice : (name : List ℕ) (params : Params) (more : List Record) → without_slots back ≡ records.Stream number name params ∷ more →
       IsLowestUnsound number (without_slots (front ++ back))
   refused-twice name params more is =
       let n = number in
@@ -301,89 +300,67 @@ module _ (stream : Open) (done : List StreamParts) (names : List (List ℕ × St
         cond-true {A = ℕ} (n == n) 1 0 (eq-eqb n n refl),
       )))
 
--- ---- any record that is refused
+  -- any record of it that is refused
+  into : AreKnown stream.part.landmarks → (r : Record) (more : List Record) → without_slots back ≡ r ∷ more → stream_of r ≡ number →
+      IsAmid (without_slots front) r more → RefusesNext stream r → IsLowestUnsound number (without_slots (front ++ back))
+  into known records.Free more is same amid refuses = absurd amid.usable
+  into known (records.Stream id name params) more is same amid refuses =
+      refused-twice name params more (is ∙ ap (λ n. records.Stream n name params ∷ more) same)
+  into known (records.Value id n index t v) more is same amid refuses =
+      let r = records.Value id n index t v in
+      let m = coming.current.marked in
+      let few = amid.usable.1 in
+      let short = amid.usable.2 in
+      let none = no-windows stream done names front coming r more amid same (omega (arith, few, short)) in
+      refused-mark r more is (eq-eqb id number same)
+      (cond-false (is_next_value m n index t) (Some (with_more m t v)) None
+      (next-add stream m.before m.last m.said n index t known.order (subst (PhaseAs stream m) none coming.current.phase) refuses))
+  into known (records.Landmark id n values start finish) more is same amid refuses =
+      let r = records.Landmark id n values start finish in
+      let m = coming.current.marked in
+      let few = amid.usable.1 in
+      let none = no-windows stream done names front coming r more amid same (omega (arith, few)) in
+      let marking = subst (PhaseAs stream m) none coming.current.phase in
+      let test : is_next_landmark m n start ≡ false = elim refuses [
+        | inl lacks ↦ next-whole m n start (lacks-whole stream m.before m.last m.said known.order marking lacks)
+        | inr cannot ↦
+            next-begin cannot.0 m n start cannot.2.order
+            (phase-ended stream cannot.0 m coming.current.windows known.order coming.current.phase cannot.1) cannot.3
+      ] in
+      refused-mark r more is (eq-eqb id number same) (cond-false (is_next_landmark m n start) (Some (with_next m values start finish)) None test)
+  into known (records.Window id first summary) more is same amid refuses =
+      let r = records.Window id first summary in
+      let m = coming.current.marked in
+      let w : Window = record { first = first; summary = summary } in
+      let next : without_slots back ≡ window_record number w ∷ more = is ∙ ap (λ n. records.Window n first summary ∷ more) same in
+      let places : AllByRecursion (λ other. stream_of other ≡ number → 2 ^ 64 + first ≤ place_of other) more =
+      all_weaker (λ other. stream_of other ≡ stream_of r → place_of r ≤ place_of other)
+      (λ other. stream_of other ≡ number → 2 ^ 64 + first ≤ place_of other) (λ other le also. le (also ∙ sym same)) more amid.places in
+      let none : filter (is_mark_of number) (without_slots back) ≡ [] =
+      ap (filter (is_mark_of number)) is ∙ no-marks-behind number first more amid.rest places in
+      elim refuses [
+        | inl lacks ↦ refused-lacks none known lacks
+        | inr cannot ↦
+            let mid = cannot.0 in
+            let ended = phase-ended stream mid m coming.current.windows known.order coming.current.phase cannot.1 in
+            elim (cases_Bool (lies_free mid.part.landmarks.landmarks w)) [
+              | inr covered ↦ refused-free mid w more next none ended covered
+              | inl free ↦
+                  refused-window w more next
+                  (λ place after. cannot.2 (record {
+                    in_turn = place ∙ sym (cannot.1.same.next ∙ coming.current.place);
+                    after = subst (λ (o : Option ℕ). IsAfter o summary.t_first) (sym (cannot.1.same.newest ∙ coming.current.newest)) after;
+                    free = free;
+                  }))
+            ]
+      ]
+
+-- ---- at the end of a stream, and at any record
 
 others-behind : (n : ℕ) (rs : List Record) → AllByRecursion (λ r. n < stream_of r) rs → filter (is_mark_of n) rs ≡ []
-others-behind n rs above = marks-apart n rs (all_weaker (λ r. n < stream_of r) (λ r. stream_of r ≡ n → ⊥)
-    (λ r lt same. absurd (omega (arith, lt, same))) rs above)
-
-module _ (stream : Open) (done : List StreamParts) (names : List (List ℕ × StreamId)) (front : List Found) (slot : ℕ) (back : List Found)
-    (coming : AreComing stream done names front)
-    (known : AreKnown stream.part.landmarks) where
-  into : (r : Record) → stream_of r ≡ coming.head.number → IsAmid (without_slots front) r (without_slots back) → RefusesNext stream r →
-      IsLowestUnsound coming.head.number (without_slots (front ++ record { slot = slot; holds = r } ∷ back))
-  into r same amid refuses = go r same amid refuses
-    where
-      at-least : (r : Record) → stream_of r ≡ coming.head.number → IsAmid (without_slots front) r (without_slots back) →
-          AllByRecursion (λ other. coming.head.number ≤ stream_of other) (r ∷ without_slots back)
-      at-least r same amid = (
-        omega (arith, same),
-        all_weaker (λ other. stream_of r ≤ stream_of other) (λ other. coming.head.number ≤ stream_of other)
-            (λ other le. omega (arith, le, same)) (without_slots back) amid.behind,
-      )
-
-      go : (r : Record) → stream_of r ≡ coming.head.number → IsAmid (without_slots front) r (without_slots back) → RefusesNext stream r →
-          IsLowestUnsound coming.head.number (without_slots (front ++ record { slot = slot; holds = r } ∷ back))
-      go records.Free same amid refuses = absurd amid.usable
-      go (records.Stream id name params) same amid refuses =
-          let r = records.Stream id name params in
-          refused-twice stream done names front (record { slot = slot; holds = r } ∷ back) coming (at-least r same amid) name params (without_slots back)
-          (ap (λ n. records.Stream n name params ∷ without_slots back) same)
-      go (records.Value id number index t v) same amid refuses =
-          let r = records.Value id number index t v in
-          let few = amid.usable.1 in
-          let short = amid.usable.2 in
-          let none = no-windows stream done names front coming r (without_slots back) amid same (omega (arith, few, short)) in
-          refused-mark stream done names front (record { slot = slot; holds = r } ∷ back) coming (at-least r same amid) r (without_slots back) refl
-          (eq-eqb id coming.head.number same)
-          (cond-false (is_next_value coming.current.marked number index t) (Some (with_more coming.current.marked t v)) None
-          (next-add stream coming.current.marked.before coming.current.marked.last coming.current.marked.said number index t known.order
-          (subst (PhaseAs stream coming.current.marked) none coming.current.phase) refuses))
-      go (records.Landmark id number values start finish) same amid refuses =
-          let r = records.Landmark id number values start finish in
-          let few = amid.usable.1 in
-          let none = no-windows stream done names front coming r (without_slots back) amid same (omega (arith, few)) in
-          let marking = subst (PhaseAs stream coming.current.marked) none coming.current.phase in
-          let test : is_next_landmark coming.current.marked number start ≡ false = elim refuses [
-            | inl lacks ↦ next-whole coming.current.marked number start
-                (lacks-whole stream coming.current.marked.before coming.current.marked.last coming.current.marked.said known.order marking lacks)
-            | inr cannot ↦
-                next-begin cannot.0 coming.current.marked number start cannot.2.order
-                (phase-ended stream cannot.0 coming.current.marked coming.current.windows known.order coming.current.phase cannot.1) cannot.3
-          ] in
-          refused-mark stream done names front (record { slot = slot; holds = r } ∷ back) coming (at-least r same amid) r (without_slots back) refl
-          (eq-eqb id coming.head.number same)
-          (cond-false (is_next_landmark coming.current.marked number start) (Some (with_next coming.current.marked values start finish)) None test)
-      go (records.Window id first summary) same amid refuses =
-          let r = records.Window id first summary in
-          let m = coming.current.marked in
-          let w : Window = record { first = first; summary = summary } in
-          let x : Found = record { slot = slot; holds = r } in
-          let is : r ∷ without_slots back ≡ window_record coming.head.number w ∷ without_slots back =
-          ap (λ n. records.Window n first summary ∷ without_slots back) same in
-          let least = at-least r same amid in
-          let places : AllByRecursion (λ other. stream_of other ≡ coming.head.number → 2 ^ 64 + first ≤ place_of other) (without_slots back) =
-          all_weaker (λ other. stream_of other ≡ stream_of r → place_of r ≤ place_of other)
-          (λ other. stream_of other ≡ coming.head.number → 2 ^ 64 + first ≤ place_of other)
-          (λ other le also. le (also ∙ sym same)) (without_slots back) amid.places in
-          let none : filter (is_mark_of coming.head.number) (r ∷ without_slots back) ≡ [] =
-          no-marks-behind coming.head.number first (without_slots back) amid.rest places in
-          elim refuses [
-            | inl lacks ↦ refused-lacks stream done names front (x ∷ back) coming least none known lacks
-            | inr cannot ↦
-                let mid = cannot.0 in
-                let ended = phase-ended stream mid m coming.current.windows known.order coming.current.phase cannot.1 in
-                elim (cases_Bool (lies_free mid.part.landmarks.landmarks w)) [
-                  | inr covered ↦ refused-free stream done names front (x ∷ back) coming least mid w (without_slots back) is none ended covered
-                  | inl free ↦
-                      refused-window stream done names front (x ∷ back) coming least w (without_slots back) is
-                      (λ place after. cannot.2 (record {
-                        in_turn = place ∙ sym (cannot.1.same.next ∙ coming.current.place);
-                        after = subst (λ (o : Option ℕ). IsAfter o summary.t_first) (sym (cannot.1.same.newest ∙ coming.current.newest)) after;
-                        free = free;
-                      }))
-                ]
-          ]
+others-behind n rs above =
+    marks-apart n rs
+    (all_weaker (λ r. n < stream_of r) (λ r. stream_of r ≡ n → ⊥) (λ r lt same. absurd (omega (arith, lt, same))) rs above)
 
 -- the stream whose records came lacks values at its end
 pub lacks-at_end : (old : Walk) (n : ℕ) (front back : List Found) → Holds old front → CannotClose old n →
@@ -430,8 +407,14 @@ refused-here mid slot r front back holds amid (inr next) =
     let its = subst (λ o. HoldsFor o mid.done.items mid.names front (stream_of r)) next.current holds in
     let coming = its.0 in
     let same : stream_of r ≡ coming.head.number = sym its.1 ∙ coming.current.number in
-    subst (λ n. IsLowestUnsound n (without_slots (front ++ record { slot = slot; holds = r } ∷ back))) (sym same)
-    (into next.stream mid.done.items mid.names front slot back coming next.known r same amid next.refuses)
+    let x : Found = record { slot = slot; holds = r } in
+    let least : AllByRecursion (λ other. coming.head.number ≤ stream_of other) (r ∷ without_slots back) = (
+      omega (arith, same),
+      all_weaker (λ other. stream_of r ≤ stream_of other) (λ other. coming.head.number ≤ stream_of other)
+          (λ other le. omega (arith, le, same)) (without_slots back) amid.behind,
+    ) in
+    subst (λ n. IsLowestUnsound n (without_slots (front ++ x ∷ back))) (sym same)
+    (into next.stream mid.done.items mid.names front (x ∷ back) coming least next.known r (without_slots back) refl same amid next.refuses)
 
 open-other : (o : Option Open) (stream : Open) (n : ℕ) → o ≡ Some stream → is_current o n ≡ false → stream.part.id.0 ≡ n → ⊥
 open-other o stream n is other same = true≢false (sym (ap (λ q. is_current q n) is ∙ eq-eqb stream.part.id.0 n same) ∙ other)

@@ -1,5 +1,5 @@
 -- Worked maps of a few slots, and what each carries or where it is damaged.
-use Rattle.std.specs.Prelude.{◌≡◌, ℕ, ◌+◌, ◌-◌, ◌*◌, ◌^◌, true, false, pos, negsuc, List, [], ◌∷◌, length, replicate, slice_index_or, slice_set, map}
+use Rattle.std.specs.Prelude.{◌≡◌, ℕ, ◌+◌, ◌-◌, ◌*◌, ◌^◌, true, false, pos, negsuc, List, [], ◌∷◌, length, replicate, slice_index_or, slice_set, map, Ok, Err}
 use Rattle.std.specs.Prelude.{Option, Some, None}
 use Rattle.std.proofs.Common.{refl}
 use Rattle.ss_fields.specs.Fields as Numbers
@@ -21,6 +21,9 @@ use Rattle.ss_model.specs.declared.types.Window.{Window}
 use Rattle.ss_recover.specs.Carried.{spelled}
 use Rattle.ss_recover.specs.Conditions.{is_sound, has_place, tile}
 use Rattle.ss_recover.specs.Parts.{Carried, bad_slot, bad_stream, carries, carried}
+use Rattle.ss_outside.specs.Verdict.{fine, refused, failed, no_memory}
+use Rattle.ss_recover.specs.Rebuilt.{verdict_of_rebuild}
+use Rattle.ss_recover.specs.declared.recover_error.RecoverError.TheVariants.{BadSlot, BadStream, Disk, OutOfMemory}
 
 -- a map of these slots, and none after them
 abbrev map_of : List (List ℕ) → SlotMap
@@ -257,3 +260,11 @@ MOST_STREAMS-is = refl
 
 MOST_VALUES-is : MOST_VALUES ≡ 2 ^ 40
 MOST_VALUES-is = refl
+
+-- what each answer of rebuilding is
+verdicts-rebuild : map (λ error. verdict_of_rebuild {T = ℕ} (Err error)) (BadSlot 7 ∷ BadStream 7 ∷ Disk ∷ OutOfMemory ∷ [])
+    ≡ refused ∷ refused ∷ failed ∷ no_memory ∷ []
+verdicts-rebuild = refl
+
+verdict-Ok : verdict_of_rebuild {T = ℕ} (Ok 7) ≡ fine
+verdict-Ok = refl

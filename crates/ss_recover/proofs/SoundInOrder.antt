@@ -31,7 +31,7 @@ use Rattle.ss_recover.proofs.InOrder.{Rise}
 use Rattle.ss_recover.proofs.Lists.{all_append, all_weaker, map-all, all-from_map}
 use Rattle.ss_recover.proofs.SoundStreams.{IsOnce-each, IsNew-each, tile-AreWindows, times_rise-AreWindows, MeetsAll, MeetsAll-and, and-MeetsAll, count-lower}
 use Rattle.ss_recover.proofs.Marks.{are_marks-marks_of, landmarks_made-marks_of, marks_of}
-use Rattle.ss_recover.proofs.WalkRecords.{HasOwn, HasOwn-each, all-all_walked, all_walked, created-all_walked, marks-others, windows-others, created}
+use Rattle.ss_recover.proofs.HeldRecords.{HasOwn, HasOwn-each, all-all_walked, all_walked, created-all_walked, marks-others, windows-others, created}
 
 -- one condition that isn't met
 module _ (rs : List Record) (n : ℕ) where

@@ -27,7 +27,7 @@ use Rattle.ss_recover.specs.declared.walking.Open.{Open}
 use Rattle.ss_recover.proofs.Marks.{marks_of}
 use Rattle.ss_recover.proofs.Permutations.{IsPermutation-turn}
 use Rattle.ss_recover.proofs.WalkCurrent.{IsCurrent, found_landmark, found_other, free-ended, head_found, is_landmark, phase-ended, slots_of}
-use Rattle.ss_recover.proofs.WalkRecords.{walked}
+use Rattle.ss_recover.proofs.HeldRecords.{walked}
 use Rattle.ss_recover.proofs.MarksSoFar.{AreOf-marked_by}
 use Rattle.ss_recover.proofs.Phases.{ended-landmarks, ended-whole}
 use Rattle.ss_recover.proofs.Lists.{map-all}

@@ -1,50 +1,39 @@
 -- What the steps of a walk do, from what its code does.
-use Rattle.std.proofs.Common.{◌≡◌, ◌∙◌, ℕ, ◌<◌, ◌≤◌, Bool, true, false, List, [], length, Option, Some, None, IsSome, IfSome, MatchOption, refl, sym, ap}
+use Rattle.std.proofs.Common.{◌≡◌, ◌∙◌, ℕ, ◌≤◌, Bool, true, false, List, [], length, Option, Some, None, IsSome, IfSome, MatchOption, refl, sym, ap}
 use Rattle.std.proofs.Common.{subst, inl, inr, arith}
-use Rattle.std.specs.Prelude.{◌⊎◌, ◌-◌, slice_index, Result, Ok, Err, IfOk}
+use Rattle.std.specs.Prelude.{◌⊎◌, ◌-◌, slice_index, Result, Ok, Err}
 use Rattle.std.specs.Option.{option_map}
 use Rattle.ss_landmarks.specs.Landmark.{Landmark, change_last, closed_at, open_landmark}
 use Rattle.ss_landmarks.specs.Landmarks.{LandmarksState, opened}
 use Rattle.ss_landmarks.specs.Order.{CanClose, CanOpen, CanTake}
 use Rattle.ss_landmarks.specs.declared.landmarks.TheConstants.{LATEST_TIME}
 use Rattle.ss_landmarks.proofs.TimeLemmas.{CanClose-after, CanOpen-after, CanTake-after, CanTake-first}
-use Rattle.ss_line.specs.declared.line.Line.{Line}
 use Rattle.ss_model.specs.Marks.{latest_of}
-use Rattle.ss_model.specs.declared.types.TheConstants.{MOST_RECORDS}
-use Rattle.ss_recover.specs.Walk.{CanAdd, CanBegin, EndsLandmark, HasSameWindows, IsAfter, KeepsTime, HasRoomForOne, RefusesFirst, Tells, with_closing}
+use Rattle.ss_recover.specs.Walk.{CanAdd, CanBegin, EndsLandmark, HasSameWindows, IsAfter, KeepsTime, Tells, with_closing, Tries}
 use Rattle.ss_recover.specs.Walk.{time_at_end}
 use Rattle.ss_recover.specs.declared.recover_error.RecoverError.{RecoverError}
 use Rattle.ss_recover.specs.declared.walking.Closing.{Closing}
 use Rattle.ss_recover.specs.declared.walking.Open.{Open}
-use Rattle.ss_recover.specs.declared.walking.Walk.{Walk}
-use Rattle.ss_catalog.specs.declared.params.Params.{Params}
-use Rattle.ss_codec.specs.declared.record.Record.{Record}
-use Rattle.ss_codec.specs.declared.record.Record.TheVariants as records
 use Rattle.ss_recover.proofs.Latest.{AllEndBy-latest, latest_of-closed, none-latest}
 
 -- the landmark that is told as the open one
-pub record IsTold (landmarks : List Landmark) (start values : ℕ) : Type 0 where
+pub record IsTold (landmarks : List Landmark) (values : ℕ) : Type 0 where
   pub landmark : Landmark
   pub is_open : open_landmark landmarks ≡ Some landmark
-  pub starts : landmark.start ≡ start
   pub long : length landmark.values ≡ values
-
-abbrev first-told : Option (ℕ × ℕ × ℕ) → ℕ
-first-told None = 0
-first-told (Some p) = p.0
 
 abbrev last-told : Option (ℕ × ℕ × ℕ) → ℕ
 last-told None = 0
 last-told (Some (start, slot, values)) = values
 
-pub IsTold-opened : (state : LandmarksState) (start slot values : ℕ) → opened state ≡ Some (start, slot, values) → IsTold state.landmarks start values
+pub IsTold-opened : (state : LandmarksState) (start slot values : ℕ) → opened state ≡ Some (start, slot, values) → IsTold state.landmarks values
 IsTold-opened state start slot values is = go (open_landmark state.landmarks) refl is
   where
     go : (o : Option Landmark) → open_landmark state.landmarks ≡ o →
         option_map {U = ℕ × ℕ × ℕ} (λ l. (l.start, slice_index state.slots (length state.slots - 1), length l.values)) o ≡ Some (start, slot, values) →
-        IsTold state.landmarks start values
+        IsTold state.landmarks values
     go None is_none told = cc
-    go (Some l) is_some told = record { landmark = l; is_open = is_some; starts = ap first-told told; long = ap last-told told }
+    go (Some l) is_some told = record { landmark = l; is_open = is_some; long = ap last-told told }
 
 -- a landmark that is to close may close then
 abbrev MayClose : List Landmark → Option ℕ → Option Closing → Type 0
@@ -147,14 +136,7 @@ tells-false true P Q tells is = cc
 tells-false false P Q tells is = tells
 
 -- an answer tells what follows from what another one tells
-pub tells-more : (result : Result Bool RecoverError) (K P Q R S : Type 0) → IfOk result (λ fits. K) → IfOk result (λ fits. Tells fits P Q) →
-    (K → P → R) → (K → Q → S) → IfOk result (λ fits. Tells fits R S)
-tells-more (Ok true) K P Q R S known tells this other = this known tells
-tells-more (Ok false) K P Q R S known tells this other = other known tells
-tells-more (Err e) K P Q R S known tells this other = tt
-
-pub tells-also : (result : Result Bool RecoverError) (P Q R S : Type 0) → IfOk result (λ fits. Tells fits P Q) → (P → R) → (Q → S) →
-    IfOk result (λ fits. Tells fits R S)
-tells-also (Ok true) P Q R S tells this other = this tells
-tells-also (Ok false) P Q R S tells this other = other tells
-tells-also (Err e) P Q R S tells this other = tt
+pub tries-also : (result : Result Bool RecoverError) (P Q R S : Type 0) → Tries result P Q → (P → R) → (Q → S) → Tries result R S
+tries-also (Ok true) P Q R S tells this other = this tells
+tries-also (Ok false) P Q R S tells this other = other tells
+tries-also (Err e) P Q R S tells this other = tells

@@ -21,8 +21,7 @@ use Rattle.ss_recover.specs.declared.walking.Walk.{Walk}
 use Rattle.ss_recover.proofs.Lists.{all_push, all_weaker, all_behind}
 use Rattle.ss_recover.proofs.WalkClosed.{done-agrees, done-held, done-is, done-records, done_stream}
 use Rattle.ss_recover.proofs.WalkCurrent.{IsCurrent, IsCurrent-add, IsCurrent-begin, IsCurrent-grow, IsCurrent-new}
-use Rattle.ss_recover.proofs.WalkLemmas.{AreHeldSoFar, AreHeldSoFar-none, AreHeldSoFar-push, AreNames, AreNames-none}
-use Rattle.ss_recover.proofs.WalkOrder.{IsAmid}
+use Rattle.ss_recover.proofs.WalkLemmas.{AreHeldSoFar, AreHeldSoFar-none, AreHeldSoFar-push, AreNames, AreNames-none, IsAmid}
 
 -- Streams that are done, and the one whose records come after theirs.
 pub record AreComing (stream : Open) (done : List StreamParts) (names : List (List ℕ × StreamId)) (all : List Found) : Type 0 where
@@ -64,7 +63,6 @@ module _ (stream : Open) (done : List StreamParts) (names : List (List ℕ × St
     pub streams : List Stream
     pub held : AreHeldSoFar new streams all
     pub names_are : AreNames names (names_of streams)
-    pub most : (n : ℕ) → coming.head.number ≤ n → AllByRecursion (λ s. s.number ≤ n) streams
     pub less : (n : ℕ) → coming.head.number < n → AllByRecursion (λ s. s.number < n) streams
 
   pub all-held : (mid : Open) (new : List StreamParts) → EndsLandmark stream mid → AreKnown stream.part.landmarks → AreKnown mid.part.landmarks →
@@ -82,8 +80,6 @@ module _ (stream : Open) (done : List StreamParts) (names : List (List ℕ × St
             subst (λ ps. AreHeldSoFar ps (coming.streams ++ s ∷ []) all) (sym is)
             (subst (AreHeldSoFar (done ++ done_part mid ∷ []) (coming.streams ++ s ∷ [])) (sym coming.split) pushed);
         names_are = subst (AreNames names) (sym (map-append (λ (u : Stream). u.name) coming.streams (s ∷ []))) coming.names_are;
-        most = λ n le. all_push (λ u. u.number ≤ n) coming.streams s
-            (all_weaker (λ u. u.number < coming.head.number) (λ u. u.number ≤ n) (λ u lt. omega (arith, lt, le)) coming.streams coming.above) le;
         less = λ n less. all_push (λ u. u.number < n) coming.streams s
             (all_weaker (λ u. u.number < coming.head.number) (λ u. u.number < n) (λ u lt. omega (arith, lt, less)) coming.streams coming.above) less;
       }

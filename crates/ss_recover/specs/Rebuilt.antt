@@ -1,5 +1,5 @@
 -- What rebuilding answers.
-use Rattle.std.specs.Prelude.{◌≡◌, ℕ, List, Result, Ok, Err, ⊤}
+use Rattle.std.specs.Prelude.{◌≡◌, List, Result, Ok, Err, ⊤}
 use Rattle.ss_outside.specs.Crash.{OnlyReads}
 use Rattle.ss_outside.specs.Disk.{Told}
 use Rattle.ss_outside.specs.Verdict.{Verdict, UnlessFailed, fine, refused, no_memory, failed}

@@ -43,6 +43,11 @@ abbrev pub Tells : Bool → Type 0 → Type 0 → Type 0
 Tells true P Q = P
 Tells false P Q = Q
 
+-- what a step answers: one fact or another, or that memory ran out
+abbrev pub Tries : Result Bool RecoverError → Type 0 → Type 0 → Type 0
+Tries (Ok fits) P Q = Tells fits P Q
+Tries (Err error) P Q = error ≡ OutOfMemory
+
 -- a stream of which no other record came
 pub record HasBegun (stream : Open) (slot id : ℕ) (name : List ℕ) (params : Params) : Type 0 where
   pub has_id : stream.part.id.0 ≡ id

@@ -11,7 +11,7 @@ ghost use Rattle.ss_target.specs.Lengths.{has_target};
 ghost use Rattle.ss_model.specs.Marks.{later};
 ghost use Rattle.ss_model.specs.declared.types.TheConstants.{MOST_RECORDS};
 ghost use Rattle.ss_recover.specs.Order.{Rises, found_key, stream_of};
-ghost use Rattle.ss_recover.specs.Walk.{Tells, HasBegun, Grows, IsAfter, KeepsTime, HasRoomForOne, closing_at, finish_of, EndsLandmark, LacksValues};
+ghost use Rattle.ss_recover.specs.Walk.{Tells, Tries, HasBegun, Grows, IsAfter, KeepsTime, HasRoomForOne, closing_at, finish_of, EndsLandmark, LacksValues};
 ghost use Rattle.ss_recover.specs.Walk.{Begins, CanBegin, TakesValue, CanAdd, TakesWindow, IsNext, TakesNext, RefusesNext, is_current, Closes};
 ghost use Rattle.ss_recover.specs.Walk.{CannotClose, LeavesStream, TakesFirst, RefusesFirst, TakesHere, RefusesHere, Takes, Refuses, AnswersAs};
 ghost use Rattle.ss_recover.specs.Walk.{AwaitsRecord, IsUsable, WalksAs, IsFront, AreAllBuilt, IsLowestUnsound, without_slots};
@@ -190,10 +190,8 @@ impl Open {
     ) -> Result<bool, RecoverError>
         requires ready { HasRoomForOne self.old }
         requires time { start ≤ LATEST_TIME }
-        ensures known { IfOk result (λ fits. AreKnown self.old.part.landmarks) }
-        ensures ok { IfOk result (λ fits. Tells fits (Begins self.old self.new slot number values start finish)
-            (¬ CanBegin self.old number start)) }
-        ensures err { IfErr result (λ error. error ≡ OutOfMemory) }
+        ensures { Tries result (AreKnown self.old.part.landmarks × Begins self.old self.new slot number values start finish)
+            (AreKnown self.old.part.landmarks × (¬ CanBegin self.old number start)) }
     {
         if !self.can_begin(number, start) {
             return Ok(false);
@@ -233,8 +231,7 @@ impl Open {
     ) -> Result<bool, RecoverError>
         requires ready { HasRoomForOne self.old }
         requires time { t ≤ LATEST_TIME }
-        ensures ok { IfOk result (λ fits. Tells fits (TakesValue self.old self.new slot number index t v) (¬ CanAdd self.old number index t)) }
-        ensures err { IfErr result (λ error. error ≡ OutOfMemory) }
+        ensures { Tries result (TakesValue self.old self.new slot number index t v) (¬ CanAdd self.old number index t) }
     {
         if !self.can_add(number, index, t) {
             return Ok(false);
@@ -266,9 +263,7 @@ impl Open {
         requires ready { HasRoomForOne self.old }
         requires last { first + summary.count ≤ GREATEST_COUNT + 1 }
         requires possible { IsPossible summary }
-        ensures ok { IfOk result (λ fits. Tells fits (TakesWindow self.old self.new slot first summary)
-            (¬ IsNext self.old first summary)) }
-        ensures err { IfErr result (λ error. error ≡ OutOfMemory) }
+        ensures { Tries result (TakesWindow self.old self.new slot first summary) (¬ IsNext self.old first summary) }
     {
         if !self.can_grow(first, summary) {
             return Ok(false);
@@ -288,9 +283,8 @@ impl Open {
     ) -> Result<bool, RecoverError>
         requires ready { HasRoomForOne self.old }
         requires valid { IsUsable holds.now }
-        ensures known { IfOk result (λ fits. AreKnown self.old.part.landmarks) }
-        ensures ok { IfOk result (λ fits. Tells fits (TakesNext self.old self.new slot holds.now) (RefusesNext self.old holds.now)) }
-        ensures err { IfErr result (λ error. error ≡ OutOfMemory) }
+        ensures { Tries result (AreKnown self.old.part.landmarks × TakesNext self.old self.new slot holds.now)
+            (AreKnown self.old.part.landmarks × RefusesNext self.old holds.now) }
     {
         // Landmarks say that they are in order of time.
         let _ = self.part.landmarks.count();
@@ -385,9 +379,7 @@ impl Walk {
     // The first record of a stream. False says that it isn't the stream's own, or that no stream of its name may be added.
     fn begin(&mut self, alloc: Global, found: &Found) -> Result<bool, RecoverError>
         requires valid { IsUsable found.now.holds }
-        ensures ok { IfOk result (λ fits. Tells fits (TakesFirst self.old self.new found.now.slot found.now.holds)
-            (RefusesFirst self.old found.now.holds)) }
-        ensures err { IfErr result (λ error. error ≡ OutOfMemory) }
+        ensures { Tries result (TakesFirst self.old self.new found.now.slot found.now.holds) (RefusesFirst self.old found.now.holds) }
     {
         let Record::Stream { id, name, params } = found.holds else {
             return Ok(false);
@@ -412,9 +404,7 @@ impl Walk {
     ) -> Result<bool, RecoverError>
         requires room { AwaitsRecord self.old }
         requires valid { IsUsable found.now.holds }
-        ensures ok { IfOk result (λ fits. Tells fits (TakesHere self.old self.new found.now.slot found.now.holds)
-            (RefusesHere self.old found.now.holds)) }
-        ensures err { IfErr result (λ error. error ≡ OutOfMemory) }
+        ensures { Tries result (TakesHere self.old self.new found.now.slot found.now.holds) (RefusesHere self.old found.now.holds) }
     {
         match &mut self.current {
             Some(stream) => stream.take(found.slot, &found.holds, steps),

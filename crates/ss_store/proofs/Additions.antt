@@ -29,13 +29,15 @@ use Rattle.ss_model.proofs.Tiles.{taken-append}
 use Rattle.ss_recover.specs.Held.{Agrees, TileFrom, entries_of, mark_slots, records_held, slots_held, span_held, span_of, stream_record, window_record, window_slots, windows_held}
 use Rattle.ss_recover.specs.declared.parts.StreamParts.{StreamParts}
 use Rattle.ss_store.specs.Calls.{Turns}
-use Rattle.ss_store.specs.Held.{IsHalfway, IsHeldIn, values_held, with_single, with_windows}
-use Rattle.ss_store.specs.Slots.{AddsRecord, Either, HasRecords, LiveSlotsGo}
+use Rattle.ss_store.specs.Held.{IsHalfway, values_held, with_single, with_windows}
+use Rattle.ss_query.specs.Held.{IsHeldIn}
+use Rattle.ss_store.specs.Slots.{AddsRecord, Either, LiveSlotsGo}
+use Rattle.ss_query.specs.Slots.{HasRecords}
 use Rattle.ss_store.proofs.Calls.{Turns-weaker}
 use Rattle.ss_store.proofs.Joinings.{IsPartlyJoined-none}
 use Rattle.ss_store.proofs.LiveSlots.{LiveSlotsGo-beside, LiveSlotsGo-permutation}
-use Rattle.ss_store.proofs.Pairs.{records_held-apart, records_held-changed, zip-held}
-use Rattle.ss_store.proofs.Slots.{HasRecords-permutation}
+use Rattle.ss_store.proofs.Pairs.{records_held-apart, records_held-changed}
+use Rattle.ss_query.proofs.Records.{HasRecords-permutation, zip-held}
 use Rattle.ss_store.proofs.Spans.{TileFrom-push, values_held-seam, values_held-windows}
 use Rattle.ss_recover.proofs.Permutations.{IsPermutation-same}
 
@@ -151,7 +153,7 @@ module _ (part new : StreamParts) (slot t : ℕ) (added : IsAdded part new slot 
   pub Turns-added : {T E : Type 0} (v : ℤ) (summary : Figures) → summary ≡ summary_of ((t, v) ∷ []) → IsPossible summary → values_held (entries_of part) < MOST_VALUES →
       has_open part.landmarks.landmarks ≡ false → is_past part.last_time t ≡ false →
       (others : List (ℕ × Option Record)) (s : Stream) (old after : Told) (result : Result T E) →
-      AddsRecord slot (records.Window part.id.0 (values_held (entries_of part) + 1) summary) old after result →
+      AddsRecord slot (records.Window part.id.0 (values_held (entries_of part) + 1) summary) result old after →
       Turns (IsHeldIn others part s) (IsHalfway others part s t v) (IsHeldIn others new (with_single s t v)) old after result
   Turns-added v summary is possible room plain past others s old after result adds =
       let before = records_held (part, s) ++ others in

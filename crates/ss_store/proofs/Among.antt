@@ -24,9 +24,11 @@ use Rattle.ss_recover.specs.declared.parts.StreamParts.{StreamParts}
 use Rattle.ss_recover.specs.Parts.{carried}
 use Rattle.ss_recover.proofs.HeldLemmas.{carried-AreHeld}
 use Rattle.ss_recover.proofs.WholeSlots.{HasWholeSlots-StandsFor, carried-same}
-use Rattle.ss_store.specs.Held.{IsHeldIn, IsPartlyJoined, IsSameStream, with_windows}
+use Rattle.ss_store.specs.Held.{IsPartlyJoined, IsSameStream, with_windows}
+use Rattle.ss_query.specs.Held.{IsHeldIn}
 use Rattle.ss_store.specs.Recover.{Recovers, recover, recovered_from, recovered_of}
-use Rattle.ss_store.specs.Slots.{AreSomeLive, HasRecords, LiveSlotsGo, live_slots}
+use Rattle.ss_store.specs.Slots.{AreSomeLive, LiveSlotsGo, live_slots}
+use Rattle.ss_query.specs.Slots.{HasRecords}
 use Rattle.ss_store.proofs.OneOfMany.{IsPermutation-parted, map-set_same, remove-set, slice_get-set, slice_get-zip, zip-set}
 use Rattle.ss_store.proofs.ShorterStates.{IsState-shorter, closed_stream-joined, length-JoinsDue}
 

@@ -28,17 +28,19 @@ use Rattle.ss_records.specs.Kept.{RecordsState, AreKept}
 use Rattle.ss_journal.specs.Kept.{IsSettled}
 use Rattle.ss_store.specs.Admitted.{IsMarker, IsTaker}
 use Rattle.ss_store.specs.Calls.{StepsState, Turns}
-use Rattle.ss_store.specs.Causes.{IsApplyFirm, IsFirm, said_of_held}
+use Rattle.ss_store.specs.Causes.{said_of_held}
 use Rattle.ss_store.specs.Errors.{apply_of_fault}
-use Rattle.ss_store.specs.Held.{IsHalfway, IsHeldIn, IsPartlyJoined, IsSameStream, values_held, with_single}
+use Rattle.ss_store.specs.Held.{IsHalfway, IsPartlyJoined, IsSameStream, values_held, with_single}
+use Rattle.ss_query.specs.Held.{IsHeldIn}
 use Rattle.ss_store.specs.Kept.{IsSound, KeepsSpare, SameButSpare, StoreIsKept, StoreState, entry_of, numbers_held, part_named, refuses_held, without_spare}
 use Rattle.ss_store.specs.Marking.{IsInOpen, IsMarkedIn, IsMarkedOrNot, event_of, with_mark}
 use Rattle.ss_store.specs.Recover.{Recovers}
-use Rattle.ss_store.specs.Slots.{AreSomeLive, Either, HasRecords, LiveSlotsGo}
+use Rattle.ss_store.specs.Slots.{AreSomeLive, Either, LiveSlotsGo}
+use Rattle.ss_query.specs.Slots.{HasRecords}
 use Rattle.ss_store.specs.declared.error.ApplyError.{ApplyError}
 use Rattle.ss_store.specs.declared.marking.Mark.{Mark}
-use Rattle.ss_store.specs.declared.reading.Fault.{Fault}
-use Rattle.ss_store.specs.declared.reading.Fault.TheVariants as fault
+use Rattle.ss_query.specs.declared.read_error.ReadError.{ReadError}
+use Rattle.ss_query.specs.declared.read_error.ReadError.TheVariants as fault
 use Rattle.ss_store.proofs.Among.{AreWhole-at, AreWhole-changed, EndByLast-later, HasRecords-set, IsHeldIn-at, IsNoEarlier, Marks-at, Recovers-held, Recovers-partly, others_of}
 use Rattle.ss_store.proofs.HeldCounts.{values_held-Agrees}
 use Rattle.ss_store.proofs.KeptStates.{Recovers-StoreIsKept}
@@ -131,11 +133,6 @@ pub said_of_set : (name : List ℕ) (parts : List StreamParts) (place : ℕ) (pa
 said_of_set name parts place part now n k rising named at same values windows =
     rw (part_named-set name parts place part now rising named at same, values, windows) refl
 
--- a failure of the call is handed on
-pub IsApplyFirm-fault : (S T : Type 0) (f : Fault) (e : ApplyError) → IsFirm {T = S} (Err f) → e ≡ apply_of_fault f → IsApplyFirm {T = T} (Err e)
-IsApplyFirm-fault S T fault.Disk e firm is = subst (λ x. IsApplyFirm {T = T} (Err x)) (sym is) tt
-IsApplyFirm-fault S T (fault.Changed slot) e firm is = absurd firm
-
 -- over every disk, also where the landmarks of the stream have changed
 module _ (store : StoreState) (catalog : List (List ℕ × StreamId)) (sound : IsSound store catalog) (place : ℕ) (was now : StreamParts)
     (at : slice_get store.streams place ≡ Some was) (same_id : now.id ≡ was.id) (same : now.name ≡ was.name) where
@@ -159,6 +156,9 @@ KeepsSpare-one part = record { line = omega arith; room = omega arith; value_roo
 pub KeepsSpare-same : (parts : List StreamParts) → AllZip KeepsSpare parts parts
 KeepsSpare-same [] = tt
 KeepsSpare-same (part ∷ parts) = (KeepsSpare-one part, KeepsSpare-same parts)
+
+pub SameButSpare-same : (store : StoreState) → SameButSpare store store
+SameButSpare-same store = record { streams = refl; spares = KeepsSpare-same store.streams; records = refl; stopped = refl }
 
 pub KeepsSpare-set : (parts : List StreamParts) (place : ℕ) (was now : StreamParts) → slice_get parts place ≡ Some was → KeepsSpare was now →
     AllZip KeepsSpare parts (slice_set parts place now)

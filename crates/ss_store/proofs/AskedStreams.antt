@@ -1,79 +1,85 @@
 -- A query to a store: its stream among all, and the refusals of queries.
-use Rattle.std.proofs.Common.{◌≡◌, ◌∙◌, ℕ, Bool, true, false, List, get_or, [], ◌∷◌, refl, sym, ap, subst, Option, Some, None, Result, Ok, Err}
-use Rattle.std.specs.Prelude.{IfOk, IsSome, is_some, nat_lt, option_map, slice_get}
+use Rattle.std.proofs.Common.{◌≡◌, ◌∙◌, Bool, List, [], ◌∷◌, refl, sym, ap, Option, Some, None, Result, Ok, Err, IsTrue}
+use Rattle.std.specs.Prelude.{is_some, nat_lt, option_map}
+use Rattle.ss_outside.specs.Disk.{DiskView, OfContent, Told}
+use Rattle.ss_outside.specs.Step.{Step}
+use Rattle.ss_outside.specs.Verdict.{IsFirm, fine}
 use Rattle.ss_catalog.specs.declared.query.Query.{Query}
 use Rattle.ss_catalog.specs.declared.refusal.Refusal.TheVariants.{Range, Unknown}
 use Rattle.ss_catalog.specs.declared.stream_id.StreamId.{StreamId}
-use Rattle.ss_codec.specs.declared.record.Record.{Record}
+use Rattle.ss_records.specs.Kept.{RecordsState}
 use Rattle.ss_model.specs.Answers.{answer_of, outcome_of, refuses_query}
 use Rattle.ss_model.specs.Refusals.{first_that_applies}
-use Rattle.ss_model.specs.State.{Stream, stream_named}
+use Rattle.ss_model.specs.State.{Stream, state, stream_named}
 use Rattle.ss_model.specs.declared.outcome.Outcome.{Outcome}
+use Rattle.ss_model.proofs.AnswerLemmas.{answer-exact, answer-holds}
 use Rattle.ss_recover.specs.Held.{AllAgree}
 use Rattle.ss_recover.specs.declared.parts.StreamParts.{StreamParts}
-use Rattle.ss_store.specs.Asked.{IsAnswered, refuses_query_held}
-use Rattle.ss_store.specs.Causes.{IfAskChanged, IfChanged, IsAskFirm}
-use Rattle.ss_store.specs.Errors.{ask_of_fault}
-use Rattle.ss_store.specs.Held.{IsHeldIn}
+use Rattle.ss_query.specs.Answered.{AnswersStream, IsAnswered}
+use Rattle.ss_query.specs.Reading.{verdict_of_read}
+use Rattle.ss_query.specs.declared.read_error.ReadError.{ReadError}
+use Rattle.ss_query.specs.declared.read_error.ReadError.TheVariants as error
+use Rattle.ss_store.specs.Applied.{Answers}
+use Rattle.ss_store.specs.Asked.{refuses_query_held}
 use Rattle.ss_store.specs.Kept.{SomeAgree, StoreIsKept, StoreState, part_named}
 use Rattle.ss_store.specs.Recover.{Recovers}
-use Rattle.ss_store.specs.declared.error.AskError.{AskError}
-use Rattle.ss_store.specs.declared.reading.Fault.{Fault}
-use Rattle.ss_store.specs.declared.reading.Fault.TheVariants as fault
 use Rattle.ss_store.proofs.Among.{IsHeldIn-at, others_of}
-use Rattle.ss_store.proofs.Appended.{part-read}
 use Rattle.ss_store.proofs.HeldCounts.{SomeAgree-named}
 use Rattle.ss_store.proofs.KeptStates.{Recovers-StoreIsKept, Recovers-same}
 use Rattle.ss_store.proofs.Named.{AreFound-named}
 
--- what a stream answers, whatever lies beside it
-abbrev pub Answers : StreamParts → Query → List ℕ → Result Outcome Fault → Type 0
-Answers part query content result =
-    (others : List (ℕ × Option Record)) (s : Stream) → IsHeldIn others part s content → IsAnswered (answer_of query s) result
+IsFirm-answered : (outcome : Outcome) (why : ReadError) → IsAnswered outcome (Err why) → IsFirm (verdict_of_read {T = Outcome} (Err why))
+IsFirm-answered outcome error.Disk answered = tt
+IsFirm-answered outcome (error.Changed slot) answered = answered
 
-module _ (store : StoreState) (content : List ℕ) (kept : StoreIsKept store content) (query : Query) (part : StreamParts)
-    (named : part_named query.name store.streams ≡ Some part) (result : Result Outcome Fault) (answers : Answers part query content result) where
-  -- the stream that is asked
-  record IsAsked : Type 0 where
-    stream : Stream
-    found : stream_named query.name kept.streams ≡ Some stream
-    answered : IsAnswered (answer_of query stream) result
+-- the stream that is asked, in the state that is kept
+record IsAsked (query : Query) (streams : List Stream) (result : Result Outcome ReadError) : Type 0 where
+  stream : Stream
+  found : stream_named query.name streams ≡ Some stream
+  answered : IsAnswered (answer_of query stream) result
 
-  asked : IsAsked
-  asked =
+module _ {query : Query} {part : StreamParts} {records : RecordsState} (store : StoreState) (named : part_named query.name store.streams ≡ Some part) where
+  stream-asked : (old new : Told) (result : Result Outcome ReadError) (kept : StoreIsKept store old.content) →
+      AnswersStream part query records result old new → IsAsked query kept.streams result
+  stream-asked old new result kept answers =
       let found = AreFound-named store.streams kept.streams query.name part kept.agree kept.state named in
       let others = others_of found.place store.streams kept.streams in
-      let held = IsHeldIn-at store.streams kept.streams found.place part found.stream content kept.agree kept.state found.at found.here kept.held in
-      record { stream = found.stream; found = found.found_is; answered = answers others found.stream held }
+      let held = IsHeldIn-at store.streams kept.streams found.place part found.stream old.content kept.agree kept.state found.at found.here kept.held in
+      record { stream = found.stream; found = found.found_is; answered = answers.answer others found.stream held }
 
--- the answer of the state that the content recovers to
-pub outcome-kept : (store : StoreState) (content : List ℕ) → StoreIsKept store content → (query : Query) (part : StreamParts) → part_named query.name store.streams ≡ Some part →
-    (outcome : Outcome) → Answers part query content (Ok outcome) → (streams : List Stream) → Recovers streams content → outcome_of streams query ≡ Some outcome
-unfolding outcome_of
-outcome-kept store content kept query part named outcome answers streams recovers =
-    let is = asked store content kept query part named (Ok outcome) answers in
-    let same = Recovers-same kept.streams streams content (Recovers-StoreIsKept store content kept) recovers in
-    let found : stream_named query.name streams ≡ Some is.stream = ap (λ l. stream_named query.name l) (sym same) ∙ is.found in
-    ap (option_map (λ (s : Stream). answer_of query s)) found ∙ ap (λ (o : Outcome). Some o) (sym is.answered)
+  -- the answer of the state that the content recovers to
+  outcome-kept : (old new : Told) (outcome : Outcome) → StoreIsKept store old.content → AnswersStream part query records (Ok outcome) old new →
+      (streams : List Stream) → Recovers streams old.content → outcome_of streams query ≡ Some outcome
+  unfolding outcome_of
+  outcome-kept old new outcome kept answers streams recovers =
+      let is = stream-asked old new (Ok outcome) kept answers in
+      let same = Recovers-same kept.streams streams old.content (Recovers-StoreIsKept store old.content kept) recovers in
+      let found : stream_named query.name streams ≡ Some is.stream = ap (λ l. stream_named query.name l) (sym same) ∙ is.found in
+      ap (option_map (λ (s : Stream). answer_of query s)) found ∙ ap (λ (o : Outcome). Some o) (sym is.answered)
 
-IsAskFirm-answered : (T : Type 0) (outcome : Outcome) (why : Fault) (error : AskError) → IsAnswered outcome (Err why) → error ≡ ask_of_fault why →
-    IsAskFirm {T = T} (Err error)
-IsAskFirm-answered T outcome fault.Disk error answered is = subst (λ x. IsAskFirm {T = T} (Err x)) (sym is) tt
-IsAskFirm-answered T outcome (fault.Changed slot) error answered is = absurd answered
+  module _ {before after : DiskView} (kept : OfContent before (StoreIsKept store)) where
+    pub answers-kept : (outcome : Outcome) → Step fine before after (AnswersStream part query records (Ok outcome)) →
+        Step fine before after (Answers query (Ok outcome))
+    answers-kept outcome step = record {
+      tells = step.tells;
+      counted = step.counted;
+      told = λ told.
+          let answers = step.told told in
+          let answer = outcome-kept before.told after.told outcome (kept told) answers in
+          record {
+            answer = answer;
+            truth = λ history stands. answer-holds history query outcome stands.is_history (answer (state history) stands.state);
+            exact = λ streams recovers unsplit. answer-exact streams query outcome (answer streams recovers) unsplit;
+            reads = answers.reads;
+          };
+    }
 
--- no slot has changed on a disk that tells
-pub firm-kept : (T : Type 0) (store : StoreState) (content : List ℕ) → StoreIsKept store content → (query : Query) (part : StreamParts) →
-    part_named query.name store.streams ≡ Some part → (why : Fault) (error : AskError) → Answers part query content (Err why) → error ≡ ask_of_fault why →
-    IsAskFirm {T = T} (Err error)
-firm-kept T store content kept query part named why error answers from =
-    let is = asked store content kept query part named (Err why) answers in
-    IsAskFirm-answered T (answer_of query is.stream) why error is.answered from
-
--- a slot that has changed, as a store says it
-pub ask-changed : (T U : Type 0) (P : ℕ → Type 0) (why : Fault) (error : AskError) → IfChanged {T = T} (Err why) P → error ≡ ask_of_fault why →
-    IfAskChanged {T = U} (Err error) P
-ask-changed T U P fault.Disk error changed is = subst (λ x. IfAskChanged {T = U} (Err x) P) (sym is) tt
-ask-changed T U P (fault.Changed slot) error changed is = subst (λ x. IfAskChanged {T = U} (Err x) P) (sym is) changed
+    -- no slot has changed on a disk that tells
+    pub IsFirm-kept : (why : ReadError) → Step (verdict_of_read {T = Outcome} (Err why)) before after (AnswersStream part query records (Err why)) →
+        IsTrue before.tells → IsFirm (verdict_of_read {T = Outcome} (Err why))
+    IsFirm-kept why step told =
+        let is = stream-asked before.told after.told (Err why) (kept told) (step.told told) in
+        IsFirm-answered (answer_of query is.stream) why is.answered
 
 known-alike : (part : Option StreamParts) (s : Option Stream) → SomeAgree part s → is_some part ≡ is_some s
 known-alike None None agree = refl
@@ -107,14 +113,3 @@ named-missing (Some part) none = absurd (cc)
 pub named-found : (o : Option StreamParts) (id : StreamId) → option_map (λ (part : StreamParts). part.id) o ≡ Some id → (part : StreamParts) × (o ≡ Some part)
 named-found None id found = absurd (cc)
 named-found (Some part) id found = (part, refl)
-
--- what follows from the answer, where there is one
-pub if_ok_weaker : {E : Type 0} {P : Outcome → Type 0} (result : Result Outcome E) (Q : Outcome → Type 0) → IfOk result P → ((outcome : Outcome) → P outcome → Q outcome) → IfOk result Q
-if_ok_weaker (Ok outcome) Q is weaker = weaker outcome is
-if_ok_weaker (Err error) Q is weaker = tt
-
--- what is read at the place of a stream that stands
-pub read-at : (parts : List StreamParts) (place : ℕ) (o : Option StreamParts) (read : StreamParts) → slice_get parts place ≡ o → IsSome o →
-    read ≡ get_or parts place read → o ≡ Some read
-read-at parts place None read at some is = (let wrong : false ≡ true = some in cc)
-read-at parts place (Some part) read at some is = ap (λ (p : StreamParts). Some p) (part-read parts place part read at is)

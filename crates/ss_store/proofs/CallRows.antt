@@ -1,61 +1,41 @@
 -- What some definitions come to at one answer each, where nothing else would tell if they said less.
-use Rattle.std.proofs.Common.{◌≡◌, ℕ, List, [], ◌∷◌, Err, None, Some, pos, refl}
+use Rattle.std.proofs.Common.{◌≡◌, ℕ, Bool, true, List, [], ◌∷◌, Err, None, Ok, Some, pos, refl}
+use Rattle.ss_outside.specs.Verdict as verdicts
 use Rattle.ss_catalog.specs.declared.event.Event.TheVariants as events
 use Rattle.ss_catalog.specs.declared.refusal.Refusal.{Refusal}
 use Rattle.ss_catalog.specs.declared.refusal.Refusal.TheVariants as refusal
 use Rattle.ss_model.specs.Refusals.{refuses}
 use Rattle.ss_model.specs.State.{state}
-use Rattle.ss_store.specs.Causes.{IfRefused, IfUnasked, IfUncalled, IfUnwritten}
+use Rattle.ss_store.specs.Errors.{stopped_after, verdict_of_apply, verdict_of_opening}
 use Rattle.ss_store.specs.Kept.{SameButSpare, StoreState}
 use Rattle.ss_store.specs.Recover.{Stands}
-use Rattle.ss_store.specs.Surveyed.{IsUnchanged}
 use Rattle.ss_store.specs.declared.error.ApplyError.TheVariants as apply
-use Rattle.ss_store.specs.declared.error.AskError.TheVariants as ask
 use Rattle.ss_store.specs.declared.error.OpenError.TheVariants as opening
 
--- nothing was written where opening finds no memory, or refuses
-unwritten-OutOfMemory : {P : Type 0} → IfUnwritten {T = Unit {0}} (Err opening.OutOfMemory) P → P
-unwritten-OutOfMemory fact = fact
+-- the verdict of each answer of an event
+apply-verdicts : (r : Refusal) (slot : ℕ) →
+    (verdict_of_apply {T = ℕ} (Ok 1) ≡ verdicts.fine) × (verdict_of_apply {T = Unit {0}} (Err (apply.Refused r)) ≡ verdicts.refused)
+    × (verdict_of_apply {T = Unit {0}} (Err apply.Disk) ≡ verdicts.failed) × (verdict_of_apply {T = Unit {0}} (Err apply.Stopped) ≡ verdicts.stopped)
+    × (verdict_of_apply {T = Unit {0}} (Err apply.OutOfMemory) ≡ verdicts.no_memory)
+    × (verdict_of_apply {T = Unit {0}} (Err (apply.Changed slot)) ≡ verdicts.changed slot)
+apply-verdicts r slot = (refl, refl, refl, refl, refl, refl)
 
-unwritten-NotAStore : {P : Type 0} → IfUnwritten {T = Unit {0}} (Err opening.NotAStore) P → P
-unwritten-NotAStore fact = fact
+-- of each answer of opening
+opening-verdicts : (n slot : ℕ) →
+    (verdict_of_opening {T = ℕ} (Ok 1) ≡ verdicts.fine) × (verdict_of_opening {T = Unit {0}} (Err opening.Disk) ≡ verdicts.failed)
+    × (verdict_of_opening {T = Unit {0}} (Err opening.NotAStore) ≡ verdicts.refused)
+    × (verdict_of_opening {T = Unit {0}} (Err (opening.BadEntry n)) ≡ verdicts.refused)
+    × (verdict_of_opening {T = Unit {0}} (Err (opening.BadSlot n)) ≡ verdicts.refused)
+    × (verdict_of_opening {T = Unit {0}} (Err (opening.BadStream n)) ≡ verdicts.refused)
+    × (verdict_of_opening {T = Unit {0}} (Err opening.OutOfMemory) ≡ verdicts.no_memory)
+    × (verdict_of_opening {T = Unit {0}} (Err (opening.Changed slot)) ≡ verdicts.changed slot)
+opening-verdicts n slot = (refl, refl, refl, refl, refl, refl, refl, refl)
 
-unwritten-BadEntry : {P : Type 0} (n : ℕ) → IfUnwritten {T = Unit {0}} (Err (opening.BadEntry n)) P → P
-unwritten-BadEntry n fact = fact
-
-unwritten-BadSlot : {P : Type 0} (n : ℕ) → IfUnwritten {T = Unit {0}} (Err (opening.BadSlot n)) P → P
-unwritten-BadSlot n fact = fact
-
-unwritten-BadStream : {P : Type 0} (id : ℕ) → IfUnwritten {T = Unit {0}} (Err (opening.BadStream id)) P → P
-unwritten-BadStream id fact = fact
-
--- no call of the disk is made where an event is refused, where there is no memory, and after the store has stopped
-uncalled-Refused : {P : Type 0} (r : Refusal) → IfUncalled {T = Unit {0}} (Err (apply.Refused r)) P → P
-uncalled-Refused r fact = fact
-
-uncalled-OutOfMemory : {P : Type 0} → IfUncalled {T = Unit {0}} (Err apply.OutOfMemory) P → P
-uncalled-OutOfMemory fact = fact
-
-uncalled-Stopped : {P : Type 0} → IfUncalled {T = Unit {0}} (Err apply.Stopped) P → P
-uncalled-Stopped fact = fact
-
--- the store stays as it was where an event is refused, and after it has stopped
-refused-Refused : {P : Type 0} (r : Refusal) → IfRefused {T = Unit {0}} (Err (apply.Refused r)) P → P
-refused-Refused r fact = fact
-
-refused-Stopped : {P : Type 0} → IfRefused {T = Unit {0}} (Err apply.Stopped) P → P
-refused-Stopped fact = fact
-
--- the same of a query
-unasked-Refused : {P : Type 0} (r : Refusal) → IfUnasked {T = Unit {0}} (Err (ask.Refused r)) P → P
-unasked-Refused r fact = fact
-
-unasked-Stopped : {P : Type 0} → IfUnasked {T = Unit {0}} (Err ask.Stopped) P → P
-unasked-Stopped fact = fact
-
--- a survey never finds a record changed
-unchanged-Changed : (slot : ℕ) → IsUnchanged {T = Unit {0}} (Err (opening.Changed slot)) → ⊥
-unchanged-Changed slot fact = fact
+-- a store stops where the disk fails or a record has changed, and stays as it was at every other verdict
+stops : (was : Bool) (slot : ℕ) →
+    (stopped_after was verdicts.fine ≡ was) × (stopped_after was verdicts.refused ≡ was) × (stopped_after was verdicts.no_memory ≡ was)
+    × (stopped_after was verdicts.stopped ≡ was) × (stopped_after was verdicts.failed ≡ true) × (stopped_after was (verdicts.changed slot) ≡ true)
+stops was slot = (refl, refl, refl, refl, refl, refl)
 
 -- stores that are the same but for the room to spare have the same records
 same-records : {old new : StoreState} → SameButSpare old new → new.records ≡ old.records

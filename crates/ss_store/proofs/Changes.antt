@@ -24,7 +24,8 @@ use Rattle.ss_recover.specs.Held.{IsRecord, occupied}
 use Rattle.ss_recover.proofs.Permutations.{IsPermutation-turn}
 use Rattle.ss_recover.proofs.PutLemmas.{live-IsRecord, occupied-free, occupied-freed, occupied-replaced}
 use Rattle.ss_store.specs.Calls.{Turns}
-use Rattle.ss_store.specs.Slots.{AddsRecord, Either, HasRecords, LiveSlotsGo, Replaces, ReplacesTwo, live_slots, pair_put, record_put, zeros_put}
+use Rattle.ss_store.specs.Slots.{AddsRecord, Either, LiveSlotsGo, Replaces, ReplacesTwo, live_slots, pair_put, record_put, zeros_put}
+use Rattle.ss_query.specs.Slots.{HasRecords}
 use Rattle.ss_store.proofs.LiveSlots.{AreTwoLive, LiveSlotsGo-freed, LiveSlotsGo-taken, live_slots-freed_first, live_slots-kept_first}
 
 -- a put of a record that isn't free
@@ -73,7 +74,7 @@ module _ (slot : ℕ) (r : Record) (valid : IsTrue (is_valid r)) (some : r ≢ F
   -- a record in a free slot
   pub AddsRecord-changes : {T E : Type 0} (records : RecordsState) (old new : Told) (result : Result T E) → AreKept records old.content → slot < MOST_SLOTS →
       slot ≤ records.journal.extent → is_live records.live slot ≡ false → ChangesMap (record_put slot r ∷ []) old new result →
-      AddsRecord slot r old new result
+      AddsRecord slot r result old new
   AddsRecord-changes records old new result kept below within free changes others =
       Turns-changes others ((slot, Some r) ∷ others) (record_put slot r ∷ []) old new result
       (λ found is moved.
@@ -94,7 +95,7 @@ module _ (slot : ℕ) (r : Record) (valid : IsTrue (is_valid r)) (some : r ≢ F
 
   -- a record in place of that of the slot
   pub Replaces-changes : {T E : Type 0} (old new : Told) (result : Result T E) → ChangesMap (record_put slot r ∷ []) old new result →
-      Replaces slot r old new result
+      Replaces slot r result old new
   Replaces-changes old new result changes was others =
       Turns-changes ((slot, was) ∷ others) ((slot, Some r) ∷ others) (record_put slot r ∷ []) old new result
       (λ found is moved. occupied-replaced found (record_put slot r) was others moved r (IsRecord-put slot r valid some)) changes
@@ -140,7 +141,7 @@ module _ (kept freed : ℕ) (r : Record) (valid : IsTrue (is_valid r)) (some : r
 
   -- a record in place of that of one slot, and zeros in another
   pub ReplacesTwo-changes : {T E : Type 0} (old new : Told) (result : Result T E) → ChangesMap (pair_put kept freed r) old new result →
-      ReplacesTwo kept freed r old new result
+      ReplacesTwo kept freed r result old new
   unfolding orders
   ReplacesTwo-changes old new result changes was gone others =
       Turns-changes ((kept, was) ∷ (freed, gone) ∷ others) ((kept, Some r) ∷ others) (pair_put kept freed r) old new result

@@ -1,8 +1,9 @@
 -- Streams that are closed one after another, as they lie in an image.
 use Rattle.std.proofs.Common.{◌≡◌, ℕ, zero, suc, ◌<◌, ◌≤◌, List, [], ◌∷◌, length, flat_map, slice_get, slice_set, zip, refl, ap, sym, subst, ◌∙◌, arith, inl, inr, Option, Some, Result, Ok}
-use Rattle.std.specs.Prelude.{All}
+use Rattle.std.specs.Prelude.{All, Contains, Err}
 use Rattle.std.proofs.lemmas.Bool.{cases_lt}
-use Rattle.std.proofs.lemmas.List.Elements.{All-head, All-tail}
+use Rattle.std.proofs.lemmas.List.Elements.{All-head, All-tail, Contains-append_left, Contains-append_right}
+use Rattle.std.proofs.lemmas.Option.{none-some, same_Some}
 use Rattle.ss_outside.specs.Crash.{KnowsNow}
 use Rattle.ss_outside.specs.Disk.{Told}
 use Rattle.ss_codec.specs.declared.record.Record.{Record}
@@ -16,12 +17,17 @@ use Rattle.ss_model.proofs.StandLemmas.{length-closed_le}
 use Rattle.ss_model.proofs.StreamLemmas.{IsStream-joined}
 use Rattle.ss_recover.specs.Held.{AllAgree, records_held}
 use Rattle.ss_recover.specs.declared.parts.StreamParts.{StreamParts}
-use Rattle.ss_store.specs.declared.reading.Fault.{Fault}
+use Rattle.ss_query.specs.declared.read_error.ReadError.{ReadError}
 use Rattle.ss_store.specs.Calls.{Turns}
-use Rattle.ss_store.specs.Causes.{IsFirm}
-use Rattle.ss_store.specs.Held.{IsHeldIn, IsPartlyJoined}
+use Rattle.ss_outside.specs.Verdict.{IsFirm, Verdict}
+use Rattle.ss_store.specs.Changing.{SomeChangedIsHeld, ChangedIsHeld}
+use Rattle.ss_query.specs.Answered.{window_slots_of}
+use Rattle.ss_query.specs.Reading.{verdict_of_read}
+use Rattle.ss_query.specs.declared.read_error.ReadError.TheVariants as fault
+use Rattle.ss_store.specs.Held.{IsPartlyJoined}
+use Rattle.ss_query.specs.Held.{IsHeldIn}
 use Rattle.ss_store.specs.Recover.{Recovers}
-use Rattle.ss_store.specs.Slots.{HasRecords}
+use Rattle.ss_query.specs.Slots.{HasRecords}
 use Rattle.ss_store.proofs.Among.{HasRecords-set, IsHeldIn-at, IsStream-at, Recovers-held, Recovers-partly, length-AllAgree, others_of}
 use Rattle.ss_store.proofs.Calls.{Turns-joined, Turns-same, Turns-weaker}
 use Rattle.ss_store.proofs.OneOfMany.{set-same, slice_get-within}
@@ -155,14 +161,14 @@ Turns-open parts now all old new result agree turns =
 abbrev pub ClosesFirst : List StreamParts → List StreamParts → ℕ → Told → Told → Type 0
 ClosesFirst was now place before after =
     (all : List Stream) → IsState all → length was ≡ length all →
-    Turns {T = Unit {0}} {E = Fault} (AreHeldIn was all) (Recovers (closed_state all)) (AreHeldIn now (closed_until place all)) before after (Ok tt)
+    Turns {T = Unit {0}} {E = ReadError} (AreHeldIn was all) (Recovers (closed_state all)) (AreHeldIn now (closed_until place all)) before after (Ok tt)
 
 pub ClosesFirst-none : (was : List StreamParts) (disk : Told) → KnowsNow disk → ClosesFirst was was 0 disk disk
 ClosesFirst-none was disk knows all state long =
     Turns-same (AreHeldIn was all) (Recovers (closed_state all)) disk (Ok tt) knows
     (λ has. Recovers-held was all disk.content has.agree state has.records)
 
-pub ClosesFirst-more : (was now : List StreamParts) (part new : StreamParts) (place : ℕ) (before mid after : Told) (result : Result (Unit {0}) Fault) →
+pub ClosesFirst-more : (was now : List StreamParts) (part new : StreamParts) (place : ℕ) (before mid after : Told) (result : Result (Unit {0}) ReadError) →
     slice_get now place ≡ Some part → place < length was → ClosesFirst was now place before mid → ClosesOne part new mid after result →
     (all : List Stream) → IsState all → length was ≡ length all →
     Turns (AreHeldIn was all) (Recovers (closed_state all)) (AreHeldIn (slice_set now place new) (closed_until (suc place) all)) before after result
@@ -172,11 +178,11 @@ ClosesFirst-more was now part new place before mid after result at inside first 
     (first all state long) (Turns-closed_one now part new all place mid after result at (omega arith) state one)
 
 -- closing finds no record changed
-pub firm-ClosesFirst : (was now : List StreamParts) (part : StreamParts) (place : ℕ) (before mid : Told) (result : Result (Unit {0}) Fault) →
+pub firm-ClosesFirst : (was now : List StreamParts) (part : StreamParts) (place : ℕ) (before mid : Told) (v : Verdict) →
     slice_get now place ≡ Some part → place < length was → ClosesFirst was now place before mid →
-    ((others : List (ℕ × Option Record)) (s : Stream) → IsHeldIn others part s mid.content → IsFirm result) →
-    (all : List Stream) → IsState all → AllAgree was all → HasRecords (flat_map records_held (zip was all)) before.content → IsFirm result
-firm-ClosesFirst was now part place before mid result at inside first firm all state agree has =
+    ((others : List (ℕ × Option Record)) (s : Stream) → IsHeldIn others part s mid.content → IsFirm v) →
+    (all : List Stream) → IsState all → AllAgree was all → HasRecords (flat_map records_held (zip was all)) before.content → IsFirm v
+firm-ClosesFirst was now part place before mid v at inside first firm all state agree has =
     let long = length-AllAgree was all agree in
     let mixed = closed_until place all in
     let found = slice_get-within all place (omega arith) in
@@ -187,8 +193,22 @@ firm-ClosesFirst was now part place before mid result at inside first firm all s
 -- all were closed
 pub Turns-all : (was now : List StreamParts) (place : ℕ) (before after : Told) → ClosesFirst was now place before after → place ≡ length was →
     (all : List Stream) → IsState all → AllAgree was all →
-    Turns {T = Unit {0}} {E = Fault} (AreHeldIn was all) (Recovers (closed_state all)) (AreHeldIn now (closed_state all)) before after (Ok tt)
+    Turns {T = Unit {0}} {E = ReadError} (AreHeldIn was all) (Recovers (closed_state all)) (AreHeldIn now (closed_state all)) before after (Ok tt)
 Turns-all was now place before after closes end all state agree =
     let long = length-AllAgree was all agree in
-    subst (λ l. Turns {T = Unit {0}} {E = Fault} (AreHeldIn was all) (Recovers (closed_state all)) (AreHeldIn now l) before after (Ok tt))
+    subst (λ l. Turns {T = Unit {0}} {E = ReadError} (AreHeldIn was all) (Recovers (closed_state all)) (AreHeldIn now l) before after (Ok tt))
     (closed_until-all place all (omega arith)) (closes all state long)
+
+-- what one of the streams holds, some of them holds
+Contains-set : (parts : List StreamParts) (place : ℕ) (was now : StreamParts) (slot : ℕ) → slice_get parts place ≡ Some was →
+    Contains (window_slots_of now) slot → Contains (flat_map window_slots_of (slice_set parts place now)) slot
+Contains-set [] place was now slot at has = absurd (none-some was at)
+Contains-set (p ∷ ps) zero was now slot at has = Contains-append_left (window_slots_of now) (flat_map window_slots_of ps) slot has
+Contains-set (p ∷ ps) (suc place) was now slot at has =
+    Contains-append_right (window_slots_of p) (flat_map window_slots_of (slice_set ps place now)) slot (Contains-set ps place was now slot at has)
+
+pub SomeChangedIsHeld-set : (parts : List StreamParts) (place : ℕ) (was now : StreamParts) (failure : ReadError) → slice_get parts place ≡ Some was →
+    ChangedIsHeld (verdict_of_read {T = Unit {0}} (Err failure)) now →
+    SomeChangedIsHeld (verdict_of_read {T = Unit {0}} (Err failure)) (slice_set parts place now)
+SomeChangedIsHeld-set parts place was now fault.Disk at has = tt
+SomeChangedIsHeld-set parts place was now (fault.Changed slot) at has = Contains-set parts place was now slot at has

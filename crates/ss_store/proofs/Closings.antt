@@ -19,10 +19,11 @@ use Rattle.ss_model.proofs.JoinLemmas.{JoinsDue-append, closed-only_end, taken-J
 use Rattle.ss_recover.specs.Held.{TileFrom, entries_of, slots_held, span_held, span_of}
 use Rattle.ss_recover.specs.declared.parts.StreamParts.{StreamParts}
 use Rattle.ss_store.specs.Calls.{Turns}
-use Rattle.ss_store.specs.Held.{IsHeldIn, IsPartlyJoined, IsSameStream, values_held, with_windows}
+use Rattle.ss_store.specs.Held.{IsPartlyJoined, IsSameStream, values_held, with_windows}
+use Rattle.ss_query.specs.Held.{IsHeldIn}
 use Rattle.ss_store.specs.Joining.{IsJoinedIn, NoSpansAreDue}
 use Rattle.ss_store.specs.Slots.{LiveSlotsGo}
-use Rattle.ss_store.specs.declared.reading.Fault.{Fault}
+use Rattle.ss_query.specs.declared.read_error.ReadError.{ReadError}
 use Rattle.ss_store.proofs.Calls.{Turns-same, Turns-weaker}
 use Rattle.ss_store.proofs.Joinings.{IsJoinedIn-none, IsPartlyJoined-none}
 use Rattle.ss_store.proofs.Spans.{NoneIsDue-spans, values_held-windows}
@@ -89,20 +90,6 @@ pub Turns-closes : {E : Type 0} (others : List (ℕ × Option Record)) (part now
 Turns-closes others part now s n old new all none joins =
     Turns-weaker (IsHeldIn others part s) (IsHeldIn others part s) (IsPartlyJoined others s) (IsPartlyJoined others s) (IsJoinedIn others now s) (IsHeldIn others now (closed_stream s))
     old new (Ok tt) (λ held. held) (λ held image left. left) (λ held image is. closes others now s n image held.stream all none is) (joins others s)
-
--- Joins from one moment to another: what they leave as it was, and what they make of each stream that may be held.
-pub record IsClosing (tells tells_now : Bool) (old now : Told) (faults faults_now : ℕ) (records records_now : RecordsState) (part part_now : StreamParts) : Type 0 where
-  pub joins : IsTrue tells → JoinsEach {E = Fault} part part_now old now (Ok tt)
-  pub one_disk : IsTrue tells → AreKept records_now now.content
-  pub same : IsSameStream part part_now
-  pub last_time : part_now.last_time ≡ part.last_time
-  pub values : values_held (entries_of part_now) ≡ values_held (entries_of part)
-  pub tiles : TileFrom 1 (entries_of part_now)
-  pub live : LiveSlotsGo (slots_held part) (slots_held part_now) records.live records_now.live
-  pub settled : IsSettled records_now.journal
-  pub extent : records_now.journal.extent ≡ records.journal.extent
-  pub same_tells : tells_now ≡ tells
-  pub cause : faults_now ≡ faults
 
 pub IsSameStream-more : (part mid new : StreamParts) → IsSameStream part mid → IsSameStream mid new → IsSameStream part new
 IsSameStream-more part mid new first second = record {

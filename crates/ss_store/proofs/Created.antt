@@ -40,11 +40,12 @@ use Rattle.ss_store.specs.Calls.{StepsState}
 use Rattle.ss_store.specs.Causes.{said_of_held}
 use Rattle.ss_store.specs.Kept.{IsSound, StoreIsKept, StoreState, entry_of, has_all_numbers, numbers_held, part_named}
 use Rattle.ss_store.specs.Recover.{Recovers}
-use Rattle.ss_store.specs.Slots.{AddsRecord, Either, HasRecords, LiveSlotsGo, live_slots}
+use Rattle.ss_store.specs.Slots.{AddsRecord, Either, LiveSlotsGo, live_slots}
+use Rattle.ss_query.specs.Slots.{HasRecords}
 use Rattle.ss_store.proofs.Among.{Recovers-held, length-AllAgree}
 use Rattle.ss_store.proofs.KeptStates.{Recovers-StoreIsKept}
 use Rattle.ss_store.proofs.Named.{numbers-AllAgree}
-use Rattle.ss_store.proofs.Slots.{HasRecords-permutation}
+use Rattle.ss_query.proofs.Records.{HasRecords-permutation}
 use Rattle.ss_store.proofs.Stepping.{StepsState-turns}
 
 -- no landmarks, and no room for any
@@ -61,6 +62,16 @@ pub record IsFreshPart (part : StreamParts) (name : List ℕ) (params : Params) 
   pub last_time : part.last_time ≡ None
   pub entries : part.line.entries ≡ []
   pub landmarks : part.landmarks ≡ no_landmarks
+
+pub IsFreshPart-made : (part : StreamParts) (params : Params) → params_of part.target ≡ params → part.last_time ≡ None → part.line.entries ≡ [] →
+    part.landmarks ≡ no_landmarks → IsFreshPart part part.name params
+IsFreshPart-made part params target last entries landmarks = record {
+  name_is = refl;
+  params_are = target;
+  last_time = last;
+  entries = entries;
+  landmarks = landmarks;
+}
 
 abbrev pub created_in : List Stream → List ℕ → Params → Stream
 created_in streams name params = record { number = next_number (numbers_of streams); name = name; params = params; windows = []; landmarks = [] }
@@ -163,7 +174,7 @@ module _ (store : StoreState) (content : List ℕ) (kept : StoreIsKept store con
   }
 
   pub StepsState-created : {T E : Type 0} (old new : Told) (call : Result T E) → old.content ≡ content →
-      AddsRecord part.slot (records.Stream part.id.0 name params) old new call → StepsState (Create name params) call old new
+      AddsRecord part.slot (records.Stream part.id.0 name params) call old new → StepsState (Create name params) call old new
   StepsState-created old new call same adds =
       let others = flat_map records_held (zip store.streams kept.streams) in
       let pushed = (part.slot, Some (records.Stream part.id.0 name params)) ∷ others in

@@ -15,25 +15,21 @@ use Rattle.ss_store.specs.Kept.{IsSound, StoreState, part_named}
 use Rattle.ss_store.proofs.Appended.{part_named-set}
 use Rattle.ss_store.proofs.FewWindows.{length-none_due}
 
--- of a stream that is held: so many windows are few enough, where it has so many values
+-- of a stream that is held: so many windows are few enough
 abbrev pub KeepsToTarget : Option StreamParts → ℕ → ℕ → Type 0
-KeepsToTarget o n k = IfSome o (λ part. 0 < n → k + 1 ≤ 2 * cover (lengths_of (params_of part.target)) n)
-
-pub KeepsToTarget-none : (o : Option StreamParts) → KeepsToTarget o 0 0
-KeepsToTarget-none None = tt
-KeepsToTarget-none (Some part) = λ some. absurd (omega arith)
+KeepsToTarget o n k = IfSome o (λ part. k + 1 ≤ 2 * cover (lengths_of (params_of part.target)) n)
 
 -- the stream that took a value keeps to its target
 pub KeepsToTarget-taken : (store : StoreState) (catalog : List (List ℕ × StreamId)) (name : List ℕ) (t place slot : ℕ) (now : StreamParts) (n k : ℕ) →
     IsSound store catalog → (taker : IsTaker store name t place slot) → now.name ≡ taker.part.name → n ≡ values_held (entries_of now) →
     k ≡ length now.line.entries → TileFrom 1 (entries_of now) →
-    NoSpansAreDue (lengths_of (params_of now.target)) (values_held (entries_of now)) (map span_held (entries_of now)) →
+    NoSpansAreDue (lengths_of (params_of now.target)) (values_held (entries_of now)) (map span_held (entries_of now)) → 0 < n →
     KeepsToTarget (part_named name (slice_set store.streams place now)) n k
-KeepsToTarget-taken store catalog name t place slot now n k sound taker same values windows tiles none =
+KeepsToTarget-taken store catalog name t place slot now n k sound taker same values windows tiles none some =
     let len = lengths_of (params_of now.target) in
     let count : length (entries_of now) ≡ k = length-map now.line.entries (λ e. e.1) ∙ sym windows in
-    let bound : 0 < n → k + 1 ≤ 2 * cover len n =
-    λ some.
+    let bound : k + 1 ≤ 2 * cover len n =
     subst (λ m. k + 1 ≤ 2 * cover len m) (sym values)
-    (subst (λ m. m + 1 ≤ 2 * cover len (values_held (entries_of now))) count (length-none_due len (entries_of now) tiles none (subst (λ m. 0 < m) values some))) in
+    (subst (λ m. m + 1 ≤ 2 * cover len (values_held (entries_of now))) count
+    (length-none_due len (entries_of now) tiles none (subst (λ m. 0 < m) values some))) in
     subst (λ o. KeepsToTarget o n k) (sym (part_named-set name store.streams place taker.part now sound.numbers taker.named taker.at same)) bound

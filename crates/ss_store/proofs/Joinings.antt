@@ -1,6 +1,8 @@
 -- A transaction that joins two neighbours, in which a crash may come.
-use Rattle.std.proofs.Common.{◌≡◌, ⊎_elim, ℕ, ◌<◌, Bool, List, [], ◌∷◌, ◌++◌, refl, sym, subst, Option, Some, None, Err, Result}
-use Rattle.std.specs.Prelude.{IsErr, IsTrue}
+use Rattle.std.proofs.Common.{◌≡◌, ◌∙◌, ◌⊎◌, ⊎_elim, ℕ, ◌<◌, arith, ap, map, Bool, List, [], ◌∷◌, ◌++◌, refl, sym, subst, Option, Some, None, Err, Result}
+use Rattle.std.specs.Prelude.{Contains, IsErr, IsTrue}
+use Rattle.std.proofs.lemmas.List.{map-append}
+use Rattle.std.proofs.lemmas.List.Elements.{Contains-append_right}
 use Rattle.std.proofs.lemmas.Result.{on_ok_weaker}
 use Rattle.std.proofs.lemmas.List.Sorted.{IsPermutation-sym}
 use Rattle.ss_outside.specs.Crash.{KnowsNow, OnlyReads}
@@ -9,6 +11,7 @@ use Rattle.ss_outside.proofs.CrashLemmas.{joined as run_joined, nothing_pending-
 use Rattle.ss_codec.specs.declared.record.Record.{Record}
 use Rattle.ss_codec.specs.declared.record.Record.TheVariants as records
 use Rattle.ss_landmarks.specs.Landmark.{Landmark}
+use Rattle.ss_line.specs.declared.entry.At.{At}
 use Rattle.ss_line.specs.declared.entry.Entry.{Entry}
 use Rattle.ss_summary.specs.Figures.{Figures}
 use Rattle.ss_summary.specs.Summaries.{joined}
@@ -20,16 +23,21 @@ use Rattle.ss_model.specs.declared.types.Window.{Window}
 use Rattle.ss_recover.specs.Held.{entries_of, records_held, slots_held, span_held, span_of, window_record}
 use Rattle.ss_recover.specs.declared.parts.StreamParts.{StreamParts}
 use Rattle.ss_store.specs.Calls.{Turns}
-use Rattle.ss_store.specs.Causes.{IsFirm, IsRead}
-use Rattle.ss_store.specs.Held.{IsHeldIn, IsPartlyJoined, values_held, with_windows}
+use Rattle.ss_query.specs.Reading.{IsRead, verdict_of_read}
+use Rattle.ss_outside.specs.Verdict.{IfChanged, IsFirm}
+use Rattle.ss_store.specs.Changing.{ChangedIsHeld}
+use Rattle.ss_query.specs.Answered.{window_slots_of}
+use Rattle.ss_store.specs.Held.{IsPartlyJoined, values_held, with_windows}
+use Rattle.ss_query.specs.Held.{IsHeldIn}
 use Rattle.ss_store.specs.Joining.{IsJoinedIn}
-use Rattle.ss_store.specs.Slots.{AreSomeLive, Either, HasRecords, LiveSlotsGo, ReplacesTwo}
-use Rattle.ss_store.specs.declared.reading.Fault.{Fault}
-use Rattle.ss_store.specs.declared.reading.Fault.TheVariants as fault
+use Rattle.ss_store.specs.Slots.{AreSomeLive, Either, LiveSlotsGo, ReplacesTwo}
+use Rattle.ss_query.specs.Slots.{HasRecords}
+use Rattle.ss_query.specs.declared.read_error.ReadError.{ReadError}
+use Rattle.ss_query.specs.declared.read_error.ReadError.TheVariants as fault
 use Rattle.ss_store.proofs.Calls.{Turns-failed, Turns-reads}
 use Rattle.ss_store.proofs.LiveSlots.{AreSomeLive-part, AreSomeLive-permutation, LiveSlotsGo-beside, LiveSlotsGo-permutation}
 use Rattle.ss_store.proofs.Pairs.{AreJoined, AreSlots, JoinsHeld, JoinsHeld-pair, SameButLine}
-use Rattle.ss_store.proofs.Slots.{HasRecords-permutation}
+use Rattle.ss_query.proofs.Records.{HasRecords-permutation}
 
 -- a stream of which nothing was joined
 pub IsPartlyJoined-none : (others : List (ℕ × Option Record)) (part : StreamParts) (s : Stream) (image : List ℕ) → IsHeldIn others part s image →
@@ -45,13 +53,13 @@ pub IsPartlyJoined-joined : (others : List (ℕ × Option Record)) (part : Strea
 IsPartlyJoined-joined others part s image is = record { part = part; windows = is.windows; joins = is.joins; held = is.held }
 
 -- where reading gave no failure of a record
-pub IsFirm-read : (T : Type 0) (summary : Figures) (failure : Fault) → IsRead summary (Err failure) → IsFirm {T = T} (Err failure)
+pub IsFirm-read : (T : Type 0) (summary : Figures) (failure : ReadError) → IsRead summary (Err failure) → IsFirm (verdict_of_read {T = T} (Err failure))
 IsFirm-read T summary fault.Disk read = tt
 IsFirm-read T summary (fault.Changed slot) read = absurd read
 
 -- what reading two records as one answers, for all records that may stand there
-abbrev pub ReadsJoined : ℕ → List Landmark → Entry → Entry → List ℕ → (Figures → Type 0) → Type 0
-ReadsJoined number landmarks w v content Reads =
+abbrev pub ReadsBoth : ℕ → List Landmark → Entry → Entry → List ℕ → (Figures → Type 0) → Type 0
+ReadsBoth number landmarks w v content Reads =
     (others : List (ℕ × Option Record)) (one two : Window) →
     HasRecords ((w.slot, Some (window_record number one)) ∷ (v.slot, Some (window_record number two)) ∷ others) content →
     span_held w ≡ span_of one → span_held v ≡ span_of two → IsTrue (lies_free landmarks one) → IsTrue (lies_free landmarks two) → one.summary.t_last < two.summary.t_first → Reads (joined one.summary two.summary)
@@ -59,7 +67,7 @@ ReadsJoined number landmarks w v content Reads =
 module _ (others : List (ℕ × Option Record)) (part new : StreamParts) (s : Stream) (w v : Entry) (same : SameButLine part new)
     (pair : AreJoined (lengths_of (params_of part.target)) (values_held (entries_of part)) part.line.entries new.line.entries w v) where
   -- what is read where the stream is held
-  pub read-held : (content : List ℕ) (Reads : Figures → Type 0) → ReadsJoined part.id.0 part.landmarks.landmarks w v content Reads → (held : IsHeldIn others part s content) →
+  pub read-held : (content : List ℕ) (Reads : Figures → Type 0) → ReadsBoth part.id.0 part.landmarks.landmarks w v content Reads → (held : IsHeldIn others part s content) →
       let j = JoinsHeld-pair others part new s w v same pair held.agrees held.stream in Reads (joined j.one.summary j.two.summary)
   read-held content Reads each held =
       let j = JoinsHeld-pair others part new s w v same pair held.agrees held.stream in
@@ -69,8 +77,8 @@ module _ (others : List (ℕ × Option Record)) (part new : StreamParts) (s : St
       j.first j.second j.first_free j.second_free j.later
 
   module _ {T E : Type 0} (old mid after : Told) (summary : Figures) (result : Result T E) (knows : KnowsNow old) (reads : OnlyReads old mid)
-      (read : ReadsJoined part.id.0 part.landmarks.landmarks w v old.content (λ is. summary ≡ is))
-      (replaces : ReplacesTwo w.slot v.slot (records.Window part.id.0 w.first summary) mid after result) where
+      (read : ReadsBoth part.id.0 part.landmarks.landmarks w v old.content (λ is. summary ≡ is))
+      (replaces : ReplacesTwo w.slot v.slot (records.Window part.id.0 w.first summary) result mid after) where
     module _ (held : IsHeldIn others part s old.content) where
       j : JoinsHeld others part new s w v
       j = JoinsHeld-pair others part new s w v same pair held.agrees held.stream
@@ -154,3 +162,17 @@ LiveSlotsGo-two part new w v live live_now slots go =
     LiveSlotsGo-permutation (w.slot ∷ v.slot ∷ slots.beside) (slots_held part) (w.slot ∷ slots.beside) (slots_held new) live live_now
     (IsPermutation-sym (slots_held part) (w.slot ∷ v.slot ∷ slots.beside) slots.was) (IsPermutation-sym (slots_held new) (w.slot ∷ slots.beside) slots.is)
     (LiveSlotsGo-beside slots.beside (w.slot ∷ v.slot ∷ []) (w.slot ∷ []) live live_now go)
+
+-- the slot that is named is that of one of the two windows
+pub IfChanged-window : (T : Type 0) {len : ℕ → ℕ} {n : ℕ} {now : List (At × Entry)} (part : StreamParts) (w v : Entry) → AreJoined len n part.line.entries now w v →
+    (failure : ReadError) → IfChanged (verdict_of_read {T = Figures} (Err failure)) (λ slot. (slot ≡ w.slot) ⊎ (slot ≡ v.slot)) →
+    ChangedIsHeld (verdict_of_read {T = T} (Err failure)) part
+IfChanged-window T part w v pair fault.Disk one = tt
+IfChanged-window T part w v pair (fault.Changed slot) one =
+    let slot_of : Entry → ℕ = λ e. e.slot in
+    let after : List ℕ = w.slot ∷ v.slot ∷ map slot_of pair.rest in
+    let held : window_slots_of part ≡ map slot_of pair.front ++ after =
+    ap (λ es. map slot_of es) pair.was ∙ map-append slot_of pair.front (w ∷ v ∷ pair.rest) in
+    let here : Contains after slot =
+    ⊎_elim (λ first. (0, omega arith, sym first)) (λ second. (1, omega arith, sym second)) one in
+    subst (λ slots. Contains slots slot) (sym held) (Contains-append_right (map slot_of pair.front) after slot here)

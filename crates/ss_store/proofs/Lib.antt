@@ -15,7 +15,6 @@ pub mod ClosingAll
 pub mod Opens
 pub mod SurveyAnswers
 pub mod Pairs
-pub mod Places
 pub mod Readings
 pub mod Slots
 pub mod Spans
@@ -36,13 +35,16 @@ pub mod Created
 pub mod Valued
 pub mod Appended
 pub mod Decays
+pub mod Looking
 pub mod WindowsRead
-pub mod Answering
-pub mod MarkedTallies
-pub mod Seeing
-pub mod SplitLemmas
-pub mod AskedWindows
 pub mod AskedStreams
 mod Rows
+mod AskRows
 mod CallRows
 pub mod FoundAlike
+pub mod Wholes
+pub mod Steps
+pub mod Applying
+pub mod Taking
+pub mod MarkTaking
+pub mod Creating

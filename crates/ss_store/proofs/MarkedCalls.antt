@@ -20,16 +20,17 @@ use Rattle.ss_model.specs.State.{Stream}
 use Rattle.ss_recover.specs.Held.{Agrees, all_value_records, in_slots, landmark_record, landmark_records, mark_slots, marks_held, records_held, slots_held, window_slots, windows_held}
 use Rattle.ss_recover.specs.declared.parts.StreamParts.{StreamParts}
 use Rattle.ss_store.specs.Calls.{Turns}
-use Rattle.ss_store.specs.Held.{IsHeldIn}
+use Rattle.ss_query.specs.Held.{IsHeldIn}
 use Rattle.ss_store.specs.Kept.{without_spare}
-use Rattle.ss_store.specs.Marking.{CanMark, FitsMark, IsItsSlot, IsMarkedOrNot, event_of, landmarks_after, mark_record, mark_refusal, slots_after, value_slots_after, values_open, with_mark}
-use Rattle.ss_store.specs.Slots.{AddsRecord, AreSomeLive, Either, HasRecords, LiveSlotsGo, Replaces, live_slots}
+use Rattle.ss_store.specs.Marking.{CanMark, FitsMark, IsItsSlot, IsMarkedOrNot, event_of, landmarks_after, mark_record, mark_refusal, slots_after, value_slots_after, slots_used, values_open, with_mark}
+use Rattle.ss_store.specs.Slots.{AddsRecord, AreSomeLive, Either, LiveSlotsGo, Replaces, live_slots}
+use Rattle.ss_query.specs.Slots.{HasRecords}
 use Rattle.ss_store.specs.declared.marking.Mark.{Mark}
 use Rattle.ss_store.specs.declared.marking.Mark.TheVariants.{Open, Value, Close}
 use Rattle.ss_store.proofs.Calls.{Turns-weaker}
 use Rattle.ss_store.proofs.LiveSlots.{AreSomeLive-permutation, LiveSlotsGo-beside, LiveSlotsGo-permutation}
 use Rattle.ss_store.proofs.OpenMarks.{HasOpen, HasOpen-can, change-has, closes, count-has, start-has, takes, values-has}
-use Rattle.ss_store.proofs.Slots.{HasRecords-permutation}
+use Rattle.ss_query.proofs.Records.{HasRecords-permutation}
 use Rattle.ss_store.proofs.Marked.{Agrees-mark, HaveSlots, IsAdding, IsMarked, IsStream-mark, last-slot, length-change_last, marks-added, marks-last, marks_after, marks_in, moved-beside, moved-in, pushed-first, pushed-second, same_window_slots, same_windows}
 
 -- ---- the call
@@ -69,7 +70,7 @@ module _ (part new : StreamParts) (slot t : ℕ) (mark : Mark) (marked : IsMarke
       turns
 
   -- a record that is put into a free slot
-  pub Turns-added : {T E : Type 0} (old after : Told) (result : Result T E) → IsAdding mark → AddsRecord slot (mark_record part t mark) old after result →
+  pub Turns-added : {T E : Type 0} (old after : Told) (result : Result T E) → IsAdding mark → AddsRecord slot (mark_record part t mark) result old after →
       Turns (IsHeldIn others part s) (IsMarkedOrNot others part s t mark) (IsHeldIn others new (with_mark s t mark)) old after result
   Turns-added old after result adding adds =
       let before = records_held (part, s) ++ others in
@@ -107,7 +108,7 @@ IsLastSlot-closing part slot t known can in_slot =
 Turns-replaced : (part new : StreamParts) (slot t : ℕ) → IsMarked part new slot t Close → CanMark part.landmarks.landmarks t Close →
     mark_refusal part t Close ≡ None → t ≤ LAST_TIME → IsTrue (is_valid (mark_record part t Close)) → AreKnown part.landmarks → IsLastSlot part slot →
     (others : List (ℕ × Option Record)) (s : Stream) →
-    {T E : Type 0} (old after : Told) (result : Result T E) → Replaces slot (mark_record part t Close) old after result →
+    {T E : Type 0} (old after : Told) (result : Result T E) → Replaces slot (mark_record part t Close) result old after →
     Turns (IsHeldIn others part s) (IsMarkedOrNot others part s t Close) (IsHeldIn others new (with_mark s t Close)) old after result
 Turns-replaced part new slot t marked can accepted early valid known last others s old after result replaces =
     let ls = part.landmarks.landmarks in
@@ -258,6 +259,12 @@ IsMarked-marked_part part slot t mark known can valid early room value_room = re
 pub IsAdding-is : (mark : Mark) → (mark ≡ Open) ⊎ ((v : ℤ) × (mark ≡ Value v)) → IsAdding mark
 IsAdding-is mark is = ⊎_elim (λ same. subst IsAdding (sym same) tt) (λ same. subst IsAdding (sym same.1) tt) is
 
+-- a new record uses one slot more
+pub slots_used-adding : (mark : Mark) (slot : ℕ) → IsAdding mark → slots_used mark slot ≡ slot + 1
+slots_used-adding Open slot adding = refl
+slots_used-adding (Value v) slot adding = refl
+slots_used-adding Close slot adding = absurd adding
+
 pub IsLastSlot-is : (part : StreamParts) (slot t : ℕ) (live : List Bool) (mark : Mark) → mark ≡ Close → AreKnown part.landmarks →
     CanMark part.landmarks.landmarks t mark → IsItsSlot live part mark slot → IsLastSlot part slot
 IsLastSlot-is part slot t live Open is known can in_slot = cc
@@ -267,7 +274,7 @@ IsLastSlot-is part slot t live Close is known can in_slot = IsLastSlot-closing p
 pub Turns-closed : (part new : StreamParts) (slot t : ℕ) (mark : Mark) → mark ≡ Close → IsMarked part new slot t mark →
     CanMark part.landmarks.landmarks t mark → mark_refusal part t mark ≡ None → t ≤ LAST_TIME → IsTrue (is_valid (mark_record part t mark)) →
     AreKnown part.landmarks → IsLastSlot part slot → (others : List (ℕ × Option Record)) (s : Stream) →
-    {T E : Type 0} (old after : Told) (result : Result T E) → Replaces slot (mark_record part t mark) old after result →
+    {T E : Type 0} (old after : Told) (result : Result T E) → Replaces slot (mark_record part t mark) result old after →
     Turns (IsHeldIn others part s) (IsMarkedOrNot others part s t mark) (IsHeldIn others new (with_mark s t mark)) old after result
 Turns-closed part new slot t Open is marked can accepted early valid known last others s old after result replaces = cc
 Turns-closed part new slot t (Value v) is marked can accepted early valid known last others s old after result replaces = cc

@@ -1,9 +1,11 @@
 -- What opening reads, and what it leaves of the disk.
-use Rattle.std.proofs.Common.{◌≡◌, ℕ, List, flat_map, zip, ap, subst, sym, ◌∙◌, Result, Ok, Err}
+use Rattle.std.proofs.Common.{◌≡◌, ℕ, List, flat_map, zip, refl, ap, subst, sym, ◌∙◌, Result, Ok, Err}
 use Rattle.std.specs.Prelude.{IsErr}
 use Rattle.ss_outside.specs.Crash.{KnowsNow, OnlyReads}
 use Rattle.ss_outside.specs.Disk.{Told}
-use Rattle.ss_journal.specs.Calls.{KeepsMap}
+use Rattle.ss_outside.specs.Verdict as verdicts
+use Rattle.ss_outside.specs.Verdict.{IfUndone, IsFirm, Verdict}
+use Rattle.ss_journal.specs.Calls.{KeepsMap, verdict_of_open}
 use Rattle.ss_journal.specs.Kept as Journals
 use Rattle.ss_journal.specs.Kept.{JournalState}
 use Rattle.ss_journal.specs.Redo.{SlotMap, StandsFor}
@@ -14,21 +16,25 @@ use Rattle.ss_journal.proofs.RedoLemmas.{StandsFor-from}
 use Rattle.ss_records.specs.Kept.{AreKept, RecordsState}
 use Rattle.ss_model.specs.ClosedState.{closed_state}
 use Rattle.ss_model.specs.Standing.{IsState}
-use Rattle.ss_model.specs.State.{Stream}
+use Rattle.ss_model.specs.State.{Stream, state}
 use Rattle.ss_recover.specs.Held.{AllAgree, records_held}
-use Rattle.ss_recover.specs.Rebuilt.{RebuildsAs}
+use Rattle.ss_recover.specs.Rebuilt.{RebuildsAs, verdict_of_rebuild}
 use Rattle.ss_recover.specs.declared.parts.Parts.{Parts}
 use Rattle.ss_recover.specs.declared.parts.StreamParts.{StreamParts}
 use Rattle.ss_recover.specs.declared.recover_error.RecoverError.{RecoverError}
 use Rattle.ss_recover.specs.declared.recover_error.RecoverError.TheVariants as recovering
-use Rattle.ss_store.specs.Calls.{KeepsState, Turns}
-use Rattle.ss_store.specs.Causes.{IsFirm, OpensAs}
-use Rattle.ss_store.specs.Errors.{open_of_fault, open_of_journal, open_of_recover}
+use Rattle.ss_store.specs.Calls.{KeepsHistory, KeepsState, Turns}
+use Rattle.ss_store.specs.Applied.{OpensStore}
+use Rattle.ss_store.specs.Causes.{OpensAs}
+use Rattle.ss_store.specs.Changing.{ClosesAll}
+use Rattle.ss_store.specs.Errors.{open_of_fault, open_of_journal, open_of_recover, verdict_of_opening}
+use Rattle.ss_query.specs.Reading.{verdict_of_read}
 use Rattle.ss_store.specs.Kept.{StoreIsKept, StoreState}
-use Rattle.ss_store.specs.Rebuilt.{HasRebuilt, IsRebuilt}
-use Rattle.ss_store.specs.Recover.{Recovers, recover, recovered_from, recovered_of}
-use Rattle.ss_store.specs.declared.reading.Fault.{Fault}
-use Rattle.ss_store.specs.declared.reading.Fault.TheVariants as fault
+use Rattle.ss_store.specs.Rebuilt.{HasRebuilt, IsRebuilt, ReadsAll}
+use Rattle.ss_store.specs.Recover.{Recovers, Stands, recover, recovered_from, recovered_of}
+use Rattle.ss_store.specs.declared.error.OpenError.{OpenError}
+use Rattle.ss_query.specs.declared.read_error.ReadError.{ReadError}
+use Rattle.ss_query.specs.declared.read_error.ReadError.TheVariants as fault
 use Rattle.ss_store.proofs.Among.{Recovers-held, recover-StandsFor}
 use Rattle.ss_store.proofs.Calls.{Turns-answers, Turns-failed, Turns-reads, Turns-then, Turns-weaker}
 use Rattle.ss_store.proofs.ClosingAll.{IsState-closed_state, closed_state-again}
@@ -50,9 +56,38 @@ OpensAs-recover content found (recovering.BadStream id) is rebuilds = recover-St
 OpensAs-recover content found recovering.Disk is rebuilds = tt
 OpensAs-recover content found recovering.OutOfMemory is rebuilds = tt
 
-pub OpensAs-firm : (content : List ℕ) (why : Fault) → IsFirm {T = Unit {0}} (Err why) → OpensAs content (Err (open_of_fault why))
+pub OpensAs-firm : (content : List ℕ) (why : ReadError) → IsFirm (verdict_of_read {T = Unit {0}} (Err why)) → OpensAs content (Err (open_of_fault why))
 OpensAs-firm content fault.Disk firm = tt
 OpensAs-firm content (fault.Changed slot) firm = absurd firm
+
+-- its verdict is that of the call below
+pub verdict-journal : (S T : Type 0) (error : JournalError) → verdict_of_open {T = S} (Err error) ≡ verdict_of_opening {T = T} (Err (open_of_journal error))
+verdict-journal S T journal.Disk = refl
+verdict-journal S T journal.NotAStore = refl
+verdict-journal S T (journal.BadEntry n) = refl
+verdict-journal S T journal.OutOfMemory = refl
+
+pub verdict-recover : (S T : Type 0) (error : RecoverError) → verdict_of_rebuild {T = S} (Err error) ≡ verdict_of_opening {T = T} (Err (open_of_recover error))
+verdict-recover S T (recovering.BadSlot n) = refl
+verdict-recover S T (recovering.BadStream id) = refl
+verdict-recover S T recovering.Disk = refl
+verdict-recover S T recovering.OutOfMemory = refl
+
+pub verdict-fault : (S T : Type 0) (why : ReadError) → verdict_of_read {T = S} (Err why) ≡ verdict_of_opening {T = T} (Err (open_of_fault why))
+verdict-fault S T fault.Disk = refl
+verdict-fault S T (fault.Changed slot) = refl
+
+pub firm-journal : (T : Type 0) (error : JournalError) → IsFirm (verdict_of_opening {T = T} (Err (open_of_journal error)))
+firm-journal T journal.Disk = tt
+firm-journal T journal.NotAStore = tt
+firm-journal T (journal.BadEntry n) = tt
+firm-journal T journal.OutOfMemory = tt
+
+pub firm-recover : (T : Type 0) (error : RecoverError) → IsFirm (verdict_of_opening {T = T} (Err (open_of_recover error)))
+firm-recover T (recovering.BadSlot n) = tt
+firm-recover T (recovering.BadStream id) = tt
+firm-recover T recovering.Disk = tt
+firm-recover T recovering.OutOfMemory = tt
 
 -- the map of a content that records keep
 pub StandsFor-kept : (records : RecordsState) (content : List ℕ) (kept : AreKept records content) → StandsFor content kept.journal.found
@@ -161,7 +196,7 @@ module _ (parts now : List StreamParts) (old read new : Told) (knows : KnowsNow 
   pub OpensAs-closed : (store : StoreState) → AllAgree store.streams (closed_state is.streams) → OpensAs old.content (Ok store)
   OpensAs-closed store agree = (closed_state is.streams, Recovers-rebuilt parts old.content is, agree, IsState-closed_state is.streams is.state)
 
-  pub StoreIsKept-closed : (store : StoreState) → Closes {T = Unit {0}} {E = Fault} (Ok tt) → AreKept store.records new.content → store.streams ≡ now →
+  pub StoreIsKept-closed : (store : StoreState) → Closes {T = Unit {0}} {E = ReadError} (Ok tt) → AreKept store.records new.content → store.streams ≡ now →
       AllAgree now (closed_state is.streams) → StoreIsKept store new.content
   StoreIsKept-closed store closes kept same agree = record {
     records = kept;
@@ -171,3 +206,74 @@ module _ (parts now : List StreamParts) (old read new : Told) (knows : KnowsNow 
     held = rw same (closes.content held_read);
     closed = closed_state-again is.streams is.state;
   }
+
+-- what keeps the state keeps the history
+KeepsHistory-state : {T E : Type 0} (old new : Told) (result : Result T E) → KeepsState old new result → KeepsHistory old new result
+KeepsHistory-state old new result keeps history =
+    let is = Recovers (state history) in
+    let stands = Stands history in
+    Turns-weaker is stands is stands is stands old new result (λ has. has.state) (λ has image left. record { is_history = has.is_history; state = left })
+    (λ has image left. record { is_history = has.is_history; state = left }) (keeps (state history))
+
+undone : (v : Verdict) (P : Type 0) → P → IfUndone v P
+undone verdicts.fine P is = tt
+undone verdicts.refused P is = is
+undone verdicts.no_memory P is = is
+undone verdicts.stopped P is = is
+undone verdicts.failed P is = tt
+undone (verdicts.changed slot) P is = tt
+
+unwritten-fault : (why : ReadError) (P : Type 0) → IfUndone (verdict_of_opening {T = StoreState} (Err (open_of_fault why))) P
+unwritten-fault fault.Disk P = tt
+unwritten-fault (fault.Changed slot) P = tt
+
+-- a store that wasn't opened, with nothing written
+pub OpensStore-read : (error : OpenError) (old new : Told) → KnowsNow old → OnlyReads old new → OpensAs old.content (Err error) → OpensStore (Err error) old new
+OpensStore-read error old new knows reads opens =
+    let keeps : KeepsState {T = StoreState} old new (Err error) = λ streams. Turns-reads (Recovers streams) (Recovers streams) old new (Err error) knows reads (λ has. has) in
+    record {
+      opens = opens;
+      kept = tt;
+      state = keeps;
+      history = KeepsHistory-state old new (Err error) keeps;
+      unwritten = undone (verdict_of_opening {T = StoreState} (Err error)) (OnlyReads old new) reads;
+      judged = λ none. reads;
+    }
+
+-- what was read was settled and closed, or it failed at that
+module _ (parts now : List StreamParts) (old read new : Told) (knows : KnowsNow old) (is : IsRebuilt parts old.content) (reads : OnlyReads old read)
+    (records : RecordsState) where
+  judged-rebuilt : ((streams : List Stream) → Recovers streams old.content → ⊥) → OnlyReads old new
+  judged-rebuilt none = absurd (none (closed_state is.streams) (Recovers-rebuilt parts old.content is))
+
+  pub OpensStore-unclosed : (why : ReadError) → ClosesAll parts now records (Err why) read new → OpensStore (Err (open_of_fault why)) old new
+  OpensStore-unclosed why closes =
+      let failed : Result StoreState OpenError = Err (open_of_fault why) in
+      let has = held_read parts now old read new knows is reads in
+      let keeps : KeepsState old new failed =
+      KeepsState-unclosed parts now old read new knows is reads (Err why) failed (closes.turns is.streams is.state is.agree) refl in
+      record {
+        opens = OpensAs-firm old.content why (closes.firm is.streams is.state is.agree has);
+        kept = tt;
+        state = keeps;
+        history = KeepsHistory-state old new failed keeps;
+        unwritten = unwritten-fault why (OnlyReads old new);
+        judged = judged-rebuilt;
+      }
+
+  pub OpensStore-closed : (store : StoreState) → ClosesAll parts now records (Ok tt) read new → store.streams ≡ now → store.records ≡ records →
+      OpensStore (Ok store) old new
+  OpensStore-closed store closes same same_records =
+      let has = held_read parts now old read new knows is reads in
+      let agree = closes.agree is.streams is.state is.agree has in
+      let turns = closes.turns is.streams is.state is.agree in
+      let keeps : KeepsState {T = StoreState} {E = OpenError} old new (Ok store) =
+      KeepsState-closed parts now old read new knows is reads tt (Ok store) turns agree in
+      record {
+        opens = OpensAs-closed parts now old read new knows is reads store (rw same agree);
+        kept = StoreIsKept-closed parts now old read new knows is reads store turns (rw same_records closes.kept) same agree;
+        state = keeps;
+        history = KeepsHistory-state old new (Ok store) keeps;
+        unwritten = tt;
+        judged = judged-rebuilt;
+      }

@@ -4,7 +4,7 @@ use Rattle.std.specs.Prelude.{zip, IsTrue}
 use Rattle.std.specs.List.{list_all, list_any, remove}
 use Rattle.std.proofs.Math.Seq.{set-append_seam}
 use Rattle.std.proofs.lemmas.Bool.{and_parts, or_parts}
-use Rattle.std.proofs.lemmas.List.{length-map, map-append}
+use Rattle.std.proofs.lemmas.List.{map-append}
 use Rattle.std.proofs.lemmas.List.Folds.{list_all-append}
 use Rattle.std.proofs.lemmas.List.Sorted.{IsPermutation-append_left, IsPermutation-cons, IsPermutation-middle, IsPermutation-sym, IsPermutation-trans}
 use Rattle.ss_windowing.specs.Windowing.{fits}
@@ -32,9 +32,9 @@ use Rattle.ss_recover.specs.Held.{Agrees, TileFrom, all_value_records, entries_o
 use Rattle.ss_recover.specs.declared.parts.StreamParts.{StreamParts}
 use Rattle.ss_store.specs.Held.{values_held, with_windows}
 use Rattle.ss_store.specs.Joining.{AreDue}
-use Rattle.ss_store.proofs.Places.{find-read, index-once}
+use Rattle.ss_query.proofs.Places.{entries_in, find-read, index-once}
 use Rattle.ss_store.proofs.Spans.{AreTiled, AreTiled-seam, joined_entry, values_held-windows}
-use Rattle.ss_store.proofs.Walks.{entries_in}
+use Rattle.ss_query.proofs.Records.{zip-held}
 
 list_any-replaced : {X : Type 0} (p : X → Bool) (xs : List X) (x y : X) → p y ≡ p x → list_any p (xs ++ x ∷ []) ≡ false → list_any p (xs ++ y ∷ []) ≡ false
 list_any-replaced p [] x y same none = rw same none
@@ -132,12 +132,6 @@ IsPermutation-two xs a b ys =
     IsPermutation-trans (xs ++ a ∷ b ∷ ys) (a ∷ (xs ++ b ∷ ys)) (a ∷ b ∷ (xs ++ ys)) (IsPermutation-middle xs a (b ∷ ys))
     (IsPermutation-cons a (xs ++ b ∷ ys) (b ∷ (xs ++ ys)) (IsPermutation-middle xs b ys))
 
-zip-append : {X Y : Type 0} (xs us : List X) (ys vs : List Y) → length xs ≡ length ys → zip (xs ++ us) (ys ++ vs) ≡ zip xs ys ++ zip us vs
-zip-append [] us [] vs same = refl
-zip-append [] us (y ∷ ys) vs same = absurd (omega arith)
-zip-append (x ∷ xs) us [] vs same = absurd (omega arith)
-zip-append (x ∷ xs) us (y ∷ ys) vs same = ap (λ l. (x, y) ∷ l) (zip-append xs us ys vs (omega arith))
-
 -- the windows that entries are of
 pub record AreTheirs (front : List Entry) (w v : Entry) (rest : List Entry) (ws : List Window) : Type 0 where
   pub before : List Window
@@ -181,9 +175,6 @@ AreTheirs-positions (f ∷ fs) w v rest (x ∷ xs) same =
       second = later.second;
       rests = later.rests;
     }
-
-same-length : (es : List Entry) (ws : List Window) → map span_held es ≡ map span_of ws → length es ≡ length ws
-same-length es ws same = let long = ap (λ l. length l) same in omega (arith, long, length-map es span_held, length-map ws span_of)
 
 slot_of : Entry → ℕ
 slot_of e = e.slot
@@ -281,18 +272,6 @@ span-joined w v one two next some first second =
 
 pub one_part-same : (part : StreamParts) (left right : At) (w v : Entry) → SameButLine part (one_part part left right w v)
 one_part-same part left right w v = record { id = refl; name = refl; target = refl; slot = refl; last_time = refl; landmarks = refl }
-
-pub zip-held : (number : ℕ) (front : List Entry) (es : List Entry) (before : List Window) (ws : List Window) → map span_held front ≡ map span_of before →
-    zip (map (λ (e : Entry). e.slot) (front ++ es)) (map (λ x. Some (window_record number x)) (before ++ ws))
-    ≡ zip (map (λ (e : Entry). e.slot) front) (map (λ x. Some (window_record number x)) before)
-    ++ zip (map (λ (e : Entry). e.slot) es) (map (λ x. Some (window_record number x)) ws)
-zip-held number front es before ws same =
-    let slots : List Entry → List ℕ = λ l. map (λ (e : Entry). e.slot) l in
-    let spelled : List Window → List (Option Record) = λ l. map (λ x. Some (window_record number x)) l in
-    let long : length (slots front) ≡ length (spelled before) =
-    omega (arith, length-map front (λ (e : Entry). e.slot), length-map before (λ x. Some (window_record number x)), same-length front before same) in
-    ap₂ (λ (xs : List ℕ) (ys : List (Option Record)). zip xs ys) (map-append (λ (e : Entry). e.slot) front es) (map-append (λ x. Some (window_record number x)) before ws)
-    ∙ zip-append (slots front) (slots es) (spelled before) (spelled ws) long
 
 -- the records of a stream beside others, those of its windows first
 pub records_held-apart : (part : StreamParts) (s : Stream) (others : List (ℕ × Option Record)) →

@@ -1,28 +1,24 @@
 -- Two records that are read one after the other.
-use Rattle.std.proofs.Common.{◌≡◌, ◌∙◌, ℕ, ◌<◌, Bool, true, List, ◌∷◌, ◌++◌, length, sym, subst, arith, Option, Some, Err, All}
+use Rattle.std.proofs.Common.{◌≡◌, ℕ, ◌<◌, Bool, List, ◌∷◌, ◌++◌, length, sym, subst, arith, Option, Err, All}
 use Rattle.std.specs.List.{range_with_len}
 use Rattle.std.proofs.lemmas.List.Elements.{All-filter, All-from_recursion, All-head}
 use Rattle.std.proofs.lemmas.List.Sorted.{All-permutation, IsPermutation-sym}
 use Rattle.ss_records.specs.Live.{is_live}
 use Rattle.ss_codec.specs.declared.record.Record.{Record}
 use Rattle.ss_codec.specs.declared.record.Record.TheVariants as records
-use Rattle.ss_landmarks.specs.Landmark.{Landmark}
-use Rattle.ss_line.specs.declared.entry.Entry.{Entry}
 use Rattle.ss_summary.specs.Figures.{Figures}
-use Rattle.ss_model.specs.Marks.{lies_free}
-use Rattle.ss_model.specs.declared.types.Window.{Window}
-use Rattle.ss_recover.specs.Held.{window_record}
 use Rattle.ss_recover.proofs.Lists.{range-within}
 use Rattle.ss_recover.proofs.Permutations.{IsPermutation-turn}
-use Rattle.ss_store.specs.Causes.{IsRead}
-use Rattle.ss_store.specs.Slots.{AreSomeLive, HasRecords, live_slots}
-use Rattle.ss_store.specs.declared.reading.Fault.{Fault}
-use Rattle.ss_store.specs.declared.reading.Fault.TheVariants.{Disk, Changed}
+use Rattle.ss_query.specs.Reading.{IsRead}
+use Rattle.ss_store.specs.Slots.{AreSomeLive, live_slots}
+use Rattle.ss_query.specs.Slots.{HasRecords}
+use Rattle.ss_query.specs.declared.read_error.ReadError.{ReadError}
+use Rattle.ss_query.specs.declared.read_error.ReadError.TheVariants.{Disk, Changed}
 use Rattle.ss_store.proofs.LiveSlots.{AreSomeLive-permutation}
-use Rattle.ss_store.proofs.Slots.{HasRecords-permutation}
+use Rattle.ss_query.proofs.Records.{HasRecords-permutation}
 
 -- a failure says nothing of what was to be read
-pub IsRead-err : (first second : Figures) (fault : Fault) → IsRead first (Err fault) → IsRead second (Err fault)
+pub IsRead-err : (first second : Figures) (fault : ReadError) → IsRead first (Err fault) → IsRead second (Err fault)
 IsRead-err first second Disk read = tt
 IsRead-err first second (Changed slot) read = absurd read
 
@@ -45,14 +41,3 @@ pub HasRecords-second : (first second : ℕ × Option Record) (others : List (�
 HasRecords-second first second others old new same has =
     subst (λ image. HasRecords (second ∷ first ∷ others) image) (sym same)
     (HasRecords-permutation (first ∷ second ∷ others) (second ∷ first ∷ others) old (IsPermutation-turn first second others) has)
-
--- a window whose record was read as that of an entry lies free as that does
-pub lies_free-read : (landmarks : List Landmark) (number : ℕ) (entry : Entry) (w : Window) (summary : Figures) (spelled : Option Record) →
-    spelled ≡ Some (window_record number w) → spelled ≡ Some (records.Window number entry.first summary) → lies_free landmarks w ≡ true →
-    lies_free landmarks (record { first = entry.first; summary = summary }) ≡ true
-lies_free-read landmarks number entry w summary spelled read is free =
-    let both = sym read ∙ is in
-    let first : w.first ≡ entry.first = cc both in
-    let same : w.summary ≡ summary = cc both in
-    let window : w ≡ record { first = entry.first; summary = summary } = λ i. record { first = first i; summary = same i } in
-    subst (λ u. lies_free landmarks u ≡ true) window free

@@ -1,8 +1,9 @@
 -- Calls that make a step of the state that a disk stands for, and so add an event to its history.
 use Rattle.std.proofs.Common.{◌≡◌, ℕ, List, [], ◌∷◌, ◌++◌, sym, ◌∙◌, subst, refl, None, Some, Option, Result, Ok, Err, inl, inr}
-use Rattle.std.specs.Prelude.{◌↔◌}
+use Rattle.std.specs.Prelude.{◌↔◌, IsTrue}
 use Rattle.ss_outside.specs.Crash.{KnowsNow}
-use Rattle.ss_outside.specs.Disk.{Told}
+use Rattle.ss_outside.specs.Disk.{DiskView, Told}
+use Rattle.ss_outside.specs.Verdict.{IfUndone}
 use Rattle.ss_catalog.specs.declared.event.Event.{Event}
 use Rattle.ss_catalog.specs.declared.refusal.Refusal.{Refusal}
 use Rattle.ss_model.specs.History.{CanBeSaid}
@@ -11,17 +12,16 @@ use Rattle.ss_model.specs.State.{Stream, state}
 use Rattle.ss_model.specs.Steps.{stepped}
 use Rattle.ss_model.proofs.HistoryLemmas.{IsHistory_push}
 use Rattle.ss_model.proofs.StepLemmas.{state-push}
-use Rattle.ss_model.specs.Standing.{IsState}
-use Rattle.ss_recover.specs.Held.{AllAgree}
-use Rattle.ss_recover.specs.declared.parts.StreamParts.{StreamParts}
+use Rattle.ss_model.specs.declared.types.Ack.{Ack}
 use Rattle.ss_store.specs.Calls.{AddsEvent, RecoversToEither, StandsForEither, StepsState, Turns}
-use Rattle.ss_store.specs.Causes.{IfUncalled}
-use Rattle.ss_store.specs.Kept.{refuses_held}
+use Rattle.ss_store.specs.Applied.{Applies}
+use Rattle.ss_store.specs.Errors.{verdict_of_apply}
+use Rattle.ss_store.specs.Kept.{StoreIsKept, StoreState, refuses_held}
 use Rattle.ss_store.specs.declared.error.ApplyError.{ApplyError}
 use Rattle.ss_store.specs.declared.error.ApplyError.TheVariants as apply
 use Rattle.ss_store.specs.Recover.{Recovers, Stands}
 use Rattle.ss_store.proofs.Calls.{Turns-answers, Turns-failed, Turns-same, Turns-weaker}
-use Rattle.ss_store.proofs.KeptStates.{Recovers-same}
+use Rattle.ss_store.proofs.KeptStates.{AllAgree-recovered, Recovers-same}
 use Rattle.ss_store.proofs.Refusals.{refuses_held-is}
 
 -- what a call does to the records it does to the state that they are of
@@ -92,29 +92,32 @@ not_refused : {T : Type 0} (why : Option Refusal) (result : Result T ApplyError)
 not_refused None result exactly never = refl
 not_refused (Some r) result exactly never = absurd (never r ((exactly r).1 refl))
 
-module _ {T X : Type 0} (event : Event) (told : X → Told) (old new : X) (parts : List StreamParts) where
-  pub AddsEvent-step : (result : Result T ApplyError) → KnowsNow (told old) → CanBeSaid event → StepsState event result (told old) (told new) →
-      IfUncalled result (new ≡ old) → IsRefusedBy (refuses_held parts event) result →
-      ((streams : List Stream) → Recovers streams (told old).content → AllAgree parts streams × IsState streams) →
-      AddsEvent event result (told old) (told new)
-  AddsEvent-step (Ok value) knows said steps same exactly held =
-      let none = not_refused (refuses_held parts event) (Ok value) exactly (λ r wrong. cc) in
-      AddsEvent-accepted event (told old) (told new) (Ok value) said
-      (λ streams is. sym (refuses_held-is parts streams event (held streams is).0 (held streams is).1) ∙ none) steps
-  AddsEvent-step (Err apply.Disk) knows said steps same exactly held =
-      let failed : Result T ApplyError = Err apply.Disk in
-      let none = not_refused (refuses_held parts event) failed exactly (λ r wrong. cc) in
-      AddsEvent-accepted event (told old) (told new) (Err apply.Disk) said
-      (λ streams is. sym (refuses_held-is parts streams event (held streams is).0 (held streams is).1) ∙ none) steps
-  AddsEvent-step (Err (apply.Changed slot)) knows said steps same exactly held =
-      let failed : Result T ApplyError = Err (apply.Changed slot) in
-      let none = not_refused (refuses_held parts event) failed exactly (λ r wrong. cc) in
-      AddsEvent-accepted event (told old) (told new) (Err (apply.Changed slot)) said
-      (λ streams is. sym (refuses_held-is parts streams event (held streams is).0 (held streams is).1) ∙ none) steps
-  AddsEvent-step (Err (apply.Refused r)) knows said steps same exactly held =
-      subst (λ x. AddsEvent {T = T} event (Err (apply.Refused r)) (told old) (told x)) (sym same) (AddsEvent-uncalled event (told old) (apply.Refused r) knows)
-  AddsEvent-step (Err apply.Stopped) knows said steps same exactly held =
-      subst (λ x. AddsEvent {T = T} event (Err apply.Stopped) (told old) (told x)) (sym same) (AddsEvent-uncalled event (told old) apply.Stopped knows)
-  AddsEvent-step (Err apply.OutOfMemory) knows said steps same exactly held =
-      subst (λ x. AddsEvent {T = T} event (Err apply.OutOfMemory) (told old) (told x)) (sym same)
-      (AddsEvent-uncalled event (told old) apply.OutOfMemory knows)
+-- an event that was applied to a store is added to the history
+module _ {X : Type 0} (event : Event) (old new : StoreState) (seen : X → DiskView) (was is : X) where
+  -- the state that the content recovers to refuses what the store refuses
+  none-recovered : (result : Result Ack ApplyError) → StoreIsKept old (seen was).told.content → IsRefusedBy (refuses_held old.streams event) result →
+      ((r : Refusal) → result ≡ Err (apply.Refused r) → ⊥) → (streams : List Stream) → Recovers streams (seen was).told.content →
+      refuses streams event ≡ None
+  none-recovered result kept exactly never streams has =
+      let held = AllAgree-recovered old (seen was).told.content streams kept has in
+      sym (refuses_held-is old.streams streams event held.0 held.1) ∙ not_refused (refuses_held old.streams event) result exactly never
+
+  unchanged : (e : ApplyError) → KnowsNow (seen was).told → is ≡ was → AddsEvent {T = Ack} event (Err e) (seen was).told (seen is).told
+  unchanged e knows same =
+      subst (λ (d : X). AddsEvent {T = Ack} event (Err e) (seen was).told (seen d).told) (sym same) (AddsEvent-uncalled event (seen was).told e knows)
+
+  pub AddsEvent-applied : (result : Result Ack ApplyError) → Applies event old new (seen was) (seen is) result → CanBeSaid event →
+      IfUndone (verdict_of_apply result) (is ≡ was) → IsTrue (seen was).tells → KnowsNow (seen was).told → StoreIsKept old (seen was).told.content →
+      AddsEvent event result (seen was).told (seen is).told
+  AddsEvent-applied (Ok ack) applied said same told knows kept =
+      AddsEvent-accepted event (seen was).told (seen is).told (Ok ack) said
+      (none-recovered (Ok ack) kept applied.refused (λ r wrong. cc)) (applied.step.told told)
+  AddsEvent-applied (Err apply.Disk) applied said same told knows kept =
+      AddsEvent-accepted event (seen was).told (seen is).told (Err apply.Disk) said
+      (none-recovered (Err apply.Disk) kept applied.refused (λ r wrong. cc)) (applied.step.told told)
+  AddsEvent-applied (Err (apply.Changed slot)) applied said same told knows kept =
+      AddsEvent-accepted event (seen was).told (seen is).told (Err (apply.Changed slot)) said
+      (none-recovered (Err (apply.Changed slot)) kept applied.refused (λ r wrong. cc)) (applied.step.told told)
+  AddsEvent-applied (Err (apply.Refused r)) applied said same told knows kept = unchanged (apply.Refused r) knows same
+  AddsEvent-applied (Err apply.Stopped) applied said same told knows kept = unchanged apply.Stopped knows same
+  AddsEvent-applied (Err apply.OutOfMemory) applied said same told knows kept = unchanged apply.OutOfMemory knows same

@@ -19,9 +19,8 @@ use Rattle.ss_recover.specs.Held.{Agrees, TileFrom, entries_of, span_held, span_
 use Rattle.ss_recover.specs.declared.parts.StreamParts.{StreamParts}
 use Rattle.ss_store.specs.Held.{values_held}
 use Rattle.ss_store.proofs.HeldCounts.{values_held-Agrees}
-use Rattle.ss_store.proofs.Places.{IsAt-first, index-once, neighbour, nothing_behind, read-once}
+use Rattle.ss_query.proofs.Places.{IsAt-first, entries_in, index-once, neighbour, nothing_behind, read-once}
 use Rattle.ss_store.proofs.Spans.{AreTiled, AreTiled-seam}
-use Rattle.ss_store.proofs.Walks.{entries_in}
 
 -- how many windows are left after one that begins at a position, by the spans of those that stand there
 abbrev pub windows_behind : (ℕ → ℕ) → ℕ → ℕ → List (ℕ × ℕ) → ℕ

@@ -9,12 +9,8 @@ use Rattle.ss_line.specs.declared.entry.Entry.{Entry}
 use Rattle.ss_recover.specs.Held.{TileFrom, span_held}
 use Rattle.ss_store.specs.Held.{values_held}
 use Rattle.ss_store.specs.Joining.{AreDue, NoSpansAreDue}
-use Rattle.ss_store.proofs.Places.{IsAt-first, index-once, neighbour, nothing_behind, read-once}
+use Rattle.ss_query.proofs.Places.{IsAt-first, entries_in, index-once, neighbour, nothing_behind, read-once}
 use Rattle.ss_store.proofs.Spans.{AreTiled, AreTiled-seam, NoSpansAreDue-push, values_held-seam}
-
--- the entries without their places
-abbrev pub entries_in : List (At × Entry) → List Entry
-entries_in entries = map (λ (e : At × Entry). e.1) entries
 
 last-place : (e : At × Entry) (es : List (At × Entry)) (at : At) → Some at ≡ place_at (e ∷ es) (length es) →
     (front : List (At × Entry)) × (last : Entry) × (e ∷ es ≡ front ++ (at, last) ∷ [])

@@ -1,6 +1,6 @@
 -- A window that is read: its record among all, and the window that it is of.
-use Rattle.std.proofs.Common.{◌≡◌, ℕ, zero, suc, Bool, true, false, IsTrue, List, [], ◌∷◌, ◌++◌, map, remove, refl, ap, sym, ◌∙◌, subst, None, Some, Option, Result, Ok, Err}
-use Rattle.std.specs.Prelude.{slice_get, option_map, IfSome, IsSome, IfOk}
+use Rattle.std.proofs.Common.{◌≡◌, ℕ, zero, suc, Bool, true, IsTrue, List, [], ◌∷◌, ◌++◌, map, remove, refl, ap, sym, ◌∙◌, subst, None, Some, Option, Ok, Err}
+use Rattle.std.specs.Prelude.{slice_get, option_map, IfSome}
 use Rattle.std.specs.List.{list_all}
 use Rattle.std.proofs.lemmas.Bool.{and_parts}
 use Rattle.std.proofs.lemmas.List.Sorted.{IsPermutation-remove}
@@ -22,20 +22,24 @@ use Rattle.ss_model.specs.declared.types.Window.{Window}
 use Rattle.ss_model.proofs.WithinLemmas.{IsReadWithinTarget-read}
 use Rattle.ss_recover.specs.Held.{Agrees, entries_of, marks_held, records_held, span_held, span_of, window_record, windows_held}
 use Rattle.ss_recover.specs.declared.parts.StreamParts.{StreamParts}
-use Rattle.ss_store.specs.Causes.{IfAskChanged, IfChanged, IsAskFirm, IsRead}
-use Rattle.ss_store.specs.Errors.{ask_of_fault}
+use Rattle.ss_outside.specs.Disk.{DiskView, OfContent, Told}
+use Rattle.ss_outside.specs.Step.{Step}
+use Rattle.ss_outside.specs.Verdict.{IsFirm, fine}
+use Rattle.ss_records.specs.Kept.{RecordsState}
+use Rattle.ss_query.specs.Reading.{IsRead, ReadsWindow, verdict_of_read}
+use Rattle.ss_query.specs.declared.read_error.ReadError.{ReadError}
+use Rattle.ss_query.specs.declared.read_error.ReadError.TheVariants as error
+use Rattle.ss_store.specs.Applied.{ShowsWindow}
 use Rattle.ss_store.specs.Kept.{StoreIsKept, StoreState, part_numbered}
 use Rattle.ss_store.specs.Recover.{Recovers}
-use Rattle.ss_store.specs.Slots.{HasRecords}
-use Rattle.ss_store.specs.declared.error.AskError.{AskError}
-use Rattle.ss_store.specs.declared.reading.Fault.{Fault}
-use Rattle.ss_store.specs.declared.reading.Fault.TheVariants as fault
+use Rattle.ss_query.specs.Slots.{HasRecords}
 use Rattle.ss_store.proofs.Among.{IsHeldIn-at, others_of}
 use Rattle.ss_store.proofs.KeptStates.{Recovers-StoreIsKept, Recovers-same}
 use Rattle.ss_store.proofs.Named.{AreFound-numbered}
 use Rattle.ss_store.proofs.OneOfMany.{slice_get-zip}
-use Rattle.ss_store.proofs.Slots.{HasRecords-permutation}
-use Rattle.ss_store.proofs.WindowsHeld.{first_at, slice_get-entry}
+use Rattle.ss_query.proofs.Records.{HasRecords-permutation}
+use Rattle.ss_store.proofs.WindowsHeld.{first_at}
+use Rattle.ss_query.proofs.Places.{slice_get-entry}
 
 -- a window of the state that the content stands for, and its record; it lies free among the landmarks
 pub record IsKeptWindow (content : List ℕ) (streams : List Stream) (number place : ℕ) (e : Entry) (part : StreamParts) : Type 0 where
@@ -116,63 +120,59 @@ placed-is e w summary span is =
     let last : e.last ≡ (placed_of w).last = ap (λ (p : ℕ × ℕ). p.1) span in
     rw (first, last, is) refl
 
--- a window is read as it is in the state that the content stands for
-pub window-read : (store : StoreState) (content : List ℕ) (number : ℕ) (part : StreamParts) (at : At) (e : Entry) (summary : Figures) →
-    StoreIsKept store content → part_numbered number store.streams ≡ Some part → entry_at part.line.entries at ≡ Some e →
-    ((others : List (ℕ × Option Record)) (w : Window) → HasRecords ((e.slot, Some (window_record part.id.0 w)) ∷ others) content →
-    span_held e ≡ span_of w → IsTrue (lies_free part.landmarks.landmarks w) → summary ≡ w.summary) →
-    (streams : List Stream) → Recovers streams content →
-    IfSome (part_numbered number store.streams) (λ p. IfSome (stream_numbered number streams) (λ s.
-    slice_get (map placed_of s.windows) (index_of p.line.entries at) ≡ Some (placed e summary)))
-window-read store content number part at e summary kept numbered is reads streams recovers =
-    let window = IsKeptWindow-at store content kept number part at e numbered is in
-    let same = Recovers-same kept.streams streams content (Recovers-StoreIsKept store content kept) recovers in
-    let found : stream_numbered number streams ≡ Some window.stream = ap (λ l. stream_numbered number l) (sym same) ∙ window.found in
-    let summary_is = reads window.others window.window window.has window.span window.free in
-    let read : slice_get (map placed_of window.stream.windows) (index_of part.line.entries at) ≡ Some (placed e summary) =
-    slice_get-map placed_of window.stream.windows (index_of part.line.entries at) ∙ ap (option_map placed_of) window.at
-    ∙ ap (λ (p : Placed). Some p) (placed-is e window.window summary window.span summary_is) in
-    rw (numbered, found) read
+IsFirm-error : (summary : Figures) (why : ReadError) → IsRead summary (Err why) → IsFirm (verdict_of_read {T = Placed} (Err why))
+IsFirm-error summary error.Disk read = tt
+IsFirm-error summary (error.Changed slot) read = read
 
--- no slot has changed on a disk that tells
-IsAskFirm-fault : (T : Type 0) (summary : Figures) (f : Fault) (error : AskError) → IsRead summary (Err f) → error ≡ ask_of_fault f → IsAskFirm {T = T} (Err error)
-IsAskFirm-fault T summary fault.Disk error read is = subst (λ x. IsAskFirm {T = T} (Err x)) (sym is) tt
-IsAskFirm-fault T summary (fault.Changed slot) error read is = absurd read
+-- a window that is read again: what it is of the state that the content recovers to
+module _ {part : StreamParts} {entry : Entry} (records : RecordsState) (store : StoreState) (number : ℕ) (at : At)
+    (numbered : part_numbered number store.streams ≡ Some part) (read : entry_at part.line.entries at ≡ Some entry) where
+  window-read : (old new : Told) (summary : Figures) → StoreIsKept store old.content → ReadsWindow part entry records (Ok summary) old new →
+      (streams : List Stream) → Recovers streams old.content →
+      IfSome (part_numbered number store.streams) (λ p. IfSome (stream_numbered number streams) (λ s.
+      slice_get (map placed_of s.windows) (index_of p.line.entries at) ≡ Some (placed entry summary)))
+  window-read old new summary kept reads streams recovers =
+      let window = IsKeptWindow-at store old.content kept number part at entry numbered read in
+      let same = Recovers-same kept.streams streams old.content (Recovers-StoreIsKept store old.content kept) recovers in
+      let found : stream_numbered number streams ≡ Some window.stream = ap (λ l. stream_numbered number l) (sym same) ∙ window.found in
+      let summary_is = reads.window window.others window.window window.has window.span window.free in
+      let is : slice_get (map placed_of window.stream.windows) (index_of part.line.entries at) ≡ Some (placed entry summary) =
+      slice_get-map placed_of window.stream.windows (index_of part.line.entries at) ∙ ap (option_map placed_of) window.at
+      ∙ ap (λ (p : Placed). Some p) (placed-is entry window.window summary window.span summary_is) in
+      rw (numbered, found) is
 
-pub firm-read : (T : Type 0) (store : StoreState) (content : List ℕ) (number : ℕ) (part : StreamParts) (at : At) (e : Entry) (f : Fault) (error : AskError) →
-    StoreIsKept store content → part_numbered number store.streams ≡ Some part → entry_at part.line.entries at ≡ Some e →
-    ((others : List (ℕ × Option Record)) (w : Window) → HasRecords ((e.slot, Some (window_record part.id.0 w)) ∷ others) content →
-    span_held e ≡ span_of w → IsTrue (lies_free part.landmarks.landmarks w) → IsRead w.summary (Err f)) → error ≡ ask_of_fault f → IsAskFirm {T = T} (Err error)
-firm-read T store content number part at e f error kept numbered is reads from =
-    let window = IsKeptWindow-at store content kept number part at e numbered is in
-    IsAskFirm-fault T window.window.summary f error (reads window.others window.window window.has window.span window.free) from
+  -- it keeps to the target
+  within-read : (shown : Placed) (history : List Event) → IsHistory history →
+      IfSome (part_numbered number store.streams) (λ p. IfSome (stream_numbered number (state history)) (λ s.
+      slice_get (map placed_of s.windows) (index_of p.line.entries at) ≡ Some shown)) →
+      IfSome (stream_numbered number (state history)) (λ s. IsReadWithinTarget (lengths_of s.params) (values_in s) shown)
+  within-read shown history whole is =
+      IsReadWithinTarget-read history (state history) number (index_of part.line.entries at) shown whole refl (rw numbered at is)
 
--- what is read keeps to the target
-pub within-read : {E : Type 0} (result : Result Placed E) (history : List Event) (o : Option StreamParts) (number : ℕ) (at : At) → IsHistory history → IsSome o →
-    IfOk result (λ p. IfSome o (λ part. IfSome (stream_numbered number (state history)) (λ s.
-    slice_get (map placed_of s.windows) (index_of part.line.entries at) ≡ Some p))) →
-    IfOk result (λ p. IfSome (stream_numbered number (state history)) (λ s. IsReadWithinTarget (lengths_of s.params) (values_in s) p))
-within-read (Ok p) history None number at whole some read = (let wrong : false ≡ true = some in cc)
-within-read (Ok p) history (Some part) number at whole some read =
-    IsReadWithinTarget-read history (state history) number (index_of part.line.entries at) p whole refl read
-within-read (Err error) history o number at whole some read = tt
+  module _ {before after : DiskView} (kept : OfContent before (StoreIsKept store)) where
+    pub shows-read : (summary : Figures) → Step fine before after (ReadsWindow part entry records (Ok summary)) →
+        Step fine before after (ShowsWindow number at store.streams (Ok (record { first = entry.first; last = entry.last; summary = summary })))
+    shows-read summary step = record {
+      tells = step.tells;
+      counted = step.counted;
+      told = λ told.
+          let reads = step.told told in
+          let window = window-read before.told after.told summary (kept told) reads in
+          record {
+            window = window;
+            within = λ history stands. within-read (placed entry summary) history stands.is_history (window (state history) stands.state);
+            reads = reads.reads;
+          };
+    }
+
+    -- no slot has changed on a disk that tells
+    pub IsFirm-read : (why : ReadError) → Step (verdict_of_read {T = Figures} (Err why)) before after (ReadsWindow part entry records (Err why)) →
+        IsTrue before.tells → IsFirm (verdict_of_read {T = Placed} (Err why))
+    IsFirm-read why step told =
+        let window = IsKeptWindow-at store before.told.content (kept told) number part at entry numbered read in
+        IsFirm-error window.window.summary why ((step.told told).window window.others window.window window.has window.span window.free)
 
 -- the entry at a place, in the part that was read
-pub entry-read : (o : Option StreamParts) (read : StreamParts) (at : At) (e : Entry) → o ≡ Some read → IfSome o (λ part. entry_at part.line.entries at ≡ Some e) →
-    entry_at read.line.entries at ≡ Some e
-entry-read o read at e same is = subst (λ (p : Option StreamParts). IfSome p (λ part. entry_at part.line.entries at ≡ Some e)) same is
-
--- the window that is read is that of the entry at the place
-changed-read : (o : Option StreamParts) (at : At) (e : Entry) (slot : ℕ) → IfSome o (λ part. entry_at part.line.entries at ≡ Some e) →
-    slot ≡ e.slot → IfSome o (λ part. IfSome (entry_at part.line.entries at) (λ entry. slot ≡ entry.slot))
-changed-read None at e slot is same = tt
-changed-read (Some part) at e slot is same = subst (λ (o : Option Entry). IfSome o (λ entry. slot ≡ entry.slot)) (sym is) same
-
-pub changed-reading : (T U : Type 0) (o : Option StreamParts) (at : At) (e : Entry) (why : Fault) (error : AskError) →
-    IfSome o (λ part. entry_at part.line.entries at ≡ Some e) → IfChanged {T = T} (Err why) (λ slot. slot ≡ e.slot) → error ≡ ask_of_fault why →
-    IfAskChanged {T = U} (Err error) (λ slot. IfSome o (λ part. IfSome (entry_at part.line.entries at) (λ entry. slot ≡ entry.slot)))
-changed-reading T U o at e fault.Disk error is changed from =
-    subst (λ x. IfAskChanged {T = U} (Err x) (λ slot. IfSome o (λ part. IfSome (entry_at part.line.entries at) (λ entry. slot ≡ entry.slot)))) (sym from) tt
-changed-reading T U o at e (fault.Changed slot) error is changed from =
-    subst (λ x. IfAskChanged {T = U} (Err x) (λ slot. IfSome o (λ part. IfSome (entry_at part.line.entries at) (λ entry. slot ≡ entry.slot)))) (sym from)
-    (changed-read o at e slot is changed)
+pub entry-read : {o : Option StreamParts} {read : StreamParts} {e : Entry} (at : At) → o ≡ Some read →
+    IfSome o (λ part. entry_at part.line.entries at ≡ Some e) → entry_at read.line.entries at ≡ Some e
+entry-read {e = e} at same is = subst (λ (p : Option StreamParts). IfSome p (λ part. entry_at part.line.entries at ≡ Some e)) same is

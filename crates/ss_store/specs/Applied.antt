@@ -1,9 +1,9 @@
 -- What an event does to a store and its disk, and what a look does.
-use Rattle.std.specs.Prelude.{◌≡◌, ◌↔◌, ℕ, ◌+◌, ◌*◌, ◌≤◌, Bool, true, false, not, List, [], length, flat_map, map, max, slice_get, Result, Ok, Err, Some, IfOk, IfSome, OnOk, IsTrue, ⊤}
+use Rattle.std.specs.Prelude.{◌≡◌, ◌↔◌, ℕ, ◌+◌, ◌*◌, ◌≤◌, Bool, true, false, not, List, [], length, flat_map, map, max, slice_get, Contains, Result, Ok, Err, Some, IfOk, IfSome, OnOk, IsTrue, ⊤}
 use Rattle.ss_outside.specs.Crash.{OnlyReads}
 use Rattle.ss_outside.specs.Disk.{DiskView, Told, OfContent}
 use Rattle.ss_outside.specs.Step.{Step}
-use Rattle.ss_outside.specs.Verdict.{Verdict, IfUndone, IsFirm, OnFine, OnNoMemory, OnRefused}
+use Rattle.ss_outside.specs.Verdict.{Verdict, IfChanged, IfUndone, IsFirm, OnFailed, OnFine, OnNoMemory, OnRefused}
 use Rattle.ss_catalog.specs.Events.{event_name}
 use Rattle.ss_catalog.specs.declared.event.Event.{Event}
 use Rattle.ss_catalog.specs.declared.event.Event.TheVariants.{Create, Value, Open, Close}
@@ -25,8 +25,9 @@ use Rattle.ss_recover.specs.Held.{slots_held}
 use Rattle.ss_recover.specs.declared.parts.StreamParts.{StreamParts}
 use Rattle.ss_store.specs.Calls.{KeepsHistory, KeepsState, StepsState}
 use Rattle.ss_store.specs.Causes.{OpensAs, said_of_held}
+use Rattle.ss_query.specs.Answered.{window_slots_of}
 use Rattle.ss_store.specs.Errors.{stopped_after, verdict_of_apply, verdict_of_opening}
-use Rattle.ss_store.specs.Kept.{SameButSpare, StoreIsKept, StoreState, is_of_landmark, part_named, part_numbered, refuses_held}
+use Rattle.ss_store.specs.Kept.{SameButSpare, StoreIsKept, StoreState, is_of_landmark, part_named, part_numbered, refuses_held, without_spare}
 use Rattle.ss_store.specs.Recover.{Recovers, Stands}
 use Rattle.ss_store.specs.Surveyed.{SurveysAs}
 use Rattle.ss_store.specs.declared.error.ApplyError.{ApplyError}
@@ -46,13 +47,6 @@ is_plain_value parts (Value name t v) = not (is_of_landmark parts (Value name t 
 is_plain_value parts (Open name t) = false
 is_plain_value parts (Close name t) = false
 
--- whether an event is the creation of a stream
-abbrev pub is_creation : Event → Bool
-is_creation (Create name params) = true
-is_creation (Value name t v) = false
-is_creation (Open name t) = false
-is_creation (Close name t) = false
-
 -- at most 2K - 1 windows stand where K target windows cover the values
 abbrev pub IsFew : List StreamParts → Event → Ack → Type 0
 IsFew parts event ack =
@@ -67,8 +61,6 @@ pub record Applies (event : Event) (old new : StoreState) (before after : DiskVi
   pub ack : IfOk result (λ ack. ack ≡ said_of_held (part_named (event_name event) new.streams))
   -- over every disk, and whatever was opened
   pub decay : is_plain_value old.streams event ≡ true → IfOk result (IsFew new.streams event)
-  -- a stream that was just created has no value and no window
-  pub created : is_creation event ≡ true → IfOk result (λ ack. ack ≡ record { n = 0; k = 0 })
   -- each refusal exactly where it applies
   pub refused : (r : Refusal) → (result ≡ Err (apply.Refused r)) ↔ (refuses_held old.streams event ≡ Some r)
   pub same : OnRefused (verdict_of_apply result) (new ≡ old)
@@ -77,6 +69,12 @@ pub record Applies (event : Event) (old new : StoreState) (before after : DiskVi
   pub firm : IsTrue before.tells → IsFirm (verdict_of_apply result)
   -- no more slots are used than the records need
   pub extent : OnOk result (new.records.journal.extent ≤ max old.records.journal.extent (length (flat_map slots_held old.streams) + 1))
+  -- an event of landmarks that fails leaves the streams as they were, but for the room to spare
+  pub failed : is_of_landmark old.streams event ≡ true →
+      OnFailed (verdict_of_apply result) (map without_spare new.streams ≡ map without_spare old.streams)
+  -- where the record of a slot has changed, a window of the stream is held there
+  pub changed : IfChanged (verdict_of_apply result)
+      (λ slot. IfSome (part_named (event_name event) new.streams) (λ part. Contains (window_slots_of part) slot))
 
 -- What a look does to a store, whatever was asked: it writes nothing, and leaves all but the flag, where it stops.
 pub record Looks (v : Verdict) (old new : StoreState) (before after : DiskView) : Type 0 where

@@ -1,111 +1,11 @@
--- What a query makes of the landmarks of a stream, and of its windows, read one after the other.
-use Rattle.std.specs.Prelude.{◌≡◌, ℕ, ◌+◌, ◌^◌, ◌<◌, ◌≤◌, Bool, not, ◌&&◌, nat_le, nat_lt, if◌then◌else◌, ℤ, pos, ◌+ℤ◌, unsigned_abs, List, [], ◌∷◌, map, is_some, Option, None, Some, Result, Ok, Err, ⊤}
-use Rattle.std.specs.Option.{option_map, option_map_or}
-use Rattle.ss_bounds.specs.Either.{greater, lesser}
-use Rattle.ss_bounds.specs.Extremes.{listed, max_interval, min_interval}
-use Rattle.ss_bounds.specs.Split.{SplitFigures, count_interval, sum_interval}
-use Rattle.ss_landmarks.specs.Free.{is_free}
-use Rattle.ss_landmarks.specs.Landmark.{Landmark}
-use Rattle.ss_landmarks.specs.declared.tally.Tally.{Tally}
-use Rattle.ss_catalog.specs.declared.query.Kind.{Kind}
-use Rattle.ss_catalog.specs.declared.query.Kind.TheVariants as kinds
+-- Why a query is refused, by what is held of the streams.
+use Rattle.std.specs.Prelude.{Bool, not, nat_lt, List, [], ◌∷◌, is_some, Option}
 use Rattle.ss_catalog.specs.declared.query.Query.{Query}
 use Rattle.ss_catalog.specs.declared.refusal.Refusal.{Refusal}
 use Rattle.ss_catalog.specs.declared.refusal.Refusal.TheVariants.{Unknown, Range}
-use Rattle.ss_model.specs.Interval.{is_split, is_whole, split_figures}
 use Rattle.ss_model.specs.Refusals.{first_that_applies}
-use Rattle.ss_model.specs.declared.outcome.Outcome.{Outcome}
-use Rattle.ss_model.specs.declared.outcome.Outcome.TheVariants.{Count, Sum, Min, Max}
-use Rattle.ss_model.specs.declared.types.Window.{Window}
-use Rattle.ss_summary.specs.Figures.{Figures}
-use Rattle.ss_summary.specs.Summaries.{joined}
-use Rattle.ss_line.specs.declared.entry.Entry.{Entry}
-use Rattle.ss_recover.specs.Held.{entries_of}
 use Rattle.ss_recover.specs.declared.parts.StreamParts.{StreamParts}
 use Rattle.ss_store.specs.Kept.{part_named}
-use Rattle.ss_store.specs.declared.asking.Seen.{Seen}
-use Rattle.ss_store.specs.declared.reading.Fault.{Fault}
-use Rattle.ss_store.specs.declared.reading.Fault.TheVariants as fault
-
--- before any window was read: what the values of landmarks in the range add up to
-abbrev pub marks_seen : Tally → Seen
-marks_seen marked = record {
-  marked = marked;
-  whole = None;
-  left = None;
-  right = None;
-  next_time = 0;
-}
-
--- a summary with the values of one more window
-abbrev pub joined_with : Option Figures → Figures → Option Figures
-joined_with None summary = Some summary
-joined_with (Some older) summary = Some (joined older summary)
-
--- the whole windows with one more, if it is one; and the split windows, the one that begins before the range, and the other
-abbrev pub whole_with : ℕ → ℕ → Option Figures → Window → Option Figures
-whole_with from to whole w = if is_whole from to w then joined_with whole w.summary else whole
-
-abbrev pub left_with : List Landmark → ℕ → ℕ → Option SplitFigures → Window → Option SplitFigures
-left_with landmarks from to left w =
-    if is_split from to w && nat_lt w.summary.t_first from then Some (split_figures (is_free landmarks) from to w) else left
-
-abbrev pub right_with : List Landmark → ℕ → ℕ → Option SplitFigures → Window → Option SplitFigures
-right_with landmarks from to right w =
-    if is_split from to w && nat_le from w.summary.t_first then Some (split_figures (is_free landmarks) from to w) else right
-
--- what is known with one more window
-abbrev pub seen_with : List Landmark → ℕ → ℕ → Seen → Window → Seen
-seen_with landmarks from to seen w = record {
-  marked = seen.marked;
-  whole = whole_with from to seen.whole w;
-  left = left_with landmarks from to seen.left w;
-  right = right_with landmarks from to seen.right w;
-  next_time = w.summary.t_last + 1;
-}
-
--- from how many to how many values of a split window lie in the range, and from which to which sum; zeros where there is none
-abbrev pub counts_of : Option SplitFigures → ℕ × ℕ
-counts_of None = (0, 0)
-counts_of (Some s) = count_interval s
-
-abbrev pub sums_of : Option SplitFigures → ℤ × ℤ
-sums_of None = (pos 0, pos 0)
-sums_of (Some s) = sum_interval s
-
--- of the windows that lie whole in the range and of the values of landmarks in it: how many values, their sum, the least and the
--- greatest
-abbrev pub known_count : Option Figures → Tally → ℕ
-known_count whole marked = option_map_or (λ (f : Figures). f.count) whole 0 + marked.count
-
-abbrev pub known_sum : Option Figures → Tally → ℤ
-known_sum whole marked = option_map_or (λ (f : Figures). f.sum) whole (pos 0) +ℤ marked.sum
-
-abbrev pub known_min : Option Figures → Tally → Option ℤ
-known_min whole marked = lesser (option_map (λ (f : Figures). f.min) whole) marked.least
-
-abbrev pub known_max : Option Figures → Tally → Option ℤ
-known_max whole marked = greater (option_map (λ (f : Figures). f.max) whole) marked.greatest
-
--- no more values of landmarks than are kept, with a sum of so many of 64 bits
-pub record IsFewMarked (marked : Tally) : Type 0 where
-  pub count : marked.count ≤ 2 ^ 24
-  pub sum : unsigned_abs marked.sum ≤ 2 ^ 87
-
--- far within 128 bits
-abbrev pub IsNear : ℤ → Type 0
-IsNear z = unsigned_abs z < 2 ^ 120
-
--- what is answered from what is known
-abbrev pub outcome_seen : Kind → Seen → Outcome
-outcome_seen kinds.Count seen =
-    let known = known_count seen.whole seen.marked in
-    Count (known + (counts_of seen.left).0 + (counts_of seen.right).0) (known + (counts_of seen.left).1 + (counts_of seen.right).1)
-outcome_seen kinds.Sum seen =
-    let known = known_sum seen.whole seen.marked in
-    Sum (known +ℤ (sums_of seen.left).0 +ℤ (sums_of seen.right).0) (known +ℤ (sums_of seen.left).1 +ℤ (sums_of seen.right).1)
-outcome_seen kinds.Min seen = Min (min_interval (known_min seen.whole seen.marked) (listed seen.left seen.right))
-outcome_seen kinds.Max seen = Max (max_interval (known_max seen.whole seen.marked) (listed seen.left seen.right))
 
 -- the refusals of a query in the order of their numbers, each with whether it applies
 abbrev pub query_refusals_held : List StreamParts → Query → List (Bool × Refusal)
@@ -114,13 +14,3 @@ query_refusals_held parts query = (not (is_some (part_named query.name parts)), 
 -- why a query is refused by what is held of the streams, where it is
 unfoldable pub refuses_query_held : List StreamParts → Query → Option Refusal
 refuses_query_held parts query = first_that_applies (query_refusals_held parts query)
-
--- the slots of a stream's windows, oldest first
-abbrev pub window_slots_of : StreamParts → List ℕ
-window_slots_of part = map (λ (e : Entry). e.slot) (entries_of part)
-
--- what answering answers, on a disk that tells: this outcome, unless the disk fails
-abbrev pub IsAnswered : Outcome → Result Outcome Fault → Type 0
-IsAnswered outcome (Ok answered) = answered ≡ outcome
-IsAnswered outcome (Err fault.Disk) = ⊤
-IsAnswered outcome (Err (fault.Changed slot)) = ⊥

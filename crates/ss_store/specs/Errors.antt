@@ -1,5 +1,5 @@
 -- Errors of the crates below, as a store answers them, and the verdict of each answer.
-use Rattle.std.specs.Prelude.{ℕ, Bool, true, Result, Ok, Err}
+use Rattle.std.specs.Prelude.{Bool, true, Result, Ok, Err}
 use Rattle.ss_outside.specs.Verdict as verdicts
 use Rattle.ss_outside.specs.Verdict.{Verdict}
 use Rattle.ss_journal.specs.declared.journal_error.JournalError.{JournalError}
@@ -12,8 +12,8 @@ use Rattle.ss_store.specs.declared.error.AskError.{AskError}
 use Rattle.ss_store.specs.declared.error.AskError.TheVariants as ask
 use Rattle.ss_store.specs.declared.error.OpenError.{OpenError}
 use Rattle.ss_store.specs.declared.error.OpenError.TheVariants as opening
-use Rattle.ss_store.specs.declared.reading.Fault.{Fault}
-use Rattle.ss_store.specs.declared.reading.Fault.TheVariants as fault
+use Rattle.ss_query.specs.declared.read_error.ReadError.{ReadError}
+use Rattle.ss_query.specs.declared.read_error.ReadError.TheVariants as fault
 
 abbrev pub open_of_journal : JournalError → OpenError
 open_of_journal journal.Disk = opening.Disk
@@ -27,24 +27,19 @@ open_of_recover (recover.BadStream id) = opening.BadStream id
 open_of_recover recover.Disk = opening.Disk
 open_of_recover recover.OutOfMemory = opening.OutOfMemory
 
-abbrev pub open_of_fault : Fault → OpenError
+abbrev pub open_of_fault : ReadError → OpenError
 open_of_fault fault.Disk = opening.Disk
 open_of_fault (fault.Changed slot) = opening.Changed slot
 
-abbrev pub apply_of_fault : Fault → ApplyError
+abbrev pub apply_of_fault : ReadError → ApplyError
 apply_of_fault fault.Disk = apply.Disk
 apply_of_fault (fault.Changed slot) = apply.Changed slot
 
-abbrev pub ask_of_fault : Fault → AskError
+abbrev pub ask_of_fault : ReadError → AskError
 ask_of_fault fault.Disk = ask.Disk
 ask_of_fault (fault.Changed slot) = ask.Changed slot
 
 -- the verdicts of a store's calls
-abbrev pub verdict_of_fault : {T : Type 0} → Result T Fault → Verdict
-verdict_of_fault (Ok value) = verdicts.fine
-verdict_of_fault (Err fault.Disk) = verdicts.failed
-verdict_of_fault (Err (fault.Changed slot)) = verdicts.changed slot
-
 abbrev pub verdict_of_opening : {T : Type 0} → Result T OpenError → Verdict
 verdict_of_opening (Ok value) = verdicts.fine
 verdict_of_opening (Err opening.Disk) = verdicts.failed

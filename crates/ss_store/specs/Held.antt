@@ -4,19 +4,11 @@ use Rattle.ss_codec.specs.declared.record.Record.{Record}
 use Rattle.ss_line.specs.declared.entry.Entry.{Entry}
 use Rattle.ss_target.specs.Lengths.{lengths_of}
 use Rattle.ss_model.specs.Joins.{JoinsDue}
-use Rattle.ss_model.specs.Standing.{IsStream}
 use Rattle.ss_model.specs.State.{Stream, values_in}
 use Rattle.ss_model.specs.Steps.{single_window}
 use Rattle.ss_model.specs.declared.types.Window.{Window}
-use Rattle.ss_recover.specs.Held.{Agrees, records_held}
 use Rattle.ss_recover.specs.declared.parts.StreamParts.{StreamParts}
-use Rattle.ss_store.specs.Slots.{HasRecords}
-
--- What is held agrees with the stream, and its records lie in an image beside the others, each in the slot where it is held.
-pub record IsHeldIn (others : List (ℕ × Option Record)) (part : StreamParts) (s : Stream) (image : List ℕ) : Type 0 where
-  pub agrees : Agrees part s
-  pub stream : IsStream s
-  pub records : HasRecords (records_held (part, s) ++ others) image
+use Rattle.ss_query.specs.Held.{IsHeldIn}
 
 -- a stream with these windows in place of its own
 abbrev pub with_windows : Stream → List Window → Stream

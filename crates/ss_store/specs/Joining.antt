@@ -11,7 +11,8 @@ use Rattle.ss_model.specs.Joins.{JoinsDue}
 use Rattle.ss_model.specs.State.{Stream, values_in}
 use Rattle.ss_model.specs.declared.types.Window.{Window}
 use Rattle.ss_recover.specs.declared.parts.StreamParts.{StreamParts}
-use Rattle.ss_store.specs.Held.{IsHeldIn, with_windows}
+use Rattle.ss_store.specs.Held.{with_windows}
+use Rattle.ss_query.specs.Held.{IsHeldIn}
 
 -- of two neighbours, each by its positions, none lie together in one target window at n
 abbrev pub NoSpansAreDue : (ℕ → ℕ) → ℕ → List (ℕ × ℕ) → Type 0

@@ -26,7 +26,7 @@ use Rattle.ss_model.specs.declared.types.StreamRow.{StreamRow}
 use Rattle.ss_recover.specs.Held.{AllAgree, AreWhole, Agrees, entries_of, records_held, slots_held}
 use Rattle.ss_recover.specs.declared.parts.StreamParts.{StreamParts}
 use Rattle.ss_store.specs.Held.{values_held}
-use Rattle.ss_store.specs.Slots.{HasRecords}
+use Rattle.ss_query.specs.Slots.{HasRecords}
 
 -- a store: its streams as it holds them, in order of creation, the records, and whether a call has failed
 pub record StoreState : Type 0 where

@@ -11,4 +11,5 @@ pub mod Admitted
 pub mod Asked
 pub mod Surveyed
 pub mod Rebuilt
+pub mod Changing
 pub mod Applied

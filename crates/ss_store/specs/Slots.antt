@@ -3,41 +3,35 @@ use Rattle.std.specs.Prelude.{◌⊎◌, ℕ, Bool, nat_lt, if◌then◌else◌,
 use Rattle.std.specs.List.{range_with_len}
 use Rattle.std.specs.List.Sorted.{IsPermutation}
 use Rattle.ss_outside.specs.Disk.{Told}
-use Rattle.ss_journal.specs.Redo.{SlotMap, StandsFor, zeros}
+use Rattle.ss_journal.specs.Redo.{zeros}
 use Rattle.ss_journal.specs.declared.put.Put.{Put}
 use Rattle.ss_records.specs.Live.{is_live}
 use Rattle.ss_codec.specs.Record.{spelling}
 use Rattle.ss_codec.specs.declared.record.Record.{Record}
-use Rattle.ss_recover.specs.Held.{occupied}
+use Rattle.ss_query.specs.Slots.{HasRecords}
 use Rattle.ss_store.specs.Calls.{Turns}
-
--- the image stands for a map whose slots that aren't zeros are these, each with its record, in whichever order
-pub record HasRecords (slots : List (ℕ × Option Record)) (image : List ℕ) : Type 0 where
-  pub found : SlotMap
-  pub map : StandsFor image found
-  pub occupied : IsPermutation slots (occupied found)
 
 -- either
 abbrev pub Either : (List ℕ → Type 0) → (List ℕ → Type 0) → List ℕ → Type 0
 Either P Q image = P image ⊎ Q image
 
 -- a call puts a record into a free slot, or leaves all as it was
-abbrev pub AddsRecord : {T E : Type 0} → ℕ → Record → Told → Told → Result T E → Type 0
-AddsRecord slot r old new result =
+abbrev pub AddsRecord : {T E : Type 0} → ℕ → Record → Result T E → Told → Told → Type 0
+AddsRecord slot r result old new =
     (others : List (ℕ × Option Record)) →
     Turns (HasRecords others) (Either (HasRecords others) (HasRecords ((slot, Some r) ∷ others))) (HasRecords ((slot, Some r) ∷ others)) old new result
 
 -- a call puts a record in place of that of a slot, or leaves all as it was
-abbrev pub Replaces : {T E : Type 0} → ℕ → Record → Told → Told → Result T E → Type 0
-Replaces slot r old new result =
+abbrev pub Replaces : {T E : Type 0} → ℕ → Record → Result T E → Told → Told → Type 0
+Replaces slot r result old new =
     (was : Option Record) (others : List (ℕ × Option Record)) →
     let before = HasRecords ((slot, was) ∷ others) in
     let after = HasRecords ((slot, Some r) ∷ others) in
     Turns before (Either before after) after old new result
 
 -- a call puts a record in place of that of one slot, and frees another, or leaves all as it was
-abbrev pub ReplacesTwo : {T E : Type 0} → ℕ → ℕ → Record → Told → Told → Result T E → Type 0
-ReplacesTwo kept freed r old new result =
+abbrev pub ReplacesTwo : {T E : Type 0} → ℕ → ℕ → Record → Result T E → Told → Told → Type 0
+ReplacesTwo kept freed r result old new =
     (was gone : Option Record) (others : List (ℕ × Option Record)) →
     let before = HasRecords ((kept, was) ∷ (freed, gone) ∷ others) in
     let after = HasRecords ((kept, Some r) ∷ others) in

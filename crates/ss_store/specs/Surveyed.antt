@@ -16,17 +16,6 @@ survey_of streams = record {
   values = sum_by (λ (s : Stream). length (all_values s.landmarks)) streams;
 }
 
--- no record has changed
-abbrev pub IsUnchanged : {T : Type 0} → Result T OpenError → Type 0
-IsUnchanged (Ok value) = ⊤
-IsUnchanged (Err opening.Disk) = ⊤
-IsUnchanged (Err opening.NotAStore) = ⊤
-IsUnchanged (Err (opening.BadEntry n)) = ⊤
-IsUnchanged (Err (opening.BadSlot n)) = ⊤
-IsUnchanged (Err (opening.BadStream id)) = ⊤
-IsUnchanged (Err opening.OutOfMemory) = ⊤
-IsUnchanged (Err (opening.Changed slot)) = ⊥
-
 -- What surveying a content answers: what is said of the state that it recovers to, or why it recovers to none.
 abbrev pub SurveysAs : List ℕ → Result Survey OpenError → Type 0
 SurveysAs content (Ok survey) = (streams : List Stream) × Recovers streams content × (survey ≡ survey_of streams)

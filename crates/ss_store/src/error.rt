@@ -3,10 +3,10 @@ ghost use Rattle.std.specs.Prelude.{◌≡◌};
 ghost use Rattle.ss_store.specs.Errors.{apply_of_fault, ask_of_fault, open_of_fault, open_of_journal, open_of_recover};
 ghost use Rattle.ss_store.specs.declared.error.OpenError.TheVariants.{Disk, OutOfMemory};
 
-use crate::reading::Fault;
 use ss_catalog::Refusal;
 use ss_journal::JournalError;
 use ss_outside::Failed;
+use ss_query::ReadError;
 use ss_recover::RecoverError;
 use std::alloc::AllocError;
 use thiserror::Error;
@@ -118,35 +118,35 @@ impl From<Failed> for OpenError {
     }
 }
 
-impl From<Fault> for OpenError {
+impl From<ReadError> for OpenError {
     ghost from_gives = { λ fault e. e ≡ open_of_fault fault };
 
-    fn from(fault: Fault) -> OpenError {
+    fn from(fault: ReadError) -> OpenError {
         match fault {
-            Fault::Disk => OpenError::Disk,
-            Fault::Changed { slot } => OpenError::Changed { slot },
+            ReadError::Disk => OpenError::Disk,
+            ReadError::Changed { slot } => OpenError::Changed { slot },
         }
     }
 }
 
-impl From<Fault> for ApplyError {
+impl From<ReadError> for ApplyError {
     ghost from_gives = { λ fault e. e ≡ apply_of_fault fault };
 
-    fn from(fault: Fault) -> ApplyError {
+    fn from(fault: ReadError) -> ApplyError {
         match fault {
-            Fault::Disk => ApplyError::Disk,
-            Fault::Changed { slot } => ApplyError::Changed { slot },
+            ReadError::Disk => ApplyError::Disk,
+            ReadError::Changed { slot } => ApplyError::Changed { slot },
         }
     }
 }
 
-impl From<Fault> for AskError {
+impl From<ReadError> for AskError {
     ghost from_gives = { λ fault e. e ≡ ask_of_fault fault };
 
-    fn from(fault: Fault) -> AskError {
+    fn from(fault: ReadError) -> AskError {
         match fault {
-            Fault::Disk => AskError::Disk,
-            Fault::Changed { slot } => AskError::Changed { slot },
+            ReadError::Disk => AskError::Disk,
+            ReadError::Changed { slot } => AskError::Changed { slot },
         }
     }
 }

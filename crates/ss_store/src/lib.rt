@@ -2,14 +2,12 @@
 #![tactic(auto)]
 
 mod appending;
-mod asking;
 mod closing;
 mod error;
 mod laws;
 mod marking;
 mod opening;
 mod place;
-mod reading;
 mod store;
 mod surveying;
 mod writing;

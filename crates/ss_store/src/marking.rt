@@ -1,20 +1,19 @@
 // What the landmarks of one stream take.
-ghost use Rattle.std.specs.Prelude.{◌≡◌, ◌≢◌, ◌+◌, ◌<◌, ◌≤◌, ℕ, List, Option, None, length, max, IsTrue, OnOk, OnErr};
-ghost use Rattle.ss_outside.specs.Verdict.{HasCause};
+ghost use Rattle.std.specs.Prelude.{◌≡◌, ◌≢◌, ◌+◌, ◌<◌, ◌≤◌, length, IsTrue, OnOk, OnErr};
+ghost use Rattle.ss_outside.specs.Disk.{OfContent};
+ghost use Rattle.ss_outside.specs.Step.{Step};
+ghost use Rattle.ss_outside.specs.Verdict.{verdict};
 ghost use Rattle.ss_journal.specs.Kept.{IsSettled};
 ghost use Rattle.ss_journal.specs.declared.format.TheConstants.{MOST_SLOTS};
 ghost use Rattle.ss_records.specs.Kept.{AreKept};
 ghost use Rattle.ss_codec.specs.Record.{is_valid};
-ghost use Rattle.ss_codec.specs.declared.record.Record.{Record};
 ghost use Rattle.ss_codec.specs.declared.record.Record.TheVariants.{Free};
 ghost use Rattle.ss_landmarks.specs.Landmark.{all_values};
 ghost use Rattle.ss_landmarks.specs.Landmarks.{IsState as AreKnown};
-ghost use Rattle.ss_model.specs.State.{Stream};
-ghost use Rattle.ss_recover.specs.Held.{EndByLast, mark_slots, slots_held};
-ghost use Rattle.ss_store.specs.Calls.{Turns};
-ghost use Rattle.ss_store.specs.Held.{IsHeldIn};
-ghost use Rattle.ss_store.specs.Marking.{CanMark, FitsMark, IsItsSlot, IsMarkedOrNot, landmarks_after, mark_record, mark_refusal, slots_after, slots_used, start_open, value_slots_after, values_open, with_mark};
-ghost use Rattle.ss_store.specs.Slots.{AreSomeLive, LiveSlotsGo};
+ghost use Rattle.ss_recover.specs.Held.{mark_slots, slots_held};
+ghost use Rattle.ss_store.specs.Changing.{CanTakeMark, HasSameWindows, HasRoomFor, HasTakenMark, KeepsWhole, TakesMark};
+ghost use Rattle.ss_store.specs.Marking.{CanMark, FitsMark, landmarks_after, mark_record, slots_after, slots_used, start_open, value_slots_after, values_open};
+ghost use Rattle.ss_store.specs.Slots.{AreSomeLive};
 
 use crate::place::number_of;
 use crate::writing::{add_record, replace_record};
@@ -89,12 +88,7 @@ pub fn reserve(landmarks: &mut Landmarks) -> Result<(), AllocError>
     requires values { length (all_values landmarks.old.landmarks) < MOST_LANDMARK_SLOTS }
     ensures room { OnOk result (1 ≤ landmarks.new.room) }
     ensures value_room { OnOk result (1 ≤ landmarks.new.value_room) }
-    ensures room_grows { landmarks.old.room ≤ landmarks.new.room }
-    ensures value_room_grows { landmarks.old.value_room ≤ landmarks.new.value_room }
-    ensures landmarks { landmarks.new.landmarks ≡ landmarks.old.landmarks }
-    ensures slots { landmarks.new.slots ≡ landmarks.old.slots }
-    ensures value_slots { landmarks.new.value_slots ≡ landmarks.old.value_slots }
-    ensures known { AreKnown landmarks.new }
+    ensures grown { HasRoomFor landmarks.old landmarks.new }
 {
     let reserved = landmarks.reserve();
     let _count = landmarks.count();
@@ -102,7 +96,7 @@ pub fn reserve(landmarks: &mut Landmarks) -> Result<(), AllocError>
 }
 
 // Takes a mark into the landmarks that are held.
-fn take(landmarks: &mut Landmarks, slot: u32, t: u64, mark: Mark)
+fn take_mark(landmarks: &mut Landmarks, slot: u32, t: u64, mark: Mark)
     requires can { CanMark landmarks.old.landmarks t mark }
     requires room { 1 ≤ landmarks.old.room }
     requires value_room { 1 ≤ landmarks.old.value_room }
@@ -131,41 +125,25 @@ pub fn put_mark<D: Disk>(
     mark: Mark,
 ) -> Result<(), Failed>
     requires settled { IsSettled records.old.journal }
-    requires can { CanMark part.old.landmarks.landmarks t mark }
-    requires room { 1 ≤ part.old.landmarks.room }
-    requires value_room { 1 ≤ part.old.landmarks.value_room }
-    requires in_slot { IsItsSlot records.old.live part.old mark slot }
-    requires few { length (mark_slots part.old) < MOST_SLOTS }
+    requires can { CanTakeMark records.old part.old slot t mark }
     requires time { t ≤ LAST_TIME }
-    requires accepted { mark_refusal part.old t mark ≡ None }
     requires live { AreSomeLive (slots_held part.old) records.old.live }
-    requires one_disk { IsTrue (D.seen disk.old).tells → AreKept records.old (D.seen disk.old).told.content }
-    // On a disk that tells: the stream after it, and a crash leaves this or the stream from before.
-    ensures marks { IsTrue (D.seen disk.old).tells → (others : List (ℕ × Option Record)) (s : Stream) →
-        Turns (IsHeldIn others part.old s) (IsMarkedOrNot others part.old s t mark) (IsHeldIn others part.new (with_mark s t mark))
-        (D.seen disk.old).told (D.seen disk.new).told result }
-    ensures one_disk { IsTrue (D.seen disk.old).tells → OnOk result (AreKept records.new (D.seen disk.new).told.content) }
-    // Over every disk.
+    requires one_disk { OfContent (D.seen disk.old) (AreKept records.old) }
+    // A crash leaves the stream from before, or after the mark.
+    ensures takes { Step (verdict result) (D.seen disk.old) (D.seen disk.new)
+        (TakesMark part.old part.new t mark records.new result) }
     ensures fits { FitsMark mark }
-    ensures id { part.new.id ≡ part.old.id }
-    ensures name { part.new.name ≡ part.old.name }
-    ensures target { part.new.target ≡ part.old.target }
-    ensures line { part.new.line ≡ part.old.line }
-    ensures landmarks { OnOk result (part.new.landmarks.landmarks ≡ landmarks_after part.old.landmarks.landmarks t mark) }
-    ensures known { OnOk result (AreKnown part.new.landmarks) }
-    ensures last { OnOk result (EndByLast part.new) }
-    ensures live { OnOk result (LiveSlotsGo (slots_held part.old) (slots_held part.new) records.old.live records.new.live) }
-    ensures settled { OnOk result (IsSettled records.new.journal) }
-    ensures extent { OnOk result (records.new.journal.extent ≤ max records.old.journal.extent (slots_used mark slot)) }
-    ensures tells { (D.seen disk.new).tells ≡ (D.seen disk.old).tells }
-    ensures cause { HasCause (D.seen disk.old).faults (D.seen disk.new).faults result }
+    ensures same { HasSameWindows part.old part.new }
+    ensures taken { OnOk result (HasTakenMark part.old part.new t mark) }
+    ensures whole { OnOk result (KeepsWhole part.old part.new records.old records.new (slots_used mark slot)) }
+    ensures err { OnErr result (part.new ≡ part.old) }
 {
     let written = record_of(part, t, mark);
     match mark {
         Mark::Open | Mark::Value(_) => add_record(records, disk, slot, &written)?,
         Mark::Close => replace_record(records, disk, slot, &written)?,
     }
-    take(&mut part.landmarks, slot, t, mark);
+    take_mark(&mut part.landmarks, slot, t, mark);
     part.last_time = Some(t);
     Ok(())
 }

@@ -1,6 +1,5 @@
 // What a disk holds, counted without a write.
 ghost use Rattle.std.specs.Prelude.{◌≡◌, ◌≤◌, All, IsTrue, List, flat_map, length};
-ghost use Rattle.ss_outside.specs.Crash.{OnlyReads};
 ghost use Rattle.ss_journal.specs.declared.format.TheConstants.{MOST_SLOTS};
 ghost use Rattle.ss_steps.specs.Steps.{IsFresh};
 ghost use Rattle.ss_model.specs.ClosedState.{closed_state, closed_stream};
@@ -11,7 +10,7 @@ ghost use Rattle.ss_outside.specs.Step.{Step};
 ghost use Rattle.ss_outside.specs.Verdict.{IsFirm};
 ghost use Rattle.ss_store.specs.Applied.{SurveysStore};
 ghost use Rattle.ss_store.specs.Errors.{verdict_of_opening};
-ghost use Rattle.ss_store.specs.Surveyed.{IsUnchanged, SurveysAs, survey_of};
+ghost use Rattle.ss_store.specs.Surveyed.{survey_of};
 
 use crate::closing::values_held;
 use crate::opening::read_all;

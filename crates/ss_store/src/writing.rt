@@ -1,18 +1,34 @@
 // Transactions of records.
-ghost use Rattle.std.specs.Prelude.{◌≡◌, ◌≢◌, ◌+◌, ◌<◌, ◌≤◌, max, [], ◌∷◌, true, IsTrue, OnOk, OnErr};
-ghost use Rattle.ss_outside.specs.Verdict.{HasCause};
+ghost use Rattle.std.specs.Prelude.{◌≡◌, ◌≢◌, ◌+◌, ◌<◌, ◌≤◌, max, [], ◌∷◌, IsTrue, OnOk, OnErr};
+ghost use Rattle.ss_outside.specs.Disk.{OfContent};
+ghost use Rattle.ss_outside.specs.Step.{Step};
+ghost use Rattle.ss_outside.specs.Verdict.{verdict};
 ghost use Rattle.ss_journal.specs.Kept.{IsSettled};
 ghost use Rattle.ss_journal.specs.declared.format.TheConstants.{MOST_SLOTS};
 ghost use Rattle.ss_records.specs.Kept.{AreKept};
 ghost use Rattle.ss_records.specs.Live.{lowest_free};
 ghost use Rattle.ss_codec.specs.Record.{is_valid};
 ghost use Rattle.ss_codec.specs.declared.record.Record.TheVariants.{Free};
-ghost use Rattle.ss_store.specs.Slots.{AddsRecord, AreSomeLive, LiveSlotsGo, Replaces, ReplacesTwo, pair_put};
+ghost use Rattle.ss_store.specs.Changing.{Makes};
+ghost use Rattle.ss_store.specs.Slots.{AddsRecord, AreSomeLive, LiveSlotsGo, Replaces, ReplacesTwo, pair_put, record_put};
 
 use ss_codec::{Record, SLOT_SIZE, encode};
 use ss_journal::{MOST_SLOTS, Put, Txn};
 use ss_outside::{Disk, Failed};
 use ss_records::Records;
+
+// A record for one slot.
+fn put_of(slot: u32, written: &Record) -> Txn
+    requires { IsTrue (is_valid written.now) }
+    ensures { result.items ≡ record_put slot written.now ∷ [] }
+{
+    let mut txn = Txn::new();
+    txn.push(Put {
+        slot,
+        bytes: encode(written),
+    });
+    txn
+}
 
 /// Puts a record into the lowest free slot.
 pub fn add_record<D: Disk>(
@@ -25,23 +41,16 @@ pub fn add_record<D: Disk>(
     requires valid { IsTrue (is_valid written.now) }
     requires some { written.now ≢ Free }
     requires free { lowest_free records.old.live ≡ Some slot }
-    requires one_disk { IsTrue (D.seen disk.old).tells → AreKept records.old (D.seen disk.old).told.content }
-    ensures adds { IsTrue (D.seen disk.old).tells → AddsRecord slot written.now (D.seen disk.old).told (D.seen disk.new).told result }
-    ensures one_disk { IsTrue (D.seen disk.old).tells → OnOk result (AreKept records.new (D.seen disk.new).told.content) }
+    requires one_disk { OfContent (D.seen disk.old) (AreKept records.old) }
+    ensures adds { Step (verdict result) (D.seen disk.old) (D.seen disk.new)
+        (Makes (AddsRecord slot written.now result) records.new result) }
     ensures settled { OnOk result (IsSettled records.new.journal) }
     ensures live { OnOk result (LiveSlotsGo [] (slot ∷ []) records.old.live records.new.live) }
     ensures extent { OnOk result (records.new.journal.extent ≤ max records.old.journal.extent (slot + 1)) }
     ensures err { OnErr result (records.new.live ≡ records.old.live) }
-    ensures tells { (D.seen disk.new).tells ≡ (D.seen disk.old).tells }
-    ensures cause { HasCause (D.seen disk.old).faults (D.seen disk.new).faults result }
 {
     prove!(records.lowest_free() == Some(slot));
-    let mut txn = Txn::new();
-    txn.push(Put {
-        slot,
-        bytes: encode(written),
-    });
-    records.apply(disk, &txn)
+    records.apply(disk, &put_of(slot, written))
 }
 
 /// Puts a record in place of another.
@@ -55,23 +64,16 @@ pub fn replace_record<D: Disk>(
     requires valid { IsTrue (is_valid written.now) }
     requires some { written.now ≢ Free }
     requires live { AreSomeLive (slot ∷ []) records.old.live }
-    requires one_disk { IsTrue (D.seen disk.old).tells → AreKept records.old (D.seen disk.old).told.content }
-    ensures replaces { IsTrue (D.seen disk.old).tells → Replaces slot written.now (D.seen disk.old).told (D.seen disk.new).told result }
-    ensures one_disk { IsTrue (D.seen disk.old).tells → OnOk result (AreKept records.new (D.seen disk.new).told.content) }
+    requires one_disk { OfContent (D.seen disk.old) (AreKept records.old) }
+    ensures replaces { Step (verdict result) (D.seen disk.old) (D.seen disk.new)
+        (Makes (Replaces slot written.now result) records.new result) }
     ensures settled { OnOk result (IsSettled records.new.journal) }
     ensures live { records.new.live ≡ records.old.live }
     ensures extent { OnOk result (records.new.journal.extent ≡ records.old.journal.extent) }
-    ensures tells { (D.seen disk.new).tells ≡ (D.seen disk.old).tells }
-    ensures cause { HasCause (D.seen disk.old).faults (D.seen disk.new).faults result }
 {
     // The records are sound: each slot that is live lies below the extent.
     prove!(records.live() <= MOST_SLOTS);
-    let mut txn = Txn::new();
-    txn.push(Put {
-        slot,
-        bytes: encode(written),
-    });
-    records.apply(disk, &txn)
+    records.apply(disk, &put_of(slot, written))
 }
 
 // A record for one slot and zeros for another, in the order of the slots.
@@ -113,16 +115,13 @@ pub fn replace_two<D: Disk>(
     requires valid { IsTrue (is_valid written.now) }
     requires some { written.now ≢ Free }
     requires live { AreSomeLive (kept ∷ freed ∷ []) records.old.live }
-    requires one_disk { IsTrue (D.seen disk.old).tells → AreKept records.old (D.seen disk.old).told.content }
-    ensures replaces { IsTrue (D.seen disk.old).tells
-        → ReplacesTwo kept freed written.now (D.seen disk.old).told (D.seen disk.new).told result }
-    ensures one_disk { IsTrue (D.seen disk.old).tells → OnOk result (AreKept records.new (D.seen disk.new).told.content) }
+    requires one_disk { OfContent (D.seen disk.old) (AreKept records.old) }
+    ensures replaces { Step (verdict result) (D.seen disk.old) (D.seen disk.new)
+        (Makes (ReplacesTwo kept freed written.now result) records.new result) }
     ensures settled { OnOk result (IsSettled records.new.journal) }
     ensures live { OnOk result (LiveSlotsGo (kept ∷ freed ∷ []) (kept ∷ []) records.old.live records.new.live) }
     ensures extent { OnOk result (records.new.journal.extent ≡ records.old.journal.extent) }
     ensures err { OnErr result (records.new.live ≡ records.old.live) }
-    ensures tells { (D.seen disk.new).tells ≡ (D.seen disk.old).tells }
-    ensures cause { HasCause (D.seen disk.old).faults (D.seen disk.new).faults result }
 {
     // The records are sound: each slot that is live lies below the extent.
     prove!(records.live() <= MOST_SLOTS);

@@ -2,7 +2,7 @@
 use super::Store;
 use super::times::is_past;
 use crate::ApplyError;
-use crate::appending::append;
+use crate::appending::append_value;
 use crate::closing::values_held;
 use crate::place::place_of;
 use ss_catalog::{LAST_TIME, Name, Refusal};
@@ -13,18 +13,15 @@ use ss_windowing::MOST_VALUES;
 use std::sync::ledger::{Blank, Ledger};
 
 impl Store {
-    ghost use Rattle.std.specs.Prelude.{◌≡◌, ◌≢◌, ◌+◌, ◌*◌, ◌<◌, ◌≤◌, ◌↔◌, false, max, length, flat_map, Some, IsTrue, IfOk, IfSome, OnOk, IfErr, Err, None, ℤ};
+    ghost use Rattle.std.specs.Prelude.{◌≡◌, ◌≢◌, ◌≤◌, false, Some, IfOk, OnOk, IfErr, Err, None, ℤ};
+    ghost use Rattle.ss_outside.specs.Disk.{OfContent};
+    ghost use Rattle.ss_outside.specs.Verdict.{IfUndone};
     ghost use Rattle.ss_catalog.specs.declared.event.Event.TheVariants.{Value};
-    ghost use Rattle.ss_catalog.specs.declared.refusal.Refusal.{Refusal};
-    ghost use Rattle.ss_target.specs.Lengths.{lengths_of};
-    ghost use Rattle.ss_target.specs.Targets.{params_of};
-    ghost use Rattle.ss_model.specs.Decay.{cover};
     ghost use Rattle.ss_model.specs.Marks.{has_open};
-    ghost use Rattle.ss_recover.specs.Held.{slots_held};
-    ghost use Rattle.ss_store.specs.Calls.{StepsState};
-    ghost use Rattle.ss_store.specs.Causes.{ApplyCause, IfRefused, IfUncalled, IsApplyFirm, said_of_held, stopped_by_apply};
-    ghost use Rattle.ss_store.specs.Kept.{SameButSpare, StoreIsKept, of_part, part_named, refuses_held};
     ghost use Rattle.ss_store.specs.Admitted.{IsTaker};
+    ghost use Rattle.ss_store.specs.Applied.{Applies};
+    ghost use Rattle.ss_store.specs.Errors.{verdict_of_apply};
+    ghost use Rattle.ss_store.specs.Kept.{StoreIsKept, of_part, refuses_held};
     ghost use Rattle.ss_steps.specs.Steps.{IsFresh};
 
     // The place of the stream that takes a value outside landmarks at a time, and the slot of its window, or why it doesn't take it.
@@ -58,7 +55,7 @@ impl Store {
     }
 
     // Applies a value outside landmarks.
-    pub(super) fn append<D: Disk, L: Ledger>(
+    pub(super) fn apply_value<D: Disk, L: Ledger>(
         &mut self,
         disk: &mut D,
         name: &Name,
@@ -70,24 +67,10 @@ impl Store {
         requires in_time { t ≤ LAST_TIME }
         requires runs { self.old.stopped ≡ false }
         requires plain { of_part name.now self.old.streams (λ part. has_open part.landmarks.landmarks) ≡ false }
-        requires one_disk { IsTrue (D.seen disk.old).tells → StoreIsKept self.old (D.seen disk.old).told.content }
-        ensures step { IsTrue (D.seen disk.old).tells → StepsState (Value name.now t v) result (D.seen disk.old).told (D.seen disk.new).told }
-        ensures one_disk { IsTrue (D.seen disk.old).tells → self.new.stopped ≡ false → StoreIsKept self.new (D.seen disk.new).told.content }
-        ensures ack { IfOk result (λ ack. ack ≡ said_of_held (part_named name.now self.new.streams)) }
-        ensures decay { IfOk result (λ ack. IfSome (part_named name.now self.new.streams) (λ part.
-            0 < ack.n → ack.k + 1 ≤ 2 * cover (lengths_of (params_of part.target)) ack.n)) }
+        requires one_disk { OfContent (D.seen disk.old) (StoreIsKept self.old) }
+        ensures applies { Applies (Value name.now t v) self.old self.new (D.seen disk.old) (D.seen disk.new) result }
         ensures running { result ≢ Err ApplyError.Stopped }
-        ensures refused { (r : Refusal) →
-            (result ≡ Err (ApplyError.Refused r)) ↔ (refuses_held self.old.streams (Value name.now t v) ≡ Some r) }
-        ensures uncalled { IfUncalled result (disk.new ≡ disk.old) }
-        ensures same { IfRefused result (self.new ≡ self.old) }
-        ensures starved { (result ≡ Err ApplyError.OutOfMemory) → SameButSpare self.old self.new }
-        ensures stops { self.new.stopped ≡ stopped_by_apply self.old.stopped result }
-        ensures firm { IsTrue (D.seen disk.old).tells → IsApplyFirm result }
-        ensures extent { OnOk result (self.new.records.journal.extent
-            ≤ max self.old.records.journal.extent (length (flat_map slots_held self.old.streams) + 1)) }
-        ensures tells { (D.seen disk.new).tells ≡ (D.seen disk.old).tells }
-        ensures cause { ApplyCause (D.seen disk.old).faults (D.seen disk.new).faults result }
+        ensures uncalled { IfUndone (verdict_of_apply result) (disk.new ≡ disk.old) }
     {
         let mut steps = Steps::<L>::new(blank);
         let (place, slot) = match self.taker(name, t, &mut steps) {
@@ -99,7 +82,7 @@ impl Store {
             Ok(()) => {}
             Err(_) => return Err(ApplyError::OutOfMemory),
         }
-        match append(&mut self.records, disk, stream, slot, t, v, &mut steps) {
+        match append_value(&mut self.records, disk, stream, slot, t, v, &mut steps) {
             Ok(()) => Ok(Ack {
                 n: values_held(stream, &mut steps),
                 k: stream.line.len(),

@@ -38,19 +38,19 @@ impl Store {
             return Err(ApplyError::Stopped);
         }
         match *event {
-            Event::Create { name, params } => self.create(disk, name, params),
+            Event::Create { name, params } => self.apply_create(disk, name, params),
             Event::Value { name, t, v } => {
                 if self.has_open(&name) {
-                    self.mark::<D, Brand>(disk, &name, t, Mark::Value(v), Blank::new(1))
+                    self.apply_mark::<D, Brand>(disk, &name, t, Mark::Value(v), Blank::new(1))
                 } else {
-                    self.append::<D, Brand>(disk, &name, t, v, Blank::new(1))
+                    self.apply_value::<D, Brand>(disk, &name, t, v, Blank::new(1))
                 }
             }
             Event::Open { name, t } => {
-                self.mark::<D, Brand>(disk, &name, t, Mark::Open, Blank::new(1))
+                self.apply_mark::<D, Brand>(disk, &name, t, Mark::Open, Blank::new(1))
             }
             Event::Close { name, t } => {
-                self.mark::<D, Brand>(disk, &name, t, Mark::Close, Blank::new(1))
+                self.apply_mark::<D, Brand>(disk, &name, t, Mark::Close, Blank::new(1))
             }
         }
     }

@@ -1,33 +1,25 @@
 // Answering a query.
 use super::Store;
 use crate::AskError;
-use crate::asking::answer;
 use crate::place::place_of;
-use ss_catalog::{Event, Query, Refusal, StreamId};
+use ss_catalog::{Query, Refusal, StreamId};
 use ss_model::Outcome;
 use ss_outside::Disk;
-use ss_steps::Steps;
-use std::marker::Brand;
-use std::sync::ledger::{Blank, Ledger};
+use ss_query::answer;
 
 impl Store {
-    ghost use Rattle.std.specs.Prelude.{◌≡◌, ◌≢◌, ◌≤◌, ◌↔◌, [], List, true, false, Some, IsTrue, IsSome, IfOk, IfSome, OnOk, IfErr, Err, None};
+    ghost use Rattle.std.specs.Prelude.{◌≡◌, ◌≢◌, ◌≤◌, ◌↔◌, true, false, Some, IsSome, IfOk, IfSome, OnOk, IfErr, Err, None};
     ghost use Rattle.std.specs.List.{Contains};
-    ghost use Rattle.ss_outside.specs.Crash.{OnlyReads};
-    ghost use Rattle.ss_catalog.specs.declared.event.Event.{Event};
-    ghost use Rattle.ss_catalog.specs.declared.refusal.Refusal.{Refusal};
-    ghost use Rattle.ss_model.specs.Answers.{HoldsTruth, IsExactOutcome, IsOfKind, outcome_of, split_by};
-    ghost use Rattle.ss_model.specs.History.{marked_of, values_of};
-    ghost use Rattle.ss_model.specs.State.{Stream};
-    ghost use Rattle.ss_store.specs.Asked.{refuses_query_held, window_slots_of};
-    ghost use Rattle.ss_store.specs.Causes.{AskCause, IfAskChanged, IfUnasked, IsAskFirm, stopped_by_ask};
-    ghost use Rattle.ss_store.specs.Kept.{StoreIsKept, part_named, part_numbered};
-    ghost use Rattle.ss_store.specs.Recover.{Recovers, Stands};
-    ghost use Rattle.ss_steps.specs.Steps.{IsFresh};
+    ghost use Rattle.ss_outside.specs.Disk.{OfContent};
     ghost use Rattle.ss_outside.specs.Step.{Step};
     ghost use Rattle.ss_outside.specs.Verdict.{IfChanged, IfUndone};
+    ghost use Rattle.ss_catalog.specs.declared.refusal.Refusal.{Refusal};
+    ghost use Rattle.ss_model.specs.Answers.{IsOfKind};
+    ghost use Rattle.ss_query.specs.Answered.{window_slots_of};
     ghost use Rattle.ss_store.specs.Applied.{Answers, Looks, StandsOn};
+    ghost use Rattle.ss_store.specs.Asked.{refuses_query_held};
     ghost use Rattle.ss_store.specs.Errors.{verdict_of_ask};
+    ghost use Rattle.ss_store.specs.Kept.{StoreIsKept, part_named, part_numbered};
 
     /// Answers a query, by what the windows of its stream say. It writes nothing, and takes no memory. A refusal is the first
     /// that applies, and makes no call of the disk.
@@ -47,12 +39,13 @@ impl Store {
             (result ≡ Err (AskError.Refused r)) ↔ (refuses_query_held self.old.streams query.now ≡ Some r) }
         ensures uncalled { IfUndone (verdict_of_ask result) (disk.new ≡ disk.old) }
         ensures same { IfUndone (verdict_of_ask result) (self.new ≡ self.old) }
+        ensures idle { self.old.stopped ≡ true → (self.new ≡ self.old) × (disk.new ≡ disk.old) }
     {
         if self.stopped {
             return Err(AskError::Stopped);
         }
         match self.asked(query) {
-            Ok(id) => self.answer::<D, Brand>(disk, query, id, Blank::new(1)),
+            Ok(id) => self.query_stream(disk, query, id),
             Err(refusal) => Err(AskError::Refused(refusal)),
         }
     }
@@ -75,44 +68,32 @@ impl Store {
     }
 
     // Answers a query to the stream of a number, where the store hasn't stopped.
-    fn answer<D: Disk, L: Ledger>(
+    fn query_stream<D: Disk>(
         &mut self,
         disk: &mut D,
         query: &Query,
         id: StreamId,
-        blank: Blank,
     ) -> Result<Outcome, AskError>
-        requires fresh { IsFresh L.name L.parts blank }
         requires order { query.now.from ≤ query.now.to }
         requires stands { IsSome (part_numbered id.0 self.old.streams) }
         requires same { part_numbered id.0 self.old.streams ≡ part_named query.now.name self.old.streams }
         requires runs { self.old.stopped ≡ false }
-        requires one_disk { IsTrue (D.seen disk.old).tells → StoreIsKept self.old (D.seen disk.old).told.content }
-        ensures answer { IsTrue (D.seen disk.old).tells → (streams : List Stream) → Recovers streams (D.seen disk.old).told.content →
-            IfOk result (λ outcome. outcome_of streams query.now ≡ Some outcome) }
+        requires one_disk { OfContent (D.seen disk.old) (StoreIsKept self.old) }
+        ensures answers { Step (verdict_of_ask result) (D.seen disk.old) (D.seen disk.new) (Answers query.now result) }
+        ensures looks { Looks (verdict_of_ask result) self.old self.new (D.seen disk.old) (D.seen disk.new) }
         ensures kind { IfOk result (IsOfKind query.now.kind) }
-        ensures changed { IfAskChanged result (λ slot. IfSome (part_named query.now.name self.old.streams) (λ part.
+        ensures changed { IfChanged (verdict_of_ask result) (λ slot. IfSome (part_named query.now.name self.old.streams) (λ part.
             Contains (window_slots_of part) slot)) }
-        ensures one_disk { IsTrue (D.seen disk.old).tells → self.new.stopped ≡ false → StoreIsKept self.new (D.seen disk.new).told.content }
-        ensures streams { self.new.streams ≡ self.old.streams }
-        ensures live { self.new.records.live ≡ self.old.records.live }
-        ensures journal { OnOk result (self.new.records.journal ≡ self.old.records.journal) }
         ensures running { result ≢ Err AskError.Stopped }
         ensures unrefused { (r : Refusal) → result ≢ Err (AskError.Refused r) }
-        ensures stops { self.new.stopped ≡ stopped_by_ask self.old.stopped result }
-        ensures firm { IsTrue (D.seen disk.old).tells → IsAskFirm result }
-        ensures reads { IsTrue (D.seen disk.old).tells → OnlyReads (D.seen disk.old).told (D.seen disk.new).told }
-        ensures tells { (D.seen disk.new).tells ≡ (D.seen disk.old).tells }
-        ensures cause { AskCause (D.seen disk.old).faults (D.seen disk.new).faults result }
     {
+        let _live = self.records.live();
         let stream = &self.streams[place_of(&self.streams, id)];
-        let mut steps = Steps::<L>::new(blank);
-        match answer(&mut self.records, disk, stream, query, &mut steps) {
+        match answer(stream, &mut self.records, disk, query) {
             Ok(outcome) => Ok(outcome),
-            Err(fault) => {
-                let error = AskError::from(fault);
+            Err(error) => {
                 self.stopped = true;
-                Err(error)
+                Err(AskError::from(error))
             }
         }
     }

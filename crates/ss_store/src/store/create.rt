@@ -55,17 +55,15 @@ fn record_of(id: u32, name: &Name, params: Params) -> Record
 }
 
 impl Store {
-    ghost use Rattle.std.specs.Prelude.{◌≡◌, ◌≢◌, ◌+◌, ◌*◌, ◌<◌, ◌≤◌, ◌↔◌, false, max, length, flat_map, Some, IsTrue, IfOk, IfSome, OnOk, IfErr, Err, None};
+    ghost use Rattle.std.specs.Prelude.{◌≡◌, ◌≢◌, false, Some, IfOk, OnOk, IfErr, Err, None};
+    ghost use Rattle.ss_outside.specs.Disk.{OfContent};
+    ghost use Rattle.ss_outside.specs.Verdict.{IfUndone};
     ghost use Rattle.ss_catalog.specs.declared.event.Event.TheVariants.{Create};
-    ghost use Rattle.ss_catalog.specs.declared.refusal.Refusal.{Refusal};
-    ghost use Rattle.ss_target.specs.Lengths.{lengths_of};
     ghost use Rattle.ss_target.specs.Targets.{params_of};
-    ghost use Rattle.ss_model.specs.Decay.{cover};
-    ghost use Rattle.ss_recover.specs.Held.{slots_held};
-    ghost use Rattle.ss_store.specs.Calls.{StepsState};
-    ghost use Rattle.ss_store.specs.Causes.{ApplyCause, IfRefused, IfUncalled, IsApplyFirm, said_of_held, stopped_by_apply};
-    ghost use Rattle.ss_store.specs.Kept.{SameButSpare, StoreIsKept, part_named, refuses_held};
     ghost use Rattle.ss_store.specs.Admitted.{IsNew};
+    ghost use Rattle.ss_store.specs.Applied.{Applies};
+    ghost use Rattle.ss_store.specs.Errors.{verdict_of_apply};
+    ghost use Rattle.ss_store.specs.Kept.{StoreIsKept, refuses_held};
 
     // The target, the number and the slot of a stream that is created, or why it isn't.
     fn admit(&self, name: &Name, params: Params) -> Result<(Target, StreamId, u32), Refusal>
@@ -91,31 +89,17 @@ impl Store {
     }
 
     // Applies the creation of a stream.
-    pub(super) fn create<D: Disk>(
+    pub(super) fn apply_create<D: Disk>(
         &mut self,
         disk: &mut D,
         name: Name,
         params: Params,
     ) -> Result<Ack, ApplyError>
         requires runs { self.old.stopped ≡ false }
-        requires one_disk { IsTrue (D.seen disk.old).tells → StoreIsKept self.old (D.seen disk.old).told.content }
-        ensures step { IsTrue (D.seen disk.old).tells → StepsState (Create name params) result (D.seen disk.old).told (D.seen disk.new).told }
-        ensures one_disk { IsTrue (D.seen disk.old).tells → self.new.stopped ≡ false → StoreIsKept self.new (D.seen disk.new).told.content }
-        ensures ack { IfOk result (λ ack. ack ≡ said_of_held (part_named name self.new.streams)) }
-        ensures decay { IfOk result (λ ack. IfSome (part_named name self.new.streams) (λ part.
-            0 < ack.n → ack.k + 1 ≤ 2 * cover (lengths_of (params_of part.target)) ack.n)) }
+        requires one_disk { OfContent (D.seen disk.old) (StoreIsKept self.old) }
+        ensures applies { Applies (Create name params) self.old self.new (D.seen disk.old) (D.seen disk.new) result }
         ensures running { result ≢ Err ApplyError.Stopped }
-        ensures refused { (r : Refusal) →
-            (result ≡ Err (ApplyError.Refused r)) ↔ (refuses_held self.old.streams (Create name params) ≡ Some r) }
-        ensures uncalled { IfUncalled result (disk.new ≡ disk.old) }
-        ensures same { IfRefused result (self.new ≡ self.old) }
-        ensures starved { (result ≡ Err ApplyError.OutOfMemory) → SameButSpare self.old self.new }
-        ensures stops { self.new.stopped ≡ stopped_by_apply self.old.stopped result }
-        ensures firm { IsTrue (D.seen disk.old).tells → IsApplyFirm result }
-        ensures extent { OnOk result (self.new.records.journal.extent
-            ≤ max self.old.records.journal.extent (length (flat_map slots_held self.old.streams) + 1)) }
-        ensures tells { (D.seen disk.new).tells ≡ (D.seen disk.old).tells }
-        ensures cause { ApplyCause (D.seen disk.old).faults (D.seen disk.new).faults result }
+        ensures uncalled { IfUndone (verdict_of_apply result) (disk.new ≡ disk.old) }
     {
         let (target, id, slot) = match self.admit(&name, params) {
             Ok(new) => new,

@@ -37,14 +37,16 @@ fn refuses(stream: &StreamParts, t: u64, mark: Mark) -> Option<Refusal>
 }
 
 impl Store {
-    ghost use Rattle.std.specs.Prelude.{◌≡◌, ◌≢◌, ◌+◌, ◌≤◌, ◌↔◌, true, false, max, length, flat_map, Some, IsTrue, IsNone, IfOk, IfSome, OnOk, IfErr, Err, None};
+    ghost use Rattle.std.specs.Prelude.{◌≡◌, ◌≢◌, ◌+◌, ◌≤◌, true, false, length, flat_map, Some, IsNone, IfOk, IfSome, OnOk, IfErr, Err, None};
+    ghost use Rattle.ss_outside.specs.Disk.{OfContent};
+    ghost use Rattle.ss_outside.specs.Verdict.{IfUndone};
     ghost use Rattle.ss_catalog.specs.declared.refusal.Refusal.{Refusal};
     ghost use Rattle.ss_model.specs.Marks.{has_open};
     ghost use Rattle.ss_recover.specs.Held.{slots_held};
-    ghost use Rattle.ss_store.specs.Calls.{StepsState};
-    ghost use Rattle.ss_store.specs.Causes.{ApplyCause, IfRefused, IfUncalled, IsApplyFirm, said_of_held, stopped_by_apply};
-    ghost use Rattle.ss_store.specs.Kept.{SameButSpare, StoreIsKept, has_all_slots, of_part, part_named, refuses_held};
     ghost use Rattle.ss_store.specs.Admitted.{IsMarker};
+    ghost use Rattle.ss_store.specs.Applied.{Applies};
+    ghost use Rattle.ss_store.specs.Errors.{verdict_of_apply};
+    ghost use Rattle.ss_store.specs.Kept.{StoreIsKept, has_all_slots, of_part, refuses_held};
     ghost use Rattle.ss_store.specs.Marking.{IsClosing, IsInOpen, IsItsSlot, event_of, slot_refusal, slots_used};
     ghost use Rattle.ss_steps.specs.Steps.{IsFresh};
 
@@ -90,7 +92,7 @@ impl Store {
     }
 
     // Applies an event of a landmark: it opens, takes a value, or closes.
-    pub(super) fn mark<D: Disk, L: Ledger>(
+    pub(super) fn apply_mark<D: Disk, L: Ledger>(
         &mut self,
         disk: &mut D,
         name: &Name,
@@ -102,22 +104,10 @@ impl Store {
         requires in_time { t ≤ LAST_TIME }
         requires runs { self.old.stopped ≡ false }
         requires marked { IsInOpen what → of_part name.now self.old.streams (λ part. has_open part.landmarks.landmarks) ≡ true }
-        requires one_disk { IsTrue (D.seen disk.old).tells → StoreIsKept self.old (D.seen disk.old).told.content }
-        ensures step { IsTrue (D.seen disk.old).tells → StepsState (event_of name.now t what) result (D.seen disk.old).told (D.seen disk.new).told }
-        ensures one_disk { IsTrue (D.seen disk.old).tells → self.new.stopped ≡ false → StoreIsKept self.new (D.seen disk.new).told.content }
-        ensures ack { IfOk result (λ ack. ack ≡ said_of_held (part_named name.now self.new.streams)) }
+        requires one_disk { OfContent (D.seen disk.old) (StoreIsKept self.old) }
+        ensures applies { Applies (event_of name.now t what) self.old self.new (D.seen disk.old) (D.seen disk.new) result }
         ensures running { result ≢ Err ApplyError.Stopped }
-        ensures refused { (r : Refusal) →
-            (result ≡ Err (ApplyError.Refused r)) ↔ (refuses_held self.old.streams (event_of name.now t what) ≡ Some r) }
-        ensures uncalled { IfUncalled result (disk.new ≡ disk.old) }
-        ensures same { IfRefused result (self.new ≡ self.old) }
-        ensures starved { (result ≡ Err ApplyError.OutOfMemory) → SameButSpare self.old self.new }
-        ensures stops { self.new.stopped ≡ stopped_by_apply self.old.stopped result }
-        ensures firm { IsTrue (D.seen disk.old).tells → IsApplyFirm result }
-        ensures extent { OnOk result (self.new.records.journal.extent
-            ≤ max self.old.records.journal.extent (length (flat_map slots_held self.old.streams) + 1)) }
-        ensures tells { (D.seen disk.new).tells ≡ (D.seen disk.old).tells }
-        ensures cause { ApplyCause (D.seen disk.old).faults (D.seen disk.new).faults result }
+        ensures uncalled { IfUndone (verdict_of_apply result) (disk.new ≡ disk.old) }
     {
         let (place, slot) = match self.marker(name, t, what) {
             Ok(marker) => marker,

@@ -9,14 +9,11 @@ use std::marker::Brand;
 use std::sync::ledger::{Blank, Ledger};
 
 impl Store {
-    ghost use Rattle.std.specs.Prelude.{◌≡◌, false, IsTrue, IfOk};
-    ghost use Rattle.ss_outside.specs.Crash.{OnlyReads};
-    ghost use Rattle.ss_model.specs.State.{state};
-    ghost use Rattle.ss_store.specs.Calls.{KeepsHistory, KeepsState};
-    ghost use Rattle.ss_store.specs.Causes.{IfUnwritten, OpenCause, OpensAs};
-    ghost use Rattle.ss_store.specs.Kept.{StoreIsKept};
-    ghost use Rattle.ss_steps.specs.Steps.{IsFresh};
+    ghost use Rattle.std.specs.Prelude.{◌≡◌, ◌<◌, false, IfOk};
     ghost use Rattle.ss_outside.specs.Step.{Step};
+    ghost use Rattle.ss_outside.specs.Verdict.{IfChanged};
+    ghost use Rattle.ss_journal.specs.declared.format.TheConstants.{MOST_SLOTS};
+    ghost use Rattle.ss_steps.specs.Steps.{IsFresh};
     ghost use Rattle.ss_store.specs.Applied.{OpensStore};
     ghost use Rattle.ss_store.specs.Errors.{verdict_of_opening};
 
@@ -37,13 +34,8 @@ impl Store {
         blank: Blank,
     ) -> Result<Store, OpenError>
         requires { IsFresh L.name L.parts blank }
-        ensures opens { IsTrue (D.seen disk.old).tells → OpensAs (D.seen disk.old).told.content result }
-        ensures one_disk { IsTrue (D.seen disk.old).tells → IfOk result (λ store. StoreIsKept store (D.seen disk.new).told.content) }
+        ensures opens { Step (verdict_of_opening result) (D.seen disk.old) (D.seen disk.new) (OpensStore result) }
         ensures runs { IfOk result (λ store. store.stopped ≡ false) }
-        ensures state { IsTrue (D.seen disk.old).tells → KeepsState (D.seen disk.old).told (D.seen disk.new).told result }
-        ensures unwritten { IsTrue (D.seen disk.old).tells → IfUnwritten result (OnlyReads (D.seen disk.old).told (D.seen disk.new).told) }
-        ensures tells { (D.seen disk.new).tells ≡ (D.seen disk.old).tells }
-        ensures cause { OpenCause (D.seen disk.old).faults (D.seen disk.new).faults result }
     {
         let (mut records, mut streams) = read_all(alloc, disk)?;
         let catalog = catalog_of(alloc, &streams)?;

@@ -2,35 +2,28 @@
 use super::Store;
 use crate::AskError;
 use crate::place::place_of;
-use crate::reading::read_window;
-use ss_catalog::{Event, Refusal, StreamId};
+use ss_catalog::{Refusal, StreamId};
 use ss_line::{At, Entry};
 use ss_model::Placed;
 use ss_outside::Disk;
+use ss_query::read_window;
 use ss_steps::Steps;
 use ss_windowing::MOST_VALUES;
 use std::marker::Brand;
 use std::sync::ledger::{Blank, Ledger};
 
 impl Store {
-    ghost use Rattle.std.specs.Prelude.{◌≡◌, ◌≢◌, ◌+◌, ◌<◌, ◌≤◌, ◌↔◌, List, true, false, map, slice_get, Some, IsTrue, IsSome, IfOk, IfSome, OnOk, Err};
-    ghost use Rattle.ss_outside.specs.Crash.{OnlyReads};
-    ghost use Rattle.ss_catalog.specs.declared.event.Event.{Event};
-    ghost use Rattle.ss_catalog.specs.declared.refusal.Refusal.{Refusal};
-    ghost use Rattle.ss_line.specs.Line.{StandsIn, entry_at, index_of};
-    ghost use Rattle.ss_journal.specs.declared.format.TheConstants.{MOST_SLOTS};
-    ghost use Rattle.ss_target.specs.Lengths.{lengths_of};
-    ghost use Rattle.ss_model.specs.Decay.{IsReadWithinTarget};
-    ghost use Rattle.ss_model.specs.Shown.{placed_of};
-    ghost use Rattle.ss_model.specs.State.{state, Stream, stream_numbered, values_in};
-    ghost use Rattle.ss_store.specs.Causes.{AskCause, IfAskChanged, IsAskFirm, stopped_by_ask};
-    ghost use Rattle.ss_store.specs.Kept.{StoreIsKept, part_numbered};
-    ghost use Rattle.ss_store.specs.Recover.{Recovers, Stands};
-    ghost use Rattle.ss_steps.specs.Steps.{IsFresh};
+    ghost use Rattle.std.specs.Prelude.{◌≡◌, ◌≢◌, ◌+◌, ◌<◌, ◌≤◌, ◌↔◌, true, false, Some, IsSome, IfOk, IfSome, Err};
+    ghost use Rattle.ss_outside.specs.Disk.{OfContent};
     ghost use Rattle.ss_outside.specs.Step.{Step};
     ghost use Rattle.ss_outside.specs.Verdict.{IfChanged, IfUndone};
+    ghost use Rattle.ss_catalog.specs.declared.refusal.Refusal.{Refusal};
+    ghost use Rattle.ss_journal.specs.declared.format.TheConstants.{MOST_SLOTS};
+    ghost use Rattle.ss_line.specs.Line.{StandsIn, entry_at};
+    ghost use Rattle.ss_steps.specs.Steps.{IsFresh};
     ghost use Rattle.ss_store.specs.Applied.{Looks, ShowsWindow, StandsOn};
     ghost use Rattle.ss_store.specs.Errors.{verdict_of_ask};
+    ghost use Rattle.ss_store.specs.Kept.{StoreIsKept, part_numbered};
 
     /// Reads a window of the stream of a number.
     pub fn window_read<D: Disk>(
@@ -56,6 +49,7 @@ impl Store {
         ensures unrefused { (r : Refusal) → result ≢ Err (AskError.Refused r) }
         ensures uncalled { IfUndone (verdict_of_ask result) (disk.new ≡ disk.old) }
         ensures same { IfUndone (verdict_of_ask result) (self.new ≡ self.old) }
+        ensures idle { self.old.stopped ≡ true → (self.new ≡ self.old) × (disk.new ≡ disk.old) }
     {
         if self.stopped {
             return Err(AskError::Stopped);
@@ -89,26 +83,16 @@ impl Store {
         requires stands { IsSome (part_numbered id.0 self.old.streams) }
         requires at { IfSome (part_numbered id.0 self.old.streams) (λ part. StandsIn part.line.entries at) }
         requires runs { self.old.stopped ≡ false }
-        requires one_disk { IsTrue (D.seen disk.old).tells → StoreIsKept self.old (D.seen disk.old).told.content }
-        ensures window { IsTrue (D.seen disk.old).tells → (streams : List Stream) → Recovers streams (D.seen disk.old).told.content →
-            IfOk result (λ placed. IfSome (part_numbered id.0 self.old.streams) (λ part. IfSome (stream_numbered id.0 streams) (λ s.
-            slice_get (map placed_of s.windows) (index_of part.line.entries at) ≡ Some placed))) }
+        requires one_disk { OfContent (D.seen disk.old) (StoreIsKept self.old) }
+        ensures shows { Step (verdict_of_ask result) (D.seen disk.old) (D.seen disk.new) (ShowsWindow id.0 at self.old.streams result) }
+        ensures looks { Looks (verdict_of_ask result) self.old self.new (D.seen disk.old) (D.seen disk.new) }
         ensures positions { IfSome (part_numbered id.0 self.old.streams) (λ part. IfSome (entry_at part.line.entries at) (λ entry.
             IfOk result (λ placed. (placed.first ≡ entry.first) × (placed.last ≡ entry.last)
             × (placed.first + placed.summary.count ≡ placed.last + 1)))) }
-        ensures changed { IfAskChanged result (λ slot. IfSome (part_numbered id.0 self.old.streams) (λ part.
+        ensures changed { IfChanged (verdict_of_ask result) (λ slot. IfSome (part_numbered id.0 self.old.streams) (λ part.
             IfSome (entry_at part.line.entries at) (λ entry. slot ≡ entry.slot))) }
-        ensures one_disk { IsTrue (D.seen disk.old).tells → self.new.stopped ≡ false → StoreIsKept self.new (D.seen disk.new).told.content }
-        ensures streams { self.new.streams ≡ self.old.streams }
-        ensures live { self.new.records.live ≡ self.old.records.live }
-        ensures journal { OnOk result (self.new.records.journal ≡ self.old.records.journal) }
         ensures running { result ≢ Err AskError.Stopped }
         ensures unrefused { (r : Refusal) → result ≢ Err (AskError.Refused r) }
-        ensures stops { self.new.stopped ≡ stopped_by_ask self.old.stopped result }
-        ensures firm { IsTrue (D.seen disk.old).tells → IsAskFirm result }
-        ensures reads { IsTrue (D.seen disk.old).tells → OnlyReads (D.seen disk.old).told (D.seen disk.new).told }
-        ensures tells { (D.seen disk.new).tells ≡ (D.seen disk.old).tells }
-        ensures cause { AskCause (D.seen disk.old).faults (D.seen disk.new).faults result }
     {
         let entry = self.entry(id, at, &mut Steps::<L>::new(blank));
         let part = &self.streams[place_of(&self.streams, id)];
@@ -118,9 +102,9 @@ impl Store {
                 last: entry.last,
                 summary,
             }),
-            Err(fault) => {
+            Err(error) => {
                 self.stopped = true;
-                Err(AskError::from(fault))
+                Err(AskError::from(error))
             }
         }
     }

@@ -1,6 +1,6 @@
 use Rattle.std.proofs.Common.{◌≡◌, sym, inl, inr}
 use Rattle.ss_codec.specs.declared.record.Record.TheVariants.{Free}
-use Rattle.ss_recover.proofs.Usable.{IsUsable-valid}
+use Rattle.ss_recover.proofs.ValidRecords.{IsUsable-valid}
 use Rattle.ss_recover.proofs.gathering.record_in.Goals as goal
 
 pub returns-in-Stream : goal.returns-in-Stream

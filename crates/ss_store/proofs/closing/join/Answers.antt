@@ -9,12 +9,14 @@ use Rattle.ss_summary.specs.Summaries.{joined}
 use Rattle.ss_target.specs.Lengths.{lengths_of}
 use Rattle.ss_target.specs.Targets.{params_of}
 use Rattle.ss_recover.specs.Held.{TileFrom, entries_of}
-use Rattle.ss_store.specs.Causes.{IsRead}
-use Rattle.ss_store.specs.Held.{IsHeldIn, IsPartlyJoined, values_held}
+use Rattle.ss_query.specs.Reading.{IsRead}
+use Rattle.ss_journal.proofs.StepLemmas.{step-from, step-next}
+use Rattle.ss_store.specs.Held.{IsPartlyJoined, values_held}
+use Rattle.ss_query.specs.Held.{IsHeldIn}
 use Rattle.ss_store.specs.Joining.{IsJoinedIn}
 use Rattle.ss_store.specs.Slots.{AreSomeLive, LiveSlotsGo}
 use Rattle.ss_store.proofs.Calls.{Turns-answers, Turns-failed}
-use Rattle.ss_store.proofs.Joinings.{AreSomeLive-two, IsFirm-read, LiveSlotsGo-two, Turns-join, Turns-not_read, read-held}
+use Rattle.ss_store.proofs.Joinings.{AreSomeLive-two, IfChanged-window, IsFirm-read, LiveSlotsGo-two, Turns-join, Turns-not_read, read-held}
 use Rattle.ss_store.proofs.Pairs.{AreJoined, ArePair-read, AreSlots-joined, JoinsHeld-pair, StandsIn-left, StandsIn-right, joined_line, one_part, one_part-same}
 use Rattle.ss_store.proofs.Spans.{TileFrom-joined, values_held-joined}
 use Rattle.ss_store.proofs.closing.join.Goals as goal
@@ -32,35 +34,31 @@ read_joined-requires-clause-live g c =
     let pair = ArePair-read c.args.part.now c.args.left c.args.right c.get-window.result c.get-next.result c.requires.due c.requires.tiles c.get-window.ensures.entry c.get-next.ensures.entry in
     AreSomeLive-two c.args.part.now (one_part c.args.part.now c.args.left c.args.right c.get-window.result c.get-next.result) c.get-window.result c.get-next.result c.args.records.now.live pair.slots c.requires.live
 
-pub read_joined-requires-clause-first : goal.read_joined-requires-clause-first
-read_joined-requires-clause-first g c =
-    (ArePair-read c.args.part.now c.args.left c.args.right c.get-window.result c.get-next.result c.requires.due c.requires.tiles c.get-window.ensures.entry c.get-next.ensures.entry).tiled.first
-
-pub read_joined-requires-clause-side_by_side : goal.read_joined-requires-clause-side_by_side
-read_joined-requires-clause-side_by_side g c =
-    (ArePair-read c.args.part.now c.args.left c.args.right c.get-window.result c.get-next.result c.requires.due c.requires.tiles c.get-window.ensures.entry c.get-next.ensures.entry).tiled.next
-
-pub read_joined-requires-clause-few : goal.read_joined-requires-clause-few
-read_joined-requires-clause-few g c =
-    let tiled = (ArePair-read c.args.part.now c.args.left c.args.right c.get-window.result c.get-next.result c.requires.due c.requires.tiles c.get-window.ensures.entry c.get-next.ensures.entry).tiled in
-    omega (arith, tiled.last, tiled.few)
+pub read_joined-requires-clause-neighbours : goal.read_joined-requires-clause-neighbours
+read_joined-requires-clause-neighbours g c =
+    let tiled = (ArePair-read c.args.part.now c.args.left c.args.right c.get-window.result c.get-next.result c.requires.due c.requires.tiles
+    c.get-window.ensures.entry c.get-next.ensures.entry).tiled in
+    record { first = tiled.first; side_by_side = tiled.next; few = omega (arith, tiled.last, tiled.few) }
 
 pub returns-in_err-read_joined-clause-joins : goal.returns-in_err-read_joined-clause-joins
-returns-in_err-read_joined-clause-joins g c = λ told others s.
-    Turns-not_read others c.args.part.now s _ (g.D.Disk.seen c.args.disk.now).told (g.D.Disk.seen c.read_joined.new.disk).told c.from_residual.result c.from_residual.ensures.0
-    (g.met.D.Disk.knows_now c.args.disk.now told) (c.read_joined.ensures.reads told)
-
-pub returns-in_err-read_joined-clause-firm : goal.returns-in_err-read_joined-clause-firm
-returns-in_err-read_joined-clause-firm g c = λ told others s held.
+returns-in_err-read_joined-clause-joins g c =
+    let part = c.args.part.now in
     let w = c.get-window.result in
     let v = c.get-next.result in
-    let pair = ArePair-read c.args.part.now c.args.left c.args.right w v c.requires.due c.requires.tiles c.get-window.ensures.entry c.get-next.ensures.entry in
-    let new = one_part c.args.part.now c.args.left c.args.right w v in
-    let j = JoinsHeld-pair others c.args.part.now new s w v (one_part-same c.args.part.now c.args.left c.args.right w v) pair.joined held.agrees held.stream in
-    let read = read-held others c.args.part.now new s w v (one_part-same c.args.part.now c.args.left c.args.right w v) pair.joined (g.D.Disk.seen c.args.disk.now).told.content
-    (λ is. IsRead is (Err c.in_err-read_joined.field-0.0)) (c.in_err-read_joined.ensures.joined told) held in
+    let new = one_part part c.args.left c.args.right w v in
+    let same = one_part-same part c.args.left c.args.right w v in
+    let pair = ArePair-read part c.args.left c.args.right w v c.requires.due c.requires.tiles c.get-window.ensures.entry c.get-next.ensures.entry in
+    let failure = c.in_err-read_joined.field-0.0 in
     let p = err_from_is_err_and c.from_residual.result c.from_residual.ensures.1 in
-    rw (p.1, p.2) (IsFirm-read (Unit {0}) (joined j.one.summary j.two.summary) c.in_err-read_joined.field-0.0 read)
+    rw (p.1, p.2)
+    (step-from c.in_err-read_joined.ensures.joined (λ told read. record {
+      turns = λ others s. Turns-not_read others part s _ _ _ _ refl (g.met.D.Disk.knows_now c.args.disk.now told) read.reads;
+      firm = λ others s held.
+          let j = JoinsHeld-pair others part new s w v same pair.joined held.agrees held.stream in
+          IsFirm-read (Unit {0}) (joined j.one.summary j.two.summary) failure
+          (read-held others part new s w v same pair.joined _ (λ is. IsRead is (Err failure)) read.joined held);
+      kept = tt;
+    }))
 
 pub replace_two-requires-clause-valid : goal.replace_two-requires-clause-valid
 replace_two-requires-clause-valid g c =
@@ -76,17 +74,32 @@ replace_two-requires-clause-live g c =
     (AreSomeLive-two c.args.part.now (one_part c.args.part.now c.args.left c.args.right c.get-window.result c.get-next.result) c.get-window.result c.get-next.result c.args.records.now.live pair.slots c.requires.live)
 
 pub returns-in_err-replace_two-clause-joins : goal.returns-in_err-replace_two-clause-joins
-returns-in_err-replace_two-clause-joins g c = λ told others s.
+returns-in_err-replace_two-clause-joins g c =
+    let part = c.args.part.now in
     let w = c.get-window.result in
     let v = c.get-next.result in
-    let pair = ArePair-read c.args.part.now c.args.left c.args.right w v c.requires.due c.requires.tiles c.get-window.ensures.entry c.get-next.ensures.entry in
-    let new = one_part c.args.part.now c.args.left c.args.right w v in
-    Turns-failed (IsHeldIn others c.args.part.now s) (IsPartlyJoined others s) (IsJoinedIn others new s) _ (g.D.Disk.seen c.args.disk.now).told (g.D.Disk.seen c.replace_two.new.disk).told
-    c.replace_two.result c.from_residual-in_err-replace_two.result c.from_residual-in_err-replace_two.ensures.0
-    (Turns-join others c.args.part.now new s w v (one_part-same c.args.part.now c.args.left c.args.right w v) pair.joined
-    (g.D.Disk.seen c.args.disk.now).told (g.D.Disk.seen c.read_joined.new.disk).told (g.D.Disk.seen c.replace_two.new.disk).told c.in_ok-read_joined.field-0 c.replace_two.result
-    (g.met.D.Disk.knows_now c.args.disk.now told) (c.read_joined.ensures.reads told) (c.in_ok-read_joined.ensures.joined told)
-    (c.replace_two.ensures.replaces (subst (λ b. IsTrue b) (sym c.read_joined.ensures.tells) told)))
+    let new = one_part part c.args.left c.args.right w v in
+    let same = one_part-same part c.args.left c.args.right w v in
+    let pair = ArePair-read part c.args.left c.args.right w v c.requires.due c.requires.tiles c.get-window.ensures.entry c.get-next.ensures.entry in
+    let p = err_from_is_err_and c.from_residual-in_err-replace_two.result c.from_residual-in_err-replace_two.ensures.1 in
+    rw (p.1, p.2)
+    (step-next c.in_ok-read_joined.ensures.joined c.in_err-replace_two.ensures.replaces (λ told told_read read replaced. record {
+      turns = λ others s.
+          Turns-failed (IsHeldIn others part s) (IsPartlyJoined others s) (IsJoinedIn others new s) _ _ _ _ _ refl
+          (Turns-join others part new s w v same pair.joined _ _ _ c.in_ok-read_joined.field-0 _
+          (g.met.D.Disk.knows_now c.args.disk.now told) read.reads read.joined replaced.changes);
+      firm = λ others s held. tt;
+      kept = tt;
+    }))
+
+pub returns-in_err-read_joined-clause-changed : goal.returns-in_err-read_joined-clause-changed
+returns-in_err-read_joined-clause-changed g c =
+    let part = c.args.part.now in
+    let w = c.get-window.result in
+    let v = c.get-next.result in
+    let pair = ArePair-read part c.args.left c.args.right w v c.requires.due c.requires.tiles c.get-window.ensures.entry c.get-next.ensures.entry in
+    let p = err_from_is_err_and c.from_residual.result c.from_residual.ensures.1 in
+    rw (p.1, p.2) (IfChanged-window (Unit {0}) part w v pair.joined c.in_err-read_joined.field-0.0 c.in_err-read_joined.ensures.changed)
 
 pub set-requires : goal.set-requires
 set-requires g c =
@@ -109,31 +122,45 @@ line g c =
     (sym is) pair.joined
 
 pub returns-clause-joins : goal.returns-clause-joins
-returns-clause-joins g c = λ told others s.
-    Turns-answers (IsHeldIn others c.args.part.now s) (IsPartlyJoined others s) _ (g.D.Disk.seen c.args.disk.now).told (g.D.Disk.seen c.replace_two.new.disk).told c.in_ok-replace_two.field-0 _
-    (Turns-join others c.args.part.now (record c.args.part.now { line = c.cut_out.new.self }) s c.get-window.result c.get-next.result
-    (record { id = refl; name = refl; target = refl; slot = refl; last_time = refl; landmarks = refl }) (line g c)
-    (g.D.Disk.seen c.args.disk.now).told (g.D.Disk.seen c.read_joined.new.disk).told (g.D.Disk.seen c.replace_two.new.disk).told c.in_ok-read_joined.field-0 _
-    (g.met.D.Disk.knows_now c.args.disk.now told) (c.read_joined.ensures.reads told) (c.in_ok-read_joined.ensures.joined told)
-    (c.in_ok-replace_two.ensures.replaces (subst (λ b. IsTrue b) (sym c.read_joined.ensures.tells) told)))
+returns-clause-joins g c =
+    let part = c.args.part.now in
+    let new = record part { line = c.cut_out.new.self } in
+    step-next c.in_ok-read_joined.ensures.joined c.in_ok-replace_two.ensures.replaces (λ told told_read read replaced. record {
+      turns = λ others s.
+          Turns-answers (IsHeldIn others part s) (IsPartlyJoined others s) (IsJoinedIn others new s) _ _ c.in_ok-replace_two.field-0 _
+          (Turns-join others part new s c.get-window.result c.get-next.result
+          (record { id = refl; name = refl; target = refl; slot = refl; last_time = refl; landmarks = refl }) (line g c) _ _ _
+          c.in_ok-read_joined.field-0 _ (g.met.D.Disk.knows_now c.args.disk.now told) read.reads read.joined replaced.changes);
+      firm = λ others s held. tt;
+      kept = replaced.kept;
+    })
 
-pub returns-clause-values : goal.returns-clause-values
-returns-clause-values g c =
+pub returns-clause-holds : goal.returns-clause-holds
+returns-clause-holds g c =
     let pair = line g c in
-    ap (λ es. values_held es) pair.is ∙ values_held-joined pair.front c.get-window.result c.get-next.result pair.rest ∙ ap (λ es. values_held es) (sym pair.was)
-
-pub returns-clause-tiles : goal.returns-clause-tiles
-returns-clause-tiles g c =
-    let pair = line g c in
-    subst (λ es. TileFrom 1 es) (sym pair.is) (TileFrom-joined 1 pair.front c.get-window.result c.get-next.result pair.rest (subst (λ es. TileFrom 1 es) pair.was c.requires.tiles))
+    record {
+      values = ap (λ es. values_held es) pair.is ∙ values_held-joined pair.front c.get-window.result c.get-next.result pair.rest
+          ∙ ap (λ es. values_held es) (sym pair.was);
+      last_time = refl;
+    }
 
 pub returns-clause-fewer : goal.returns-clause-fewer
 returns-clause-fewer g c = (line g c).fewer
 
-pub returns-clause-live : goal.returns-clause-live
-returns-clause-live g c =
-    let new = record c.args.part.now { line = c.cut_out.new.self } in
-    let slots = AreSlots-joined (lengths_of (params_of c.args.part.now.target)) (values_held (entries_of c.args.part.now)) c.args.part.now new c.get-window.result c.get-next.result refl refl (line g c) in
-    LiveSlotsGo-two c.args.part.now new c.get-window.result c.get-next.result c.args.records.now.live c.replace_two.new.records.live slots
-    (subst (λ live. LiveSlotsGo (c.get-window.result.slot ∷ c.get-next.result.slot ∷ []) (c.get-window.result.slot ∷ []) live c.replace_two.new.records.live) c.read_joined.ensures.live
-    c.in_ok-replace_two.ensures.live)
+pub returns-clause-whole : goal.returns-clause-whole
+returns-clause-whole g c =
+    let part = c.args.part.now in
+    let new = record part { line = c.cut_out.new.self } in
+    let w = c.get-window.result in
+    let v = c.get-next.result in
+    let pair = line g c in
+    let slots = AreSlots-joined (lengths_of (params_of part.target)) (values_held (entries_of part)) part new w v refl refl pair in
+    let done = c.in_ok-replace_two.ensures in
+    record {
+      tiles = subst (λ es. TileFrom 1 es) (sym pair.is)
+          (TileFrom-joined 1 pair.front w v pair.rest (subst (λ es. TileFrom 1 es) pair.was c.requires.tiles));
+      live = LiveSlotsGo-two part new w v c.args.records.now.live c.replace_two.new.records.live slots
+          (subst (λ live. LiveSlotsGo (w.slot ∷ v.slot ∷ []) (w.slot ∷ []) live c.replace_two.new.records.live) c.read_joined.ensures.live done.live);
+      settled = done.settled;
+      extent = rw (done.extent, c.in_ok-read_joined.ensures.journal) (omega arith);
+    }

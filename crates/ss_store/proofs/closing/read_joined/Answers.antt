@@ -1,5 +1,8 @@
-use Rattle.std.proofs.Common.{◌≡◌, ◌∙◌, ◌∷◌, ap, ap₂, sym, subst, arith, [], Some, IsTrue}
+use Rattle.std.proofs.Common.{◌≡◌, ◌∙◌, ◌∷◌, ap, ap₂, sym, arith, [], Option, Some, ℕ}
 use Rattle.std.proofs.lemmas.Result.{err_from_is_err_and}
+use Rattle.ss_outside.proofs.CrashLemmas.{reads-joined}
+use Rattle.ss_outside.proofs.StepLemmas.{step-as, step-then}
+use Rattle.ss_codec.specs.declared.record.Record.{Record}
 use Rattle.ss_recover.specs.Held.{window_record}
 use Rattle.ss_summary.specs.Figures.{Figures}
 use Rattle.ss_summary.specs.Summaries.{joined}
@@ -17,35 +20,70 @@ read_window-requires-2-clause-slot g c =
     omega (arith, below, c.live-live.ensures.sound.slots)
 
 pub returns-in_err-older-clause-joined : goal.returns-in_err-older-clause-joined
-returns-in_err-older-clause-joined g c = λ told others w v has first second first_free second_free later.
+returns-in_err-older-clause-joined g c =
     let p = err_from_is_err_and c.from_residual.result c.from_residual.ensures.1 in
+    let number = c.args.part.now.id.0 in
     rw (p.1, p.2)
-    (IsRead-err w.summary (joined w.summary v.summary) c.in_err-older.field-0.0
-    (c.in_err-older.ensures.window told ((c.args.next.slot, Some (window_record c.args.part.now.id.0 v)) ∷ others) w has first first_free))
+    (step-as c.in_err-older.ensures.reads (λ first. record {
+      joined = λ others w v has same second free second_free later.
+          IsRead-err w.summary (joined w.summary v.summary) c.in_err-older.field-0.0
+          (first.window ((c.args.next.slot, Some (window_record number v)) ∷ others) w has same free);
+      kept = tt;
+      reads = first.reads;
+    }))
 
 pub returns-in_err-newer-clause-joined : goal.returns-in_err-newer-clause-joined
-returns-in_err-newer-clause-joined g c = λ told others w v has first second first_free second_free later.
+returns-in_err-newer-clause-joined g c =
     let p = err_from_is_err_and c.from_residual-in_err-newer.result c.from_residual-in_err-newer.ensures.1 in
+    let number = c.args.part.now.id.0 in
     rw (p.1, p.2)
-    (IsRead-err v.summary (joined w.summary v.summary) c.in_err-newer.field-0.0
-    (c.in_err-newer.ensures.window (subst (λ b. IsTrue b) (sym c.read_window.ensures.tells) told) ((c.args.window.slot, Some (window_record c.args.part.now.id.0 w)) ∷ others) v
-    (HasRecords-second (c.args.window.slot, Some (window_record c.args.part.now.id.0 w)) (c.args.next.slot, Some (window_record c.args.part.now.id.0 v)) others
-    (g.D.Disk.seen c.args.disk.now).told.content (g.D.Disk.seen c.read_window.new.disk).told.content (c.read_window.ensures.reads told).same.content has) second second_free))
+    (step-then c.in_ok-older.ensures.reads c.in_err-newer.ensures.reads (λ first then. record {
+      joined = λ others w v has same second free second_free later.
+          let one : ℕ × Option Record = (c.args.window.slot, Some (window_record number w)) in
+          IsRead-err v.summary (joined w.summary v.summary) c.in_err-newer.field-0.0
+          (then.window (one ∷ others) v
+          (HasRecords-second one (c.args.next.slot, Some (window_record number v)) others _ _ first.reads.same.content has) second second_free);
+      kept = tt;
+      reads = reads-joined _ _ _ first.reads then.reads;
+    }))
 
 pub returns-then-newer-older-clause-joined : goal.returns-then-newer-older-clause-joined
-returns-then-newer-older-clause-joined g c = λ told others w v has first second first_free second_free later.
-    let older : c.in_ok-older.older ≡ w.summary = c.in_ok-older.ensures.window told ((c.args.next.slot, Some (window_record c.args.part.now.id.0 v)) ∷ others) w has first first_free in
-    let newer : c.in_ok-newer.newer ≡ v.summary = c.in_ok-newer.ensures.window (subst (λ b. IsTrue b) (sym c.read_window.ensures.tells) told) ((c.args.window.slot, Some (window_record c.args.part.now.id.0 w)) ∷ others) v
-    (HasRecords-second (c.args.window.slot, Some (window_record c.args.part.now.id.0 w)) (c.args.next.slot, Some (window_record c.args.part.now.id.0 v)) others
-    (g.D.Disk.seen c.args.disk.now).told.content (g.D.Disk.seen c.read_window.new.disk).told.content (c.read_window.ensures.reads told).same.content has) second second_free in
-    let last = ap (λ (f : Figures). f.t_last) (c.older.view_is ∙ older) in
-    let first = ap (λ (f : Figures). f.t_first) (c.newer.view_is ∙ newer) in
-    omega (arith, c.if-newer-older.true, later, last, first)
+returns-then-newer-older-clause-joined g c =
+    let number = c.args.part.now.id.0 in
+    let read = c.in_ok-older.ensures.reads in
+    let then = c.in_ok-newer.ensures.reads in
+    record {
+      tells = then.tells ∙ read.tells;
+      counted = then.counted ∙ read.counted;
+      told = λ told.
+          let one_read = read.told told in
+          let two_read = then.told (read.tells ∙ told) in
+          record {
+            joined = λ others w v has same second free second_free later.
+                let one : ℕ × Option Record = (c.args.window.slot, Some (window_record number w)) in
+                let two : ℕ × Option Record = (c.args.next.slot, Some (window_record number v)) in
+                let older : c.in_ok-older.older ≡ w.summary = one_read.window (two ∷ others) w has same free in
+                let newer : c.in_ok-newer.newer ≡ v.summary =
+                two_read.window (one ∷ others) v (HasRecords-second one two others _ _ one_read.reads.same.content has) second second_free in
+                let last = ap (λ (f : Figures). f.t_last) (c.older.view_is ∙ older) in
+                let first = ap (λ (f : Figures). f.t_first) (c.newer.view_is ∙ newer) in
+                omega (arith, c.if-newer-older.true, later, last, first);
+            kept = tt;
+            reads = reads-joined _ _ _ one_read.reads two_read.reads;
+          };
+    }
 
 pub returns-clause-joined : goal.returns-clause-joined
-returns-clause-joined g c = λ told others w v has first second first_free second_free later.
-    let older : c.in_ok-older.older ≡ w.summary = c.in_ok-older.ensures.window told ((c.args.next.slot, Some (window_record c.args.part.now.id.0 v)) ∷ others) w has first first_free in
-    let newer : c.in_ok-newer.newer ≡ v.summary = c.in_ok-newer.ensures.window (subst (λ b. IsTrue b) (sym c.read_window.ensures.tells) told) ((c.args.window.slot, Some (window_record c.args.part.now.id.0 w)) ∷ others) v
-    (HasRecords-second (c.args.window.slot, Some (window_record c.args.part.now.id.0 w)) (c.args.next.slot, Some (window_record c.args.part.now.id.0 v)) others
-    (g.D.Disk.seen c.args.disk.now).told.content (g.D.Disk.seen c.read_window.new.disk).told.content (c.read_window.ensures.reads told).same.content has) second second_free in
-    c.join.ensures.exact ∙ ap₂ joined older newer
+returns-clause-joined g c =
+    let number = c.args.part.now.id.0 in
+    step-then c.in_ok-older.ensures.reads c.in_ok-newer.ensures.reads (λ first then. record {
+      joined = λ others w v has same second free second_free later.
+          let one : ℕ × Option Record = (c.args.window.slot, Some (window_record number w)) in
+          let older : c.in_ok-older.older ≡ w.summary = first.window ((c.args.next.slot, Some (window_record number v)) ∷ others) w has same free in
+          let newer : c.in_ok-newer.newer ≡ v.summary =
+          then.window (one ∷ others) v
+          (HasRecords-second one (c.args.next.slot, Some (window_record number v)) others _ _ first.reads.same.content has) second second_free in
+          c.join.ensures.exact ∙ ap₂ joined older newer;
+      kept = then.kept;
+      reads = reads-joined _ _ _ first.reads then.reads;
+    })

@@ -2,78 +2,80 @@ use Rattle.std.proofs.Common.{◌≡◌, ◌∙◌, ◌<◌, arith, refl, suc, l
 use Rattle.std.proofs.Math.Numerals.{add-one}
 use Rattle.std.proofs.lemmas.Option.{slice_get-get_or}
 use Rattle.std.proofs.lemmas.Result.{err_from_is_err_and}
-use Rattle.ss_journal.proofs.TearLemmas.{on_err}
+use Rattle.ss_outside.proofs.StepLemmas.{step-as, step-none, step-then}
+use Rattle.ss_journal.proofs.StepLemmas.{after-step}
 use Rattle.ss_model.specs.ClosedState.{closed_state}
 use Rattle.ss_store.specs.Kept.{entry_of}
 use Rattle.ss_store.specs.Recover.{Recovers}
 use Rattle.ss_store.proofs.Among.{AreWhole-at, AreWhole-set, IsNoEarlier-same, length-AllAgree}
 use Rattle.ss_store.proofs.Calls.{Turns-failed}
-use Rattle.ss_store.proofs.ClosingAll.{AreHeldIn, ClosesFirst-more, ClosesFirst-none, Turns-all, Turns-open, closed_until, firm-ClosesFirst}
+use Rattle.ss_store.proofs.ClosingAll.{AreHeldIn, ClosesFirst-more, ClosesFirst-none, SomeChangedIsHeld-set, Turns-all, Turns-open, closed_until, firm-ClosesFirst}
 use Rattle.ss_store.proofs.OneOfMany.{map-set_same}
 use Rattle.ss_store.proofs.opening.close_all.Goals as goal
 
 pub loop-place-init : goal.loop-place-init
 loop-place-init g c = record {
+  step = step-none (g.D.Disk.seen c.args.disk.now) _ (λ told. record {
+    changes = ClosesFirst-none c.args.streams.now _ (g.met.D.Disk.knows_now c.args.disk.now told);
+    kept = c.requires.one_disk told;
+  });
   settled = c.requires.settled;
   whole = c.requires.whole;
   entries = refl;
-  tells = refl;
-  faults = refl;
-  kept = c.requires.one_disk;
-  closes = λ told. ClosesFirst-none c.args.streams.now (g.D.Disk.seen c.args.disk.now).told (g.met.D.Disk.knows_now c.args.disk.now told);
 }
 
-pub close-requires-clause-live : goal.close-requires-clause-live
-close-requires-clause-live g c =
+pub close_windows-requires-clause-live : goal.close_windows-requires-clause-live
+close_windows-requires-clause-live g c =
     let streams = c.loop-place.streams in
     let place = c.loop-place.place in
     let part = slice_index_or streams place c.index-streams-place.result in
     let at : slice_get streams place ≡ Some part = slice_get-get_or streams place c.index-streams-place.result (omega arith) in
     (AreWhole-at streams c.loop-place.records.live place part c.loop-place.invariant.whole at).1
 
-pub returns-in_err-close-clause-closes : goal.returns-in_err-close-clause-closes
-returns-in_err-close-clause-closes g c told all state agree =
+pub close_windows-requires-clause-one_disk : goal.close_windows-requires-clause-one_disk
+close_windows-requires-clause-one_disk g c = after-step c.loop-place.invariant.step (λ told has. has.kept)
+
+pub returns-in_err-close_windows-clause-closes : goal.returns-in_err-close_windows-clause-closes
+returns-in_err-close_windows-clause-closes g c =
     let was = c.args.streams.now in
     let now = c.loop-place.streams in
     let place = c.loop-place.place in
     let part = slice_index_or now place c.index-streams-place.result in
     let at : slice_get now place ≡ Some part = slice_get-get_or now place c.index-streams-place.result (omega arith) in
-    let changed = slice_set now place c.close.new.part in
-    let old = (g.D.Disk.seen c.args.disk.now).told in
-    let mid = (g.D.Disk.seen c.loop-place.disk).told in
-    let new = (g.D.Disk.seen c.close.new.disk).told in
-    let failed = Err c.in_err-close.field-0.0 in
+    let new = c.close_windows.new.part in
+    let changed = slice_set now place new in
     let inside : place < length was = c.loop-place-test.true in
-    let turns = ClosesFirst-more was now part c.close.new.part place old mid new failed at inside (c.loop-place.invariant.closes told)
-    (c.in_err-close.ensures.closes (c.loop-place.invariant.tells ∙ told)) all state (length-AllAgree was all agree) in
-    Turns-open was changed all old new c.from_residual.result agree
-    (Turns-failed (AreHeldIn was all) (Recovers (closed_state all)) (AreHeldIn changed (closed_until (suc place) all)) (AreHeldIn changed (closed_state all))
-    old new failed c.from_residual.result c.from_residual.ensures.0 turns)
+    let p = err_from_is_err_and c.from_residual.result c.from_residual.ensures.1 in
+    rw (p.1, p.2)
+    (step-then c.loop-place.invariant.step c.in_err-close_windows.ensures.closes (λ first second. record {
+      turns = λ all state agree.
+          Turns-open was changed all _ _ _ agree
+          (Turns-failed (AreHeldIn was all) (Recovers (closed_state all)) (AreHeldIn changed (closed_until (suc place) all))
+          (AreHeldIn changed (closed_state all)) _ _ _ _ refl
+          (ClosesFirst-more was now part new place _ _ _ _ at inside first.changes second.turns all state (length-AllAgree was all agree)));
+      agree = λ all state agree has. tt;
+      firm = λ all state agree has. firm-ClosesFirst was now part place _ _ _ at inside first.changes second.firm all state agree has;
+      kept = tt;
+    }))
 
-pub returns-in_err-close-clause-agree : goal.returns-in_err-close-clause-agree
-returns-in_err-close-clause-agree g c told all state agree has =
-    let was = c.args.streams.now in
-    let now = c.loop-place.streams in
-    let place = c.loop-place.place in
-    let part = slice_index_or now place c.index-streams-place.result in
-    let at : slice_get now place ≡ Some part = slice_get-get_or now place c.index-streams-place.result (omega arith) in
-    let old = (g.D.Disk.seen c.args.disk.now).told in
-    let mid = (g.D.Disk.seen c.loop-place.disk).told in
-    let failed = Err c.in_err-close.field-0.0 in
-    let inside : place < length was = c.loop-place-test.true in
-    let firm = firm-ClosesFirst was now part place old mid failed at inside (c.loop-place.invariant.closes told)
-    (c.in_err-close.ensures.firm (c.loop-place.invariant.tells ∙ told)) all state agree has in
-    let error = err_from_is_err_and c.from_residual.result c.from_residual.ensures.1 in
-    (on_err c.from_residual.result _ c.from_residual.ensures.0, rw (error.1, error.2) firm)
-
-pub returns-in_err-close-clause-entries : goal.returns-in_err-close-clause-entries
-returns-in_err-close-clause-entries g c =
+pub returns-in_err-close_windows-clause-entries : goal.returns-in_err-close_windows-clause-entries
+returns-in_err-close_windows-clause-entries g c =
     let streams = c.loop-place.streams in
     let place = c.loop-place.place in
     let part = slice_index_or streams place c.index-streams-place.result in
     let at : slice_get streams place ≡ Some part = slice_get-get_or streams place c.index-streams-place.result (omega arith) in
-    let same = c.close.ensures.same in
-    map-set_same entry_of streams place part c.close.new.part at (λ i. (same.name i, same.id i)) ∙ c.loop-place.invariant.entries
+    let same = c.close_windows.ensures.same in
+    map-set_same entry_of streams place part c.close_windows.new.part at (λ i. (same.name i, same.id i)) ∙ c.loop-place.invariant.entries
+
+pub returns-in_err-close_windows-clause-changed : goal.returns-in_err-close_windows-clause-changed
+returns-in_err-close_windows-clause-changed g c =
+    let streams = c.loop-place.streams in
+    let place = c.loop-place.place in
+    let part = slice_index_or streams place c.index-streams-place.result in
+    let at : slice_get streams place ≡ Some part = slice_get-get_or streams place c.index-streams-place.result (omega arith) in
+    let p = err_from_is_err_and c.from_residual.result c.from_residual.ensures.1 in
+    rw (p.1, p.2)
+    (SomeChangedIsHeld-set streams place part c.close_windows.new.part c.in_err-close_windows.field-0.0 at c.in_err-close_windows.ensures.changed)
 
 pub loop-place-preserved : goal.loop-place-preserved
 loop-place-preserved g c =
@@ -82,37 +84,30 @@ loop-place-preserved g c =
     let place = c.loop-place.place in
     let part = slice_index_or now place c.index-streams-place.result in
     let at : slice_get now place ≡ Some part = slice_get-get_or now place c.index-streams-place.result (omega arith) in
-    let new = c.close.new.part in
-    let same = c.close.ensures.same in
+    let new = c.close_windows.new.part in
+    let same = c.close_windows.ensures.same in
     let before = c.loop-place.invariant in
-    let after = c.in_ok-close.ensures in
+    let after = c.in_ok-close_windows.ensures in
     record {
-      settled = after.settled;
-      whole = AreWhole-set now c.loop-place.records.live c.close.new.records.live place part new before.whole at same (IsNoEarlier-same part.last_time new.last_time c.close.ensures.last_time) after.tiles after.live;
+      step = step-then before.step after.closes (λ first second. record {
+        changes = rw add-one (ClosesFirst-more was now part new place _ _ _ (Ok tt) at c.loop-place-test.true first.changes second.turns);
+        kept = second.kept;
+      });
+      settled = after.whole.settled;
+      whole = AreWhole-set now c.loop-place.records.live c.close_windows.new.records.live place part new before.whole at same
+          (IsNoEarlier-same part.last_time new.last_time after.holds.last_time) after.whole.tiles after.whole.live;
       entries = map-set_same entry_of now place part new at (λ i. (same.name i, same.id i)) ∙ before.entries;
-      tells = after.tells ∙ before.tells;
-      faults = after.cause ∙ before.faults;
-      kept = λ told. after.one_disk (before.tells ∙ told);
-      closes = λ told. rw add-one
-          (ClosesFirst-more was now part new place (g.D.Disk.seen c.args.disk.now).told (g.D.Disk.seen c.loop-place.disk).told (g.D.Disk.seen c.close.new.disk).told (Ok tt)
-          at c.loop-place-test.true (before.closes told) (after.closes (before.tells ∙ told)));
     }
 
 pub returns-clause-closes : goal.returns-clause-closes
-returns-clause-closes g c told all state agree =
+returns-clause-closes g c =
     let was = c.args.streams.now in
     let now = c.loop-place.streams in
-    let old = (g.D.Disk.seen c.args.disk.now).told in
-    let new = (g.D.Disk.seen c.loop-place.disk).told in
-    Turns-open was now all old new (Ok tt) agree
-    (Turns-all was now c.loop-place.place old new (c.loop-place.invariant.closes told) (omega arith) all state agree)
-
-pub returns-clause-agree : goal.returns-clause-agree
-returns-clause-agree g c told all state agree has =
-    let was = c.args.streams.now in
-    let now = c.loop-place.streams in
-    let old = (g.D.Disk.seen c.args.disk.now).told in
-    let new = (g.D.Disk.seen c.loop-place.disk).told in
-    let turns = Turns-all was now c.loop-place.place old new (c.loop-place.invariant.closes told) (omega arith) all state agree in
-    let held : AreHeldIn now (closed_state all) new.content = turns.content (record { agree = agree; records = has }) in
-    (held.agree, tt)
+    let end : c.loop-place.place ≡ length was = omega arith in
+    step-as c.loop-place.invariant.step (λ made. record {
+      turns = λ all state agree. Turns-open was now all _ _ (Ok tt) agree (Turns-all was now c.loop-place.place _ _ made.changes end all state agree);
+      agree = λ all state agree has.
+          ((Turns-all was now c.loop-place.place _ _ made.changes end all state agree).content (record { agree = agree; records = has })).agree;
+      firm = λ all state agree has. tt;
+      kept = made.kept;
+    })

@@ -1,30 +1,60 @@
-use Rattle.std.proofs.Common.{◌∙◌, refl, subst, List, Err, ℕ}
+use Rattle.std.proofs.Common.{refl, subst, List, Err, ℕ}
 use Rattle.std.proofs.lemmas.Result.{err_from_is_err_and}
+use Rattle.ss_outside.proofs.CrashLemmas.{reads-joined}
+use Rattle.ss_outside.proofs.StepLemmas.{step-then, step-verdict}
+use Rattle.ss_journal.proofs.StepLemmas.{after-step}
 use Rattle.ss_store.specs.Causes.{OpensAs}
 use Rattle.ss_store.specs.Errors.{open_of_recover}
-use Rattle.ss_store.proofs.Opens.{IsRebuilt-opened, OpensAs-journal, OpensAs-recover, StandsFor-kept}
+use Rattle.ss_store.proofs.Opens.{IsRebuilt-opened, OpensAs-journal, OpensAs-recover, StandsFor-kept, firm-journal, firm-recover, verdict-journal, verdict-recover}
+use Rattle.ss_store.proofs.Steps.{step-handed}
 use Rattle.ss_store.proofs.opening.read_all.Goals as goal
 
-pub returns-in_err-records-clause-opens : goal.returns-in_err-records-clause-opens
-returns-in_err-records-clause-opens g c told =
-    let error = err_from_is_err_and c.from_residual.result c.from_residual.ensures.1 in
-    rw (error.1, error.2) (OpensAs-journal (g.D.Disk.seen c.args.disk.now).told.content c.in_err-records.field-0.0 (c.in_err-records.ensures.map told))
+pub returns-in_err-records-clause-reads : goal.returns-in_err-records-clause-reads
+returns-in_err-records-clause-reads g c =
+    let why = c.in_err-records.field-0.0 in
+    let p = err_from_is_err_and c.from_residual.result c.from_residual.ensures.1 in
+    rw (p.1, p.2)
+    (step-verdict (verdict-journal (Unit {0}) (Unit {0}) why) c.in_err-records.ensures.opens (λ opened. record {
+      rebuilt = tt;
+      opens = OpensAs-journal _ why opened.opens;
+      kept = tt;
+      reads = opened.reads;
+    }))
 
-pub returns-in_err-streams-clause-opens : goal.returns-in_err-streams-clause-opens
-returns-in_err-streams-clause-opens g c told =
-    let old = (g.D.Disk.seen c.args.disk.now).told in
-    let opened = (g.D.Disk.seen c.open.new.disk).told in
+pub returns-in_err-records-clause-unchanged : goal.returns-in_err-records-clause-unchanged
+returns-in_err-records-clause-unchanged g c =
+    let p = err_from_is_err_and c.from_residual.result c.from_residual.ensures.1 in
+    rw (p.1, p.2) (firm-journal (Unit {0}) c.in_err-records.field-0.0)
+
+pub rebuild-requires-clause-one_disk : goal.rebuild-requires-clause-one_disk
+rebuild-requires-clause-one_disk g c = after-step c.in_ok-records.ensures.opens (λ told has. has.kept)
+
+pub returns-in_err-streams-clause-reads : goal.returns-in_err-streams-clause-reads
+returns-in_err-streams-clause-reads g c =
     let why = c.in_err-streams.field-0.0 in
-    let kept = c.in_ok-records.ensures.one_disk told in
-    let is = StandsFor-kept c.in_ok-records.records opened.content kept in
-    let error = err_from_is_err_and c.from_residual-in_err-streams.result c.from_residual-in_err-streams.ensures.1 in
-    let opens : OpensAs old.content (Err (open_of_recover why)) =
-    subst (λ (content : List ℕ). OpensAs content (Err (open_of_recover why))) (c.open.ensures.reads told).same.content
-    (OpensAs-recover opened.content kept.journal.found why is (c.in_err-streams.ensures.carried (c.open.ensures.tells ∙ told) kept.journal.found is)) in
-    rw (error.1, error.2) opens
+    let p = err_from_is_err_and c.from_residual-in_err-streams.result c.from_residual-in_err-streams.ensures.1 in
+    rw (p.1, p.2)
+    (step-handed (verdict-recover (Unit {0}) (Unit {0}) why) c.in_ok-records.ensures.opens c.in_err-streams.ensures.rebuilds (λ told first second.
+    let is = StandsFor-kept c.in_ok-records.records _ first.kept in
+    record {
+      rebuilt = tt;
+      opens = subst (λ (content : List ℕ). OpensAs content (Err (open_of_recover why))) first.reads.same.content
+          (OpensAs-recover _ first.kept.journal.found why is (second.carried first.kept.journal.found is));
+      kept = tt;
+      reads = reads-joined _ _ _ first.reads second.reads;
+    }))
 
-pub returns-clause-rebuilt : goal.returns-clause-rebuilt
-returns-clause-rebuilt g c told =
-    IsRebuilt-opened c.in_ok-records.records c.in_ok-streams.field-0 c.in_ok-streams.field-0.streams.items (g.D.Disk.seen c.args.disk.now).told
-    (g.D.Disk.seen c.open.new.disk).told (c.open.ensures.reads told) (c.in_ok-records.ensures.one_disk told)
-    (c.in_ok-streams.ensures.carried (c.open.ensures.tells ∙ told)) refl
+pub returns-in_err-streams-clause-unchanged : goal.returns-in_err-streams-clause-unchanged
+returns-in_err-streams-clause-unchanged g c =
+    let p = err_from_is_err_and c.from_residual-in_err-streams.result c.from_residual-in_err-streams.ensures.1 in
+    rw (p.1, p.2) (firm-recover (Unit {0}) c.in_err-streams.field-0.0)
+
+pub returns-clause-reads : goal.returns-clause-reads
+returns-clause-reads g c =
+    step-then c.in_ok-records.ensures.opens c.in_ok-streams.ensures.rebuilds (λ first second. record {
+      rebuilt = IsRebuilt-opened c.in_ok-records.records c.in_ok-streams.field-0 c.in_ok-streams.field-0.streams.items _ _ first.reads first.kept
+          second.carried refl;
+      opens = tt;
+      kept = second.kept;
+      reads = reads-joined _ _ _ first.reads second.reads;
+    })

@@ -3,9 +3,8 @@ use Rattle.ss_target.specs.Lengths.{lengths_of}
 use Rattle.ss_target.specs.Targets.{params_of}
 use Rattle.ss_recover.specs.Held.{entries_of, span_held}
 use Rattle.ss_store.specs.Held.{values_held}
-use Rattle.ss_store.proofs.Places.{none-first}
+use Rattle.ss_query.proofs.Places.{entries_in, none-first}
 use Rattle.ss_store.proofs.Surveys.{IsCountedNext, IsCounted-first, IsCounted-next, StandsIn-counted, windows_left, windows_left-Agrees, windows_left-counted}
-use Rattle.ss_store.proofs.Walks.{entries_in}
 use Rattle.ss_store.proofs.surveying.closed_windows.Goals as goal
 
 pub returns-in_default-clause-windows : goal.returns-in_default-clause-windows

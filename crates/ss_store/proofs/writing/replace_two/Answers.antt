@@ -1,6 +1,5 @@
 use Rattle.std.proofs.Common.{Bool, IsTrue, List, [], ap, arith, subst, sym, ◌∷◌, ◌<◌, ◌∙◌}
 use Rattle.std.proofs.lemmas.Result.{on_ok_weaker}
-use Rattle.ss_journal.specs.Calls.{ChangesMap}
 use Rattle.ss_journal.specs.Puts.{IsTxn, extent_after, slots_fit}
 use Rattle.ss_journal.specs.declared.format.TheConstants.{MOST_SLOTS}
 use Rattle.ss_journal.specs.declared.put.Put.{Put}
@@ -39,12 +38,15 @@ apply-requires-clause-fit g c =
     (slots_fit-pair c.args.kept c.args.freed c.args.written.now c.args.records.now.journal.extent (below c.args.kept two.kept_live) (below c.args.freed two.freed_live))
 
 pub returns-clause-replaces : goal.returns-clause-replaces
-returns-clause-replaces g c tells =
-    let kept = c.args.kept in
-    let freed = c.args.freed in
-    let r = c.args.written.now in
-    ReplacesTwo-changes kept freed r c.requires.valid c.requires.some (g.D.Disk.seen c.args.disk.now).told (g.D.Disk.seen c.apply.new.disk).told c.apply.result
-    (subst (λ (l : List Put). ChangesMap l (g.D.Disk.seen c.args.disk.now).told (g.D.Disk.seen c.apply.new.disk).told c.apply.result) c.pair_of.ensures (c.apply.ensures.changes_map tells))
+returns-clause-replaces g c = record {
+  tells = c.apply.ensures.applies.tells;
+  counted = c.apply.ensures.applies.counted;
+  told = λ told. record {
+    changes = ReplacesTwo-changes c.args.kept c.args.freed c.args.written.now c.requires.valid c.requires.some _ _ c.apply.result
+        (rw c.pair_of.ensures at (c.apply.ensures.applies.told told).changes_map);
+    kept = (c.apply.ensures.applies.told told).kept;
+  };
+}
 
 pub returns-clause-live : goal.returns-clause-live
 returns-clause-live g c =
@@ -63,6 +65,6 @@ returns-clause-extent g c =
     let two = AreTwoLive-some c.args.records.now.live c.args.kept c.args.freed c.requires.live in
     let below = c.live.ensures.sound.below (λ stopped. absurd (cc)) in
     on_ok_weaker c.apply.result (λ is.
-    is ∙ ap (λ (l : List Put). extent_after l extent) c.pair_of.ensures
+    is.extent ∙ ap (λ (l : List Put). extent_after l extent) c.pair_of.ensures
     ∙ extent_after-pair c.args.kept c.args.freed c.args.written.now extent (below c.args.kept two.kept_live) (below c.args.freed two.freed_live))
-    c.apply.ensures.extent
+    c.apply.ensures.committed

@@ -4,8 +4,8 @@ use Rattle.ss_catalog.specs.declared.stream_id.StreamId.{StreamId}
 use Rattle.ss_recover.specs.Walk.{TakesFirst}
 use Rattle.ss_recover.proofs.walking.Walk.begin.Goals as goal
 
-pub returns-clause-ok : goal.returns-clause-ok
-returns-clause-ok c =
+pub returns : goal.returns
+returns c =
     subst (TakesFirst c.args.self.now _ c.args.found.now.slot) (sym c.in-Stream.is)
     (record {
       stream = c.in_ok-new.field-0;

@@ -7,7 +7,7 @@ pub returns-then-branch : goal.returns-then-branch
 returns-then-branch g c = (
   c.leave.new.self,
   subst (LeavesStream c.args.self.now c.leave.new.self) c.stream_of-id.ensures c.in_ok-leave.ensures,
-  tells-true c.in_ok-put.field-0 _ _ c.in_ok-put.ensures.ok c.if-branch.true,
+  tells-true c.in_ok-put.field-0 _ _ c.in_ok-put.ensures c.if-branch.true,
 )
 
 pub returns-else-branch : goal.returns-else-branch
@@ -17,6 +17,6 @@ returns-else-branch g c =
       (
         c.leave.new.self,
         subst (LeavesStream c.args.self.now c.leave.new.self) c.stream_of-id.ensures c.in_ok-leave.ensures,
-        tells-false c.in_ok-put.field-0 _ _ c.in_ok-put.ensures.ok c.if-branch.false,
+        tells-false c.in_ok-put.field-0 _ _ c.in_ok-put.ensures c.if-branch.false,
       ),
     )

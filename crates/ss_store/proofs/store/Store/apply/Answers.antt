@@ -1,98 +1,102 @@
-use Rattle.std.proofs.Common.{◌≡◌, ◌∙◌, Some, Err, ap, sym, subst, w64, rules}
-use Rattle.std.specs.Prelude.{◌↔◌, FitsSigned}
+use Rattle.std.proofs.Common.{◌≡◌, ◌∙◌, ap, rules, sym, subst, w64}
+use Rattle.std.specs.Prelude.{FitsSigned}
 use mir.Val.{to_z, of_z}
+use Rattle.ss_outside.specs.Disk.{DiskView}
 use Rattle.ss_catalog.specs.Events.{IsInTime}
+use Rattle.ss_catalog.specs.declared.event.Event.{Event}
 use Rattle.ss_catalog.specs.declared.event.Event.TheVariants.{Value}
 use Rattle.ss_model.specs.History.{CanBeSaid}
-use Rattle.ss_store.specs.Calls.{StepsState}
-use Rattle.ss_store.specs.Kept.{refuses_held}
-use Rattle.ss_store.specs.declared.error.ApplyError.TheVariants.{Refused}
-use Rattle.ss_store.proofs.KeptStates.{AllAgree-recovered}
-use Rattle.ss_store.proofs.Stepping.{AddsEvent-step, IsRefusedBy}
+use Rattle.ss_store.specs.Applied.{Applies}
+use Rattle.ss_store.proofs.Stepping.{AddsEvent-applied}
 use Rattle.ss_store.proofs.store.Store.apply.Goals as goal
 
-pub returns-in-Create-clause-refused : goal.returns-in-Create-clause-refused
-returns-in-Create-clause-refused g c runs r =
+pub returns-in-Create-clause-applies : goal.returns-in-Create-clause-applies
+returns-in-Create-clause-applies g c runs =
     let is = c.in-Create.is in
-    subst (λ e. (c.create.result ≡ Err (Refused r)) ↔ (refuses_held c.args.self.now.streams e ≡ Some r)) (sym is) (c.create.ensures.refused r)
+    subst (λ (e : Event). Applies e c.args.self.now c.apply_create.new.self (g.D.Disk.seen c.args.disk.now) (g.D.Disk.seen c.apply_create.new.disk) c.apply_create.result)
+    (sym is) c.apply_create.ensures.applies
 
 pub returns-in-Create-clause-history : goal.returns-in-Create-clause-history
-returns-in-Create-clause-history g c told runs =
+returns-in-Create-clause-history g c runs told =
     let is = c.in-Create.is in
-    let steps : StepsState c.args.event.now (g.D.Disk.seen c.args.disk.now).told (g.D.Disk.seen c.create.new.disk).told c.create.result =
-    subst (λ e. StepsState e (g.D.Disk.seen c.args.disk.now).told (g.D.Disk.seen c.create.new.disk).told c.create.result) (sym is) (c.create.ensures.step told) in
-    let exactly : IsRefusedBy (refuses_held c.args.self.now.streams c.args.event.now) c.create.result =
-    subst (λ e. IsRefusedBy (refuses_held c.args.self.now.streams e) c.create.result) (sym is) c.create.ensures.refused in
-    AddsEvent-step c.args.event.now (g.D.Disk.seen c.args.disk.now).told c.create.new.disk c.args.self.now.streams c.create.result (g.met.D.Disk.knows_now c.args.disk.now told)
-    (subst (λ e. CanBeSaid e) (sym is) tt) steps c.create.ensures.uncalled exactly
-    (λ streams is_now. AllAgree-recovered c.args.self.now (g.D.Disk.seen c.args.disk.now).told.content streams (c.requires.one_disk told runs) is_now)
+    let old = g.D.Disk.seen c.args.disk.now in
+    let new = g.D.Disk.seen c.apply_create.new.disk in
+    let applied = subst (λ (e : Event). Applies e c.args.self.now c.apply_create.new.self old new c.apply_create.result) (sym is) c.apply_create.ensures.applies in
+    AddsEvent-applied c.args.event.now c.args.self.now c.apply_create.new.self (λ d. g.D.Disk.seen d) c.args.disk.now c.apply_create.new.disk c.apply_create.result applied
+    (subst (λ e. CanBeSaid e) (sym is) tt)
+    c.apply_create.ensures.uncalled told (g.met.D.Disk.knows_now c.args.disk.now told)
+    (c.requires.one_disk runs told)
 
-pub returns-then-has_open-clause-refused : goal.returns-then-has_open-clause-refused
-returns-then-has_open-clause-refused g c runs r =
+pub returns-then-has_open-clause-applies : goal.returns-then-has_open-clause-applies
+returns-then-has_open-clause-applies g c runs =
     let back : to_z w64 (of_z w64 c.in-Value.v) ≡ c.in-Value.v = search rules in
     let is = c.in-Value.is ∙ ap (λ x. Value c.in-Value.name c.in-Value.t x) (sym back) in
-    subst (λ e. (c.mark.result ≡ Err (Refused r)) ↔ (refuses_held c.args.self.now.streams e ≡ Some r)) (sym is) (c.mark.ensures.refused r)
+    subst (λ (e : Event). Applies e c.args.self.now c.apply_mark.new.self (g.D.Disk.seen c.args.disk.now) (g.D.Disk.seen c.apply_mark.new.disk) c.apply_mark.result)
+    (sym is) c.apply_mark.ensures.applies
 
 pub returns-then-has_open-clause-history : goal.returns-then-has_open-clause-history
-returns-then-has_open-clause-history g c told runs =
+returns-then-has_open-clause-history g c runs told =
     let back : to_z w64 (of_z w64 c.in-Value.v) ≡ c.in-Value.v = search rules in
+    let is = c.in-Value.is ∙ ap (λ x. Value c.in-Value.name c.in-Value.t x) (sym back) in
     let fits : FitsSigned w64 c.in-Value.v = search rules in
-    let is = c.in-Value.is ∙ ap (λ x. Value c.in-Value.name c.in-Value.t x) (sym back) in
-    let steps : StepsState c.args.event.now (g.D.Disk.seen c.args.disk.now).told (g.D.Disk.seen c.mark.new.disk).told c.mark.result =
-    subst (λ e. StepsState e (g.D.Disk.seen c.args.disk.now).told (g.D.Disk.seen c.mark.new.disk).told c.mark.result) (sym is) (c.mark.ensures.step told) in
-    let exactly : IsRefusedBy (refuses_held c.args.self.now.streams c.args.event.now) c.mark.result =
-    subst (λ e. IsRefusedBy (refuses_held c.args.self.now.streams e) c.mark.result) (sym is) c.mark.ensures.refused in
-    AddsEvent-step c.args.event.now (g.D.Disk.seen c.args.disk.now).told c.mark.new.disk c.args.self.now.streams c.mark.result (g.met.D.Disk.knows_now c.args.disk.now told)
-    (subst (λ e. CanBeSaid e) (sym c.in-Value.is) (subst (λ e. IsInTime e) c.in-Value.is c.requires.in_time, fits)) steps c.mark.ensures.uncalled exactly
-    (λ streams is_now. AllAgree-recovered c.args.self.now (g.D.Disk.seen c.args.disk.now).told.content streams (c.requires.one_disk told runs) is_now)
+    let old = g.D.Disk.seen c.args.disk.now in
+    let new = g.D.Disk.seen c.apply_mark.new.disk in
+    let applied = subst (λ (e : Event). Applies e c.args.self.now c.apply_mark.new.self old new c.apply_mark.result) (sym is) c.apply_mark.ensures.applies in
+    AddsEvent-applied c.args.event.now c.args.self.now c.apply_mark.new.self (λ d. g.D.Disk.seen d) c.args.disk.now c.apply_mark.new.disk c.apply_mark.result applied
+    (subst (λ e. CanBeSaid e) (sym c.in-Value.is) (subst (λ e. IsInTime e) c.in-Value.is c.requires.in_time, fits))
+    c.apply_mark.ensures.uncalled told (g.met.D.Disk.knows_now c.args.disk.now told)
+    (c.requires.one_disk runs told)
 
-pub returns-else-has_open-clause-refused : goal.returns-else-has_open-clause-refused
-returns-else-has_open-clause-refused g c runs r =
+pub returns-else-has_open-clause-applies : goal.returns-else-has_open-clause-applies
+returns-else-has_open-clause-applies g c runs =
     let back : to_z w64 (of_z w64 c.in-Value.v) ≡ c.in-Value.v = search rules in
     let is = c.in-Value.is ∙ ap (λ x. Value c.in-Value.name c.in-Value.t x) (sym back) in
-    subst (λ e. (c.append.result ≡ Err (Refused r)) ↔ (refuses_held c.args.self.now.streams e ≡ Some r)) (sym is) (c.append.ensures.refused r)
+    subst (λ (e : Event). Applies e c.args.self.now c.apply_value.new.self (g.D.Disk.seen c.args.disk.now) (g.D.Disk.seen c.apply_value.new.disk) c.apply_value.result)
+    (sym is) c.apply_value.ensures.applies
 
 pub returns-else-has_open-clause-history : goal.returns-else-has_open-clause-history
-returns-else-has_open-clause-history g c told runs =
+returns-else-has_open-clause-history g c runs told =
     let back : to_z w64 (of_z w64 c.in-Value.v) ≡ c.in-Value.v = search rules in
-    let fits : FitsSigned w64 c.in-Value.v = search rules in
     let is = c.in-Value.is ∙ ap (λ x. Value c.in-Value.name c.in-Value.t x) (sym back) in
-    let steps : StepsState c.args.event.now (g.D.Disk.seen c.args.disk.now).told (g.D.Disk.seen c.append.new.disk).told c.append.result =
-    subst (λ e. StepsState e (g.D.Disk.seen c.args.disk.now).told (g.D.Disk.seen c.append.new.disk).told c.append.result) (sym is) (c.append.ensures.step told) in
-    let exactly : IsRefusedBy (refuses_held c.args.self.now.streams c.args.event.now) c.append.result =
-    subst (λ e. IsRefusedBy (refuses_held c.args.self.now.streams e) c.append.result) (sym is) c.append.ensures.refused in
-    AddsEvent-step c.args.event.now (g.D.Disk.seen c.args.disk.now).told c.append.new.disk c.args.self.now.streams c.append.result (g.met.D.Disk.knows_now c.args.disk.now told)
-    (subst (λ e. CanBeSaid e) (sym c.in-Value.is) (subst (λ e. IsInTime e) c.in-Value.is c.requires.in_time, fits)) steps c.append.ensures.uncalled exactly
-    (λ streams is_now. AllAgree-recovered c.args.self.now (g.D.Disk.seen c.args.disk.now).told.content streams (c.requires.one_disk told runs) is_now)
+    let fits : FitsSigned w64 c.in-Value.v = search rules in
+    let old = g.D.Disk.seen c.args.disk.now in
+    let new = g.D.Disk.seen c.apply_value.new.disk in
+    let applied = subst (λ (e : Event). Applies e c.args.self.now c.apply_value.new.self old new c.apply_value.result) (sym is) c.apply_value.ensures.applies in
+    AddsEvent-applied c.args.event.now c.args.self.now c.apply_value.new.self (λ d. g.D.Disk.seen d) c.args.disk.now c.apply_value.new.disk c.apply_value.result applied
+    (subst (λ e. CanBeSaid e) (sym c.in-Value.is) (subst (λ e. IsInTime e) c.in-Value.is c.requires.in_time, fits))
+    c.apply_value.ensures.uncalled told (g.met.D.Disk.knows_now c.args.disk.now told)
+    (c.requires.one_disk runs told)
 
-pub returns-in-Open-clause-refused : goal.returns-in-Open-clause-refused
-returns-in-Open-clause-refused g c runs r =
+pub returns-in-Open-clause-applies : goal.returns-in-Open-clause-applies
+returns-in-Open-clause-applies g c runs =
     let is = c.in-Open.is in
-    subst (λ e. (c.mark-in-Open.result ≡ Err (Refused r)) ↔ (refuses_held c.args.self.now.streams e ≡ Some r)) (sym is) (c.mark-in-Open.ensures.refused r)
+    subst (λ (e : Event). Applies e c.args.self.now c.apply_mark-in-Open.new.self (g.D.Disk.seen c.args.disk.now) (g.D.Disk.seen c.apply_mark-in-Open.new.disk) c.apply_mark-in-Open.result)
+    (sym is) c.apply_mark-in-Open.ensures.applies
 
 pub returns-in-Open-clause-history : goal.returns-in-Open-clause-history
-returns-in-Open-clause-history g c told runs =
+returns-in-Open-clause-history g c runs told =
     let is = c.in-Open.is in
-    let steps : StepsState c.args.event.now (g.D.Disk.seen c.args.disk.now).told (g.D.Disk.seen c.mark-in-Open.new.disk).told c.mark-in-Open.result =
-    subst (λ e. StepsState e (g.D.Disk.seen c.args.disk.now).told (g.D.Disk.seen c.mark-in-Open.new.disk).told c.mark-in-Open.result) (sym is) (c.mark-in-Open.ensures.step told) in
-    let exactly : IsRefusedBy (refuses_held c.args.self.now.streams c.args.event.now) c.mark-in-Open.result =
-    subst (λ e. IsRefusedBy (refuses_held c.args.self.now.streams e) c.mark-in-Open.result) (sym is) c.mark-in-Open.ensures.refused in
-    AddsEvent-step c.args.event.now (g.D.Disk.seen c.args.disk.now).told c.mark-in-Open.new.disk c.args.self.now.streams c.mark-in-Open.result (g.met.D.Disk.knows_now c.args.disk.now told)
-    (subst (λ e. CanBeSaid e) (sym is) (subst (λ e. IsInTime e) is c.requires.in_time)) steps c.mark-in-Open.ensures.uncalled exactly
-    (λ streams is_now. AllAgree-recovered c.args.self.now (g.D.Disk.seen c.args.disk.now).told.content streams (c.requires.one_disk told runs) is_now)
+    let old = g.D.Disk.seen c.args.disk.now in
+    let new = g.D.Disk.seen c.apply_mark-in-Open.new.disk in
+    let applied = subst (λ (e : Event). Applies e c.args.self.now c.apply_mark-in-Open.new.self old new c.apply_mark-in-Open.result) (sym is) c.apply_mark-in-Open.ensures.applies in
+    AddsEvent-applied c.args.event.now c.args.self.now c.apply_mark-in-Open.new.self (λ d. g.D.Disk.seen d) c.args.disk.now c.apply_mark-in-Open.new.disk c.apply_mark-in-Open.result applied
+    (subst (λ e. CanBeSaid e) (sym is) (subst (λ e. IsInTime e) is c.requires.in_time))
+    c.apply_mark-in-Open.ensures.uncalled told (g.met.D.Disk.knows_now c.args.disk.now told)
+    (c.requires.one_disk runs told)
 
-pub returns-in-Close-clause-refused : goal.returns-in-Close-clause-refused
-returns-in-Close-clause-refused g c runs r =
+pub returns-in-Close-clause-applies : goal.returns-in-Close-clause-applies
+returns-in-Close-clause-applies g c runs =
     let is = c.in-Close.is in
-    subst (λ e. (c.mark-in-Close.result ≡ Err (Refused r)) ↔ (refuses_held c.args.self.now.streams e ≡ Some r)) (sym is) (c.mark-in-Close.ensures.refused r)
+    subst (λ (e : Event). Applies e c.args.self.now c.apply_mark-in-Close.new.self (g.D.Disk.seen c.args.disk.now) (g.D.Disk.seen c.apply_mark-in-Close.new.disk) c.apply_mark-in-Close.result)
+    (sym is) c.apply_mark-in-Close.ensures.applies
 
 pub returns-in-Close-clause-history : goal.returns-in-Close-clause-history
-returns-in-Close-clause-history g c told runs =
+returns-in-Close-clause-history g c runs told =
     let is = c.in-Close.is in
-    let steps : StepsState c.args.event.now (g.D.Disk.seen c.args.disk.now).told (g.D.Disk.seen c.mark-in-Close.new.disk).told c.mark-in-Close.result =
-    subst (λ e. StepsState e (g.D.Disk.seen c.args.disk.now).told (g.D.Disk.seen c.mark-in-Close.new.disk).told c.mark-in-Close.result) (sym is) (c.mark-in-Close.ensures.step told) in
-    let exactly : IsRefusedBy (refuses_held c.args.self.now.streams c.args.event.now) c.mark-in-Close.result =
-    subst (λ e. IsRefusedBy (refuses_held c.args.self.now.streams e) c.mark-in-Close.result) (sym is) c.mark-in-Close.ensures.refused in
-    AddsEvent-step c.args.event.now (g.D.Disk.seen c.args.disk.now).told c.mark-in-Close.new.disk c.args.self.now.streams c.mark-in-Close.result (g.met.D.Disk.knows_now c.args.disk.now told)
-    (subst (λ e. CanBeSaid e) (sym is) (subst (λ e. IsInTime e) is c.requires.in_time)) steps c.mark-in-Close.ensures.uncalled exactly
-    (λ streams is_now. AllAgree-recovered c.args.self.now (g.D.Disk.seen c.args.disk.now).told.content streams (c.requires.one_disk told runs) is_now)
+    let old = g.D.Disk.seen c.args.disk.now in
+    let new = g.D.Disk.seen c.apply_mark-in-Close.new.disk in
+    let applied = subst (λ (e : Event). Applies e c.args.self.now c.apply_mark-in-Close.new.self old new c.apply_mark-in-Close.result) (sym is) c.apply_mark-in-Close.ensures.applies in
+    AddsEvent-applied c.args.event.now c.args.self.now c.apply_mark-in-Close.new.self (λ d. g.D.Disk.seen d) c.args.disk.now c.apply_mark-in-Close.new.disk c.apply_mark-in-Close.result applied
+    (subst (λ e. CanBeSaid e) (sym is) (subst (λ e. IsInTime e) is c.requires.in_time))
+    c.apply_mark-in-Close.ensures.uncalled told (g.met.D.Disk.knows_now c.args.disk.now told)
+    (c.requires.one_disk runs told)

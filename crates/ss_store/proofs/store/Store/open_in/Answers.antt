@@ -1,11 +1,14 @@
-use Rattle.std.proofs.Common.{◌≡◌, ◌∙◌, sym, ap, subst, arith, false, length, map, vec_len, List, Vec, Ok, Err}
+use Rattle.std.proofs.Common.{◌≡◌, ◌∙◌, sym, ap, subst, arith, false, length, map, refl, vec_len, List, Vec}
 use Rattle.std.specs.Global.{Global}
 use Rattle.std.specs.Vec.{with_items}
 use Rattle.std.proofs.lemmas.List.{length-map, with_items_is}
+use Rattle.std.proofs.lemmas.Result.{err_from_is_err_and}
+use Rattle.ss_journal.proofs.StepLemmas.{after-step, step-from, step-next}
 use Rattle.ss_recover.specs.declared.parts.StreamParts.{StreamParts}
 use Rattle.ss_store.specs.Kept.{IsSound, StoreState, entry_of}
-use Rattle.ss_store.specs.Rebuilt.{IsRebuilt}
-use Rattle.ss_store.proofs.Opens.{KeepsState-closed, KeepsState-unclosed, OpensAs-closed, StoreIsKept-closed, held_read}
+use Rattle.ss_store.specs.declared.error.OpenError.TheVariants.{OutOfMemory}
+use Rattle.ss_store.proofs.Opens.{OpensStore-closed, OpensStore-read, OpensStore-unclosed, verdict-fault}
+use Rattle.ss_store.proofs.Steps.{step-handed}
 use Rattle.ss_store.proofs.store.Store.open_in.Goals as goal
 
 -- the streams as closing left them, in their place
@@ -13,20 +16,6 @@ items_are : (v : Vec StreamParts Global) (now was : List StreamParts) → map en
     (with_items v now).items ≡ now
 items_are v now was entries long =
     with_items_is v now (omega (arith, length-map now entry_of, length-map was entry_of, ap length entries, long))
-
-pub returns-in_err-settle_all-clause-state : goal.returns-in_err-settle_all-clause-state
-returns-in_err-settle_all-clause-state g c told =
-    let old = (g.D.Disk.seen c.args.disk.now).told in
-    let read = (g.D.Disk.seen c.read_all.new.disk).told in
-    let new = (g.D.Disk.seen c.settle_all.new.disk).told in
-    let parts = c.deref_mut.result.now in
-    let now = c.settle_all.new.streams in
-    let told_read = c.read_all.ensures.tells ∙ told in
-    let is : IsRebuilt parts old.content = rw c.deref_mut.ensures.value (c.in_ok-records.ensures.rebuilt told) in
-    let reads = c.read_all.ensures.reads told in
-    let knows = g.met.D.Disk.knows_now c.args.disk.now told in
-    KeepsState-unclosed parts now old read new knows is reads (Err c.in_err-settle_all.field-0.0) c.from_residual-in_err-settle_all.result
-    (c.in_err-settle_all.ensures.closes told_read is.streams is.state is.agree) c.from_residual-in_err-settle_all.ensures.0
 
 pub invariant_of-result : goal.invariant_of-result
 invariant_of-result g c =
@@ -38,61 +27,43 @@ invariant_of-result g c =
     (sym (items_are c.in_ok-records.streams now c.deref_mut.result.now entries c.deref_mut.ensures.len))
     (record { listed = listed; numbers = whole.numbers; settled = λ runs. c.in_ok-settle_all.ensures.settled; whole = λ runs. whole })
 
+pub returns-in_err-records-clause-opens : goal.returns-in_err-records-clause-opens
+returns-in_err-records-clause-opens g c =
+    let p = err_from_is_err_and c.from_residual.result c.from_residual.ensures.1 in
+    rw (p.1, p.2)
+    (step-from c.in_err-records.ensures.reads (λ told read.
+    OpensStore-read c.in_err-records.field-0.0 _ _ (g.met.D.Disk.knows_now c.args.disk.now told) read.reads read.opens))
+
+pub returns-in_err-catalog-clause-opens : goal.returns-in_err-catalog-clause-opens
+returns-in_err-catalog-clause-opens g c =
+    let p = err_from_is_err_and c.from_residual-in_err-catalog.result c.from_residual-in_err-catalog.ensures.1 in
+    let step = c.in_ok-records.ensures.reads in
+    rw (p.1, p.2)
+    (record {
+      tells = step.tells;
+      counted = step.counted;
+      told = λ told. OpensStore-read OutOfMemory _ _ (g.met.D.Disk.knows_now c.args.disk.now told) (step.told told).reads tt;
+    })
+
+pub returns-in_err-settle_all-clause-opens : goal.returns-in_err-settle_all-clause-opens
+returns-in_err-settle_all-clause-opens g c =
+    let parts = c.deref_mut.result.now in
+    let why = c.in_err-settle_all.field-0.0 in
+    let p = err_from_is_err_and c.from_residual-in_err-settle_all.result c.from_residual-in_err-settle_all.ensures.1 in
+    rw (p.1, p.2)
+    (step-handed (verdict-fault (Unit {0}) (Unit {0}) why) c.in_ok-records.ensures.reads c.in_err-settle_all.ensures.closes (λ told read closes.
+    OpensStore-unclosed parts c.settle_all.new.streams _ _ _ (g.met.D.Disk.knows_now c.args.disk.now told) (rw c.deref_mut.ensures.value read.rebuilt)
+    read.reads c.settle_all.new.records why closes))
+
+pub settle_all-requires-clause-one_disk : goal.settle_all-requires-clause-one_disk
+settle_all-requires-clause-one_disk g c = after-step c.in_ok-records.ensures.reads (λ told has. has.kept)
+
 pub returns-clause-opens : goal.returns-clause-opens
-returns-clause-opens g c told =
-    let old = (g.D.Disk.seen c.args.disk.now).told in
-    let read = (g.D.Disk.seen c.read_all.new.disk).told in
-    let new = (g.D.Disk.seen c.settle_all.new.disk).told in
+returns-clause-opens g c =
     let parts = c.deref_mut.result.now in
     let now = c.settle_all.new.streams in
-    let told_read = c.read_all.ensures.tells ∙ told in
-    let is : IsRebuilt parts old.content = rw c.deref_mut.ensures.value (c.in_ok-records.ensures.rebuilt told) in
-    let reads = c.read_all.ensures.reads told in
-    let knows = g.met.D.Disk.knows_now c.args.disk.now told in
-    let has = held_read parts now old read new knows is reads in
-    let agree = (c.in_ok-settle_all.ensures.agree told_read is.streams is.state is.agree has).0 in
     let same = items_are c.in_ok-records.streams now parts c.in_ok-settle_all.ensures.entries c.deref_mut.ensures.len in
-    let store : StoreState = record {
-      streams = (with_items c.in_ok-records.streams now).items;
-      records = c.settle_all.new.records;
-      stopped = false;
-    } in
-    OpensAs-closed parts now old read new knows is reads store (rw same agree)
-
-pub returns-clause-one_disk : goal.returns-clause-one_disk
-returns-clause-one_disk g c told =
-    let old = (g.D.Disk.seen c.args.disk.now).told in
-    let read = (g.D.Disk.seen c.read_all.new.disk).told in
-    let new = (g.D.Disk.seen c.settle_all.new.disk).told in
-    let parts = c.deref_mut.result.now in
-    let now = c.settle_all.new.streams in
-    let told_read = c.read_all.ensures.tells ∙ told in
-    let is : IsRebuilt parts old.content = rw c.deref_mut.ensures.value (c.in_ok-records.ensures.rebuilt told) in
-    let reads = c.read_all.ensures.reads told in
-    let knows = g.met.D.Disk.knows_now c.args.disk.now told in
-    let has = held_read parts now old read new knows is reads in
-    let agree = (c.in_ok-settle_all.ensures.agree told_read is.streams is.state is.agree has).0 in
-    let same = items_are c.in_ok-records.streams now parts c.in_ok-settle_all.ensures.entries c.deref_mut.ensures.len in
-    let store : StoreState = record {
-      streams = (with_items c.in_ok-records.streams now).items;
-      records = c.settle_all.new.records;
-      stopped = false;
-    } in
-    let closes = c.in_ok-settle_all.ensures.closes told_read is.streams is.state is.agree in
-    StoreIsKept-closed parts now old read new knows is reads store closes (c.in_ok-settle_all.ensures.one_disk told_read) same agree
-
-pub returns-clause-state : goal.returns-clause-state
-returns-clause-state g c told =
-    let old = (g.D.Disk.seen c.args.disk.now).told in
-    let read = (g.D.Disk.seen c.read_all.new.disk).told in
-    let new = (g.D.Disk.seen c.settle_all.new.disk).told in
-    let parts = c.deref_mut.result.now in
-    let now = c.settle_all.new.streams in
-    let told_read = c.read_all.ensures.tells ∙ told in
-    let is : IsRebuilt parts old.content = rw c.deref_mut.ensures.value (c.in_ok-records.ensures.rebuilt told) in
-    let reads = c.read_all.ensures.reads told in
-    let knows = g.met.D.Disk.knows_now c.args.disk.now told in
-    let has = held_read parts now old read new knows is reads in
-    let agree = (c.in_ok-settle_all.ensures.agree told_read is.streams is.state is.agree has).0 in
-    let closes = c.in_ok-settle_all.ensures.closes told_read is.streams is.state is.agree in
-    KeepsState-closed parts now old read new knows is reads c.in_ok-settle_all.field-0 (Ok _) closes agree
+    let store : StoreState = record { streams = (with_items c.in_ok-records.streams now).items; records = c.settle_all.new.records; stopped = false } in
+    step-next c.in_ok-records.ensures.reads c.in_ok-settle_all.ensures.closes (λ told told_read read closes.
+    OpensStore-closed parts now _ _ _ (g.met.D.Disk.knows_now c.args.disk.now told) (rw c.deref_mut.ensures.value read.rebuilt) read.reads
+    c.settle_all.new.records store closes same refl)

@@ -1,47 +1,29 @@
-use Rattle.std.proofs.Common.{◌≡◌, subst, sym, Some}
-use Rattle.std.specs.Prelude.{IsSome, slice_get}
+use Rattle.std.proofs.Common.{ap, refl, subst, sym, ◌∙◌}
+use Rattle.std.specs.Prelude.{IfSome}
 use Rattle.std.specs.List.Sorted.{IsStrictlyIncreasing}
+use Rattle.ss_line.specs.Line.{entry_at}
+use Rattle.ss_line.specs.declared.entry.Entry.{Entry}
 use Rattle.ss_model.specs.declared.types.Placed.{Placed}
 use Rattle.ss_summary.specs.Figures.{Figures}
 use Rattle.ss_store.specs.Kept.{StoreState, numbers_held, part_numbered}
-use Rattle.ss_store.proofs.AskedStreams.{read-at}
-use Rattle.ss_store.proofs.WindowsRead.{changed-reading, entry-read, firm-read, window-read}
+use Rattle.ss_store.proofs.Looking.{IfChanged-ask, IsPartAt-read, Looks-failed}
+use Rattle.ss_store.proofs.WindowsRead.{IsFirm-read, entry-read, shows-read}
 use Rattle.ss_store.proofs.store.Store.read_in.Goals as goal
 
 pub place_of-requires-clause-rising : goal.place_of-requires-clause-rising
 place_of-requires-clause-rising g c = subst (λ l. IsStrictlyIncreasing (numbers_held l)) (sym c.deref.ensures.value) c.self.invariant.numbers
 
-pub returns-in-Ok-clause-window : goal.returns-in-Ok-clause-window
-returns-in-Ok-clause-window g c told streams recovers =
-    let now = c.args.self.now in
-    let number = c.args.id.0 in
-    let items = c.self.inside.streams.items in
-    let read = c.index-part.result.now in
-    let at : slice_get items c.place_of.result ≡ part_numbered number items =
-    subst (λ l. slice_get l c.place_of.result ≡ part_numbered number l) c.deref.ensures.value c.place_of.ensures.at in
-    let stands : IsSome (part_numbered number items) = subst (λ (s : StoreState). IsSome (part_numbered number s.streams)) (sym c.self.view_is) c.requires.stands in
-    let found : part_numbered number items ≡ Some read = read-at items c.place_of.result (part_numbered number items) read at stands c.index-part.ensures in
-    let numbered : part_numbered number now.streams ≡ Some read = subst (λ (s : StoreState). part_numbered number s.streams ≡ Some read) c.self.view_is found in
-    window-read now (g.D.Disk.seen c.args.disk.now).told.content number read c.args.at c.entry-entry.result c.in-Ok.summary (c.requires.one_disk told) numbered
-    (entry-read (part_numbered number now.streams) read c.args.at c.entry-entry.result numbered c.entry-entry.ensures.entry) (c.in-Ok.ensures.window told)
-    streams recovers
+pub returns-in-Ok-clause-shows : goal.returns-in-Ok-clause-shows
+returns-in-Ok-clause-shows g c =
+    let streams = ap (λ (s : StoreState). s.streams) c.self.view_is in
+    let part = IsPartAt-read c.deref.ensures.value streams c.place_of.ensures.at c.requires.stands c.index-part.ensures in
+    shows-read c.read_window.new.records c.args.self.now c.args.id.0 c.args.at part.numbered (entry-read c.args.at part.numbered c.entry-entry.ensures.entry) c.requires.one_disk c.in-Ok.summary c.in-Ok.ensures.reads
 
-pub returns-in-Err-clause-firm : goal.returns-in-Err-clause-firm
-returns-in-Err-clause-firm g c told =
-    let now = c.args.self.now in
-    let number = c.args.id.0 in
-    let items = c.self.inside.streams.items in
-    let read = c.index-part.result.now in
-    let at : slice_get items c.place_of.result ≡ part_numbered number items =
-    subst (λ l. slice_get l c.place_of.result ≡ part_numbered number l) c.deref.ensures.value c.place_of.ensures.at in
-    let stands : IsSome (part_numbered number items) = subst (λ (s : StoreState). IsSome (part_numbered number s.streams)) (sym c.self.view_is) c.requires.stands in
-    let found : part_numbered number items ≡ Some read = read-at items c.place_of.result (part_numbered number items) read at stands c.index-part.ensures in
-    let numbered : part_numbered number now.streams ≡ Some read = subst (λ (s : StoreState). part_numbered number s.streams ≡ Some read) c.self.view_is found in
-    firm-read Placed now (g.D.Disk.seen c.args.disk.now).told.content number read c.args.at c.entry-entry.result c.in-Err.fault c.from.result (c.requires.one_disk told)
-    numbered (entry-read (part_numbered number now.streams) read c.args.at c.entry-entry.result numbered c.entry-entry.ensures.entry)
-    (c.in-Err.ensures.window told) c.from.ensures
-
-pub returns-in-Err-clause-changed : goal.returns-in-Err-clause-changed
-returns-in-Err-clause-changed g c =
-    changed-reading Figures Placed (part_numbered c.args.id.0 c.args.self.now.streams) c.args.at c.entry-entry.result c.in-Err.fault c.from.result c.entry-entry.ensures.entry
-    c.in-Err.ensures.changed c.from.ensures
+pub returns-in-Err-clause-looks : goal.returns-in-Err-clause-looks
+returns-in-Err-clause-looks g c =
+    let streams = ap (λ (s : StoreState). s.streams) c.self.view_is in
+    let part = IsPartAt-read c.deref.ensures.value streams c.place_of.ensures.at c.requires.stands c.index-part.ensures in
+    Looks-failed Placed c.in-Err.error c.from.result c.args.self.now _ c.from.ensures refl streams
+    (c.in-Err.ensures.records.live ∙ ap (λ (s : StoreState). s.records.live) c.self.view_is)
+    (IsFirm-read c.read_window.new.records c.args.self.now c.args.id.0 c.args.at part.numbered (entry-read c.args.at part.numbered c.entry-entry.ensures.entry) c.requires.one_disk c.in-Err.error
+    c.in-Err.ensures.reads)

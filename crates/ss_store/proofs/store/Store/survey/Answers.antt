@@ -1,9 +1,10 @@
 use Rattle.std.proofs.Common.{◌≤◌, arith, length, flat_map}
 use Rattle.ss_journal.specs.declared.format.TheConstants.{MOST_SLOTS}
 use Rattle.ss_recover.specs.Held.{slots_held}
-use Rattle.ss_store.specs.Rebuilt.{IsRebuilt}
+use Rattle.std.proofs.lemmas.Result.{err_from_is_err_and}
+use Rattle.ss_outside.proofs.StepLemmas.{step-as}
 use Rattle.ss_store.proofs.LiveCounts.{live_count-slots}
-use Rattle.ss_store.proofs.SurveyAnswers.{SurveysAs-rebuilt}
+use Rattle.ss_store.proofs.SurveyAnswers.{SurveysAs-error, SurveysAs-rebuilt}
 use Rattle.ss_store.proofs.store.Store.survey.Goals as goal
 
 pub surveyed_in-requires-clause-few : goal.surveyed_in-requires-clause-few
@@ -13,8 +14,15 @@ surveyed_in-requires-clause-few g c =
     let few : length (flat_map slots_held parts) ≤ MOST_SLOTS = omega (arith, slots, c.live-live.ensures.value, c.live-live.ensures.most) in
     rw c.deref.ensures.value few
 
+pub returns-in_err-records-clause-surveys : goal.returns-in_err-records-clause-surveys
+returns-in_err-records-clause-surveys g c =
+    let why = c.in_err-records.field-0.0 in
+    let p = err_from_is_err_and c.from_residual.result c.from_residual.ensures.1 in
+    rw (p.1, p.2) (step-as c.in_err-records.ensures.reads (λ read. record { surveys = SurveysAs-error _ why read.opens; reads = read.reads }))
+
 pub returns-clause-surveys : goal.returns-clause-surveys
-returns-clause-surveys g c told =
-    let content = (g.D.Disk.seen c.args.disk.now).told.content in
-    let is : IsRebuilt c.deref.result.now content = rw c.deref.ensures.value (c.in_ok-records.ensures.rebuilt told) in
-    SurveysAs-rebuilt c.deref.result.now content c.surveyed_in.result is c.surveyed_in.ensures
+returns-clause-surveys g c =
+    step-as c.in_ok-records.ensures.reads (λ read. record {
+      surveys = SurveysAs-rebuilt c.deref.result.now _ c.surveyed_in.result (rw c.deref.ensures.value read.rebuilt) c.surveyed_in.ensures;
+      reads = read.reads;
+    })

@@ -1,0 +1,95 @@
+-- Worked rows: the verdicts of reading, which window may come next, and what is answered from what is known.
+use Rattle.std.proofs.Common.{◌≡◌, ℕ, [], ◌∷◌, map, refl, arith, None, Some, Err, Ok, pos}
+use Rattle.std.specs.Prelude.{◌-◌, ◌^◌}
+use Rattle.ss_outside.specs.Verdict.{changed, failed, fine}
+use Rattle.ss_catalog.specs.declared.query.Kind.TheVariants as kinds
+use Rattle.ss_landmarks.specs.declared.tally.Tally.{Tally}
+use Rattle.ss_model.specs.declared.outcome.Outcome.{Outcome}
+use Rattle.ss_model.specs.declared.outcome.Outcome.TheVariants.{Count, Sum}
+use Rattle.ss_model.specs.declared.types.Window.{Window}
+use Rattle.ss_records.specs.Kept.{RecordsState}
+use Rattle.ss_summary.specs.Figures.{Figures}
+use Rattle.ss_query.specs.Answered.{IsAnswered}
+use Rattle.ss_query.specs.Asked.{Follows, marks_seen, outcome_seen, seen_with}
+use Rattle.ss_query.specs.Reading.{IsRead, KeepsRecords, verdict_of_read}
+use Rattle.ss_query.specs.declared.asking.Seen.{Seen}
+use Rattle.ss_query.specs.declared.read_error.ReadError.TheVariants as error
+
+-- each error has its verdict
+verdicts-read : map (λ e. verdict_of_read {T = Unit {0}} (Err e)) (error.Disk ∷ error.Changed 7 ∷ []) ≡ failed ∷ changed 7 ∷ []
+verdicts-read = refl
+
+verdict-Ok : verdict_of_read {T = ℕ} (Ok 1) ≡ fine
+verdict-Ok = refl
+
+-- on a disk that tells no slot has changed, and what is answered is what is there
+IsRead-Changed : (summary : Figures) (slot : ℕ) → IsRead summary (Err (error.Changed slot)) → ⊥
+IsRead-Changed summary slot fact = fact
+
+IsRead-Ok : (summary read : Figures) → IsRead summary (Ok read) → read ≡ summary
+IsRead-Ok summary read fact = fact
+
+IsAnswered-Changed : (outcome : Outcome) (slot : ℕ) → IsAnswered outcome (Err (error.Changed slot)) → ⊥
+IsAnswered-Changed outcome slot fact = fact
+
+IsAnswered-Ok : (outcome answered : Outcome) → IsAnswered outcome (Ok answered) → answered ≡ outcome
+IsAnswered-Ok outcome answered fact = fact
+
+-- reading leaves the journal, unless the disk failed
+KeepsRecords-changed : {old new : RecordsState} (slot : ℕ) → KeepsRecords (changed slot) old new → new.journal ≡ old.journal
+KeepsRecords-changed slot keeps = keeps.journal
+
+-- two values of a landmark, 5 and 7, and a window of 3 values that add up to 9, at the times 10 to 30
+marked : Tally
+marked = record { count = 2; sum = pos 12; least = Some (pos 5); greatest = Some (pos 7) }
+
+window : ℕ → ℕ → Window
+window first count = record {
+  first = first;
+  summary = record { count = count; sum = pos 9; min = pos 2; max = pos 4; t_first = 10; t_last = 30 };
+}
+
+-- a window follows what was read where its positions and times do, up to 2^40 values
+seen_to : ℕ → ℕ → Seen
+seen_to taken next_time = record { marked = marked; whole = None; left = None; right = None; taken = taken; next_time = next_time }
+
+follows-first : Follows (seen_to 0 0) (window 1 3)
+unfolding seen_to window
+follows-first = (refl, omega arith, omega arith)
+
+follows-last : Follows (seen_to (2 ^ 40 - 3) 10) (window (2 ^ 40 - 2) 3)
+unfolding seen_to window
+follows-last = (refl, omega arith, omega arith)
+
+follows-too_many : Follows (seen_to (2 ^ 40 - 3) 10) (window (2 ^ 40 - 2) 4) → ⊥
+unfolding seen_to window
+follows-too_many follows = absurd (omega (arith, follows.1))
+
+follows-gap : Follows (seen_to 4 10) (window 6 3) → ⊥
+unfolding seen_to window
+follows-gap follows = absurd (omega (arith, follows.0))
+
+follows-early : Follows (seen_to 4 11) (window 5 3) → ⊥
+unfolding seen_to window
+follows-early follows = absurd (omega (arith, follows.2))
+
+-- a window that lies whole in the range counts with the landmarks; one that lies apart of it doesn't
+known : ℕ → Seen
+known from = seen_with [] from 40 (marks_seen marked) (window 1 3)
+
+whole-count : outcome_seen kinds.Count (known 10) ≡ Count 5 5
+unfolding known window marked
+whole-count = refl
+
+whole-sum : outcome_seen kinds.Sum (known 10) ≡ Sum (pos 21) (pos 21)
+unfolding known window marked
+whole-sum = refl
+
+apart-count : outcome_seen kinds.Count (known 31) ≡ Count 2 2
+unfolding known window marked
+apart-count = refl
+
+-- of one that the range splits the value at 30 counts, that at 10 doesn't, and the one between them may
+split-count : outcome_seen kinds.Count (known 20) ≡ Count 3 4
+unfolding known window marked
+split-count = refl

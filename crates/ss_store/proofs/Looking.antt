@@ -1,0 +1,63 @@
+-- A look at a store: the part that is read, and what a failure leaves.
+use Rattle.std.proofs.Common.{◌≡◌, ◌∙◌, ℕ, true, false, List, get_or, sym, ap, subst, Some, None, Err, IsTrue}
+use Rattle.std.specs.Prelude.{IsSome, Option, slice_get}
+use Rattle.ss_outside.specs.Disk.{DiskView}
+use Rattle.ss_outside.specs.Verdict.{IfChanged, IsFirm}
+use Rattle.ss_recover.specs.declared.parts.StreamParts.{StreamParts}
+use Rattle.ss_query.specs.Reading.{verdict_of_read}
+use Rattle.ss_query.specs.declared.read_error.ReadError.{ReadError}
+use Rattle.ss_query.specs.declared.read_error.ReadError.TheVariants as error
+use Rattle.ss_store.specs.Applied.{Looks}
+use Rattle.ss_store.specs.Errors.{ask_of_fault, verdict_of_ask}
+use Rattle.ss_store.specs.Kept.{StoreState, part_numbered}
+use Rattle.ss_store.specs.declared.error.AskError.{AskError}
+use Rattle.ss_store.proofs.Appended.{part-read}
+
+-- what is read at the place of a stream that stands
+read-at : (parts : List StreamParts) (place : ℕ) (o : Option StreamParts) (read : StreamParts) → slice_get parts place ≡ o → IsSome o →
+    read ≡ get_or parts place read → o ≡ Some read
+read-at parts place None read at some is = (let wrong : false ≡ true = some in cc)
+read-at parts place (Some part) read at some is = ap (λ (p : StreamParts). Some p) (part-read parts place part read at is)
+
+-- the part of a number, at its place
+pub record IsPartAt (parts : List StreamParts) (number place : ℕ) (part : StreamParts) : Type 0 where
+  pub numbered : part_numbered number parts ≡ Some part
+  pub at : slice_get parts place ≡ Some part
+
+pub IsPartAt-read : {items seen parts : List StreamParts} {number place : ℕ} {part : StreamParts} → seen ≡ items → items ≡ parts →
+    slice_get seen place ≡ part_numbered number seen → IsSome (part_numbered number parts) → part ≡ get_or items place part →
+    IsPartAt parts number place part
+IsPartAt-read {items} {seen} {parts} {number} {place} {part} first second at stands read =
+    let here : slice_get parts place ≡ part_numbered number parts = subst (λ l. slice_get l place ≡ part_numbered number l) (first ∙ second) at in
+    let is : part ≡ get_or parts place part = subst (λ l. part ≡ get_or l place part) second read in
+    let numbered = read-at parts place (part_numbered number parts) part here stands is in
+    record { numbered = numbered; at = here ∙ numbered }
+
+-- an error of reading, as a store answers it: no other verdict
+pub IfChanged-ask : (T U : Type 0) (P : ℕ → Type 0) (why : ReadError) (e : AskError) → e ≡ ask_of_fault why →
+    IfChanged (verdict_of_read {T = T} (Err why)) P → IfChanged (verdict_of_ask {T = U} (Err e)) P
+IfChanged-ask T U P error.Disk e is changed = subst (λ x. IfChanged (verdict_of_ask {T = U} (Err x)) P) (sym is) tt
+IfChanged-ask T U P (error.Changed slot) e is changed = subst (λ x. IfChanged (verdict_of_ask {T = U} (Err x)) P) (sym is) changed
+
+-- what is left where a look failed: the store has stopped
+pub Looks-failed : {before after : DiskView} (T : Type 0) (why : ReadError) (e : AskError) (old new : StoreState) → e ≡ ask_of_fault why →
+    new.stopped ≡ true → new.streams ≡ old.streams → new.records.live ≡ old.records.live →
+    (IsTrue before.tells → IsFirm (verdict_of_read {T = T} (Err why))) → Looks (verdict_of_ask {T = T} (Err e)) old new before after
+Looks-failed {before} {after} T error.Disk e old new is stopped streams live firm =
+    subst (λ x. Looks (verdict_of_ask {T = T} (Err x)) old new before after) (sym is) (record {
+      stands = λ runs. (let wrong : true ≡ false = sym stopped ∙ runs in cc);
+      streams = streams;
+      live = live;
+      journal = tt;
+      stops = stopped;
+      firm = λ told. tt;
+    })
+Looks-failed {before} {after} T (error.Changed slot) e old new is stopped streams live firm =
+    subst (λ x. Looks (verdict_of_ask {T = T} (Err x)) old new before after) (sym is) (record {
+      stands = λ runs. (let wrong : true ≡ false = sym stopped ∙ runs in cc);
+      streams = streams;
+      live = live;
+      journal = tt;
+      stops = stopped;
+      firm = λ told. absurd (firm told);
+    })

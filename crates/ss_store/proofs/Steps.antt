@@ -1,0 +1,15 @@
+-- Steps of a disk whose answer is told by another error type.
+use Rattle.std.proofs.Common.{◌≡◌, ◌∙◌, subst}
+use Rattle.std.specs.Prelude.{IsTrue}
+use Rattle.ss_outside.specs.Disk.{DiskView, Told}
+use Rattle.ss_outside.specs.Step.{Step}
+use Rattle.ss_outside.specs.Verdict.{Counted, Verdict, fine}
+
+-- a step that was fine and one more, by an answer of the same verdict as the second
+pub step-handed : {old mid new : DiskView} {v w : Verdict} {R Q S : Told → Told → Type 0} → v ≡ w → Step fine old mid R → Step v mid new Q →
+    (IsTrue old.tells → R old.told mid.told → Q mid.told new.told → S old.told new.told) → Step w old new S
+step-handed {old} {mid} {new} {v} same first second joins = record {
+  tells = second.tells ∙ first.tells;
+  counted = subst (λ u. Counted u old.faults new.faults) same (subst (λ before. Counted v before new.faults) first.counted second.counted);
+  told = λ told. joins told (first.told told) (second.told (first.tells ∙ told));
+}

@@ -1,0 +1,176 @@
+-- A store in which a stream takes a value outside landmarks: what is known before the call, and what the store does then.
+use Rattle.std.proofs.Common.{◌≡◌, ◌∙◌, ℕ, ℤ, ◌+◌, ◌<◌, ◌≤◌, Bool, true, false, List, get_or, slice_get, slice_set, length, ap, arith, refl, sym, subst, Err, None, Ok, Result, Some}
+use Rattle.ss_outside.specs.Disk.{DiskView, OfContent}
+use Rattle.ss_outside.specs.Step.{Step}
+use Rattle.ss_outside.specs.Verdict.{fine}
+use Rattle.ss_outside.proofs.StepLemmas.{step-as}
+use Rattle.ss_journal.proofs.StepLemmas.{step-from}
+use Rattle.ss_catalog.specs.declared.event.Event.TheVariants.{Value}
+use Rattle.ss_catalog.specs.declared.stream_id.StreamId.{StreamId}
+use Rattle.ss_line.specs.Line.{LineState}
+use Rattle.ss_model.specs.History.{CanBeSaid}
+use Rattle.ss_model.specs.declared.types.Ack.{Ack}
+use Rattle.ss_records.specs.Kept.{RecordsState}
+use Rattle.ss_recover.specs.Held.{entries_of, slots_held}
+use Rattle.ss_recover.specs.declared.parts.StreamParts.{StreamParts}
+use Rattle.ss_store.specs.Admitted.{IsTaker}
+use Rattle.ss_store.specs.Applied.{Applies, StandsOn}
+use Rattle.ss_store.specs.Changing.{CanAppend, ChangedIsHeld, HoldsUntil, KeepsWhole, NoneAreDue, TakesValue}
+use Rattle.ss_store.specs.Errors.{apply_of_fault}
+use Rattle.ss_query.specs.Reading.{verdict_of_read}
+use Rattle.ss_store.specs.Held.{IsSameStream, values_held}
+use Rattle.ss_store.specs.Kept.{IsSound, SameButSpare, StoreIsKept, StoreState, is_of_landmark, refuses_held}
+use Rattle.ss_store.specs.Slots.{AreSomeLive}
+use Rattle.ss_store.specs.declared.error.ApplyError.{ApplyError}
+use Rattle.ss_query.specs.declared.read_error.ReadError.{ReadError}
+use Rattle.ss_store.proofs.Among.{IsNoEarlier-past}
+use Rattle.ss_store.proofs.Appended.{AreWhole-IsSpared, IsSound-set, IsSpared, IsSpared-line, SameButSpare-IsSpared, StepsState-appended, StoreIsKept-IsSpared, StoreIsKept-appended, held-taker, live-IsSpared, others, pair, part-read, part_named-set, said_of_set, tiles-IsSpared, whole-appended}
+use Rattle.ss_store.proofs.Applying.{Applies-done, Applies-failed, held_by_named}
+use Rattle.ss_store.proofs.Decays.{KeepsToTarget-taken}
+use Rattle.ss_store.proofs.Refusals.{of_part-named}
+use Rattle.ss_model.specs.Marks.{has_open}
+use Rattle.ss_store.proofs.Stepping.{StepsState-answers, StepsState-failed}
+
+-- What is known before the call: the store is sound and runs, a stream of it may take the value, and its line was given room.
+pub record IsTaking (store : StoreState) (catalog : List (List ℕ × StreamId)) (name : List ℕ) (t : ℕ) (v : ℤ) (place slot : ℕ)
+    (was : StreamParts) (line : LineState) (disk : DiskView) : Type 0 where
+  pub one_disk : OfContent disk (StoreIsKept store)
+  pub sound : IsSound store catalog
+  pub runs : store.stopped ≡ false
+  pub taker : IsTaker store name t place slot
+  pub none : refuses_held store.streams (Value name t v) ≡ None
+  pub said : CanBeSaid (Value name t v)
+  pub read : was ≡ get_or store.streams place was
+  pub entries : line.entries ≡ was.line.entries
+  pub grows : was.line.spare ≤ line.spare
+
+pub taking : {store view : StoreState} {catalog : List (List ℕ × StreamId)} {name : List ℕ} {t : ℕ} {v : ℤ} {place slot : ℕ} {was : StreamParts}
+    {line : LineState} (disk : DiskView) → store ≡ view → OfContent disk (StoreIsKept view) → IsSound store catalog → view.stopped ≡ false → IsTaker view name t place slot →
+    refuses_held view.streams (Value name t v) ≡ None → CanBeSaid (Value name t v) → was ≡ get_or store.streams place was →
+    line.entries ≡ was.line.entries → was.line.spare ≤ line.spare → IsTaking store catalog name t v place slot was line disk
+taking {store} {view} {catalog} {name} {t} {v} {place} {slot} {was} {line} disk same one_disk sound runs taker none said read entries grows = record {
+  one_disk = subst (λ (s : StoreState). OfContent disk (StoreIsKept s)) (sym same) one_disk;
+  sound = sound;
+  runs = ap (λ (s : StoreState). s.stopped) same ∙ runs;
+  taker = subst (λ (s : StoreState). IsTaker s name t place slot) (sym same) taker;
+  none = ap (λ (s : StoreState). refuses_held s.streams (Value name t v)) same ∙ none;
+  said = said;
+  read = read;
+  entries = entries;
+  grows = grows;
+}
+
+module _ {store : StoreState} {catalog : List (List ℕ × StreamId)} {name : List ℕ} {t : ℕ} {v : ℤ} {place slot : ℕ} {was : StreamParts}
+    {line : LineState} {before : DiskView} (is : IsTaking store catalog name t v place slot was line before) where
+  -- the stream with room is the one before but for it
+  same-part : is.taker.part ≡ was
+  same-part = part-read store.streams place is.taker.part was is.taker.at is.read
+
+  room : IsSpared is.taker.part (record was { line = line })
+  room = IsSpared-line store place is.taker.part was same-part is.taker.at (is.sound.whole is.runs) line is.entries is.grows
+
+  -- a store with this stream in its place
+  abbrev pub with_stream : StreamParts → RecordsState → Bool → StoreState
+  with_stream now records stopped = record { streams = slice_set store.streams place now; records = records; stopped = stopped }
+
+  pub sound-spared : IsSound (with_stream (record was { line = line }) store.records store.stopped) catalog
+  sound-spared =
+      IsSound-set store catalog is.sound place is.taker.part (record was { line = line }) is.taker.at (ap (λ (p : StreamParts). p.id) room.same)
+      (ap (λ (p : StreamParts). p.name) room.same) store.records store.stopped
+      (λ run. (is.sound.settled is.runs, AreWhole-IsSpared store place is.taker.part (record was { line = line }) is.taker.at room (is.sound.whole is.runs)))
+
+  pub same-spared : SameButSpare store (with_stream (record was { line = line }) store.records store.stopped)
+  same-spared = SameButSpare-IsSpared store place is.taker.part (record was { line = line }) is.taker.at room
+
+  pub stands-spared : StandsOn (with_stream (record was { line = line }) store.records store.stopped) before
+  stands-spared run told = StoreIsKept-IsSpared store place is.taker.part (record was { line = line }) is.taker.at room before.told.content (is.one_disk told)
+
+  pub live-spared : AreSomeLive (slots_held (record was { line = line })) store.records.live
+  live-spared = live-IsSpared store place is.taker.part (record was { line = line }) is.taker.at room (is.sound.whole is.runs)
+
+  pub can-append : 1 ≤ line.spare → CanAppend (record was { line = line }) t
+  can-append spare = record {
+    spare = spare;
+    room = rw (is.entries, ← same-part) is.taker.room;
+    plain = rw (← same-part) is.taker.plain;
+    later = rw (← same-part) is.taker.later;
+    tiles = tiles-IsSpared store place is.taker.part (record was { line = line }) is.taker.at room (is.sound.whole is.runs);
+  }
+
+  -- it is no event of landmarks
+  not-of-landmark : is_of_landmark store.streams (Value name t v) ≡ false
+  not-of-landmark =
+      of_part-named store.streams name is.taker.part (λ (p : StreamParts). has_open p.landmarks.landmarks) is.taker.named ∙ is.taker.plain
+
+  module _ (now : StreamParts) (records : RecordsState) (same : IsSameStream (record was { line = line }) now) where
+    same_name : now.name ≡ is.taker.part.name
+    same_name = same.name ∙ ap (λ (p : StreamParts). p.name) room.same
+
+    -- over every disk
+    pub sound-stopped : IsSound (with_stream now records true) catalog
+    sound-stopped =
+        IsSound-set store catalog is.sound place is.taker.part now is.taker.at (same.id ∙ ap (λ (p : StreamParts). p.id) room.same) same_name records true
+        (λ run. let wrong : true ≡ false = run in cc)
+
+    module _ (whole : KeepsWhole (record was { line = line }) now store.records records (slot + 1))
+        (holds : HoldsUntil now (values_held (entries_of (record was { line = line })) + 1) (Some t)) where
+      pub sound-taken : IsSound (with_stream now records store.stopped) catalog
+      sound-taken =
+          IsSound-set store catalog is.sound place is.taker.part now is.taker.at (same.id ∙ ap (λ (p : StreamParts). p.id) room.same) same_name records
+          store.stopped
+          (λ run. (
+            whole.settled,
+            whole-appended store place is.taker.part (record was { line = line }) now records is.taker.at room (is.sound.whole is.runs) same
+                (IsNoEarlier-past was.last_time now.last_time t holds.last_time (rw (← same-part) is.taker.later)) whole.tiles whole.live,
+          ))
+
+      -- the event is applied
+      pub applies-taken : (after : DiskView) (n k : ℕ) (done : Unit {0}) →
+          Step fine before after (TakesValue (record was { line = line }) now t v records (Ok done)) → NoneAreDue now →
+          n ≡ values_held (entries_of now) → k ≡ length now.line.entries →
+          Applies (Value name t v) store (with_stream now records store.stopped) before after (Ok (record { n = n; k = k }))
+      applies-taken after n k done step none_due values windows =
+          let extent = whole.extent in
+          let low = is.taker.low in
+          let some : 0 < n = omega (arith, values, holds.values) in
+          Applies-done (Value name t v) store (with_stream now records store.stopped) is.none before after (record { n = n; k = k })
+          (step-from step (λ told takes.
+          let kept = is.one_disk told in
+          let content = before.told.content in
+          let others_now = others store content kept name t v place slot is.taker is.none is.said in
+          let s = (pair store content kept name t v place slot is.taker is.none is.said).stream in
+          let held = held-taker store content kept name t v place slot is.taker is.none is.said (record was { line = line }) now room in
+          let turns = takes.turns others_now s in
+          (StepsState-answers (Value name t v) before.told after.told done (Ok (record { n = n; k = k }))
+          (StepsState-appended store content kept name t v place slot is.taker is.none is.said (record was { line = line }) now room before.told after.told
+          (Ok done) refl turns),
+          StoreIsKept-appended store content kept name t v place slot is.taker is.none is.said (record was { line = line }) now room records store.stopped
+          after.told.content takes.kept (turns.content held))))
+          (said_of_set name store.streams place is.taker.part now n k is.sound.numbers is.taker.named is.taker.at same_name values windows)
+          (λ plain. KeepsToTarget-taken store catalog name t place slot now n k is.sound is.taker same_name values windows whole.tiles none_due some)
+          refl (omega (arith, extent, low))
+
+    -- the call failed
+    pub applies-untaken : (after : DiskView) (why : ReadError) →
+        Step (verdict_of_read {T = Unit {0}} (Err why)) before after (TakesValue (record was { line = line }) now t v records (Err why)) →
+        ChangedIsHeld (verdict_of_read {T = Unit {0}} (Err why)) now →
+        Applies (Value name t v) store (with_stream now records true) before after (Err (apply_of_fault why))
+    applies-untaken after why step held =
+        Applies-failed (Value name t v) store (with_stream now records true) is.none before after why
+        (step-from step (λ told takes.
+        let kept = is.one_disk told in
+        let content = before.told.content in
+        let others_now = others store content kept name t v place slot is.taker is.none is.said in
+        let s = (pair store content kept name t v place slot is.taker is.none is.said).stream in
+        StepsState-failed (Value name t v) before.told after.told (Err why) (apply_of_fault why)
+        (StepsState-appended store content kept name t v place slot is.taker is.none is.said (record was { line = line }) now room before.told after.told
+        (Err why) refl (takes.turns others_now s))))
+        (λ told.
+        let kept = is.one_disk told in
+        let content = before.told.content in
+        let others_now = others store content kept name t v place slot is.taker is.none is.said in
+        let s = (pair store content kept name t v place slot is.taker is.none is.said).stream in
+        (step.told told).firm others_now s (held-taker store content kept name t v place slot is.taker is.none is.said (record was { line = line }) now room))
+        (held_by_named name (slice_set store.streams place now) now why
+        (part_named-set name store.streams place is.taker.part now is.sound.numbers is.taker.named is.taker.at same_name) held)
+        refl (λ own. let wrong : false ≡ true = sym not-of-landmark ∙ own in absurd (cc))

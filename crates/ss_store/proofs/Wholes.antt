@@ -1,0 +1,64 @@
+-- What changes of one stream in a row keep over every disk, and what joins in a row make of it.
+use Rattle.std.proofs.Common.{◌≡◌, ◌∙◌, ℕ, List, Option, Ok, Result, arith, subst}
+use Rattle.std.proofs.lemmas.Result.{on_ok_weaker}
+use Rattle.ss_outside.specs.Crash.{KnowsNow}
+use Rattle.ss_outside.specs.Disk.{DiskView, Told}
+use Rattle.ss_outside.specs.Step.{Step}
+use Rattle.ss_outside.specs.Verdict.{fine}
+use Rattle.ss_journal.specs.Kept.{IsSettled}
+use Rattle.ss_records.specs.Kept.{AreKept, RecordsState}
+use Rattle.ss_codec.specs.declared.record.Record.{Record}
+use Rattle.ss_model.specs.State.{Stream}
+use Rattle.ss_recover.specs.Held.{TileFrom, entries_of, slots_held}
+use Rattle.ss_recover.specs.declared.parts.StreamParts.{StreamParts}
+use Rattle.ss_store.specs.Changing.{HoldsUntil, JoinsWindows, KeepsWhole}
+use Rattle.ss_store.specs.Held.{IsSameStream, values_held, with_windows}
+use Rattle.ss_query.specs.declared.read_error.ReadError.{ReadError}
+use Rattle.ss_store.proofs.Closings.{JoinsEach-more, JoinsEach-none}
+use Rattle.ss_store.proofs.LiveSlots.{LiveSlotsGo-none, LiveSlotsGo-then}
+
+pub KeepsWhole-none : (part : StreamParts) (records : RecordsState) → TileFrom 1 (entries_of part) → IsSettled records.journal →
+    KeepsWhole part part records records 0
+KeepsWhole-none part records tiles settled = record {
+  tiles = tiles;
+  live = LiveSlotsGo-none (slots_held part) records.live;
+  settled = settled;
+  extent = omega arith;
+}
+
+pub KeepsWhole-then : {part mid now : StreamParts} {was between is : RecordsState} {used : ℕ} → KeepsWhole part mid was between used →
+    KeepsWhole mid now between is 0 → KeepsWhole part now was is used
+KeepsWhole-then {part} {mid} {now} {was} {between} {is} {used} first second = record {
+  tiles = second.tiles;
+  live = LiveSlotsGo-then (slots_held part) (slots_held mid) (slots_held now) was.live between.live is.live first.live second.live;
+  settled = second.settled;
+  extent = omega (arith, first.extent, second.extent);
+}
+
+pub HoldsUntil-then : {mid now : StreamParts} {n : ℕ} {last : Option ℕ} → HoldsUntil mid n last →
+    HoldsUntil now (values_held (entries_of mid)) mid.last_time → HoldsUntil now n last
+HoldsUntil-then first second = record { values = second.values ∙ first.values; last_time = second.last_time ∙ first.last_time }
+
+-- no join, and one more
+pub JoinsWindows-none : (part : StreamParts) (records : RecordsState) (disk : Told) → KnowsNow disk → AreKept records disk.content →
+    JoinsWindows part part records (Ok tt) disk disk
+JoinsWindows-none part records disk knows kept = record {
+  turns = JoinsEach-none {E = ReadError} part disk knows;
+  firm = λ others s held. tt;
+  kept = kept;
+}
+
+pub JoinsWindows-more : {part mid now : StreamParts} {between is : RecordsState} {old then new : Told} (result : Result (Unit {0}) ReadError) →
+    JoinsWindows part mid between (Ok tt) old then → JoinsWindows mid now is result then new → JoinsWindows part now is result old new
+JoinsWindows-more {part} {mid} {now} {between} {is} {old} {then} {new} result first second = record {
+  turns = JoinsEach-more {E = ReadError} part mid now old then new result first.turns second.turns;
+  firm = λ others s held. let was = (first.turns others s).content held in second.firm others (with_windows s was.windows) was.held;
+  kept = second.kept;
+}
+
+-- Joins from one moment to another: what they make of each stream that may be held, and what they leave as it was.
+pub record IsClosing (old now : DiskView) (records is : RecordsState) (part left : StreamParts) : Type 0 where
+  pub step : Step fine old now (JoinsWindows part left is (Ok tt))
+  pub same : IsSameStream part left
+  pub whole : KeepsWhole part left records is 0
+  pub holds : HoldsUntil left (values_held (entries_of part)) part.last_time

@@ -1,0 +1,111 @@
+use Rattle.std.proofs.Common.{◌≡◌, ◌∙◌, ℕ, ◌+◌, List, [], ◌∷◌, ◌++◌, map, refl, ap, arith, Some, w64}
+use Rattle.std.proofs.lemmas.List.{map-append}
+use Rattle.std.proofs.lemmas.Result.{err_from_is_err_and}
+use Rattle.std.proofs.Math.Facts.{to_z-of_z}
+use Rattle.ss_codec.proofs.RecordLemmas.{is_valid-IsWindow}
+use Rattle.ss_line.specs.declared.entry.At.{At}
+use Rattle.ss_line.specs.declared.entry.Entry.{Entry}
+use Rattle.ss_outside.proofs.StepLemmas.{step-as}
+use Rattle.ss_summary.specs.Summaries.{summary_of}
+use Rattle.ss_recover.specs.Held.{entries_of}
+use Rattle.ss_recover.specs.declared.parts.StreamParts.{StreamParts}
+use Rattle.ss_store.specs.Held.{IsHalfway, values_held, with_single}
+use Rattle.ss_query.specs.Held.{IsHeldIn}
+use Rattle.ss_store.proofs.Additions.{IsAdded, LiveSlotsGo-added, TileFrom-added, Turns-added, single_entry, values_held-added}
+use Rattle.ss_store.proofs.Calls.{Turns-answers, Turns-failed}
+use Rattle.ss_store.proofs.appending.put_value.Goals as goal
+
+pub add_record-requires-clause-valid : goal.add_record-requires-clause-valid
+add_record-requires-clause-valid g c =
+    let count : c.one.result.count ≡ 1 = ap (λ f. f.count) c.one.ensures in
+    is_valid-IsWindow c.number_of.result (c.values_held-position.result + 1) c.one.result (omega arith) (omega arith)
+    (omega (arith, count, c.values_held-position.ensures, c.requires.can.room)) (assumption c.one.type_inv)
+
+-- the stream with an entry more
+abbrev added_part : StreamParts → ℕ → ℕ → StreamParts
+added_part part slot t =
+    record part {
+      last_time = Some t;
+      line = record { entries = part.line.entries ++ (record { 0 = 0 }, single_entry (values_held (entries_of part) + 1) slot) ∷ []; spare = 0 };
+    }
+
+added_part-added : (part : StreamParts) (slot t : ℕ) → IsAdded part (added_part part slot t) slot t
+added_part-added part slot t = record {
+  id = refl;
+  name = refl;
+  target = refl;
+  own_slot = refl;
+  landmarks = refl;
+  last_time = refl;
+  entries = map-append (λ (e : At × Entry). e.1) part.line.entries ((record { 0 = 0 }, single_entry (values_held (entries_of part) + 1) slot) ∷ []);
+}
+
+pub returns-in_err-add_record-clause-puts : goal.returns-in_err-add_record-clause-puts
+returns-in_err-add_record-clause-puts g c =
+    let part = c.args.part.now in
+    let can = c.requires.can in
+    let new = added_part part c.args.slot c.args.t in
+    let single : c.one.result ≡ summary_of ((c.args.t, c.args.v) ∷ []) =
+    c.one.ensures ∙ ap (λ v. summary_of ((c.args.t, v) ∷ [])) (to_z-of_z {w = w64} {z = c.args.v} c.ranges.v) in
+    let p = err_from_is_err_and c.from_residual.result c.from_residual.ensures.1 in
+    rw (p.1, p.2)
+    (step-as c.in_err-add_record.ensures.adds (λ made. record {
+      turns = λ others s.
+          Turns-failed (IsHeldIn others part s) (IsHalfway others part s c.args.t c.args.v) (IsHeldIn others new (with_single s c.args.t c.args.v))
+          _ _ _ _ _ refl
+          (Turns-added part new c.args.slot c.args.t (added_part-added part c.args.slot c.args.t) c.args.v c.one.result single
+          (assumption c.one.type_inv) can.room can.plain can.later others s _ _ _
+          (rw (c.values_held-position.ensures, c.number_of.ensures) at made.changes));
+      firm = λ others s held. tt;
+      kept = tt;
+    }))
+
+added : (g : _) (c : goal.After-part-1 g) → IsAdded c.args.part.now (record c.args.part.now { last_time = Some c.args.t; line = c.push.new.self }) c.args.slot c.args.t
+added g c = record {
+  id = refl;
+  name = refl;
+  target = refl;
+  own_slot = refl;
+  landmarks = refl;
+  last_time = refl;
+  entries = ap (λ (es : List (At × Entry)). map (λ (e : At × Entry). e.1) es) c.push.ensures.pushed
+      ∙ map-append (λ (e : At × Entry). e.1) c.args.part.now.line.entries ((c.push.result, single_entry (c.values_held-position.result + 1) c.args.slot) ∷ [])
+      ∙ ap (λ n. entries_of c.args.part.now ++ single_entry (n + 1) c.args.slot ∷ []) c.values_held-position.ensures;
+}
+
+pub returns-clause-puts : goal.returns-clause-puts
+returns-clause-puts g c =
+    let part = c.args.part.now in
+    let can = c.requires.can in
+    let new = record part { last_time = Some c.args.t; line = c.push.new.self } in
+    let single : c.one.result ≡ summary_of ((c.args.t, c.args.v) ∷ []) =
+    c.one.ensures ∙ ap (λ v. summary_of ((c.args.t, v) ∷ [])) (to_z-of_z {w = w64} {z = c.args.v} c.ranges.v) in
+    step-as c.in_ok-add_record.ensures.adds (λ made. record {
+      turns = λ others s.
+          Turns-answers (IsHeldIn others part s) (IsHalfway others part s c.args.t c.args.v) (IsHeldIn others new (with_single s c.args.t c.args.v))
+          _ _ c.in_ok-add_record.field-0 _
+          (Turns-added part new c.args.slot c.args.t (added g c) c.args.v c.one.result single (assumption c.one.type_inv)
+          can.room can.plain can.later others s _ _ _ (rw (c.values_held-position.ensures, c.number_of.ensures) at made.changes));
+      firm = λ others s held. tt;
+      kept = made.kept;
+    })
+
+pub returns-clause-holds : goal.returns-clause-holds
+returns-clause-holds g c =
+    let part = c.args.part.now in
+    record {
+      values = values_held-added part (record part { last_time = Some c.args.t; line = c.push.new.self }) c.args.slot c.args.t (added g c);
+      last_time = refl;
+    }
+
+pub returns-clause-whole : goal.returns-clause-whole
+returns-clause-whole g c =
+    let part = c.args.part.now in
+    let new = record part { last_time = Some c.args.t; line = c.push.new.self } in
+    let done = c.in_ok-add_record.ensures in
+    record {
+      tiles = TileFrom-added part new c.args.slot c.args.t (added g c) c.requires.can.tiles c.requires.can.room;
+      live = LiveSlotsGo-added part new c.args.slot c.args.t (added g c) c.args.records.now.live c.add_record.new.records.live done.live;
+      settled = done.settled;
+      extent = done.extent;
+    }

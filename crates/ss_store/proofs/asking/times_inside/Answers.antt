@@ -1,9 +1,0 @@
-use Rattle.std.proofs.Common.{◌∙◌}
-use Rattle.ss_store.proofs.SplitLemmas.{times_inside-free}
-use Rattle.ss_store.proofs.asking.times_inside.Goals as goal
-
-pub returns : goal.returns
-returns c =
-    c.free.ensures
-    ∙ times_inside-free c.args.landmarks.now.landmarks c.args.query.now.from c.args.query.now.to c.args.first c.args.last c.max-begin.result c.min-end.result
-    c.max-begin.ensures c.min-end.ensures

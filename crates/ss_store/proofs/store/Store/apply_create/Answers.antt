@@ -1,0 +1,88 @@
+use Rattle.std.proofs.Common.{None, ap, refl}
+use Rattle.ss_catalog.specs.declared.event.Event.TheVariants.{Create}
+use Rattle.ss_line.specs.Line.{LineState}
+use Rattle.ss_recover.specs.declared.parts.StreamParts.{StreamParts}
+use Rattle.ss_store.proofs.Appended.{SameButSpare-same}
+use Rattle.ss_store.proofs.Applying.{Applies-refused, Applies-starved}
+use Rattle.ss_store.proofs.Created.{IsFreshPart-made}
+use Rattle.ss_store.proofs.Creating.{applies-created, applies-unwritten, creating, sound-created, sound-unwritten}
+use Rattle.ss_store.proofs.store.Store.apply_create.Goals as goal
+
+pub returns-in-Err-clause-applies : goal.returns-in-Err-clause-applies
+returns-in-Err-clause-applies g c =
+    Applies-refused (Create c.args.name c.args.params) c.args.self.now _ c.in-Err.refusal c.in-Err.ensures.refused (λ run. c.requires.one_disk)
+    (g.met.D.Disk.knows_now c.args.disk.now)
+
+pub returns-in-Err-grow-clause-applies : goal.returns-in-Err-grow-clause-applies
+returns-in-Err-grow-clause-applies g c =
+    rw (c.in-Err-grow.ensures.err_streams, c.self.view_is)
+    (Applies-starved (Create c.args.name c.args.params) c.args.self.now c.args.self.now c.in-Ok.ensures.accepted _ (SameButSpare-same c.args.self.now)
+    (λ run. c.requires.one_disk) (g.met.D.Disk.knows_now c.args.disk.now))
+
+pub invariant_of-self-in-Ok-add_record : goal.invariant_of-self-in-Ok-add_record
+invariant_of-self-in-Ok-add_record g c =
+    let part : StreamParts = record {
+      id = c.in-Ok.new.1;
+      name = c.args.name;
+      target = c.in-Ok.new.0;
+      slot = c.in-Ok.new.2;
+      last_time = None;
+      line = c.new.result;
+      landmarks = c.new-2.result;
+    } in
+    let is = creating {store = record { streams = c.self.inside.streams.items; records = c.self.inside.records; stopped = c.self.inside.stopped }} {part = part}
+    (g.D.Disk.seen c.args.disk.now) c.self.view_is c.requires.one_disk c.self.invariant c.requires.runs c.in-Ok.ensures.accepted
+    (IsFreshPart-made part c.args.params c.in-Ok.ensures.target refl (ap (λ (l : LineState). l.entries) c.new.ensures) c.new-2.ensures) c.in-Ok.ensures.new in
+    let done = c.in-Ok-add_record.ensures in
+    rw (c.in-Ok-grow.ensures.streams, c.in-Ok-grow.ensures.catalog) (sound-created is c.add_record.new.records done.settled done.live)
+
+pub invariant_of-self-in-Err-add_record : goal.invariant_of-self-in-Err-add_record
+invariant_of-self-in-Err-add_record g c =
+    let part : StreamParts = record {
+      id = c.in-Ok.new.1;
+      name = c.args.name;
+      target = c.in-Ok.new.0;
+      slot = c.in-Ok.new.2;
+      last_time = None;
+      line = c.new.result;
+      landmarks = c.new-2.result;
+    } in
+    let is = creating {store = record { streams = c.self.inside.streams.items; records = c.self.inside.records; stopped = c.self.inside.stopped }} {part = part}
+    (g.D.Disk.seen c.args.disk.now) c.self.view_is c.requires.one_disk c.self.invariant c.requires.runs c.in-Ok.ensures.accepted
+    (IsFreshPart-made part c.args.params c.in-Ok.ensures.target refl (ap (λ (l : LineState). l.entries) c.new.ensures) c.new-2.ensures) c.in-Ok.ensures.new in
+    rw (c.in-Ok-grow.ensures.streams, c.in-Ok-grow.ensures.catalog) (sound-unwritten is c.add_record.new.records)
+
+pub returns-in-Ok-add_record-clause-applies : goal.returns-in-Ok-add_record-clause-applies
+returns-in-Ok-add_record-clause-applies g c =
+    let part : StreamParts = record {
+      id = c.in-Ok.new.1;
+      name = c.args.name;
+      target = c.in-Ok.new.0;
+      slot = c.in-Ok.new.2;
+      last_time = None;
+      line = c.new.result;
+      landmarks = c.new-2.result;
+    } in
+    let is = creating {store = record { streams = c.self.inside.streams.items; records = c.self.inside.records; stopped = c.self.inside.stopped }} {part = part}
+    (g.D.Disk.seen c.args.disk.now) c.self.view_is c.requires.one_disk c.self.invariant c.requires.runs c.in-Ok.ensures.accepted
+    (IsFreshPart-made part c.args.params c.in-Ok.ensures.target refl (ap (λ (l : LineState). l.entries) c.new.ensures) c.new-2.ensures) c.in-Ok.ensures.new in
+    let done = c.in-Ok-add_record.ensures in
+    rw (← c.self.view_is, c.in-Ok-grow.ensures.streams)
+    (applies-created is c.add_record.new.records _ _ done.extent (rw c.record_of.ensures.value at done.adds))
+
+pub returns-in-Err-add_record-clause-applies : goal.returns-in-Err-add_record-clause-applies
+returns-in-Err-add_record-clause-applies g c =
+    let part : StreamParts = record {
+      id = c.in-Ok.new.1;
+      name = c.args.name;
+      target = c.in-Ok.new.0;
+      slot = c.in-Ok.new.2;
+      last_time = None;
+      line = c.new.result;
+      landmarks = c.new-2.result;
+    } in
+    let is = creating {store = record { streams = c.self.inside.streams.items; records = c.self.inside.records; stopped = c.self.inside.stopped }} {part = part}
+    (g.D.Disk.seen c.args.disk.now) c.self.view_is c.requires.one_disk c.self.invariant c.requires.runs c.in-Ok.ensures.accepted
+    (IsFreshPart-made part c.args.params c.in-Ok.ensures.target refl (ap (λ (l : LineState). l.entries) c.new.ensures) c.new-2.ensures) c.in-Ok.ensures.new in
+    rw (← c.self.view_is, c.in-Ok-grow.ensures.streams)
+    (applies-unwritten is c.add_record.new.records _ _ (rw c.record_of.ensures.value at c.in-Err-add_record.ensures.adds))

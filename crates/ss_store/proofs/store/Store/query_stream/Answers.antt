@@ -1,0 +1,45 @@
+use Rattle.std.proofs.Common.{◌≡◌, ◌∙◌, Some, ap, refl, subst, sym}
+use Rattle.std.specs.Prelude.{slice_get}
+use Rattle.std.specs.List.{Contains}
+use Rattle.std.specs.List.Sorted.{IsStrictlyIncreasing}
+use Rattle.ss_model.specs.declared.outcome.Outcome.{Outcome}
+use Rattle.ss_query.specs.Answered.{window_slots_of}
+use Rattle.ss_store.specs.Kept.{StoreState, numbers_held, part_named}
+use Rattle.ss_store.proofs.AskedStreams.{IsFirm-kept, answers-kept}
+use Rattle.ss_store.proofs.Looking.{IfChanged-ask, IsPartAt-read, Looks-failed}
+use Rattle.ss_store.proofs.WindowsHeld.{window_slots-below}
+use Rattle.ss_store.proofs.store.Store.query_stream.Goals as goal
+
+pub place_of-requires-clause-rising : goal.place_of-requires-clause-rising
+place_of-requires-clause-rising g c = subst (λ l. IsStrictlyIncreasing (numbers_held l)) (sym c.deref.ensures.value) c.self.invariant.numbers
+
+pub answer-requires-clause-slots : goal.answer-requires-clause-slots
+answer-requires-clause-slots g c =
+    let streams = ap (λ (s : StoreState). s.streams) c.self.view_is in
+    let part = IsPartAt-read c.deref.ensures.value streams c.place_of.ensures.at c.requires.stands c.index-stream.ensures in
+    let whole = c.self.invariant.whole (ap (λ (s : StoreState). s.stopped) c.self.view_is ∙ c.requires.runs) in
+    window_slots-below c.self.inside.streams.items c.self.inside.records.live c.place_of.result c.index-stream.result.now whole
+    c.live-live.ensures.sound.slots (ap (λ l. slice_get l c.place_of.result) streams ∙ part.at)
+
+pub returns-in-Ok-clause-answers : goal.returns-in-Ok-clause-answers
+returns-in-Ok-clause-answers g c =
+    let streams = ap (λ (s : StoreState). s.streams) c.self.view_is in
+    let part = IsPartAt-read c.deref.ensures.value streams c.place_of.ensures.at c.requires.stands c.index-stream.ensures in
+    answers-kept c.args.self.now (sym c.requires.same ∙ part.numbered) c.requires.one_disk c.in-Ok.outcome c.in-Ok.ensures.answers
+
+pub returns-in-Err-clause-looks : goal.returns-in-Err-clause-looks
+returns-in-Err-clause-looks g c =
+    let streams = ap (λ (s : StoreState). s.streams) c.self.view_is in
+    let part = IsPartAt-read c.deref.ensures.value streams c.place_of.ensures.at c.requires.stands c.index-stream.ensures in
+    Looks-failed Outcome c.in-Err.error c.from.result c.args.self.now _ c.from.ensures refl streams
+    (c.in-Err.ensures.records.live ∙ ap (λ (s : StoreState). s.records.live) c.self.view_is)
+    (IsFirm-kept c.args.self.now (sym c.requires.same ∙ part.numbered) c.requires.one_disk c.in-Err.error c.in-Err.ensures.answers)
+
+pub returns-in-Err-clause-changed : goal.returns-in-Err-clause-changed
+returns-in-Err-clause-changed g c =
+    let streams = ap (λ (s : StoreState). s.streams) c.self.view_is in
+    let part = IsPartAt-read c.deref.ensures.value streams c.place_of.ensures.at c.requires.stands c.index-stream.ensures in
+    let named : part_named c.args.query.now.name c.args.self.now.streams ≡ Some c.index-stream.result.now = sym c.requires.same ∙ part.numbered in
+    rw named
+    (IfChanged-ask Outcome Outcome (Contains (window_slots_of c.index-stream.result.now)) c.in-Err.error c.from.result c.from.ensures
+    c.in-Err.ensures.changed)

@@ -1,0 +1,171 @@
+-- What a call that changes records, or one stream, does to its disk, and what it keeps over every disk.
+use Rattle.std.specs.Prelude.{◌≡◌, ℕ, ℤ, ◌+◌, ◌<◌, ◌≤◌, max, IsTrue, List, ◌∷◌, Option, Some, None, Contains, flat_map, length, map, Result, OnOk, false}
+use Rattle.ss_outside.specs.Crash.{OnlyReads}
+use Rattle.ss_outside.specs.Disk.{Told}
+use Rattle.ss_outside.specs.Verdict.{Verdict, IfChanged, IsFirm, verdict}
+use Rattle.ss_outside.specs.declared.source.Failed.{Failed}
+use Rattle.ss_journal.specs.Kept.{IsSettled}
+use Rattle.ss_journal.specs.declared.format.TheConstants.{MOST_SLOTS}
+use Rattle.ss_records.specs.Kept.{RecordsState, AreKept}
+use Rattle.ss_codec.specs.declared.record.Record.{Record}
+use Rattle.ss_landmarks.specs.Landmarks.{IsState as AreKnown, LandmarksState}
+use Rattle.ss_line.specs.declared.entry.Entry.{Entry}
+use Rattle.ss_summary.specs.Figures.{Figures}
+use Rattle.ss_summary.specs.Summaries.{joined}
+use Rattle.ss_target.specs.Lengths.{lengths_of}
+use Rattle.ss_target.specs.Targets.{params_of}
+use Rattle.ss_windowing.specs.declared.decay.TheConstants.{MOST_VALUES}
+use Rattle.ss_model.specs.ClosedState.{closed_state, closed_stream}
+use Rattle.ss_model.specs.Marks.{has_open, lies_free}
+use Rattle.ss_model.specs.Refusals.{is_past}
+use Rattle.ss_model.specs.Standing.{IsState}
+use Rattle.ss_model.specs.State.{Stream}
+use Rattle.ss_model.specs.Steps.{with_value}
+use Rattle.ss_model.specs.declared.types.Window.{Window}
+use Rattle.ss_recover.specs.Held.{AllAgree, EndByLast, TileFrom, entries_of, mark_slots, slots_held, span_held, span_of, window_record}
+use Rattle.ss_recover.specs.declared.parts.StreamParts.{StreamParts}
+use Rattle.ss_store.specs.Calls.{Turns}
+use Rattle.ss_query.specs.Reading.{IsRead, verdict_of_read}
+use Rattle.ss_store.specs.Held.{IsHalfway, IsPartlyJoined, values_held, with_single}
+use Rattle.ss_query.specs.Held.{IsHeldIn}
+use Rattle.ss_store.specs.Joining.{IsJoinedIn, NoSpansAreDue}
+use Rattle.ss_store.specs.Marking.{CanMark, IsItsSlot, IsMarkedOrNot, landmarks_after, mark_refusal, with_mark}
+use Rattle.ss_store.specs.Rebuilt.{HasRebuilt}
+use Rattle.ss_store.specs.Recover.{Recovers}
+use Rattle.ss_store.specs.Slots.{LiveSlotsGo}
+use Rattle.ss_query.specs.Slots.{HasRecords}
+use Rattle.ss_store.specs.declared.marking.Mark.{Mark}
+use Rattle.ss_query.specs.declared.read_error.ReadError.{ReadError}
+use Rattle.ss_query.specs.Answered.{window_slots_of}
+
+-- A change is made of what a disk holds, by records that are these then.
+pub record Makes {T E : Type 0} (change : Told → Told → Type 0) (records : RecordsState) (result : Result T E) (old new : Told) : Type 0 where
+  pub changes : change old new
+  pub kept : OnOk result (AreKept records new.content)
+
+-- What a call makes of a stream that is held, whichever it is and whatever lies beside it: what it leaves in a crash, and what
+-- at Ok. Where the stream was held, no record has changed.
+pub record TurnsStream {T E : Type 0} (v : Verdict) (part : StreamParts) (during after : List (ℕ × Option Record) → Stream → List ℕ → Type 0)
+    (records : RecordsState) (result : Result T E) (old new : Told) : Type 0 where
+  pub turns : (others : List (ℕ × Option Record)) (s : Stream) → Turns (IsHeldIn others part s) (during others s) (after others s) old new result
+  pub firm : (others : List (ℕ × Option Record)) (s : Stream) → IsHeldIn others part s old.content → IsFirm v
+  pub kept : OnOk result (AreKept records new.content)
+
+-- windows that are due were joined, and a crash leaves them joined in part
+abbrev pub JoinsWindows : StreamParts → StreamParts → RecordsState → Result (Unit {0}) ReadError → Told → Told → Type 0
+JoinsWindows part now records result =
+    TurnsStream (verdict_of_read result) part IsPartlyJoined (λ others s. IsJoinedIn others now s) records result
+
+-- all of them were joined
+abbrev pub ClosesStream : StreamParts → StreamParts → RecordsState → Result (Unit {0}) ReadError → Told → Told → Type 0
+ClosesStream part now records result =
+    TurnsStream (verdict_of_read result) part IsPartlyJoined (λ others s. IsHeldIn others now (closed_stream s)) records result
+
+-- a value was put as a window of its own
+abbrev pub PutsValue : StreamParts → StreamParts → ℕ → ℤ → RecordsState → Result (Unit {0}) ReadError → Told → Told → Type 0
+PutsValue part now t v records result =
+    TurnsStream (verdict_of_read result) part (λ others s. IsHalfway others part s t v) (λ others s. IsHeldIn others now (with_single s t v))
+    records result
+
+-- a value was taken, and the windows were closed
+abbrev pub TakesValue : StreamParts → StreamParts → ℕ → ℤ → RecordsState → Result (Unit {0}) ReadError → Told → Told → Type 0
+TakesValue part now t v records result =
+    TurnsStream (verdict_of_read result) part (λ others s. IsHalfway others part s t v) (λ others s. IsHeldIn others now (with_value s t v))
+    records result
+
+-- landmarks took a mark
+abbrev pub TakesMark : StreamParts → StreamParts → ℕ → Mark → RecordsState → Result (Unit {0}) Failed → Told → Told → Type 0
+TakesMark part now t mark records result =
+    TurnsStream (verdict result) part (λ others s. IsMarkedOrNot others part s t mark) (λ others s. IsHeldIn others now (with_mark s t mark))
+    records result
+
+-- Two windows of a stream are read as one, by records that are these then. Content and images stay.
+pub record ReadsJoined (part : StreamParts) (window next : Entry) (records : RecordsState) (result : Result Figures ReadError) (old new : Told) : Type 0 where
+  pub joined : (others : List (ℕ × Option Record)) (w v : Window) →
+      HasRecords ((window.slot, Some (window_record part.id.0 w)) ∷ (next.slot, Some (window_record part.id.0 v)) ∷ others) old.content →
+      span_held window ≡ span_of w → span_held next ≡ span_of v →
+      IsTrue (lies_free part.landmarks.landmarks w) → IsTrue (lies_free part.landmarks.landmarks v) →
+      w.summary.t_last < v.summary.t_first → IsRead (joined w.summary v.summary) result
+  pub kept : OnOk result (AreKept records new.content)
+  pub reads : OnlyReads old new
+
+-- two windows stand side by side, within the positions that there are
+pub record AreNeighbours (window next : Entry) : Type 0 where
+  pub first : 1 ≤ window.first
+  pub side_by_side : next.first ≡ window.last + 1
+  pub few : next.last ≤ MOST_VALUES
+
+-- What the change of a stream keeps over every disk: its windows tile, its slots are live, and the journal is settled and uses
+-- no more slots than before and these.
+pub record KeepsWhole (part now : StreamParts) (was is : RecordsState) (used : ℕ) : Type 0 where
+  pub tiles : TileFrom 1 (entries_of now)
+  pub live : LiveSlotsGo (slots_held part) (slots_held now) was.live is.live
+  pub settled : IsSettled is.journal
+  pub extent : is.journal.extent ≤ max was.journal.extent used
+
+-- how many values the windows of a stream hold, and its last time
+pub record HoldsUntil (part : StreamParts) (n : ℕ) (last : Option ℕ) : Type 0 where
+  pub values : values_held (entries_of part) ≡ n
+  pub last_time : part.last_time ≡ last
+
+-- no two neighbours lie together in one target window
+abbrev pub NoneAreDue : StreamParts → Type 0
+NoneAreDue part =
+    NoSpansAreDue (lengths_of (params_of part.target)) (values_held (entries_of part)) (map span_held (entries_of part))
+
+-- where the record of a slot has changed, a window of this stream is held there
+abbrev pub ChangedIsHeld : Verdict → StreamParts → Type 0
+ChangedIsHeld v part = IfChanged v (λ slot. Contains (window_slots_of part) slot)
+
+-- the same of some of these streams
+abbrev pub SomeChangedIsHeld : Verdict → List StreamParts → Type 0
+SomeChangedIsHeld v parts = IfChanged v (λ slot. Contains (flat_map window_slots_of parts) slot)
+
+-- a stream takes a value outside landmarks at a time, and its line has a place for one more window
+pub record CanAppend (part : StreamParts) (t : ℕ) : Type 0 where
+  pub spare : 1 ≤ part.line.spare
+  pub room : values_held (entries_of part) < MOST_VALUES
+  pub plain : has_open part.landmarks.landmarks ≡ false
+  pub later : is_past part.last_time t ≡ false
+  pub tiles : TileFrom 1 (entries_of part)
+
+-- the landmarks of a stream take a mark at a time, with this slot for its record, and have room for it
+pub record CanTakeMark (records : RecordsState) (part : StreamParts) (slot t : ℕ) (mark : Mark) : Type 0 where
+  pub can : CanMark part.landmarks.landmarks t mark
+  pub accepted : mark_refusal part t mark ≡ None
+  pub in_slot : IsItsSlot records.live part mark slot
+  pub few : length (mark_slots part) < MOST_SLOTS
+  pub room : 1 ≤ part.landmarks.room
+  pub value_room : 1 ≤ part.landmarks.value_room
+  pub tiles : TileFrom 1 (entries_of part)
+
+-- the same stream with the same windows, perhaps with other landmarks
+pub record HasSameWindows (part now : StreamParts) : Type 0 where
+  pub id : now.id ≡ part.id
+  pub name : now.name ≡ part.name
+  pub target : now.target ≡ part.target
+  pub line : now.line ≡ part.line
+
+-- landmarks that hold the same, and have room for no less
+pub record HasRoomFor (was now : LandmarksState) : Type 0 where
+  pub landmarks : now.landmarks ≡ was.landmarks
+  pub slots : now.slots ≡ was.slots
+  pub value_slots : now.value_slots ≡ was.value_slots
+  pub room_grows : was.room ≤ now.room
+  pub value_room_grows : was.value_room ≤ now.value_room
+  pub known : AreKnown now
+
+-- the landmarks of a stream after a mark, which end by its last time
+pub record HasTakenMark (part now : StreamParts) (t : ℕ) (mark : Mark) : Type 0 where
+  pub landmarks : now.landmarks.landmarks ≡ landmarks_after part.landmarks.landmarks t mark
+  pub known : AreKnown now.landmarks
+  pub last : EndByLast now
+
+-- All streams are closed, by records that are these then, and a crash leaves what closes to the same. Where they were held, no
+-- record has changed.
+pub record ClosesAll (parts now : List StreamParts) (records : RecordsState) (result : Result (Unit {0}) ReadError) (old new : Told) : Type 0 where
+  pub turns : (all : List Stream) → IsState all → AllAgree parts all →
+      Turns (HasRebuilt parts all) (Recovers (closed_state all)) (HasRebuilt now (closed_state all)) old new result
+  pub agree : (all : List Stream) → IsState all → AllAgree parts all → HasRebuilt parts all old.content → OnOk result (AllAgree now (closed_state all))
+  pub firm : (all : List Stream) → IsState all → AllAgree parts all → HasRebuilt parts all old.content → IsFirm (verdict_of_read result)
+  pub kept : OnOk result (AreKept records new.content)
