@@ -1,5 +1,6 @@
 -- A value that is put after the windows of a stream, as a window of its own.
-use Rattle.std.proofs.Common.{◌≡◌, ◌∙◌, ⊎_elim, inl, inr, ℕ, max, ◌+◌, ◌-◌, ◌<◌, ℤ, Bool, false, List, [], ◌∷◌, ◌++◌, map, refl, sym, ap, ap₂, subst, arith, IsPermutation, Option, None, Some, Result}
+use Rattle.std.proofs.Common.{◌≡◌, ◌∙◌, ⊎_elim, inl, inr, ℕ, max, ◌+◌, ◌-◌, ◌<◌, ℤ, Bool, false, List, [], ◌∷◌, ◌++◌, map, refl, sym, ap, ap₂, subst}
+use Rattle.std.proofs.Common.{arith, IsPermutation, Option, None, Some, Result}
 use Rattle.std.specs.Prelude.{zip}
 use Rattle.std.proofs.lemmas.Bool.Decides.{nat_tests}
 use Rattle.std.proofs.lemmas.List.{map-append}
@@ -26,7 +27,8 @@ use Rattle.ss_model.specs.declared.types.Window.{Window}
 use Rattle.ss_model.proofs.Closes.{newest_time_push}
 use Rattle.ss_model.proofs.StreamLemmas.{IsStream-single}
 use Rattle.ss_model.proofs.Tiles.{taken-append}
-use Rattle.ss_recover.specs.Held.{Agrees, TileFrom, entries_of, mark_slots, records_held, slots_held, span_held, span_of, stream_record, window_record, window_slots, windows_held}
+use Rattle.ss_recover.specs.Held.{Agrees, TileFrom, entries_of, mark_slots, records_held, slots_held, span_held, span_of, stream_record}
+use Rattle.ss_recover.specs.Held.{window_record, window_slots, windows_held}
 use Rattle.ss_recover.specs.declared.parts.StreamParts.{StreamParts}
 use Rattle.ss_store.specs.Calls.{Turns}
 use Rattle.ss_store.specs.Held.{IsHalfway, values_held, with_single, with_windows}
@@ -85,8 +87,10 @@ module _ (part new : StreamParts) (slot t : ℕ) (added : IsAdded part new slot 
       (IsPermutation-sym (window_slots part ++ slot ∷ []) (slot ∷ window_slots part) (IsPermutation-to_front (window_slots part) slot)))))
       (LiveSlotsGo-beside (slots_held part) [] (slot ∷ []) live live_now go)
 
-  module _ (v : ℤ) (summary : Figures) (is : summary ≡ summary_of ((t, v) ∷ [])) (possible : IsPossible summary) (room : values_held (entries_of part) < MOST_VALUES)
-      (plain : has_open part.landmarks.landmarks ≡ false) (past : is_past part.last_time t ≡ false) (s : Stream) (agrees : Agrees part s) (stream : IsStream s) where
+  module _ (v : ℤ) (summary : Figures) (is : summary ≡ summary_of ((t, v) ∷ [])) (possible : IsPossible summary)
+      (room : values_held (entries_of part) < MOST_VALUES)
+      (plain : has_open part.landmarks.landmarks ≡ false) (past : is_past part.last_time t ≡ false) (s : Stream) (agrees : Agrees part s)
+      (stream : IsStream s) where
     single : Window
     single = single_window (values_in s + 1) t v
 
@@ -110,7 +114,8 @@ module _ (part new : StreamParts) (slot t : ℕ) (added : IsAdded part new slot 
       positions =
           let position : values_held (entries_of part) + 1 ≡ values_in s + 1 = ap (λ n. n + 1) held in
           let last : values_held (entries_of part) + 1 ≡ values_in s + 1 + 1 - 1 = omega (arith, held) in
-          let one : span_held (single_entry (values_held (entries_of part) + 1) slot) ≡ span_of (single_window (values_in s + 1) t v) = λ i. (position i, last i) in
+          let one : span_held (single_entry (values_held (entries_of part) + 1) slot) ≡ span_of (single_window (values_in s + 1) t v) =
+          λ i. (position i, last i) in
           ap (λ es. map span_held es) added.entries ∙ map-append span_held (entries_of part) (single_entry (values_held (entries_of part) + 1) slot ∷ [])
           ∙ ap₂ (λ (xs : List (ℕ × ℕ)) (p : ℕ × ℕ). xs ++ p ∷ []) agrees.positions one
           ∙ sym (map-append span_of s.windows (single_window (values_in s + 1) t v ∷ []));
@@ -122,12 +127,14 @@ module _ (part new : StreamParts) (slot t : ℕ) (added : IsAdded part new slot 
           ∙ ap (λ o. later o (latest_of s.landmarks)) (sym newest);
     }
 
-    records_single : windows_held (new, with_single s t v) ≡ windows_held (part, s) ++ (slot, Some (records.Window part.id.0 (values_held (entries_of part) + 1) summary)) ∷ []
+    records_single : windows_held (new, with_single s t v) ≡ windows_held (part, s) ++
+        (slot, Some (records.Window part.id.0 (values_held (entries_of part) + 1) summary)) ∷ []
     records_single =
         let one : Window = single_window (values_in s + 1) t v in
         let spelled : Some (window_record s.number one) ≡ Some (records.Window part.id.0 (values_held (entries_of part) + 1) summary) =
         λ i. Some (records.Window (sym agrees.number i) (sym (ap (λ n. n + 1) held) i) (sym is i)) in
-        ap₂ (λ (k : ℕ) (es : List Entry). (k, Some (stream_record s)) ∷ zip (map (λ (e : Entry). e.slot) es) (map (λ x. Some (window_record s.number x)) (s.windows ++ one ∷ [])))
+        ap₂ (λ (k : ℕ) (es : List Entry). (k, Some (stream_record s)) ∷ zip (map (λ (e : Entry). e.slot) es)
+        (map (λ x. Some (window_record s.number x)) (s.windows ++ one ∷ [])))
         added.own_slot added.entries
         ∙ ap (λ l. (part.slot, Some (stream_record s)) ∷ l)
         (zip-held s.number (entries_of part) (single_entry (values_held (entries_of part) + 1) slot ∷ []) s.windows (one ∷ []) agrees.positions)
@@ -143,14 +150,16 @@ module _ (part new : StreamParts) (slot t : ℕ) (added : IsAdded part new slot 
           stream = IsStream-added;
           records = HasRecords-permutation (added_record ∷ (records_held (part, s) ++ others)) (records_held (new, with_single s t v) ++ others) image
               (subst (λ l. IsPermutation (added_record ∷ l) (records_held (new, with_single s t v) ++ others)) (sym (records_held-apart part s others))
-              (records_held-changed part new s (s.windows ++ single_window (values_in s + 1) t v ∷ []) (added_record ∷ windows_held (part, s)) others added.landmarks
+              (records_held-changed part new s (s.windows ++ single_window (values_in s + 1) t v ∷ []) (added_record ∷ windows_held (part, s)) others
+              added.landmarks
               (subst (λ l. IsPermutation (added_record ∷ windows_held (part, s)) l) (sym records_single)
               (IsPermutation-sym (windows_held (part, s) ++ added_record ∷ []) (added_record ∷ windows_held (part, s))
               (IsPermutation-to_front (windows_held (part, s)) added_record))))) has;
         }
 
   -- a call that puts the record of the value
-  pub Turns-added : {T E : Type 0} (v : ℤ) (summary : Figures) → summary ≡ summary_of ((t, v) ∷ []) → IsPossible summary → values_held (entries_of part) < MOST_VALUES →
+  pub Turns-added : {T E : Type 0} (v : ℤ) (summary : Figures) → summary ≡ summary_of ((t, v) ∷ []) → IsPossible summary →
+      values_held (entries_of part) < MOST_VALUES →
       has_open part.landmarks.landmarks ≡ false → is_past part.last_time t ≡ false →
       (others : List (ℕ × Option Record)) (s : Stream) (old after : Told) (result : Result T E) →
       AddsRecord slot (records.Window part.id.0 (values_held (entries_of part) + 1) summary) result old after →
@@ -161,7 +170,8 @@ module _ (part new : StreamParts) (slot t : ℕ) (added : IsAdded part new slot 
       Turns-weaker (HasRecords before) (IsHeldIn others part s) (Either (HasRecords before) (HasRecords now)) (IsHalfway others part s t v) (HasRecords now)
       (IsHeldIn others new (with_single s t v)) old after result (λ held. held.records)
       (λ held image. ⊎_elim (λ stays. inl (record { agrees = held.agrees; stream = held.stream; records = stays }))
-      (λ turned. inr (IsPartlyJoined-none others new (with_single s t v) image (IsHeldIn-single v summary is possible room plain past s held.agrees held.stream others image turned))))
+      (λ turned. inr (IsPartlyJoined-none others new (with_single s t v) image
+      (IsHeldIn-single v summary is possible room plain past s held.agrees held.stream others image turned))))
       (λ held image has. IsHeldIn-single v summary is possible room plain past s held.agrees held.stream others image has)
       (adds before)
 

@@ -1,5 +1,6 @@
 -- One stream among others: its records beside theirs, and what stands in its place afterwards.
-use Rattle.std.proofs.Common.{◌≡◌, ℕ, zero, suc, ◌<◌, ◌≤◌, Bool, false, List, [], ◌∷◌, ◌++◌, length, flat_map, remove, slice_get, slice_set, zip, refl, ap, sym, subst, ◌∙◌, arith, IsPermutation, Option, None, Some, MatchOption}
+use Rattle.std.proofs.Common.{◌≡◌, ℕ, zero, suc, ◌<◌, ◌≤◌, Bool, false, List, [], ◌∷◌, ◌++◌, length, flat_map, remove, slice_get, slice_set, zip}
+use Rattle.std.proofs.Common.{refl, ap, sym, subst, ◌∙◌, arith, IsPermutation, Option, None, Some, MatchOption}
 use Rattle.std.specs.Prelude.{⊤}
 use Rattle.std.proofs.lemmas.Bool.Decides.{nat_tests}
 use Rattle.std.proofs.lemmas.List.{length-set, map-set, set-set}

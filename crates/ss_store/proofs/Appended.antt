@@ -1,5 +1,6 @@
 -- A store one of whose streams takes an event: what is known before, and what the call of its stream makes of the store.
-use Rattle.std.proofs.Common.{◌≡◌, zero, suc, ◌≤◌, ℕ, ◌<◌, ℤ, Bool, true, false, List, [], ◌∷◌, ◌++◌, length, map, flat_map, zip, get_or, slice_get, slice_set, refl, ap, sym, ◌∙◌, subst, arith, None, Some, Option, inl, inr, Result, Err}
+use Rattle.std.proofs.Common.{◌≡◌, zero, suc, ◌≤◌, ℕ, ◌<◌, ℤ, Bool, true, false, List, [], ◌∷◌, ◌++◌, length, map, flat_map, zip, get_or, slice_get}
+use Rattle.std.proofs.Common.{slice_set, refl, ap, sym, ◌∙◌, subst, arith, None, Some, Option, inl, inr, Result, Err}
 use Rattle.std.specs.List.{AllZip, find, position_or_len}
 use Rattle.std.specs.List.Sorted.{IsStrictlyIncreasing}
 use Rattle.std.proofs.lemmas.Bool.{cases_Bool}
@@ -41,7 +42,8 @@ use Rattle.ss_store.specs.declared.error.ApplyError.{ApplyError}
 use Rattle.ss_store.specs.declared.marking.Mark.{Mark}
 use Rattle.ss_query.specs.declared.read_error.ReadError.{ReadError}
 use Rattle.ss_query.specs.declared.read_error.ReadError.TheVariants as fault
-use Rattle.ss_store.proofs.Among.{AreWhole-at, AreWhole-changed, EndByLast-later, HasRecords-set, IsHeldIn-at, IsNoEarlier, Marks-at, Recovers-held, Recovers-partly, others_of}
+use Rattle.ss_store.proofs.Among.{AreWhole-at, AreWhole-changed, EndByLast-later, HasRecords-set, IsHeldIn-at, IsNoEarlier, Marks-at, Recovers-held}
+use Rattle.ss_store.proofs.Among.{Recovers-partly, others_of}
 use Rattle.ss_store.proofs.HeldCounts.{values_held-Agrees}
 use Rattle.ss_store.proofs.KeptStates.{Recovers-StoreIsKept}
 use Rattle.ss_store.proofs.LiveSlots.{LiveSlotsGo-none}
@@ -336,7 +338,8 @@ module _ (store : StoreState) (content : List ℕ) (kept : StoreIsKept store con
     recovers-partly : (image : List ℕ) → IsPartlyJoined others (with_single pair.stream t v) image → Recovers (stepped kept.streams (Value name t v)) image
     recovers-partly image partly =
         subst (λ l. Recovers l image) (closed-partly kept.streams name t v place pair.stream may kept.closed)
-        (Recovers-partly store.streams kept.streams place (with_single pair.stream t v) image kept.agree (slice_get_within store.streams place taker.part taker.at)
+        (Recovers-partly store.streams kept.streams place (with_single pair.stream t v) image kept.agree
+        (slice_get_within store.streams place taker.part taker.at)
         (IsState-single kept.streams name t v place pair.stream may) partly)
 
     pub StepsState-appended : {T E : Type 0} (old new : Told) (call : Result T E) → old.content ≡ content →

@@ -13,7 +13,7 @@ use Rattle.ss_model.specs.Steps.{stepped}
 use Rattle.ss_model.specs.declared.types.Ack.{Ack}
 use Rattle.ss_recover.specs.Held.{slots_held}
 use Rattle.ss_recover.specs.declared.parts.StreamParts.{StreamParts}
-use Rattle.ss_store.specs.Applied.{Applies, IsFew, StandsOn, is_plain_value}
+use Rattle.ss_store.specs.Applied.{Applies, IsFew, StandsOn, is_creation, is_plain_value}
 use Rattle.ss_store.specs.Calls.{RecoversToEither, StepsState}
 use Rattle.ss_store.specs.Causes.{said_of_held}
 use Rattle.ss_store.specs.Changing.{ChangedIsHeld}
@@ -63,6 +63,7 @@ module _ (event : Event) (old : StoreState) where
     stands = stands;
     ack = tt;
     decay = λ plain. tt;
+    created = λ made. tt;
     refused = refused-exactly (refuses_held old.streams event) r is;
     same = refl;
     starved = tt;
@@ -81,6 +82,7 @@ module _ (event : Event) (old : StoreState) where
       stands = stands;
       ack = tt;
       decay = λ plain. tt;
+    created = λ made. tt;
       refused = accepted-exactly (refuses_held old.streams event) (Err apply.OutOfMemory) none (λ r wrong. cc);
       same = tt;
       starved = same;
@@ -93,15 +95,17 @@ module _ (event : Event) (old : StoreState) where
 
     module _ (before after : DiskView) where
       pub Applies-done : (ack : Ack) → Step fine before after (λ o n. StepsState {E = ApplyError} event (Ok ack) o n × StoreIsKept new n.content) →
-          ack ≡ said_of_held (part_named (event_name event) new.streams) → (is_plain_value old.streams event ≡ true → IsFew new.streams event ack) →
+          (is_creation event ≡ true → ack ≡ record { n = 0; k = 0 }) → ack ≡ said_of_held (part_named (event_name event) new.streams) →
+          (is_plain_value old.streams event ≡ true → IsFew new.streams event ack) →
           new.stopped ≡ old.stopped →
           new.records.journal.extent ≤ max old.records.journal.extent (length (flat_map slots_held old.streams) + 1) →
           Applies event old new before after (Ok ack)
-      Applies-done ack step said few runs extent = record {
+      Applies-done ack step new_one said few runs extent = record {
         step = record { tells = step.tells; counted = step.counted; told = λ told. (step.told told).0 };
         stands = λ run told. (step.told (sym step.tells ∙ told)).1;
         ack = said;
         decay = few;
+        created = new_one;
         refused = accepted-exactly (refuses_held old.streams event) (Ok ack) none (λ r wrong. cc);
         same = tt;
         starved = tt;
@@ -112,7 +116,8 @@ module _ (event : Event) (old : StoreState) where
         changed = tt;
       }
 
-      pub Applies-failed : (why : ReadError) → Step (verdict_of_read {T = Unit {0}} (Err why)) before after (StepsState {T = Ack} event (Err (apply_of_fault why))) →
+      pub Applies-failed : (why : ReadError) →
+          Step (verdict_of_read {T = Unit {0}} (Err why)) before after (StepsState {T = Ack} event (Err (apply_of_fault why))) →
           (IsTrue before.tells → IsFirm (verdict_of_read {T = Unit {0}} (Err why))) →
           IfChanged (verdict_of_read {T = Unit {0}} (Err why))
           (λ slot. IfSome (part_named (event_name event) new.streams) (λ part. Contains (window_slots_of part) slot)) →
@@ -123,6 +128,7 @@ module _ (event : Event) (old : StoreState) where
         stands = λ run. let wrong : true ≡ false = sym stops ∙ run in cc;
         ack = tt;
         decay = λ plain. tt;
+    created = λ made. tt;
         refused = accepted-exactly (refuses_held old.streams event) (Err apply.Disk) none (λ r wrong. cc);
         same = tt;
         starved = tt;
@@ -137,6 +143,7 @@ module _ (event : Event) (old : StoreState) where
         stands = λ run. let wrong : true ≡ false = sym stops ∙ run in cc;
         ack = tt;
         decay = λ plain. tt;
+    created = λ made. tt;
         refused = accepted-exactly (refuses_held old.streams event) (Err (apply.Changed slot)) none (λ r wrong. cc);
         same = tt;
         starved = tt;

@@ -1,5 +1,6 @@
 -- What a transaction of puts makes of the records in the slots of an image, and of the slots that are live.
-use Rattle.std.proofs.Common.{Bool, IsPermutation, IsTrue, List, Option, Result, Some, [], ap, arith, cond, false, inl, inr, length, not, refl, set, suc, subst, sym, true, zero, ◌+◌, ◌∷◌, ◌<◌, ◌≡◌, ◌≢◌, ◌≤◌, ◌⊎◌, ◌∙◌, ℕ}
+use Rattle.std.proofs.Common.{Bool, IsPermutation, IsTrue, List, Option, Result, Some, [], ap, arith, cond, false, inl, inr, length, not, refl, set}
+use Rattle.std.proofs.Common.{suc, subst, sym, true, zero, ◌+◌, ◌∷◌, ◌<◌, ◌≡◌, ◌≢◌, ◌≤◌, ◌⊎◌, ◌∙◌, ℕ}
 use borrow.Author.Tests.{ltb-true, ltb-false}
 use Rattle.std.proofs.lemmas.Bool.{cases_Bool, cases_eq, cond-false, cond-true, cond_both, not-false}
 use Rattle.std.proofs.lemmas.Bool.Decides.{nat_tests}
@@ -89,7 +90,8 @@ module _ (slot : ℕ) (r : Record) (valid : IsTrue (is_valid r)) (some : r ≢ F
   live-put : not (are_zeros (record_put slot r).bytes) ≡ true
   live-put = ap not (live-IsRecord (record_put slot r) r (IsRecord-put slot r valid some))
 
-  pub LiveSlotsGo-added : (live : List Bool) → slot < length live → is_live live slot ≡ false → LiveSlotsGo [] (slot ∷ []) live (live_after (record_put slot r ∷ []) live)
+  pub LiveSlotsGo-added : (live : List Bool) → slot < length live → is_live live slot ≡ false →
+      LiveSlotsGo [] (slot ∷ []) live (live_after (record_put slot r ∷ []) live)
   LiveSlotsGo-added live below free =
       subst (λ (b : Bool). LiveSlotsGo [] (slot ∷ []) live (set live slot b)) (sym live-put) (LiveSlotsGo-taken live slot below free)
 

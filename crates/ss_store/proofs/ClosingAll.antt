@@ -1,5 +1,6 @@
 -- Streams that are closed one after another, as they lie in an image.
-use Rattle.std.proofs.Common.{◌≡◌, ℕ, zero, suc, ◌<◌, ◌≤◌, List, [], ◌∷◌, length, flat_map, slice_get, slice_set, zip, refl, ap, sym, subst, ◌∙◌, arith, inl, inr, Option, Some, Result, Ok}
+use Rattle.std.proofs.Common.{◌≡◌, ℕ, zero, suc, ◌<◌, ◌≤◌, List, [], ◌∷◌, length, flat_map, slice_get, slice_set, zip, refl, ap, sym, subst, ◌∙◌}
+use Rattle.std.proofs.Common.{arith, inl, inr, Option, Some, Result, Ok}
 use Rattle.std.specs.Prelude.{All, Contains, Err}
 use Rattle.std.proofs.lemmas.Bool.{cases_lt}
 use Rattle.std.proofs.lemmas.List.Elements.{All-head, All-tail, Contains-append_left, Contains-append_right}

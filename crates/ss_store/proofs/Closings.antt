@@ -49,11 +49,13 @@ JoinsEach part new old after result =
 
 pub JoinsEach-none : {E : Type 0} (part : StreamParts) (disk : Told) → KnowsNow disk → JoinsEach {E = E} part part disk disk (Ok tt)
 JoinsEach-none part disk knows others s =
-    Turns-weaker (IsHeldIn others part s) (IsHeldIn others part s) (IsPartlyJoined others s) (IsPartlyJoined others s) (IsHeldIn others part s) (IsJoinedIn others part s)
+    Turns-weaker (IsHeldIn others part s) (IsHeldIn others part s) (IsPartlyJoined others s) (IsPartlyJoined others s) (IsHeldIn others part s)
+    (IsJoinedIn others part s)
     disk disk (Ok tt) (λ held. held) (λ held image left. left) (λ held image is. IsJoinedIn-none others part s image is)
     (Turns-same (IsHeldIn others part s) (IsPartlyJoined others s) disk (Ok tt) knows (IsPartlyJoined-none others part s disk.content))
 
-pub JoinsEach-more : {E F : Type 0} (part mid_part new : StreamParts) (old mid after : Told) (result : Result (Unit {0}) F) → JoinsEach {E = E} part mid_part old mid (Ok tt) →
+pub JoinsEach-more : {E F : Type 0} (part mid_part new : StreamParts) (old mid after : Told) (result : Result (Unit {0}) F) →
+    JoinsEach {E = E} part mid_part old mid (Ok tt) →
     JoinsEach mid_part new mid after result → JoinsEach part new old after result
 JoinsEach-more part mid_part new old mid after result first second others s = record {
   content = λ held.
@@ -69,7 +71,8 @@ JoinsEach-more part mid_part new old mid after result first second others s = re
 
 -- where none is due the windows are closed
 closes : (others : List (ℕ × Option Record)) (part : StreamParts) (s : Stream) (n : ℕ) (image : List ℕ) → IsStream s → n ≡ values_held (entries_of part) →
-    NoSpansAreDue (lengths_of (params_of part.target)) n (map span_held (entries_of part)) → IsJoinedIn others part s image → IsHeldIn others part (closed_stream s) image
+    NoSpansAreDue (lengths_of (params_of part.target)) n (map span_held (entries_of part)) → IsJoinedIn others part s image →
+    IsHeldIn others part (closed_stream s) image
 closes others part s n image stream all none is =
     let len = lengths_of s.params in
     let params : params_of part.target ≡ s.params = is.held.agrees.params in
@@ -84,11 +87,13 @@ closes others part s n image stream all none is =
     closed-only_end len (values_in s) s.windows is.windows stream.windows is.joins (NoneIsDue-spans len (values_in s) is.windows spans) in
     subst (λ ws. IsHeldIn others part (with_windows s ws) image) end is.held
 
-pub Turns-closes : {E : Type 0} (others : List (ℕ × Option Record)) (part now : StreamParts) (s : Stream) (n : ℕ) (old new : Told) → n ≡ values_held (entries_of now) →
+pub Turns-closes : {E : Type 0} (others : List (ℕ × Option Record)) (part now : StreamParts) (s : Stream) (n : ℕ) (old new : Told) →
+    n ≡ values_held (entries_of now) →
     NoSpansAreDue (lengths_of (params_of now.target)) n (map span_held (entries_of now)) → JoinsEach {E = E} part now old new (Ok tt) →
     Turns {T = Unit {0}} {E = E} (IsHeldIn others part s) (IsPartlyJoined others s) (IsHeldIn others now (closed_stream s)) old new (Ok tt)
 Turns-closes others part now s n old new all none joins =
-    Turns-weaker (IsHeldIn others part s) (IsHeldIn others part s) (IsPartlyJoined others s) (IsPartlyJoined others s) (IsJoinedIn others now s) (IsHeldIn others now (closed_stream s))
+    Turns-weaker (IsHeldIn others part s) (IsHeldIn others part s) (IsPartlyJoined others s) (IsPartlyJoined others s) (IsJoinedIn others now s)
+    (IsHeldIn others now (closed_stream s))
     old new (Ok tt) (λ held. held) (λ held image left. left) (λ held image is. closes others now s n image held.stream all none is) (joins others s)
 
 pub IsSameStream-more : (part mid new : StreamParts) → IsSameStream part mid → IsSameStream mid new → IsSameStream part new

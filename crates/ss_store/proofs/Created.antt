@@ -1,5 +1,6 @@
 -- A stream that is created: what is held then, and the records.
-use Rattle.std.proofs.Common.{◌≡◌, ℕ, ◌<◌, Bool, true, false, List, [], ◌∷◌, ◌++◌, length, map, flat_map, zip, refl, ap, sym, ◌∙◌, subst, arith, None, Some, Option, inl, inr, Result, IsPermutation}
+use Rattle.std.proofs.Common.{◌≡◌, ℕ, ◌<◌, Bool, true, false, List, [], ◌∷◌, ◌++◌, length, map, flat_map, zip, refl, ap, sym, ◌∙◌, subst, arith, None}
+use Rattle.std.proofs.Common.{Some, Option, inl, inr, Result, IsPermutation}
 use Rattle.std.specs.Prelude.{nat_le, ◌==◌}
 use Rattle.std.specs.List.{list_any}
 use Rattle.std.specs.List.Sorted.{IsStrictlyIncreasing}
@@ -187,7 +188,8 @@ module _ (store : StoreState) (content : List ℕ) (kept : StoreIsKept store con
       (λ image left. elim left [ inl was ↦ inl (before image was) | inr is ↦ inr (after image is) ]) after (adds others)
 
 -- over every disk
-none-named : (name : List ℕ) (parts : List StreamParts) → part_named name parts ≡ None → list_any (same_name name) (map (λ (p : StreamParts). p.name) parts) ≡ false
+none-named : (name : List ℕ) (parts : List StreamParts) → part_named name parts ≡ None →
+    list_any (same_name name) (map (λ (p : StreamParts). p.name) parts) ≡ false
 none-named name [] none = refl
 none-named name (p ∷ ps) none = elim (cases_Bool (same_name name p.name)) [
   | inl same ↦ (let wrong : Some p ≡ None = rw same at none in cc)
@@ -209,7 +211,8 @@ AreWhole-created parts live live_now part name params whole fresh number room no
     let limits = or_parts (nat_le MOST_STREAMS (length numbers)) (list_any (λ n. n == LAST_STREAM) numbers) room in
     let short = limits.0 in
     let less : length numbers < MOST_STREAMS = grind (arith, nat_tests) in
-    let rising : IsStrictlyIncreasing (numbers ++ next_number numbers ∷ []) = IsStrictlyIncreasing_push numbers (next_number numbers) whole.numbers (below_next numbers) in
+    let rising : IsStrictlyIncreasing (numbers ++ next_number numbers ∷ []) = IsStrictlyIncreasing_push numbers (next_number numbers) whole.numbers
+    (below_next numbers) in
     let apart : list_any (same_name part.name) (map (λ (p : StreamParts). p.name) parts) ≡ false = rw fresh.name_is (none-named name parts none) in
     let slots : slots_held part ≡ part.slot ∷ [] = rw (fresh.entries, fresh.landmarks) refl in
     let known : AreKnown part.landmarks = subst AreKnown (sym fresh.landmarks) AreKnown-none in
@@ -225,11 +228,13 @@ AreWhole-created parts live live_now part name params whole fresh number room no
       tiles = All-push (λ (p : StreamParts). TileFrom 1 (entries_of p)) parts part whole.tiles (rw fresh.entries tt);
       landmarks = All-push (λ (p : StreamParts). AreKnown p.landmarks × EndByLast p) parts part whole.landmarks (known, ends);
       slots = subst (λ l. IsPermutation l (live_slots live_now)) (sym is)
-          (IsPermutation-trans (all ++ part.slot ∷ []) (part.slot ∷ all) (live_slots live_now) (IsPermutation-append_comm all (part.slot ∷ [])) (go all whole.slots));
+          (IsPermutation-trans (all ++ part.slot ∷ []) (part.slot ∷ all) (live_slots live_now) (IsPermutation-append_comm all (part.slot ∷ []))
+          (go all whole.slots));
     }
 
 -- a store with a new stream is sound, while its record is written and if it isn't
-pub IsSound-created : (store : StoreState) (catalog : List (List ℕ × StreamId)) (records_now : RecordsState) (part : StreamParts) (name : List ℕ) (params : Params)
+pub IsSound-created : (store : StoreState) (catalog : List (List ℕ × StreamId)) (records_now : RecordsState) (part : StreamParts) (name : List ℕ)
+    (params : Params)
     (slot : ℕ) (stopped : Bool) → IsSound store catalog → store.stopped ≡ false → IsFreshPart part name params → IsNew store name params part.id.0 slot →
     (stopped ≡ false → IsSettled records_now.journal × LiveSlotsGo [] (part.slot ∷ []) store.records.live records_now.live) →
     IsSound (record { streams = store.streams ++ part ∷ []; records = records_now; stopped = stopped }) (catalog ++ (name, part.id) ∷ [])
@@ -241,7 +246,8 @@ IsSound-created store catalog records_now part name params slot stopped sound ru
       listed = rw (map-append entry_of parts (part ∷ []), sound.listed, fresh.name_is) refl;
       numbers = rw (map-append (λ (p : StreamParts). p.id.0) parts (part ∷ []), new.next) rising;
       settled = λ run. (goes run).0;
-      whole = λ run. AreWhole-created parts store.records.live records_now.live part name params (sound.whole runs) fresh new.next new.room new.named (goes run).1;
+      whole = λ run. AreWhole-created parts store.records.live records_now.live part name params (sound.whole runs) fresh new.next new.room new.named
+          (goes run).1;
     }
 
 -- what is replied

@@ -1,5 +1,6 @@
 -- A store in which a stream is created: what is known before the write, and what the store does then.
-use Rattle.std.proofs.Common.{◌≡◌, ◌∙◌, ◌∷◌, ◌++◌, ◌+◌, ◌≤◌, ℕ, Bool, true, false, List, [], flat_map, length, max, zip, ap, arith, refl, sym, subst, Err, None, Ok, Result, Some}
+use Rattle.std.proofs.Common.{◌≡◌, ◌∙◌, ◌∷◌, ◌++◌, ◌+◌, ◌≤◌, ℕ, Bool, true, false, List, [], flat_map, length, max, zip, ap, arith, refl, sym, subst}
+use Rattle.std.proofs.Common.{Err, None, Ok, Result, Some}
 use Rattle.ss_outside.specs.Disk.{DiskView, OfContent}
 use Rattle.ss_outside.specs.Step.{Step}
 use Rattle.ss_outside.specs.Verdict.{failed, fine}
@@ -69,30 +70,37 @@ module _ {store : StoreState} {catalog : List (List ℕ × StreamId)} {name : Li
 
   -- the event is applied
   pub applies-created : (now : RecordsState) (after : DiskView) (done : Unit {0}) → now.journal.extent ≤ max store.records.journal.extent (part.slot + 1) →
-      Step fine before after (Makes {T = Unit {0}} {E = Failed} (AddsRecord {T = Unit {0}} {E = Failed} part.slot (records.Stream part.id.0 name params) (Ok done)) now (Ok done)) →
+      Step fine before after
+      (Makes {T = Unit {0}} {E = Failed} (AddsRecord {T = Unit {0}} {E = Failed} part.slot (records.Stream part.id.0 name params) (Ok done)) now
+      (Ok done)) →
       Applies (Create name params) store (with_part now store.stopped) before after (Ok (record { n = 0; k = 0 }))
   applies-created now after done extent step =
       let low = is.is_new.low in
       Applies-done (Create name params) store (with_part now store.stopped) is.none before after (record { n = 0; k = 0 })
       (step-from step (λ told made.
       let kept = is.one_disk told in
-      let others = flat_map records_held (zip store.streams kept.streams) in
-      (StepsState-answers (Create name params) before.told after.told done (Ok (record { n = 0; k = 0 }))
-      (StepsState-created store before.told.content kept part name params is.fresh is.is_new.next (none-of kept) before.told after.told (Ok done) refl made.changes),
-      StoreIsKept-created store before.told.content kept part name params is.fresh is.is_new.next (none-of kept) now store.stopped after.told.content
-      made.kept ((made.changes others).content kept.held))))
+      let others = flat_map records_held (zip store.streams kept.streams) in (
+        StepsState-answers (Create name params) before.told after.told done (Ok (record { n = 0; k = 0 }))
+            (StepsState-created store before.told.content kept part name params is.fresh is.is_new.next (none-of kept) before.told after.told (Ok done) refl
+            made.changes),
+        StoreIsKept-created store before.told.content kept part name params is.fresh is.is_new.next (none-of kept) now store.stopped after.told.content
+            made.kept ((made.changes others).content kept.held),
+      )))
+      (λ new_one. refl)
       (said_of_created store.streams part name params is.fresh is.is_new.named)
       (λ plain. let wrong : false ≡ true = plain in absurd (cc))
       refl (omega (arith, extent, low))
 
   -- the disk failed
   pub applies-unwritten : (now : RecordsState) (after : DiskView) (e : Failed) →
-      Step failed before after (Makes {T = Unit {0}} {E = Failed} (AddsRecord {T = Unit {0}} {E = Failed} part.slot (records.Stream part.id.0 name params) (Err e)) now (Err e)) →
+      Step failed before after
+      (Makes {T = Unit {0}} {E = Failed} (AddsRecord {T = Unit {0}} {E = Failed} part.slot (records.Stream part.id.0 name params) (Err e)) now (Err e)) →
       Applies (Create name params) store (with_part now true) before after (Err Disk)
   applies-unwritten now after e step =
       Applies-failed (Create name params) store (with_part now true) is.none before after fault.Disk
       (step-from step (λ told made.
       let kept = is.one_disk told in
       StepsState-failed (Create name params) before.told after.told (Err e) Disk
-      (StepsState-created store before.told.content kept part name params is.fresh is.is_new.next (none-of kept) before.told after.told (Err e) refl made.changes)))
+      (StepsState-created store before.told.content kept part name params is.fresh is.is_new.next (none-of kept) before.told after.told (Err e) refl
+      made.changes)))
       (λ told. tt) tt refl (λ own. let wrong : false ≡ true = own in absurd (cc))

@@ -61,15 +61,19 @@ refuses-kept store content history event kept stands =
 -- how many streams and windows are held
 pub streams-kept : (store : StoreState) (content : List ℕ) (history : List Event) → StoreIsKept store content → Stands history content →
     length store.streams ≡ length (state history)
-streams-kept store content history kept stands = length-AllAgree store.streams (state history) (AllAgree-recovered store content (state history) kept stands.state).0
+streams-kept store content history kept stands =
+    length-AllAgree store.streams (state history)
+    (AllAgree-recovered store content (state history) kept stands.state).0
 
 windows_alike : (part : Option StreamParts) (o : Option Stream) (s : Stream) → o ≡ Some s → SomeAgree part o →
     IfSome part (λ p. length p.line.entries ≡ length s.windows)
 windows_alike None o s is agree = tt
 windows_alike (Some part) None s is agree = absurd agree
-windows_alike (Some part) (Some t) s is agree = let same : t ≡ s = cc in subst (λ u. length part.line.entries ≡ length u.windows) same (length-Agrees part t agree)
+windows_alike (Some part) (Some t) s is agree =
+    let same : t ≡ s = cc in subst (λ u. length part.line.entries ≡ length u.windows) same (length-Agrees part t agree)
 
-pub windows-kept : (store : StoreState) (content : List ℕ) (history : List Event) (number : ℕ) (s : Stream) → StoreIsKept store content → Stands history content →
+pub windows-kept : (store : StoreState) (content : List ℕ) (history : List Event) (number : ℕ) (s : Stream) →
+    StoreIsKept store content → Stands history content →
     stream_numbered number (state history) ≡ Some s → IfSome (part_numbered number store.streams) (λ part. length part.line.entries ≡ length s.windows)
 windows-kept store content history number s kept stands is =
     windows_alike (part_numbered number store.streams) (stream_numbered number (state history)) s is
@@ -121,7 +125,8 @@ found_alike parts streams name id (Some part) each named number numbered =
     subst (λ (i : StreamId). (s : Stream) × (stream_named name streams ≡ Some s) × (stream_numbered i.0 streams ≡ Some s)) (sym same)
     (both_found parts streams name part each (sym named) (subst (λ (i : StreamId). part_numbered i.0 parts ≡ Some part) same numbered))
 
-pub found-kept : (store : StoreState) (content : List ℕ) (history : List Event) (name : List ℕ) (id : StreamId) → StoreIsKept store content → Stands history content →
+pub found-kept : (store : StoreState) (content : List ℕ) (history : List Event) (name : List ℕ) (id : StreamId) →
+    StoreIsKept store content → Stands history content →
     Some id ≡ option_map (λ part. part.id) (part_named name store.streams) → part_numbered id.0 store.streams ≡ part_named name store.streams →
     (s : Stream) × (stream_named name (state history) ≡ Some s) × (stream_numbered id.0 (state history) ≡ Some s)
 found-kept store content history name id kept stands number numbered =

@@ -62,17 +62,20 @@ abbrev pub ReadsBoth : ℕ → List Landmark → Entry → Entry → List ℕ �
 ReadsBoth number landmarks w v content Reads =
     (others : List (ℕ × Option Record)) (one two : Window) →
     HasRecords ((w.slot, Some (window_record number one)) ∷ (v.slot, Some (window_record number two)) ∷ others) content →
-    span_held w ≡ span_of one → span_held v ≡ span_of two → IsTrue (lies_free landmarks one) → IsTrue (lies_free landmarks two) → one.summary.t_last < two.summary.t_first → Reads (joined one.summary two.summary)
+    span_held w ≡ span_of one → span_held v ≡ span_of two → IsTrue (lies_free landmarks one) → IsTrue (lies_free landmarks two) →
+    one.summary.t_last < two.summary.t_first → Reads (joined one.summary two.summary)
 
 module _ (others : List (ℕ × Option Record)) (part new : StreamParts) (s : Stream) (w v : Entry) (same : SameButLine part new)
     (pair : AreJoined (lengths_of (params_of part.target)) (values_held (entries_of part)) part.line.entries new.line.entries w v) where
   -- what is read where the stream is held
-  pub read-held : (content : List ℕ) (Reads : Figures → Type 0) → ReadsBoth part.id.0 part.landmarks.landmarks w v content Reads → (held : IsHeldIn others part s content) →
+  pub read-held : (content : List ℕ) (Reads : Figures → Type 0) → ReadsBoth part.id.0 part.landmarks.landmarks w v content Reads →
+      (held : IsHeldIn others part s content) →
       let j = JoinsHeld-pair others part new s w v same pair held.agrees held.stream in Reads (joined j.one.summary j.two.summary)
   read-held content Reads each held =
       let j = JoinsHeld-pair others part new s w v same pair held.agrees held.stream in
       each j.beside j.one j.two
-      (HasRecords-permutation (records_held (part, s) ++ others) ((w.slot, Some (window_record part.id.0 j.one)) ∷ (v.slot, Some (window_record part.id.0 j.two)) ∷ j.beside)
+      (HasRecords-permutation (records_held (part, s) ++ others)
+      ((w.slot, Some (window_record part.id.0 j.one)) ∷ (v.slot, Some (window_record part.id.0 j.two)) ∷ j.beside)
       content j.was held.records)
       j.first j.second j.first_free j.second_free j.later
 
@@ -127,7 +130,8 @@ module _ (others : List (ℕ × Option Record)) (part new : StreamParts) (s : St
       }
 
       left : (image : List ℕ) → Either (HasRecords was) (HasRecords is) image → IsPartlyJoined others s image
-      left image = ⊎_elim (λ stays. IsPartlyJoined-none others part s image (stayed image stays)) (λ turned. IsPartlyJoined-joined others new s image (reached image turned))
+      left image = ⊎_elim (λ stays. IsPartlyJoined-none others part s image (stayed image stays))
+          (λ turned. IsPartlyJoined-joined others new s image (reached image turned))
 
     -- two records are read, and one is put in their place
     pub Turns-join : Turns (IsHeldIn others part s) (IsPartlyJoined others s) (IsJoinedIn others new s) old after result
@@ -143,7 +147,8 @@ module _ (others : List (ℕ × Option Record)) (part new : StreamParts) (s : St
     }
 
 -- where the records weren't read nothing was written
-pub Turns-not_read : {T E : Type 0} (others : List (ℕ × Option Record)) (part : StreamParts) (s : Stream) (Q : List ℕ → Type 0) (old new : Told) (result : Result T E) →
+pub Turns-not_read : {T E : Type 0} (others : List (ℕ × Option Record)) (part : StreamParts) (s : Stream) (Q : List ℕ → Type 0) (old new : Told)
+    (result : Result T E) →
     IsErr result → KnowsNow old → OnlyReads old new → Turns (IsHeldIn others part s) (IsPartlyJoined others s) Q old new result
 Turns-not_read others part s Q old new result failed knows reads =
     Turns-failed (IsHeldIn others part s) (IsPartlyJoined others s) (IsHeldIn others part s) Q old new result result failed
@@ -164,7 +169,8 @@ LiveSlotsGo-two part new w v live live_now slots go =
     (LiveSlotsGo-beside slots.beside (w.slot ∷ v.slot ∷ []) (w.slot ∷ []) live live_now go)
 
 -- the slot that is named is that of one of the two windows
-pub IfChanged-window : (T : Type 0) {len : ℕ → ℕ} {n : ℕ} {now : List (At × Entry)} (part : StreamParts) (w v : Entry) → AreJoined len n part.line.entries now w v →
+pub IfChanged-window : (T : Type 0) {len : ℕ → ℕ} {n : ℕ} {now : List (At × Entry)} (part : StreamParts) (w v : Entry) →
+    AreJoined len n part.line.entries now w v →
     (failure : ReadError) → IfChanged (verdict_of_read {T = Figures} (Err failure)) (λ slot. (slot ≡ w.slot) ⊎ (slot ≡ v.slot)) →
     ChangedIsHeld (verdict_of_read {T = T} (Err failure)) part
 IfChanged-window T part w v pair fault.Disk one = tt

@@ -1,5 +1,6 @@
 -- The slots that are live, and where they go.
-use Rattle.std.proofs.Common.{Bool, IsPermutation, List, Some, [], append_assoc, ap, ap₂, arith, cond, false, filter, inl, inr, length, nat_eq, not, refl, set, suc, subst, sym, true, zero, ◌+◌, ◌++◌, ◌-◌, ◌∷◌, ◌<◌, ◌≡◌, ◌≢◌, ◌≤◌, ◌∙◌, ℕ}
+use Rattle.std.proofs.Common.{Bool, IsPermutation, List, Some, [], append_assoc, ap, ap₂, arith, cond, false, filter, inl, inr, length, nat_eq, not}
+use Rattle.std.proofs.Common.{refl, set, suc, subst, sym, true, zero, ◌+◌, ◌++◌, ◌-◌, ◌∷◌, ◌<◌, ◌≡◌, ◌≢◌, ◌≤◌, ◌∙◌, ℕ}
 use Rattle.std.specs.Prelude.{sum_by}
 use Rattle.std.specs.List.{AllByRecursion, range_with_len}
 use Rattle.std.proofs.lemmas.Bool.{both_ways, cases_Bool, cases_eq, cond-false, cond-true, eq-eqb, ne_eqb, not-true}
@@ -7,7 +8,8 @@ use Rattle.std.proofs.lemmas.Bool.Decides.{nat_tests}
 use Rattle.std.proofs.lemmas.List.Quantifiers.{position-Some}
 use Rattle.std.proofs.lemmas.List.{length-set}
 use Rattle.std.proofs.lemmas.List.Elements.{filter-append, filter_agree, filter_passes, recursion_from_All}
-use Rattle.std.proofs.lemmas.List.Sorted.{All-permutation, IsPermutation-append_left, IsPermutation-cons, IsPermutation-middle, IsPermutation-sym, IsPermutation-trans, sum_by-IsPermutation}
+use Rattle.std.proofs.lemmas.List.Sorted.{All-permutation, IsPermutation-append_left, IsPermutation-cons, IsPermutation-middle, IsPermutation-sym}
+use Rattle.std.proofs.lemmas.List.Sorted.{IsPermutation-trans, sum_by-IsPermutation}
 use Rattle.std.proofs.lemmas.List.Sums.{sum_by-cons}
 use Rattle.ss_records.specs.Live.{is_live, lowest_free}
 use Rattle.ss_records.proofs.LiveLemmas.{is_live-below, is_live-set}
@@ -36,22 +38,27 @@ pub LiveSlotsGo-none : (slots : List ℕ) (live : List Bool) → LiveSlotsGo slo
 LiveSlotsGo-none slots live others is = is
 
 -- one change after another
-pub LiveSlotsGo-then : (slots mid now : List ℕ) (live live_mid live_now : List Bool) → LiveSlotsGo slots mid live live_mid → LiveSlotsGo mid now live_mid live_now →
+pub LiveSlotsGo-then : (slots mid now : List ℕ) (live live_mid live_now : List Bool) → LiveSlotsGo slots mid live live_mid →
+    LiveSlotsGo mid now live_mid live_now →
     LiveSlotsGo slots now live live_now
 LiveSlotsGo-then slots mid now live live_mid live_now first second others is = second others (first others is)
 
 -- slots beside those that change
-pub LiveSlotsGo-beside : (beside slots now : List ℕ) (live live_now : List Bool) → LiveSlotsGo slots now live live_now → LiveSlotsGo (slots ++ beside) (now ++ beside) live live_now
+pub LiveSlotsGo-beside : (beside slots now : List ℕ) (live live_now : List Bool) → LiveSlotsGo slots now live live_now →
+    LiveSlotsGo (slots ++ beside) (now ++ beside) live live_now
 LiveSlotsGo-beside beside slots now live live_now go others is =
     let there = go (beside ++ others) (rw append_assoc at is) in
     subst (λ (l : List ℕ). IsPermutation l (live_slots live_now)) (sym (append_assoc now beside others)) there
 
 -- the order of the slots says nothing
-pub LiveSlotsGo-permutation : (slots slots' now now' : List ℕ) (live live_now : List Bool) → IsPermutation slots slots' → IsPermutation now now' → LiveSlotsGo slots now live live_now →
+pub LiveSlotsGo-permutation : (slots slots' now now' : List ℕ) (live live_now : List Bool) → IsPermutation slots slots' → IsPermutation now now' →
+    LiveSlotsGo slots now live live_now →
     LiveSlotsGo slots' now' live live_now
 LiveSlotsGo-permutation slots slots' now now' live live_now moved moved_now go others is =
-    let here = go others (IsPermutation-trans (slots ++ others) (slots' ++ others) (live_slots live) (IsPermutation-append_left others slots slots' moved) is) in
-    IsPermutation-trans (now' ++ others) (now ++ others) (live_slots live_now) (IsPermutation-append_left others now' now (IsPermutation-sym now now' moved_now)) here
+    let here = go others (IsPermutation-trans (slots ++ others) (slots' ++ others) (live_slots live)
+    (IsPermutation-append_left others slots slots' moved) is) in
+    IsPermutation-trans (now' ++ others) (now ++ others) (live_slots live_now)
+    (IsPermutation-append_left others now' now (IsPermutation-sym now now' moved_now)) here
 
 -- slots that are live alike
 live_slots-same : (first second : List Bool) → length first ≡ length second → ((slot : ℕ) → is_live first slot ≡ is_live second slot) →
@@ -183,7 +190,8 @@ filter-freed p q slot (k ∷ ks) same =
       | inl passes ↦
           elim (cases_Bool (nat_eq k slot)) [
             | inl here ↦ let off : q k ≡ false = at ∙ cond-true (nat_eq k slot) false (p k) here in rw (passes, here, off) rest
-            | inr other ↦ let on : q k ≡ true = at ∙ cond-false (nat_eq k slot) false (p k) other ∙ passes in rw (passes, other, on) (ap (λ (l : List ℕ). k ∷ l) rest)
+            | inr other ↦ let on : q k ≡ true = at ∙ cond-false (nat_eq k slot) false (p k) other ∙ passes in
+                rw (passes, other, on) (ap (λ (l : List ℕ). k ∷ l) rest)
           ]
       | inr fails ↦
           elim (cases_Bool (nat_eq k slot)) [
@@ -210,7 +218,14 @@ IsOneLive-permutation live slot rest moved =
     let eq : nat_eq slot slot ≡ true = grind (arith, nat_tests) in
     let one : is_at slot slot ≡ 1 = cond-true (nat_eq slot slot) 1 0 eq in
     let none : sum_by (is_at slot) rest ≡ 0 =
-    omega (arith, sum_by-IsPermutation (is_at slot) (slot ∷ rest) (live_slots live) moved, sum_by-cons (is_at slot) slot rest, one, once (is_live live) slot 0 (length live)) in
+    omega (
+      arith,
+      sum_by-IsPermutation (is_at slot) (slot ∷ rest) (live_slots live) moved,
+      sum_by-cons (is_at slot) slot rest,
+      one,
+      once
+          (is_live live) slot 0 (length live),
+    ) in
     let left : filter (is_beside slot) (slot ∷ rest) ≡ rest = rw eq (filter-beside slot rest (all-beside slot rest none)) in
     let right : filter (is_beside slot) (live_slots live) ≡ live_slots freed =
     filter-freed (is_live live) (is_live freed) slot range (λ k. is_live-set live slot k false below)
@@ -219,7 +234,8 @@ IsOneLive-permutation live slot rest moved =
     record {
       below = below;
       is = is;
-      others = subst (λ (l : List ℕ). IsPermutation l (live_slots freed)) left (subst (λ (l : List ℕ). IsPermutation (filter (is_beside slot) (slot ∷ rest)) l) right kept);
+      others = subst (λ (l : List ℕ). IsPermutation l (live_slots freed)) left
+          (subst (λ (l : List ℕ). IsPermutation (filter (is_beside slot) (slot ∷ rest)) l) right kept);
     }
 
 -- a slot that is live is made live again
@@ -273,7 +289,8 @@ module _ (live : List Bool) (kept freed : ℕ) (two : AreTwoLive live kept freed
       let live' = set live freed false in
       let long = length-set live freed false in
       let is : is_live live' kept ≡ true =
-      is_live-set live freed kept false two.freed_below ∙ cond-false (nat_eq kept freed) false (is_live live kept) (ne_eqb kept freed two.apart) ∙ two.kept_live in
+      is_live-set live freed kept false two.freed_below ∙ cond-false (nat_eq kept freed) false (is_live live kept) (ne_eqb kept freed two.apart) ∙
+      two.kept_live in
       live_slots-same (set live' kept true) live' (length-set live' kept true) (λ k. is_live-again live' kept k (omega (arith, long, two.kept_below)) is)
 
   pub LiveSlotsGo-freed : LiveSlotsGo (kept ∷ freed ∷ []) (kept ∷ []) live (set live freed false)

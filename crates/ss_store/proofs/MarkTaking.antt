@@ -1,5 +1,6 @@
 -- A store in which the landmarks of a stream take a mark: what is known before the call, and what the store does then.
-use Rattle.std.proofs.Common.{◌≡◌, ◌∙◌, ℕ, ℤ, ◌+◌, ◌<◌, ◌≤◌, Bool, true, false, List, get_or, slice_get, slice_set, length, map, ap, arith, refl, sym, subst, Err, None, Ok, Result, Some}
+use Rattle.std.proofs.Common.{◌≡◌, ◌∙◌, ℕ, ℤ, ◌+◌, ◌<◌, ◌≤◌, Bool, true, false, List, get_or, slice_get, slice_set, length, map, ap, arith, refl, sym}
+use Rattle.std.proofs.Common.{subst, Err, None, Ok, Result, Some}
 use Rattle.ss_outside.specs.Disk.{DiskView, OfContent}
 use Rattle.ss_outside.specs.Step.{Step}
 use Rattle.ss_outside.specs.Verdict.{failed, fine}
@@ -16,7 +17,7 @@ use Rattle.ss_records.specs.Kept.{RecordsState}
 use Rattle.ss_recover.specs.Held.{TileFrom, entries_of, mark_slots, slots_held}
 use Rattle.ss_recover.specs.declared.parts.StreamParts.{StreamParts}
 use Rattle.ss_store.specs.Admitted.{IsMarker}
-use Rattle.ss_store.specs.Applied.{Applies, StandsOn, is_plain_value}
+use Rattle.ss_store.specs.Applied.{Applies, StandsOn, is_creation, is_plain_value}
 use Rattle.ss_store.specs.Changing.{CanTakeMark, HasRoomFor, HasSameWindows, HasTakenMark, KeepsWhole, TakesMark}
 use Rattle.ss_store.specs.Held.{values_held}
 use Rattle.ss_store.specs.Kept.{IsSound, SameButSpare, StoreIsKept, StoreState, of_part, refuses_held, without_spare}
@@ -27,7 +28,9 @@ use Rattle.ss_store.specs.declared.marking.Mark.{Mark}
 use Rattle.ss_store.specs.declared.marking.Mark.TheVariants as marks
 use Rattle.ss_query.specs.declared.read_error.ReadError.TheVariants as fault
 use Rattle.ss_store.proofs.Among.{others_of}
-use Rattle.ss_store.proofs.Appended.{AreWhole-IsSpared, IsSound-set, IsSpared, IsSpared-marks, SameButSpare-IsSpared, StepsState-marked, StoreIsKept-IsSpared, StoreIsKept-marked, held-marker, live-IsSpared, marking, part-read, said_of_set, tiles-IsSpared, whole-changed}
+use Rattle.ss_store.proofs.Appended.{AreWhole-IsSpared, IsSound-set, IsSpared, IsSpared-marks, SameButSpare-IsSpared, StepsState-marked}
+use Rattle.ss_store.proofs.Appended.{StoreIsKept-IsSpared, StoreIsKept-marked, held-marker, live-IsSpared, marking, part-read, said_of_set}
+use Rattle.ss_store.proofs.Appended.{tiles-IsSpared, whole-changed}
 use Rattle.ss_store.proofs.Applying.{Applies-done, Applies-failed}
 use Rattle.ss_store.proofs.MarkedCalls.{CanBeSaid-mark, mark_refusal-same}
 use Rattle.ss_store.proofs.Refusals.{of_part-named}
@@ -63,6 +66,12 @@ taking-mark {store} {view} {catalog} {name} {t} {mark} {place} {slot} {was} {mar
   read = read;
   room = room;
 }
+
+-- nor does a mark create a stream
+not-creation : (name : List ℕ) (t : ℕ) (mark : Mark) → is_creation (event_of name t mark) ≡ true → ⊥
+not-creation name t marks.Open made = let wrong : false ≡ true = made in cc
+not-creation name t (marks.Value v) made = let wrong : false ≡ true = made in cc
+not-creation name t marks.Close made = let wrong : false ≡ true = made in cc
 
 -- an event of landmarks is no value outside them
 not-plain : (parts : List StreamParts) (name : List ℕ) (t : ℕ) (mark : Mark) →
@@ -103,13 +112,18 @@ module _ {store : StoreState} {catalog : List (List ℕ × StreamId)} {name : Li
   sound-spared =
       IsSound-set store catalog is.sound place is.marker.part (record was { landmarks = marks }) is.marker.at (ap (λ (p : StreamParts). p.id) room.same)
       (ap (λ (p : StreamParts). p.name) room.same) store.records store.stopped
-      (λ run. (is.sound.settled is.runs, AreWhole-IsSpared store place is.marker.part (record was { landmarks = marks }) is.marker.at room (is.sound.whole is.runs)))
+      (λ run. (
+        is.sound.settled is.runs,
+        AreWhole-IsSpared store place is.marker.part (record was { landmarks = marks }) is.marker.at room
+            (is.sound.whole is.runs),
+      ))
 
   pub same-spared : SameButSpare store (with_stream (record was { landmarks = marks }) store.records store.stopped)
   same-spared = SameButSpare-IsSpared store place is.marker.part (record was { landmarks = marks }) is.marker.at room
 
   pub stands-spared : StandsOn (with_stream (record was { landmarks = marks }) store.records store.stopped) before
-  stands-spared run told = StoreIsKept-IsSpared store place is.marker.part (record was { landmarks = marks }) is.marker.at room before.told.content (is.one_disk told)
+  stands-spared run told = StoreIsKept-IsSpared store place is.marker.part (record was { landmarks = marks }) is.marker.at room before.told.content
+      (is.one_disk told)
 
   pub live-spared : AreSomeLive (slots_held (record was { landmarks = marks })) store.records.live
   live-spared = live-IsSpared store place is.marker.part (record was { landmarks = marks }) is.marker.at room (is.sound.whole is.runs)
@@ -174,12 +188,15 @@ module _ {store : StoreState} {catalog : List (List ℕ × StreamId)} {name : Li
           let others = others_of place store.streams kept.streams in
           let s = (marking store content kept name t mark place slot is.marker is.none said begun).stream in
           let held = held-marker store content kept name t mark place slot is.marker is.none said begun (record was { landmarks = marks }) now room in
-          let turns = takes.turns others s in
-          (StepsState-answers (event_of name t mark) before.told after.told done (Ok (record { n = n; k = k }))
-          (StepsState-marked store content kept name t mark place slot is.marker is.none said begun (record was { landmarks = marks }) now room before.told
-          after.told (Ok done) refl turns),
-          StoreIsKept-marked store content kept name t mark place slot is.marker is.none said begun (record was { landmarks = marks }) now room records
-          store.stopped after.told.content takes.kept (turns.content held))))
+          let turns = takes.turns others s in (
+            StepsState-answers (event_of name t mark) before.told after.told done (Ok (record { n = n; k = k }))
+                (StepsState-marked store content kept name t mark place slot is.marker is.none said begun (record was { landmarks = marks }) now room
+                before.told
+                after.told (Ok done) refl turns),
+            StoreIsKept-marked store content kept name t mark place slot is.marker is.none said begun (record was { landmarks = marks }) now room records
+                store.stopped after.told.content takes.kept (turns.content held),
+          )))
+          (λ made. absurd (not-creation name t mark made))
           (rw (event_name-mark name t mark)
           (said_of_set name store.streams place is.marker.part now n k is.sound.numbers is.marker.named is.marker.at same_name values windows))
           (λ plain. absurd (not-plain store.streams name t mark is.begun plain))

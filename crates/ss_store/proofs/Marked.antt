@@ -1,7 +1,9 @@
 -- A stream whose landmarks take an event: what it is afterwards, and which records and slots it has.
-use Rattle.std.proofs.Common.{◌≡◌, ◌∙◌, ℕ, zero, suc, ℤ, ◌+◌, ◌≤◌, true, not, ◌&&◌, is_some, List, [], ◌∷◌, ◌++◌, length, map, zip, refl, ap, ap₂, sym, subst, arith, append-nil, append_assoc, length-append, IsPermutation, Option, None, Some, IsTrue}
+use Rattle.std.proofs.Common.{◌≡◌, ◌∙◌, ℕ, zero, suc, ℤ, ◌+◌, ◌≤◌, true, not, ◌&&◌, is_some, List, [], ◌∷◌, ◌++◌, length, map, zip, refl, ap, ap₂}
+use Rattle.std.proofs.Common.{sym, subst, arith, append-nil, append_assoc, length-append, IsPermutation, Option, None, Some, IsTrue}
 use Rattle.std.specs.Prelude.{⊤, slice_index}
-use Rattle.std.proofs.lemmas.List.Sorted.{IsPermutation-append_left, IsPermutation-append_right, IsPermutation-middle, IsPermutation-sym, IsPermutation-to_front, IsPermutation-trans}
+use Rattle.std.proofs.lemmas.List.Sorted.{IsPermutation-append_left, IsPermutation-append_right, IsPermutation-middle, IsPermutation-sym}
+use Rattle.std.proofs.lemmas.List.Sorted.{IsPermutation-to_front, IsPermutation-trans}
 use Rattle.ss_catalog.specs.declared.TheConstants.{LAST_TIME}
 use Rattle.ss_catalog.specs.declared.stream_id.StreamId.{StreamId}
 use Rattle.ss_codec.specs.Record.{is_valid}
@@ -18,7 +20,8 @@ use Rattle.ss_model.specs.Standing.{IsStream}
 use Rattle.ss_model.specs.State.{Stream}
 use Rattle.ss_model.specs.Windows.{newest_time}
 use Rattle.ss_model.proofs.StreamLemmas.{IsStream-closed, IsStream-marked, IsStream-opened, newest-past}
-use Rattle.ss_recover.specs.Held.{Agrees, all_value_records, entries_of, in_slots, landmark_record, landmark_records, marks_held, span_held, stream_record, value_records, values_said, window_record, window_slots, windows_held}
+use Rattle.ss_recover.specs.Held.{Agrees, all_value_records, entries_of, in_slots, landmark_record, landmark_records, marks_held, span_held}
+use Rattle.ss_recover.specs.Held.{stream_record, value_records, values_said, window_record, window_slots, windows_held}
 use Rattle.ss_recover.specs.declared.parts.StreamParts.{StreamParts}
 use Rattle.ss_recover.proofs.Marks.{all_value_records-append, landmark_records-append, length-all_value_records, length-landmark_records, value_records-append}
 use Rattle.ss_recover.proofs.Permutations.{IsPermutation-same}
@@ -26,7 +29,8 @@ use Rattle.ss_store.specs.Kept.{is_early_held}
 use Rattle.ss_store.specs.Marking.{CanMark, landmarks_after, mark_record, mark_refusal, slots_after, value_slots_after, values_open, with_mark}
 use Rattle.ss_store.specs.declared.marking.Mark.{Mark}
 use Rattle.ss_store.specs.declared.marking.Mark.TheVariants.{Open, Value, Close}
-use Rattle.ss_store.proofs.OpenMarks.{HasOpen, HasOpen-can, change-has, closes, count-has, later-last, latest_of-after, newest-open, one-passed, open-has, takes, two-passed, values-has}
+use Rattle.ss_store.proofs.OpenMarks.{HasOpen, HasOpen-can, change-has, closes, count-has, later-last, latest_of-after, newest-open, one-passed}
+use Rattle.ss_store.proofs.OpenMarks.{open-has, takes, two-passed, values-has}
 
 pub length-change_last : (change : Landmark → Landmark) (ls : List Landmark) → length (change_last change ls) ≡ length ls
 length-change_last change [] = refl
@@ -139,7 +143,8 @@ module _ (number : ℕ) (slots value_slots : List ℕ) (ls : List Landmark) (hav
     pub marks-last : (now : List Landmark) (l : Landmark) (firsts : List ℕ) (slot : ℕ) → slots ≡ firsts ++ slot ∷ [] → now ≡ has.before ++ l ∷ [] →
         l.values ≡ has.last.values →
         IsPermutation ((slot, Some (landmark_record number (length has.before + 1) l))
-        ∷ (in_slots firsts (landmark_records number 1 has.before) ++ in_slots value_slots (all_value_records number 1 ls))) (marks_in number slots value_slots now)
+        ∷ (in_slots firsts (landmark_records number 1 has.before) ++ in_slots value_slots (all_value_records number 1 ls)))
+        (marks_in number slots value_slots now)
     marks-last now l firsts slot is ends same =
         let k = length has.before + 1 in
         let r = landmark_record number k l in
@@ -202,21 +207,24 @@ moved-beside ws ms now x moved =
     IsPermutation-trans (x ∷ (ws ++ ms)) (ws ++ x ∷ ms) (ws ++ now) (IsPermutation-sym (ws ++ x ∷ ms) (x ∷ (ws ++ ms)) (IsPermutation-middle ws x ms))
     (IsPermutation-append_right ws (x ∷ ms) now moved)
 
-pub moved-in : {X : Type 0} (ws ms now others : List X) (x : X) → IsPermutation (x ∷ ms) now → IsPermutation (x ∷ ((ws ++ ms) ++ others)) ((ws ++ now) ++ others)
+pub moved-in : {X : Type 0} (ws ms now others : List X) (x : X) → IsPermutation (x ∷ ms) now →
+    IsPermutation (x ∷ ((ws ++ ms) ++ others)) ((ws ++ now) ++ others)
 moved-in ws ms now others x moved =
     IsPermutation-append_left others (x ∷ (ws ++ ms)) (ws ++ now) (moved-beside ws ms now x moved)
 
 module _ (part new : StreamParts) (slot t : ℕ) (mark : Mark) (marked : IsMarked part new slot t mark) where
   pub same_windows : (s : Stream) → windows_held (new, with_mark s t mark) ≡ windows_held (part, s)
   same_windows s =
-      ap₂ (λ (k : ℕ) (es : List Entry). (k, Some (stream_record s)) ∷ zip (map (λ (e : Entry). e.slot) es) (map (λ w. Some (window_record s.number w)) s.windows))
+      ap₂ (λ (k : ℕ) (es : List Entry). (k, Some (stream_record s)) ∷ zip (map (λ (e : Entry). e.slot) es)
+      (map (λ w. Some (window_record s.number w)) s.windows))
       marked.own_slot marked.entries
 
   pub same_window_slots : window_slots new ≡ window_slots part
   same_window_slots = ap₂ (λ (k : ℕ) (es : List Entry). k ∷ map (λ (e : Entry). e.slot) es) marked.own_slot marked.entries
 
   pub marks_after : (s : Stream) → marks_held (new, with_mark s t mark)
-      ≡ marks_in s.number (slots_after part.landmarks.slots slot mark) (value_slots_after part.landmarks.value_slots slot mark) (landmarks_after s.landmarks t mark)
+      ≡ marks_in s.number (slots_after part.landmarks.slots slot mark) (value_slots_after part.landmarks.value_slots slot mark)
+      (landmarks_after s.landmarks t mark)
   marks_after s = ap₂ (λ own values. marks_in s.number own values (landmarks_after s.landmarks t mark)) marked.slots marked.value_slots
 
 -- ---- the stream afterwards
@@ -289,7 +297,8 @@ Agrees-mark part new slot t mark s marked can accepted agrees stream = record {
 pub marks-added : (part : StreamParts) (slot t : ℕ) (mark : Mark) (s : Stream) → IsAdding mark → CanMark part.landmarks.landmarks t mark → Agrees part s →
     IsStream s →
     IsPermutation ((slot, Some (mark_record part t mark)) ∷ marks_held (part, s))
-    (marks_in s.number (slots_after part.landmarks.slots slot mark) (value_slots_after part.landmarks.value_slots slot mark) (landmarks_after s.landmarks t mark))
+    (marks_in s.number (slots_after part.landmarks.slots slot mark) (value_slots_after part.landmarks.value_slots slot mark)
+    (landmarks_after s.landmarks t mark))
 marks-added part slot t Open s adding can agrees stream =
     let number = agrees.number in
     let landmarks = agrees.landmarks in

@@ -1,5 +1,6 @@
 -- A call that adds an event of landmarks: what it turns the disk into, and what is held after it.
-use Rattle.std.proofs.Common.{◌≡◌, ◌∙◌, ℕ, ℤ, ◌+◌, ◌-◌, ◌≤◌, Bool, List, [], ◌∷◌, ◌++◌, length, refl, ap, sym, subst, arith, length-append, IsPermutation, Option, None, Some, MatchOption, inl, inr, ⊎_elim, IsTrue, Result}
+use Rattle.std.proofs.Common.{◌≡◌, ◌∙◌, ℕ, ℤ, ◌+◌, ◌-◌, ◌≤◌, Bool, List, [], ◌∷◌, ◌++◌, length, refl, ap, sym, subst, arith, length-append}
+use Rattle.std.proofs.Common.{IsPermutation, Option, None, Some, MatchOption, inl, inr, ⊎_elim, IsTrue, Result}
 use Rattle.std.specs.Prelude.{◌⊎◌, option_map, slice_index}
 use Rattle.std.proofs.lemmas.List.Sorted.{IsPermutation-refl, IsPermutation-sym}
 use Rattle.ss_outside.specs.Disk.{Told}
@@ -17,12 +18,14 @@ use Rattle.ss_model.specs.History.{CanBeSaid}
 use Rattle.ss_model.specs.Marks.{with_closed}
 use Rattle.ss_model.specs.Standing.{IsStream}
 use Rattle.ss_model.specs.State.{Stream}
-use Rattle.ss_recover.specs.Held.{Agrees, all_value_records, in_slots, landmark_record, landmark_records, mark_slots, marks_held, records_held, slots_held, window_slots, windows_held}
+use Rattle.ss_recover.specs.Held.{Agrees, all_value_records, in_slots, landmark_record, landmark_records, mark_slots, marks_held, records_held}
+use Rattle.ss_recover.specs.Held.{slots_held, window_slots, windows_held}
 use Rattle.ss_recover.specs.declared.parts.StreamParts.{StreamParts}
 use Rattle.ss_store.specs.Calls.{Turns}
 use Rattle.ss_query.specs.Held.{IsHeldIn}
 use Rattle.ss_store.specs.Kept.{without_spare}
-use Rattle.ss_store.specs.Marking.{CanMark, FitsMark, IsItsSlot, IsMarkedOrNot, event_of, landmarks_after, mark_record, mark_refusal, slots_after, value_slots_after, slots_used, values_open, with_mark}
+use Rattle.ss_store.specs.Marking.{CanMark, FitsMark, IsItsSlot, IsMarkedOrNot, event_of, landmarks_after, mark_record, mark_refusal, slots_after}
+use Rattle.ss_store.specs.Marking.{value_slots_after, slots_used, values_open, with_mark}
 use Rattle.ss_store.specs.Slots.{AddsRecord, AreSomeLive, Either, LiveSlotsGo, Replaces, live_slots}
 use Rattle.ss_query.specs.Slots.{HasRecords}
 use Rattle.ss_store.specs.declared.marking.Mark.{Mark}
@@ -31,14 +34,16 @@ use Rattle.ss_store.proofs.Calls.{Turns-weaker}
 use Rattle.ss_store.proofs.LiveSlots.{AreSomeLive-permutation, LiveSlotsGo-beside, LiveSlotsGo-permutation}
 use Rattle.ss_store.proofs.OpenMarks.{HasOpen, HasOpen-can, change-has, closes, count-has, start-has, takes, values-has}
 use Rattle.ss_query.proofs.Records.{HasRecords-permutation}
-use Rattle.ss_store.proofs.Marked.{Agrees-mark, HaveSlots, IsAdding, IsMarked, IsStream-mark, last-slot, length-change_last, marks-added, marks-last, marks_after, marks_in, moved-beside, moved-in, pushed-first, pushed-second, same_window_slots, same_windows}
+use Rattle.ss_store.proofs.Marked.{Agrees-mark, HaveSlots, IsAdding, IsMarked, IsStream-mark, last-slot, length-change_last, marks-added, marks-last}
+use Rattle.ss_store.proofs.Marked.{marks_after, marks_in, moved-beside, moved-in, pushed-first, pushed-second, same_window_slots, same_windows}
 
 -- ---- the call
 
 module _ (part new : StreamParts) (slot t : ℕ) (mark : Mark) (marked : IsMarked part new slot t mark) (can : CanMark part.landmarks.landmarks t mark)
     (accepted : mark_refusal part t mark ≡ None) (early : t ≤ LAST_TIME) (valid : IsTrue (is_valid (mark_record part t mark)))
     (others : List (ℕ × Option Record)) (s : Stream) where
-  IsHeldIn-mark : (image : List ℕ) → Agrees part s → IsStream s → HasRecords ((windows_held (part, s) ++ marks_held (new, with_mark s t mark)) ++ others) image →
+  IsHeldIn-mark : (image : List ℕ) → Agrees part s → IsStream s →
+      HasRecords ((windows_held (part, s) ++ marks_held (new, with_mark s t mark)) ++ others) image →
       IsHeldIn others new (with_mark s t mark) image
   IsHeldIn-mark image agrees stream has = record {
     agrees = Agrees-mark part new slot t mark s marked can accepted agrees stream;
@@ -53,7 +58,8 @@ module _ (part new : StreamParts) (slot t : ℕ) (mark : Mark) (marked : IsMarke
       Turns (HasRecords before) (Either (HasRecords before) (HasRecords now)) (HasRecords now) old after result →
       Turns (IsHeldIn others part s) (IsMarkedOrNot others part s t mark) (IsHeldIn others new (with_mark s t mark)) old after result
   Turns-mark before now old after result was is turns =
-      Turns-weaker (HasRecords before) (IsHeldIn others part s) (Either (HasRecords before) (HasRecords now)) (IsMarkedOrNot others part s t mark) (HasRecords now)
+      Turns-weaker (HasRecords before) (IsHeldIn others part s) (Either (HasRecords before) (HasRecords now)) (IsMarkedOrNot others part s t mark)
+      (HasRecords now)
       (IsHeldIn others new (with_mark s t mark)) old after result
       (λ held.
       HasRecords-permutation (records_held (part, s) ++ others) before old.content
@@ -130,7 +136,8 @@ Turns-replaced part new slot t marked can accepted early valid known last others
     let values = values-has ls has in
     let start = start-has ls has in
     let is : r ≡ landmark_record s.number k (closed_at t has.last) = λ i. records.Landmark (number i) (count i) (values i) (start i) (Some t) in
-    let closed = marks-last s.number part.landmarks.slots part.landmarks.value_slots ls have t has (with_closed ls t) (closed_at t has.last) last.firsts slot last.is
+    let closed = marks-last s.number part.landmarks.slots part.landmarks.value_slots ls have t has (with_closed ls t) (closed_at t has.last)
+    last.firsts slot last.is
     (change-has (closed_at t) 0 ls has) refl in
     subst (λ l. IsPermutation ((slot, Some r) ∷ rest) ((windows_held (part, s) ++ l) ++ others)) (sym (marks_after part new slot t Close marked s))
     (moved-in (windows_held (part, s)) ms _ others (slot, Some r)

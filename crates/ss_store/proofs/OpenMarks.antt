@@ -1,5 +1,6 @@
 -- The open landmark among landmarks in order, and their times once one opens, takes a value or closes.
-use Rattle.std.proofs.Common.{◌≡◌, ◌∙◌, ℕ, ◌+◌, ◌<◌, ◌≤◌, Bool, true, false, not, ◌&&◌, List, [], ◌∷◌, ◌++◌, length, max, refl, ap, sym, subst, arith, length-append, Option, None, Some, IfSome, IsNone, MatchOption, is_none, is_some, inl, inr}
+use Rattle.std.proofs.Common.{◌≡◌, ◌∙◌, ℕ, ◌+◌, ◌<◌, ◌≤◌, Bool, true, false, not, ◌&&◌, List, [], ◌∷◌, ◌++◌, length, max, refl, ap, sym, subst, arith}
+use Rattle.std.proofs.Common.{length-append, Option, None, Some, IfSome, IsNone, MatchOption, is_none, is_some, inl, inr}
 use Rattle.std.specs.Prelude.{All, nat_le, ◌==◌}
 use Rattle.std.specs.List.{list_all}
 use Rattle.std.specs.Option.{option_map_or}
@@ -12,7 +13,8 @@ use Rattle.ss_landmarks.specs.Landmark.{Landmark, LandmarkValue, all_values, cha
 use Rattle.ss_landmarks.specs.Order.{AllEndBy, AreLandmarks, CanClose, CanOpen, CanTake, EndsBy, FollowFrom, IsClosedBefore, IsLandmark}
 use Rattle.ss_landmarks.specs.declared.landmarks.TheConstants.{LATEST_TIME}
 use Rattle.ss_landmarks.proofs.OrderLemmas.{cases-finish}
-use Rattle.ss_landmarks.proofs.TimeLemmas.{AllEndBy-close, AllEndBy-later, AllEndBy-open, AllEndBy-take, CanClose-after, CanOpen-after, CanTake-after, CanTake-first}
+use Rattle.ss_landmarks.proofs.TimeLemmas.{AllEndBy-close, AllEndBy-later, AllEndBy-open, AllEndBy-take, CanClose-after, CanOpen-after, CanTake-after}
+use Rattle.ss_landmarks.proofs.TimeLemmas.{CanTake-first}
 use Rattle.ss_landmarks.specs.Landmarks.{IsState}
 use Rattle.ss_journal.specs.declared.format.TheConstants.{MOST_SLOTS}
 use Rattle.ss_model.specs.Marks.{has_open, later, latest_in, latest_of, lies_free}

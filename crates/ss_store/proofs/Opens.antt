@@ -155,7 +155,8 @@ pub KeepsState-rebuilt : {T E : Type 0} (parts : List StreamParts) (old new : To
     Turns (HasRebuilt parts is.streams) M Q old new result → KeepsState old new result
 KeepsState-rebuilt parts old new result is M Q crash after turns streams =
     let same : Recovers streams old.content → (image : List ℕ) → Recovers (closed_state is.streams) image → Recovers streams image =
-    λ has image left. subst (λ l. Recovers l image) (Recovers-same (closed_state is.streams) streams old.content (Recovers-rebuilt parts old.content is) has) left in
+    λ has image left. subst (λ l. Recovers l image)
+    (Recovers-same (closed_state is.streams) streams old.content (Recovers-rebuilt parts old.content is) has) left in
     Turns-weaker (HasRebuilt parts is.streams) (Recovers streams) M (Recovers streams) Q (Recovers streams) old new result
     (λ has. is.records) (λ has image left. same has image (crash image left)) (λ has image left. same has image (after image left)) turns
 
@@ -230,7 +231,8 @@ unwritten-fault (fault.Changed slot) P = tt
 -- a store that wasn't opened, with nothing written
 pub OpensStore-read : (error : OpenError) (old new : Told) → KnowsNow old → OnlyReads old new → OpensAs old.content (Err error) → OpensStore (Err error) old new
 OpensStore-read error old new knows reads opens =
-    let keeps : KeepsState {T = StoreState} old new (Err error) = λ streams. Turns-reads (Recovers streams) (Recovers streams) old new (Err error) knows reads (λ has. has) in
+    let keeps : KeepsState {T = StoreState} old new (Err error) = λ streams. Turns-reads (Recovers streams) (Recovers streams) old new (Err error)
+    knows reads (λ has. has) in
     record {
       opens = opens;
       kept = tt;

@@ -1,5 +1,6 @@
 -- Two neighbours in a line that become one: their places, their positions, their slots and their records.
-use Rattle.std.proofs.Common.{◌≡◌, ◌∙◌, ℕ, ◌+◌, ◌-◌, ◌<◌, ◌≤◌, Bool, true, false, List, [], ◌∷◌, ◌++◌, map, length, refl, sym, ap, ap₂, subst, arith, append_assoc, length-append, set, IsPermutation, Option, Some}
+use Rattle.std.proofs.Common.{◌≡◌, ◌∙◌, ℕ, ◌+◌, ◌-◌, ◌<◌, ◌≤◌, Bool, true, false, List, [], ◌∷◌, ◌++◌, map, length, refl, sym, ap}
+use Rattle.std.proofs.Common.{ap₂, subst, arith, append_assoc, length-append, set, IsPermutation, Option, Some}
 use Rattle.std.specs.Prelude.{zip, IsTrue}
 use Rattle.std.specs.List.{list_all, list_any, remove}
 use Rattle.std.proofs.Math.Seq.{set-append_seam}
@@ -28,7 +29,9 @@ use Rattle.ss_model.specs.declared.types.Window.{Window}
 use Rattle.ss_model.proofs.JoinLemmas.{JoinsDue-one, newest_time-JoinsDue}
 use Rattle.ss_model.proofs.StreamLemmas.{IsStream-joined}
 use Rattle.ss_model.proofs.Tiles.{AreNeighbours-from_AreWindows}
-use Rattle.ss_recover.specs.Held.{Agrees, TileFrom, all_value_records, entries_of, in_slots, landmark_records, mark_slots, marks_held, records_held, slots_held, span_held, span_of, stream_record, window_record, window_slots, windows_held}
+use Rattle.ss_recover.specs.Held.{Agrees, TileFrom, all_value_records, entries_of, in_slots, landmark_records, mark_slots}
+use Rattle.ss_recover.specs.Held.{marks_held, records_held, slots_held, span_held, span_of, stream_record, window_record}
+use Rattle.ss_recover.specs.Held.{window_slots, windows_held}
 use Rattle.ss_recover.specs.declared.parts.StreamParts.{StreamParts}
 use Rattle.ss_store.specs.Held.{values_held, with_windows}
 use Rattle.ss_store.specs.Joining.{AreDue}
@@ -92,14 +95,17 @@ module _ (len : ℕ → ℕ) (n : ℕ) (entries : List (At × Entry)) (left righ
         ap₂ (λ (l : List (At × Entry)) (k : ℕ). set l k (left, joined_entry w v)) due.pair.is index
         ∙ set-append_seam due.pair.before (left, due.pair.window) ((right, due.pair.next) ∷ due.pair.rest) (left, joined_entry w v)
 
-    set_moved : set entries (index_of entries left) (left, joined_entry w v) ≡ (due.pair.before ++ (left, joined_entry w v) ∷ []) ++ (right, due.pair.next) ∷ due.pair.rest
+    set_moved : set entries (index_of entries left) (left, joined_entry w v) ≡
+        (due.pair.before ++ (left, joined_entry w v) ∷ []) ++ (right, due.pair.next) ∷ due.pair.rest
     set_moved = set_is ∙ sym (append_assoc due.pair.before ((left, joined_entry w v) ∷ []) ((right, due.pair.next) ∷ due.pair.rest))
 
     right_once : list_any (is_at right) (due.pair.before ++ (left, joined_entry w v) ∷ []) ≡ false
     right_once = list_any-replaced (is_at right) due.pair.before (left, due.pair.window) (left, joined_entry w v) refl due.pair.right_once
 
     pub StandsIn-set : StandsIn (set entries (index_of entries left) (left, joined_entry w v)) right
-    StandsIn-set = stands-seam (set entries (index_of entries left) (left, joined_entry w v)) (due.pair.before ++ (left, joined_entry w v) ∷ []) right due.pair.next due.pair.rest set_moved right_once
+    StandsIn-set =
+        stands-seam (set entries (index_of entries left) (left, joined_entry w v)) (due.pair.before ++ (left, joined_entry w v) ∷ [])
+        right due.pair.next due.pair.rest set_moved right_once
 
     line_is : joined_line entries left right w v ≡ due.pair.before ++ (left, joined_entry w v) ∷ due.pair.rest
     line_is =
@@ -349,9 +355,11 @@ module _ (others : List (ℕ × Option Record)) (part new : StreamParts) (s : St
       ≡ front ++ (w.slot, Some (window_record s.number theirs.one)) ∷ (v.slot, Some (window_record s.number theirs.two)) ∷ back
   unfolding front back
   was_records =
-      ap₂ (λ (es : List Entry) (l : List Window). (part.slot, Some (stream_record s)) ∷ zip (map (λ (e : Entry). e.slot) es) (map (λ x. Some (window_record s.number x)) l))
+      ap₂ (λ (es : List Entry) (l : List Window). (part.slot, Some (stream_record s)) ∷ zip (map (λ (e : Entry). e.slot) es)
+      (map (λ x. Some (window_record s.number x)) l))
       pair.was theirs.is
-      ∙ ap (λ l. (part.slot, Some (stream_record s)) ∷ l) (zip-held s.number pair.front (w ∷ v ∷ pair.rest) theirs.before (theirs.one ∷ theirs.two ∷ theirs.behind) theirs.fronts)
+      ∙ ap (λ l. (part.slot, Some (stream_record s)) ∷ l)
+      (zip-held s.number pair.front (w ∷ v ∷ pair.rest) theirs.before (theirs.one ∷ theirs.two ∷ theirs.behind) theirs.fronts)
 
   is_records : windows_held (new, with_windows s ws) ≡ front ++ (w.slot, Some (window_record s.number (joined_window theirs.one theirs.two))) ∷ back
   unfolding ws front back
@@ -400,7 +408,8 @@ module _ (others : List (ℕ × Option Record)) (part new : StreamParts) (s : St
         first_free = subst (λ ls. IsTrue (lies_free ls theirs.one)) (sym agrees.landmarks) free.0;
         second_free = subst (λ ls. IsTrue (lies_free ls theirs.two)) (sym agrees.landmarks) free.1;
         beside = rest;
-        was = subst (λ n. IsPermutation (records_held (part, s) ++ others) ((w.slot, Some (window_record n theirs.one)) ∷ (v.slot, Some (window_record n theirs.two)) ∷ rest)) (sym number) was;
+        was = subst (λ n. IsPermutation (records_held (part, s) ++ others)
+            ((w.slot, Some (window_record n theirs.one)) ∷ (v.slot, Some (window_record n theirs.two)) ∷ rest)) (sym number) was;
         windows = ws;
         joins = joins;
         agrees = record {
@@ -414,6 +423,8 @@ module _ (others : List (ℕ × Option Record)) (part new : StreamParts) (s : St
               ∙ ap (λ o. later o (latest_of s.landmarks)) (sym (newest_time-JoinsDue (lengths_of s.params) (values_in s) s.windows ws joins));
         };
         stream = IsStream-joined (lengths_of s.params) (values_in s) s ws stream joins;
-        is = subst (λ n. IsPermutation ((w.slot, Some (records.Window n w.first (joined theirs.one.summary theirs.two.summary))) ∷ rest) (records_held (new, with_windows s ws) ++ others)) (sym number)
-            (subst (λ f. IsPermutation ((w.slot, Some (records.Window s.number f (joined theirs.one.summary theirs.two.summary))) ∷ rest) (records_held (new, with_windows s ws) ++ others)) (sym start) is);
+        is = subst (λ n. IsPermutation ((w.slot, Some (records.Window n w.first (joined theirs.one.summary theirs.two.summary))) ∷ rest)
+            (records_held (new, with_windows s ws) ++ others)) (sym number)
+            (subst (λ f. IsPermutation ((w.slot, Some (records.Window s.number f (joined theirs.one.summary theirs.two.summary))) ∷ rest)
+            (records_held (new, with_windows s ws) ++ others)) (sym start) is);
       }

@@ -1,5 +1,6 @@
 -- Where parts of rising numbers stand.
-use Rattle.std.proofs.Common.{◌≡◌, ℕ, zero, suc, ◌+◌, ◌-◌, ◌<◌, ◌≤◌, Bool, true, false, List, [], ◌∷◌, ◌++◌, length, get_or, take, refl, ap, sym, ◌∙◌, subst, arith, None, Some, inl, inr}
+use Rattle.std.proofs.Common.{◌≡◌, ℕ, zero, suc, ◌+◌, ◌-◌, ◌<◌, ◌≤◌, Bool, true, false, List, [], ◌∷◌, ◌++◌, length, get_or, take, refl, ap, sym, ◌∙◌}
+use Rattle.std.proofs.Common.{subst, arith, None, Some, inl, inr}
 use Rattle.std.specs.Prelude.{slice_get, IsSome, ◌==◌, ◌||◌}
 use Rattle.std.specs.List.{position_or_len, list_any}
 use Rattle.std.specs.List.Sorted.{IsStrictlyIncreasing}
@@ -27,7 +28,8 @@ numbers-below parts i j d rising order inside =
     let all = length-map parts (λ (s : StreamParts). s.id.0) in
     let low = number_at parts i d (omega arith) in
     let high = number_at parts j d inside in
-    let pair : get_or (numbers_held parts) i 0 < get_or (numbers_held parts) j 0 = AllPairs-from_increasing (numbers_held parts) rising i j 0 order (omega arith) in
+    let pair : get_or (numbers_held parts) i 0 < get_or (numbers_held parts) j 0 = AllPairs-from_increasing (numbers_held parts) rising i j 0 order
+    (omega arith) in
     omega arith
 
 -- the place of the stream of a number
@@ -38,7 +40,8 @@ pub place_in-inside : (number : ℕ) (parts : List StreamParts) → IsSome (part
 place_in-inside number parts stands = elim (cases_lt (place_in number parts) (length parts)) [
   | inl inside ↦ inside
   | inr past ↦
-      (let none : part_numbered number parts ≡ None = find_at (λ (s : StreamParts). number == s.id.0) parts ∙ slice_get_past parts (place_in number parts) past in
+      (let none : part_numbered number parts ≡ None = find_at (λ (s : StreamParts). number == s.id.0) parts ∙
+      slice_get_past parts (place_in number parts) past in
       let wrong : false ≡ true = rw none at stands in cc)
 ]
 
@@ -139,6 +142,11 @@ TellsNext-last parts w rising some last few =
     (record {
       next = rw (map-append (λ (s : StreamParts). s.id.0) us (w ∷ [])) (next_number-push (numbers_held us) w.id.0 within);
       taken =
-          rw (map-append (λ (s : StreamParts). s.id.0) us (w ∷ []), list_any-append (λ (number : ℕ). number == LAST_STREAM) (numbers_held us) (w.id.0 ∷ []), list_any-below (numbers_held us) w.id.0 few within)
+          rw (
+            map-append (λ (s : StreamParts). s.id.0) us (w ∷ []),
+            list_any-append (λ (number : ℕ). number == LAST_STREAM) (numbers_held us)
+                (w.id.0 ∷ []),
+            list_any-below (numbers_held us) w.id.0 few within,
+          )
           (or-no (w.id.0 == LAST_STREAM));
     })

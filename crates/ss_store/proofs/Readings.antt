@@ -29,7 +29,8 @@ live-below slot slots live some =
     All-filter (is_live live) (λ s. s < length live) (range_with_len 0 (length live))
     (All-from_recursion (λ s. s < length live) (range_with_len 0 (length live)) (range-within 0 (length live) (length live) (omega arith))) in
     All-head (λ s. s < length live) slot (slots ++ some.0)
-    (All-permutation (λ s. s < length live) (live_slots live) (slot ∷ slots ++ some.0) (IsPermutation-sym (slot ∷ slots ++ some.0) (live_slots live) some.1) all)
+    (All-permutation (λ s. s < length live) (live_slots live) (slot ∷ slots ++ some.0)
+    (IsPermutation-sym (slot ∷ slots ++ some.0) (live_slots live) some.1) all)
 
 pub live-below_second : (first slot : ℕ) (slots : List ℕ) (live : List Bool) → AreSomeLive (first ∷ slot ∷ slots) live → slot < length live
 live-below_second first slot slots live some =

@@ -173,7 +173,8 @@ refuses_held-is parts streams (events.Create name params) each state =
     let known = stands-held name parts streams each in
     let full = has_all_streams-held parts streams each in
     let stored = records-held parts streams each in
-    λ i. first_that_applies ((not (has_target params), refusal.Param) ∷ (known i, refusal.Exists) ∷ (full i, refusal.Streams) ∷ (stored i, refusal.StoreFull) ∷ [])
+    λ i. first_that_applies ((not (has_target params), refusal.Param) ∷ (known i, refusal.Exists) ∷ (full i, refusal.Streams) ∷
+    (stored i, refusal.StoreFull) ∷ [])
 refuses_held-is parts streams (events.Value name t v) each state =
     let known = stands-held name parts streams each in
     let early = early-alike parts streams each state name t in

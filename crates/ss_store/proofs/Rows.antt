@@ -77,7 +77,8 @@ unfolding recover redo is_born is_unborn carried spelled is_sound
 recover-no_byte = refl
 
 recover-no_slot : recover (image_of no_entry no_entry []) ≡ recovers []
-unfolding recover redo is_born entries carried spelled is_sound decoded record_in stream_in window_in params_in is_valid spelling Names.is_name Possible.is_possible Fields.with_field Numbers.number_at Numbers.number_bytes Marks.lies_free
+unfolding recover redo is_born entries carried spelled is_sound decoded record_in stream_in window_in params_in is_valid spelling Names.is_name
+    Possible.is_possible Fields.with_field Numbers.number_at Numbers.number_bytes Marks.lies_free
 recover-no_slot = refl
 
 -- before the file is formed nothing in it counts: byte 0 is 0, or the birth gate is closed before the magic
@@ -89,12 +90,14 @@ abbrev not_formed : List ℕ
 not_formed = slice_set (image_of no_entry no_entry (damaged ∷ [])) 0 164
 
 recover-not_formed : recover not_formed ≡ recovers []
-unfolding recover redo is_born is_unborn carried spelled is_sound decoded record_in stream_in window_in params_in is_valid spelling Names.is_name Possible.is_possible Fields.with_field Numbers.number_at Numbers.number_bytes Marks.lies_free
+unfolding recover redo is_born is_unborn carried spelled is_sound decoded record_in stream_in window_in params_in is_valid spelling Names.is_name
+    Possible.is_possible Fields.with_field Numbers.number_at Numbers.number_bytes Marks.lies_free
 recover-not_formed = refl
 
 -- a stream without values
 recover-stream : recover (image_of no_entry no_entry (a_slot ∷ [])) ≡ recovers (a_stream [])
-unfolding recover redo is_born entries carried spelled is_sound decoded record_in stream_in window_in params_in is_valid spelling Names.is_name Possible.is_possible Fields.with_field Numbers.number_at Numbers.number_bytes Marks.lies_free
+unfolding recover redo is_born entries carried spelled is_sound decoded record_in stream_in window_in params_in is_valid spelling Names.is_name
+    Possible.is_possible Fields.with_field Numbers.number_at Numbers.number_bytes Marks.lies_free
 recover-stream = refl
 
 -- three values: at 3 the first two windows lie together in one target window, and wait for their merge
@@ -115,58 +118,67 @@ abbrev merged : List Stream
 merged = a_stream (window 1 (fives 2 10 20) ∷ window 3 (fives 1 30 30) ∷ [])
 
 recover-waiting : recover (image_of no_entry no_entry (a_slot ∷ first ∷ second ∷ third ∷ [])) ≡ recovers merged
-unfolding recover redo is_born entries carried spelled is_sound decoded record_in stream_in window_in params_in is_valid spelling Names.is_name Possible.is_possible Fields.with_field Numbers.number_at Numbers.number_bytes index_of Marks.lies_free
+unfolding recover redo is_born entries carried spelled is_sound decoded record_in stream_in window_in params_in is_valid spelling Names.is_name
+    Possible.is_possible Fields.with_field Numbers.number_at Numbers.number_bytes index_of Marks.lies_free
 recover-waiting = refl
 
 -- so they do where a record stands in an entry that is in use, and its slot isn't in the file or is zeros
 recover-window_in_entry : recover
     (image_of (entry_of (put 3 third ∷ [])) no_entry (a_slot ∷ first ∷ second ∷ []))
     ≡ recovers merged
-unfolding recover redo is_born entries is_good puts_of entry_body carried spelled is_sound decoded record_in stream_in window_in params_in is_valid spelling Names.is_name Possible.is_possible Fields.with_field Numbers.number_at Numbers.number_bytes index_of Marks.lies_free
+unfolding recover redo is_born entries is_good puts_of entry_body carried spelled is_sound decoded record_in stream_in window_in params_in is_valid
+    spelling Names.is_name Possible.is_possible Fields.with_field Numbers.number_at Numbers.number_bytes index_of Marks.lies_free
 recover-window_in_entry = refl
 
 recover-stream_in_entry : recover
     (image_of (entry_of (put 0 a_slot ∷ [])) no_entry (zeros ∷ first ∷ second ∷ third ∷ []))
     ≡ recovers merged
-unfolding recover redo is_born entries is_good puts_of entry_body carried spelled is_sound decoded record_in stream_in window_in params_in is_valid spelling Names.is_name Possible.is_possible Fields.with_field Numbers.number_at Numbers.number_bytes index_of Marks.lies_free
+unfolding recover redo is_born entries is_good puts_of entry_body carried spelled is_sound decoded record_in stream_in window_in params_in is_valid
+    spelling Names.is_name Possible.is_possible Fields.with_field Numbers.number_at Numbers.number_bytes index_of Marks.lies_free
 recover-stream_in_entry = refl
 
 -- and where the merge itself is in an entry, whatever is left of it in the slots
 recover-merge_in_entry : recover
     (image_of (entry_of (put 1 both ∷ put 2 zeros ∷ [])) no_entry (a_slot ∷ first ∷ second ∷ third ∷ []))
     ≡ recovers merged
-unfolding recover redo is_born entries is_good puts_of entry_body carried spelled is_sound decoded record_in stream_in window_in params_in is_valid spelling Names.is_name Possible.is_possible Fields.with_field Numbers.number_at Numbers.number_bytes index_of Marks.lies_free
+unfolding recover redo is_born entries is_good puts_of entry_body carried spelled is_sound decoded record_in stream_in window_in params_in is_valid
+    spelling Names.is_name Possible.is_possible Fields.with_field Numbers.number_at Numbers.number_bytes index_of Marks.lies_free
 recover-merge_in_entry = refl
 
 recover-merge_in_part : recover
     (image_of (entry_of (put 1 both ∷ put 2 zeros ∷ [])) no_entry (a_slot ∷ both ∷ damaged ∷ third ∷ []))
     ≡ recovers merged
-unfolding recover redo is_born entries is_good puts_of entry_body carried spelled is_sound decoded record_in stream_in window_in params_in is_valid spelling Names.is_name Possible.is_possible Fields.with_field Numbers.number_at Numbers.number_bytes index_of Marks.lies_free
+unfolding recover redo is_born entries is_good puts_of entry_body carried spelled is_sound decoded record_in stream_in window_in params_in is_valid
+    spelling Names.is_name Possible.is_possible Fields.with_field Numbers.number_at Numbers.number_bytes index_of Marks.lies_free
 recover-merge_in_part = refl
 
 recover-merge_made : recover (image_of no_entry no_entry (a_slot ∷ both ∷ zeros ∷ third ∷ [])) ≡ recovers merged
-unfolding recover redo is_born entries carried spelled is_sound decoded record_in stream_in window_in params_in is_valid spelling Names.is_name Possible.is_possible Fields.with_field Numbers.number_at Numbers.number_bytes index_of Marks.lies_free
+unfolding recover redo is_born entries carried spelled is_sound decoded record_in stream_in window_in params_in is_valid spelling Names.is_name
+    Possible.is_possible Fields.with_field Numbers.number_at Numbers.number_bytes index_of Marks.lies_free
 recover-merge_made = refl
 
 -- of two entries the later counts
 recover-two_entries : recover
     (image_of (entry_of (put 2 second ∷ [])) (entry_of (put 1 both ∷ put 2 zeros ∷ [])) (a_slot ∷ first ∷ damaged ∷ third ∷ []))
     ≡ recovers merged
-unfolding recover redo is_born entries is_good puts_of entry_body carried spelled is_sound decoded record_in stream_in window_in params_in is_valid spelling Names.is_name Possible.is_possible Fields.with_field Numbers.number_at Numbers.number_bytes index_of Marks.lies_free
+unfolding recover redo is_born entries is_good puts_of entry_body carried spelled is_sound decoded record_in stream_in window_in params_in is_valid
+    spelling Names.is_name Possible.is_possible Fields.with_field Numbers.number_at Numbers.number_bytes index_of Marks.lies_free
 recover-two_entries = refl
 
 -- an entry after a closed gate isn't in use
 recover-after_closed : recover
     (image_of no_entry (entry_of (put 0 zeros ∷ [])) (a_slot ∷ first ∷ second ∷ third ∷ []))
     ≡ recovers merged
-unfolding recover redo is_born entries carried spelled is_sound decoded record_in stream_in window_in params_in is_valid spelling Names.is_name Possible.is_possible Fields.with_field Numbers.number_at Numbers.number_bytes entry_body index_of Marks.lies_free
+unfolding recover redo is_born entries carried spelled is_sound decoded record_in stream_in window_in params_in is_valid spelling Names.is_name
+    Possible.is_possible Fields.with_field Numbers.number_at Numbers.number_bytes entry_body index_of Marks.lies_free
 recover-after_closed = refl
 
 -- a slot whose end is cut off isn't looked at
 recover-cut : recover
     (image_of no_entry no_entry (a_slot ∷ first ∷ second ∷ third ∷ take 127 damaged ∷ []))
     ≡ recovers merged
-unfolding recover redo is_born entries carried spelled is_sound decoded record_in stream_in window_in params_in is_valid spelling Names.is_name Possible.is_possible Fields.with_field Numbers.number_at Numbers.number_bytes index_of Marks.lies_free
+unfolding recover redo is_born entries carried spelled is_sound decoded record_in stream_in window_in params_in is_valid spelling Names.is_name
+    Possible.is_possible Fields.with_field Numbers.number_at Numbers.number_bytes index_of Marks.lies_free
 recover-cut = refl
 
 -- the values 5, -3, 8, 1, 9, 2 and 7 at the times 10 to 70: where they were merged one by one as they came, and where no merge
@@ -208,15 +220,18 @@ one_by_one = image_of no_entry no_entry
 recover-readings : recover
     as_they_came
     ≡ recovers (a_stream (window 1 first_four ∷ window 5 next_two ∷ window 7 (value 70 (pos 7)) ∷ []))
-unfolding recover redo is_born entries carried spelled is_sound decoded record_in stream_in window_in params_in is_valid spelling Names.is_name Possible.is_possible Fields.with_field Numbers.number_at Numbers.number_bytes index_of Marks.lies_free
+unfolding recover redo is_born entries carried spelled is_sound decoded record_in stream_in window_in params_in is_valid spelling Names.is_name
+    Possible.is_possible Fields.with_field Numbers.number_at Numbers.number_bytes index_of Marks.lies_free
 recover-readings = refl
 
 state-readings : Recovers (state readings) as_they_came
-unfolding state recover redo is_born entries carried spelled is_sound decoded record_in stream_in window_in params_in is_valid spelling Names.is_name Possible.is_possible Fields.with_field Numbers.number_at Numbers.number_bytes index_of Marks.lies_free
+unfolding state recover redo is_born entries carried spelled is_sound decoded record_in stream_in window_in params_in is_valid spelling Names.is_name
+    Possible.is_possible Fields.with_field Numbers.number_at Numbers.number_bytes index_of Marks.lies_free
 state-readings = refl
 
 state-unmerged : Recovers (state readings) one_by_one
-unfolding state recover redo is_born entries carried spelled is_sound decoded record_in stream_in window_in params_in is_valid spelling Names.is_name Possible.is_possible Fields.with_field Numbers.number_at Numbers.number_bytes index_of Marks.lies_free
+unfolding state recover redo is_born entries carried spelled is_sound decoded record_in stream_in window_in params_in is_valid spelling Names.is_name
+    Possible.is_possible Fields.with_field Numbers.number_at Numbers.number_bytes index_of Marks.lies_free
 state-unmerged = refl
 
 -- streams in the order of their numbers, of which one has a power-law target whose windows are all of two values
@@ -246,7 +261,8 @@ b_stream = record {
 recover-two_streams : recover
     two_streams
     ≡ recovers (a_stream (window 1 (fives 1 10 10) ∷ window 2 (fives 1 20 20) ∷ []) ++ b_stream ∷ [])
-unfolding recover redo is_born entries carried spelled is_sound decoded record_in stream_in window_in params_in is_valid spelling Names.is_name Possible.is_possible Fields.with_field Numbers.number_at Numbers.number_bytes index_of power_length Marks.lies_free
+unfolding recover redo is_born entries carried spelled is_sound decoded record_in stream_in window_in params_in is_valid spelling Names.is_name
+    Possible.is_possible Fields.with_field Numbers.number_at Numbers.number_bytes index_of power_length Marks.lies_free
 recover-two_streams = refl
 
 -- no store: another first byte, a file too short for its open birth gate, and another magic
@@ -259,37 +275,43 @@ unfolding recover redo is_born is_unborn
 recover-short = refl
 
 recover-other_magic : recover (slice_set (image_of no_entry no_entry (a_slot ∷ [])) 8 50) ≡ no_store
-unfolding recover redo is_born is_unborn carried spelled is_sound decoded record_in stream_in window_in params_in is_valid spelling Names.is_name Possible.is_possible Fields.with_field Numbers.number_at Numbers.number_bytes Marks.lies_free
+unfolding recover redo is_born is_unborn carried spelled is_sound decoded record_in stream_in window_in params_in is_valid spelling Names.is_name
+    Possible.is_possible Fields.with_field Numbers.number_at Numbers.number_bytes Marks.lies_free
 recover-other_magic = refl
 
 -- a damaged entry: its slot isn't the next. It is told before a damaged slot
 recover-damaged_entry : recover
     (image_of (entry_of (put 0 zeros ∷ [])) (entry_of (put 5 a_slot ∷ [])) (damaged ∷ []))
     ≡ damaged_entry 1
-unfolding recover redo is_born entries is_good puts_of entry_body carried spelled is_sound decoded record_in stream_in window_in params_in is_valid spelling Names.is_name Possible.is_possible Fields.with_field Numbers.number_at Numbers.number_bytes Marks.lies_free
+unfolding recover redo is_born entries is_good puts_of entry_body carried spelled is_sound decoded record_in stream_in window_in params_in is_valid
+    spelling Names.is_name Possible.is_possible Fields.with_field Numbers.number_at Numbers.number_bytes Marks.lies_free
 recover-damaged_entry = refl
 
 -- a damaged slot, which is told before a damaged stream
 recover-damaged_slot : recover (image_of no_entry no_entry (second ∷ a_slot ∷ damaged ∷ [])) ≡ damaged_slot 2
-unfolding recover redo is_born entries carried spelled is_sound decoded record_in stream_in window_in params_in is_valid spelling Names.is_name Possible.is_possible Fields.with_field Numbers.number_at Numbers.number_bytes Marks.lies_free
+unfolding recover redo is_born entries carried spelled is_sound decoded record_in stream_in window_in params_in is_valid spelling Names.is_name
+    Possible.is_possible Fields.with_field Numbers.number_at Numbers.number_bytes Marks.lies_free
 recover-damaged_slot = refl
 
 -- unless an entry in use mends it
 recover-mended_slot : recover
     (image_of (entry_of (put 1 first ∷ [])) no_entry (a_slot ∷ damaged ∷ []))
     ≡ recovers (a_stream (window 1 (fives 1 10 10) ∷ []))
-unfolding recover redo is_born entries is_good puts_of entry_body carried spelled is_sound decoded record_in stream_in window_in params_in is_valid spelling Names.is_name Possible.is_possible Fields.with_field Numbers.number_at Numbers.number_bytes index_of Marks.lies_free
+unfolding recover redo is_born entries is_good puts_of entry_body carried spelled is_sound decoded record_in stream_in window_in params_in is_valid
+    spelling Names.is_name Possible.is_possible Fields.with_field Numbers.number_at Numbers.number_bytes index_of Marks.lies_free
 recover-mended_slot = refl
 
 -- a damaged stream: its second window is missing, in the slots or by an entry in use
 recover-damaged_stream : recover (image_of no_entry no_entry (a_slot ∷ first ∷ third ∷ [])) ≡ damaged_stream 0
-unfolding recover redo is_born entries carried spelled is_sound decoded record_in stream_in window_in params_in is_valid spelling Names.is_name Possible.is_possible Fields.with_field Numbers.number_at Numbers.number_bytes Marks.lies_free
+unfolding recover redo is_born entries carried spelled is_sound decoded record_in stream_in window_in params_in is_valid spelling Names.is_name
+    Possible.is_possible Fields.with_field Numbers.number_at Numbers.number_bytes Marks.lies_free
 recover-damaged_stream = refl
 
 recover-damaged_by_entry : recover
     (image_of (entry_of (put 2 zeros ∷ [])) no_entry (a_slot ∷ first ∷ second ∷ third ∷ []))
     ≡ damaged_stream 0
-unfolding recover redo is_born entries is_good puts_of entry_body carried spelled is_sound decoded record_in stream_in window_in params_in is_valid spelling Names.is_name Possible.is_possible Fields.with_field Numbers.number_at Numbers.number_bytes Marks.lies_free
+unfolding recover redo is_born entries is_good puts_of entry_body carried spelled is_sound decoded record_in stream_in window_in params_in is_valid
+    spelling Names.is_name Possible.is_possible Fields.with_field Numbers.number_at Numbers.number_bytes Marks.lies_free
 recover-damaged_by_entry = refl
 
 -- a landmark that opens and closes at the time of its one value, in the bytes of its record and of the value's
@@ -307,13 +329,15 @@ abbrev moment : List Event
 moment = events.Create a (Exp 2 1 1) ∷ events.Open a 100 ∷ events.Value a 100 (pos 7) ∷ events.Close a 100 ∷ []
 
 state-moment : Recovers (state moment) (image_of no_entry no_entry (a_slot ∷ mark_slot ∷ mark_value_slot ∷ []))
-unfolding state recover redo is_born entries carried spelled is_sound decoded record_in stream_in window_in landmark_in value_in finish_in params_in is_valid spelling Names.is_name Possible.is_possible Fields.with_field Numbers.number_at Numbers.number_bytes Marks.lies_free
+unfolding state recover redo is_born entries carried spelled is_sound decoded record_in stream_in window_in landmark_in value_in finish_in params_in
+    is_valid spelling Names.is_name Possible.is_possible Fields.with_field Numbers.number_at Numbers.number_bytes Marks.lies_free
 state-moment = refl
 
 -- so it is where the closing is in an entry that is in use
 state-closing : Recovers (state moment)
     (image_of (entry_of (put 1 mark_slot ∷ [])) no_entry (a_slot ∷ open_slot ∷ mark_value_slot ∷ []))
-unfolding state recover redo is_born entries is_good puts_of entry_body carried spelled is_sound decoded record_in stream_in window_in landmark_in value_in finish_in params_in is_valid spelling Names.is_name Possible.is_possible Fields.with_field Numbers.number_at Numbers.number_bytes Marks.lies_free
+unfolding state recover redo is_born entries is_good puts_of entry_body carried spelled is_sound decoded record_in stream_in window_in landmark_in
+    value_in finish_in params_in is_valid spelling Names.is_name Possible.is_possible Fields.with_field Numbers.number_at Numbers.number_bytes Marks.lies_free
 state-closing = refl
 
 -- and without that entry the landmark is open
@@ -321,7 +345,8 @@ abbrev opening : List Event
 opening = events.Create a (Exp 2 1 1) ∷ events.Open a 100 ∷ events.Value a 100 (pos 7) ∷ []
 
 state-opening : Recovers (state opening) (image_of no_entry no_entry (a_slot ∷ open_slot ∷ mark_value_slot ∷ []))
-unfolding state recover redo is_born entries carried spelled is_sound decoded record_in stream_in window_in landmark_in value_in finish_in params_in is_valid spelling Names.is_name Possible.is_possible Fields.with_field Numbers.number_at Numbers.number_bytes Marks.lies_free
+unfolding state recover redo is_born entries carried spelled is_sound decoded record_in stream_in window_in landmark_in value_in finish_in params_in
+    is_valid spelling Names.is_name Possible.is_possible Fields.with_field Numbers.number_at Numbers.number_bytes Marks.lies_free
 state-opening = refl
 
 -- a window may lie around a landmark, but none of its ends in it
@@ -337,14 +362,17 @@ recover-around : recover
       windows = window 1 (fives 2 10 50) ∷ [];
       landmarks = record { start = 20; finish = Some 40; values = [] } ∷ [];
     } ∷ [])
-unfolding recover redo is_born entries carried spelled is_sound decoded record_in stream_in window_in landmark_in value_in finish_in params_in is_valid spelling Names.is_name Possible.is_possible Fields.with_field Numbers.number_at Numbers.number_bytes Marks.lies_free
+unfolding recover redo is_born entries carried spelled is_sound decoded record_in stream_in window_in landmark_in value_in finish_in params_in
+    is_valid spelling Names.is_name Possible.is_possible Fields.with_field Numbers.number_at Numbers.number_bytes Marks.lies_free
 recover-around = refl
 
 recover-covered_end : recover (image_of no_entry no_entry (a_slot ∷ landmark_slot ∷ window_slot 0 1 (fives 2 10 30) ∷ [])) ≡ damaged_stream 0
-unfolding recover redo is_born entries carried spelled is_sound decoded record_in stream_in window_in landmark_in value_in finish_in params_in is_valid spelling Names.is_name Possible.is_possible Fields.with_field Numbers.number_at Numbers.number_bytes Marks.lies_free
+unfolding recover redo is_born entries carried spelled is_sound decoded record_in stream_in window_in landmark_in value_in finish_in params_in
+    is_valid spelling Names.is_name Possible.is_possible Fields.with_field Numbers.number_at Numbers.number_bytes Marks.lies_free
 recover-covered_end = refl
 
 -- a value of a landmark that has no record
 recover-no_landmark : recover (image_of no_entry no_entry (a_slot ∷ zeros ∷ mark_value_slot ∷ [])) ≡ damaged_stream 0
-unfolding recover redo is_born entries carried spelled is_sound decoded record_in stream_in window_in landmark_in value_in finish_in params_in is_valid spelling Names.is_name Possible.is_possible Fields.with_field Numbers.number_at Numbers.number_bytes Marks.lies_free
+unfolding recover redo is_born entries carried spelled is_sound decoded record_in stream_in window_in landmark_in value_in finish_in params_in
+    is_valid spelling Names.is_name Possible.is_possible Fields.with_field Numbers.number_at Numbers.number_bytes Marks.lies_free
 recover-no_landmark = refl

@@ -114,7 +114,14 @@ sums-agree (part ∷ parts) (s ∷ ss) each =
     let same = each.0.landmarks in
     let c = closed_stream s in
     let cs = closed_state ss in (
-      omega (arith, landmarks, ap length same, sum_by-cons (λ (p : StreamParts). length p.landmarks.landmarks) part parts, sum_by-cons (λ (u : Stream). length u.landmarks) c cs),
+      omega (
+        arith,
+        landmarks,
+        ap length same,
+        sum_by-cons (λ (p : StreamParts). length p.landmarks.landmarks) part parts,
+        sum_by-cons
+            (λ (u : Stream). length u.landmarks) c cs,
+      ),
       omega (
         arith,
         values,

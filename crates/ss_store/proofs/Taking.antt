@@ -1,5 +1,6 @@
 -- A store in which a stream takes a value outside landmarks: what is known before the call, and what the store does then.
-use Rattle.std.proofs.Common.{◌≡◌, ◌∙◌, ℕ, ℤ, ◌+◌, ◌<◌, ◌≤◌, Bool, true, false, List, get_or, slice_get, slice_set, length, ap, arith, refl, sym, subst, Err, None, Ok, Result, Some}
+use Rattle.std.proofs.Common.{◌≡◌, ◌∙◌, ℕ, ℤ, ◌+◌, ◌<◌, ◌≤◌, Bool, true, false, List, get_or, slice_get, slice_set, length, ap, arith, refl, sym}
+use Rattle.std.proofs.Common.{subst, Err, None, Ok, Result, Some}
 use Rattle.ss_outside.specs.Disk.{DiskView, OfContent}
 use Rattle.ss_outside.specs.Step.{Step}
 use Rattle.ss_outside.specs.Verdict.{fine}
@@ -24,7 +25,9 @@ use Rattle.ss_store.specs.Slots.{AreSomeLive}
 use Rattle.ss_store.specs.declared.error.ApplyError.{ApplyError}
 use Rattle.ss_query.specs.declared.read_error.ReadError.{ReadError}
 use Rattle.ss_store.proofs.Among.{IsNoEarlier-past}
-use Rattle.ss_store.proofs.Appended.{AreWhole-IsSpared, IsSound-set, IsSpared, IsSpared-line, SameButSpare-IsSpared, StepsState-appended, StoreIsKept-IsSpared, StoreIsKept-appended, held-taker, live-IsSpared, others, pair, part-read, part_named-set, said_of_set, tiles-IsSpared, whole-appended}
+use Rattle.ss_store.proofs.Appended.{AreWhole-IsSpared, IsSound-set, IsSpared, IsSpared-line, SameButSpare-IsSpared, StepsState-appended}
+use Rattle.ss_store.proofs.Appended.{StoreIsKept-IsSpared, StoreIsKept-appended, held-taker, live-IsSpared, others, pair, part-read, part_named-set}
+use Rattle.ss_store.proofs.Appended.{said_of_set, tiles-IsSpared, whole-appended}
 use Rattle.ss_store.proofs.Applying.{Applies-done, Applies-failed, held_by_named}
 use Rattle.ss_store.proofs.Decays.{KeepsToTarget-taken}
 use Rattle.ss_store.proofs.Refusals.{of_part-named}
@@ -45,7 +48,8 @@ pub record IsTaking (store : StoreState) (catalog : List (List ℕ × StreamId))
   pub grows : was.line.spare ≤ line.spare
 
 pub taking : {store view : StoreState} {catalog : List (List ℕ × StreamId)} {name : List ℕ} {t : ℕ} {v : ℤ} {place slot : ℕ} {was : StreamParts}
-    {line : LineState} (disk : DiskView) → store ≡ view → OfContent disk (StoreIsKept view) → IsSound store catalog → view.stopped ≡ false → IsTaker view name t place slot →
+    {line : LineState} (disk : DiskView) → store ≡ view → OfContent disk (StoreIsKept view) → IsSound store catalog → view.stopped ≡ false →
+    IsTaker view name t place slot →
     refuses_held view.streams (Value name t v) ≡ None → CanBeSaid (Value name t v) → was ≡ get_or store.streams place was →
     line.entries ≡ was.line.entries → was.line.spare ≤ line.spare → IsTaking store catalog name t v place slot was line disk
 taking {store} {view} {catalog} {name} {t} {v} {place} {slot} {was} {line} disk same one_disk sound runs taker none said read entries grows = record {
@@ -140,12 +144,15 @@ module _ {store : StoreState} {catalog : List (List ℕ × StreamId)} {name : Li
           let others_now = others store content kept name t v place slot is.taker is.none is.said in
           let s = (pair store content kept name t v place slot is.taker is.none is.said).stream in
           let held = held-taker store content kept name t v place slot is.taker is.none is.said (record was { line = line }) now room in
-          let turns = takes.turns others_now s in
-          (StepsState-answers (Value name t v) before.told after.told done (Ok (record { n = n; k = k }))
-          (StepsState-appended store content kept name t v place slot is.taker is.none is.said (record was { line = line }) now room before.told after.told
-          (Ok done) refl turns),
-          StoreIsKept-appended store content kept name t v place slot is.taker is.none is.said (record was { line = line }) now room records store.stopped
-          after.told.content takes.kept (turns.content held))))
+          let turns = takes.turns others_now s in (
+            StepsState-answers (Value name t v) before.told after.told done (Ok (record { n = n; k = k }))
+                (StepsState-appended store content kept name t v place slot is.taker is.none is.said (record was { line = line }) now room
+                before.told after.told
+                (Ok done) refl turns),
+            StoreIsKept-appended store content kept name t v place slot is.taker is.none is.said (record was { line = line }) now room records store.stopped
+                after.told.content takes.kept (turns.content held),
+          )))
+          (λ made. let wrong : false ≡ true = made in absurd (cc))
           (said_of_set name store.streams place is.taker.part now n k is.sound.numbers is.taker.named is.taker.at same_name values windows)
           (λ plain. KeepsToTarget-taken store catalog name t place slot now n k is.sound is.taker same_name values windows whole.tiles none_due some)
           refl (omega (arith, extent, low))

@@ -1,5 +1,6 @@
 -- A stream that takes a value, or whose landmarks take an event: the state with it.
-use Rattle.std.proofs.Common.{◌≡◌, ℕ, zero, suc, ◌+◌, ◌<◌, ℤ, true, false, List, [], ◌∷◌, ◌++◌, drop, get_or, slice_get, slice_set, refl, ap, sym, ◌∙◌, subst, arith, None, Some, inl, inr}
+use Rattle.std.proofs.Common.{◌≡◌, ℕ, zero, suc, ◌+◌, ◌<◌, ℤ, true, false, List, [], ◌∷◌, ◌++◌, drop, get_or, slice_get, slice_set, refl, ap, sym}
+use Rattle.std.proofs.Common.{◌∙◌, subst, arith, None, Some, inl, inr}
 use Rattle.std.specs.List.{AllByRecursion, IsDistinct}
 use Rattle.std.proofs.lemmas.Bool.{cases_Bool}
 use Rattle.std.proofs.lemmas.List.{length-set, length_push, map-set}

@@ -1,5 +1,6 @@
 -- A walk over the entries of a line, from the first one on.
-use Rattle.std.proofs.Common.{◌≡◌, ◌∙◌, ℕ, suc, ◌+◌, ◌-◌, ◌<◌, ◌≤◌, true, false, List, [], ◌∷◌, ◌++◌, map, length, refl, sym, ap, subst, arith, append_assoc, length-append, count_by, Some, None}
+use Rattle.std.proofs.Common.{◌≡◌, ◌∙◌, ℕ, suc, ◌+◌, ◌-◌, ◌<◌, ◌≤◌, true, false, List, [], ◌∷◌, ◌++◌, map, length, refl, sym, ap}
+use Rattle.std.proofs.Common.{subst, arith, append_assoc, length-append, count_by, Some, None}
 use Rattle.std.specs.List.{list_any}
 use Rattle.std.proofs.lemmas.List.{map-append}
 use Rattle.ss_windowing.specs.Windowing.{fits}
@@ -24,7 +25,8 @@ values_held-last [] at entry apart place read = absurd (cc)
 values_held-last (e ∷ es) at entry apart place read =
     let end = last-place e es at place in
     let same : end.1 ≡ entry = read-once (e ∷ es) end.0 at end.1 [] entry end.2 (apart at) read in
-    let all : entries_in (e ∷ es) ≡ entries_in end.0 ++ end.1 ∷ [] = ap (λ xs. entries_in xs) end.2 ∙ map-append (λ (x : At × Entry). x.1) end.0 ((at, end.1) ∷ []) in
+    let all : entries_in (e ∷ es) ≡ entries_in end.0 ++ end.1 ∷ [] =
+    ap (λ xs. entries_in xs) end.2 ∙ map-append (λ (x : At × Entry). x.1) end.0 ((at, end.1) ∷ []) in
     ap (λ (x : Entry). x.last) (sym same) ∙ sym (values_held-seam (entries_in end.0) end.1 []) ∙ ap (λ xs. values_held xs) (sym all)
 
 -- the walk has come to an entry, and none up to it is due with the one before it
@@ -85,7 +87,8 @@ AreRead-walked len n entries left right window next walked apart tiles place rea
     subst (λ es. NoSpansAreDue len n (map span_held es)) (map-append (λ (e : At × Entry). e.1) before ((left, window) ∷ []))
     (subst (λ (w : Entry). NoSpansAreDue len n (map span_held (entries_in (before ++ (left, w) ∷ [])))) same walked.none) in
     let seam : entries_in (front ++ (right, next) ∷ []) ≡ (entries_in before ++ window ∷ []) ++ next ∷ [] =
-    map-append (λ (e : At × Entry). e.1) front ((right, next) ∷ []) ∙ ap (λ es. es ++ next ∷ []) (map-append (λ (e : At × Entry). e.1) before ((left, window) ∷ [])) in
+    map-append (λ (e : At × Entry). e.1) front ((right, next) ∷ []) ∙ ap (λ es. es ++ next ∷ [])
+    (map-append (λ (e : At × Entry). e.1) before ((left, window) ∷ [])) in
     let index_left = ap (λ es. index_of es left) is ∙ index-once before left window walked.rest walked.once in
     let index_right = ap (λ es. index_of es right) moved ∙ index-once front right next rest found.2 in
     let long = ap (λ es. length es) moved ∙ length-append front ((right, next) ∷ rest) in

@@ -68,7 +68,8 @@ record-at : (part : StreamParts) (s : Stream) (i : ℕ) (e : Entry) (w : Window)
     slice_get (records_held (part, s)) (suc i) ≡ Some (e.slot, Some (window_record s.number w))
 record-at part s i e w at window =
     first_at (windows_held (part, s)) (marks_held (part, s)) (suc i) (e.slot, Some (window_record s.number w))
-    (slice_get-zip (map (λ (x : Entry). x.slot) (entries_of part)) (map (λ x. Some (window_record s.number x)) s.windows) i e.slot (Some (window_record s.number w))
+    (slice_get-zip (map (λ (x : Entry). x.slot) (entries_of part)) (map (λ x. Some (window_record s.number x)) s.windows) i e.slot
+    (Some (window_record s.number w))
     (slice_get-map (λ (x : Entry). x.slot) (entries_of part) i ∙ ap (option_map (λ (x : Entry). x.slot)) at)
     (slice_get-map (λ x. Some (window_record s.number x)) s.windows i ∙ ap (option_map (λ x. Some (window_record s.number x))) window))
 
@@ -97,7 +98,8 @@ IsKeptWindow-at store content kept number part at e numbered is =
     let read = slice_get-entry part.line.entries at e is in
     let window = window-at part s i e found.agrees read in
     let all = records_held (part, s) ++ others in
-    let here = first_at (records_held (part, s)) others (suc i) (e.slot, Some (window_record s.number window.0)) (record-at part s i e window.0 read window.1) in
+    let here = first_at (records_held (part, s)) others (suc i) (e.slot, Some (window_record s.number window.0))
+    (record-at part s i e window.0 read window.1) in
     record {
       stream = s;
       found = found.found_is;
@@ -107,7 +109,8 @@ IsKeptWindow-at store content kept number part at e numbered is =
       others = remove all (suc i);
       has = subst (λ n. HasRecords ((e.slot, Some (window_record n window.0)) ∷ remove all (suc i)) content) (sym held.agrees.number)
           (has-first all (suc i) (e.slot, Some (window_record s.number window.0)) content here held.records);
-      free = subst (λ ls. lies_free ls window.0 ≡ true) (sym held.agrees.landmarks) (list_all-at (lies_free s.landmarks) s.windows i window.0 window.1 held.stream.free);
+      free = subst (λ ls. lies_free ls window.0 ≡ true) (sym held.agrees.landmarks)
+          (list_all-at (lies_free s.landmarks) s.windows i window.0 window.1 held.stream.free);
     }
 
 -- what is read of it

@@ -1,5 +1,6 @@
 -- What an event does to a store and its disk, and what a look does.
-use Rattle.std.specs.Prelude.{◌≡◌, ◌↔◌, ℕ, ◌+◌, ◌*◌, ◌≤◌, Bool, true, false, not, List, [], length, flat_map, map, max, slice_get, Contains, Result, Ok, Err, Some, IfOk, IfSome, OnOk, IsTrue, ⊤}
+use Rattle.std.specs.Prelude.{◌≡◌, ◌↔◌, ℕ, ◌+◌, ◌*◌, ◌≤◌, Bool, true, false, not, List, [], length, flat_map, map, max, slice_get, Contains, Result}
+use Rattle.std.specs.Prelude.{Ok, Err, Some, IfOk, IfSome, OnOk, IsTrue, ⊤}
 use Rattle.ss_outside.specs.Crash.{OnlyReads}
 use Rattle.ss_outside.specs.Disk.{DiskView, Told, OfContent}
 use Rattle.ss_outside.specs.Step.{Step}
@@ -47,6 +48,13 @@ is_plain_value parts (Value name t v) = not (is_of_landmark parts (Value name t 
 is_plain_value parts (Open name t) = false
 is_plain_value parts (Close name t) = false
 
+-- whether an event is the creation of a stream
+abbrev pub is_creation : Event → Bool
+is_creation (Create name params) = true
+is_creation (Value name t v) = false
+is_creation (Open name t) = false
+is_creation (Close name t) = false
+
 -- at most 2K - 1 windows stand where K target windows cover the values
 abbrev pub IsFew : List StreamParts → Event → Ack → Type 0
 IsFew parts event ack =
@@ -61,6 +69,8 @@ pub record Applies (event : Event) (old new : StoreState) (before after : DiskVi
   pub ack : IfOk result (λ ack. ack ≡ said_of_held (part_named (event_name event) new.streams))
   -- over every disk, and whatever was opened
   pub decay : is_plain_value old.streams event ≡ true → IfOk result (IsFew new.streams event)
+  -- a stream that was just created has no value and no window
+  pub created : is_creation event ≡ true → IfOk result (λ ack. ack ≡ record { n = 0; k = 0 })
   -- each refusal exactly where it applies
   pub refused : (r : Refusal) → (result ≡ Err (apply.Refused r)) ↔ (refuses_held old.streams event ≡ Some r)
   pub same : OnRefused (verdict_of_apply result) (new ≡ old)

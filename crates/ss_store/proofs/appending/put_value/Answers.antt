@@ -60,7 +60,8 @@ returns-in_err-add_record-clause-puts g c =
       kept = tt;
     }))
 
-added : (g : _) (c : goal.After-part-1 g) → IsAdded c.args.part.now (record c.args.part.now { last_time = Some c.args.t; line = c.push.new.self }) c.args.slot c.args.t
+added : (g : _) (c : goal.After-part-1 g) → IsAdded c.args.part.now (record c.args.part.now { last_time = Some c.args.t; line = c.push.new.self })
+    c.args.slot c.args.t
 added g c = record {
   id = refl;
   name = refl;

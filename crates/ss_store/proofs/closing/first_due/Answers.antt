@@ -6,19 +6,25 @@ use Rattle.ss_store.proofs.closing.first_due.Goals as goal
 
 pub loop-right-init : goal.loop-right-init
 loop-right-init g c =
-    IsWalkedTo-first (lengths_of (params_of c.args.part.now.target)) c.args.n c.args.part.now.line.entries c.in_ok-left.left (sym c.in_ok-left.was ∙ c.first.ensures.value)
+    IsWalkedTo-first (lengths_of (params_of c.args.part.now.target)) c.args.n c.args.part.now.line.entries c.in_ok-left.left
+    (sym c.in_ok-left.was ∙ c.first.ensures.value)
 
 pub neighbours-requires : goal.neighbours-requires
-neighbours-requires g c = StandsIn-walked (lengths_of (params_of c.args.part.now.target)) c.args.n c.args.part.now.line.entries c.loop-right.left c.loop-right.invariant
+neighbours-requires g c = StandsIn-walked (lengths_of (params_of c.args.part.now.target)) c.args.n c.args.part.now.line.entries c.loop-right.left
+    c.loop-right.invariant
 
 pub get-window-requires : goal.get-window-requires
-get-window-requires g c = StandsIn-walked (lengths_of (params_of c.args.part.now.target)) c.args.n c.args.part.now.line.entries c.loop-right.left c.loop-right.invariant
+get-window-requires g c = StandsIn-walked (lengths_of (params_of c.args.part.now.target)) c.args.n c.args.part.now.line.entries c.loop-right.left
+    c.loop-right.invariant
 
 read : (g : _) (c : goal.After-get-next g) →
-    AreRead (lengths_of (params_of c.args.part.now.target)) c.args.n c.args.part.now.line.entries c.loop-right.left c.in-Some.right c.get-window.result c.get-next.result
+    AreRead (lengths_of (params_of c.args.part.now.target)) c.args.n c.args.part.now.line.entries c.loop-right.left c.in-Some.right
+    c.get-window.result c.get-next.result
 read g c =
-    AreRead-walked (lengths_of (params_of c.args.part.now.target)) c.args.n c.args.part.now.line.entries c.loop-right.left c.in-Some.right c.get-window.result c.get-next.result
-    c.loop-right.invariant c.len.ensures.line.apart c.requires.tiles (sym c.in-Some.is ∙ c.neighbours.ensures.behind) c.get-window.ensures.entry c.get-next.ensures.entry
+    AreRead-walked (lengths_of (params_of c.args.part.now.target)) c.args.n c.args.part.now.line.entries c.loop-right.left c.in-Some.right
+    c.get-window.result c.get-next.result
+    c.loop-right.invariant c.len.ensures.line.apart c.requires.tiles (sym c.in-Some.is ∙ c.neighbours.ensures.behind) c.get-window.ensures.entry
+    c.get-next.ensures.entry
 
 pub fits-requires-clause-first : goal.fits-requires-clause-first
 fits-requires-clause-first g c = (read g c).tiled.first
@@ -35,15 +41,20 @@ pub fits-requires-clause-few : goal.fits-requires-clause-few
 fits-requires-clause-few g c = let tiled = (read g c).tiled in omega (arith, tiled.few, c.requires.all)
 
 read_more : (g : _) (c : goal.Else-fits g) →
-    AreRead (lengths_of (params_of c.args.part.now.target)) c.args.n c.args.part.now.line.entries c.loop-right.left c.in-Some.right c.get-window.result c.get-next.result
+    AreRead (lengths_of (params_of c.args.part.now.target)) c.args.n c.args.part.now.line.entries c.loop-right.left c.in-Some.right
+    c.get-window.result c.get-next.result
 read_more g c =
-    AreRead-walked (lengths_of (params_of c.args.part.now.target)) c.args.n c.args.part.now.line.entries c.loop-right.left c.in-Some.right c.get-window.result c.get-next.result
-    c.loop-right.invariant c.len.ensures.line.apart c.requires.tiles (sym c.in-Some.is ∙ c.neighbours.ensures.behind) c.get-window.ensures.entry c.get-next.ensures.entry
+    AreRead-walked (lengths_of (params_of c.args.part.now.target)) c.args.n c.args.part.now.line.entries c.loop-right.left c.in-Some.right
+    c.get-window.result c.get-next.result
+    c.loop-right.invariant c.len.ensures.line.apart c.requires.tiles (sym c.in-Some.is ∙ c.neighbours.ensures.behind) c.get-window.ensures.entry
+    c.get-next.ensures.entry
 
 pub returns-then-fits-clause-some : goal.returns-then-fits-clause-some
 returns-then-fits-clause-some g c =
-    (AreRead-walked (lengths_of (params_of c.args.part.now.target)) c.args.n c.args.part.now.line.entries c.loop-right.left c.in-Some.right c.get-window.result c.get-next.result
-    c.loop-right.invariant c.len.ensures.line.apart c.requires.tiles (sym c.in-Some.is ∙ c.neighbours.ensures.behind) c.get-window.ensures.entry c.get-next.ensures.entry).due
+    (AreRead-walked (lengths_of (params_of c.args.part.now.target)) c.args.n c.args.part.now.line.entries c.loop-right.left c.in-Some.right
+    c.get-window.result c.get-next.result
+    c.loop-right.invariant c.len.ensures.line.apart c.requires.tiles (sym c.in-Some.is ∙ c.neighbours.ensures.behind) c.get-window.ensures.entry
+    c.get-next.ensures.entry).due
     (sym c.fits.ensures ∙ c.if-fits.true)
 
 pub loop-right-smaller : goal.loop-right-smaller

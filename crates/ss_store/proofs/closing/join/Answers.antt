@@ -23,16 +23,20 @@ use Rattle.ss_store.proofs.closing.join.Goals as goal
 
 pub get-window-requires : goal.get-window-requires
 get-window-requires g c =
-    StandsIn-left (lengths_of (params_of c.args.part.now.target)) (values_held (entries_of c.args.part.now)) c.args.part.now.line.entries c.args.left c.args.right c.requires.due
+    StandsIn-left (lengths_of (params_of c.args.part.now.target)) (values_held (entries_of c.args.part.now)) c.args.part.now.line.entries c.args.left
+    c.args.right c.requires.due
 
 pub get-next-requires : goal.get-next-requires
 get-next-requires g c =
-    StandsIn-right (lengths_of (params_of c.args.part.now.target)) (values_held (entries_of c.args.part.now)) c.args.part.now.line.entries c.args.left c.args.right c.requires.due
+    StandsIn-right (lengths_of (params_of c.args.part.now.target)) (values_held (entries_of c.args.part.now)) c.args.part.now.line.entries c.args.left
+    c.args.right c.requires.due
 
 pub read_joined-requires-clause-live : goal.read_joined-requires-clause-live
 read_joined-requires-clause-live g c =
-    let pair = ArePair-read c.args.part.now c.args.left c.args.right c.get-window.result c.get-next.result c.requires.due c.requires.tiles c.get-window.ensures.entry c.get-next.ensures.entry in
-    AreSomeLive-two c.args.part.now (one_part c.args.part.now c.args.left c.args.right c.get-window.result c.get-next.result) c.get-window.result c.get-next.result c.args.records.now.live pair.slots c.requires.live
+    let pair = ArePair-read c.args.part.now c.args.left c.args.right c.get-window.result c.get-next.result c.requires.due c.requires.tiles
+    c.get-window.ensures.entry c.get-next.ensures.entry in
+    AreSomeLive-two c.args.part.now (one_part c.args.part.now c.args.left c.args.right c.get-window.result c.get-next.result) c.get-window.result
+    c.get-next.result c.args.records.now.live pair.slots c.requires.live
 
 pub read_joined-requires-clause-neighbours : goal.read_joined-requires-clause-neighbours
 read_joined-requires-clause-neighbours g c =
@@ -62,16 +66,20 @@ returns-in_err-read_joined-clause-joins g c =
 
 pub replace_two-requires-clause-valid : goal.replace_two-requires-clause-valid
 replace_two-requires-clause-valid g c =
-    let tiled = (ArePair-read c.args.part.now c.args.left c.args.right c.get-window.result c.get-next.result c.requires.due c.requires.tiles c.get-window.ensures.entry c.get-next.ensures.entry).tiled in
+    let tiled = (ArePair-read c.args.part.now c.args.left c.args.right c.get-window.result c.get-next.result c.requires.due c.requires.tiles
+    c.get-window.ensures.entry c.get-next.ensures.entry).tiled in
     let count = c.in_ok-read_joined.ensures.count in
-    is_valid-IsWindow c.args.part.now.id.0 c.get-window.result.first c.in_ok-read_joined.field-0 (omega arith) tiled.first (omega (arith, count, tiled.last, tiled.few))
+    is_valid-IsWindow c.args.part.now.id.0 c.get-window.result.first c.in_ok-read_joined.field-0 (omega arith) tiled.first
+    (omega (arith, count, tiled.last, tiled.few))
     c.in_ok-read_joined.ensures.possible
 
 pub replace_two-requires-clause-live : goal.replace_two-requires-clause-live
 replace_two-requires-clause-live g c =
-    let pair = ArePair-read c.args.part.now c.args.left c.args.right c.get-window.result c.get-next.result c.requires.due c.requires.tiles c.get-window.ensures.entry c.get-next.ensures.entry in
+    let pair = ArePair-read c.args.part.now c.args.left c.args.right c.get-window.result c.get-next.result c.requires.due c.requires.tiles
+    c.get-window.ensures.entry c.get-next.ensures.entry in
     subst (λ live. AreSomeLive (c.get-window.result.slot ∷ c.get-next.result.slot ∷ []) live) (sym c.read_joined.ensures.live)
-    (AreSomeLive-two c.args.part.now (one_part c.args.part.now c.args.left c.args.right c.get-window.result c.get-next.result) c.get-window.result c.get-next.result c.args.records.now.live pair.slots c.requires.live)
+    (AreSomeLive-two c.args.part.now (one_part c.args.part.now c.args.left c.args.right c.get-window.result c.get-next.result) c.get-window.result
+    c.get-next.result c.args.records.now.live pair.slots c.requires.live)
 
 pub returns-in_err-replace_two-clause-joins : goal.returns-in_err-replace_two-clause-joins
 returns-in_err-replace_two-clause-joins g c =
@@ -103,12 +111,14 @@ returns-in_err-read_joined-clause-changed g c =
 
 pub set-requires : goal.set-requires
 set-requires g c =
-    StandsIn-left (lengths_of (params_of c.args.part.now.target)) (values_held (entries_of c.args.part.now)) c.args.part.now.line.entries c.args.left c.args.right c.requires.due
+    StandsIn-left (lengths_of (params_of c.args.part.now.target)) (values_held (entries_of c.args.part.now)) c.args.part.now.line.entries c.args.left
+    c.args.right c.requires.due
 
 pub cut_out-requires : goal.cut_out-requires
 cut_out-requires g c =
     subst (λ es. StandsIn es c.args.right) (sym c.set.ensures.entries)
-    (ArePair-read c.args.part.now c.args.left c.args.right c.get-window.result c.get-next.result c.requires.due c.requires.tiles c.get-window.ensures.entry c.get-next.ensures.entry).stands
+    (ArePair-read c.args.part.now c.args.left c.args.right c.get-window.result c.get-next.result c.requires.due c.requires.tiles
+    c.get-window.ensures.entry c.get-next.ensures.entry).stands
 
 -- the line that is left, and what it is to the line before
 line : (g : _) (c : goal.After-cut_out g) →
@@ -117,8 +127,10 @@ line : (g : _) (c : goal.After-cut_out g) →
 line g c =
     let is : c.cut_out.new.self.entries ≡ joined_line c.args.part.now.line.entries c.args.left c.args.right c.get-window.result c.get-next.result =
     c.cut_out.ensures.entries ∙ ap (λ (es : List (At × Entry)). remove es (index_of es c.args.right)) c.set.ensures.entries in
-    let pair = ArePair-read c.args.part.now c.args.left c.args.right c.get-window.result c.get-next.result c.requires.due c.requires.tiles c.get-window.ensures.entry c.get-next.ensures.entry in
-    subst (λ es. AreJoined (lengths_of (params_of c.args.part.now.target)) (values_held (entries_of c.args.part.now)) c.args.part.now.line.entries es c.get-window.result c.get-next.result)
+    let pair = ArePair-read c.args.part.now c.args.left c.args.right c.get-window.result c.get-next.result c.requires.due c.requires.tiles
+    c.get-window.ensures.entry c.get-next.ensures.entry in
+    subst (λ es. AreJoined (lengths_of (params_of c.args.part.now.target)) (values_held (entries_of c.args.part.now)) c.args.part.now.line.entries es
+    c.get-window.result c.get-next.result)
     (sym is) pair.joined
 
 pub returns-clause-joins : goal.returns-clause-joins

@@ -4,4 +4,5 @@ use Rattle.ss_store.proofs.closing.values_held.Goals as goal
 
 pub returns-in-Some : goal.returns-in-Some
 returns-in-Some g c =
-    values_held-last c.args.part.now.line.entries c.in-Some.at c.get.result c.len.ensures.line.apart (sym c.in-Some.is ∙ c.last.ensures.value) c.get.ensures.entry
+    values_held-last c.args.part.now.line.entries c.in-Some.at c.get.result c.len.ensures.line.apart (sym c.in-Some.is ∙ c.last.ensures.value)
+    c.get.ensures.entry

@@ -14,7 +14,8 @@ use Rattle.ss_query.specs.Held.{IsHeldIn}
 use Rattle.ss_store.specs.Marking.{IsMarkedOrNot, mark_record, slots_used, with_mark}
 use Rattle.ss_store.proofs.Calls.{Turns-answers, Turns-failed}
 use Rattle.ss_store.proofs.Marked.{IsMarked}
-use Rattle.ss_store.proofs.MarkedCalls.{AreSomeLive-last, FitsMark-valid, IsAdding-is, IsLastSlot-is, IsMarked-marked_part, LiveSlotsGo-mark_added, LiveSlotsGo-mark_closed, Turns-added, Turns-closed, marked_part, slots_used-adding}
+use Rattle.ss_store.proofs.MarkedCalls.{AreSomeLive-last, FitsMark-valid, IsAdding-is, IsLastSlot-is, IsMarked-marked_part, LiveSlotsGo-mark_added}
+use Rattle.ss_store.proofs.MarkedCalls.{LiveSlotsGo-mark_closed, Turns-added, Turns-closed, marked_part, slots_used-adding}
 use Rattle.ss_store.proofs.OpenMarks.{AllEndBy-after}
 use Rattle.ss_store.proofs.marking.put_mark.Goals as goal
 use Rattle.ss_store.proofs.marking.put_mark.Goals.{in-Open+in_ok-add_record-in-Open, in-Close+in_ok-replace_record-in-Close}

@@ -9,7 +9,8 @@ use Rattle.ss_store.specs.Kept.{entry_of}
 use Rattle.ss_store.specs.Recover.{Recovers}
 use Rattle.ss_store.proofs.Among.{AreWhole-at, AreWhole-set, IsNoEarlier-same, length-AllAgree}
 use Rattle.ss_store.proofs.Calls.{Turns-failed}
-use Rattle.ss_store.proofs.ClosingAll.{AreHeldIn, ClosesFirst-more, ClosesFirst-none, SomeChangedIsHeld-set, Turns-all, Turns-open, closed_until, firm-ClosesFirst}
+use Rattle.ss_store.proofs.ClosingAll.{AreHeldIn, ClosesFirst-more, ClosesFirst-none, SomeChangedIsHeld-set, Turns-all, Turns-open, closed_until}
+use Rattle.ss_store.proofs.ClosingAll.{firm-ClosesFirst}
 use Rattle.ss_store.proofs.OneOfMany.{map-set_same}
 use Rattle.ss_store.proofs.opening.close_all.Goals as goal
 

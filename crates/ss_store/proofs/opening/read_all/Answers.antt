@@ -5,7 +5,8 @@ use Rattle.ss_outside.proofs.StepLemmas.{step-then, step-verdict}
 use Rattle.ss_journal.proofs.StepLemmas.{after-step}
 use Rattle.ss_store.specs.Causes.{OpensAs}
 use Rattle.ss_store.specs.Errors.{open_of_recover}
-use Rattle.ss_store.proofs.Opens.{IsRebuilt-opened, OpensAs-journal, OpensAs-recover, StandsFor-kept, firm-journal, firm-recover, verdict-journal, verdict-recover}
+use Rattle.ss_store.proofs.Opens.{IsRebuilt-opened, OpensAs-journal, OpensAs-recover, StandsFor-kept, firm-journal, firm-recover, verdict-journal}
+use Rattle.ss_store.proofs.Opens.{verdict-recover}
 use Rattle.ss_store.proofs.Steps.{step-handed}
 use Rattle.ss_store.proofs.opening.read_all.Goals as goal
 

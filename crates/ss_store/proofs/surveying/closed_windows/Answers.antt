@@ -11,7 +11,8 @@ pub returns-in_default-clause-windows : goal.returns-in_default-clause-windows
 returns-in_default-clause-windows g c s is agrees =
     let none = none-first c.args.part.now.line.entries (sym c.in_default.is ∙ c.first.ensures.value) in
     let len = lengths_of (params_of c.args.part.now.target) in
-    sym (ap (λ es. windows_left len (values_held (entries_of c.args.part.now)) (map span_held (entries_in es))) none) ∙ windows_left-Agrees c.args.part.now s is agrees
+    sym (ap (λ es. windows_left len (values_held (entries_of c.args.part.now)) (map span_held (entries_in es))) none) ∙
+    windows_left-Agrees c.args.part.now s is agrees
 
 pub loop-next-init : goal.loop-next-init
 loop-next-init g c =

@@ -4,22 +4,26 @@ use Rattle.ss_store.proofs.surveying.surveyed.Goals as goal
 
 pub overflow_add-survey : goal.overflow_add-survey
 overflow_add-survey g c =
-    let room = (HasCounts-next c.args.streams.now c.loop-part.part-index c.part-item.result c.loop-part.survey c.loop-part.invariant c.loop-part-test.true c.part-item.is).slots in
+    let room = (HasCounts-next c.args.streams.now c.loop-part.part-index c.part-item.result c.loop-part.survey c.loop-part.invariant
+    c.loop-part-test.true c.part-item.is).slots in
     omega (arith, room, c.requires.few)
 
 pub overflow_add-survey-in-loop-part : goal.overflow_add-survey-in-loop-part
 overflow_add-survey-in-loop-part g c =
-    let room = (HasCounts-next c.args.streams.now c.loop-part.part-index c.part-item.result c.loop-part.survey c.loop-part.invariant c.loop-part-test.true c.part-item.is).slots in
+    let room = (HasCounts-next c.args.streams.now c.loop-part.part-index c.part-item.result c.loop-part.survey c.loop-part.invariant
+    c.loop-part-test.true c.part-item.is).slots in
     omega (arith, room, c.requires.few, c.closed_windows.ensures.few)
 
 pub overflow_add-survey-in-loop-part-2 : goal.overflow_add-survey-in-loop-part-2
 overflow_add-survey-in-loop-part-2 g c =
-    let room = (HasCounts-next c.args.streams.now c.loop-part.part-index c.part-item.result c.loop-part.survey c.loop-part.invariant c.loop-part-test.true c.part-item.is).slots in
+    let room = (HasCounts-next c.args.streams.now c.loop-part.part-index c.part-item.result c.loop-part.survey c.loop-part.invariant
+    c.loop-part-test.true c.part-item.is).slots in
     omega (arith, room, c.requires.few, c.count.ensures.value, c.count.ensures.state.slots)
 
 pub overflow_add-survey-in-loop-part-3 : goal.overflow_add-survey-in-loop-part-3
 overflow_add-survey-in-loop-part-3 g c =
-    let room = (HasCounts-next c.args.streams.now c.loop-part.part-index c.part-item.result c.loop-part.survey c.loop-part.invariant c.loop-part-test.true c.part-item.is).slots in
+    let room = (HasCounts-next c.args.streams.now c.loop-part.part-index c.part-item.result c.loop-part.survey c.loop-part.invariant
+    c.loop-part-test.true c.part-item.is).slots in
     omega (arith, room, c.requires.few, c.values.ensures.value, c.count.ensures.state.value_slots)
 
 pub loop-part-preserved : goal.loop-part-preserved

@@ -35,7 +35,8 @@ apply-requires-clause-fit g c =
     let two = AreTwoLive-some c.args.records.now.live c.args.kept c.args.freed c.requires.live in
     let below = c.live.ensures.sound.below (λ stopped. absurd (cc)) in
     subst (λ (l : List Put). IsTrue (slots_fit l c.args.records.now.journal.extent)) (sym c.pair_of.ensures)
-    (slots_fit-pair c.args.kept c.args.freed c.args.written.now c.args.records.now.journal.extent (below c.args.kept two.kept_live) (below c.args.freed two.freed_live))
+    (slots_fit-pair c.args.kept c.args.freed c.args.written.now c.args.records.now.journal.extent (below c.args.kept two.kept_live)
+    (below c.args.freed two.freed_live))
 
 pub returns-clause-replaces : goal.returns-clause-replaces
 returns-clause-replaces g c = record {

@@ -13,7 +13,8 @@ use Rattle.ss_store.proofs.store.Store.apply.Goals as goal
 pub returns-in-Create-clause-applies : goal.returns-in-Create-clause-applies
 returns-in-Create-clause-applies g c runs =
     let is = c.in-Create.is in
-    subst (λ (e : Event). Applies e c.args.self.now c.apply_create.new.self (g.D.Disk.seen c.args.disk.now) (g.D.Disk.seen c.apply_create.new.disk) c.apply_create.result)
+    subst (λ (e : Event). Applies e c.args.self.now c.apply_create.new.self (g.D.Disk.seen c.args.disk.now) (g.D.Disk.seen c.apply_create.new.disk)
+    c.apply_create.result)
     (sym is) c.apply_create.ensures.applies
 
 pub returns-in-Create-clause-history : goal.returns-in-Create-clause-history
@@ -21,8 +22,10 @@ returns-in-Create-clause-history g c runs told =
     let is = c.in-Create.is in
     let old = g.D.Disk.seen c.args.disk.now in
     let new = g.D.Disk.seen c.apply_create.new.disk in
-    let applied = subst (λ (e : Event). Applies e c.args.self.now c.apply_create.new.self old new c.apply_create.result) (sym is) c.apply_create.ensures.applies in
-    AddsEvent-applied c.args.event.now c.args.self.now c.apply_create.new.self (λ d. g.D.Disk.seen d) c.args.disk.now c.apply_create.new.disk c.apply_create.result applied
+    let applied = subst (λ (e : Event). Applies e c.args.self.now c.apply_create.new.self old new c.apply_create.result) (sym is)
+    c.apply_create.ensures.applies in
+    AddsEvent-applied c.args.event.now c.args.self.now c.apply_create.new.self (λ d. g.D.Disk.seen d) c.args.disk.now c.apply_create.new.disk
+    c.apply_create.result applied
     (subst (λ e. CanBeSaid e) (sym is) tt)
     c.apply_create.ensures.uncalled told (g.met.D.Disk.knows_now c.args.disk.now told)
     (c.requires.one_disk runs told)
@@ -31,7 +34,8 @@ pub returns-then-has_open-clause-applies : goal.returns-then-has_open-clause-app
 returns-then-has_open-clause-applies g c runs =
     let back : to_z w64 (of_z w64 c.in-Value.v) ≡ c.in-Value.v = search rules in
     let is = c.in-Value.is ∙ ap (λ x. Value c.in-Value.name c.in-Value.t x) (sym back) in
-    subst (λ (e : Event). Applies e c.args.self.now c.apply_mark.new.self (g.D.Disk.seen c.args.disk.now) (g.D.Disk.seen c.apply_mark.new.disk) c.apply_mark.result)
+    subst (λ (e : Event). Applies e c.args.self.now c.apply_mark.new.self (g.D.Disk.seen c.args.disk.now) (g.D.Disk.seen c.apply_mark.new.disk)
+    c.apply_mark.result)
     (sym is) c.apply_mark.ensures.applies
 
 pub returns-then-has_open-clause-history : goal.returns-then-has_open-clause-history
@@ -42,7 +46,8 @@ returns-then-has_open-clause-history g c runs told =
     let old = g.D.Disk.seen c.args.disk.now in
     let new = g.D.Disk.seen c.apply_mark.new.disk in
     let applied = subst (λ (e : Event). Applies e c.args.self.now c.apply_mark.new.self old new c.apply_mark.result) (sym is) c.apply_mark.ensures.applies in
-    AddsEvent-applied c.args.event.now c.args.self.now c.apply_mark.new.self (λ d. g.D.Disk.seen d) c.args.disk.now c.apply_mark.new.disk c.apply_mark.result applied
+    AddsEvent-applied c.args.event.now c.args.self.now c.apply_mark.new.self (λ d. g.D.Disk.seen d) c.args.disk.now c.apply_mark.new.disk
+    c.apply_mark.result applied
     (subst (λ e. CanBeSaid e) (sym c.in-Value.is) (subst (λ e. IsInTime e) c.in-Value.is c.requires.in_time, fits))
     c.apply_mark.ensures.uncalled told (g.met.D.Disk.knows_now c.args.disk.now told)
     (c.requires.one_disk runs told)
@@ -51,7 +56,8 @@ pub returns-else-has_open-clause-applies : goal.returns-else-has_open-clause-app
 returns-else-has_open-clause-applies g c runs =
     let back : to_z w64 (of_z w64 c.in-Value.v) ≡ c.in-Value.v = search rules in
     let is = c.in-Value.is ∙ ap (λ x. Value c.in-Value.name c.in-Value.t x) (sym back) in
-    subst (λ (e : Event). Applies e c.args.self.now c.apply_value.new.self (g.D.Disk.seen c.args.disk.now) (g.D.Disk.seen c.apply_value.new.disk) c.apply_value.result)
+    subst (λ (e : Event). Applies e c.args.self.now c.apply_value.new.self (g.D.Disk.seen c.args.disk.now) (g.D.Disk.seen c.apply_value.new.disk)
+    c.apply_value.result)
     (sym is) c.apply_value.ensures.applies
 
 pub returns-else-has_open-clause-history : goal.returns-else-has_open-clause-history
@@ -62,7 +68,8 @@ returns-else-has_open-clause-history g c runs told =
     let old = g.D.Disk.seen c.args.disk.now in
     let new = g.D.Disk.seen c.apply_value.new.disk in
     let applied = subst (λ (e : Event). Applies e c.args.self.now c.apply_value.new.self old new c.apply_value.result) (sym is) c.apply_value.ensures.applies in
-    AddsEvent-applied c.args.event.now c.args.self.now c.apply_value.new.self (λ d. g.D.Disk.seen d) c.args.disk.now c.apply_value.new.disk c.apply_value.result applied
+    AddsEvent-applied c.args.event.now c.args.self.now c.apply_value.new.self (λ d. g.D.Disk.seen d) c.args.disk.now c.apply_value.new.disk
+    c.apply_value.result applied
     (subst (λ e. CanBeSaid e) (sym c.in-Value.is) (subst (λ e. IsInTime e) c.in-Value.is c.requires.in_time, fits))
     c.apply_value.ensures.uncalled told (g.met.D.Disk.knows_now c.args.disk.now told)
     (c.requires.one_disk runs told)
@@ -70,7 +77,8 @@ returns-else-has_open-clause-history g c runs told =
 pub returns-in-Open-clause-applies : goal.returns-in-Open-clause-applies
 returns-in-Open-clause-applies g c runs =
     let is = c.in-Open.is in
-    subst (λ (e : Event). Applies e c.args.self.now c.apply_mark-in-Open.new.self (g.D.Disk.seen c.args.disk.now) (g.D.Disk.seen c.apply_mark-in-Open.new.disk) c.apply_mark-in-Open.result)
+    subst (λ (e : Event). Applies e c.args.self.now c.apply_mark-in-Open.new.self (g.D.Disk.seen c.args.disk.now)
+    (g.D.Disk.seen c.apply_mark-in-Open.new.disk) c.apply_mark-in-Open.result)
     (sym is) c.apply_mark-in-Open.ensures.applies
 
 pub returns-in-Open-clause-history : goal.returns-in-Open-clause-history
@@ -78,8 +86,10 @@ returns-in-Open-clause-history g c runs told =
     let is = c.in-Open.is in
     let old = g.D.Disk.seen c.args.disk.now in
     let new = g.D.Disk.seen c.apply_mark-in-Open.new.disk in
-    let applied = subst (λ (e : Event). Applies e c.args.self.now c.apply_mark-in-Open.new.self old new c.apply_mark-in-Open.result) (sym is) c.apply_mark-in-Open.ensures.applies in
-    AddsEvent-applied c.args.event.now c.args.self.now c.apply_mark-in-Open.new.self (λ d. g.D.Disk.seen d) c.args.disk.now c.apply_mark-in-Open.new.disk c.apply_mark-in-Open.result applied
+    let applied = subst (λ (e : Event). Applies e c.args.self.now c.apply_mark-in-Open.new.self old new c.apply_mark-in-Open.result) (sym is)
+    c.apply_mark-in-Open.ensures.applies in
+    AddsEvent-applied c.args.event.now c.args.self.now c.apply_mark-in-Open.new.self (λ d. g.D.Disk.seen d) c.args.disk.now
+    c.apply_mark-in-Open.new.disk c.apply_mark-in-Open.result applied
     (subst (λ e. CanBeSaid e) (sym is) (subst (λ e. IsInTime e) is c.requires.in_time))
     c.apply_mark-in-Open.ensures.uncalled told (g.met.D.Disk.knows_now c.args.disk.now told)
     (c.requires.one_disk runs told)
@@ -87,7 +97,8 @@ returns-in-Open-clause-history g c runs told =
 pub returns-in-Close-clause-applies : goal.returns-in-Close-clause-applies
 returns-in-Close-clause-applies g c runs =
     let is = c.in-Close.is in
-    subst (λ (e : Event). Applies e c.args.self.now c.apply_mark-in-Close.new.self (g.D.Disk.seen c.args.disk.now) (g.D.Disk.seen c.apply_mark-in-Close.new.disk) c.apply_mark-in-Close.result)
+    subst (λ (e : Event). Applies e c.args.self.now c.apply_mark-in-Close.new.self (g.D.Disk.seen c.args.disk.now)
+    (g.D.Disk.seen c.apply_mark-in-Close.new.disk) c.apply_mark-in-Close.result)
     (sym is) c.apply_mark-in-Close.ensures.applies
 
 pub returns-in-Close-clause-history : goal.returns-in-Close-clause-history
@@ -95,8 +106,10 @@ returns-in-Close-clause-history g c runs told =
     let is = c.in-Close.is in
     let old = g.D.Disk.seen c.args.disk.now in
     let new = g.D.Disk.seen c.apply_mark-in-Close.new.disk in
-    let applied = subst (λ (e : Event). Applies e c.args.self.now c.apply_mark-in-Close.new.self old new c.apply_mark-in-Close.result) (sym is) c.apply_mark-in-Close.ensures.applies in
-    AddsEvent-applied c.args.event.now c.args.self.now c.apply_mark-in-Close.new.self (λ d. g.D.Disk.seen d) c.args.disk.now c.apply_mark-in-Close.new.disk c.apply_mark-in-Close.result applied
+    let applied = subst (λ (e : Event). Applies e c.args.self.now c.apply_mark-in-Close.new.self old new c.apply_mark-in-Close.result) (sym is)
+    c.apply_mark-in-Close.ensures.applies in
+    AddsEvent-applied c.args.event.now c.args.self.now c.apply_mark-in-Close.new.self (λ d. g.D.Disk.seen d) c.args.disk.now
+    c.apply_mark-in-Close.new.disk c.apply_mark-in-Close.result applied
     (subst (λ e. CanBeSaid e) (sym is) (subst (λ e. IsInTime e) is c.requires.in_time))
     c.apply_mark-in-Close.ensures.uncalled told (g.met.D.Disk.knows_now c.args.disk.now told)
     (c.requires.one_disk runs told)

@@ -1,6 +1,7 @@
 use Rattle.ss_store.specs.Marking.{event_of}
 use Rattle.ss_store.proofs.Applying.{Applies-refused, Applies-starved}
-use Rattle.ss_store.proofs.MarkTaking.{applies-taken, applies-untaken, can-mark, live-spared, same-spared, sound-spared, sound-stopped, sound-taken, stands-spared, taking-mark}
+use Rattle.ss_store.proofs.MarkTaking.{applies-taken, applies-untaken, can-mark, live-spared, same-spared, sound-spared, sound-stopped, sound-taken}
+use Rattle.ss_store.proofs.MarkTaking.{stands-spared, taking-mark}
 use Rattle.ss_store.proofs.store.Store.apply_mark.Goals as goal
 
 pub returns-in-Err-clause-applies : goal.returns-in-Err-clause-applies
@@ -11,14 +12,16 @@ returns-in-Err-clause-applies g c =
 pub invariant_of-self : goal.invariant_of-self
 invariant_of-self g c =
     let is = taking-mark {store = record { streams = c.self.inside.streams.items; records = c.self.inside.records; stopped = c.self.inside.stopped }}
-    (g.D.Disk.seen c.args.disk.now) c.self.view_is c.requires.one_disk c.self.invariant c.requires.runs c.in-Ok.ensures.marker c.in-Ok.ensures.accepted c.requires.in_time
+    (g.D.Disk.seen c.args.disk.now) c.self.view_is c.requires.one_disk c.self.invariant c.requires.runs c.in-Ok.ensures.marker
+    c.in-Ok.ensures.accepted c.requires.in_time
     c.requires.marked c.index_mut-stream.ensures.value c.reserve.ensures.grown in
     sound-spared is
 
 pub returns-in-Err-reserve-clause-applies : goal.returns-in-Err-reserve-clause-applies
 returns-in-Err-reserve-clause-applies g c =
     let is = taking-mark {store = record { streams = c.self.inside.streams.items; records = c.self.inside.records; stopped = c.self.inside.stopped }}
-    (g.D.Disk.seen c.args.disk.now) c.self.view_is c.requires.one_disk c.self.invariant c.requires.runs c.in-Ok.ensures.marker c.in-Ok.ensures.accepted c.requires.in_time
+    (g.D.Disk.seen c.args.disk.now) c.self.view_is c.requires.one_disk c.self.invariant c.requires.runs c.in-Ok.ensures.marker
+    c.in-Ok.ensures.accepted c.requires.in_time
     c.requires.marked c.index_mut-stream.ensures.value c.reserve.ensures.grown in
     rw (← c.self.view_is)
     (Applies-starved (event_of c.args.name.now c.args.t c.args.what) _ _ is.none _ (same-spared is) (stands-spared is)
@@ -27,21 +30,24 @@ returns-in-Err-reserve-clause-applies g c =
 pub put_mark-requires-clause-can : goal.put_mark-requires-clause-can
 put_mark-requires-clause-can g c =
     let is = taking-mark {store = record { streams = c.self.inside.streams.items; records = c.self.inside.records; stopped = c.self.inside.stopped }}
-    (g.D.Disk.seen c.args.disk.now) c.self.view_is c.requires.one_disk c.self.invariant c.requires.runs c.in-Ok.ensures.marker c.in-Ok.ensures.accepted c.requires.in_time
+    (g.D.Disk.seen c.args.disk.now) c.self.view_is c.requires.one_disk c.self.invariant c.requires.runs c.in-Ok.ensures.marker
+    c.in-Ok.ensures.accepted c.requires.in_time
     c.requires.marked c.index_mut-stream.ensures.value c.reserve.ensures.grown in
     can-mark is c.in-Ok-reserve.ensures.room c.in-Ok-reserve.ensures.value_room
 
 pub put_mark-requires-clause-live : goal.put_mark-requires-clause-live
 put_mark-requires-clause-live g c =
     let is = taking-mark {store = record { streams = c.self.inside.streams.items; records = c.self.inside.records; stopped = c.self.inside.stopped }}
-    (g.D.Disk.seen c.args.disk.now) c.self.view_is c.requires.one_disk c.self.invariant c.requires.runs c.in-Ok.ensures.marker c.in-Ok.ensures.accepted c.requires.in_time
+    (g.D.Disk.seen c.args.disk.now) c.self.view_is c.requires.one_disk c.self.invariant c.requires.runs c.in-Ok.ensures.marker
+    c.in-Ok.ensures.accepted c.requires.in_time
     c.requires.marked c.index_mut-stream.ensures.value c.reserve.ensures.grown in
     live-spared is
 
 pub invariant_of-self-in-Ok-put_mark : goal.invariant_of-self-in-Ok-put_mark
 invariant_of-self-in-Ok-put_mark g c =
     let is = taking-mark {store = record { streams = c.self.inside.streams.items; records = c.self.inside.records; stopped = c.self.inside.stopped }}
-    (g.D.Disk.seen c.args.disk.now) c.self.view_is c.requires.one_disk c.self.invariant c.requires.runs c.in-Ok.ensures.marker c.in-Ok.ensures.accepted c.requires.in_time
+    (g.D.Disk.seen c.args.disk.now) c.self.view_is c.requires.one_disk c.self.invariant c.requires.runs c.in-Ok.ensures.marker
+    c.in-Ok.ensures.accepted c.requires.in_time
     c.requires.marked c.index_mut-stream.ensures.value c.reserve.ensures.grown in
     let done = c.in-Ok-put_mark.ensures in
     sound-taken is c.put_mark.new.part c.put_mark.new.records c.put_mark.ensures.same c.put_mark.ensures.fits done.whole done.taken
@@ -49,23 +55,27 @@ invariant_of-self-in-Ok-put_mark g c =
 pub invariant_of-self-in-Err-put_mark : goal.invariant_of-self-in-Err-put_mark
 invariant_of-self-in-Err-put_mark g c =
     let is = taking-mark {store = record { streams = c.self.inside.streams.items; records = c.self.inside.records; stopped = c.self.inside.stopped }}
-    (g.D.Disk.seen c.args.disk.now) c.self.view_is c.requires.one_disk c.self.invariant c.requires.runs c.in-Ok.ensures.marker c.in-Ok.ensures.accepted c.requires.in_time
+    (g.D.Disk.seen c.args.disk.now) c.self.view_is c.requires.one_disk c.self.invariant c.requires.runs c.in-Ok.ensures.marker
+    c.in-Ok.ensures.accepted c.requires.in_time
     c.requires.marked c.index_mut-stream.ensures.value c.reserve.ensures.grown in
     sound-stopped is c.put_mark.new.part c.put_mark.new.records c.put_mark.ensures.same c.put_mark.ensures.fits
 
 pub returns-in-Ok-put_mark-clause-applies : goal.returns-in-Ok-put_mark-clause-applies
 returns-in-Ok-put_mark-clause-applies g c =
     let is = taking-mark {store = record { streams = c.self.inside.streams.items; records = c.self.inside.records; stopped = c.self.inside.stopped }}
-    (g.D.Disk.seen c.args.disk.now) c.self.view_is c.requires.one_disk c.self.invariant c.requires.runs c.in-Ok.ensures.marker c.in-Ok.ensures.accepted c.requires.in_time
+    (g.D.Disk.seen c.args.disk.now) c.self.view_is c.requires.one_disk c.self.invariant c.requires.runs c.in-Ok.ensures.marker
+    c.in-Ok.ensures.accepted c.requires.in_time
     c.requires.marked c.index_mut-stream.ensures.value c.reserve.ensures.grown in
     let done = c.in-Ok-put_mark.ensures in
     rw (← c.self.view_is)
-    (applies-taken is c.put_mark.new.part c.put_mark.new.records c.put_mark.ensures.same c.put_mark.ensures.fits done.whole done.taken _ _ _ _ done.takes c.values_held.ensures c.len.ensures.value)
+    (applies-taken is c.put_mark.new.part c.put_mark.new.records c.put_mark.ensures.same c.put_mark.ensures.fits done.whole done.taken _ _ _ _
+    done.takes c.values_held.ensures c.len.ensures.value)
 
 pub returns-in-Err-put_mark-clause-applies : goal.returns-in-Err-put_mark-clause-applies
 returns-in-Err-put_mark-clause-applies g c =
     let is = taking-mark {store = record { streams = c.self.inside.streams.items; records = c.self.inside.records; stopped = c.self.inside.stopped }}
-    (g.D.Disk.seen c.args.disk.now) c.self.view_is c.requires.one_disk c.self.invariant c.requires.runs c.in-Ok.ensures.marker c.in-Ok.ensures.accepted c.requires.in_time
+    (g.D.Disk.seen c.args.disk.now) c.self.view_is c.requires.one_disk c.self.invariant c.requires.runs c.in-Ok.ensures.marker
+    c.in-Ok.ensures.accepted c.requires.in_time
     c.requires.marked c.index_mut-stream.ensures.value c.reserve.ensures.grown in
     rw (← c.self.view_is)
     (applies-untaken is c.put_mark.new.part c.put_mark.new.records c.put_mark.ensures.same c.put_mark.ensures.fits _ _ c.in-Err-put_mark.ensures.err

@@ -11,7 +11,8 @@ returns-clause-full c =
     let parts = c.self.inside.streams.items in
     let whole = c.self.invariant.whole (ap (λ (s : StoreState). s.stopped) c.self.view_is ∙ c.requires) in
     subst (λ (s : StoreState). IsNone c.lowest_free.result ↔ IsTrue (nat_le MOST_RECORDS (length (flat_map slots_held s.streams)))) c.self.view_is
-    (is_full-exactly parts c.self.inside.records.live c.lowest_free.result whole (omega (arith, c.live-live.ensures.most, c.live-live.ensures.value)) c.lowest_free.ensures.full)
+    (is_full-exactly parts c.self.inside.records.live c.lowest_free.result whole (omega (arith, c.live-live.ensures.most, c.live-live.ensures.value))
+    c.lowest_free.ensures.full)
 
 pub returns-clause-low : goal.returns-clause-low
 returns-clause-low c =

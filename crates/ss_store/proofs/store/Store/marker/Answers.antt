@@ -51,7 +51,8 @@ returns-in-Some-refuses-clause-refused c =
     (rw (← c.deref.ensures.value) c.place_of-place.ensures.inside) c.index-stream.ensures in
     let here : IsAtPlace c.args.name.now c.place_of-place.result c.args.self.now.streams part =
     subst (λ (s : StoreState). IsAtPlace c.args.name.now c.place_of-place.result s.streams part) c.self.view_is at in
-    judged c.args.self.now c.args.name.now c.args.t c.args.mark c.place_of-place.result part (has_all_slots c.args.self.now.streams) _ here c.requires.marked refl
+    judged c.args.self.now c.args.name.now c.args.t c.args.mark c.place_of-place.result part (has_all_slots c.args.self.now.streams) _ here
+    c.requires.marked refl
     (ap (λ o. or_else o (slot_refusal c.args.mark (has_all_slots c.args.self.now.streams))) c.in-Some-refuses.ensures.some)
 
 pub returns-in-Some-slot_for-clause-accepted : goal.returns-in-Some-slot_for-clause-accepted
@@ -64,7 +65,8 @@ returns-in-Some-slot_for-clause-accepted c =
     (rw (← c.deref.ensures.value) c.place_of-place.ensures.inside) c.index-stream.ensures in
     let here : IsAtPlace c.args.name.now c.place_of-place.result c.args.self.now.streams part =
     subst (λ (s : StoreState). IsAtPlace c.args.name.now c.place_of-place.result s.streams part) c.self.view_is at in
-    judged c.args.self.now c.args.name.now c.args.t c.args.mark c.place_of-place.result part (has_all_slots c.args.self.now.streams) _ here c.requires.marked refl
+    judged c.args.self.now c.args.name.now c.args.t c.args.mark c.place_of-place.result part (has_all_slots c.args.self.now.streams) _ here
+    c.requires.marked refl
     (ap (λ o. or_else o (slot_refusal c.args.mark (has_all_slots c.args.self.now.streams))) c.in_default-refuses.ensures.none ∙ c.in-Some-slot_for.ensures.some)
 
 pub returns-in-None-clause-refused : goal.returns-in-None-clause-refused
@@ -77,7 +79,8 @@ returns-in-None-clause-refused c =
     (rw (← c.deref.ensures.value) c.place_of-place.ensures.inside) c.index-stream.ensures in
     let here : IsAtPlace c.args.name.now c.place_of-place.result c.args.self.now.streams part =
     subst (λ (s : StoreState). IsAtPlace c.args.name.now c.place_of-place.result s.streams part) c.self.view_is at in
-    judged c.args.self.now c.args.name.now c.args.t c.args.mark c.place_of-place.result part (has_all_slots c.args.self.now.streams) _ here c.requires.marked refl
+    judged c.args.self.now c.args.name.now c.args.t c.args.mark c.place_of-place.result part (has_all_slots c.args.self.now.streams) _ here
+    c.requires.marked refl
     (ap (λ o. or_else o (slot_refusal c.args.mark (has_all_slots c.args.self.now.streams))) c.in_default-refuses.ensures.none ∙ c.in-None.ensures.none refl)
 
 pub returns-in-Some-slot_for-clause-marker : goal.returns-in-Some-slot_for-clause-marker
@@ -99,7 +102,8 @@ returns-in-Some-slot_for-clause-marker c =
       at = here.at;
       accepted = c.in_default-refuses.ensures.none;
       can = CanMark-accepted part c.args.t c.args.mark ends
-          (λ own. begun-part c.args.self.now c.args.name.now c.args.mark c.place_of-place.result part here c.requires.marked own) c.in_default-refuses.ensures.none;
+          (λ own. begun-part c.args.self.now c.args.name.now c.args.mark c.place_of-place.result part here c.requires.marked own)
+          c.in_default-refuses.ensures.none;
       in_slot = c.in-Some-slot_for.ensures.in_slot;
       low = c.in-Some-slot_for.ensures.low;
       few = few-marks parts c.place_of-place.result part at.at (omega (arith, all, c.live-live.ensures.most, c.live-live.ensures.value));

@@ -25,4 +25,5 @@ returns-clause-row g c streams state each =
     let at : slice_get parts c.args.place ≡ Some part =
     slice_get_read parts (length parts) c.args.place part refl
     (subst (λ (s : StoreState). c.args.place < length s.streams) (sym c.self.view_is) c.requires.place) c.index-stream.ensures in
-    row-at parts streams c.args.place part _ state held at (rw (c.params.ensures, c.values_held.ensures, c.len.ensures.value, c.count.ensures.value, c.values.ensures.value) refl)
+    row-at parts streams c.args.place part _ state held at
+    (rw (c.params.ensures, c.values_held.ensures, c.len.ensures.value, c.count.ensures.value, c.values.ensures.value) refl)
