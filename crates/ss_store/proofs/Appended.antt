@@ -1,6 +1,6 @@
 -- A store one of whose streams takes an event: what is known before, and what the call of its stream makes of the store.
 use Rattle.std.proofs.Common.{◌≡◌, zero, suc, ◌≤◌, ℕ, ◌<◌, ℤ, Bool, true, false, List, [], ◌∷◌, ◌++◌, length, map, flat_map, zip, get_or, slice_get}
-use Rattle.std.proofs.Common.{slice_set, refl, ap, sym, ◌∙◌, subst, arith, None, Some, Option, inl, inr, Result, Err}
+use Rattle.std.proofs.Common.{slice_set, refl, ap, sym, ◌∙◌, subst, arith, None, Some, Option, inl, inr, Result}
 use Rattle.std.specs.List.{AllZip, find, position_or_len}
 use Rattle.std.specs.List.Sorted.{IsStrictlyIncreasing}
 use Rattle.std.proofs.lemmas.Bool.{cases_Bool}
@@ -30,7 +30,6 @@ use Rattle.ss_journal.specs.Kept.{IsSettled}
 use Rattle.ss_store.specs.Admitted.{IsMarker, IsTaker}
 use Rattle.ss_store.specs.Calls.{StepsState, Turns}
 use Rattle.ss_store.specs.Causes.{said_of_held}
-use Rattle.ss_store.specs.Errors.{apply_of_fault}
 use Rattle.ss_store.specs.Held.{IsHalfway, IsPartlyJoined, IsSameStream, values_held, with_single}
 use Rattle.ss_query.specs.Held.{IsHeldIn}
 use Rattle.ss_store.specs.Kept.{IsSound, KeepsSpare, SameButSpare, StoreIsKept, StoreState, entry_of, numbers_held, part_named, refuses_held, without_spare}
@@ -38,10 +37,7 @@ use Rattle.ss_store.specs.Marking.{IsInOpen, IsMarkedIn, IsMarkedOrNot, event_of
 use Rattle.ss_store.specs.Recover.{Recovers}
 use Rattle.ss_store.specs.Slots.{AreSomeLive, Either, LiveSlotsGo}
 use Rattle.ss_query.specs.Slots.{HasRecords}
-use Rattle.ss_store.specs.declared.error.ApplyError.{ApplyError}
 use Rattle.ss_store.specs.declared.marking.Mark.{Mark}
-use Rattle.ss_query.specs.declared.read_error.ReadError.{ReadError}
-use Rattle.ss_query.specs.declared.read_error.ReadError.TheVariants as fault
 use Rattle.ss_store.proofs.Among.{AreWhole-at, AreWhole-changed, EndByLast-later, HasRecords-set, IsHeldIn-at, IsNoEarlier, Marks-at, Recovers-held}
 use Rattle.ss_store.proofs.Among.{Recovers-partly, others_of}
 use Rattle.ss_store.proofs.HeldCounts.{values_held-Agrees}

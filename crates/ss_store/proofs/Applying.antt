@@ -8,7 +8,6 @@ use Rattle.ss_outside.specs.Verdict.{IfChanged, IsFirm, fine}
 use Rattle.ss_catalog.specs.Events.{event_name}
 use Rattle.ss_catalog.specs.declared.event.Event.{Event}
 use Rattle.ss_catalog.specs.declared.refusal.Refusal.{Refusal}
-use Rattle.ss_model.specs.State.{Stream}
 use Rattle.ss_model.specs.Steps.{stepped}
 use Rattle.ss_model.specs.declared.types.Ack.{Ack}
 use Rattle.ss_recover.specs.Held.{slots_held}
@@ -82,7 +81,7 @@ module _ (event : Event) (old : StoreState) where
       stands = stands;
       ack = tt;
       decay = λ plain. tt;
-    created = λ made. tt;
+      created = λ made. tt;
       refused = accepted-exactly (refuses_held old.streams event) (Err apply.OutOfMemory) none (λ r wrong. cc);
       same = tt;
       starved = same;
@@ -128,7 +127,7 @@ module _ (event : Event) (old : StoreState) where
         stands = λ run. let wrong : true ≡ false = sym stops ∙ run in cc;
         ack = tt;
         decay = λ plain. tt;
-    created = λ made. tt;
+        created = λ made. tt;
         refused = accepted-exactly (refuses_held old.streams event) (Err apply.Disk) none (λ r wrong. cc);
         same = tt;
         starved = tt;
@@ -143,7 +142,7 @@ module _ (event : Event) (old : StoreState) where
         stands = λ run. let wrong : true ≡ false = sym stops ∙ run in cc;
         ack = tt;
         decay = λ plain. tt;
-    created = λ made. tt;
+        created = λ made. tt;
         refused = accepted-exactly (refuses_held old.streams event) (Err (apply.Changed slot)) none (λ r wrong. cc);
         same = tt;
         starved = tt;

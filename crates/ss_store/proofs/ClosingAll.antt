@@ -4,7 +4,7 @@ use Rattle.std.proofs.Common.{arith, inl, inr, Option, Some, Result, Ok}
 use Rattle.std.specs.Prelude.{All, Contains, Err}
 use Rattle.std.proofs.lemmas.Bool.{cases_lt}
 use Rattle.std.proofs.lemmas.List.Elements.{All-head, All-tail, Contains-append_left, Contains-append_right}
-use Rattle.std.proofs.lemmas.Option.{none-some, same_Some}
+use Rattle.std.proofs.lemmas.Option.{none-some}
 use Rattle.ss_outside.specs.Crash.{KnowsNow}
 use Rattle.ss_outside.specs.Disk.{Told}
 use Rattle.ss_codec.specs.declared.record.Record.{Record}

@@ -1,11 +1,9 @@
 -- Joins of a stream one after another, until none is due.
-use Rattle.std.proofs.Common.{◌≡◌, ◌∙◌, ℕ, Bool, List, map, subst, Option, Ok, Result, IsTrue}
+use Rattle.std.proofs.Common.{◌≡◌, ◌∙◌, ℕ, List, map, subst, Option, Ok, Result}
 use Rattle.std.proofs.lemmas.Result.{on_ok_weaker}
 use Rattle.ss_outside.specs.Crash.{KnowsNow}
 use Rattle.ss_outside.specs.Disk.{Told}
 use Rattle.ss_outside.proofs.CrashLemmas.{joined as run_joined, weaker}
-use Rattle.ss_journal.specs.Kept.{IsSettled}
-use Rattle.ss_records.specs.Kept.{AreKept, RecordsState}
 use Rattle.ss_codec.specs.declared.record.Record.{Record}
 use Rattle.ss_target.specs.Lengths.{lengths_of}
 use Rattle.ss_target.specs.Targets.{params_of}
@@ -16,14 +14,12 @@ use Rattle.ss_model.specs.Standing.{IsStream}
 use Rattle.ss_model.specs.State.{Stream, values_in}
 use Rattle.ss_model.specs.declared.types.Window.{Window}
 use Rattle.ss_model.proofs.JoinLemmas.{JoinsDue-append, closed-only_end, taken-JoinsDue}
-use Rattle.ss_recover.specs.Held.{TileFrom, entries_of, slots_held, span_held, span_of}
+use Rattle.ss_recover.specs.Held.{entries_of, span_held, span_of}
 use Rattle.ss_recover.specs.declared.parts.StreamParts.{StreamParts}
 use Rattle.ss_store.specs.Calls.{Turns}
 use Rattle.ss_store.specs.Held.{IsPartlyJoined, IsSameStream, values_held, with_windows}
 use Rattle.ss_query.specs.Held.{IsHeldIn}
 use Rattle.ss_store.specs.Joining.{IsJoinedIn, NoSpansAreDue}
-use Rattle.ss_store.specs.Slots.{LiveSlotsGo}
-use Rattle.ss_query.specs.declared.read_error.ReadError.{ReadError}
 use Rattle.ss_store.proofs.Calls.{Turns-same, Turns-weaker}
 use Rattle.ss_store.proofs.Joinings.{IsJoinedIn-none, IsPartlyJoined-none}
 use Rattle.ss_store.proofs.Spans.{NoneIsDue-spans, values_held-windows}

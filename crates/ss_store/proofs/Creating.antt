@@ -1,6 +1,6 @@
 -- A store in which a stream is created: what is known before the write, and what the store does then.
-use Rattle.std.proofs.Common.{◌≡◌, ◌∙◌, ◌∷◌, ◌++◌, ◌+◌, ◌≤◌, ℕ, Bool, true, false, List, [], flat_map, length, max, zip, ap, arith, refl, sym, subst}
-use Rattle.std.proofs.Common.{Err, None, Ok, Result, Some}
+use Rattle.std.proofs.Common.{◌≡◌, ◌∙◌, ◌∷◌, ◌++◌, ◌+◌, ◌≤◌, ℕ, Bool, true, false, List, [], flat_map, max, zip, ap, arith, refl, sym, subst}
+use Rattle.std.proofs.Common.{Err, None, Ok}
 use Rattle.ss_outside.specs.Disk.{DiskView, OfContent}
 use Rattle.ss_outside.specs.Step.{Step}
 use Rattle.ss_outside.specs.Verdict.{failed, fine}

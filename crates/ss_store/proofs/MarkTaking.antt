@@ -1,6 +1,6 @@
 -- A store in which the landmarks of a stream take a mark: what is known before the call, and what the store does then.
-use Rattle.std.proofs.Common.{◌≡◌, ◌∙◌, ℕ, ℤ, ◌+◌, ◌<◌, ◌≤◌, Bool, true, false, List, get_or, slice_get, slice_set, length, map, ap, arith, refl, sym}
-use Rattle.std.proofs.Common.{subst, Err, None, Ok, Result, Some}
+use Rattle.std.proofs.Common.{◌≡◌, ◌∙◌, ℕ, ◌<◌, ◌≤◌, Bool, true, false, List, get_or, slice_set, length, map, ap, arith, refl, sym}
+use Rattle.std.proofs.Common.{subst, Err, None, Ok}
 use Rattle.ss_outside.specs.Disk.{DiskView, OfContent}
 use Rattle.ss_outside.specs.Step.{Step}
 use Rattle.ss_outside.specs.Verdict.{failed, fine}
@@ -11,7 +11,7 @@ use Rattle.ss_catalog.specs.declared.stream_id.StreamId.{StreamId}
 use Rattle.ss_catalog.specs.Events.{event_name}
 use Rattle.ss_journal.specs.declared.format.TheConstants.{MOST_SLOTS}
 use Rattle.ss_model.specs.History.{CanBeSaid}
-use Rattle.ss_landmarks.specs.Landmarks.{IsState as AreKnown, LandmarksState}
+use Rattle.ss_landmarks.specs.Landmarks.{LandmarksState}
 use Rattle.ss_model.specs.Marks.{has_open}
 use Rattle.ss_records.specs.Kept.{RecordsState}
 use Rattle.ss_recover.specs.Held.{TileFrom, entries_of, mark_slots, slots_held}

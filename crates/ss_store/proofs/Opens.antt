@@ -30,7 +30,7 @@ use Rattle.ss_store.specs.Changing.{ClosesAll}
 use Rattle.ss_store.specs.Errors.{open_of_fault, open_of_journal, open_of_recover, verdict_of_opening}
 use Rattle.ss_query.specs.Reading.{verdict_of_read}
 use Rattle.ss_store.specs.Kept.{StoreIsKept, StoreState}
-use Rattle.ss_store.specs.Rebuilt.{HasRebuilt, IsRebuilt, ReadsAll}
+use Rattle.ss_store.specs.Rebuilt.{HasRebuilt, IsRebuilt}
 use Rattle.ss_store.specs.Recover.{Recovers, Stands, recover, recovered_from, recovered_of}
 use Rattle.ss_store.specs.declared.error.OpenError.{OpenError}
 use Rattle.ss_query.specs.declared.read_error.ReadError.{ReadError}

@@ -5,7 +5,6 @@ use Rattle.std.proofs.lemmas.List.Elements.{All-filter, All-from_recursion, All-
 use Rattle.std.proofs.lemmas.List.Sorted.{All-permutation, IsPermutation-sym}
 use Rattle.ss_records.specs.Live.{is_live}
 use Rattle.ss_codec.specs.declared.record.Record.{Record}
-use Rattle.ss_codec.specs.declared.record.Record.TheVariants as records
 use Rattle.ss_summary.specs.Figures.{Figures}
 use Rattle.ss_recover.proofs.Lists.{range-within}
 use Rattle.ss_recover.proofs.Permutations.{IsPermutation-turn}

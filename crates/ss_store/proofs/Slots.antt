@@ -1,12 +1,11 @@
 -- The records in the slots of an image, in whichever order, and the calls that leave them.
-use Rattle.std.proofs.Common.{List, Option, Result, map, ℕ}
+use Rattle.std.proofs.Common.{List, Option, Result, ℕ}
 use Rattle.std.proofs.lemmas.Result.{on_ok_weaker}
 use Rattle.ss_outside.proofs.CrashLemmas.{weaker}
 use Rattle.ss_outside.specs.Disk.{Told}
 use Rattle.ss_journal.specs.Calls.{KeepsMap}
 use Rattle.ss_journal.specs.Redo.{StandsFor}
 use Rattle.ss_codec.specs.declared.record.Record.{Record}
-use Rattle.ss_recover.specs.Held.{occupied}
 use Rattle.ss_store.specs.Calls.{Turns}
 use Rattle.ss_query.specs.Slots.{HasRecords}
 

@@ -1,16 +1,14 @@
 -- A store in which a stream takes a value outside landmarks: what is known before the call, and what the store does then.
-use Rattle.std.proofs.Common.{◌≡◌, ◌∙◌, ℕ, ℤ, ◌+◌, ◌<◌, ◌≤◌, Bool, true, false, List, get_or, slice_get, slice_set, length, ap, arith, refl, sym}
-use Rattle.std.proofs.Common.{subst, Err, None, Ok, Result, Some}
+use Rattle.std.proofs.Common.{◌≡◌, ◌∙◌, ℕ, ℤ, ◌+◌, ◌<◌, ◌≤◌, Bool, true, false, List, get_or, slice_set, length, ap, arith, refl, sym}
+use Rattle.std.proofs.Common.{subst, Err, None, Ok, Some}
 use Rattle.ss_outside.specs.Disk.{DiskView, OfContent}
 use Rattle.ss_outside.specs.Step.{Step}
 use Rattle.ss_outside.specs.Verdict.{fine}
-use Rattle.ss_outside.proofs.StepLemmas.{step-as}
 use Rattle.ss_journal.proofs.StepLemmas.{step-from}
 use Rattle.ss_catalog.specs.declared.event.Event.TheVariants.{Value}
 use Rattle.ss_catalog.specs.declared.stream_id.StreamId.{StreamId}
 use Rattle.ss_line.specs.Line.{LineState}
 use Rattle.ss_model.specs.History.{CanBeSaid}
-use Rattle.ss_model.specs.declared.types.Ack.{Ack}
 use Rattle.ss_records.specs.Kept.{RecordsState}
 use Rattle.ss_recover.specs.Held.{entries_of, slots_held}
 use Rattle.ss_recover.specs.declared.parts.StreamParts.{StreamParts}
@@ -22,7 +20,6 @@ use Rattle.ss_query.specs.Reading.{verdict_of_read}
 use Rattle.ss_store.specs.Held.{IsSameStream, values_held}
 use Rattle.ss_store.specs.Kept.{IsSound, SameButSpare, StoreIsKept, StoreState, is_of_landmark, refuses_held}
 use Rattle.ss_store.specs.Slots.{AreSomeLive}
-use Rattle.ss_store.specs.declared.error.ApplyError.{ApplyError}
 use Rattle.ss_query.specs.declared.read_error.ReadError.{ReadError}
 use Rattle.ss_store.proofs.Among.{IsNoEarlier-past}
 use Rattle.ss_store.proofs.Appended.{AreWhole-IsSpared, IsSound-set, IsSpared, IsSpared-line, SameButSpare-IsSpared, StepsState-appended}

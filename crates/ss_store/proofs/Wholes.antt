@@ -1,14 +1,11 @@
 -- What changes of one stream in a row keep over every disk, and what joins in a row make of it.
-use Rattle.std.proofs.Common.{◌≡◌, ◌∙◌, ℕ, List, Option, Ok, Result, arith, subst}
-use Rattle.std.proofs.lemmas.Result.{on_ok_weaker}
+use Rattle.std.proofs.Common.{◌∙◌, ℕ, Option, Ok, Result, arith}
 use Rattle.ss_outside.specs.Crash.{KnowsNow}
 use Rattle.ss_outside.specs.Disk.{DiskView, Told}
 use Rattle.ss_outside.specs.Step.{Step}
 use Rattle.ss_outside.specs.Verdict.{fine}
 use Rattle.ss_journal.specs.Kept.{IsSettled}
 use Rattle.ss_records.specs.Kept.{AreKept, RecordsState}
-use Rattle.ss_codec.specs.declared.record.Record.{Record}
-use Rattle.ss_model.specs.State.{Stream}
 use Rattle.ss_recover.specs.Held.{TileFrom, entries_of, slots_held}
 use Rattle.ss_recover.specs.declared.parts.StreamParts.{StreamParts}
 use Rattle.ss_store.specs.Changing.{HoldsUntil, JoinsWindows, KeepsWhole}

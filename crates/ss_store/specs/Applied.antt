@@ -1,6 +1,6 @@
 -- What an event does to a store and its disk, and what a look does.
 use Rattle.std.specs.Prelude.{◌≡◌, ◌↔◌, ℕ, ◌+◌, ◌*◌, ◌≤◌, Bool, true, false, not, List, [], length, flat_map, map, max, slice_get, Contains, Result}
-use Rattle.std.specs.Prelude.{Ok, Err, Some, IfOk, IfSome, OnOk, IsTrue, ⊤}
+use Rattle.std.specs.Prelude.{Err, Some, IfOk, IfSome, OnOk, IsTrue}
 use Rattle.ss_outside.specs.Crash.{OnlyReads}
 use Rattle.ss_outside.specs.Disk.{DiskView, Told, OfContent}
 use Rattle.ss_outside.specs.Step.{Step}

@@ -1,6 +1,6 @@
 -- What a call that changes records, or one stream, does to its disk, and what it keeps over every disk.
-use Rattle.std.specs.Prelude.{◌≡◌, ◌⊎◌, ℕ, ℤ, ◌+◌, ◌<◌, ◌≤◌, max, IsTrue, List, ◌∷◌, Option, Some, None, Contains, flat_map, length, map, Result}
-use Rattle.std.specs.Prelude.{IfOk, OnOk, false}
+use Rattle.std.specs.Prelude.{◌≡◌, ℕ, ℤ, ◌+◌, ◌<◌, ◌≤◌, max, IsTrue, List, ◌∷◌, Option, Some, None, Contains, flat_map, length, map, Result}
+use Rattle.std.specs.Prelude.{OnOk, false}
 use Rattle.ss_outside.specs.Crash.{OnlyReads}
 use Rattle.ss_outside.specs.Disk.{Told}
 use Rattle.ss_outside.specs.Verdict.{Verdict, IfChanged, IsFirm, verdict}

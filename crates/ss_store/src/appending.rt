@@ -14,11 +14,11 @@ ghost use Rattle.ss_store.specs.Slots.{AreSomeLive};
 
 use crate::closing::{close_windows, values_held};
 use crate::place::number_of;
-use ss_query::ReadError;
 use crate::writing::add_record;
 use ss_codec::Record;
 use ss_line::Entry;
 use ss_outside::Disk;
+use ss_query::ReadError;
 use ss_records::Records;
 use ss_recover::StreamParts;
 use ss_steps::Steps;

@@ -15,11 +15,11 @@ ghost use Rattle.ss_store.specs.Held.{IsSameStream, values_held};
 ghost use Rattle.ss_store.specs.Joining.{AreDue, NoSpansAreDue};
 ghost use Rattle.ss_store.specs.Slots.{AreSomeLive};
 
-use ss_query::{ReadError, read_window};
 use crate::writing::replace_two;
 use ss_codec::Record;
 use ss_line::{At, Entry};
 use ss_outside::Disk;
+use ss_query::{ReadError, read_window};
 use ss_records::Records;
 use ss_recover::StreamParts;
 use ss_steps::Steps;

@@ -19,9 +19,9 @@ ghost use Rattle.ss_store.specs.Rebuilt.{ReadsAll};
 
 use crate::OpenError;
 use crate::closing::close_windows;
-use ss_query::ReadError;
 use ss_catalog::Catalog;
 use ss_outside::Disk;
+use ss_query::ReadError;
 use ss_records::Records;
 use ss_recover::{Parts, StreamParts, rebuild};
 use ss_steps::Steps;

@@ -5,7 +5,6 @@ use Rattle.ss_outside.proofs.StepLemmas.{step-as, step-then}
 use Rattle.ss_journal.proofs.StepLemmas.{after-step}
 use Rattle.ss_model.specs.ClosedState.{closed_stream}
 use Rattle.ss_recover.specs.Held.{slots_held}
-use Rattle.ss_store.specs.Changing.{TakesValue}
 use Rattle.ss_store.specs.Held.{IsHalfway, IsPartlyJoined, with_single}
 use Rattle.ss_query.specs.Held.{IsHeldIn}
 use Rattle.ss_query.specs.declared.read_error.ReadError.{ReadError}

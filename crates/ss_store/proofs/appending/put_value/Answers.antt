@@ -3,6 +3,7 @@ use Rattle.std.proofs.lemmas.List.{map-append}
 use Rattle.std.proofs.lemmas.Result.{err_from_is_err_and}
 use Rattle.std.proofs.Math.Facts.{to_z-of_z}
 use Rattle.ss_codec.proofs.RecordLemmas.{is_valid-IsWindow}
+use Rattle.ss_line.specs.Line.{LineState}
 use Rattle.ss_line.specs.declared.entry.At.{At}
 use Rattle.ss_line.specs.declared.entry.Entry.{Entry}
 use Rattle.ss_outside.proofs.StepLemmas.{step-as}
@@ -60,18 +61,19 @@ returns-in_err-add_record-clause-puts g c =
       kept = tt;
     }))
 
-added : (g : _) (c : goal.After-part-1 g) → IsAdded c.args.part.now (record c.args.part.now { last_time = Some c.args.t; line = c.push.new.self })
-    c.args.slot c.args.t
-added g c = record {
+added : (part : StreamParts) (line : LineState) (at : At) (before slot t : ℕ) →
+    line.entries ≡ part.line.entries ++ (at, single_entry (before + 1) slot) ∷ [] → before ≡ values_held (entries_of part) →
+    IsAdded part (record part { last_time = Some t; line = line }) slot t
+added part line at before slot t pushed all = record {
   id = refl;
   name = refl;
   target = refl;
   own_slot = refl;
   landmarks = refl;
   last_time = refl;
-  entries = ap (λ (es : List (At × Entry)). map (λ (e : At × Entry). e.1) es) c.push.ensures.pushed
-      ∙ map-append (λ (e : At × Entry). e.1) c.args.part.now.line.entries ((c.push.result, single_entry (c.values_held-position.result + 1) c.args.slot) ∷ [])
-      ∙ ap (λ n. entries_of c.args.part.now ++ single_entry (n + 1) c.args.slot ∷ []) c.values_held-position.ensures;
+  entries = ap (λ (es : List (At × Entry)). map (λ (e : At × Entry). e.1) es) pushed
+      ∙ map-append (λ (e : At × Entry). e.1) part.line.entries ((at, single_entry (before + 1) slot) ∷ [])
+      ∙ ap (λ n. entries_of part ++ single_entry (n + 1) slot ∷ []) all;
 }
 
 pub returns-clause-puts : goal.returns-clause-puts
@@ -85,7 +87,9 @@ returns-clause-puts g c =
       turns = λ others s.
           Turns-answers (IsHeldIn others part s) (IsHalfway others part s c.args.t c.args.v) (IsHeldIn others new (with_single s c.args.t c.args.v))
           _ _ c.in_ok-add_record.field-0 _
-          (Turns-added part new c.args.slot c.args.t (added g c) c.args.v c.one.result single (assumption c.one.type_inv)
+          (Turns-added part new c.args.slot c.args.t
+          (added part c.push.new.self c.push.result c.values_held-position.result c.args.slot c.args.t c.push.ensures.pushed
+          c.values_held-position.ensures) c.args.v c.one.result single (assumption c.one.type_inv)
           can.room can.plain can.later others s _ _ _ (rw (c.values_held-position.ensures, c.number_of.ensures) at made.changes));
       firm = λ others s held. tt;
       kept = made.kept;
@@ -95,7 +99,9 @@ pub returns-clause-holds : goal.returns-clause-holds
 returns-clause-holds g c =
     let part = c.args.part.now in
     record {
-      values = values_held-added part (record part { last_time = Some c.args.t; line = c.push.new.self }) c.args.slot c.args.t (added g c);
+      values = values_held-added part (record part { last_time = Some c.args.t; line = c.push.new.self }) c.args.slot c.args.t
+          (added part c.push.new.self c.push.result c.values_held-position.result c.args.slot c.args.t c.push.ensures.pushed
+          c.values_held-position.ensures);
       last_time = refl;
     }
 
@@ -105,8 +111,12 @@ returns-clause-whole g c =
     let new = record part { last_time = Some c.args.t; line = c.push.new.self } in
     let done = c.in_ok-add_record.ensures in
     record {
-      tiles = TileFrom-added part new c.args.slot c.args.t (added g c) c.requires.can.tiles c.requires.can.room;
-      live = LiveSlotsGo-added part new c.args.slot c.args.t (added g c) c.args.records.now.live c.add_record.new.records.live done.live;
+      tiles = TileFrom-added part new c.args.slot c.args.t
+          (added part c.push.new.self c.push.result c.values_held-position.result c.args.slot c.args.t c.push.ensures.pushed
+          c.values_held-position.ensures) c.requires.can.tiles c.requires.can.room;
+      live = LiveSlotsGo-added part new c.args.slot c.args.t
+          (added part c.push.new.self c.push.result c.values_held-position.result c.args.slot c.args.t c.push.ensures.pushed
+          c.values_held-position.ensures) c.args.records.now.live c.add_record.new.records.live done.live;
       settled = done.settled;
       extent = done.extent;
     }

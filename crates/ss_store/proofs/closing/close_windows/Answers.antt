@@ -5,8 +5,6 @@ use Rattle.ss_journal.proofs.StepLemmas.{after-step}
 use Rattle.ss_target.specs.Lengths.{lengths_of}
 use Rattle.ss_target.specs.Targets.{params_of}
 use Rattle.ss_recover.specs.Held.{entries_of, slots_held, span_held}
-use Rattle.ss_store.specs.Changing.{ChangedIsHeld}
-use Rattle.ss_query.specs.Reading.{verdict_of_read}
 use Rattle.ss_store.specs.Held.{IsPartlyJoined}
 use Rattle.ss_query.specs.Held.{IsHeldIn}
 use Rattle.ss_store.specs.Joining.{AreDue, IsJoinedIn, NoSpansAreDue}

@@ -1,17 +1,12 @@
 use Rattle.std.proofs.Common.{Some, arith, refl, subst, sym}
 use Rattle.std.proofs.lemmas.Result.{err_from_is_err_and}
-use Rattle.std.specs.Prelude.{IsTrue, Result}
 use Rattle.ss_outside.proofs.StepLemmas.{step-as}
 use Rattle.ss_outside.specs.Disk.{DiskView}
-use Rattle.ss_outside.specs.Step.{Step}
-use Rattle.ss_outside.specs.Verdict.{fine}
-use Rattle.ss_codec.specs.Record.{is_valid}
-use Rattle.ss_codec.specs.declared.record.Record.{Record}
 use Rattle.ss_records.specs.Kept.{RecordsState}
 use Rattle.ss_recover.specs.declared.parts.StreamParts.{StreamParts}
-use Rattle.ss_store.specs.Changing.{KeepsWhole, TakesMark}
+use Rattle.ss_store.specs.Changing.{KeepsWhole}
 use Rattle.ss_query.specs.Held.{IsHeldIn}
-use Rattle.ss_store.specs.Marking.{IsMarkedOrNot, mark_record, slots_used, with_mark}
+use Rattle.ss_store.specs.Marking.{IsMarkedOrNot, slots_used, with_mark}
 use Rattle.ss_store.proofs.Calls.{Turns-answers, Turns-failed}
 use Rattle.ss_store.proofs.Marked.{IsMarked}
 use Rattle.ss_store.proofs.MarkedCalls.{AreSomeLive-last, FitsMark-valid, IsAdding-is, IsLastSlot-is, IsMarked-marked_part, LiveSlotsGo-mark_added}

@@ -1,12 +1,8 @@
 use Rattle.std.proofs.Common.{ap, refl, subst, sym, ◌∙◌}
-use Rattle.std.specs.Prelude.{IfSome}
 use Rattle.std.specs.List.Sorted.{IsStrictlyIncreasing}
-use Rattle.ss_line.specs.Line.{entry_at}
-use Rattle.ss_line.specs.declared.entry.Entry.{Entry}
 use Rattle.ss_model.specs.declared.types.Placed.{Placed}
-use Rattle.ss_summary.specs.Figures.{Figures}
-use Rattle.ss_store.specs.Kept.{StoreState, numbers_held, part_numbered}
-use Rattle.ss_store.proofs.Looking.{IfChanged-ask, IsPartAt-read, Looks-failed}
+use Rattle.ss_store.specs.Kept.{StoreState, numbers_held}
+use Rattle.ss_store.proofs.Looking.{IsPartAt-read, Looks-failed}
 use Rattle.ss_store.proofs.WindowsRead.{IsFirm-read, entry-read, shows-read}
 use Rattle.ss_store.proofs.store.Store.read_in.Goals as goal
 
