@@ -1,5 +1,36 @@
 -- What a line brings, by what it means, and what sending it leaves.
-use Rattle.std.proofs.Common.{⊎_elim, codes, ◌≡◌, ℕ, ◌+◌, ◌<◌, Bool, ◌++◌, ◌↔◌, List, [], ◌∷◌, length, take, Option, Some, None, IsSome, Ok, Err, Result, IfErr, refl, sym, ap, ◌∙◌, subst, arith, inl, inr}
+use Rattle.std.proofs.Common.{
+  ⊎_elim,
+  codes,
+  ◌≡◌,
+  ℕ,
+  ◌+◌,
+  ◌<◌,
+  Bool,
+  ◌++◌,
+  ◌↔◌,
+  List,
+  [],
+  ◌∷◌,
+  length,
+  take,
+  Option,
+  Some,
+  None,
+  IsSome,
+  Ok,
+  Err,
+  Result,
+  IfErr,
+  refl,
+  sym,
+  ap,
+  ◌∙◌,
+  subst,
+  arith,
+  inl,
+  inr,
+}
 use Rattle.std.proofs.Math.Seq.{take-append-add}
 use Rattle.std.proofs.lemmas.Bool.{cases_lt, cond-true, cond-false, le-leb, lt-leb, lt-ltb}
 use Rattle.std.proofs.lemmas.List.{append-nil, length-append, take-append-le}
@@ -46,12 +77,39 @@ use Rattle.ss_store.proofs.AskedStreams.{refuses_query_held-is}
 use Rattle.ss_store.proofs.Calls.{Turns-reads, Turns-weaker}
 use Rattle.ss_store.proofs.KeptStates.{AllAgree-recovered}
 use Rattle.ss_program.specs.Answer.{Adds, Replies, at_sink}
-use Rattle.ss_program.specs.Line.{Brought, History, accepted_event, answered, brings, command_brings, history_after, kept_brings, line_text, meaning_brings, refused, shown, text_brought, the_event, unless_refused, window_rows}
+use Rattle.ss_program.specs.Line.{
+  Brought,
+  History,
+  accepted_event,
+  answered,
+  brings,
+  command_brings,
+  history_after,
+  kept_brings,
+  line_text,
+  meaning_brings,
+  refused,
+  shown,
+  text_brought,
+  the_event,
+  unless_refused,
+  window_rows,
+}
 use Rattle.ss_program.specs.Sent.{appended, AppendsLess, Sends}
 use Rattle.ss_program.specs.Progress.{StandsAround, StopsWith}
 use Rattle.ss_program.specs.Status.{IsApplyStop, IsDiskStop, IsShowStop, IsStop}
 use Rattle.ss_program.specs.declared.status.Status.{Status}
-use Rattle.ss_program.specs.declared.status.Status.TheVariants.{Done, Usage, RefusedStore, DiskFault, SourceFault, SinkFault, OutOfMemory, InputLimit, RecordChanged}
+use Rattle.ss_program.specs.declared.status.Status.TheVariants.{
+  Done,
+  Usage,
+  RefusedStore,
+  DiskFault,
+  SourceFault,
+  SinkFault,
+  OutOfMemory,
+  InputLimit,
+  RecordChanged,
+}
 use Rattle.ss_program.proofs.SendLemmas.{appended-appended, appended-nil}
 
 -- a line to which no event comes: the history after it is the one before
@@ -202,9 +260,11 @@ reply_line-some (Answered outcome) = answer_line-some outcome
 reply_line-some (Refused refusal) = line_of-some (codes "refused") (refusal_name refusal ∷ [])
 reply_line-some (WindowsHead count) = line_of-some (codes "windows") (decimal count ∷ [])
 reply_line-some (Window w) = line_of-some (decimal w.first)
-    (decimal w.last ∷ decimal w.summary.count ∷ signed_decimal w.summary.sum ∷ signed_decimal w.summary.min ∷ signed_decimal w.summary.max ∷ decimal w.summary.t_first ∷ decimal w.summary.t_last ∷ [])
+    (decimal w.last ∷ decimal w.summary.count ∷ signed_decimal w.summary.sum ∷ signed_decimal w.summary.min ∷ signed_decimal w.summary.max ∷ decimal
+    w.summary.t_first ∷ decimal w.summary.t_last ∷ [])
 reply_line-some (ListHead count) = line_of-some (codes "list") (decimal count ∷ [])
-reply_line-some (StreamRow row) = line_of-some row.name (target_words row.params ++ decimal row.n ∷ decimal row.k ∷ decimal row.landmarks ∷ decimal row.values ∷ [])
+reply_line-some (StreamRow row) = line_of-some row.name (target_words row.params ++ decimal row.n ∷ decimal row.k ∷ decimal row.landmarks ∷ decimal
+    row.values ∷ [])
 
 -- one reply was sent, or less than it
 pub Replies-sent : (brought : Brought) (before after : Option (List ℕ)) (reply : Reply) (sent : Result Unit Failed) →
@@ -279,7 +339,8 @@ text-some history line some = meaning-some history (meaning line) some
 pub Adds-reads : {T : Type 0} (history : History) (brought : Brought) (old new : Told) (result : Result T Status) →
     (Stands history old.content → brought.event ≡ None) → KnowsNow old → OnlyReads old new → Adds history brought old new result
 Adds-reads history brought old new result none knows reads =
-    Turns-weaker (Stands history) (Stands history) (Stands history) (StandsAround history brought) (Stands history) (Stands (history_after history brought)) old new result
+    Turns-weaker (Stands history) (Stands history) (Stands history) (StandsAround history brought) (Stands history) (Stands (history_after history brought))
+    old new result
     (λ has. has) (λ has image is. inl is) (λ has image is. subst (λ h. Stands h image) (sym (history-still history brought (none has))) is)
     (Turns-reads (Stands history) (Stands history) old new result knows reads (λ has. has))
 

@@ -23,7 +23,17 @@ use Rattle.ss_program.specs.Refused.{AsRefused, damage_line, refusal_line, statu
 use Rattle.ss_program.specs.Sent.{SaysLine}
 use Rattle.ss_program.specs.Status.{EndsAs, EndsServing, IsStop, disk_verdict, exit_number, sink_verdict, source_verdict}
 use Rattle.ss_program.specs.declared.status.Status.{Status}
-use Rattle.ss_program.specs.declared.status.Status.TheVariants.{Done, Usage, RefusedStore, DiskFault, SourceFault, SinkFault, OutOfMemory, InputLimit, RecordChanged}
+use Rattle.ss_program.specs.declared.status.Status.TheVariants.{
+  Done,
+  Usage,
+  RefusedStore,
+  DiskFault,
+  SourceFault,
+  SinkFault,
+  OutOfMemory,
+  InputLimit,
+  RecordChanged,
+}
 
 -- a content that is refused recovers to nothing, and one that recovers isn't refused
 unrefused : (found : Recovered) (streams : List Stream) → found ≡ recovers streams → IsSome (refusal_line found) → ⊥
@@ -40,10 +50,30 @@ open-refuses : (error : OpenError) (old new : Told) (before after : Option (List
     AsRefused error before after had has → Refuses before after (status_of_open error) old new
 open-refuses opening.Disk old new before after had has opens reads said = record { how = inr (inl refl); unwritten = reads; silent = λ _. said.0 }
 open-refuses opening.OutOfMemory old new before after had has opens reads said = record { how = inr (inr refl); unwritten = reads; silent = λ _. said.0 }
-open-refuses opening.NotAStore old new before after had has opens reads said = record { how = inl refl; unwritten = reads; silent = λ other. absurd (other refl) }
-open-refuses (opening.BadEntry n) old new before after had has opens reads said = record { how = inl refl; unwritten = reads; silent = λ other. absurd (other refl) }
-open-refuses (opening.BadSlot n) old new before after had has opens reads said = record { how = inl refl; unwritten = reads; silent = λ other. absurd (other refl) }
-open-refuses (opening.BadStream id) old new before after had has opens reads said = record { how = inl refl; unwritten = reads; silent = λ other. absurd (other refl) }
+open-refuses opening.NotAStore old new before after had has opens reads said = record {
+  how = inl refl;
+  unwritten = reads;
+  silent = λ other. absurd
+      (other refl);
+}
+open-refuses (opening.BadEntry n) old new before after had has opens reads said = record {
+  how = inl refl;
+  unwritten = reads;
+  silent = λ other. absurd
+      (other refl);
+}
+open-refuses (opening.BadSlot n) old new before after had has opens reads said = record {
+  how = inl refl;
+  unwritten = reads;
+  silent = λ other. absurd
+      (other refl);
+}
+open-refuses (opening.BadStream id) old new before after had has opens reads said = record {
+  how = inl refl;
+  unwritten = reads;
+  silent = λ other. absurd
+      (other refl);
+}
 open-refuses (opening.Changed slot) old new before after had has opens reads said = absurd opens
 
 Ends-refused : (error : OpenError) (line : List ℕ) (old new : DiskView) (before after : Option (List ℕ)) (had has : ℕ) → new.tells ≡ old.tells →
@@ -55,9 +85,13 @@ Ends-refused error line old new before after had has tells counted opens reads s
     let refused = λ (told : IsTrue old.tells). subst (λ o. IsSome o) (sym (is_line told)) refl in
     record {
       known = λ w. cc;
-      disk = record { tells = tells; counted = counted; told = λ told some.
-          subst (λ s. Refuses before after s old.told new.told) status
-          (open-refuses error old.told new.told before after had has (opens told) (reads told some) said) };
+      disk = record {
+        tells = tells;
+        counted = counted;
+        told = λ told some.
+            subst (λ s. Refuses before after s old.told new.told) status
+            (open-refuses error old.told new.told before after had has (opens told) (reads told some) said);
+      };
       sink = λ other. absurd (other refl);
       refused = λ _ told. record { line = line; is_line = is_line told; said = says; unwritten = reads told (refused told) };
       firm = λ w. cc;
@@ -70,16 +104,24 @@ pub Ends-unopened : (T : Type 0) (error : OpenError) (old new : DiskView) (befor
     Ends (over old before had) (over new after has) (status_of_open error)
 Ends-unopened T opening.Disk old new before after had has tells counted opens reads said = record {
   known = λ w. cc;
-  disk = record { tells = tells; counted = counted; told = λ told refused.
-      open-refuses opening.Disk old.told new.told before after had has (opens told) (reads told refused) said };
+  disk = record {
+    tells = tells;
+    counted = counted;
+    told = λ told refused.
+        open-refuses opening.Disk old.told new.told before after had has (opens told) (reads told refused) said;
+  };
   sink = λ _. said.1;
   refused = λ w. cc;
   firm = λ w. cc;
 }
 Ends-unopened T opening.OutOfMemory old new before after had has tells counted opens reads said = record {
   known = λ w. cc;
-  disk = record { tells = tells; counted = counted; told = λ told refused.
-      open-refuses opening.OutOfMemory old.told new.told before after had has (opens told) (reads told refused) said };
+  disk = record {
+    tells = tells;
+    counted = counted;
+    told = λ told refused.
+        open-refuses opening.OutOfMemory old.told new.told before after had has (opens told) (reads told refused) said;
+  };
   sink = λ _. said.1;
   refused = λ w. cc;
   firm = λ w. cc;

@@ -20,7 +20,17 @@ use Rattle.ss_program.specs.Sent.{appended, AppendsFront, SaysLine}
 use Rattle.ss_program.specs.Session.{accepted, report, report_so_far}
 use Rattle.ss_program.specs.declared.running.TheConstants.{LONGEST_INPUT}
 use Rattle.ss_program.specs.declared.status.Status.{Status}
-use Rattle.ss_program.specs.declared.status.Status.TheVariants.{Done, Usage, RefusedStore, DiskFault, SourceFault, SinkFault, OutOfMemory, InputLimit, RecordChanged}
+use Rattle.ss_program.specs.declared.status.Status.TheVariants.{
+  Done,
+  Usage,
+  RefusedStore,
+  DiskFault,
+  SourceFault,
+  SinkFault,
+  OutOfMemory,
+  InputLimit,
+  RecordChanged,
+}
 
 -- the acknowledged events are held, and at most one more; all where the run is done, and no more where memory ran out
 module _ (history : History) (ls : List (List ℕ)) (bytes : ℕ) (image : List ℕ) where

@@ -1,5 +1,33 @@
 -- A session over a generated file: what was answered so far, what is counted of it, and how it ends.
-use Rattle.std.proofs.Common.{◌≡◌, ℕ, zero, suc, ◌+◌, ◌++◌, List, [], ◌∷◌, length, map, take, Bool, true, false, cond, Option, Ok, Err, Result, refl, sym, ap, ◌∙◌, subst, append_assoc, arith}
+use Rattle.std.proofs.Common.{
+  ◌≡◌,
+  ℕ,
+  zero,
+  suc,
+  ◌+◌,
+  ◌++◌,
+  List,
+  [],
+  ◌∷◌,
+  length,
+  map,
+  take,
+  Bool,
+  true,
+  false,
+  cond,
+  Option,
+  Ok,
+  Err,
+  Result,
+  refl,
+  sym,
+  ap,
+  ◌∙◌,
+  subst,
+  append_assoc,
+  arith,
+}
 use Rattle.std.specs.Prelude.{count_by, ⊤}
 use Rattle.std.specs.List.{flat_map}
 use Rattle.std.proofs.lemmas.List.{append-nil, length-append, map-append, take-append-le}
@@ -132,7 +160,8 @@ IsAt-more history seed count left rest command old mid new reply before after at
     }
 
 -- a crash while a command of the file is done
-pub IsAt-stop : {T : Type 0} (history : History) (seed count : ℕ) (left rest : List Command) (command : Command) (old mid new : Told) (tally : Tally) (result : Result T Status)
+pub IsAt-stop : {T : Type 0} (history : History) (seed count : ℕ) (left rest : List Command) (command : Command) (old mid new : Told) (tally : Tally)
+    (result : Result T Status)
     (at : IsAt history seed count left old mid tally) → left ≡ command ∷ rest → IsSayable command →
     Adds (after_lines history (map printed at.done)) (command_brings (after_lines history (map printed at.done)) command) mid new result →
     LeavesOnly old new (StandsWithin history (generated seed count))
@@ -142,10 +171,12 @@ IsAt-stop history seed count left rest command old mid new tally result at next 
     ap (λ cs. map printed cs) (at.all ∙ ap (λ cs. at.done ++ cs) next) ∙ map-append printed at.done (command ∷ rest)
     ∙ sym (append_assoc ls (printed command ∷ []) (map printed rest)) in
     subst (λ l. LeavesOnly old new (StandsWithin history l)) (sym all)
-    (any_moment-more history old new (ls ++ printed command ∷ []) (map printed rest) (adds-line history old mid new ls command tally result at.ran sayable adds))
+    (any_moment-more history old new (ls ++ printed command ∷ []) (map printed rest) (adds-line history old mid new ls command tally result at.ran sayable
+    adds))
 
 -- all commands were done
-pub IsAt-end : (history : History) (seed count : ℕ) (left : List Command) (old new : Told) (tally : Tally) → IsAt history seed count left old new tally → left ≡ [] →
+pub IsAt-end : (history : History) (seed count : ℕ) (left : List Command) (old new : Told) (tally : Tally) → IsAt history seed count left old new tally →
+    left ≡ [] →
     HasRun history (generated seed count) old new tally
 IsAt-end history seed count left old new tally at none =
     subst (λ cs. HasRun history (map printed cs) old new tally) (sym (at.all ∙ ap (λ cs. at.done ++ cs) none ∙ append-nil at.done)) at.ran
@@ -157,7 +188,8 @@ Sends-then before held after a b (Ok u) is sends = sends ∙ ap (λ o. appended 
 Sends-then before held after a b (Err e) is less = (
   length a + less.0,
   omega (arith, less.1, length-append a b),
-  less.2 ∙ ap (λ o. appended o (take less.0 b)) is ∙ appended-appended before a (take less.0 b) ∙ ap (λ bs. appended before bs) (sym (take-append-add a b less.0)),
+  less.2 ∙ ap (λ o. appended o (take less.0 b)) is ∙ appended-appended before a (take less.0 b) ∙ ap (λ bs. appended before bs)
+      (sym (take-append-add a b less.0)),
 )
 
 -- less than the first of two texts was sent
@@ -202,7 +234,8 @@ pub Generates-stop : (history : History) (seed count : ℕ) (before after : Opti
     ((status ≡ SinkFault → ⊥) → after ≡ before) → KnowsNow new → AppendsFront before after (summary history seed count) →
     LeavesOnly old new (StandsWithin history (generated seed count)) → Generates history seed count before after old new status
 Generates-stop history seed count before after old new status going silent knows front run =
-    let weak = weaker old new (StandsWithin history (generated seed count)) (StandsForGenerated history seed count) (StandsForGenerated-within history seed count) run in
+    let weak = weaker old new (StandsWithin history (generated seed count)) (StandsForGenerated history seed count)
+    (StandsForGenerated-within history seed count) run in
     record {
       front = front;
       whole = λ is. absurd (going is);
@@ -218,8 +251,10 @@ pub Generates-done : (history : History) (seed count : ℕ) (before after : Opti
     HasRun history (generated seed count) old new tally → after ≡ appended before (summary history seed count) →
     Generates history seed count before after old new Done
 Generates-done history seed count before after old new tally knows ran sent =
-    let weak = weaker old new (StandsWithin history (generated seed count)) (StandsForGenerated history seed count) (StandsForGenerated-within history seed count) ran.any_moment in
-    let all : StandsForAll history seed count new.content = subst (λ h. Stands h new.content) (after_lines-accepted history (generated seed count)) ran.stands in
+    let weak = weaker old new (StandsWithin history (generated seed count)) (StandsForGenerated history seed count)
+    (StandsForGenerated-within history seed count) ran.any_moment in
+    let all : StandsForAll history seed count new.content = subst (λ h. Stands h new.content) (after_lines-accepted history (generated seed count))
+    ran.stands in
     record {
       front = AppendsFront-all before after (summary history seed count) sent;
       whole = λ _. sent;
@@ -231,7 +266,8 @@ Generates-done history seed count before after old new tally knows ran sent =
     }
 
 -- What opening the store left comes before.
-pub Generates-opened : (history : History) (seed count : ℕ) (before after : Option (List ℕ)) (old mid new : Told) (status : Status) → LeavesOnly old mid (Stands history) →
+pub Generates-opened : (history : History) (seed count : ℕ) (before after : Option (List ℕ)) (old mid new : Told) (status : Status) → LeavesOnly old mid
+    (Stands history) →
     Generates history seed count before after mid new status → Generates history seed count before after old new status
 Generates-opened history seed count before after old mid new status opened run = record {
   front = run.front;

@@ -1,5 +1,33 @@
 -- Which accepted events an image holds, by how much of the report was taken.
-use Rattle.std.proofs.Common.{◌≡◌, ◌⊎◌, inl, inr, ℕ, ◌+◌, ◌-◌, ◌<◌, ◌≤◌, ◌++◌, List, [], ◌∷◌, length, take, take_all, Option, Some, None, IsSome, refl, sym, ap, ◌∙◌, subst, append_assoc, arith}
+use Rattle.std.proofs.Common.{
+  ◌≡◌,
+  ◌⊎◌,
+  inl,
+  inr,
+  ℕ,
+  ◌+◌,
+  ◌-◌,
+  ◌<◌,
+  ◌≤◌,
+  ◌++◌,
+  List,
+  [],
+  ◌∷◌,
+  length,
+  take,
+  take_all,
+  Option,
+  Some,
+  None,
+  IsSome,
+  refl,
+  sym,
+  ap,
+  ◌∙◌,
+  subst,
+  append_assoc,
+  arith,
+}
 use Rattle.std.specs.Prelude.{nat_le}
 use Rattle.std.proofs.lemmas.Bool.{cases_lt, cond-true, cond-false, le-leb, lt-leb}
 use Rattle.std.proofs.lemmas.Grind.{flat_map-append}
@@ -16,7 +44,17 @@ use Rattle.ss_program.specs.Progress.{StandsAround, StandsStopped, StandsWithin,
 use Rattle.ss_program.specs.Sent.{appended}
 use Rattle.ss_program.specs.Session.{accepted, after_line, after_lines, replies, text_of}
 use Rattle.ss_program.specs.declared.status.Status.{Status}
-use Rattle.ss_program.specs.declared.status.Status.TheVariants.{Done, Usage, RefusedStore, DiskFault, SourceFault, SinkFault, OutOfMemory, InputLimit, RecordChanged}
+use Rattle.ss_program.specs.declared.status.Status.TheVariants.{
+  Done,
+  Usage,
+  RefusedStore,
+  DiskFault,
+  SourceFault,
+  SinkFault,
+  OutOfMemory,
+  InputLimit,
+  RecordChanged,
+}
 use Rattle.ss_program.proofs.AnswerLemmas.{text-some}
 use Rattle.ss_program.proofs.SendLemmas.{appended-nil}
 use Rattle.ss_program.proofs.SessionLemmas.{after_lines-accepted, after_lines-push}
@@ -41,7 +79,12 @@ first-events history done others =
 
 few-events : (history : History) (done others : List (List ℕ)) → length (accepted history done) ≤ length (accepted history (done ++ others))
 few-events history done others =
-    omega (arith, length-append (accepted history done) (accepted (after_lines history done) others), ap (λ (es : List Event). length es) (accepted-append history done others))
+    omega (
+      arith,
+      length-append (accepted history done) (accepted (after_lines history done) others),
+      ap (λ (es : List Event). length es)
+          (accepted-append history done others),
+    )
 
 pub StandsForFirst-within : (history : History) (ls : List (List ℕ)) (image : List ℕ) → StandsWithin history ls image →
     StandsForFirst history (accepted history ls) image
@@ -200,12 +243,19 @@ HoldsAcked-around history done others line k bytes status image cuts is going (i
     record {
       j = length (accepted history ls);
       stands = subst (λ h. Stands h image)
-          (sym (ap (λ l. history ++ take (length (accepted history ls)) (accepted history l)) (sym are) ∙ first-events history ls others ∙ after_lines-push history done line))
+          (sym (ap (λ l. history ++ take (length (accepted history ls)) (accepted history l)) (sym are) ∙ first-events history ls others ∙ after_lines-push
+          history done line))
           more_stands.0;
       few = subst (λ l. length (accepted history ls) ≤ length (accepted history l)) are (few-events history ls others);
       acked = omega (arith, acked, more, length-append (accepted history done) (event ++ []));
-      at_most = omega (arith, acked, more, length-append (accepted history done) (event ++ []), length-append event [],
-          one-event (brings (after_lines history done) line).event);
+      at_most = omega (
+        arith,
+        acked,
+        more,
+        length-append (accepted history done) (event ++ []),
+        length-append event [],
+        one-event (brings (after_lines history done) line).event,
+      );
       all = λ finished. absurd (going finished);
       starved = λ memory. absurd (more_stands.1 memory);
     }

@@ -19,7 +19,19 @@ use Rattle.ss_model.specs.State.{state}
 use Rattle.ss_model.specs.declared.outcome.Outcome.{Outcome}
 use Rattle.ss_report.specs.declared.reply.Reply.{Reply}
 use Rattle.ss_report.specs.declared.reply.Reply.TheVariants.{Answered}
-use Rattle.ss_program.specs.Line.{Brought, History, accepted_event, brings, command_brings, history_after, meaning_brings, nothing, refused, shown, unless_refused}
+use Rattle.ss_program.specs.Line.{
+  Brought,
+  History,
+  accepted_event,
+  brings,
+  command_brings,
+  history_after,
+  meaning_brings,
+  nothing,
+  refused,
+  shown,
+  unless_refused,
+}
 use Rattle.ss_program.specs.Session.{after_line, after_lines, replies}
 use Rattle.ss_program.proofs.AnswerLemmas.{ask-event, brings-answered, history-still, windows-event}
 use Rattle.ss_program.proofs.SessionLemmas.{replies-append}

@@ -1,5 +1,37 @@
 -- What sending rows leaves: those of `windows` and of `list`, one after the other.
-use Rattle.std.proofs.Common.{◌≡◌, ℕ, suc, ◌+◌, ◌-◌, ◌<◌, ◌≤◌, ◌++◌, List, [], ◌∷◌, length, map, take, drop, take_all, Option, Some, None, IsSome, IfSome, Ok, Err, Result, sym, ap, ◌∙◌, subst, arith, inl, inr}
+use Rattle.std.proofs.Common.{
+  ◌≡◌,
+  ℕ,
+  suc,
+  ◌+◌,
+  ◌-◌,
+  ◌<◌,
+  ◌≤◌,
+  ◌++◌,
+  List,
+  [],
+  ◌∷◌,
+  length,
+  map,
+  take,
+  drop,
+  take_all,
+  Option,
+  Some,
+  None,
+  IsSome,
+  IfSome,
+  Ok,
+  Err,
+  Result,
+  sym,
+  ap,
+  ◌∙◌,
+  subst,
+  arith,
+  inl,
+  inr,
+}
 use Rattle.std.proofs.Math.Seq.{drop-cons}
 use Rattle.std.proofs.lemmas.Grind.{flat_map-append}
 use Rattle.std.proofs.lemmas.List.{append-nil, length-append, length-map, take-append-drop, take-append-le, take_more}
@@ -105,7 +137,8 @@ list-head history before after count is less =
     AppendsLess-head before after (ListHead (length (state history))) (stream_rows (state history))
     (subst (λ n. AppendsLess before after (reply_line (ListHead n))) is less)
 
-pub list-rows : (history : History) (before held after : Option (List ℕ)) (count : ℕ) {E : Type 0} (sent : Result (Unit {0}) E) → count ≡ length (state history) →
+pub list-rows : (history : History) (before held after : Option (List ℕ)) (count : ℕ) {E : Type 0} (sent : Result (Unit {0}) E) → count ≡ length
+    (state history) →
     held ≡ appended before (reply_line (ListHead count)) → Sends held after (flat_map reply_line (stream_rows (state history))) sent →
     Sends before after (text_brought (command_brings history ListAll)) sent
 list-rows history before held after count sent is first rows =
@@ -224,7 +257,8 @@ pub rows-cut-sent : {P : Type 0} (part : Option P) (entries_of : P → List (At 
     (before held after : Option (List ℕ)) (window : Placed) → o ≡ Some s → IsSome part →
     IfSome part (λ p. held ≡ appended before (flat_map reply_line (take (index_of (entries_of p) at) (window_rows s)))) →
     IfSome part (λ p. IfSome o (λ x. slice_get (map placed_of x.windows) (index_of (entries_of p) at) ≡ Some window)) →
-    (sent : Result Unit Failed) → IsErr sent → Sends held after (reply_line (Window window)) sent → Sends before after (flat_map reply_line (window_rows s)) sent
+    (sent : Result Unit Failed) → IsErr sent → Sends held after (reply_line (Window window)) sent → Sends before after (flat_map reply_line (window_rows s))
+    sent
 rows-cut-sent part entries_of at s o before held after window is some so_far row (Ok u) failed less = cc
 rows-cut-sent part entries_of at s o before held after window is some so_far row (Err e) failed less =
     rows-cut part entries_of at s o before held after window is some so_far row less
@@ -246,7 +280,8 @@ rows-unread (Some p) entries_of at s before held some stands all so_far =
     unread before held (window_rows s) (index_of (entries_of p) at) (omega (arith, stands, all, length-map s.windows (λ w. Window (placed_of w)))) so_far
 
 -- all were sent where none is next
-pub rows-end : {P : Type 0} (part : Option P) (entries_of : P → List (At × Entry)) (next : Option At) (s : Stream) (before held : Option (List ℕ)) → IsSome part →
+pub rows-end : {P : Type 0} (part : Option P) (entries_of : P → List (At × Entry)) (next : Option At) (s : Stream) (before held : Option (List ℕ)) → IsSome
+    part →
     next ≡ None → IfSome part (λ p. length (entries_of p) ≡ length s.windows) →
     IfSome part (λ p. held ≡ appended before (flat_map reply_line (take (rows_done (entries_of p) next) (window_rows s)))) →
     held ≡ appended before (flat_map reply_line (window_rows s))

@@ -101,7 +101,8 @@ close_times =
 
 report-close_times : report [] close_times
     ≡ text (codes "ok 0 0" ∷ codes "ok 1 1" ∷ codes "ok 2 1" ∷ codes "ok 3 1" ∷ codes "ok 4 1" ∷ codes "count 2 2" ∷ codes "sum 8 12" ∷ [])
-unfolding ended_lines unended meaning words is_number number_of number_up_to signed_of is_name state refuses refuses_query outcome_of sum_interval power_length index_of digits
+unfolding ended_lines unended meaning words is_number number_of number_up_to signed_of is_name state refuses refuses_query outcome_of sum_interval
+    power_length index_of digits
 report-close_times = refl
 
 -- the last line has ended where nothing is left

@@ -1,5 +1,38 @@
 -- What a run leaves, by how it ends.
-use Rattle.std.proofs.Common.{◌≡◌, ◌⊎◌, inl, inr, take_all, length-drop, ℕ, ◌+◌, ◌<◌, ◌≤◌, ◌++◌, List, [], ◌∷◌, length, take, drop, map, Bool, true, IsTrue, Option, Some, None, Ok, Err, refl, sym, ap, ◌∙◌, subst, arith}
+use Rattle.std.proofs.Common.{
+  ◌≡◌,
+  ◌⊎◌,
+  inl,
+  inr,
+  take_all,
+  length-drop,
+  ℕ,
+  ◌+◌,
+  ◌<◌,
+  ◌≤◌,
+  ◌++◌,
+  List,
+  [],
+  ◌∷◌,
+  length,
+  take,
+  drop,
+  map,
+  Bool,
+  true,
+  IsTrue,
+  Option,
+  Some,
+  None,
+  Ok,
+  Err,
+  refl,
+  sym,
+  ap,
+  ◌∙◌,
+  subst,
+  arith,
+}
 use Rattle.std.proofs.Math.Seq.{take-add}
 use Rattle.std.proofs.lemmas.List.{append-nil, drop-drop, drop_all, length-take-le, take-append-drop}
 use Rattle.ss_command.specs.Lines.{lines, lines_so_far, unended, unless_empty, without_return}
@@ -25,7 +58,17 @@ use Rattle.ss_program.specs.Session.{after_lines, report, report_so_far, text_of
 use Rattle.ss_program.specs.Status.{IsStop}
 use Rattle.ss_program.specs.declared.running.TheConstants.{LONGEST_INPUT}
 use Rattle.ss_program.specs.declared.status.Status.{Status}
-use Rattle.ss_program.specs.declared.status.Status.TheVariants.{Done, Usage, RefusedStore, DiskFault, SourceFault, SinkFault, OutOfMemory, InputLimit, RecordChanged}
+use Rattle.ss_program.specs.declared.status.Status.TheVariants.{
+  Done,
+  Usage,
+  RefusedStore,
+  DiskFault,
+  SourceFault,
+  SinkFault,
+  OutOfMemory,
+  InputLimit,
+  RecordChanged,
+}
 use Rattle.ss_program.proofs.HeldLemmas.{HoldsReported-done, HoldsReported-stop}
 use Rattle.ss_program.proofs.SendLemmas.{AppendsFront-all, appended-nil}
 use Rattle.ss_program.proofs.SessionLemmas.{after_lines-accepted, front-report, StopsAt-more, StopsAt-front}
@@ -45,10 +88,11 @@ unmoved None after e into left moves is = cc
 unmoved (Some bytes) after e into left moves is = moves ∙ is
 
 -- so many bytes of the input were taken since a moment, and the lines that end in them are answered
-pub record IsThrough (history : History) (start now : Told) (session : SessionState) (before held left : Option (List ℕ)) (input : List ℕ) (n : ℕ) : Type 0 where
-  pub within : n ≤ length input
-  pub source : left ≡ Some (drop n input)
-  pub on : GoesOn history start now session before held (take n input)
+pub record IsThrough (history : History) (start now : Told) (session : SessionState) (before held left : Option (List ℕ)) (input : List ℕ) (n : ℕ) : Type 0
+  where
+    pub within : n ≤ length input
+    pub source : left ≡ Some (drop n input)
+    pub on : GoesOn history start now session before held (take n input)
 
 -- none were
 pub IsThrough-start : (history : History) (disk : Told) (session : SessionState) (before left : Option (List ℕ)) (input : List ℕ) → KnowsNow disk →
@@ -60,7 +104,8 @@ IsThrough-start history disk session before left input knows at replied source =
 }
 
 -- and so many more
-pub IsThrough-more : (history : History) (start mid now : Told) (first second : SessionState) (before held after old_left left : Option (List ℕ)) (input : List ℕ) (n k : ℕ) →
+pub IsThrough-more : (history : History) (start mid now : Told) (first second : SessionState) (before held after old_left left : Option (List ℕ))
+    (input : List ℕ) (n k : ℕ) →
     IsThrough history start mid first before held old_left input n → k ≤ length (drop n input) → left ≡ Some (drop k (drop n input)) →
     GoesOn history mid now second before after (take n input ++ take k (drop n input)) → IsThrough history start now second before after left input (n + k)
 IsThrough-more history start mid now first second before held after old_left left input n k through more source on = record {
@@ -98,11 +143,12 @@ left-none left rest k none is = let short = ap (λ (bs : List ℕ). length bs) n
 pub IsThrough-end : {history : History} {start now : Told} {session : SessionState} {before held left : Option (List ℕ)} {input : List ℕ} {n : ℕ}
     (after_left : Option (List ℕ)) → IsThrough history start now session before held left input n → length input ≤ n → length input ≤ LONGEST_INPUT →
     after_left ≡ Some [] → IsAtEnd history start now session before held after_left input
-IsThrough-end {history = history} {start = start} {now = now} {session = session} {before = before} {held = held} {input = input} {n = n} after_left through all fits none = record {
-  fits = fits;
-  source = none;
-  on = subst (λ bs. GoesOn history start now session before held bs) (take_all n input all) through.on;
-}
+IsThrough-end {history = history} {start = start} {now = now} {session = session} {before = before} {held = held} {input = input} {n = n} after_left through
+    all fits none = record {
+      fits = fits;
+      source = none;
+      on = subst (λ bs. GoesOn history start now session before held bs) (take_all n input all) through.on;
+    }
 
 -- what was taken of the input, and what is left
 pub Took-at : (input : List ℕ) (left : Option (List ℕ)) (n : ℕ) → n ≤ length input → n ≤ LONGEST_INPUT → left ≡ Some (drop n input) →
@@ -133,7 +179,8 @@ pub record HasStopped (history : History) (input : List ℕ) (left before after 
   pub stops : StopsIn history (lines_within taken rest) old new before after status
 
 -- it stopped at a line of the piece that came next
-pub HasStopped-piece : (history : History) (start mid new : Told) (session : SessionState) (input : List ℕ) (old_left left before held after : Option (List ℕ)) (status : Status)
+pub HasStopped-piece : (history : History) (start mid new : Told) (session : SessionState) (input : List ℕ)
+    (old_left left before held after : Option (List ℕ)) (status : Status)
     (n room : ℕ) → IsThrough history start mid session before held old_left input n → n + room ≤ LONGEST_INPUT →
     (count : ℕ) × (count ≤ room) × (count ≤ length (drop n input)) × (left ≡ Some (drop count (drop n input)))
     × StopsIn history (lines_so_far (take n input ++ take count (drop n input))) mid new before after status →
@@ -144,7 +191,8 @@ HasStopped-piece history start mid new session input old_left left before held a
     record {
       taken = take m input;
       rest = drop m input;
-      took = Took-at input left m (omega (arith, through.within, piece.2, length-drop n input)) (omega (arith, few, piece.1)) (piece.3 ∙ ap (λ bs. Some bs) (drop-drop piece.0 n input));
+      took = Took-at input left m (omega (arith, through.within, piece.2, length-drop n input)) (omega (arith, few, piece.1))
+          (piece.3 ∙ ap (λ bs. Some bs) (drop-drop piece.0 n input));
       stops = StopsIn-within history start new before after status (take m input) (drop m input)
           (subst (λ bs. StopsIn history (lines_so_far bs) start new before after status) (sym (take-add n piece.0 input)) stops);
     }
@@ -156,7 +204,8 @@ any_moment-lines history old new input run =
     any_moment-more history old new (lines_so_far input) (map without_return (unless_empty (unended input))) run
 
 -- or at the last line of the input
-pub HasStopped-end : {history : History} {start mid : Told} {session : SessionState} {before held left : Option (List ℕ)} {input : List ℕ} (new : Told) (after : Option (List ℕ))
+pub HasStopped-end : {history : History} {start mid : Told} {session : SessionState} {before held left : Option (List ℕ)} {input : List ℕ} (new : Told)
+    (after : Option (List ℕ))
     (status : Status) → IsAtEnd history start mid session before held left input → StopsIn history (lines input) mid new before after status →
     HasStopped history input left before after start new status
 HasStopped-end {history = history} {start = start} {mid = mid} {input = input} new after status end stops = record {
@@ -248,7 +297,8 @@ Serves-stop history input left before after old new tells status told stop has =
     }
 
 -- the session came to its end
-pub Serves-done : {history : History} {start mid : Told} {session : SessionState} {before held left : Option (List ℕ)} {input : List ℕ} (new : Told) (after : Option (List ℕ)) →
+pub Serves-done : {history : History} {start mid : Told} {session : SessionState} {before held left : Option (List ℕ)} {input : List ℕ} (new : Told)
+    (after : Option (List ℕ)) →
     IsAtEnd history start mid session before held left input → EndsWell history (lines input) mid new before after →
     Serves history input left before after start new Done
 Serves-done {history = history} {start = start} {mid = mid} {before = before} {input = input} new after end ends = record {
@@ -268,7 +318,8 @@ Serves-done {history = history} {start = start} {mid = mid} {before = before} {i
 }
 
 -- the session was finished
-pub Serves-finish : {history : History} {start mid : Told} {session : SessionState} {before held left : Option (List ℕ)} {input : List ℕ} (new : Told) (after : Option (List ℕ))
+pub Serves-finish : {history : History} {start mid : Told} {session : SessionState} {before held left : Option (List ℕ)} {input : List ℕ} (new : Told)
+    (after : Option (List ℕ))
     (tells : Bool) (status : Status) → IsTrue tells → IsAtEnd history start mid session before held left input → (status ≡ Done) ⊎ IsStop tells status →
     (status ≡ Done → EndsWell history (lines input) mid new before after) → (IsStop tells status → StopsIn history (lines input) mid new before after status) →
     Serves history input left before after start new status
@@ -294,7 +345,8 @@ part-limit (inl how) is = cc
 part-limit (inr how) is = how.1
 
 -- the source failed, or more is left than an input may have
-pub Serves-part : {history : History} {start now : Told} {session : SessionState} {before held left : Option (List ℕ)} {input : List ℕ} {n : ℕ} (status : Status)
+pub Serves-part : {history : History} {start now : Told} {session : SessionState} {before held left : Option (List ℕ)} {input : List ℕ} {n : ℕ}
+    (status : Status)
     (after_left : Option (List ℕ)) → IsThrough history start now session before held left input n → n ≤ LONGEST_INPUT →
     (status ≡ SourceFault) × (after_left ≡ left) ⊎ (status ≡ InputLimit) × (n ≡ LONGEST_INPUT) → Serves history input after_left before held start now status
 Serves-part {history = history} {start = start} {now = now} {before = before} {held = held} {input = input} {n = n} status after_left through few how =
@@ -304,7 +356,8 @@ Serves-part {history = history} {start = start} {now = now} {before = before} {h
     record {
       report = record {
         front = subst (λ bs. AppendsFront before held (report history bs)) (take-append-drop n input)
-            (front-report history before held (take n input) (drop n input) (AppendsFront-all before held (report_so_far history (take n input)) through.on.replied));
+            (front-report history before held (take n input) (drop n input) (AppendsFront-all before held (report_so_far history (take n input))
+            through.on.replied));
         whole = λ is. part-other Done (λ w. cc) (λ w. cc) how is;
         broken = λ is. part-other DiskFault (λ w. cc) (λ w. cc) how is;
         faulted = λ is. (take n input, drop n input, Took-at input after_left n through.within few (part-left how is ∙ through.source), through.on.replied);
@@ -345,7 +398,13 @@ end-limit tells status (inr stop) wrong = absurd ((stop-other tells status stop)
 pub Reads-end : (tells : Bool) (input : List ℕ) (left : Option (List ℕ)) (status : Status) → length input ≤ LONGEST_INPUT → left ≡ Some [] →
     (status ≡ Done) ⊎ IsStop tells status → Reads input left status
 Reads-end tells input left status fits source how = record {
-  few = record { count = length input; few = omega (arith, fits); within = omega arith; others = source ∙ ap (λ bs. Some bs) (sym (drop_all (length input) input (omega arith))) };
+  few = record {
+    count = length input;
+    few = omega (arith, fits);
+    within = omega arith;
+    others = source ∙ ap (λ bs. Some bs)
+        (sym (drop_all (length input) input (omega arith)));
+  };
   whole = λ _. (fits, source);
   limit = λ wrong. end-limit tells status how wrong;
 }

@@ -1,5 +1,34 @@
 -- What puts one after another leave, and fronts of a text.
-use Rattle.std.proofs.Common.{◌≡◌, ℕ, ◌+◌, ◌++◌, ◌-◌, ◌≤◌, List, [], length, min, take, drop, take_all, Option, Some, None, Ok, Err, Result, refl, sym, ap, ◌∙◌, append_assoc, length-drop, inl, inr, arith}
+use Rattle.std.proofs.Common.{
+  ◌≡◌,
+  ℕ,
+  ◌+◌,
+  ◌++◌,
+  ◌-◌,
+  ◌≤◌,
+  List,
+  [],
+  length,
+  min,
+  take,
+  drop,
+  take_all,
+  Option,
+  Some,
+  None,
+  Ok,
+  Err,
+  Result,
+  refl,
+  sym,
+  ap,
+  ◌∙◌,
+  append_assoc,
+  length-drop,
+  inl,
+  inr,
+  arith,
+}
 use Rattle.std.proofs.Math.Seq.{take-add, take-append-add}
 use Rattle.std.proofs.lemmas.Bool.{cases_lt}
 use Rattle.std.proofs.lemmas.List.{append-nil, take-append-le}

@@ -14,7 +14,17 @@ use Rattle.ss_program.specs.Progress.{StandsAround, StandsStopped, StandsWithin,
 use Rattle.ss_program.specs.Sent.{appended, AppendsFront}
 use Rattle.ss_program.specs.Session.{accepted, after_line, after_lines, replies, report, report_so_far, text_of}
 use Rattle.ss_program.specs.declared.status.Status.{Status}
-use Rattle.ss_program.specs.declared.status.Status.TheVariants.{Done, Usage, RefusedStore, DiskFault, SourceFault, SinkFault, OutOfMemory, InputLimit, RecordChanged}
+use Rattle.ss_program.specs.declared.status.Status.TheVariants.{
+  Done,
+  Usage,
+  RefusedStore,
+  DiskFault,
+  SourceFault,
+  SinkFault,
+  OutOfMemory,
+  InputLimit,
+  RecordChanged,
+}
 use Rattle.ss_program.proofs.SendLemmas.{appended-nil, AppendsFront-after, AppendsFront-longer}
 
 -- the history after more lines
@@ -105,7 +115,8 @@ pub StopsAt-front : {history : History} {ls : List (List ℕ)} {before after : O
 StopsAt-front {history = history} {ls = ls} {before = before} {after = after} {status = status} at =
     let here = text_of history at.done in
     let reply = line_text (after_lines history at.done) at.line in
-    let part = AppendsFront-after before after here reply (StopsWith-front (brings (after_lines history at.done) at.line) (appended before here) after status at.stop) in
+    let part = AppendsFront-after before after here reply (StopsWith-front (brings (after_lines history at.done) at.line) (appended before here) after status
+    at.stop) in
     let through = subst (λ text. AppendsFront before after text) (sym (text_of-push history at.done at.line)) part in
     subst (λ ms. AppendsFront before after (text_of history ms)) (append_assoc at.done (at.line ∷ []) at.others ∙ sym at.are)
     (front-lines history before after (at.done ++ at.line ∷ []) at.others through)

@@ -1,5 +1,33 @@
 -- What taking bytes up to a line end does to a session.
-use Rattle.std.proofs.Common.{◌≡◌, ℕ, ◌+◌, ◌++◌, ◌-◌, ◌≤◌, List, [], ◌∷◌, length, map, take, drop, Option, Some, None, IfSome, Ok, Err, refl, sym, ap, ◌∙◌, subst, append_assoc, inl, inr}
+use Rattle.std.proofs.Common.{
+  ◌≡◌,
+  ℕ,
+  ◌+◌,
+  ◌++◌,
+  ◌-◌,
+  ◌≤◌,
+  List,
+  [],
+  ◌∷◌,
+  length,
+  map,
+  take,
+  drop,
+  Option,
+  Some,
+  None,
+  IfSome,
+  Ok,
+  Err,
+  refl,
+  sym,
+  ap,
+  ◌∙◌,
+  subst,
+  append_assoc,
+  inl,
+  inr,
+}
 use Rattle.std.proofs.Math.Seq.{take-add}
 use Rattle.std.proofs.lemmas.Bool.{cond-true, cond-false, cases_lt, le-leb, lt-leb}
 use Rattle.std.specs.Prelude.{nat_le}
@@ -19,9 +47,27 @@ use Rattle.ss_program.specs.Progress.{EndsWell, GoesOn, HasReplied, HasTaken, Se
 use Rattle.ss_program.specs.Sent.{appended}
 use Rattle.ss_program.specs.Session.{after_lines, text_of}
 use Rattle.ss_program.specs.declared.status.Status.{Status}
-use Rattle.ss_program.specs.declared.status.Status.TheVariants.{Done, Usage, RefusedStore, DiskFault, SourceFault, SinkFault, OutOfMemory, InputLimit, RecordChanged}
+use Rattle.ss_program.specs.declared.status.Status.TheVariants.{
+  Done,
+  Usage,
+  RefusedStore,
+  DiskFault,
+  SourceFault,
+  SinkFault,
+  OutOfMemory,
+  InputLimit,
+  RecordChanged,
+}
 use Rattle.ss_program.proofs.SendLemmas.{appended-appended, rest-slice}
-use Rattle.ss_program.proofs.SessionLemmas.{after_lines-push, text_of-push, StandsWithin-all, StandsWithin-around, StandsWithin-more, StopsAt-more, StopsAt-next}
+use Rattle.ss_program.proofs.SessionLemmas.{
+  after_lines-push,
+  text_of-push,
+  StandsWithin-all,
+  StandsWithin-around,
+  StandsWithin-more,
+  StopsAt-more,
+  StopsAt-next,
+}
 
 -- a line that has ended and is kept isn't too long
 unless_long-short : (line : List ℕ) → IfSome (unless_long line) (λ bytes. length bytes ≤ LONGEST_LINE)
@@ -47,7 +93,8 @@ replied-line history before held after ls line is sent =
 
 -- a line was answered, or the run stopped at it: a crash left images of lines up to it
 pub any_moment-line : (history : History) (old new : Told) (ls : List (List ℕ)) (line : List ℕ) →
-    LeavesOnly old new (StandsAround (after_lines history ls) (brings (after_lines history ls) line)) → LeavesOnly old new (StandsWithin history (ls ++ line ∷ []))
+    LeavesOnly old new (StandsAround (after_lines history ls) (brings (after_lines history ls) line)) → LeavesOnly old new
+    (StandsWithin history (ls ++ line ∷ []))
 any_moment-line history old new ls line run =
     weaker old new (StandsAround (after_lines history ls) (brings (after_lines history ls) line)) (StandsWithin history (ls ++ line ∷ []))
     (StandsWithin-around history ls line) run
@@ -87,7 +134,8 @@ EndsWell-same history disk before held ls knows is stands durable = record {
 }
 
 -- a session whose lines are these has taken what ends in them
-pub GoesOn-ends : (history : History) (old new : Told) (store : StoreState) (before after : Option (List ℕ)) (under_way : Option (List ℕ)) (ls : List (List ℕ)) (more : List ℕ) →
+pub GoesOn-ends : (history : History) (old new : Told) (store : StoreState) (before after : Option (List ℕ)) (under_way : Option (List ℕ))
+    (ls : List (List ℕ)) (more : List ℕ) →
     lines_so_far more ≡ ls → under_way ≡ kept (unended more) → EndsWell history ls old new before after →
     GoesOn history old new (record { store = store; line = under_way }) before after more
 GoesOn-ends history old new store before after under_way ls more same going ends = record {
@@ -104,12 +152,14 @@ left-stopped history brought old new OutOfMemory knows stands durable run untouc
     of_content old (Stands history) durable stands image (((untouched refl).same.images image).1 left)
 left-stopped history brought old new Done knows stands durable run untouched image left = now old new (StandsAround history brought) knows run image left
 left-stopped history brought old new Usage knows stands durable run untouched image left = now old new (StandsAround history brought) knows run image left
-left-stopped history brought old new RefusedStore knows stands durable run untouched image left = now old new (StandsAround history brought) knows run image left
+left-stopped history brought old new RefusedStore knows stands durable run untouched image left = now old new (StandsAround history brought) knows run image
+    left
 left-stopped history brought old new DiskFault knows stands durable run untouched image left = now old new (StandsAround history brought) knows run image left
 left-stopped history brought old new SourceFault knows stands durable run untouched image left = now old new (StandsAround history brought) knows run image left
 left-stopped history brought old new SinkFault knows stands durable run untouched image left = now old new (StandsAround history brought) knows run image left
 left-stopped history brought old new InputLimit knows stands durable run untouched image left = now old new (StandsAround history brought) knows run image left
-left-stopped history brought old new RecordChanged knows stands durable run untouched image left = now old new (StandsAround history brought) knows run image left
+left-stopped history brought old new RecordChanged knows stands durable run untouched image left = now old new (StandsAround history brought) knows run image
+    left
 
 -- the run stopped at the line that comes next
 pub StopsIn-next : (history : History) (old new : Told) (before held after : Option (List ℕ)) (ls : List (List ℕ)) (line : List ℕ) (status : Status) →
@@ -175,16 +225,19 @@ pub GoesOn-then : (history : History) (old mid new : Told) (first second : Sessi
 GoesOn-then history old mid new first second before held after taken more one two = record {
   at = two.at;
   replied = two.replied;
-  any_moment = joined old mid new (StandsWithin history (lines_so_far (taken ++ more))) (any_moment-input history old mid taken more one.any_moment) two.any_moment;
+  any_moment = joined old mid new (StandsWithin history (lines_so_far (taken ++ more))) (any_moment-input history old mid taken more one.any_moment)
+      two.any_moment;
 }
 
 -- or stops after it
-pub StopsIn-then : (history : History) (old mid new : Told) (session : SessionState) (before held after : Option (List ℕ)) (status : Status) (taken more : List ℕ) →
+pub StopsIn-then : (history : History) (old mid new : Told) (session : SessionState) (before held after : Option (List ℕ)) (status : Status)
+    (taken more : List ℕ) →
     GoesOn history old mid session before held taken → StopsIn history (lines_so_far (taken ++ more)) mid new before after status →
     StopsIn history (lines_so_far (taken ++ more)) old new before after status
 StopsIn-then history old mid new session before held after status taken more one two = record {
   at = two.at;
-  any_moment = joined old mid new (StandsWithin history (lines_so_far (taken ++ more))) (any_moment-input history old mid taken more one.any_moment) two.any_moment;
+  any_moment = joined old mid new (StandsWithin history (lines_so_far (taken ++ more))) (any_moment-input history old mid taken more one.any_moment)
+      two.any_moment;
 }
 
 -- a piece that was taken in part, and more of the rest of it

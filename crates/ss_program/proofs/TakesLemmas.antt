@@ -27,7 +27,17 @@ use Rattle.ss_program.specs.Progress.{StandsAround}
 use Rattle.ss_program.specs.Sent.{appended, AppendsLess, Puts, Sends}
 use Rattle.ss_program.specs.Status.{IsApplyStop, IsDiskStop, IsShowStop, IsStop, disk_verdict, ended, sink_verdict}
 use Rattle.ss_program.specs.declared.status.Status.{Status}
-use Rattle.ss_program.specs.declared.status.Status.TheVariants.{Done, Usage, RefusedStore, DiskFault, SourceFault, SinkFault, OutOfMemory, InputLimit, RecordChanged}
+use Rattle.ss_program.specs.declared.status.Status.TheVariants.{
+  Done,
+  Usage,
+  RefusedStore,
+  DiskFault,
+  SourceFault,
+  SinkFault,
+  OutOfMemory,
+  InputLimit,
+  RecordChanged,
+}
 use Rattle.ss_program.proofs.SendLemmas.{appended-nil}
 use Rattle.ss_program.proofs.AnswerLemmas.{Adds-reads, IsShowStop-disk, IsStop-apply, IsStop-show, Replies-sent, Replies-shown, Replies-stopped, event-some}
 
@@ -57,11 +67,13 @@ failed-err (Ok u) status is = cc
 failed-err (Err e) status is = refl
 
 -- what was sent then is less than the text
-pub less-sent : (before after : Option (List ℕ)) (text : List ℕ) (sent : Result Unit Failed) → IsErr sent → Sends before after text sent → AppendsLess before after text
+pub less-sent : (before after : Option (List ℕ)) (text : List ℕ) (sent : Result Unit Failed) → IsErr sent → Sends before after text sent → AppendsLess before
+    after text
 less-sent before after text (Ok u) failed sends = cc
 less-sent before after text (Err e) failed less = less
 
-pub sends-less : (before after : Option (List ℕ)) (text : List ℕ) (sent : Result Unit Failed) → IsErr sent → AppendsLess before after text → Sends before after text sent
+pub sends-less : (before after : Option (List ℕ)) (text : List ℕ) (sent : Result Unit Failed) → IsErr sent → AppendsLess before after text → Sends before
+    after text sent
 sends-less before after text (Ok u) failed less = cc
 sends-less before after text (Err e) failed less = less
 
@@ -131,23 +143,33 @@ pub TakesLine-applied : (event : Event) (old new : DiskView) (store : StoreState
     (sent : Result Unit Failed) → Step fine old new (AppliesEvent event (Ok reply)) → IsOpen new store → Puts (reply_line reply) before had after has sent →
     TakesLine (λ history. command_brings history (Do event)) (over old before had) (over new after has) store (at_sink sent)
 TakesLine-applied event old new store before after had has reply (Ok u) applies opens puts = record {
-  adds = record { tells = applies.tells; counted = applies.counted; told = λ told history.
-      let brought = command_brings history (Do event) in
-      Turns-answers (Stands history) (StandsAround history brought) (Stands (history_after history brought)) old.told new.told reply (Ok u)
-      ((applies.told told).does.adds history) };
+  adds = record {
+    tells = applies.tells;
+    counted = applies.counted;
+    told = λ told history.
+        let brought = command_brings history (Do event) in
+        Turns-answers (Stands history) (StandsAround history brought) (Stands (history_after history brought)) old.told new.told reply (Ok u)
+        ((applies.told told).does.adds history);
+  };
   untouched = λ memory. cc;
-  replies = λ told history stands. Replies-sent (command_brings history (Do event)) before after reply (Ok u) ((applies.told told).does.reply history stands) puts.sends;
+  replies = λ told history stands. Replies-sent (command_brings history (Do event)) before after reply (Ok u) ((applies.told told).does.reply history stands)
+      puts.sends;
   counted = puts.counted;
   opens = opens;
   status = tt;
 }
 TakesLine-applied event old new store before after had has reply (Err e) applies opens puts = record {
-  adds = record { tells = applies.tells; counted = applies.counted; told = λ told history.
-      let brought = command_brings history (Do event) in
-      Turns-answers (Stands history) (StandsAround history brought) (Stands (history_after history brought)) old.told new.told reply (Err SinkFault)
-      ((applies.told told).does.adds history) };
+  adds = record {
+    tells = applies.tells;
+    counted = applies.counted;
+    told = λ told history.
+        let brought = command_brings history (Do event) in
+        Turns-answers (Stands history) (StandsAround history brought) (Stands (history_after history brought)) old.told new.told reply (Err SinkFault)
+        ((applies.told told).does.adds history);
+  };
   untouched = λ memory. cc;
-  replies = λ told history stands. Replies-sent (command_brings history (Do event)) before after reply (Err e) ((applies.told told).does.reply history stands) puts.sends;
+  replies = λ told history stands. Replies-sent (command_brings history (Do event)) before after reply (Err e)
+      ((applies.told told).does.reply history stands) puts.sends;
   counted = puts.counted;
   opens = tt;
   status = tt;
@@ -170,11 +192,15 @@ pub TakesLine-stopped : (event : Event) (old new : DiskView) (store : StoreState
     Step (disk_verdict status) old new (AppliesEvent event (Err status)) → IsApplyStop old.tells status →
     TakesLine (λ history. command_brings history (Do event)) (over old held n) (over new held n) store (Err status)
 TakesLine-stopped event old new store held n status applies stop = record {
-  adds = record { tells = applies.tells; counted = applies.counted; told = λ told history.
-      let brought = command_brings history (Do event) in
-      let after = Stands (history_after history brought) in
-      Turns-failed (Stands history) (StandsAround history brought) after after old.told new.told (Err status) (Err status) refl
-      ((applies.told told).does.adds history) };
+  adds = record {
+    tells = applies.tells;
+    counted = applies.counted;
+    told = λ told history.
+        let brought = command_brings history (Do event) in
+        let after = Stands (history_after history brought) in
+        Turns-failed (Stands history) (StandsAround history brought) after after old.told new.told (Err status) (Err status) refl
+        ((applies.told told).does.adds history);
+  };
   untouched = λ memory told. (applies.told told).does.untouched memory;
   replies = λ told history stands.
       let some = (applies.told told).accepted history stands in
@@ -199,7 +225,8 @@ pub TakesLine-refused : (refusal : Refusal) (disk : DiskView) (store : StoreStat
     TakesLine (λ history. refused refusal) (over disk before had) (over disk after has) store (at_sink sent)
 TakesLine-refused refusal disk store before after had has sent knows opens puts =
     let text : History → List ℕ → Type 0 = λ history bytes. bytes ≡ text_brought (refused refusal) in
-    TakesLine-shown (λ history. refused refusal) text (over disk before had) (over disk after has) store (at_sink sent) knows (λ history. refl) (λ history. refl)
+    TakesLine-shown (λ history. refused refusal) text (over disk before had) (over disk after has) store (at_sink sent) knows (λ history. refl)
+    (λ history. refl)
     (Shows-reply text disk disk store before after had has (Refused refusal) sent (still disk) opens puts
     (λ told history stands bytes is. is ∙ append-nil (reply_line (Refused refusal))))
 

@@ -1,5 +1,28 @@
 // The top call.
-ghost use Rattle.std.specs.Prelude.{◌≡◌, ◌⊎◌, ◌+◌, ◌<◌, ◌≤◌, ℕ, List, [], Option, Some, None, length, drop, true, false, IsTrue, IsSome, IsNone, IfOk, IfErr, OnOk, OnErr};
+ghost use Rattle.std.specs.Prelude.{
+  ◌≡◌,
+  ◌⊎◌,
+  ◌+◌,
+  ◌<◌,
+  ◌≤◌,
+  ℕ,
+  List,
+  [],
+  Option,
+  Some,
+  None,
+  length,
+  drop,
+  true,
+  false,
+  IsTrue,
+  IsSome,
+  IsNone,
+  IfOk,
+  IfErr,
+  OnOk,
+  OnErr,
+};
 ghost use Rattle.ss_command.specs.Lines.{unended};
 ghost use Rattle.ss_command.specs.LineState.{kept};
 ghost use Rattle.ss_outside.specs.Crash.{OnlyReads};

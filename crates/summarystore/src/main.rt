@@ -27,7 +27,7 @@ use host_system::HostSystem;
 use notice::notice;
 use opening::Missing;
 use options::take_options;
-use ss_program::{Status, exit_code, run};
+use ss_program::{Status, exit_code, run_store};
 use ss_watch::{Terminals, Watch, Watched};
 use std::alloc::{AllocError, Global};
 use std::cell::RefCell;
@@ -76,7 +76,7 @@ fn run_over<R: AllocGlobal + Input + Print + Eprint + Files<File = File>>(
     let mut disk = FileDisk::new(HostSystem::new(rt), path, missing_for(words));
     let mut source = StdSource::new(rt);
     let mut sink = StdSink::new(rt);
-    let number = run(rt.alloc(), words, &mut disk, &mut source, &mut sink);
+    let number = run_store(rt.alloc(), words, &mut disk, &mut source, &mut sink);
     tell_run(rt, number, &disk, source.why().or(sink.why()))
 }
 
@@ -92,7 +92,7 @@ fn run_watched<R: AllocGlobal + Input + Print + Eprint + Clock + Files<File = Fi
     let mut disk = Watched::new(disk, &watch);
     let mut source = Watched::new(StdSource::new(rt), &watch);
     let mut sink = Watched::new(StdSink::new(rt), &watch);
-    let number = run(rt.alloc(), words, &mut disk, &mut source, &mut sink);
+    let number = run_store(rt.alloc(), words, &mut disk, &mut source, &mut sink);
     if let Ok(mut watch) = watch.try_borrow_mut() {
         watch.finish();
     }

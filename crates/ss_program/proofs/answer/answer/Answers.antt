@@ -15,7 +15,8 @@ returns-in_default g c =
     let had = g.K.Sink.faults c.args.sink.now in
     let has = g.K.Sink.faults c.send_reply.new.sink in
     rw c.at_sink.ensures
-    (subst (λ o. TakesLine (λ history. kept_brings history (option_copied o)) (over disk before had) (over disk after has) c.args.store.now (at_sink c.send_reply.result)) (sym c.in_default.is)
+    (subst (λ o. TakesLine (λ history. kept_brings history (option_copied o)) (over disk before had) (over disk after has) c.args.store.now
+    (at_sink c.send_reply.result)) (sym c.in_default.is)
     (TakesLine-refused Line disk c.args.store.now before after had has c.send_reply.result (g.met.D.Disk.knows_now c.args.disk.now) c.requires.open
     c.send_reply.ensures))
 
@@ -27,8 +28,10 @@ returns-in-Err g c =
     let had = g.K.Sink.faults c.args.sink.now in
     let has = g.K.Sink.faults c.send_reply-in-Err.new.sink in
     rw c.at_sink-in-Err.ensures
-    (subst (λ o. TakesLine (λ history. kept_brings history (option_copied o)) (over disk before had) (over disk after has) c.args.store.now (at_sink c.send_reply-in-Err.result)) (sym c.in-Some.is)
-    (subst (λ m. TakesLine (λ history. meaning_brings history m) (over disk before had) (over disk after has) c.args.store.now (at_sink c.send_reply-in-Err.result)) c.in-Err.ensures.meaning
+    (subst (λ o. TakesLine (λ history. kept_brings history (option_copied o)) (over disk before had) (over disk after has) c.args.store.now
+    (at_sink c.send_reply-in-Err.result)) (sym c.in-Some.is)
+    (subst (λ m. TakesLine (λ history. meaning_brings history m) (over disk before had) (over disk after has) c.args.store.now
+    (at_sink c.send_reply-in-Err.result)) c.in-Err.ensures.meaning
     (TakesLine-refused c.in-Err.refusal disk c.args.store.now before after had has c.send_reply-in-Err.result (g.met.D.Disk.knows_now c.args.disk.now)
     c.requires.open c.send_reply-in-Err.ensures)))
 

@@ -78,7 +78,8 @@ returns-in-Err-Refused-clause-applies g c =
     (step-none disk (AppliesEvent event result) (λ told. record {
       does = record {
         adds = λ history. Adds-none history (command_brings history (Do event)) disk.told result
-            (λ stands. ap (λ (b : Brought). b.event) (brings-refused history event r (refused told history stands))) (g.met.D.Disk.knows_now c.args.disk.now told);
+            (λ stands. ap (λ (b : Brought). b.event) (brings-refused history event r (refused told history stands)))
+            (g.met.D.Disk.knows_now c.args.disk.now told);
         reply = λ history stands. ap (λ (b : Brought). b.replies) (brings-refused history event r (refused told history stands));
         untouched = λ _. reads-none disk.told;
       };

@@ -22,7 +22,8 @@ returns-in-Windows g c = rw c.in-Windows.is
     (TakesLine-shown (λ history. command_brings history (Windows c.in-Windows.name)) (IsTextBrought (Windows c.in-Windows.name))
     (over (g.D.Disk.seen c.args.disk.now) (g.K.Sink.held c.args.sink.now) (g.K.Sink.faults c.args.sink.now))
     (over (g.D.Disk.seen c.show_windows.new.disk) (g.K.Sink.held c.show_windows.new.sink) (g.K.Sink.faults c.show_windows.new.sink))
-    c.show_windows.new.store c.show_windows.result (g.met.D.Disk.knows_now c.args.disk.now) (λ history. windows-event history c.in-Windows.name) (λ history. refl)
+    c.show_windows.new.store c.show_windows.result (g.met.D.Disk.knows_now c.args.disk.now) (λ history. windows-event history c.in-Windows.name)
+    (λ history. refl)
     c.show_windows.ensures)
 
 pub returns-in-List : goal.returns-in-List

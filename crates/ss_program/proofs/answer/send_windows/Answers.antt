@@ -48,7 +48,8 @@ returns-in_err-window g c =
     step-then inv.reads c.in_err-window.ensures.reads (λ first second. reads-joined old.told mid.told new.told first second.reads) in
     let same : c.from_residual.result ≡ Err status = search rules in
     subst (λ r. Shows text (over old before had) (over new held has) c.read.new.store r) (sym same)
-    (Shows-stopped text old new c.read.new.store before held had has status (subst (λ b. IsDiskStop b status) inv.reads.tells c.in_err-window.ensures.status) reads
+    (Shows-stopped text old new c.read.new.store before held had has status (subst (λ b. IsDiskStop b status) inv.reads.tells c.in_err-window.ensures.status)
+    reads
     inv.faults (λ told history stands bytes is. subst (λ bs. AppendsLess before held bs) (sym is.2)
     (rows-unread o (λ part. part.line.entries) c.in-Some.at is.0 before held c.requires.stands at
     (windows-kept c.args.store.now old.told.content history c.args.id.0 is.0 (c.requires.open.kept told) stands is.1)
@@ -75,7 +76,8 @@ returns-in_err-at_sink g c =
     (Shows-sent text old new c.read.new.store before after had has c.send_reply.result reads read.open
     (subst (λ n. Counted (verdict c.send_reply.result) n has) inv.faults c.send_reply.ensures.counted)
     (λ told history stands bytes is. subst (λ bs. Sends before after bs c.send_reply.result) (sym is.2)
-    (rows-cut-sent o (λ part. part.line.entries) c.in-Some.at is.0 (stream_numbered c.args.id.0 (state history)) before held after c.in_ok-window.window is.1 c.requires.stands
+    (rows-cut-sent o (λ part. part.line.entries) c.in-Some.at is.0 (stream_numbered c.args.id.0 (state history)) before held after c.in_ok-window.window is.1
+    c.requires.stands
     (rw c.in-Some.is at (inv.held told history stands is.0 is.1))
     (rw inv.streams at ((read.reads.told (inv.reads.tells ∙ told)).row history (subst (Stands history) (sym (inv.reads.told told).same.content) stands)))
     c.send_reply.result (failed-err c.send_reply.result c.in_err-at_sink.field-0.0 c.in_err-at_sink.ensures) c.send_reply.ensures.sends)))
@@ -118,6 +120,7 @@ returns g c =
     Shows-sent (IsRowsText c.args.id.0) old (g.D.Disk.seen c.loop-next.disk) c.loop-next.store before held (g.K.Sink.faults c.args.sink.now)
     (g.K.Sink.faults c.loop-next.sink) (Ok tt) inv.reads inv.is_open inv.faults
     (λ told history stands bytes is. subst (λ bs. held ≡ appended before bs) (sym is.2)
-    (rows-end (part_numbered c.args.id.0 c.args.store.now.streams) (λ part. part.line.entries) c.loop-next.next is.0 before held c.requires.stands c.in_default.is
+    (rows-end (part_numbered c.args.id.0 c.args.store.now.streams) (λ part. part.line.entries) c.loop-next.next is.0 before held c.requires.stands
+    c.in_default.is
     (windows-kept c.args.store.now old.told.content history c.args.id.0 is.0 (c.requires.open.kept told) stands is.1)
     (inv.held told history stands is.0 is.1)))

@@ -39,5 +39,7 @@ returns g c =
     let reads : Step fine old new OnlyReads = step-as asks (λ asks. asks.reads) in
     rw c.at_sink.ensures
     (Shows-reply (IsTextBrought (Ask c.args.query.now)) old new c.ask.new.store (g.K.Sink.held c.args.sink.now) (g.K.Sink.held c.send_reply.new.sink)
-    (g.K.Sink.faults c.args.sink.now) (g.K.Sink.faults c.send_reply.new.sink) c.in_ok-reply.reply c.send_reply.result reads c.in_ok-reply.ensures.open c.send_reply.ensures
-    (λ told history stands bytes is. is ∙ ap (λ rs. flat_map reply_line rs) ((asks.told told).reply history stands) ∙ append-nil (reply_line c.in_ok-reply.reply)))
+    (g.K.Sink.faults c.args.sink.now) (g.K.Sink.faults c.send_reply.new.sink) c.in_ok-reply.reply c.send_reply.result reads c.in_ok-reply.ensures.open
+    c.send_reply.ensures
+    (λ told history stands bytes is. is ∙ ap (λ rs. flat_map reply_line rs) ((asks.told told).reply history stands) ∙ append-nil
+    (reply_line c.in_ok-reply.reply)))

@@ -46,7 +46,8 @@ returns-in_err-at_sink g c =
     (λ told history stands bytes is.
     let kept = c.requires.open.kept told in
     let found = found-kept store disk.told.content history c.args.name.now c.in-Some.id kept stands c.in-Some.ensures.number c.in-Some.ensures.same in
-    let all = windows-count (part_numbered c.in-Some.id.0 store.streams) (λ part. part.line.entries) found.0 c.windows.result c.in-Some.ensures.stands c.windows.ensures
+    let all = windows-count (part_numbered c.in-Some.id.0 store.streams) (λ part. part.line.entries) found.0 c.windows.result c.in-Some.ensures.stands
+    c.windows.ensures
     (windows-kept store disk.told.content history c.in-Some.id.0 found.0 kept stands found.2) in
     subst (λ bs. Sends before after bs sent) (sym is)
     (sends-less before after (text_brought (command_brings history (Windows c.args.name.now))) sent failed
@@ -68,7 +69,8 @@ returns g c =
       sends = λ told history stands bytes is.
           let kept = c.requires.open.kept told in
           let found = found-kept store disk.told.content history c.args.name.now c.in-Some.id kept stands c.in-Some.ensures.number c.in-Some.ensures.same in
-          let all = windows-count (part_numbered c.in-Some.id.0 store.streams) (λ part. part.line.entries) found.0 c.windows.result c.in-Some.ensures.stands c.windows.ensures
+          let all = windows-count (part_numbered c.in-Some.id.0 store.streams) (λ part. part.line.entries) found.0 c.windows.result c.in-Some.ensures.stands
+          c.windows.ensures
           (windows-kept store disk.told.content history c.in-Some.id.0 found.0 kept stands found.2) in
           subst (λ bs. Sends before after bs result) (sym is)
           (windows-rows history c.args.name.now found.0 before held after c.windows.result result found.1 all sent.0

@@ -14,7 +14,8 @@ pub returns-in-Ok-send_survey-clause-ends : goal.returns-in-Ok-send_survey-claus
 returns-in-Ok-send_survey-clause-ends g c =
     let new = g.D.Disk.seen c.survey.new.disk in
     Ends-opened (g.D.Disk.seen c.args.disk.now) new new (g.K.Sink.held c.args.sink.now) (g.K.Sink.held c.send_survey.new.sink) (g.K.Sink.faults c.args.sink.now)
-    (g.K.Sink.faults c.send_survey.new.sink) Done c.in-Ok.ensures.surveys (λ found. (found.surveys.0, found.surveys.1)) (still new) tt c.in-Ok-send_survey.ensures.counted
+    (g.K.Sink.faults c.send_survey.new.sink) Done c.in-Ok.ensures.surveys (λ found. (found.surveys.0, found.surveys.1)) (still new) tt
+    c.in-Ok-send_survey.ensures.counted
 
 pub returns-in-Ok-send_survey-clause-checks : goal.returns-in-Ok-send_survey-clause-checks
 returns-in-Ok-send_survey-clause-checks g c told streams is =
@@ -59,6 +60,7 @@ pub returns-in-Err-clause-checks : goal.returns-in-Err-clause-checks
 returns-in-Err-clause-checks g c told streams is =
     let content = (g.D.Disk.seen c.args.disk.now).told.content in
     let before = g.K.Sink.held c.args.sink.now in
-    let un = unopened content streams before (g.K.Sink.held c.refuse.new.sink) (g.K.Sink.faults c.args.sink.now) (g.K.Sink.faults c.refuse.new.sink) c.in-Err.error is
+    let un = unopened content streams before (g.K.Sink.held c.refuse.new.sink) (g.K.Sink.faults c.args.sink.now) (g.K.Sink.faults c.refuse.new.sink)
+    c.in-Err.error is
     (surveys-opens content c.in-Err.error (c.in-Err.ensures.surveys.told told).surveys) c.refuse.ensures.says in
     rw c.refuse.ensures.status (record { front = (0, un.0 ∙ sym (appended-nil before)); whole = λ done. absurd (un.1 done); silent = λ _ _. un.0 })

@@ -9,7 +9,8 @@ pub returns-in-Ok-clause-ends : goal.returns-in-Ok-clause-ends
 returns-in-Ok-clause-ends g c =
     let mid = g.D.Disk.seen c.open.new.disk in
     Ends-opened (g.D.Disk.seen c.args.disk.now) mid (g.D.Disk.seen c.summarize.new.disk) (g.K.Sink.held c.args.sink.now) (g.K.Sink.held c.summarize.new.sink)
-    (g.K.Sink.faults c.args.sink.now) (g.K.Sink.faults c.summarize.new.sink) c.summarize.result c.in-Ok.ensures.opens (λ opened. (opened.opens.0, opened.opens.1))
+    (g.K.Sink.faults c.args.sink.now) (g.K.Sink.faults c.summarize.new.sink) c.summarize.result c.in-Ok.ensures.opens
+    (λ opened. (opened.opens.0, opened.opens.1))
     c.summarize.ensures.generates
     (subst (λ b. EndsServing b c.summarize.result) c.in-Ok.ensures.opens.tells (serving-stop mid.tells c.summarize.result c.summarize.ensures.status))
     c.summarize.ensures.counted

@@ -17,6 +17,7 @@ returns-in-Ask-clause-does g c =
     rw c.in-Ask.is (record {
       tells = asks.tells;
       counted = asks.counted;
-      told = λ told. DoesCommand-asked (λ history. command_brings history (Ask c.in-Ask.query)) c.ask.result old new (g.met.D.Disk.knows_now c.args.disk.now told)
+      told = λ told. DoesCommand-asked (λ history. command_brings history (Ask c.in-Ask.query)) c.ask.result old new
+          (g.met.D.Disk.knows_now c.args.disk.now told)
           (λ history. ask-event history c.in-Ask.query) (asks.told told);
     })

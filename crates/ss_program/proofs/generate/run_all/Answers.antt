@@ -74,6 +74,7 @@ returns-clause-runs g c =
     let old = (g.D.Disk.seen c.args.disk.now).told in
     let new = (g.D.Disk.seen c.loop-command.disk).told in
     step-as c.loop-command.invariant.at (λ at. record {
-      ok = λ none history stands. IsAt-end history c.args.seed c.args.count c.loop-command.generator old new c.loop-command.tally (at none history stands) c.in_default.ensures.next.0;
+      ok = λ none history stands. IsAt-end history c.args.seed c.args.count c.loop-command.generator old new c.loop-command.tally (at none history stands)
+          c.in_default.ensures.next.0;
       stops = tt;
     })

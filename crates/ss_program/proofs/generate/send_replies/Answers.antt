@@ -17,7 +17,8 @@ returns-in_err-send_reply g c =
     let at = slice_get_read rows (length rows) c.loop-reply.reply-index c.reply-item.result refl (omega (arith, c.loop-reply-test.true)) c.reply-item.is in
     let same : c.from_residual.result ≡ Err c.in_err-send_reply.field-0.0 = search rules in
     subst (λ r. Puts (flat_map reply_line rows) before (g.K.Sink.faults c.args.sink.now) after has r) (sym same) (record {
-      sends = rows-less before (g.K.Sink.held c.loop-reply.sink) after rows c.loop-reply.reply-index c.reply-item.result at inv.held c.in_err-send_reply.ensures.sends;
+      sends = rows-less before (g.K.Sink.held c.loop-reply.sink) after rows c.loop-reply.reply-index c.reply-item.result at inv.held
+          c.in_err-send_reply.ensures.sends;
       counted = subst (λ n. Counted failed n has) inv.faults c.in_err-send_reply.ensures.counted;
     })
 

@@ -43,4 +43,5 @@ returns-in-Err-clause-generates g c =
     (0, sym (appended-nil held)) (runs.stops none history stands))
 
 pub returns-in-Err-clause-counted : goal.returns-in-Err-clause-counted
-returns-in-Err-clause-counted g c = apply-counted (g.D.Disk.seen c.args.disk.now).tells (g.K.Sink.faults c.args.sink.now) c.in-Err.status c.in-Err.ensures.status
+returns-in-Err-clause-counted g c = apply-counted (g.D.Disk.seen c.args.disk.now).tells (g.K.Sink.faults c.args.sink.now) c.in-Err.status
+    c.in-Err.ensures.status

@@ -20,12 +20,14 @@ returns-clause-all_held g c history input begins is =
 pub returns-clause-acked_held : goal.returns-clause-acked_held
 returns-clause-acked_held g c history input begins had has is_had is_has image left =
     let known = c.run.ensures.known in
-    let holds = (c.run.ensures.serves begins.plain known.0 known.1 input begins.source begins.tells begins.durable history begins.stands).kept had has is_had is_has image left in
+    let holds = (c.run.ensures.serves begins.plain known.0 known.1 input begins.source begins.tells begins.durable history begins.stands).kept had has is_had
+    is_has image left in
     (holds.j, holds.acked, holds.at_most, holds.stands)
 
 pub returns-clause-starved : goal.returns-clause-starved
 returns-clause-starved g c history input begins is had has is_had is_has image left =
-    let holds = (c.run.ensures.serves begins.plain OutOfMemory is input begins.source begins.tells begins.durable history begins.stands).kept had has is_had is_has image left in
+    let holds = (c.run.ensures.serves begins.plain OutOfMemory is input begins.source begins.tells begins.durable history begins.stands).kept had has is_had
+    is_has image left in
     rw (sym (holds.starved refl)) holds.stands
 
 pub returns-clause-checked : goal.returns-clause-checked

@@ -12,7 +12,8 @@ pub returns-in-Err-clause-reads : goal.returns-in-Err-clause-reads
 returns-in-Err-clause-reads g c =
     let disk = g.D.Disk.seen c.args.disk.now in
     let held = g.K.Sink.held c.args.sink.now in
-    step-none disk (ReadsPiece c.args.room c.args.session.now c.args.session.now (g.S.Source.left c.args.source.now) (g.S.Source.left c.read.new.self) held held (Err SourceFault))
+    step-none disk (ReadsPiece c.args.room c.args.session.now c.args.session.now (g.S.Source.left c.args.source.now) (g.S.Source.left c.read.new.self) held
+    held (Err SourceFault))
     (λ told. record { goes = tt; stops = λ other. absurd (other refl) })
 
 pub returns-in-Err-clause-stopped : goal.returns-in-Err-clause-stopped

@@ -32,7 +32,8 @@ returns-in-Ok-Some-clause-ends g c _ status is =
 
 pub returns-in-Ok-Some-clause-source : goal.returns-in-Ok-Some-clause-source
 returns-in-Ok-Some-clause-source g c status is =
-    by-number (λ s. Counted (source_verdict s) (g.S.Source.faults c.args.source.now) (g.S.Source.faults c.run_mode.new.source)) c.number.result c.run_mode.result
+    by-number (λ s. Counted (source_verdict s) (g.S.Source.faults c.args.source.now) (g.S.Source.faults c.run_mode.new.source)) c.number.result
+    c.run_mode.result
     c.number.ensures c.run_mode.ensures.source status is
 
 pub returns-in-Ok-Some-clause-reads : goal.returns-in-Ok-Some-clause-reads
@@ -79,6 +80,7 @@ returns-in-Err-clause-serves g c plain status is input left told none history st
     let disk = (g.D.Disk.seen c.args.disk.now).told in
     let before = g.K.Sink.held c.args.sink.now in
     let knows = g.met.D.Disk.knows_now c.args.disk.now told in
-    by-number (λ s. Serves history input (g.S.Source.left c.args.source.now) before before disk disk s) c.number-in-Err.result OutOfMemory c.number-in-Err.ensures
+    by-number (λ s. Serves history input (g.S.Source.left c.args.source.now) before before disk disk s) c.number-in-Err.result OutOfMemory
+    c.number-in-Err.ensures
     (Serves-unopened history input (g.S.Source.left c.args.source.now) before before disk disk OutOfMemory (inr refl) left refl knows
     (at_start disk (Stands history) knows (of_content disk (Stands history) none stands))) status is

@@ -9,14 +9,16 @@ pub returns-in-Ok-clause-ends : goal.returns-in-Ok-clause-ends
 returns-in-Ok-clause-ends g c =
     Ends-opened (g.D.Disk.seen c.args.disk.now) (g.D.Disk.seen c.open.new.disk) (g.D.Disk.seen c.serve.new.disk) (g.K.Sink.held c.args.sink.now)
     (g.K.Sink.held c.serve.new.sink) (g.K.Sink.faults c.args.sink.now) (g.K.Sink.faults c.serve.new.sink) c.serve.result c.in-Ok.ensures.opens
-    (λ opened. (opened.opens.0, opened.opens.1)) c.serve.ensures.serves (subst (λ b. EndsServing b c.serve.result) c.in-Ok.ensures.opens.tells c.serve.ensures.known)
+    (λ opened. (opened.opens.0, opened.opens.1)) c.serve.ensures.serves (subst (λ b. EndsServing b c.serve.result) c.in-Ok.ensures.opens.tells
+    c.serve.ensures.known)
     c.serve.ensures.sink
 
 pub returns-in-Ok-clause-serves : goal.returns-in-Ok-clause-serves
 returns-in-Ok-clause-serves g c input is told none history stands =
     let opens = c.in-Ok.ensures.opens in
     let opened = (opens.told told).history history in
-    Serves-opened history input (g.S.Source.left c.serve.new.source) (g.K.Sink.held c.args.sink.now) (g.K.Sink.held c.serve.new.sink) (g.D.Disk.seen c.args.disk.now).told
+    Serves-opened history input (g.S.Source.left c.serve.new.source) (g.K.Sink.held c.args.sink.now) (g.K.Sink.held c.serve.new.sink)
+    (g.D.Disk.seen c.args.disk.now).told
     (g.D.Disk.seen c.open.new.disk).told (g.D.Disk.seen c.serve.new.disk).told c.serve.result (opened.any_moment none stands)
     (c.serve.ensures.serves.told (opens.tells ∙ told) input is (opened.durable none) history (opened.content stands))
 
@@ -37,6 +39,7 @@ returns-in-Err-clause-serves g c input is told none history stands =
     let opens = c.in-Err.ensures.opens in
     rw c.refuse.ensures.status
     (Serves-refused history input (g.S.Source.left c.args.source.now) (g.K.Sink.held c.args.sink.now) (g.K.Sink.held c.refuse.new.sink)
-    (g.K.Sink.faults c.args.sink.now) (g.K.Sink.faults c.refuse.new.sink) (g.D.Disk.seen c.args.disk.now).told (g.D.Disk.seen c.open.new.disk).told c.in-Err.error
+    (g.K.Sink.faults c.args.sink.now) (g.K.Sink.faults c.refuse.new.sink) (g.D.Disk.seen c.args.disk.now).told (g.D.Disk.seen c.open.new.disk).told
+    c.in-Err.error
     (opens.told told).opens stands c.refuse.ensures.says is (g.met.D.Disk.knows_now c.open.new.disk (opens.tells ∙ told))
     (((opens.told told).history history).any_moment none stands))

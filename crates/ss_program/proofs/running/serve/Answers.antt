@@ -11,7 +11,26 @@ use Rattle.ss_program.specs.declared.running.TheConstants.{LONGEST_INPUT}
 use Rattle.ss_program.specs.declared.status.Status.TheVariants.{InputLimit, SourceFault}
 use Rattle.ss_program.proofs.SendLemmas.{appended-nil}
 use Rattle.ss_program.proofs.StepLemmas.{step-told}
-use Rattle.ss_program.proofs.RunLemmas.{HasStopped-piece, end-other, IsLeft-more, IsThrough, IsThrough-end, IsThrough-more, IsThrough-start, Moved-at, Moved-piece, Reads-end, Reads-limit, Reads-stop, Serves-finish, Serves-part, Serves-stop, left-none, length_of-none, stop-other}
+use Rattle.ss_program.proofs.RunLemmas.{
+  HasStopped-piece,
+  end-other,
+  IsLeft-more,
+  IsThrough,
+  IsThrough-end,
+  IsThrough-more,
+  IsThrough-start,
+  Moved-at,
+  Moved-piece,
+  Reads-end,
+  Reads-limit,
+  Reads-stop,
+  Serves-finish,
+  Serves-part,
+  Serves-stop,
+  left-none,
+  length_of-none,
+  stop-other,
+}
 use Rattle.ss_program.proofs.running.serve.Goals as goal
 
 pub loop-done-init : goal.loop-done-init
@@ -67,7 +86,8 @@ returns-in-Ok-eq0-clause-reads g c input is =
     let left = g.S.Source.left c.read_piece.new.source in
     let moves = c.in-Ok-eq0.ensures.moves rest at.source in
     let none = moves.1 c.in-Ok-eq0.field-0-test in
-    Reads-end (g.D.Disk.seen c.read_piece.new.disk).tells input left c.finish.result (omega (arith, length_of-none input c.loop-done.done none, c.loop-done.invariant.fits))
+    Reads-end (g.D.Disk.seen c.read_piece.new.disk).tells input left c.finish.result (omega
+    (arith, length_of-none input c.loop-done.done none, c.loop-done.invariant.fits))
     (left-none left rest c.in-Ok-eq0.field-0 none moves.2) c.finish.ensures.status
 
 pub returns-in-Ok-eq0-clause-serves : goal.returns-in-Ok-eq0-clause-serves
@@ -80,8 +100,9 @@ returns-in-Ok-eq0-clause-serves g c =
     let k = c.in-Ok-eq0.field-0 in
     let left = g.S.Source.left c.read_piece.new.source in
     let inv = c.loop-done.invariant in
-    let read = step-then {S = λ a b. (input : List ℕ) → g.S.Source.left c.args.source.now ≡ Some input → NothingPending a → (history : History) → Stands history a.content →
-        IsThrough history a b c.read_piece.new.session before (g.K.Sink.held c.read_piece.new.sink) left input (n + k)}
+    let read = step-then {S = λ a b. (input : List ℕ) → g.S.Source.left c.args.source.now ≡ Some input → NothingPending a → (history : History) → Stands
+    history a.content →
+    IsThrough history a b c.read_piece.new.session before (g.K.Sink.held c.read_piece.new.sink) left input (n + k)}
     inv.through c.in-Ok-eq0.ensures.reads (λ first second input is none history stands.
     let one = first input is none history stands in
     let rest = drop n input in
@@ -95,9 +116,11 @@ returns-in-Ok-eq0-clause-serves g c =
     let moves = c.in-Ok-eq0.ensures.moves rest at.source in
     let empty = moves.1 c.in-Ok-eq0.field-0-test in
     let all = length_of-none input n empty in
-    let end = IsThrough-end left (through input is none history stands) (omega (arith, all)) (omega (arith, all, inv.fits)) (left-none left rest k empty moves.2) in
+    let end = IsThrough-end left (through input is none history stands) (omega (arith, all)) (omega (arith, all, inv.fits))
+    (left-none left rest k empty moves.2) in
     Serves-finish (g.D.Disk.seen c.finish.new.disk).told (g.K.Sink.held c.finish.new.sink) then.tells c.finish.result tells end c.finish.ensures.status
-    (λ is_done. ends.done is_done history before input end.on.at end.on.replied) (λ stop. ends.stops (stop-other then.tells c.finish.result stop).0 history before input end.on.at end.on.replied))
+    (λ is_done. ends.done is_done history before input end.on.at end.on.replied) (λ stop. ends.stops (stop-other then.tells c.finish.result stop).0 history
+    before input end.on.at end.on.replied))
 
 pub returns-in-Err-clause-reads : goal.returns-in-Err-clause-reads
 returns-in-Err-clause-reads g c input is =
@@ -136,7 +159,11 @@ pub returns-in-Err-is_at_end-clause-reads : goal.returns-in-Err-is_at_end-clause
 returns-in-Err-is_at_end-clause-reads g c input is =
     let at = c.loop-done.invariant.left input is in
     Reads-stop input (g.S.Source.left c.is_at_end.new.source) SourceFault (λ w. cc) (λ w. cc)
-    (Moved-at input (g.S.Source.left c.is_at_end.new.source) c.loop-done.done (record { within = at.within; source = c.in-Err-is_at_end.ensures.err ∙ at.source })
+    (Moved-at input (g.S.Source.left c.is_at_end.new.source) c.loop-done.done (record {
+      within = at.within;
+      source = c.in-Err-is_at_end.ensures.err ∙
+          at.source;
+    })
     c.loop-done.invariant.fits)
 
 pub returns-in-Err-is_at_end-clause-serves : goal.returns-in-Err-is_at_end-clause-serves
@@ -162,12 +189,14 @@ returns-in-Ok-true-clause-serves g c =
     let end = IsThrough-end (g.S.Source.left c.is_at_end.new.source) one all (omega (arith, all, c.loop-done.invariant.fits)) ends.1 in
     Serves-finish (g.D.Disk.seen c.finish-in-Ok-true.new.disk).told (g.K.Sink.held c.finish-in-Ok-true.new.sink) (g.D.Disk.seen c.loop-done.disk).tells
     c.finish-in-Ok-true.result tells end c.finish-in-Ok-true.ensures.status (λ is_done. finished.done is_done history before input end.on.at end.on.replied)
-    (λ stop. finished.stops (stop-other (g.D.Disk.seen c.loop-done.disk).tells c.finish-in-Ok-true.result stop).0 history before input end.on.at end.on.replied))
+    (λ stop. finished.stops (stop-other (g.D.Disk.seen c.loop-done.disk).tells c.finish-in-Ok-true.result stop).0 history before input end.on.at
+    end.on.replied))
 
 pub returns-in-Ok-false-clause-reads : goal.returns-in-Ok-false-clause-reads
 returns-in-Ok-false-clause-reads g c input is =
     let more = c.in-Ok-false.ensures.goes_on (drop c.loop-done.done input) (c.loop-done.invariant.left input is).source c.in-Ok-false.field-0-test in
-    Reads-limit input (g.S.Source.left c.is_at_end.new.source) c.loop-done.done (omega (arith, c.loop-done.invariant.fits, c.loop-done-test.false)) more.0 more.1
+    Reads-limit input (g.S.Source.left c.is_at_end.new.source) c.loop-done.done (omega (arith, c.loop-done.invariant.fits, c.loop-done-test.false)) more.0
+    more.1
 
 pub returns-in-Ok-false-clause-serves : goal.returns-in-Ok-false-clause-serves
 returns-in-Ok-false-clause-serves g c =

@@ -23,7 +23,8 @@ returns-in-None-clause-takes g c =
       goes = λ history before input at replied.
           let here = subst (λ s. HasTaken history disk s input) (sym c.self.view_is) at in
           let more = input ++ take c.feed-count.result.0 piece in
-          let same = subst (λ o. TellsLine (lines_so_far input) (lines_so_far more) o c.feed-count.new.self) c.in-None.is (c.feed-count.ensures.lines input here.line) in
+          let same = subst (λ o. TellsLine (lines_so_far input) (lines_so_far more) o c.feed-count.new.self) c.in-None.is
+          (c.feed-count.ensures.lines input here.line) in
           GoesOn-ends history disk disk c.self.inside.store before held (under_way c.feed-count.new.self) (lines_so_far input) more same
           (c.feed-count.ensures.taken input here.line)
           (EndsWell-same history disk before held (lines_so_far input) (g.met.D.Disk.knows_now c.args.disk.now told) replied here.stands here.durable);
@@ -33,7 +34,8 @@ returns-in-None-clause-takes g c =
 pub answer-answered-requires-clause-short : goal.answer-answered-requires-clause-short
 answer-answered-requires-clause-short g c =
     let line = rw c.in-Some.is at c.feed-count.ensures.line in
-    subst (λ o. IfSome o (λ bytes. length bytes ≤ LONGEST_LINE)) (sym (c.line_of.ensures ∙ line)) (ended_line-short (extended (under_way c.self.inside.reader) (before_first is_line_end c.args.piece.now)))
+    subst (λ o. IfSome o (λ bytes. length bytes ≤ LONGEST_LINE)) (sym (c.line_of.ensures ∙ line))
+    (ended_line-short (extended (under_way c.self.inside.reader) (before_first is_line_end c.args.piece.now)))
 
 pub returns-after-answered-clause-takes : goal.returns-after-answered-clause-takes
 returns-after-answered-clause-takes g c =
@@ -46,41 +48,41 @@ returns-after-answered-clause-takes g c =
     let o = option_copied c.line_of.result in
     elim c.match-answered.branch [
       | in-Ok w ↦ (let takes = w.in-Ok.ensures in rw w.result-is (record {
-          tells = takes.adds.tells;
-          counted = takes.adds.counted;
-          told = λ told. record {
-            goes = λ history before input at replied.
-                let here = subst (λ s. HasTaken history old s input) (sym c.self.view_is) at in
-                let more = input ++ take count piece in
-                let ls = lines_so_far input in
-                let now = after_lines history ls in
-                let line = subst (λ o. TellsLine ls (lines_so_far more) o c.feed-count.new.self) c.in-Some.is (c.feed-count.ensures.lines input here.line) in
-                let same = kept-brings now o line.0 (c.line_of.ensures ∙ line.2) in
-                GoesOn-ends history old new c.answer-answered.new.store before after (under_way c.feed-count.new.self) (ls ++ line.0 ∷ []) more
-                line.1 (c.feed-count.ensures.taken input here.line)
-                (EndsWell-line history old new before held after ls line.0 tt replied
-                (subst (λ b. Replies b held after (Ok tt)) same (takes.replies told now here.stands)) here.stands here.durable
-                (subst (λ b. Adds now b old new (Ok tt)) same (takes.adds.told told now)));
-            stops = tt;
-          };
-        }))
+        tells = takes.adds.tells;
+        counted = takes.adds.counted;
+        told = λ told. record {
+          goes = λ history before input at replied.
+              let here = subst (λ s. HasTaken history old s input) (sym c.self.view_is) at in
+              let more = input ++ take count piece in
+              let ls = lines_so_far input in
+              let now = after_lines history ls in
+              let line = subst (λ o. TellsLine ls (lines_so_far more) o c.feed-count.new.self) c.in-Some.is (c.feed-count.ensures.lines input here.line) in
+              let same = kept-brings now o line.0 (c.line_of.ensures ∙ line.2) in
+              GoesOn-ends history old new c.answer-answered.new.store before after (under_way c.feed-count.new.self) (ls ++ line.0 ∷ []) more
+              line.1 (c.feed-count.ensures.taken input here.line)
+              (EndsWell-line history old new before held after ls line.0 tt replied
+              (subst (λ b. Replies b held after (Ok tt)) same (takes.replies told now here.stands)) here.stands here.durable
+              (subst (λ b. Adds now b old new (Ok tt)) same (takes.adds.told told now)));
+          stops = tt;
+        };
+      }))
       | in-Err w ↦ (let takes = w.in-Err.ensures in let status = w.in-Err.status in rw w.result-is (record {
-          tells = takes.adds.tells;
-          counted = takes.adds.counted;
-          told = λ told. record {
-            goes = tt;
-            stops = λ history before input at replied.
-                let here = subst (λ s. HasTaken history old s input) (sym c.self.view_is) at in
-                let more = input ++ take count piece in
-                let ls = lines_so_far input in
-                let now = after_lines history ls in
-                let line = subst (λ o. TellsLine ls (lines_so_far more) o c.feed-count.new.self) c.in-Some.is (c.feed-count.ensures.lines input here.line) in
-                let same = kept-brings now o line.0 (c.line_of.ensures ∙ line.2) in
-                StopsIn-piece history old new before after status input piece line.0 count line.1
-                (StopsIn-next history old new before held after ls line.0 status
-                (g.met.D.Disk.knows_now c.answer-answered.new.disk (takes.adds.tells ∙ told)) replied
-                (subst (λ b. Replies b held after (Err status)) same (takes.replies told now here.stands)) here.stands here.durable
-                (λ memory. takes.untouched memory told) (subst (λ b. Adds {T = Unit {0}} now b old new (Err status)) same (takes.adds.told told now)));
-          };
-        }))
+        tells = takes.adds.tells;
+        counted = takes.adds.counted;
+        told = λ told. record {
+          goes = tt;
+          stops = λ history before input at replied.
+              let here = subst (λ s. HasTaken history old s input) (sym c.self.view_is) at in
+              let more = input ++ take count piece in
+              let ls = lines_so_far input in
+              let now = after_lines history ls in
+              let line = subst (λ o. TellsLine ls (lines_so_far more) o c.feed-count.new.self) c.in-Some.is (c.feed-count.ensures.lines input here.line) in
+              let same = kept-brings now o line.0 (c.line_of.ensures ∙ line.2) in
+              StopsIn-piece history old new before after status input piece line.0 count line.1
+              (StopsIn-next history old new before held after ls line.0 status
+              (g.met.D.Disk.knows_now c.answer-answered.new.disk (takes.adds.tells ∙ told)) replied
+              (subst (λ b. Replies b held after (Err status)) same (takes.replies told now here.stands)) here.stands here.durable
+              (λ memory. takes.untouched memory told) (subst (λ b. Adds {T = Unit {0}} now b old new (Err status)) same (takes.adds.told told now)));
+        };
+      }))
     ]

@@ -69,7 +69,8 @@ returns-clause-takes g c =
     let mid = (g.D.Disk.seen c.loop-done.disk).told in
     step-as c.loop-done.invariant.on (λ on. record {
       goes = λ history before input at replied.
-          subst (λ bs. GoesOn history old mid c.loop-done.self before (g.K.Sink.held c.loop-done.sink) (input ++ bs)) (take_all done piece (omega (arith, c.loop-done-test.false)))
+          subst (λ bs. GoesOn history old mid c.loop-done.self before (g.K.Sink.held c.loop-done.sink) (input ++ bs))
+          (take_all done piece (omega (arith, c.loop-done-test.false)))
           (on history before input at replied);
       stops = tt;
     })
