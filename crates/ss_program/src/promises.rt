@@ -11,7 +11,7 @@ ghost use Rattle.ss_store.specs.Surveyed.{survey_of};
 ghost use Rattle.ss_program.specs.Checked.{survey_line};
 ghost use Rattle.ss_program.specs.Ending.{IsRefusedContent};
 ghost use Rattle.ss_program.specs.Generated.{summary};
-ghost use Rattle.ss_program.specs.Held.{acks};
+ghost use Rattle.ss_program.specs.Held.{StandsForFirst, acks};
 ghost use Rattle.ss_program.specs.Line.{History};
 ghost use Rattle.ss_program.specs.Promises.{BeginsOver};
 ghost use Rattle.ss_program.specs.Sent.{appended};
@@ -32,14 +32,16 @@ pub fn run_store<D: Disk, S: Source, K: Sink>(
     source: &mut S,
     sink: &mut K,
 ) -> u8
-    // A run that ends with 0 has replied to every line of its input: the sink got the whole report.
-    ensures whole_report { (history : History) (input : List ℕ) →
+    // A run that ends with 0 has replied to every line of its input: the sink got the whole report, and the store holds all
+    // events that were accepted.
+    ensures done { (history : History) (input : List ℕ) →
         BeginsOver (mode_of (words_of words.now)) (D.seen disk.old) (S.left source.old) history input → EndsAs result Status.Done →
-        K.held sink.new ≡ appended (K.held sink.old) (report history input) }
-    // And the store holds all events that were accepted.
-    ensures all_held { (history : History) (input : List ℕ) →
-        BeginsOver (mode_of (words_of words.now)) (D.seen disk.old) (S.left source.old) history input → EndsAs result Status.Done →
-        Stands (history ++ accepted history (lines input)) (D.seen disk.new).told.content }
+        (K.held sink.new ≡ appended (K.held sink.old) (report history input))
+        × Stands (history ++ accepted history (lines input)) (D.seen disk.new).told.content }
+    // A crash at any moment of the run leaves what stood before it and some first of the events that are accepted.
+    ensures any_moment { (history : History) (input : List ℕ) →
+        BeginsOver (mode_of (words_of words.now)) (D.seen disk.old) (S.left source.old) history input → (image : List ℕ) →
+        (D.seen disk.new).told.left_since (D.seen disk.old).told.moment image → StandsForFirst history (accepted history (lines input)) image }
     // However a run ends, whatever a crash leaves after it holds each event whose reply the sink got, and at most one more.
     ensures acked_held { (history : History) (input : List ℕ) →
         BeginsOver (mode_of (words_of words.now)) (D.seen disk.old) (S.left source.old) history input → (had has : List ℕ) →

@@ -1,7 +1,9 @@
 use Rattle.std.proofs.Common.{◌≡◌, ℕ, List, Option, Some, None, IsSome, refl, sym, subst}
 use Rattle.ss_arguments.specs.Modes.{mode_of, words_of}
 use Rattle.ss_arguments.specs.declared.mode.Mode.{Mode}
+use Rattle.ss_command.specs.Lines.{lines}
 use Rattle.ss_outside.specs.Verdict.{Rose}
+use Rattle.ss_program.proofs.HeldLemmas.{StandsForFirst-within}
 use Rattle.ss_program.specs.Devices.{Devices}
 use Rattle.ss_program.specs.Ending.{Ends, Rejects}
 use Rattle.ss_program.specs.Status.{EndsAs}
@@ -9,13 +11,16 @@ use Rattle.ss_program.specs.declared.status.Status.{Status}
 use Rattle.ss_program.specs.declared.status.Status.TheVariants.{Done, Usage, RefusedStore, DiskFault, SourceFault, SinkFault, OutOfMemory, RecordChanged}
 use Rattle.ss_program.proofs.promises.run_store.Goals as goal
 
-pub returns-clause-whole_report : goal.returns-clause-whole_report
-returns-clause-whole_report g c history input begins is =
-    (c.run.ensures.serves begins.plain Done is input begins.source begins.tells begins.durable history begins.stands).report.whole refl
+pub returns-clause-done : goal.returns-clause-done
+returns-clause-done g c history input begins is =
+    let serves = c.run.ensures.serves begins.plain Done is input begins.source begins.tells begins.durable history begins.stands in
+    (serves.report.whole refl, serves.whole refl)
 
-pub returns-clause-all_held : goal.returns-clause-all_held
-returns-clause-all_held g c history input begins is =
-    (c.run.ensures.serves begins.plain Done is input begins.source begins.tells begins.durable history begins.stands).whole refl
+pub returns-clause-any_moment : goal.returns-clause-any_moment
+returns-clause-any_moment g c history input begins image left =
+    let known = c.run.ensures.known in
+    StandsForFirst-within history (lines input) image
+    ((c.run.ensures.serves begins.plain known.0 known.1 input begins.source begins.tells begins.durable history begins.stands).any_moment.each image left)
 
 pub returns-clause-acked_held : goal.returns-clause-acked_held
 returns-clause-acked_held g c history input begins had has is_had is_has image left =
