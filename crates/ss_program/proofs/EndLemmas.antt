@@ -21,7 +21,7 @@ use Rattle.ss_program.specs.Devices.{Devices, over}
 use Rattle.ss_program.specs.Ending.{Completes, Ends, HasNumbers, IsRefusedContent, IsUnfed, Refuses}
 use Rattle.ss_program.specs.Refused.{AsRefused, damage_line, refusal_line, status_of_open}
 use Rattle.ss_program.specs.Sent.{SaysLine}
-use Rattle.ss_program.specs.Status.{EndsAs, EndsServing, IsStop, disk_verdict, exit_number, sink_verdict, source_verdict}
+use Rattle.ss_program.specs.Status.{EndsAs, EndsServing, IsStop, disk_verdict, exit_number, sink_verdict, source_verdict, IsApplyStop}
 use Rattle.ss_program.specs.declared.status.Status.{Status}
 use Rattle.ss_program.specs.declared.status.Status.TheVariants.{
   Done,
@@ -167,17 +167,17 @@ serving-stop tells RefusedStore (inr stop) = absurd stop
 serving-stop tells SourceFault (inr stop) = absurd stop
 serving-stop tells InputLimit (inr stop) = absurd stop
 
-pub unfed-stop : (tells : Bool) (status : Status) → (status ≡ Done) ⊎ IsStop tells status → IsUnfed status
-unfed-stop tells status (inl is) = subst IsUnfed (sym is) tt
-unfed-stop tells DiskFault (inr stop) = tt
-unfed-stop tells SinkFault (inr stop) = tt
-unfed-stop tells OutOfMemory (inr stop) = tt
-unfed-stop tells RecordChanged (inr stop) = tt
-unfed-stop tells Done (inr stop) = absurd stop
-unfed-stop tells Usage (inr stop) = absurd stop
-unfed-stop tells RefusedStore (inr stop) = absurd stop
-unfed-stop tells SourceFault (inr stop) = absurd stop
-unfed-stop tells InputLimit (inr stop) = absurd stop
+-- a run over a generated file that stops at a command has said nothing
+pub unfed-stop : (tells : Bool) (held : Option (List ℕ)) (status : Status) → IsApplyStop tells status → IsUnfed held held status
+unfed-stop tells held DiskFault stop = refl
+unfed-stop tells held OutOfMemory stop = refl
+unfed-stop tells held RecordChanged stop = refl
+unfed-stop tells held SinkFault stop = absurd stop
+unfed-stop tells held Done stop = absurd stop
+unfed-stop tells held Usage stop = absurd stop
+unfed-stop tells held RefusedStore stop = absurd stop
+unfed-stop tells held SourceFault stop = absurd stop
+unfed-stop tells held InputLimit stop = absurd stop
 
 pub Ends-opened : {R Q : Told → Told → Type 0} (old mid new : DiskView) (before after : Option (List ℕ)) (had has : ℕ) (status : Status) →
     Step fine old mid R → (R old.told mid.told → (streams : List Stream) × Recovers streams old.told.content) → Step (disk_verdict status) mid new Q →
@@ -192,20 +192,29 @@ Ends-opened old mid new before after had has status first found second ends coun
       firm = other.2;
     }
 
+-- a run whose source didn't fail, or that reads none, doesn't end by it
+pub source-calm : (asked : Option Mode) (mode : Mode) (before after : Option (List ℕ)) (status : Status) (s t : ℕ) → asked ≡ Some mode →
+    ((mode ≡ Run → ⊥) → IsUnfed before after status) → Counted (source_verdict status) s t → (asked ≡ Some Run → Rose s t → ⊥) →
+    status ≡ SourceFault → ⊥
+source-calm asked Run before after status s t is unfed counted calm same =
+    let rose : Counted (source_verdict SourceFault) s t = subst (λ x. Counted (source_verdict x) s t) same counted in calm is rose.1
+source-calm asked Check before after status s t is unfed counted calm same = subst (λ x. IsUnfed before after x) same (unfed (λ w. cc))
+source-calm asked (Gen a b) before after status s t is unfed counted calm same = subst (λ x. IsUnfed before after x) same (unfed (λ w. cc))
+
 -- how a run that no device failed ends
-pub Completes-calm : (old new : Devices) (status : Status) (s t : ℕ) → Ends old new status → Counted (source_verdict status) s t → IsTrue old.disk.tells →
-    (IsRefusedContent old.disk.told.content → ⊥) → (status ≡ InputLimit → ⊥) → (Rose old.disk.faults new.disk.faults → ⊥) → (Rose s t → ⊥) →
+pub Completes-calm : (old new : Devices) (status : Status) → Ends old new status → (status ≡ SourceFault → ⊥) → IsTrue old.disk.tells →
+    (IsRefusedContent old.disk.told.content → ⊥) → (status ≡ InputLimit → ⊥) → (Rose old.disk.faults new.disk.faults → ⊥) →
     (Rose old.faults new.faults → ⊥) → Completes status
-Completes-calm old new Done s t ends source told fits limit calm_disk calm_source calm_sink = tt
-Completes-calm old new OutOfMemory s t ends source told fits limit calm_disk calm_source calm_sink = tt
-Completes-calm old new Usage s t ends source told fits limit calm_disk calm_source calm_sink = absurd (ends.known refl)
-Completes-calm old new RefusedStore s t ends source told fits limit calm_disk calm_source calm_sink =
+Completes-calm old new Done ends fed told fits limit calm_disk calm_sink = tt
+Completes-calm old new OutOfMemory ends fed told fits limit calm_disk calm_sink = tt
+Completes-calm old new Usage ends fed told fits limit calm_disk calm_sink = absurd (ends.known refl)
+Completes-calm old new RefusedStore ends fed told fits limit calm_disk calm_sink =
     absurd (fits (subst (λ o. IsSome o) (sym (ends.refused refl told).is_line) refl))
-Completes-calm old new DiskFault s t ends source told fits limit calm_disk calm_source calm_sink = absurd (calm_disk ends.disk.counted.1)
-Completes-calm old new SourceFault s t ends source told fits limit calm_disk calm_source calm_sink = absurd (calm_source source.1)
-Completes-calm old new SinkFault s t ends source told fits limit calm_disk calm_source calm_sink = absurd (calm_sink (ends.sink (λ w. cc)).1)
-Completes-calm old new InputLimit s t ends source told fits limit calm_disk calm_source calm_sink = absurd (limit refl)
-Completes-calm old new RecordChanged s t ends source told fits limit calm_disk calm_source calm_sink = absurd (ends.firm refl told)
+Completes-calm old new DiskFault ends fed told fits limit calm_disk calm_sink = absurd (calm_disk ends.disk.counted.1)
+Completes-calm old new SourceFault ends fed told fits limit calm_disk calm_sink = absurd (fed refl)
+Completes-calm old new SinkFault ends fed told fits limit calm_disk calm_sink = absurd (calm_sink (ends.sink (λ w. cc)).1)
+Completes-calm old new InputLimit ends fed told fits limit calm_disk calm_sink = absurd (limit refl)
+Completes-calm old new RecordChanged ends fed told fits limit calm_disk calm_sink = absurd (ends.firm refl told)
 
 -- the status of a number, and only one
 status_at : ℕ → Status
@@ -242,14 +251,15 @@ surveys-opens content (opening.BadStream id) is = is
 surveys-opens content (opening.Changed slot) is = absurd is
 
 -- a run that reads no input doesn't end by it, where the store wasn't opened
-pub unfed-unopened : (error : OpenError) → IsUnfed (status_of_open error)
-unfed-unopened opening.Disk = tt
-unfed-unopened opening.OutOfMemory = tt
-unfed-unopened opening.NotAStore = tt
-unfed-unopened (opening.BadEntry n) = tt
-unfed-unopened (opening.BadSlot n) = tt
-unfed-unopened (opening.BadStream id) = tt
-unfed-unopened (opening.Changed slot) = tt
+pub unfed-unopened : (error : OpenError) (before after : Option (List ℕ)) (had has : ℕ) → AsRefused error before after had has →
+    IsUnfed before after (status_of_open error)
+unfed-unopened opening.Disk before after had has as_refused = as_refused.0
+unfed-unopened opening.OutOfMemory before after had has as_refused = as_refused.0
+unfed-unopened opening.NotAStore before after had has as_refused = tt
+unfed-unopened (opening.BadEntry n) before after had has as_refused = tt
+unfed-unopened (opening.BadSlot n) before after had has as_refused = tt
+unfed-unopened (opening.BadStream id) before after had has as_refused = tt
+unfed-unopened (opening.Changed slot) before after had has as_refused = as_refused.0
 
 -- a mode that was asked for has the numbers that it may have
 pub has-numbers : (words : List (List ℕ)) (mode : Mode) → mode_of words ≡ Some mode → HasNumbers mode

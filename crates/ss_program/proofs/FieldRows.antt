@@ -224,5 +224,18 @@ completes-disk c = c
 completes-changed : Completes RecordChanged → ⊥
 completes-changed c = c
 
-unfed-source : IsUnfed SourceFault → ⊥
-unfed-source u = u
+module _ (before after : Option (List ℕ)) where
+  unfed-source : IsUnfed before after SourceFault → ⊥
+  unfed-source u = u
+
+  unfed-limit : IsUnfed before after InputLimit → ⊥
+  unfed-limit u = u
+
+  unfed-disk : IsUnfed before after DiskFault → after ≡ before
+  unfed-disk u = u
+
+  unfed-starved : IsUnfed before after OutOfMemory → after ≡ before
+  unfed-starved u = u
+
+  unfed-changed : IsUnfed before after RecordChanged → after ≡ before
+  unfed-changed u = u

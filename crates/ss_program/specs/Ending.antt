@@ -51,11 +51,14 @@ Completes Done = ⊤
 Completes OutOfMemory = ⊤
 Completes status = ⊥
 
--- a run that reads no input doesn't end by it
-abbrev pub IsUnfed : Status → Type 0
-IsUnfed SourceFault = ⊥
-IsUnfed InputLimit = ⊥
-IsUnfed status = ⊤
+-- A run that reads no input doesn't end by it, and says nothing unless it is done, its store is refused or the sink fails.
+abbrev pub IsUnfed : Option (List ℕ) → Option (List ℕ) → Status → Type 0
+IsUnfed before after SourceFault = ⊥
+IsUnfed before after InputLimit = ⊥
+IsUnfed before after DiskFault = after ≡ before
+IsUnfed before after OutOfMemory = after ≡ before
+IsUnfed before after RecordChanged = after ≡ before
+IsUnfed before after status = ⊤
 
 -- the numbers of a generated file are those that a mode may have
 abbrev pub HasNumbers : Mode → Type 0

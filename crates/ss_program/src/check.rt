@@ -45,7 +45,7 @@ fn send_survey<K: Sink>(survey: Survey, sink: &mut K) -> Result<(), Failed>
 /// Reads the store and says what it holds, or why it is refused. It writes nothing to the disk.
 pub fn check<D: Disk, K: Sink>(alloc: Global, disk: &mut D, sink: &mut K) -> Status
     ensures ends { Ends (over (D.seen disk.old) (K.held sink.old) (K.faults sink.old)) (over (D.seen disk.new) (K.held sink.new) (K.faults sink.new)) result }
-    ensures unfed { IsUnfed result }
+    ensures unfed { IsUnfed (K.held sink.old) (K.held sink.new) result }
     ensures unwritten { Between (D.seen disk.old) (D.seen disk.new) OnlyReads }
     ensures checks { OfContent (D.seen disk.old) (ChecksContent (K.held sink.old) (K.held sink.new) result) }
 {

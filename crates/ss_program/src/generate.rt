@@ -179,6 +179,7 @@ fn summarize<D: Disk, K: Sink>(
     ensures generates { Step (disk_verdict result) (D.seen disk.old) (D.seen disk.new)
         (GeneratesFrom seed count (K.held sink.old) (K.held sink.new) result) }
     ensures status { (result ≡ Status.Done) ⊎ IsStop (D.seen disk.old).tells result }
+    ensures unfed { IsUnfed (K.held sink.old) (K.held sink.new) result }
     ensures counted { Counted (sink_verdict result) (K.faults sink.old) (K.faults sink.new) }
 {
     match run_all(store, seed, count, disk) {
@@ -201,7 +202,7 @@ pub fn generate<D: Disk, K: Sink>(
     requires some { 1 ≤ count }
     requires few { count ≤ MOST_COUNT }
     ensures ends { Ends (over (D.seen disk.old) (K.held sink.old) (K.faults sink.old)) (over (D.seen disk.new) (K.held sink.new) (K.faults sink.new)) result }
-    ensures unfed { IsUnfed result }
+    ensures unfed { IsUnfed (K.held sink.old) (K.held sink.new) result }
     ensures generates { Between (D.seen disk.old) (D.seen disk.new) (GeneratesFrom seed count (K.held sink.old) (K.held sink.new) result) }
 {
     match Store::open(alloc, disk) {

@@ -30,7 +30,7 @@ ghost use Rattle.ss_outside.specs.Disk.{Between, OfContent};
 ghost use Rattle.ss_outside.specs.Step.{Step};
 ghost use Rattle.ss_outside.specs.Verdict.{Counted, HasCause, Rose};
 ghost use Rattle.ss_store.specs.Recover.{Stands};
-ghost use Rattle.ss_arguments.specs.Modes.{mode_of, words_of};
+ghost use Rattle.ss_arguments.specs.Modes.{are_refused_at_once, mode_of, words_of};
 ghost use Rattle.ss_program.specs.Answer.{IsOpen};
 ghost use Rattle.ss_program.specs.Checked.{ChecksContent};
 ghost use Rattle.ss_program.specs.Devices.{over};
@@ -169,7 +169,7 @@ fn run_mode<D: Disk, S: Source, K: Sink>(
     requires { HasNumbers mode }
     ensures ends { Ends (over (D.seen disk.old) (K.held sink.old) (K.faults sink.old)) (over (D.seen disk.new) (K.held sink.new) (K.faults sink.new)) result }
     ensures unread { (mode ≡ Mode.Run → ⊥) → source.new ≡ source.old }
-    ensures unfed { (mode ≡ Mode.Run → ⊥) → IsUnfed result }
+    ensures unfed { (mode ≡ Mode.Run → ⊥) → IsUnfed (K.held sink.old) (K.held sink.new) result }
     ensures source { Counted (source_verdict result) (S.faults source.old) (S.faults source.new) }
     ensures unserved { result ≡ Status.RefusedStore → source.new ≡ source.old }
     ensures reads { mode ≡ Mode.Run → (input : List ℕ) → S.left source.old ≡ Some input → Reads input (S.left source.new) result }
@@ -204,6 +204,8 @@ pub fn run<D: Disk, S: Source, K: Sink>(
     // Arguments that aren't known: the usage line is said, or memory ran out. The disk and the source are then not called.
     ensures rejects { mode_of (words_of words.now) ≡ None → (status : Status) → EndsAs result status → Rejects
         (over (D.seen disk.old) (K.held sink.old) (K.faults sink.old)) (over (D.seen disk.new) (K.held sink.new) (K.faults sink.new)) status }
+    // Those that are refused at a glance want no memory.
+    ensures at_once { are_refused_at_once (words_of words.now) ≡ true → EndsAs result Status.Usage }
     ensures undone { mode_of (words_of words.now) ≡ None → disk.new ≡ disk.old }
     ensures unread { (mode_of (words_of words.now) ≡ Some Mode.Run → ⊥) → source.new ≡ source.old }
 
@@ -230,12 +232,16 @@ pub fn run<D: Disk, S: Source, K: Sink>(
     ensures generates { (seed count : ℕ) → mode_of (words_of words.now) ≡ Some (Mode.Gen seed count) → (status : Status) → EndsAs result status →
         Between (D.seen disk.old) (D.seen disk.new) (GeneratesFrom seed count (K.held sink.old) (K.held sink.new) status) }
 
+    // A check and a run over a generated file read no input, and say nothing before they are done.
+    ensures unfed { (mode_of (words_of words.now) ≡ Some Mode.Run → ⊥) → (status : Status) → EndsAs result status →
+        IsUnfed (K.held sink.old) (K.held sink.new) status }
+
     // A run that no device failed is done, or memory ran out: over a content that isn't refused, and within the limit of an input.
     ensures completes { IsSome (mode_of (words_of words.now)) → (status : Status) → EndsAs result status → IsTrue (D.seen disk.old).tells →
         (IsRefusedContent (D.seen disk.old).told.content → ⊥) → (status ≡ Status.InputLimit → ⊥) →
-        (Rose (D.seen disk.old).faults (D.seen disk.new).faults → ⊥) → (Rose (S.faults source.old) (S.faults source.new) → ⊥) →
+        (Rose (D.seen disk.old).faults (D.seen disk.new).faults → ⊥) →
+        (mode_of (words_of words.now) ≡ Some Mode.Run → Rose (S.faults source.old) (S.faults source.new) → ⊥) →
         (Rose (K.faults sink.old) (K.faults sink.new) → ⊥) → Completes status }
-    ensures limited { EndsAs result Status.InputLimit → mode_of (words_of words.now) ≡ Some Mode.Run }
 {
     match mode_of(alloc, words) {
         Ok(Some(mode)) => run_mode(alloc, mode, disk, source, sink).number(),

@@ -54,7 +54,7 @@ returns-in-Err-clause-ends g c =
     (λ told. surveys-opens old.told.content c.in-Err.error (surveys.told told).surveys) (λ told refused. (surveys.told told).reads) c.refuse.ensures.says)
 
 pub returns-in-Err-clause-unfed : goal.returns-in-Err-clause-unfed
-returns-in-Err-clause-unfed g c = rw c.refuse.ensures.status (unfed-unopened c.in-Err.error)
+returns-in-Err-clause-unfed g c = rw c.refuse.ensures.status (unfed-unopened c.in-Err.error _ _ _ _ c.refuse.ensures.says)
 
 pub returns-in-Err-clause-checks : goal.returns-in-Err-clause-checks
 returns-in-Err-clause-checks g c told streams is =

@@ -1,7 +1,7 @@
 use Rattle.std.proofs.Common.{◌∙◌, subst}
 use Rattle.ss_store.specs.Kept.{StoreState}
 use Rattle.ss_program.specs.Status.{EndsServing}
-use Rattle.ss_program.proofs.EndLemmas.{Ends-opened, Ends-unopened, judged-refused, serving-stop, unfed-stop, unfed-unopened}
+use Rattle.ss_program.proofs.EndLemmas.{Ends-opened, Ends-unopened, judged-refused, serving-stop, unfed-unopened}
 use Rattle.ss_program.proofs.GenerateLemmas.{Generates-opened, Generates-unopened}
 use Rattle.ss_program.proofs.generate.generate.Goals as goal
 
@@ -16,7 +16,7 @@ returns-in-Ok-clause-ends g c =
     c.summarize.ensures.counted
 
 pub returns-in-Ok-clause-unfed : goal.returns-in-Ok-clause-unfed
-returns-in-Ok-clause-unfed g c = unfed-stop (g.D.Disk.seen c.open.new.disk).tells c.summarize.result c.summarize.ensures.status
+returns-in-Ok-clause-unfed g c = c.summarize.ensures.unfed
 
 pub returns-in-Ok-clause-generates : goal.returns-in-Ok-clause-generates
 returns-in-Ok-clause-generates g c told none history stands =
@@ -36,7 +36,7 @@ returns-in-Err-clause-ends g c =
     (λ told refused. (opens.told told).judged (judged-refused old.told.content refused)) c.refuse.ensures.says)
 
 pub returns-in-Err-clause-unfed : goal.returns-in-Err-clause-unfed
-returns-in-Err-clause-unfed g c = rw c.refuse.ensures.status (unfed-unopened c.in-Err.error)
+returns-in-Err-clause-unfed g c = rw c.refuse.ensures.status (unfed-unopened c.in-Err.error _ _ _ _ c.refuse.ensures.says)
 
 pub returns-in-Err-clause-generates : goal.returns-in-Err-clause-generates
 returns-in-Err-clause-generates g c told none history stands =

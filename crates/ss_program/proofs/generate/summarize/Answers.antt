@@ -3,6 +3,7 @@ use Rattle.ss_program.specs.Generated.{generated}
 use Rattle.ss_program.specs.Session.{replies}
 use Rattle.ss_program.specs.declared.status.Status.TheVariants.{SinkFault}
 use Rattle.ss_program.proofs.AnswerLemmas.{IsStop-apply}
+use Rattle.ss_program.proofs.EndLemmas.{unfed-stop}
 use Rattle.ss_program.proofs.GenerateLemmas.{Generates-done, Generates-stop}
 use Rattle.ss_program.proofs.RunLemmas.{stop-other}
 use Rattle.ss_program.proofs.SendLemmas.{appended-nil}
@@ -45,3 +46,6 @@ returns-in-Err-clause-generates g c =
 pub returns-in-Err-clause-counted : goal.returns-in-Err-clause-counted
 returns-in-Err-clause-counted g c = apply-counted (g.D.Disk.seen c.args.disk.now).tells (g.K.Sink.faults c.args.sink.now) c.in-Err.status
     c.in-Err.ensures.status
+
+pub returns-in-Err-clause-unfed : goal.returns-in-Err-clause-unfed
+returns-in-Err-clause-unfed g c = unfed-stop (g.D.Disk.seen c.args.disk.now).tells (g.K.Sink.held c.args.sink.now) c.in-Err.status c.in-Err.ensures.status

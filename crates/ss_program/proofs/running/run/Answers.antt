@@ -1,4 +1,4 @@
-use Rattle.std.proofs.Common.{◌≡◌, ◌∙◌, List, ℕ, Option, Some, inr, refl, sym}
+use Rattle.std.proofs.Common.{◌≡◌, ◌∙◌, List, ℕ, Option, Some, ap, inr, refl, sym}
 use Rattle.ss_arguments.specs.Modes.{mode_of, words_of}
 use Rattle.ss_arguments.specs.declared.mode.Mode.{Mode}
 use Rattle.ss_arguments.specs.declared.mode.Mode.TheVariants.{Run, Check, Gen}
@@ -8,12 +8,12 @@ use Rattle.ss_outside.specs.Verdict.{Counted}
 use Rattle.ss_store.specs.Recover.{Stands}
 use Rattle.ss_program.specs.Checked.{ChecksContent}
 use Rattle.ss_program.specs.Devices.{over}
-use Rattle.ss_program.specs.Ending.{Completes, Ends}
+use Rattle.ss_program.specs.Ending.{Completes, Ends, IsUnfed}
 use Rattle.ss_program.specs.Generated.{GeneratesFrom}
 use Rattle.ss_program.specs.Outcome.{Reads, Serves, ServesInput}
 use Rattle.ss_program.specs.Status.{source_verdict}
 use Rattle.ss_program.specs.declared.status.Status.TheVariants.{OutOfMemory}
-use Rattle.ss_program.proofs.EndLemmas.{Completes-calm, by-number, has-numbers}
+use Rattle.ss_program.proofs.EndLemmas.{Completes-calm, by-number, has-numbers, source-calm}
 use Rattle.ss_program.proofs.RunLemmas.{Serves-unopened}
 use Rattle.ss_program.proofs.running.run.Goals as goal
 
@@ -22,7 +22,7 @@ one_mode : (found asked : Option Mode) (mode other : Mode) → found ≡ asked �
 one_mode found asked mode other is some known = cc
 
 pub run_mode-requires : goal.run_mode-requires
-run_mode-requires g c = has-numbers (words_of c.args.words.now) c.in-Ok-Some.mode (sym c.in-Ok-Some.ensures ∙ c.in-Ok-Some.field-0-is)
+run_mode-requires g c = has-numbers (words_of c.args.words.now) c.in-Ok-Some.mode (sym c.in-Ok-Some.ensures.mode ∙ c.in-Ok-Some.field-0-is)
 
 pub returns-in-Ok-Some-clause-ends : goal.returns-in-Ok-Some-clause-ends
 returns-in-Ok-Some-clause-ends g c _ status is =
@@ -38,30 +38,35 @@ returns-in-Ok-Some-clause-source g c status is =
 
 pub returns-in-Ok-Some-clause-reads : goal.returns-in-Ok-Some-clause-reads
 returns-in-Ok-Some-clause-reads g c plain status is input left =
-    let mode = one_mode c.in-Ok-Some.field-0 (mode_of (words_of c.args.words.now)) c.in-Ok-Some.mode Run c.in-Ok-Some.ensures c.in-Ok-Some.field-0-is plain in
+    let mode = one_mode c.in-Ok-Some.field-0 (mode_of (words_of c.args.words.now)) c.in-Ok-Some.mode Run c.in-Ok-Some.ensures.mode c.in-Ok-Some.field-0-is plain in
     by-number (λ s. Reads input (g.S.Source.left c.run_mode.new.source) s) c.number.result c.run_mode.result c.number.ensures
     (c.run_mode.ensures.reads mode input left) status is
 
 pub returns-in-Ok-Some-clause-serves : goal.returns-in-Ok-Some-clause-serves
 returns-in-Ok-Some-clause-serves g c plain status is input left =
-    let mode = one_mode c.in-Ok-Some.field-0 (mode_of (words_of c.args.words.now)) c.in-Ok-Some.mode Run c.in-Ok-Some.ensures c.in-Ok-Some.field-0-is plain in
+    let mode = one_mode c.in-Ok-Some.field-0 (mode_of (words_of c.args.words.now)) c.in-Ok-Some.mode Run c.in-Ok-Some.ensures.mode c.in-Ok-Some.field-0-is plain in
     by-number (λ s. Between (g.D.Disk.seen c.args.disk.now) (g.D.Disk.seen c.run_mode.new.disk)
     (ServesInput input (g.S.Source.left c.run_mode.new.source) (g.K.Sink.held c.args.sink.now) (g.K.Sink.held c.run_mode.new.sink) s))
     c.number.result c.run_mode.result c.number.ensures (c.run_mode.ensures.serves mode input left) status is
 
 pub returns-in-Ok-Some-clause-checks : goal.returns-in-Ok-Some-clause-checks
 returns-in-Ok-Some-clause-checks g c asked status is =
-    let mode = one_mode c.in-Ok-Some.field-0 (mode_of (words_of c.args.words.now)) c.in-Ok-Some.mode Check c.in-Ok-Some.ensures c.in-Ok-Some.field-0-is asked in
+    let mode = one_mode c.in-Ok-Some.field-0 (mode_of (words_of c.args.words.now)) c.in-Ok-Some.mode Check c.in-Ok-Some.ensures.mode c.in-Ok-Some.field-0-is asked in
     by-number (λ s. OfContent (g.D.Disk.seen c.args.disk.now) (ChecksContent (g.K.Sink.held c.args.sink.now) (g.K.Sink.held c.run_mode.new.sink) s))
     c.number.result c.run_mode.result c.number.ensures (c.run_mode.ensures.checks mode) status is
 
 pub returns-in-Ok-Some-clause-generates : goal.returns-in-Ok-Some-clause-generates
 returns-in-Ok-Some-clause-generates g c seed count asked status is =
-    let mode = one_mode c.in-Ok-Some.field-0 (mode_of (words_of c.args.words.now)) c.in-Ok-Some.mode (Gen seed count) c.in-Ok-Some.ensures
+    let mode = one_mode c.in-Ok-Some.field-0 (mode_of (words_of c.args.words.now)) c.in-Ok-Some.mode (Gen seed count) c.in-Ok-Some.ensures.mode
     c.in-Ok-Some.field-0-is asked in
     by-number (λ s. Between (g.D.Disk.seen c.args.disk.now) (g.D.Disk.seen c.run_mode.new.disk)
     (GeneratesFrom seed count (g.K.Sink.held c.args.sink.now) (g.K.Sink.held c.run_mode.new.sink) s))
     c.number.result c.run_mode.result c.number.ensures (c.run_mode.ensures.generates seed count mode) status is
+
+pub returns-in-Ok-Some-clause-unfed : goal.returns-in-Ok-Some-clause-unfed
+returns-in-Ok-Some-clause-unfed g c other status is =
+    by-number (λ s. IsUnfed (g.K.Sink.held c.args.sink.now) (g.K.Sink.held c.run_mode.new.sink) s) c.number.result c.run_mode.result c.number.ensures
+    (c.run_mode.ensures.unfed (λ plain. other (sym c.in-Ok-Some.ensures.mode ∙ c.in-Ok-Some.field-0-is ∙ ap (λ m. Some m) plain))) status is
 
 pub returns-in-Ok-Some-clause-completes : goal.returns-in-Ok-Some-clause-completes
 returns-in-Ok-Some-clause-completes g c _ status is told fits limit calm_disk calm_source calm_sink =
@@ -69,10 +74,26 @@ returns-in-Ok-Some-clause-completes g c _ status is told fits limit calm_disk ca
     let new = over (g.D.Disk.seen c.run_mode.new.disk) (g.K.Sink.held c.run_mode.new.sink) (g.K.Sink.faults c.run_mode.new.sink) in
     let s = g.S.Source.faults c.args.source.now in
     let t = g.S.Source.faults c.run_mode.new.source in
-    Completes-calm old new status s t
+    Completes-calm old new status
     (by-number (λ r. Ends old new r) c.number.result c.run_mode.result c.number.ensures c.run_mode.ensures.ends status is)
+    (source-calm (mode_of (words_of c.args.words.now)) c.in-Ok-Some.mode old.held new.held status s t
+    (sym c.in-Ok-Some.ensures.mode ∙ c.in-Ok-Some.field-0-is)
+    (λ other. by-number (λ r. IsUnfed old.held new.held r) c.number.result c.run_mode.result c.number.ensures (c.run_mode.ensures.unfed other) status is)
     (by-number (λ r. Counted (source_verdict r) s t) c.number.result c.run_mode.result c.number.ensures c.run_mode.ensures.source status is)
-    told fits limit calm_disk calm_source calm_sink
+    calm_source)
+    told fits limit calm_disk calm_sink
+
+-- no arguments that are refused at a glance ask for a mode, or for memory
+pub returns-in-Ok-Some-clause-at_once : goal.returns-in-Ok-Some-clause-at_once
+returns-in-Ok-Some-clause-at_once g c refused =
+    let wrong = c.mode_of.ensures.at_once refused in
+    let was = c.in-Ok-Some.is in
+    let some = c.in-Ok-Some.field-0-is in cc
+
+pub returns-in-Err-clause-unfed : goal.returns-in-Err-clause-unfed
+returns-in-Err-clause-unfed g c other status is =
+    by-number (λ s. IsUnfed (g.K.Sink.held c.args.sink.now) (g.K.Sink.held c.args.sink.now) s) c.number-in-Err.result OutOfMemory c.number-in-Err.ensures refl
+    status is
 
 -- memory ran out before the disk was called
 pub returns-in-Err-clause-serves : goal.returns-in-Err-clause-serves
