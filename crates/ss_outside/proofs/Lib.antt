@@ -5,5 +5,7 @@ pub mod MemDiskLemmas
 pub mod MemDiskTime
 pub mod PastLemmas
 mod Rows
+mod DeviceRows
+mod StepRows
 mod VerdictRows
 pub mod StepLemmas
