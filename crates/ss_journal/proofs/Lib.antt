@@ -12,6 +12,7 @@ pub mod PrefixLemmas
 pub mod PutLemmas
 pub mod RangeLemmas
 pub mod RedoLemmas
+mod CallRows
 pub mod Rows
 pub mod SettleSteps
 pub mod SlotLemmas

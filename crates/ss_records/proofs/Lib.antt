@@ -2,4 +2,5 @@ pub mod BitLemmas
 pub mod TreeLemmas
 pub mod LiveLemmas
 pub mod RecordLemmas
+mod CallRows
 pub mod Rows

@@ -1,0 +1,114 @@
+-- Rows that pin what the calls of a journal leave, field by field.
+use Rattle.std.proofs.Common.{◌≡◌, ◌⊎◌, ℕ, List, Result, Ok, Err, IsTrue, refl, lit≤}
+use Rattle.ss_outside.specs.Crash.{LeavesOnly, OnlyReads}
+use Rattle.ss_outside.specs.Disk.{NothingPending, Told}
+use Rattle.ss_outside.specs.declared.source.Failed.{Failed}
+use Rattle.ss_journal.specs.declared.journal_error.JournalError.{JournalError}
+use Rattle.ss_journal.specs.declared.journal_error.JournalError.TheVariants.{NotAStore, BadEntry}
+use Rattle.ss_journal.specs.declared.put.Put.{Put}
+use Rattle.ss_journal.specs.Calls.{ChangesMap, Commits, HasCommitted, HasSettled, KeepsMap, MakesDurable, Opens, ReadsSlot, Settles, entries_after}
+use Rattle.ss_journal.specs.Format.{is_born, is_unborn, magic}
+use Rattle.ss_journal.specs.Kept.{IsKept, IsSettled, JournalState}
+use Rattle.ss_journal.specs.Puts.{extent_after}
+use Rattle.ss_journal.specs.Redo.{SameMap, SlotMap, StandsFor, bad_entry, changed, not_a_store, redo}
+use Rattle.ss_journal.specs.Writes.{SameRest}
+use Rattle.std.specs.Prelude.{codes, slice_index}
+
+-- the bytes that stand after the birth gate
+magic-letters : magic ≡ codes "SSTORE01"
+magic-letters = refl
+
+module _ (old new : Told) (found : SlotMap) where
+  KeepsMap-Ok : KeepsMap {T = Unit {0}} {E = Failed} old new (Ok tt) → StandsFor old.content found → StandsFor new.content found
+  KeepsMap-Ok keeps is = keeps.map found is
+
+  KeepsMap-any_moment : (result : Result Unit Failed) → KeepsMap old new result → NothingPending old → StandsFor old.content found →
+      LeavesOnly old new (λ image. StandsFor image found)
+  KeepsMap-any_moment result keeps nothing is = keeps.any_moment nothing found is
+
+  KeepsMap-durable : KeepsMap {T = Unit {0}} {E = Failed} old new (Ok tt) → NothingPending old → NothingPending new
+  KeepsMap-durable keeps = keeps.durable
+
+  ChangesMap-Ok : (puts : List Put) → ChangesMap {T = Unit {0}} {E = Failed} puts old new (Ok tt) → StandsFor old.content found →
+      StandsFor new.content (changed found puts)
+  ChangesMap-Ok puts changes is = changes.map found is
+
+  ChangesMap-any_moment : (puts : List Put) (result : Result Unit Failed) → ChangesMap puts old new result → NothingPending old →
+      StandsFor old.content found → LeavesOnly old new (λ image. StandsFor image found ⊎ StandsFor image (changed found puts))
+  ChangesMap-any_moment puts result changes nothing is = changes.any_moment nothing found is
+
+  ChangesMap-durable : (puts : List Put) → ChangesMap {T = Unit {0}} {E = Failed} puts old new (Ok tt) → NothingPending new
+  ChangesMap-durable puts changes = changes.durable
+
+  MakesDurable-Ok : MakesDurable {T = Unit {0}} {E = Failed} old new (Ok tt) → NothingPending new
+  MakesDurable-Ok makes = makes.durable
+
+  MakesDurable-any_moment : (result : Result Unit Failed) → MakesDurable old new result → IsTrue (is_born old.content) → StandsFor old.content found →
+      LeavesOnly old new (λ image. old.may_leave image ⊎ StandsFor image found)
+  MakesDurable-any_moment result makes born is = makes.any_moment born found is
+
+  ReadsSlot-Ok : (slot : ℕ) (bytes : List ℕ) → ReadsSlot slot (Ok bytes) old new → StandsFor old.content found → bytes ≡ found.bytes slot
+  ReadsSlot-Ok slot bytes read is = read.bytes found is
+
+  ReadsSlot-reads : (slot : ℕ) (result : Result (List ℕ) Failed) → ReadsSlot slot result old new → OnlyReads old new
+  ReadsSlot-reads slot result read = read.reads
+
+module _ (old new : Told) (journal : JournalState) where
+  Opens-reads : (result : Result JournalState JournalError) → Opens result old new → OnlyReads old new
+  Opens-reads result opens = opens.reads
+
+  Opens-Ok : Opens (Ok journal) old new → IsKept journal old.content
+  Opens-Ok opens = opens.opens
+
+  Opens-NotAStore : Opens (Err NotAStore) old new → redo old.content ≡ not_a_store
+  Opens-NotAStore opens = opens.opens
+
+  Opens-BadEntry : (n : ℕ) → Opens (Err (BadEntry n)) old new → redo old.content ≡ bad_entry n
+  Opens-BadEntry n opens = opens.opens
+
+  Settles-kept : Settles journal (Ok tt) old new → IsKept journal new.content
+  Settles-kept settles = settles.kept
+
+  Settles-keeps_map : (result : Result Unit Failed) → Settles journal result old new → KeepsMap old new result
+  Settles-keeps_map result settles = settles.keeps_map
+
+  Settles-makes_durable : (result : Result Unit Failed) → Settles journal result old new → MakesDurable old new result
+  Settles-makes_durable result settles = settles.makes_durable
+
+  Settles-rest : Settles journal (Ok tt) old new → IsTrue (is_unborn old.content) → SameRest old.content new.content
+  Settles-rest settles = settles.rest
+
+  Commits-kept : (puts : List Put) → Commits journal puts (Ok tt) old new → IsKept journal new.content
+  Commits-kept puts commits = commits.kept
+
+  Commits-changes_map : (puts : List Put) (result : Result Unit Failed) → Commits journal puts result old new → ChangesMap puts old new result
+  Commits-changes_map puts result commits = commits.changes_map
+
+module _ (old new : JournalState) where
+  HasSettled-settled : HasSettled old new → IsSettled new
+  HasSettled-settled has = has.settled
+
+  HasSettled-extent : HasSettled old new → new.extent ≡ old.extent
+  HasSettled-extent has = has.extent
+
+  HasSettled-in_use : HasSettled old new → new.in_use ≡ 0
+  HasSettled-in_use has = has.in_use
+
+  HasCommitted-settled : (puts : List Put) → HasCommitted puts old new → IsSettled new
+  HasCommitted-settled puts has = has.settled
+
+  HasCommitted-extent : (puts : List Put) → HasCommitted puts old new → new.extent ≡ extent_after puts old.extent
+  HasCommitted-extent puts has = has.extent
+
+  HasCommitted-in_use : (puts : List Put) → HasCommitted puts old new → new.in_use ≡ entries_after old.in_use
+  HasCommitted-in_use puts has = has.in_use
+
+-- the last slot that a file can have is part of a map, and the first byte after it is part of the rest
+SameMap-last : (first second : SlotMap) → SameMap first second → first.bytes 1048575 ≡ second.bytes 1048575
+SameMap-last first second same = same.bytes 1048575 (lit≤ tt)
+
+SameMap-extent : (first second : SlotMap) → SameMap first second → first.extent ≡ second.extent
+SameMap-extent first second same = same.extent
+
+SameRest-first : (old new : List ℕ) → SameRest old new → slice_index new 134254592 ≡ slice_index old 134254592
+SameRest-first old new same = same 134254592 (lit≤ tt)
