@@ -1,5 +1,6 @@
 -- The mode by the words.
-use Rattle.std.proofs.Common.{◌≡◌, ◌^◌, ◌-◌, ◌≤◌, ◌||◌, ℕ, Bool, true, false, cond, List, [], ◌∷◌, length, drop, Option, Some, None, arith, refl, ap, eqb-true, ◌∙◌}
+use Rattle.std.proofs.Common.{◌≡◌, ◌^◌, ◌-◌, ◌≤◌, ◌||◌, ℕ, Bool, true, false, cond, List, [], ◌∷◌, length, drop, Option, Some, None, arith, refl, ap}
+use Rattle.std.proofs.Common.{eqb-true, ◌∙◌}
 use Rattle.std.specs.List.{list_any}
 use Rattle.std.specs.Str.{bytes_eq}
 use Rattle.std.specs.Prelude.{codes, String}
@@ -31,11 +32,13 @@ either_way : (b : Bool) (mode : Option Mode) → mode ≡ None → cond b mode N
 either_way true mode e = e
 either_way false mode e = refl
 
-option_among_three : (a b d : List ℕ) (p q r : Bool) → starts_with_minus a ≡ p → starts_with_minus b ≡ q → starts_with_minus d ≡ r → (p || (q || (r || false))) ≡ true
+option_among_three : (a b d : List ℕ) (p q r : Bool) → starts_with_minus a ≡ p → starts_with_minus b ≡ q → starts_with_minus d ≡ r →
+    (p || (q || (r || false))) ≡ true
     → asked (a ∷ b ∷ d ∷ []) ≡ None
 option_among_three a b d true q r ea eb ed some = rw (gen-option a ea) refl
 option_among_three a b d false true r ea eb ed some = either_way _ _ (ap (λ seed. gen_of seed (count_of d)) (number_between-option 0 (2 ^ 64 - 1) b eb))
-option_among_three a b d false false true ea eb ed some = either_way _ _ (ap (gen_of (seed_of b)) (number_between-option 1 MOST_COUNT d ed) ∙ gen_of-no_count (seed_of b))
+option_among_three a b d false false true ea eb ed some =
+    either_way _ _ (ap (gen_of (seed_of b)) (number_between-option 1 MOST_COUNT d ed) ∙ gen_of-no_count (seed_of b))
 option_among_three a b d false false false ea eb ed some = cc
 
 or_false : (b : Bool) → (b || false) ≡ true → b ≡ true
@@ -60,7 +63,8 @@ mode_of-option (program ∷ path ∷ arguments) some = asked-option arguments so
 abbrev pub AreInRange : ℕ → ℕ → Type 0
 AreInRange seed count = (seed ≤ 2 ^ 64 - 1) × (1 ≤ count) × (count ≤ MOST_COUNT)
 
-gen_of-in_range : (seed_word count_word : List ℕ) (s k : Option ℕ) (seed count : ℕ) → seed_of seed_word ≡ s → count_of count_word ≡ k → gen_of s k ≡ Some (Gen seed count) → AreInRange seed count
+gen_of-in_range : (seed_word count_word : List ℕ) (s k : Option ℕ) (seed count : ℕ) → seed_of seed_word ≡ s → count_of count_word ≡ k →
+    gen_of s k ≡ Some (Gen seed count) → AreInRange seed count
 gen_of-in_range seed_word count_word None k seed count es ek e = cc
 gen_of-in_range seed_word count_word (Some s) None seed count es ek e = cc
 gen_of-in_range seed_word count_word (Some s) (Some k) seed count es ek e =

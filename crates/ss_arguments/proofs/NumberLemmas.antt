@@ -13,7 +13,8 @@ in_range least most None = None
 in_range least most (Some n) = if nat_le least n then (if nat_le n most then Some n else None) else None
 
 -- a number that is read in a wider range
-pub number_between-narrower : (least most bound : ℕ) (word : List ℕ) → most ≤ bound → number_between least most word ≡ in_range least most (number_between 0 bound word)
+pub number_between-narrower : (least most bound : ℕ) (word : List ℕ) → most ≤ bound →
+    number_between least most word ≡ in_range least most (number_between 0 bound word)
 unfolding number_between number_up_to
 number_between-narrower least most bound word wider = grind (arith, nat_tests)
 

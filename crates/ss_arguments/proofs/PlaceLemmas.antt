@@ -6,7 +6,8 @@ use Rattle.std.specs.Prelude.{codes, option_and_then}
 use Rattle.std.specs.Str.{bytes_eq}
 use Rattle.std.specs.Str.Parse.{starts_with_minus}
 use Rattle.clap.specs.Lexer.{long_of, long_of_rest, short_of, short_of_rest, strip_byte}
-use Rattle.clap.specs.Walk.{Held, Row, Rule, Step, Text, Walk, after_step, arg_by_index, finished, first_of, idle, nothing_held, rows_of, to_positional, value, walk, walked, word_met}
+use Rattle.clap.specs.Walk.{Held, Row, Rule, Step, Text, Walk, after_step, arg_by_index, finished, first_of, idle, nothing_held, rows_of}
+use Rattle.clap.specs.Walk.{to_positional, value, walk, walked, word_met}
 use Rattle.clap.specs.Simple.{App, HasMatchesOf, Shape, built, is_simple, matches_of}
 use Rattle.clap.specs.Takes.{positional_passes, turn_passes, word_passes}
 use Rattle.clap.specs.Faults.{fault_of, is_simple_and_free, positional_fault, stray_fault, turn_fault, walk_fault}
@@ -42,7 +43,8 @@ abbrev pub between : Held → ℕ → Walk
 between held position = record { held = held; waiting = idle; position = position; is_trailing = false; stopped = None }
 
 -- a word that is no option goes to a place
-pub word_met-plain : (rules : List Rule) (position : ℕ) (word : Text) (h : Held) → starts_with_minus word ≡ false → word_met rules [] false idle position word h ≡ (h, value)
+pub word_met-plain : (rules : List Rule) (position : ℕ) (word : Text) (h : Held) → starts_with_minus word ≡ false →
+    word_met rules [] false idle position word h ≡ (h, value)
 word_met-plain rules position word h plain = rw (no_hyphens word plain, no_long word plain, no_short word plain) refl
 
 -- and passes
@@ -53,14 +55,16 @@ word_passes-plain s word h plain = rw (no_hyphens word plain, no_long word plain
 pub walked-plain : (rules : List Rule) (h : Held) (position : ℕ) (word : Text) → starts_with_minus word ≡ false
     → walked rules [] (between h position) word ≡ to_positional rules (arg_by_index rules position) word (between h position) h
 unfolding walked
-walked-plain rules h position word plain = ap (λ (met : Held × Step). after_step rules word (between h position) met.0 met.1) (word_met-plain rules position word h plain)
+walked-plain rules h position word plain = ap (λ (met : Held × Step). after_step rules word (between h position) met.0 met.1)
+    (word_met-plain rules position word h plain)
 
 pub turn_passes-plain : (s : Shape) (h : Held) (position : ℕ) (word : Text) → starts_with_minus word ≡ false
     → turn_passes s [] (between h position) word ≡ option_map_or (λ a. positional_passes s.rules s.args_override_self a h) (arg_by_index s.rules position) false
 turn_passes-plain s h position word plain = rw (word_met-plain s.rules position word h plain, word_passes-plain s word h plain) refl
 
 pub turn_fault-plain : (s : Shape) (h : Held) (position : ℕ) (word : Text) → starts_with_minus word ≡ false
-    → turn_fault s [] (between h position) word ≡ option_map_or (λ a. positional_fault s.rules s.args_override_self a h) (arg_by_index s.rules position) (stray_fault s)
+    → turn_fault s [] (between h position) word ≡ option_map_or (λ a. positional_fault s.rules s.args_override_self a h)
+    (arg_by_index s.rules position) (stray_fault s)
 turn_fault-plain s h position word plain = rw (no_hyphens word plain, no_long word plain, no_short word plain) refl
 
 -- the command of three words, as it is built
@@ -103,18 +107,22 @@ passes : (h : Held) (position : ℕ) (word : Text) (rest : List Text) (next : Wa
 unfolding walk_fault
 passes h position word rest next no_fault is = ap₂ (λ kinds w. or_else kinds (walk_fault shape [] w rest)) no_fault is
 
-passes_1 : (a : Text) (rest : List Text) → starts_with_minus a ≡ false → walk_fault shape [] (between nothing_held 1) (a ∷ rest) ≡ walk_fault shape [] (between (held_1 a) 2) rest
+passes_1 : (a : Text) (rest : List Text) → starts_with_minus a ≡ false → walk_fault shape [] (between nothing_held 1) (a ∷ rest) ≡ walk_fault shape []
+    (between (held_1 a) 2) rest
 passes_1 a rest plain = passes nothing_held 1 a rest _ (turn_fault-plain shape nothing_held 1 a plain) (walk_1 a plain)
 
-passes_2 : (a b : Text) (rest : List Text) → starts_with_minus b ≡ false → walk_fault shape [] (between (held_1 a) 2) (b ∷ rest) ≡ walk_fault shape [] (between (held_2 a b) 3) rest
+passes_2 : (a b : Text) (rest : List Text) → starts_with_minus b ≡ false → walk_fault shape [] (between (held_1 a) 2) (b ∷ rest) ≡ walk_fault shape []
+    (between (held_2 a b) 3) rest
 passes_2 a b rest plain = passes (held_1 a) 2 b rest _ (turn_fault-plain shape (held_1 a) 2 b plain) (step_2 a b plain)
 
-passes_3 : (a b d : Text) (rest : List Text) → starts_with_minus d ≡ false → walk_fault shape [] (between (held_2 a b) 3) (d ∷ rest) ≡ walk_fault shape [] (between (held_3 a b d) 4) rest
+passes_3 : (a b d : Text) (rest : List Text) → starts_with_minus d ≡ false → walk_fault shape [] (between (held_2 a b) 3) (d ∷ rest) ≡ walk_fault
+    shape [] (between (held_3 a b d) 4) rest
 passes_3 a b d rest plain = passes (held_2 a b) 3 d rest _ (turn_fault-plain shape (held_2 a b) 3 d plain) (step_3 a b d plain)
 
 strays : (a b d e : Text) (rest : List Text) → starts_with_minus e ≡ false → walk_fault shape [] (between (held_3 a b d) 4) (e ∷ rest) ≡ UnknownArgument ∷ []
 unfolding walk_fault
-strays a b d e rest plain = ap (λ kinds. or_else kinds (walk_fault shape [] (walked shape.rules [] (between (held_3 a b d) 4) e) rest)) (turn_fault-plain shape (held_3 a b d) 4 e plain)
+strays a b d e rest plain = ap (λ kinds. or_else kinds (walk_fault shape [] (walked shape.rules [] (between (held_3 a b d) 4) e) rest))
+    (turn_fault-plain shape (held_3 a b d) 4 e plain)
 
 -- the faults of the whole parse
 fault_of-0 : fault_of three_words [] ≡ []
@@ -129,12 +137,14 @@ fault_of-2 : (a b : Text) → starts_with_minus a ≡ false → starts_with_minu
 unfolding clap_on_literals
 fault_of-2 a b plain_a plain_b = rw (passes_1 a (b ∷ []) plain_a ∙ passes_2 a b [] plain_b, walk_2 a b plain_a plain_b) refl
 
-fault_of-3 : (a b d : Text) → starts_with_minus a ≡ false → starts_with_minus b ≡ false → starts_with_minus d ≡ false → fault_of three_words (a ∷ b ∷ d ∷ []) ≡ []
+fault_of-3 : (a b d : Text) → starts_with_minus a ≡ false → starts_with_minus b ≡ false → starts_with_minus d ≡ false →
+    fault_of three_words (a ∷ b ∷ d ∷ []) ≡ []
 unfolding clap_on_literals
 fault_of-3 a b d plain_a plain_b plain_d =
     rw (passes_1 a (b ∷ d ∷ []) plain_a ∙ passes_2 a b (d ∷ []) plain_b ∙ passes_3 a b d [] plain_d, walk_3 a b d plain_a plain_b plain_d) refl
 
-fault_of-many : (a b d e : Text) (rest : List Text) → starts_with_minus a ≡ false → starts_with_minus b ≡ false → starts_with_minus d ≡ false → starts_with_minus e ≡ false
+fault_of-many : (a b d e : Text) (rest : List Text) → starts_with_minus a ≡ false → starts_with_minus b ≡ false → starts_with_minus d ≡ false →
+    starts_with_minus e ≡ false
     → fault_of three_words (a ∷ b ∷ d ∷ e ∷ rest) ≡ UnknownArgument ∷ []
 fault_of-many a b d e rest plain_a plain_b plain_d plain_e =
     rw (passes_1 a (b ∷ d ∷ e ∷ rest) plain_a ∙ passes_2 a b (d ∷ e ∷ rest) plain_b ∙ passes_3 a b d (e ∷ rest) plain_d ∙ strays a b d e rest plain_e) refl
@@ -152,7 +162,8 @@ neither false q e = (refl, e)
 neither true q e = cc
 
 -- where the command takes the words, its matches ask for what the words ask for
-pub asked-taken : (words : List Text) → list_any starts_with_minus words ≡ false → fault_of three_words words ≡ [] → mode_by_rows (matches_of three_words words) ≡ asked words
+pub asked-taken : (words : List Text) → list_any starts_with_minus words ≡ false → fault_of three_words words ≡ [] →
+    mode_by_rows (matches_of three_words words) ≡ asked words
 asked-taken [] plain taken = refl
 asked-taken (a ∷ []) plain taken =
     let p = neither _ _ plain in
@@ -175,7 +186,8 @@ asked-taken (a ∷ b ∷ d ∷ e ∷ rest) plain taken =
     cc
 
 -- where it refuses them, they ask for nothing
-pub asked-refused : (words : List Text) (kind : ErrorKind) → list_any starts_with_minus words ≡ false → IsAmong kind (fault_of three_words words) → asked words ≡ None
+pub asked-refused : (words : List Text) (kind : ErrorKind) → list_any starts_with_minus words ≡ false → IsAmong kind (fault_of three_words words) →
+    asked words ≡ None
 asked-refused [] kind plain among = absurd (rw fault_of-0 at among)
 asked-refused (a ∷ []) kind plain among =
     let p = neither _ _ plain in
@@ -194,11 +206,17 @@ asked-refused (a ∷ b ∷ d ∷ e ∷ rest) kind plain among = refl
 -- a parse that succeeds, by the values of its matches
 pub asked-matches : (app : App) (words : List Text) (matches : ArgMatches) → app ≡ three_words → list_any starts_with_minus words ≡ false
     → (is_simple_and_free app ≡ true → fault_of app words ≡ []) → HasMatchesOf app words matches
-    → by_place (first_value (found_of matches) (codes "mode")) (first_value (found_of matches) (codes "seed")) (first_value (found_of matches) (codes "count")) ≡ asked words
+    → by_place (first_value (found_of matches) (codes "mode")) (first_value (found_of matches) (codes "seed"))
+    (first_value (found_of matches) (codes "count")) ≡ asked words
 asked-matches app words matches is plain kinds has =
     let rows : rows_of (found_of matches) ≡ matches_of three_words words = (has (ap is_simple is)).0 ∙ ap (λ a. matches_of a words) is in
     let taken : fault_of three_words words ≡ [] = ap (λ a. fault_of a words) (sym is) ∙ kinds (ap is_simple_and_free is) in
-    rw (first_value-rows (found_of matches) (codes "mode"), first_value-rows (found_of matches) (codes "seed"), first_value-rows (found_of matches) (codes "count"))
+    rw (
+      first_value-rows (found_of matches) (codes "mode"),
+      first_value-rows (found_of matches) (codes "seed"),
+      first_value-rows (found_of matches)
+          (codes "count"),
+    )
     (ap mode_by_rows rows ∙ asked-taken words plain taken)
 
 -- a parse that fails, though not by memory

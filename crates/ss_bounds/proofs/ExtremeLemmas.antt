@@ -11,7 +11,8 @@ use Rattle.ss_bounds.specs.Split.{SplitFigures}
 use Rattle.ss_bounds.specs.Extremes.{can_hold, must_hold, chosen, min_of, max_of, min_interval, max_interval}
 use Rattle.ss_bounds.specs.Either.{either, choice_in, lesser, greater, least_in, greatest_in, extreme_of}
 use Rattle.ss_bounds.specs.Truth.{AllBetween, MayLieThere, MayAllLieThere, windows_of, values_of_all, Holds}
-use Rattle.ss_bounds.proofs.ChoiceLemmas.{IsChoice, IsChoice-min, IsChoice-max, AtMost, AtLeast, IsBetter, IsBetter-either, IsBetter-choice_of, choice_of, choice_of-flat_map, choice_in-cons}
+use Rattle.ss_bounds.proofs.ChoiceLemmas.{IsChoice, IsChoice-min, IsChoice-max, AtMost, AtLeast, IsBetter, IsBetter-either, IsBetter-choice_of}
+use Rattle.ss_bounds.proofs.ChoiceLemmas.{choice_of, choice_of-flat_map, choice_in-cons}
 use Rattle.ss_bounds.proofs.EitherLemmas.{min_table-found, max_table-found}
 
 -- one of the values of a window that passes a test
@@ -35,8 +36,13 @@ chosen-between : (m M v : ℤ) (vs : List ℤ) → AllBetween m M (v ∷ vs)
     → (m ≤ℤ chosen int_min v vs) × (chosen int_min v vs ≤ℤ M) × (m ≤ℤ chosen int_max v vs) × (chosen int_max v vs ≤ℤ M)
 chosen-between m M v [] between = (between.0, between.1, between.0, between.1)
 chosen-between m M v (w ∷ ws) between =
-    let rest = chosen-between m M w ws between.2 in
-    (omega (arith, ints, clamps, rest, between), omega (arith, ints, clamps, rest, between), omega (arith, ints, clamps, rest, between), omega (arith, ints, clamps, rest, between))
+    let rest = chosen-between m M w ws between.2 in (
+      omega (arith, ints, clamps, rest, between),
+      omega (arith, ints, clamps, rest, between),
+      omega (arith, ints, clamps, rest, between),
+      omega
+          (arith, ints, clamps, rest, between),
+    )
 
 least-greatest : (v : ℤ) (vs : List ℤ) → chosen int_min v vs ≤ℤ chosen int_max v vs
 least-greatest v [] = omega (arith, ints)
@@ -171,7 +177,8 @@ module _ (ws : List (SplitFigures × List ℤ)) (may : MayAllLieThere ws) where
   min_interval-Holds exact =
       let all = values_of_all ws in
       subst (λ z. Holds z (lesser exact (least_in all))) (sym (min_table-found exact can must))
-      (holds-min (lesser exact (least_in all)) (lesser exact (least_in (map min_of can))) (lesser exact (least_in (map max_of must))) (greatest_in (map max_of can))
+      (holds-min (lesser exact (least_in all)) (lesser exact (least_in (map min_of can))) (lesser exact (least_in (map max_of must)))
+      (greatest_in (map max_of can))
       (choice-better IsChoice-min (λ a. omega (arith, ints)) exact _ _ least-low)
       (choice-better IsChoice-min (λ a. omega (arith, ints)) exact _ _ least-sure)
       (unless-sure int_min exact (least_in (map max_of must)) (least_in all) (λ v. MatchOption (greatest_in (map max_of can)) ⊥ (λ w. v ≤ℤ w))
@@ -181,7 +188,8 @@ module _ (ws : List (SplitFigures × List ℤ)) (may : MayAllLieThere ws) where
   max_interval-Holds exact =
       let all = values_of_all ws in
       subst (λ z. Holds z (greater exact (greatest_in all))) (sym (max_table-found exact can must))
-      (holds-max (greater exact (greatest_in all)) (greater exact (greatest_in (map max_of can))) (greater exact (greatest_in (map min_of must))) (least_in (map min_of can))
+      (holds-max (greater exact (greatest_in all)) (greater exact (greatest_in (map max_of can))) (greater exact (greatest_in (map min_of must)))
+      (least_in (map min_of can))
       (choice-better IsChoice-max (λ a. omega (arith, ints)) exact _ _ greatest-high)
       (choice-better IsChoice-max (λ a. omega (arith, ints)) exact _ _ greatest-sure)
       (unless-sure int_max exact (greatest_in (map min_of must)) (greatest_in all) (λ v. MatchOption (least_in (map min_of can)) ⊥ (λ w. w ≤ℤ v))

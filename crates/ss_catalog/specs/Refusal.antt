@@ -1,7 +1,8 @@
 -- The refusals, in the order in which they are tested.
 use Rattle.std.specs.Prelude.{ℕ, List, codes}
 use Rattle.ss_catalog.specs.declared.refusal.Refusal.{Refusal}
-use Rattle.ss_catalog.specs.declared.refusal.Refusal.TheVariants.{Line, Syntax, Number, Name, Param, Exists, Streams, Unknown, Open, NotOpen, Time, Range, StreamFull, StoreFull}
+use Rattle.ss_catalog.specs.declared.refusal.Refusal.TheVariants.{Line, Syntax, Number, Name, Param, Exists, Streams, Unknown, Open, NotOpen, Time}
+use Rattle.ss_catalog.specs.declared.refusal.Refusal.TheVariants.{Range, StreamFull, StoreFull}
 
 -- the number of a refusal: its place in the order, from 1
 abbrev pub refusal_number : Refusal → ℕ

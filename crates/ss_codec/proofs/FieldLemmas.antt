@@ -1,7 +1,8 @@
 -- Fields that stand one after the other are each where they were written.
 use Rattle.std.specs.Prelude.{◌≡◌, ℕ, ◌+◌, ◌-◌, ◌≤◌, List, [], ◌∷◌, ◌++◌, length, take, drop, slice_index}
 use Rattle.std.proofs.Common.{arith, refl, sym, ap, ◌∙◌}
-use Rattle.std.proofs.lemmas.List.{append_assoc, length-append, length-drop, length-take-le, take_at, take-append-le, take-take, drop_at, drop-append-le, drop-take, get_or-take, get_or-drop}
+use Rattle.std.proofs.lemmas.List.{append_assoc, length-append, length-drop, length-take-le, take_at, take-append-le, take-take, drop_at}
+use Rattle.std.proofs.lemmas.List.{drop-append-le, drop-take, get_or-take, get_or-drop}
 use Rattle.ss_codec.specs.Fields.{Field, with_field, with_fields}
 
 -- the n bytes from a place

@@ -1,5 +1,6 @@
 -- Each valid record is what its spelling is read as.
-use Rattle.std.specs.Prelude.{◌≡◌, ◌↔◌, ℕ, ◌+◌, ◌-◌, ◌^◌, ◌<◌, ◌≤◌, ℤ, pos, negsuc, Bool, true, false, cond, IsTrue, FitsSigned, List, [], ◌∷◌, length, replicate, slice_index, take, drop, Option, Some, None, IsSome, IfSome, IfNone, MatchOption}
+use Rattle.std.specs.Prelude.{◌≡◌, ◌↔◌, ℕ, ◌+◌, ◌-◌, ◌^◌, ◌<◌, ◌≤◌, ℤ, pos, negsuc, Bool, true, false, cond, IsTrue, FitsSigned, List, [], ◌∷◌}
+use Rattle.std.specs.Prelude.{length, replicate, slice_index, take, drop, Option, Some, None, IsSome, IfSome, IfNone, MatchOption}
 use Rattle.std.specs.Int.{cast_unsigned, w64, w128}
 use Rattle.std.specs.Str.{bytes_eq}
 use Rattle.std.proofs.Common.{arith, refl, sym, ap, ◌∙◌, lit≤, lit<}

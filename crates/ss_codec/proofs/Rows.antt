@@ -337,7 +337,8 @@ spelling-last_value_greatest : spelling (Value (2 ^ 32 - 1) (2 ^ 32 - 1) (2 ^ 32
 unfolding spelling Fields.with_field Numbers.number_bytes
 spelling-last_value_greatest = refl
 
-decoded-last_value_greatest : decoded (last_value_bytes 0 (127 ∷ replicate 7 255)) ≡ Some (Value (2 ^ 32 - 1) (2 ^ 32 - 1) (2 ^ 32 - 1) LAST_TIME (pos (2 ^ 63 - 1)))
+decoded-last_value_greatest : decoded (last_value_bytes 0 (127 ∷ replicate 7 255)) ≡ Some
+    (Value (2 ^ 32 - 1) (2 ^ 32 - 1) (2 ^ 32 - 1) LAST_TIME (pos (2 ^ 63 - 1)))
 unfolding decoded record_in value_in is_valid spelling Fields.with_field Numbers.number_at Numbers.number_bytes
 decoded-last_value_greatest = refl
 
@@ -345,7 +346,8 @@ spelling-last_value_least : spelling (Value (2 ^ 32 - 1) (2 ^ 32 - 1) (2 ^ 32 - 
 unfolding spelling Fields.with_field Numbers.number_bytes
 spelling-last_value_least = refl
 
-decoded-last_value_least : decoded (last_value_bytes 0 (128 ∷ replicate 7 0)) ≡ Some (Value (2 ^ 32 - 1) (2 ^ 32 - 1) (2 ^ 32 - 1) LAST_TIME (negsuc (2 ^ 63 - 1)))
+decoded-last_value_least : decoded (last_value_bytes 0 (128 ∷ replicate 7 0)) ≡ Some
+    (Value (2 ^ 32 - 1) (2 ^ 32 - 1) (2 ^ 32 - 1) LAST_TIME (negsuc (2 ^ 63 - 1)))
 unfolding decoded record_in value_in is_valid spelling Fields.with_field Numbers.number_at Numbers.number_bytes
 decoded-last_value_least = refl
 

@@ -17,6 +17,7 @@ unfolding meaning
 meaning-comment line short comment = rw (le-ltb LONGEST_LINE (length line) short, comment) refl
 
 -- any other line means what its words do
-pub meaning-words : (line : List ℕ) (ws : List (List ℕ)) → length line ≤ LONGEST_LINE → is_comment line ≡ false → words line ≡ ws → meaning line ≡ meaning_of_words ws
+pub meaning-words : (line : List ℕ) (ws : List (List ℕ)) → length line ≤ LONGEST_LINE → is_comment line ≡ false → words line ≡ ws →
+    meaning line ≡ meaning_of_words ws
 unfolding meaning
 meaning-words line ws short plain same = rw (le-ltb LONGEST_LINE (length line) short, plain, same) refl

@@ -89,11 +89,14 @@ NoEnd-without_return line none =
 NoEnd-lines : (parts : List (List ℕ)) → All NoEnd parts → All NoEnd (map without_return parts)
 NoEnd-lines [] none = All-nil NoEnd
 NoEnd-lines (part ∷ parts) none =
-    All-cons NoEnd (without_return part) (map without_return parts) (NoEnd-without_return part (All-head NoEnd part parts none)) (NoEnd-lines parts (All-tail NoEnd part parts none))
+    All-cons NoEnd (without_return part) (map without_return parts) (NoEnd-without_return part (All-head NoEnd part parts none))
+    (NoEnd-lines parts (All-tail NoEnd part parts none))
 
 -- no line has a line end
 pub lines-no_end : (xs : List ℕ) → All (λ line. position_or_len is_line_end line ≡ length line) (lines xs)
 unfolding ended_lines unended
 lines-no_end xs =
     let parts = NoEnd-slice_split xs in
-    All-append NoEnd (map without_return (ended_lines xs)) (map without_return (unless_empty (unended xs))) (NoEnd-lines (ended_lines xs) (NoEnd-all_but_last _ parts)) (NoEnd-lines (unless_empty (unended xs)) (NoEnd-unless_empty (unended xs) (NoEnd-last_of _ parts)))
+    All-append NoEnd (map without_return (ended_lines xs)) (map without_return (unless_empty (unended xs)))
+    (NoEnd-lines (ended_lines xs) (NoEnd-all_but_last _ parts))
+    (NoEnd-lines (unless_empty (unended xs)) (NoEnd-unless_empty (unended xs) (NoEnd-last_of _ parts)))

@@ -1,5 +1,6 @@
 -- How the lines of an input grow with it.
-use Rattle.std.proofs.Common.{◌≡◌, ℕ, suc, ◌+◌, ◌-◌, ◌<◌, ◌≤◌, ◌==◌, false, List, [], ◌∷◌, ◌++◌, length, take, arith, refl, ap, sym, ◌∙◌, ⊎_elim, append_assoc, nat_le, map, slice_index, Some, None}
+use Rattle.std.proofs.Common.{◌≡◌, ℕ, suc, ◌+◌, ◌-◌, ◌<◌, ◌≤◌, ◌==◌, false, List, [], ◌∷◌, ◌++◌, length, take, arith, refl, ap, sym, ◌∙◌, ⊎_elim}
+use Rattle.std.proofs.Common.{append_assoc, nat_le, map, slice_index, Some, None}
 use Rattle.std.proofs.lemmas.Bool.{cases_Bool, cond-false, cond-true, eqb-true}
 use Rattle.std.proofs.lemmas.Bool.Decides.{nat_tests}
 use Rattle.std.proofs.lemmas.List.{append-nil, get_or-take, length-append, length-take-le, map-append, take_all, take_more}
@@ -53,8 +54,10 @@ slice_split-append (x ∷ xs) ys =
     let parts = slice_split is_line_end xs in
     let more = slice_split is_line_end ys in
     ⊎_elim
-    (λ yes. slice_split-cons_yes is_line_end x (xs ++ ys) yes ∙ ap (λ p. [] ∷ p) rest ∙ cons-joined parts more (some_parts xs) ∙ ap (λ p. joined p more) (sym (slice_split-cons_yes is_line_end x xs yes)))
-    (λ no. slice_split-cons_no is_line_end x (xs ++ ys) no ∙ ap (onto_first x) rest ∙ onto_first-joined x parts more (some_parts xs) ∙ ap (λ p. joined p more) (sym (slice_split-cons_no is_line_end x xs no)))
+    (λ yes. slice_split-cons_yes is_line_end x (xs ++ ys) yes ∙ ap (λ p. [] ∷ p) rest ∙ cons-joined parts more (some_parts xs) ∙
+    ap (λ p. joined p more) (sym (slice_split-cons_yes is_line_end x xs yes)))
+    (λ no. slice_split-cons_no is_line_end x (xs ++ ys) no ∙ ap (onto_first x) rest ∙ onto_first-joined x parts more (some_parts xs) ∙
+    ap (λ p. joined p more) (sym (slice_split-cons_no is_line_end x xs no)))
     (cases_Bool (is_line_end x))
 
 -- the last of joined lists
@@ -73,16 +76,19 @@ no_line_end : (ys : List ℕ) → position_or_len is_line_end ys ≡ length ys �
 no_line_end ys none = All-from_get_or (λ y. is_line_end y ≡ false) ys 0 (λ k inside. fails_before_first is_line_end ys k 0 (omega arith))
 
 -- bytes with no line end go on with the last part
-slice_split-no_end : (xs ys : List ℕ) → position_or_len is_line_end ys ≡ length ys → slice_split is_line_end (xs ++ ys) ≡ ended_lines xs ++ (unended xs ++ ys) ∷ []
+slice_split-no_end : (xs ys : List ℕ) → position_or_len is_line_end ys ≡ length ys →
+    slice_split is_line_end (xs ++ ys) ≡ ended_lines xs ++ (unended xs ++ ys) ∷ []
 unfolding ended_lines unended
 slice_split-no_end xs ys none =
     slice_split-append xs ys ∙ ap (joined (slice_split is_line_end xs)) (slice_split_none is_line_end ys (no_line_end ys none))
 
 -- a line end after them ends that part, and begins one more
-slice_split-line_end : (xs ys : List ℕ) → position_or_len is_line_end ys ≡ length ys → slice_split is_line_end (xs ++ ys ++ LINE_END ∷ []) ≡ ended_lines xs ++ (unended xs ++ ys) ∷ [] ∷ []
+slice_split-line_end : (xs ys : List ℕ) → position_or_len is_line_end ys ≡ length ys →
+    slice_split is_line_end (xs ++ ys ++ LINE_END ∷ []) ≡ ended_lines xs ++ (unended xs ++ ys) ∷ [] ∷ []
 unfolding ended_lines unended
 slice_split-line_end xs ys none =
-    ap (slice_split is_line_end) (append_assoc xs ys (LINE_END ∷ [])) ∙ slice_split-append xs (ys ++ LINE_END ∷ []) ∙ ap (joined (slice_split is_line_end xs)) (slice_split_at is_line_end ys LINE_END [] (no_line_end ys none) refl)
+    ap (slice_split is_line_end) (append_assoc xs ys (LINE_END ∷ [])) ∙ slice_split-append xs (ys ++ LINE_END ∷ []) ∙
+    ap (joined (slice_split is_line_end xs)) (slice_split_at is_line_end ys LINE_END [] (no_line_end ys none) refl)
 
 -- bytes with no line end end no line
 pub ended_lines-no_end : (xs ys : List ℕ) → position_or_len is_line_end ys ≡ length ys → ended_lines (xs ++ ys) ≡ ended_lines xs
@@ -96,7 +102,8 @@ unended-no_end xs ys none =
     ap last_of (slice_split-no_end xs ys none) ∙ last_of-append (ended_lines xs) (unended xs ++ ys) []
 
 -- a line end after such bytes ends one line
-pub ended_lines-line_end : (xs ys : List ℕ) → position_or_len is_line_end ys ≡ length ys → ended_lines (xs ++ ys ++ LINE_END ∷ []) ≡ ended_lines xs ++ (unended xs ++ ys) ∷ []
+pub ended_lines-line_end : (xs ys : List ℕ) → position_or_len is_line_end ys ≡ length ys →
+    ended_lines (xs ++ ys ++ LINE_END ∷ []) ≡ ended_lines xs ++ (unended xs ++ ys) ∷ []
 unfolding ended_lines
 ended_lines-line_end xs ys none =
     ap all_but_last (slice_split-line_end xs ys none) ∙ all_but_last-append (ended_lines xs) (unended xs ++ ys) ([] ∷ [])
@@ -107,9 +114,11 @@ unended-line_end xs ys none =
     ap last_of (slice_split-line_end xs ys none) ∙ last_of-append (ended_lines xs) (unended xs ++ ys) ([] ∷ [])
 
 -- a piece up to and with its first line end
-pub piece-at_line_end : (piece : List ℕ) → position_or_len is_line_end piece < length piece → take (position_or_len is_line_end piece + 1) piece ≡ before_first is_line_end piece ++ LINE_END ∷ []
+pub piece-at_line_end : (piece : List ℕ) → position_or_len is_line_end piece < length piece →
+    take (position_or_len is_line_end piece + 1) piece ≡ before_first is_line_end piece ++ LINE_END ∷ []
 piece-at_line_end piece inside =
-    take_more piece (position_or_len is_line_end piece) 0 inside ∙ ap (λ b. before_first is_line_end piece ++ b ∷ []) (eqb-true _ _ (passes_at_first is_line_end piece 0 inside))
+    take_more piece (position_or_len is_line_end piece) 0 inside ∙
+    ap (λ b. before_first is_line_end piece ++ b ∷ []) (eqb-true _ _ (passes_at_first is_line_end piece 0 inside))
 
 -- what stands before the first line end has none
 pub before_first-no_end : (piece : List ℕ) → position_or_len is_line_end (before_first is_line_end piece) ≡ length (before_first is_line_end piece)
@@ -145,7 +154,9 @@ pub ended_line-kept : (line : List ℕ) → ended_line (kept line) ≡ unless_lo
 ended_line-kept line =
     ⊎_elim
     (λ yes. rw yes refl)
-    (λ no. let long = length-without_return line in let past : nat_le (length (without_return line)) 256 ≡ false = grind (arith, nat_tests) in let none : unless_long (without_return line) ≡ None = cond-false _ (Some (without_return line)) None past in let gone : kept line ≡ None = cond-false _ (Some line) None no in ap ended_line gone ∙ sym none)
+    (λ no. let long = length-without_return line in let past : nat_le (length (without_return line)) 256 ≡ false = grind (arith, nat_tests) in
+    let none : unless_long (without_return line) ≡ None = cond-false _ (Some (without_return line)) None past in let gone : kept line ≡ None =
+    cond-false _ (Some line) None no in ap ended_line gone ∙ sym none)
     (cases_Bool (nat_le (length line) 257))
 
 -- a line of which nothing is kept yet has no bytes
@@ -157,11 +168,13 @@ nil-from_kept line none =
     (cases_Bool (nat_le (length line) 257))
 
 -- each ended line has its line end: a part more, or a byte more, in one byte more
-cons-length : (parts : List (List ℕ)) (n : ℕ) → length (all_but_last parts) + length (last_of parts) ≤ n → length (all_but_last ([] ∷ parts)) + length (last_of ([] ∷ parts)) ≤ suc n
+cons-length : (parts : List (List ℕ)) (n : ℕ) → length (all_but_last parts) + length (last_of parts) ≤ n →
+    length (all_but_last ([] ∷ parts)) + length (last_of ([] ∷ parts)) ≤ suc n
 cons-length [] n short = omega arith
 cons-length (part ∷ parts) n short = omega arith
 
-onto_first-length : (x : ℕ) (parts : List (List ℕ)) (n : ℕ) → length (all_but_last parts) + length (last_of parts) ≤ n → length (all_but_last (onto_first x parts)) + length (last_of (onto_first x parts)) ≤ suc n
+onto_first-length : (x : ℕ) (parts : List (List ℕ)) (n : ℕ) → length (all_but_last parts) + length (last_of parts) ≤ n →
+    length (all_but_last (onto_first x parts)) + length (last_of (onto_first x parts)) ≤ suc n
 onto_first-length x [] n short = omega arith
 onto_first-length x (part ∷ []) n short = omega arith
 onto_first-length x (part ∷ p ∷ ps) n short = omega arith
@@ -180,19 +193,26 @@ length-ended_lines (x ∷ xs) =
 pub ended_lines-append : (xs ys : List ℕ) → (more : List (List ℕ)) × (ended_lines (xs ++ ys) ≡ ended_lines xs ++ more)
 unfolding ended_lines unended
 ended_lines-append xs ys =
-    let some = some_parts ys in
-    (all_but_last ((unended xs ++ some.0) ∷ some.1), ap all_but_last (slice_split-append xs ys ∙ ap (joined (slice_split is_line_end xs)) some.2) ∙ all_but_last-append (ended_lines xs) (unended xs ++ some.0) some.1)
+    let some = some_parts ys in (
+      all_but_last ((unended xs ++ some.0) ∷ some.1),
+      ap all_but_last (slice_split-append xs ys ∙ ap (joined (slice_split is_line_end xs)) some.2) ∙
+          all_but_last-append (ended_lines xs) (unended xs ++ some.0) some.1,
+    )
 
 pub lines-front : (xs ys : List ℕ) → (more : List (List ℕ)) × (lines (xs ++ ys) ≡ lines_so_far xs ++ more)
 lines-front xs ys =
     let ended = ended_lines-append xs ys in
-    let last = map without_return (unless_empty (unended (xs ++ ys))) in
-    (map without_return ended.0 ++ last, ap (λ ls. map without_return ls ++ last) ended.1 ∙ ap (λ ls. ls ++ last) (map-append without_return (ended_lines xs) ended.0) ∙ append_assoc (lines_so_far xs) (map without_return ended.0) last)
+    let last = map without_return (unless_empty (unended (xs ++ ys))) in (
+      map without_return ended.0 ++ last,
+      ap (λ ls. map without_return ls ++ last) ended.1 ∙
+          ap (λ ls. ls ++ last) (map-append without_return (ended_lines xs) ended.0) ∙ append_assoc (lines_so_far xs) (map without_return ended.0) last,
+    )
 
 -- the same of the lines without their carriage returns
 pub lines_so_far-no_end : (xs ys : List ℕ) → position_or_len is_line_end ys ≡ length ys → lines_so_far (xs ++ ys) ≡ lines_so_far xs
 lines_so_far-no_end xs ys none = ap (map without_return) (ended_lines-no_end xs ys none)
 
-pub lines_so_far-line_end : (xs ys : List ℕ) → position_or_len is_line_end ys ≡ length ys → lines_so_far (xs ++ ys ++ LINE_END ∷ []) ≡ lines_so_far xs ++ without_return (unended xs ++ ys) ∷ []
+pub lines_so_far-line_end : (xs ys : List ℕ) → position_or_len is_line_end ys ≡ length ys →
+    lines_so_far (xs ++ ys ++ LINE_END ∷ []) ≡ lines_so_far xs ++ without_return (unended xs ++ ys) ∷ []
 lines_so_far-line_end xs ys none =
     ap (map without_return) (ended_lines-line_end xs ys none) ∙ map-append without_return (ended_lines xs) ((unended xs ++ ys) ∷ [])

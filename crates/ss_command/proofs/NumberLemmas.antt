@@ -26,7 +26,8 @@ or_number-past most n word read past =
     (cases_Bool (is_number word))
 
 -- no number of 64 bits
-pub or_number-Err : (most : ℕ) (word : List ℕ) (e : NumberError) → unsigned_of word ≡ Err e → most < 2 ^ 64 → or_number (number_up_to most word) ≡ Err refusals.Number
+pub or_number-Err : (most : ℕ) (word : List ℕ) (e : NumberError) → unsigned_of word ≡ Err e → most < 2 ^ 64 →
+    or_number (number_up_to most word) ≡ Err refusals.Number
 unfolding unsigned_of number_up_to
 or_number-Err most word e read small =
     ⊎_elim

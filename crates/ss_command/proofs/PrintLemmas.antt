@@ -1,5 +1,6 @@
 -- A printed command means that command.
-use Rattle.std.proofs.Common.{◌≡◌, ℕ, suc, ◌+◌, ◌-◌, ◌^◌, ◌<◌, ◌≤◌, true, false, Bool, List, [], ◌∷◌, ◌++◌, length, get_or, Ok, Some, arith, refl, ap, sym, ◌∙◌, codes, append_assoc, nat_lt, ◌&&◌, not}
+use Rattle.std.proofs.Common.{◌≡◌, ℕ, suc, ◌+◌, ◌-◌, ◌^◌, ◌<◌, ◌≤◌, true, false, Bool, List, [], ◌∷◌, ◌++◌, length, get_or, Ok, Some, arith, refl, ap}
+use Rattle.std.proofs.Common.{sym, ◌∙◌, codes, append_assoc, nat_lt, ◌&&◌, not}
 use Rattle.std.proofs.lemmas.Bool.Decides.{nat_tests}
 use Rattle.std.proofs.lemmas.Fmt.{decimal_is_IsNumeral}
 use Rattle.std.proofs.lemmas.List.{append-nil, get_or_append_left}
@@ -70,7 +71,8 @@ IsWord-decimal n small =
     let numeral = (decimal_is_IsNumeral n small).0 in
     record {
       some = numeral.0;
-      plain = All-from_get_or (λ b. is_blank b ≡ false) (decimal n) 0 (λ k inside. let digit = digit_at (decimal n) k numeral.1 inside in digit-plain (get_or (decimal n) k 0) (omega arith) (omega arith));
+      plain = All-from_get_or (λ b. is_blank b ≡ false) (decimal n) 0 (λ k inside. let digit = digit_at (decimal n) k numeral.1 inside in
+          digit-plain (get_or (decimal n) k 0) (omega arith) (omega arith));
     }
 
 -- so is a value
@@ -90,7 +92,8 @@ IsWord-name name is =
     let all : list_all is_name_byte name ≡ true = grind (arith, nat_tests) in
     record {
       some = grind (arith, nat_tests);
-      plain = All-from_get_or (λ b. is_blank b ≡ false) name 0 (λ k inside. name_byte-plain (get_or name k 0) (AllPass-from_list_all is_name_byte name all k 0 inside));
+      plain = All-from_get_or (λ b. is_blank b ≡ false) name 0
+          (λ k inside. name_byte-plain (get_or name k 0) (AllPass-from_list_all is_name_byte name all k 0 inside));
     }
 
 -- what was printed reads back
@@ -107,7 +110,8 @@ name_of-name : (name : List ℕ) → is_name name ≡ true → name_of name ≡ 
 name_of-name name is = rw is refl
 
 -- a printed line means what its words do
-meaning-spaced : (first : List ℕ) (rest : List (List ℕ)) → IsWord first → AreWords rest → length (spaced first rest) ≤ 256 → is_comment first ≡ false → meaning (spaced first rest) ≡ meaning_of_words (first ∷ rest)
+meaning-spaced : (first : List ℕ) (rest : List (List ℕ)) → IsWord first → AreWords rest → length (spaced first rest) ≤ 256 →
+    is_comment first ≡ false → meaning (spaced first rest) ≡ meaning_of_words (first ∷ rest)
 meaning-spaced first rest is all short plain =
     meaning-words (spaced first rest) (first ∷ rest) short (rw (first-spaced rest first is.some) plain) (words-spaced first rest is all)
 
@@ -126,46 +130,81 @@ literal word is =
     let all : list_all (λ b. not (is_blank b)) word ≡ true = grind (arith, nat_tests) in
     record {
       some = grind (arith, nat_tests);
-      plain = All-from_get_or (λ b. is_blank b ≡ false) word 0 (λ k inside. false_from_not (is_blank (get_or word k 0)) (AllPass-from_list_all (λ b. not (is_blank b)) word all k 0 inside));
+      plain = All-from_get_or (λ b. is_blank b ≡ false) word 0
+          (λ k inside. false_from_not (is_blank (get_or word k 0)) (AllPass-from_list_all (λ b. not (is_blank b)) word all k 0 inside));
     }
 
-meaning-exp : (name : List ℕ) (b r s : ℕ) → is_name name ≡ true → b < 2 ^ 32 → r < 2 ^ 32 → s < 2 ^ 32 → meaning (spaced (codes "create") (name ∷ target_words (Exp b r s))) ≡ Ok (Some (commands.Do (Create name (Exp b r s))))
+meaning-exp : (name : List ℕ) (b r s : ℕ) → is_name name ≡ true → b < 2 ^ 32 → r < 2 ^ 32 → s < 2 ^ 32 →
+    meaning (spaced (codes "create") (name ∷ target_words (Exp b r s))) ≡ Ok (Some (commands.Do (Create name (Exp b r s))))
 meaning-exp name b r s is fits_b fits_r fits_s =
     let rest = name ∷ target_words (Exp b r s) in
-    let all : AreWords rest = (IsWord-name name is, (literal (codes "exp") refl, (IsWord-decimal b (omega arith), (IsWord-decimal r (omega arith), (IsWord-decimal s (omega arith), tt))))) in
-    let short : length (spaced (codes "create") rest) ≤ 256 = omega (arith, length-spaced rest (codes "create"), length-is_name name is, length-decimal_32 b fits_b, length-decimal_32 r fits_r, length-decimal_32 s fits_s) in
+    let all : AreWords rest = (
+      IsWord-name name is,
+      (literal (codes "exp") refl, (IsWord-decimal b (omega arith), (IsWord-decimal r (omega arith), (IsWord-decimal s (omega arith), tt)))),
+    ) in
+    let short : length (spaced (codes "create") rest) ≤ 256 =
+    omega (
+      arith,
+      length-spaced rest (codes "create"),
+      length-is_name name is,
+      length-decimal_32 b fits_b,
+      length-decimal_32 r fits_r,
+      length-decimal_32 s fits_s,
+    ) in
     meaning-spaced (codes "create") rest (literal (codes "create") refl) all short refl
     ∙ rw (parameter_of-decimal b fits_b, parameter_of-decimal r fits_r, parameter_of-decimal s fits_s, name_of-name name is) refl
 
-meaning-power : (name : List ℕ) (p q r s : ℕ) → is_name name ≡ true → p < 2 ^ 32 → q < 2 ^ 32 → r < 2 ^ 32 → s < 2 ^ 32 → meaning (spaced (codes "create") (name ∷ target_words (Power p q r s))) ≡ Ok (Some (commands.Do (Create name (Power p q r s))))
+meaning-power : (name : List ℕ) (p q r s : ℕ) → is_name name ≡ true → p < 2 ^ 32 → q < 2 ^ 32 → r < 2 ^ 32 → s < 2 ^ 32 →
+    meaning (spaced (codes "create") (name ∷ target_words (Power p q r s))) ≡ Ok (Some (commands.Do (Create name (Power p q r s))))
 meaning-power name p q r s is fits_p fits_q fits_r fits_s =
     let rest = name ∷ target_words (Power p q r s) in
-    let all : AreWords rest = (IsWord-name name is, (literal (codes "power") refl, (IsWord-decimal p (omega arith), (IsWord-decimal q (omega arith), (IsWord-decimal r (omega arith), (IsWord-decimal s (omega arith), tt)))))) in
-    let short : length (spaced (codes "create") rest) ≤ 256 = omega (arith, length-spaced rest (codes "create"), length-is_name name is, length-decimal_32 p fits_p, length-decimal_32 q fits_q, length-decimal_32 r fits_r, length-decimal_32 s fits_s) in
+    let all : AreWords rest = (
+      IsWord-name name is,
+      (
+        literal (codes "power") refl,
+        (IsWord-decimal p (omega arith), (IsWord-decimal q (omega arith), (IsWord-decimal r (omega arith), (IsWord-decimal s (omega arith), tt)))),
+      ),
+    ) in
+    let short : length (spaced (codes "create") rest) ≤ 256 =
+    omega (
+      arith,
+      length-spaced rest (codes "create"),
+      length-is_name name is,
+      length-decimal_32 p fits_p,
+      length-decimal_32 q fits_q,
+      length-decimal_32 r fits_r,
+      length-decimal_32 s fits_s,
+    ) in
     meaning-spaced (codes "create") rest (literal (codes "create") refl) all short refl
     ∙ rw (parameter_of-decimal p fits_p, parameter_of-decimal q fits_q, parameter_of-decimal r fits_r, parameter_of-decimal s fits_s, name_of-name name is) refl
 
-meaning-value : (name : List ℕ) (t : ℕ) (v : ℤ) → is_name name ≡ true → t ≤ LAST_TIME → FitsSigned w64 v → meaning (spaced (codes "append") (name ∷ decimal t ∷ signed_decimal v ∷ [])) ≡ Ok (Some (commands.Do (Value name t v)))
+meaning-value : (name : List ℕ) (t : ℕ) (v : ℤ) → is_name name ≡ true → t ≤ LAST_TIME → FitsSigned w64 v →
+    meaning (spaced (codes "append") (name ∷ decimal t ∷ signed_decimal v ∷ [])) ≡ Ok (Some (commands.Do (Value name t v)))
 meaning-value name t v is early fits =
     let rest = name ∷ decimal t ∷ signed_decimal v ∷ [] in
     let all : AreWords rest = (IsWord-name name is, (IsWord-decimal t (omega arith), (IsWord-signed v fits, tt))) in
-    let short : length (spaced (codes "append") rest) ≤ 256 = omega (arith, length-spaced rest (codes "append"), length-is_name name is, length-decimal_64 t (omega arith), length-signed_64 v fits) in
+    let short : length (spaced (codes "append") rest) ≤ 256 =
+    omega (arith, length-spaced rest (codes "append"), length-is_name name is, length-decimal_64 t (omega arith), length-signed_64 v fits) in
     meaning-spaced (codes "append") rest (literal (codes "append") refl) all short refl
     ∙ rw (time_of-decimal t early, value_of-signed v fits, name_of-name name is) refl
 
 -- a printed `landmark` means what its words do
-landmark-words : (name change : List ℕ) (t : ℕ) → is_name name ≡ true → IsWord change → length change ≤ 5 → t ≤ LAST_TIME → meaning (spaced (codes "landmark") (name ∷ change ∷ decimal t ∷ [])) ≡ meaning_of_words (codes "landmark" ∷ name ∷ change ∷ decimal t ∷ [])
+landmark-words : (name change : List ℕ) (t : ℕ) → is_name name ≡ true → IsWord change → length change ≤ 5 → t ≤ LAST_TIME →
+    meaning (spaced (codes "landmark") (name ∷ change ∷ decimal t ∷ [])) ≡ meaning_of_words (codes "landmark" ∷ name ∷ change ∷ decimal t ∷ [])
 landmark-words name change t is word small early =
     let rest = name ∷ change ∷ decimal t ∷ [] in
     let all : AreWords rest = (IsWord-name name is, (word, (IsWord-decimal t (omega arith), tt))) in
-    let short : length (spaced (codes "landmark") rest) ≤ 256 = omega (arith, length-spaced rest (codes "landmark"), length-is_name name is, small, length-decimal_64 t (omega arith)) in
+    let short : length (spaced (codes "landmark") rest) ≤ 256 =
+    omega (arith, length-spaced rest (codes "landmark"), length-is_name name is, small, length-decimal_64 t (omega arith)) in
     meaning-spaced (codes "landmark") rest (literal (codes "landmark") refl) all short refl
 
-meaning-open : (name : List ℕ) (t : ℕ) → is_name name ≡ true → t ≤ LAST_TIME → meaning (spaced (codes "landmark") (name ∷ codes "open" ∷ decimal t ∷ [])) ≡ Ok (Some (commands.Do (Open name t)))
+meaning-open : (name : List ℕ) (t : ℕ) → is_name name ≡ true → t ≤ LAST_TIME →
+    meaning (spaced (codes "landmark") (name ∷ codes "open" ∷ decimal t ∷ [])) ≡ Ok (Some (commands.Do (Open name t)))
 meaning-open name t is early =
     landmark-words name (codes "open") t is (literal (codes "open") refl) (omega arith) early ∙ rw (time_of-decimal t early, name_of-name name is) refl
 
-meaning-close : (name : List ℕ) (t : ℕ) → is_name name ≡ true → t ≤ LAST_TIME → meaning (spaced (codes "landmark") (name ∷ codes "close" ∷ decimal t ∷ [])) ≡ Ok (Some (commands.Do (Close name t)))
+meaning-close : (name : List ℕ) (t : ℕ) → is_name name ≡ true → t ≤ LAST_TIME →
+    meaning (spaced (codes "landmark") (name ∷ codes "close" ∷ decimal t ∷ [])) ≡ Ok (Some (commands.Do (Close name t)))
 meaning-close name t is early =
     landmark-words name (codes "close") t is (literal (codes "close") refl) (omega arith) early ∙ rw (time_of-decimal t early, name_of-name name is) refl
 
@@ -188,11 +227,21 @@ kind_of-name kinds.Sum = refl
 kind_of-name kinds.Min = refl
 kind_of-name kinds.Max = refl
 
-meaning-query : (name : List ℕ) (kind : Kind) (from to : ℕ) → is_name name ≡ true → from ≤ LAST_TIME → to ≤ LAST_TIME → meaning (spaced (codes "query") (name ∷ kind_name kind ∷ decimal from ∷ decimal to ∷ [])) ≡ Ok (Some (commands.Ask (record { name = name; kind = kind; from = from; to = to })))
+meaning-query : (name : List ℕ) (kind : Kind) (from to : ℕ) → is_name name ≡ true → from ≤ LAST_TIME → to ≤ LAST_TIME →
+    meaning (spaced (codes "query") (name ∷ kind_name kind ∷ decimal from ∷ decimal to ∷ [])) ≡ Ok
+    (Some (commands.Ask (record { name = name; kind = kind; from = from; to = to })))
 meaning-query name kind from to is early late =
     let rest = name ∷ kind_name kind ∷ decimal from ∷ decimal to ∷ [] in
     let all : AreWords rest = (IsWord-name name is, (IsWord-kind kind, (IsWord-decimal from (omega arith), (IsWord-decimal to (omega arith), tt)))) in
-    let short : length (spaced (codes "query") rest) ≤ 256 = omega (arith, length-spaced rest (codes "query"), length-is_name name is, length-kind kind, length-decimal_64 from (omega arith), length-decimal_64 to (omega arith)) in
+    let short : length (spaced (codes "query") rest) ≤ 256 =
+    omega (
+      arith,
+      length-spaced rest (codes "query"),
+      length-is_name name is,
+      length-kind kind,
+      length-decimal_64 from (omega arith),
+      length-decimal_64 to (omega arith),
+    ) in
     meaning-spaced (codes "query") rest (literal (codes "query") refl) all short refl
     ∙ rw (kind_of-name kind, time_of-decimal from early, time_of-decimal to late, name_of-name name is) refl
 

@@ -29,6 +29,7 @@ pub length-with_word : (text word : List ℕ) → length (with_word text word) �
 length-with_word text word = omega (arith, length-append text (32 ∷ word))
 
 -- so a text with a space and a short word is short
-pub length-put : (new text old word : List ℕ) (most : ℕ) → new ≡ text ++ word → text ≡ old ++ 32 ∷ [] → length word ≤ most → length new ≤ length old + (1 + most)
+pub length-put : (new text old word : List ℕ) (most : ℕ) → new ≡ text ++ word → text ≡ old ++ 32 ∷ [] → length word ≤ most →
+    length new ≤ length old + (1 + most)
 length-put new text old word most put space short =
     omega (arith, ap (λ (bytes : List ℕ). length bytes) put, ap (λ (bytes : List ℕ). length bytes) space, length-append text word, length-append old (32 ∷ []))

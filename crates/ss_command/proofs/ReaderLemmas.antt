@@ -1,12 +1,14 @@
 -- A reader that takes an input piece by piece gives its lines.
-use Rattle.std.proofs.Common.{◌≡◌, ℕ, ◌+◌, ◌<◌, false, true, List, [], ◌∷◌, ◌++◌, length, map, take, get_or, position, not, Some, None, refl, arith, ap, sym, ◌∙◌, append_assoc}
+use Rattle.std.proofs.Common.{◌≡◌, ℕ, ◌+◌, ◌<◌, false, true, List, [], ◌∷◌, ◌++◌, length, map, take, get_or, position, not, Some, None, refl, arith}
+use Rattle.std.proofs.Common.{ap, sym, ◌∙◌, append_assoc}
 use Rattle.std.proofs.lemmas.Bool.{cond-false, cond-true, eqb-true}
 use Rattle.std.proofs.lemmas.Bool.Decides.{nat_tests}
 use Rattle.std.proofs.lemmas.List.{append-nil, get_or-take, length-take-le, take_all, take_more}
 use Rattle.std.proofs.lemmas.List.Quantifiers.{position-Some}
 use Rattle.std.proofs.lemmas.List.Sums.{position_or_len_is, prefix_len-le-length}
 use Rattle.std.specs.List.{position_or_len}
-use Rattle.ss_command.proofs.LineLemmas.{ended_line-kept, extended-kept, lines_so_far-line_end, lines_so_far-no_end, nil-from_kept, unended-line_end, unended-no_end}
+use Rattle.ss_command.proofs.LineLemmas.{ended_line-kept, extended-kept, lines_so_far-line_end, lines_so_far-no_end, nil-from_kept, unended-line_end}
+use Rattle.ss_command.proofs.LineLemmas.{unended-no_end}
 use Rattle.ss_command.specs.Lines.{is_line_end, lines, lines_so_far, unended, unless_empty, without_return}
 use Rattle.ss_command.specs.LineState.{LineState, ended_line, extended, HasTaken, kept, TellsLine, under_way}
 use Rattle.ss_command.specs.declared.TheConstants.{LINE_END}
@@ -29,7 +31,8 @@ before-no_end piece n first =
 
 module _ (input piece : List ℕ) (s next : LineState) (at : HasTaken input s) where
   -- a piece without a line end
-  pub HasTaken-no_end : position is_line_end piece ≡ None → next.line ≡ extended (under_way s) piece → next.ended ≡ false → HasTaken (input ++ take (length piece) piece) next
+  pub HasTaken-no_end : position is_line_end piece ≡ None → next.line ≡ extended (under_way s) piece → next.ended ≡ false →
+      HasTaken (input ++ take (length piece) piece) next
   HasTaken-no_end none fed going =
       cond-false next.ended (Some []) next.line going ∙ fed ∙ ap (λ line. extended line piece) at ∙ extended-kept (unended input) piece
       ∙ ap kept (sym (ap (λ bs. unended (input ++ bs)) (take_all (length piece) piece (omega arith)) ∙ unended-no_end input piece (no_end piece none)))
@@ -43,18 +46,21 @@ module _ (input piece : List ℕ) (s next : LineState) (at : HasTaken input s) w
     cut : input ++ take (n + 1) piece ≡ input ++ take n piece ++ LINE_END ∷ []
     cut =
         let place = position-Some is_line_end piece n 0 first in
-        ap (λ bs. input ++ bs) (take_more piece n 0 place.0 ∙ ap (λ b. take n piece ++ b ∷ []) (eqb-true (get_or piece n 0) LINE_END place.1)) ∙ sym (append_assoc input (take n piece) (LINE_END ∷ []))
+        ap (λ bs. input ++ bs) (take_more piece n 0 place.0 ∙ ap (λ b. take n piece ++ b ∷ []) (eqb-true (get_or piece n 0) LINE_END place.1)) ∙
+        sym (append_assoc input (take n piece) (LINE_END ∷ []))
 
     pub HasTaken-line_end : next.ended ≡ true → HasTaken (input ++ take (n + 1) piece) next
     HasTaken-line_end over =
         cond-true next.ended (Some []) next.line over ∙ ap kept (sym (ap unended cut ∙ unended-line_end input (take n piece) (before-no_end piece n first)))
 
-    pub TellsLine-line_end : (ended : Ended) → next.line ≡ ended_line (extended (under_way s) (take n piece)) → TellsLine (lines_so_far input) (lines_so_far (input ++ take (n + 1) piece)) (Some ended) next
+    pub TellsLine-line_end : (ended : Ended) → next.line ≡ ended_line (extended (under_way s) (take n piece)) →
+        TellsLine (lines_so_far input) (lines_so_far (input ++ take (n + 1) piece)) (Some ended) next
     TellsLine-line_end ended fed =
         let line = unended input ++ take n piece in (
           without_return line,
           ap lines_so_far cut ∙ lines_so_far-line_end input (take n piece) (before-no_end piece n first),
-          fed ∙ ap (λ under. ended_line (extended under (take n piece))) at ∙ ap ended_line (extended-kept (unended input) (take n piece)) ∙ ended_line-kept line,
+          fed ∙ ap (λ under. ended_line (extended under (take n piece))) at ∙ ap ended_line (extended-kept (unended input) (take n piece)) ∙
+              ended_line-kept line,
         )
 
 unless_empty-some : (line : List ℕ) → (line ≡ [] → ⊥) → unless_empty line ≡ line ∷ []
@@ -67,7 +73,8 @@ TellsLine-end input s next at none =
     ap (λ line. lines_so_far input ++ map without_return (unless_empty line)) (nil-from_kept (unended input) (sym at ∙ none)) ∙ append-nil (lines_so_far input)
 
 -- an input that ends within a line
-pub TellsLine-last : (input : List ℕ) (s next : LineState) (ended : Ended) → HasTaken input s → (under_way s ≡ Some [] → ⊥) → next.line ≡ ended_line (under_way s) → TellsLine (lines_so_far input) (lines input) (Some ended) next
+pub TellsLine-last : (input : List ℕ) (s next : LineState) (ended : Ended) → HasTaken input s → (under_way s ≡ Some [] → ⊥) →
+    next.line ≡ ended_line (under_way s) → TellsLine (lines_so_far input) (lines input) (Some ended) next
 TellsLine-last input s next ended at some fed =
     let line = unended input in (
       without_return line,

@@ -1,5 +1,6 @@
 -- A command that a line means is one that a line can say.
-use Rattle.std.proofs.Common.{◌≡◌, ℕ, suc, zero, ◌-◌, ◌^◌, ◌<◌, ◌≤◌, true, false, Bool, List, [], ◌∷◌, length, Ok, Err, Some, Result, subst, refl, arith, codes, nat_lt, if◌then◌else◌}
+use Rattle.std.proofs.Common.{◌≡◌, ℕ, suc, zero, ◌-◌, ◌^◌, ◌<◌, ◌≤◌, true, false, Bool, List, [], ◌∷◌, length, Ok, Err, Some, Result, subst, refl}
+use Rattle.std.proofs.Common.{arith, codes, nat_lt, if◌then◌else◌}
 use Rattle.std.proofs.lemmas.Bool.Decides.{nat_tests}
 use Rattle.std.specs.Prelude.{ℤ, pos, negsuc, FitsSigned}
 use Rattle.std.specs.Int.{w64}
@@ -11,7 +12,9 @@ use Rattle.ss_catalog.specs.declared.event.Event.TheVariants.{Create, Value, Ope
 use Rattle.ss_catalog.specs.declared.params.Params.TheVariants.{Exp, Power}
 use Rattle.ss_catalog.specs.declared.refusal.Refusal.{Refusal}
 use Rattle.ss_command.specs.declared.TheConstants.{LONGEST_LINE}
-use Rattle.ss_command.specs.Grammar.{◌>>=◌, append_of, close_of, command_of, create_of, exp_of, is_comment, landmark_of, list_of, meaning, meaning_of_words, kind_of, name_of, open_of, or_number, parameter_of, power_of, query_of, time_of, value_of, windows_of}
+use Rattle.ss_command.specs.Grammar.{◌>>=◌, append_of, close_of, command_of, create_of, exp_of, is_comment, landmark_of, list_of, meaning}
+use Rattle.ss_command.specs.Grammar.{meaning_of_words, kind_of, name_of, open_of, or_number, parameter_of, power_of, query_of, time_of, value_of}
+use Rattle.ss_command.specs.Grammar.{windows_of}
 use Rattle.ss_command.specs.Printed.{IsSayable}
 use Rattle.ss_command.specs.Words.{is_word, words}
 use Rattle.ss_command.specs.declared.command.Command.{Command}
@@ -98,7 +101,10 @@ power-sayable name (p ∷ q ∷ r ∷ s ∷ []) c same =
     let scale = bind-Ok (parameter_of s) _ c windows.2 in
     let stream = bind-Ok (name_of name) _ c scale.2 in
     let is : commands.Do (Create stream.0 (Power power.0 widening.0 windows.0 scale.0)) ≡ c = cc (stream.2) in
-    subst IsSayable is (name-is name stream.0 stream.1, (parameter-lt p power.0 power.1, parameter-lt q widening.0 widening.1, parameter-lt r windows.0 windows.1, parameter-lt s scale.0 scale.1))
+    subst IsSayable is (
+      name-is name stream.0 stream.1,
+      (parameter-lt p power.0 power.1, parameter-lt q widening.0 widening.1, parameter-lt r windows.0 windows.1, parameter-lt s scale.0 scale.1),
+    )
 power-sayable name (p ∷ q ∷ r ∷ s ∷ more ∷ rest) c same = cc
 
 create-sayable : (ws : List (List ℕ)) (c : Command) → create_of ws ≡ Ok c → IsSayable c

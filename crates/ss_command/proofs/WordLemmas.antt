@@ -1,5 +1,6 @@
 -- Words stand between blanks.
-use Rattle.std.proofs.Common.{◌≡◌, ℕ, suc, zero, ◌<◌, ◌≤◌, true, false, Bool, List, [], ◌∷◌, ◌++◌, length, take, drop, get_or, arith, refl, ap, sym, ◌∙◌, ⊎_elim, take-append-drop, drop-cons, None, position, not}
+use Rattle.std.proofs.Common.{◌≡◌, ℕ, suc, zero, ◌<◌, ◌≤◌, true, false, Bool, List, [], ◌∷◌, ◌++◌, length, take, drop, get_or, arith, refl, ap, sym}
+use Rattle.std.proofs.Common.{◌∙◌, ⊎_elim, take-append-drop, drop-cons, None, position, not}
 use Rattle.std.proofs.lemmas.Bool.{cases_Bool}
 use Rattle.std.proofs.lemmas.Bool.Decides.{nat_tests}
 use Rattle.std.proofs.lemmas.List.{drop_all, get_or-take, length-take-le}
@@ -27,13 +28,17 @@ onto_first-append x [] more some = cc (some.2)
 onto_first-append x (part ∷ parts) more some = refl
 
 -- a blank cuts what stands before it from what stands after it
-slice_split-blank : (xs : List ℕ) (b : ℕ) (ys : List ℕ) → is_blank b ≡ true → slice_split is_blank (xs ++ b ∷ ys) ≡ slice_split is_blank xs ++ slice_split is_blank ys
+slice_split-blank : (xs : List ℕ) (b : ℕ) (ys : List ℕ) → is_blank b ≡ true → slice_split is_blank (xs ++ b ∷ ys) ≡ slice_split is_blank xs ++
+    slice_split is_blank ys
 slice_split-blank [] b ys blank = slice_split-cons_yes is_blank b ys blank
 slice_split-blank (x ∷ xs) b ys blank =
     let rest = slice_split-blank xs b ys blank in
     ⊎_elim
-    (λ yes. slice_split-cons_yes is_blank x (xs ++ b ∷ ys) yes ∙ ap (λ parts. [] ∷ parts) rest ∙ ap (λ parts. parts ++ slice_split is_blank ys) (sym (slice_split-cons_yes is_blank x xs yes)))
-    (λ no. slice_split-cons_no is_blank x (xs ++ b ∷ ys) no ∙ ap (onto_first x) rest ∙ onto_first-append x (slice_split is_blank xs) (slice_split is_blank ys) (has_parts xs) ∙ ap (λ parts. parts ++ slice_split is_blank ys) (sym (slice_split-cons_no is_blank x xs no)))
+    (λ yes. slice_split-cons_yes is_blank x (xs ++ b ∷ ys) yes ∙ ap (λ parts. [] ∷ parts) rest ∙
+    ap (λ parts. parts ++ slice_split is_blank ys) (sym (slice_split-cons_yes is_blank x xs yes)))
+    (λ no. slice_split-cons_no is_blank x (xs ++ b ∷ ys) no ∙ ap (onto_first x) rest ∙
+    onto_first-append x (slice_split is_blank xs) (slice_split is_blank ys) (has_parts xs) ∙
+    ap (λ parts. parts ++ slice_split is_blank ys) (sym (slice_split-cons_no is_blank x xs no)))
     (cases_Bool (is_blank x))
 
 -- the words on both sides of a blank are those of each side
@@ -70,13 +75,18 @@ words-blanks line blank =
     words-drop_blanks (length line) line blank (omega arith) ∙ ap words (drop_all (length line) line (omega arith)) ∙ words-nil
 
 -- the bytes before the first blank are the first word
-pub words-first : (line : List ℕ) (n : ℕ) → 0 < n → n < length line → ((k : ℕ) → k < n → is_blank (get_or line k 0) ≡ false) → is_blank (get_or line n 0) ≡ true → words line ≡ take n line ∷ words (drop n line)
+pub words-first : (line : List ℕ) (n : ℕ) → 0 < n → n < length line → ((k : ℕ) → k < n → is_blank (get_or line k 0) ≡ false) →
+    is_blank (get_or line n 0) ≡ true → words line ≡ take n line ∷ words (drop n line)
 words-first line n some inside plain blank =
     let rest = drop-cons line n 0 inside in
     let long = length-take-le n line (omega arith) in
-    let word = words-one (take n line) (omega arith) (All-from_get_or (λ b. is_blank b ≡ false) (take n line) 0 (λ k below. let below_n : k < n = omega arith in rw (get_or-take n line k 0 below_n) (plain k below_n))) in
-    let cut : words line ≡ words (take n line ++ get_or line n 0 ∷ drop (suc n) line) = ap words (sym (take-append-drop n line) ∙ ap (λ back. take n line ++ back) rest) in
-    cut ∙ words-blank (take n line) (drop (suc n) line) (get_or line n 0) blank ∙ ap (λ ws. ws ++ words (drop (suc n) line)) word ∙ ap (λ ws. take n line ∷ ws) (sym (ap words rest ∙ words-cons_blank (get_or line n 0) (drop (suc n) line) blank))
+    let word = words-one (take n line) (omega arith)
+    (All-from_get_or (λ b. is_blank b ≡ false) (take n line) 0 (λ k below. let below_n : k < n = omega arith in
+    rw (get_or-take n line k 0 below_n) (plain k below_n))) in
+    let cut : words line ≡ words (take n line ++ get_or line n 0 ∷ drop (suc n) line) =
+    ap words (sym (take-append-drop n line) ∙ ap (λ back. take n line ++ back) rest) in
+    cut ∙ words-blank (take n line) (drop (suc n) line) (get_or line n 0) blank ∙ ap (λ ws. ws ++ words (drop (suc n) line)) word ∙
+    ap (λ ws. take n line ∷ ws) (sym (ap words rest ∙ words-cons_blank (get_or line n 0) (drop (suc n) line) blank))
 
 -- where none stands, all bytes are one word
 pub words-last : (line : List ℕ) → 0 < length line → ((k : ℕ) → k < length line → is_blank (get_or line k 0) ≡ false) → words line ≡ line ∷ []

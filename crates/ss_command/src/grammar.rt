@@ -1,6 +1,7 @@
 // What a line means.
 ghost use Rattle.std.specs.Prelude.{◌≡◌, ◌≤◌, length, codes, IfOk, IfSome};
-ghost use Rattle.ss_command.specs.Grammar.{append_of, close_of, command_of, create_of, exp_of, is_comment, kind_of, landmark_of, list_of, meaning, open_of, power_of, query_of, windows_of};
+ghost use Rattle.ss_command.specs.Grammar.{append_of, close_of, command_of, create_of, exp_of, is_comment, kind_of, landmark_of, list_of, meaning};
+ghost use Rattle.ss_command.specs.Grammar.{open_of, power_of, query_of, windows_of};
 ghost use Rattle.ss_command.specs.Printed.{IsCommandInTime, IsSayable};
 
 use crate::command::Command;

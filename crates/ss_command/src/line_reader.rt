@@ -51,7 +51,8 @@ fn drop_return(line: &mut ArrayVec<u8, MOST_BYTES_KEPT>)
 }
 
 impl LineReader {
-    ghost use Rattle.std.specs.Prelude.{◌≡◌, ◌+◌, ◌<◌, ◌++◌, ℕ, List, length, take, [], Some, None, true, false, ◌↔◌, IsSome, IsTrue, IfSome, is_some, if◌then◌else◌, MatchOption};
+    ghost use Rattle.std.specs.Prelude.{◌≡◌, ◌+◌, ◌<◌, ◌++◌, ℕ, List, length, take, [], Some, None, true, false, ◌↔◌, IsSome, IsTrue, IfSome};
+    ghost use Rattle.std.specs.Prelude.{is_some, if◌then◌else◌, MatchOption};
     ghost use Rattle.std.specs.List.{before_first, position_or_len};
     ghost use Rattle.ss_command.specs.Lines.{is_line_end, lines, lines_so_far};
     ghost use Rattle.ss_command.specs.LineState.{under_way, extended, ended_line, HasTaken, TellsLine};

@@ -15,13 +15,15 @@ unfolding number_bytes
 length-number_bytes n x = length-bytes_high_first n x
 
 -- what a write at the front of a slice's end leaves of the slice
-pub put_mid-written : (at n : ℕ) (bytes field end : List ℕ) → length field ≡ n → at + n ≤ length bytes → end ≡ field ++ drop n (take (length bytes - at) (drop at bytes)) → put_mid at (length bytes - at) bytes end ≡ take at bytes ++ field ++ drop (at + n) bytes
+pub put_mid-written : (at n : ℕ) (bytes field end : List ℕ) → length field ≡ n → at + n ≤ length bytes →
+    end ≡ field ++ drop n (take (length bytes - at) (drop at bytes)) → put_mid at (length bytes - at) bytes end ≡ take at bytes ++ field ++ drop (at + n) bytes
 put_mid-written at n bytes field end long inside wrote =
     let none : drop (length bytes - at) (drop at bytes) ≡ [] = drop_all (length bytes - at) (drop at bytes) (omega (arith, length-drop at bytes)) in
     rw (none, append-nil, wrote, take_rest, drop-drop, append_assoc) refl
 
 -- a number of n bytes, written at a place, reads back from there
-pub number_at-written : (n at x : ℕ) (bytes : List ℕ) → at + n ≤ length bytes → x < 256 ^ n → number_at n (take at bytes ++ number_bytes n x ++ drop (at + n) bytes) at ≡ x
+pub number_at-written : (n at x : ℕ) (bytes : List ℕ) → at + n ≤ length bytes → x < 256 ^ n →
+    number_at n (take at bytes ++ number_bytes n x ++ drop (at + n) bytes) at ≡ x
 unfolding number_at number_bytes
 number_at-written n at x bytes inside fits =
     let front : length (take at bytes) ≡ at = length-take-le at bytes (omega arith) in
@@ -39,12 +41,14 @@ cast_unsigned_w128-lt (pos n) fits = omega (arith, fits.sfits)
 cast_unsigned_w128-lt (negsuc n) fits = omega arith
 
 -- the same for an `i64`
-pub i64_at-written : (at : ℕ) (z : ℤ) (bytes : List ℕ) → at + 8 ≤ length bytes → FitsSigned w64 z → cast_signed w64 (number_at 8 (take at bytes ++ number_bytes 8 (cast_unsigned w64 z) ++ drop (at + 8) bytes) at) ≡ z
+pub i64_at-written : (at : ℕ) (z : ℤ) (bytes : List ℕ) → at + 8 ≤ length bytes → FitsSigned w64 z →
+    cast_signed w64 (number_at 8 (take at bytes ++ number_bytes 8 (cast_unsigned w64 z) ++ drop (at + 8) bytes) at) ≡ z
 i64_at-written at z bytes inside fits =
     ap (cast_signed w64) (number_at-written 8 at (cast_unsigned w64 z) bytes inside (cast_unsigned_w64-lt z fits)) ∙ to_z-of_z w64 z fits
 
 -- the same for an `i128`
-pub i128_at-written : (at : ℕ) (z : ℤ) (bytes : List ℕ) → at + 16 ≤ length bytes → FitsSigned w128 z → cast_signed w128 (number_at 16 (take at bytes ++ number_bytes 16 (cast_unsigned w128 z) ++ drop (at + 16) bytes) at) ≡ z
+pub i128_at-written : (at : ℕ) (z : ℤ) (bytes : List ℕ) → at + 16 ≤ length bytes → FitsSigned w128 z →
+    cast_signed w128 (number_at 16 (take at bytes ++ number_bytes 16 (cast_unsigned w128 z) ++ drop (at + 16) bytes) at) ≡ z
 i128_at-written at z bytes inside fits =
     ap (cast_signed w128) (number_at-written 16 at (cast_unsigned w128 z) bytes inside (cast_unsigned_w128-lt z fits)) ∙ to_z-of_z w128 z fits
 
@@ -57,7 +61,8 @@ big_from-same i (suc n) xs ys same =
     rw (first, rest) refl
 
 -- a write leaves the numbers beside it
-pub number_at-written_beside : (n at m from x : ℕ) (bytes : List ℕ) → from + m ≤ length bytes → (at + n ≤ from) ⊎ (from + m ≤ at) → number_at n (take from bytes ++ number_bytes m x ++ drop (from + m) bytes) at ≡ number_at n bytes at
+pub number_at-written_beside : (n at m from x : ℕ) (bytes : List ℕ) → from + m ≤ length bytes → (at + n ≤ from) ⊎ (from + m ≤ at) →
+    number_at n (take from bytes ++ number_bytes m x ++ drop (from + m) bytes) at ≡ number_at n bytes at
 unfolding number_at
 number_at-written_beside n at m from x bytes inside beside =
     let long = length-number_bytes m x in
@@ -72,11 +77,13 @@ number_at-take n at x bytes fits there =
     ∙ big_number-reads_back n x [] fits
 
 -- the same for an `i64`
-pub i64_at-take : (at : ℕ) (z : ℤ) (bytes : List ℕ) → FitsSigned w64 z → take 8 (drop at bytes) ≡ number_bytes 8 (cast_unsigned w64 z) → cast_signed w64 (number_at 8 bytes at) ≡ z
+pub i64_at-take : (at : ℕ) (z : ℤ) (bytes : List ℕ) → FitsSigned w64 z → take 8 (drop at bytes) ≡ number_bytes 8 (cast_unsigned w64 z) →
+    cast_signed w64 (number_at 8 bytes at) ≡ z
 i64_at-take at z bytes fits there =
     ap (cast_signed w64) (number_at-take 8 at (cast_unsigned w64 z) bytes (cast_unsigned_w64-lt z fits) there) ∙ to_z-of_z w64 z fits
 
 -- the same for an `i128`
-pub i128_at-take : (at : ℕ) (z : ℤ) (bytes : List ℕ) → FitsSigned w128 z → take 16 (drop at bytes) ≡ number_bytes 16 (cast_unsigned w128 z) → cast_signed w128 (number_at 16 bytes at) ≡ z
+pub i128_at-take : (at : ℕ) (z : ℤ) (bytes : List ℕ) → FitsSigned w128 z → take 16 (drop at bytes) ≡ number_bytes 16 (cast_unsigned w128 z) →
+    cast_signed w128 (number_at 16 bytes at) ≡ z
 i128_at-take at z bytes fits there =
     ap (cast_signed w128) (number_at-take 16 at (cast_unsigned w128 z) bytes (cast_unsigned_w128-lt z fits) there) ∙ to_z-of_z w128 z fits

@@ -37,7 +37,8 @@ number_of-below word digits short =
     digits_value_short digits_as_number word 18 (digits_as_number.from word (AllDigits-from_is_number word digits).1) short
 
 -- one more digit
-pub number_of-take_more : (word : List ℕ) (i : ℕ) → AllDigits 10 word → i < length word → number_of (take (i + 1) word) ≡ number_of (take i word) * 10 + (get_or word i 0 - 48)
+pub number_of-take_more : (word : List ℕ) (i : ℕ) → AllDigits 10 word → i < length word →
+    number_of (take (i + 1) word) ≡ number_of (take i word) * 10 + (get_or word i 0 - 48)
 unfolding number_of
 number_of-take_more word i digits inside =
     let range = digit_at word i digits inside in

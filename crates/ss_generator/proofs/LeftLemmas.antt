@@ -10,7 +10,8 @@ use Rattle.ss_generator.specs.Numbers.{delay, number, number_after, time, value,
 after-rounds : (seed i n m : ℕ) → i + n ≡ m → of_rounds seed i ++ after i (number seed i) (time seed i) n ≡ of_rounds seed m ++ queries (time seed m)
 after-rounds seed i zero m all = let same : i ≡ m = omega arith in rw same refl
 after-rounds seed i (suc n) m all =
-    sym (append_assoc (of_rounds seed i) (of_round (suc i) (time seed (suc i)) (value seed (suc i))) (after (suc i) (number seed (suc i)) (time seed (suc i)) n))
+    sym (append_assoc (of_rounds seed i) (of_round (suc i) (time seed (suc i)) (value seed (suc i)))
+    (after (suc i) (number seed (suc i)) (time seed (suc i)) n))
     ∙ after-rounds seed (suc i) n m (omega arith)
 
 -- what comes from the first command on are all commands

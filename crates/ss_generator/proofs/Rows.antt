@@ -5,7 +5,8 @@ use Rattle.std.specs.Fmt.{digits}
 use Rattle.ss_command.specs.Printed.{printed}
 use Rattle.ss_generator.specs.Commands.{commands, of_round}
 use Rattle.ss_generator.specs.Numbers.{delay, number, number_after, time, value, value_of}
-use Rattle.ss_generator.specs.declared.TheConstants.{CLOSING_ROUND, DIFFERENT_VALUES, GREATEST_VALUE, INCREMENT, LANDMARK_ROUNDS, MOST_COUNT, MULTIPLIER, OPENING_ROUND}
+use Rattle.ss_generator.specs.declared.TheConstants.{CLOSING_ROUND, DIFFERENT_VALUES, GREATEST_VALUE, INCREMENT, LANDMARK_ROUNDS, MOST_COUNT}
+use Rattle.ss_generator.specs.declared.TheConstants.{MULTIPLIER, OPENING_ROUND}
 
 most_count : MOST_COUNT ≡ 100000
 most_count = refl
@@ -47,13 +48,15 @@ delays : map delay (0 ∷ 1152921504606846975 ∷ 1152921504606846976 ∷ 184467
 unfolding delay
 delays = refl
 
-values-ends : map value_of (0 ∷ 8589934591 ∷ 8589934592 ∷ 17179869184000 ∷ 17188459118592 ∷ []) ≡ negsuc 999 ∷ negsuc 999 ∷ negsuc 998 ∷ pos 1000 ∷ negsuc 999 ∷ []
+values-ends : map value_of (0 ∷ 8589934591 ∷ 8589934592 ∷ 17179869184000 ∷ 17188459118592 ∷ []) ≡ negsuc 999 ∷ negsuc 999 ∷ negsuc 998 ∷ pos 1000 ∷
+    negsuc 999 ∷ []
 unfolding value_of
 values-ends = refl
 
 -- rounds with and without a landmark
 rounds :
-    map (map printed) (of_round 1 10 (pos 5) ∷ of_round 499 10 (pos 5) ∷ of_round 500 10 (pos 5) ∷ of_round 509 10 (pos 5) ∷ of_round 1500 10 (pos 5) ∷ of_round 2509 10 (pos 5) ∷ [])
+    map (map printed) (of_round 1 10 (pos 5) ∷ of_round 499 10 (pos 5) ∷ of_round 500 10 (pos 5) ∷ of_round 509 10 (pos 5) ∷ of_round 1500 10 (pos 5)
+    ∷ of_round 2509 10 (pos 5) ∷ [])
     ≡ (codes "append g 10 5" ∷ [])
     ∷ (codes "append g 10 5" ∷ [])
     ∷ (codes "landmark g open 10" ∷ codes "append g 10 5" ∷ [])

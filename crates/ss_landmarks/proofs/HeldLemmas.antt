@@ -74,7 +74,8 @@ pub open_landmark-some : (cs : List Closed) (o : Opened) (values : List Landmark
 open_landmark-some [] o values = refl
 open_landmark-some (c ∷ cs) o values =
     open_landmark-some cs o (drop c.values values)
-    ∙ ap (λ (rest : List LandmarkValue). Some (open_with rest o)) (drop-drop (closed_values cs) c.values values ∙ ap (λ (n : ℕ). drop n values) (sym (closed_values-cons c cs)))
+    ∙ ap (λ (rest : List LandmarkValue). Some (open_with rest o)) (drop-drop (closed_values cs) c.values values ∙
+    ap (λ (n : ℕ). drop n values) (sym (closed_values-cons c cs)))
 
 -- ---- an opening
 
@@ -83,7 +84,8 @@ pub CanOpen-some : (t : ℕ) (cs : List Closed) (o : Opened) (values : List Land
 CanOpen-some t [] o values can = can 0 (open_with values o) (omega arith)
 CanOpen-some t (c ∷ cs) o values can =
     CanOpen-some t cs o (drop c.values values)
-    (All-tail (IsClosedBefore t) (record { start = c.start; finish = Some c.finish; values = take c.values values }) (landmarks_of cs (Some o) (drop c.values values)) can)
+    (All-tail (IsClosedBefore t) (record { start = c.start; finish = Some c.finish; values = take c.values values })
+    (landmarks_of cs (Some o) (drop c.values values)) can)
 
 pub landmarks_of-open : (cs : List Closed) (o : Opened) (values : List LandmarkValue) → closed_values cs ≡ length values
     → landmarks_of cs (Some o) values ≡ landmarks_of cs None values ++ opened_at o.start ∷ []
@@ -121,7 +123,8 @@ module _ (o : Opened) (new : Closed) (starts : new.start ≡ o.start) where
       let first : Landmark = record { start = c.start; finish = Some c.finish; values = take c.values values } in
       let rest = landmarks_of-close cs (drop c.values values) (omega (arith, all, closed_values-cons c cs, length-drop c.values values)) in
       ap (λ (ls : List Landmark). first ∷ ls) rest
-      ∙ sym (change_last-cons (closed_at new.finish) first (landmarks_of cs (Some o) (drop c.values values)) (omega (arith, length-landmarks_of cs (Some o) (drop c.values values))))
+      ∙ sym (change_last-cons (closed_at new.finish) first (landmarks_of cs (Some o) (drop c.values values))
+      (omega (arith, length-landmarks_of cs (Some o) (drop c.values values))))
 
   is_covered-close : (u : ℕ) (cs : List Closed) (values : List LandmarkValue) → u < o.start
       → list_any (λ l. covers l u) (landmarks_of (cs ++ new ∷ []) None values) ≡ list_any (λ l. covers l u) (landmarks_of cs (Some o) values)
@@ -140,9 +143,13 @@ pub landmarks_of-take : (cs : List Closed) (o : Opened) (values : List LandmarkV
     → landmarks_of cs (Some o) (values ++ value ∷ []) ≡ change_last (with_value value) (landmarks_of cs (Some o) values)
 landmarks_of-take [] o values value within = refl
 landmarks_of-take (c ∷ cs) o values value within =
-    let own : take c.values (values ++ value ∷ []) ≡ take c.values values = take-append-le c.values values (value ∷ []) (omega (arith, within, closed_values-cons c cs)) in
-    let left : drop c.values (values ++ value ∷ []) ≡ drop c.values values ++ value ∷ [] = drop-append-le c.values values (value ∷ []) (omega (arith, within, closed_values-cons c cs)) in
+    let own : take c.values (values ++ value ∷ []) ≡ take c.values values =
+    take-append-le c.values values (value ∷ []) (omega (arith, within, closed_values-cons c cs)) in
+    let left : drop c.values (values ++ value ∷ []) ≡ drop c.values values ++ value ∷ [] =
+    drop-append-le c.values values (value ∷ []) (omega (arith, within, closed_values-cons c cs)) in
     let first : Landmark = record { start = c.start; finish = Some c.finish; values = take c.values values } in
     rw (own, left)
-    (ap (λ (ls : List Landmark). first ∷ ls) (landmarks_of-take cs o (drop c.values values) value (omega (arith, within, closed_values-cons c cs, length-drop c.values values)))
-    ∙ sym (change_last-cons (with_value value) first (landmarks_of cs (Some o) (drop c.values values)) (omega (arith, length-landmarks_of cs (Some o) (drop c.values values)))))
+    (ap (λ (ls : List Landmark). first ∷ ls)
+    (landmarks_of-take cs o (drop c.values values) value (omega (arith, within, closed_values-cons c cs, length-drop c.values values)))
+    ∙ sym (change_last-cons (with_value value) first (landmarks_of cs (Some o) (drop c.values values))
+    (omega (arith, length-landmarks_of cs (Some o) (drop c.values values)))))

@@ -1,5 +1,6 @@
 -- Landmarks in order of time: what an opening, a value and a closing leave of the order, and that all values rise.
-use Rattle.std.proofs.Common.{◌≡◌, ◌∙◌, sym, ap, subst, refl, ℕ, ◌+◌, ◌<◌, ◌≤◌, List, [], ◌∷◌, ◌++◌, Option, Some, None, IfSome, MatchOption, is_none, ◌⊎◌, inl, inr, arith}
+use Rattle.std.proofs.Common.{◌≡◌, ◌∙◌, sym, ap, subst, refl, ℕ, ◌+◌, ◌<◌, ◌≤◌, List, [], ◌∷◌, ◌++◌, Option, Some, None, IfSome, MatchOption, is_none}
+use Rattle.std.proofs.Common.{◌⊎◌, inl, inr, arith}
 use Rattle.std.specs.Prelude.{FitsSigned}
 use Rattle.std.specs.Int.{w64}
 use Rattle.std.specs.List.{All}
@@ -20,8 +21,13 @@ cases-finish (Some t) = inr (t, refl)
 pub RiseFrom_push : (from : ℕ) (xs : List LandmarkValue) (value : LandmarkValue) → RiseFrom from xs → from ≤ value.t
     → All (λ x. x.t < value.t) xs → value.t ≤ LATEST_TIME → FitsSigned w64 value.v → RiseFrom from (xs ++ value ∷ [])
 RiseFrom_push from [] value rise low below early fits = (low, early, fits, tt)
-RiseFrom_push from (x ∷ xs) value rise low below early fits =
-    (rise.0, rise.1, rise.2, RiseFrom_push (x.t + 1) xs value rise.3 (omega (arith, below 0 x (omega arith))) (All-tail (λ y. y.t < value.t) x xs below) early fits)
+RiseFrom_push from (x ∷ xs) value rise low below early fits = (
+  rise.0,
+  rise.1,
+  rise.2,
+  RiseFrom_push (x.t + 1) xs value rise.3 (omega (arith, below 0 x (omega arith)))
+      (All-tail (λ y. y.t < value.t) x xs below) early fits,
+)
 
 RiseFrom-append : (from end : ℕ) (xs ys : List LandmarkValue) → RiseFrom from xs → from ≤ end + 1
     → All (λ x. x.t ≤ end) xs → RiseFrom (end + 1) ys → RiseFrom from (xs ++ ys)
@@ -92,7 +98,8 @@ module _ (P : Landmark → Type 0) (change : Landmark → Landmark)
       ]
   FollowFrom-change from (l ∷ next ∷ ls) follow is =
       elim (cases-finish l.finish) [
-        | inl none ↦ (let last : next ∷ ls ≡ [] = subst (λ (f : Option ℕ). MatchOption f (next ∷ ls ≡ []) (λ t. FollowFrom (t + 1) (next ∷ ls))) none follow.2 in cc)
+        | inl none ↦ (let last : next ∷ ls ≡ [] = subst (λ (f : Option ℕ). MatchOption f (next ∷ ls ≡ []) (λ t. FollowFrom (t + 1) (next ∷ ls))) none
+            follow.2 in cc)
         | inr some ↦ (
             let later = subst (λ (f : Option ℕ). MatchOption f (next ∷ ls ≡ []) (λ t. FollowFrom (t + 1) (next ∷ ls))) some.1 follow.2 in
             let rest = change_last change (next ∷ ls) in (

@@ -1,5 +1,6 @@
 -- Landmarks as they are held: that they stay so where one is opened, takes a value and is closed, and what is read of them.
-use Rattle.std.proofs.Common.{◌≡◌, ◌∙◌, sym, ap, subst, refl, ℕ, ◌+◌, ◌-◌, ◌<◌, ◌≤◌, List, [], ◌∷◌, ◌++◌, length, Option, Some, None, MatchOption, arith, get_or, map}
+use Rattle.std.proofs.Common.{◌≡◌, ◌∙◌, sym, ap, subst, refl, ℕ, ◌+◌, ◌-◌, ◌<◌, ◌≤◌, List, [], ◌∷◌, ◌++◌, length, Option, Some, None, MatchOption}
+use Rattle.std.proofs.Common.{arith, get_or, map}
 use Rattle.std.specs.Prelude.{FitsSigned, slice_index}
 use Rattle.std.specs.Int.{w64}
 use Rattle.std.specs.List.{All}
@@ -18,7 +19,8 @@ use Rattle.ss_landmarks.specs.declared.stored.Opened.{Opened}
 use Rattle.ss_landmarks.proofs.Counting.{among-same}
 use Rattle.ss_landmarks.proofs.OrderLemmas.{FollowFrom-open, AreLandmarks-take, AreLandmarks-close}
 use Rattle.ss_landmarks.proofs.StoredLemmas.{Apart-follow}
-use Rattle.ss_landmarks.proofs.HeldLemmas.{length-landmarks_of, length-slots_of, all_values-landmarks_of, open_landmark-none, open_landmark-some, CanOpen-some, landmarks_of-open, landmarks_of-close, landmarks_of-take, is_free-open_later, is_free-close}
+use Rattle.ss_landmarks.proofs.HeldLemmas.{length-landmarks_of, length-slots_of, all_values-landmarks_of, open_landmark-none, open_landmark-some}
+use Rattle.ss_landmarks.proofs.HeldLemmas.{CanOpen-some, landmarks_of-open, landmarks_of-close, landmarks_of-take, is_free-open_later, is_free-close}
 
 -- ---- an opening
 
@@ -136,7 +138,14 @@ opened-some cs o values =
 pub IsState-stored : (cs : List Closed) (current : Option Opened) (values : List LandmarkValue) (value_slots : List ℕ) (room value_room : ℕ)
     → AreStored cs current values → length value_slots ≡ length values → length cs + one_open current + room ≤ MOST_LANDMARK_SLOTS
     → length values + value_room ≤ MOST_LANDMARK_SLOTS
-    → IsState (record { landmarks = landmarks_of cs current values; slots = slots_of cs current; value_slots = value_slots; room = room; value_room = value_room })
+    → IsState (record {
+      landmarks = landmarks_of cs current values;
+      slots = slots_of cs current;
+      value_slots = value_slots;
+      room = room;
+      value_room =
+          value_room;
+    })
 IsState-stored cs current values value_slots room value_room stored same most most_values = record {
   order = stored.order;
   slots = omega (arith, length-slots_of cs current, length-landmarks_of cs current values);

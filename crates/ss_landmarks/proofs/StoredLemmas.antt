@@ -1,8 +1,10 @@
 -- Landmarks as they are held: which times they cover, and how many are free.
-use Rattle.std.proofs.Common.{◌≡◌, ◌∙◌, ap, refl, ℕ, zero, suc, ◌+◌, ◌-◌, ◌<◌, ◌≤◌, Bool, true, false, List, [], ◌∷◌, length, Option, Some, None, IfSome, ◌⊎◌, inl, inr, arith, get_or, take, drop}
+use Rattle.std.proofs.Common.{◌≡◌, ◌∙◌, ap, refl, ℕ, zero, suc, ◌+◌, ◌-◌, ◌<◌, ◌≤◌, Bool, true, false, List, [], ◌∷◌, length, Option, Some, None}
+use Rattle.std.proofs.Common.{IfSome, ◌⊎◌, inl, inr, arith, get_or, take, drop}
 use Rattle.std.specs.List.{All, list_any}
 use Rattle.std.specs.List.Sorted.{IsNonDecreasingBy}
-use Rattle.std.proofs.lemmas.Bool.{le-leb, lt-leb, and_left, and_right, and_from, or_from, or_left, or_right, not_from_true, not_from_false, cases_lt, cases_order}
+use Rattle.std.proofs.lemmas.Bool.{le-leb, lt-leb, and_left, and_right, and_from, or_from, or_left, or_right, not_from_true, not_from_false, cases_lt}
+use Rattle.std.proofs.lemmas.Bool.{cases_order}
 use Rattle.std.proofs.lemmas.List.{get_or_default}
 use Rattle.std.proofs.lemmas.List.Elements.{All-cons}
 use Rattle.ss_landmarks.specs.Landmark.{LandmarkValue}
@@ -161,15 +163,19 @@ module _ (cs : List Closed) (current : Option Opened) (values : List LandmarkVal
         let start = (get_or cs i d).start in
         let end = (get_or cs i d).finish + 1 in
         let lasts : start + 1 ≤ end = omega (arith, (apart.ends i d below).0) in
-        let split : among test 0 t ≡ among test 0 start + among test start (t - start) = among-add test 0 start (t - start) t start (omega arith) (omega arith) in
-        let covered = λ (n : ℕ) (within : start + n ≤ end). among-none test start n (λ u low high. is_free-hit u cs current values i d below low (omega arith)) in
+        let split : among test 0 t ≡ among test 0 start + among test start (t - start) =
+        among-add test 0 start (t - start) t start (omega arith) (omega arith) in
+        let covered = λ (n : ℕ) (within : start + n ≤ end). among-none test start n
+        (λ u low high. is_free-hit u cs current values i d below low (omega arith)) in
         elim (cases_lt t end) [
           | inl short ↦ omega (arith, split, covered (t - start) (omega arith))
           | inr long ↦ (
               let rest : among test start (t - start) ≡ among test start (end - start) + among test end (t - end) =
               among-add test start (end - start) (t - end) (t - start) end (omega arith) (omega arith) in
-              let free : among test end (t - end) ≡ t - end = among-all test end (t - end) (λ u low high. is_free-miss u cs current values (misses-after u low (omega arith))
-              (elim current as (λ o. IfSome o (λ x. t ≤ x.start) → IfSome o (λ x. u < x.start)) [ None ↦ λ _. tt | Some o ↦ λ at. omega (arith, at) ] open_later)) in
+              let free : among test end (t - end) ≡ t - end =
+              among-all test end (t - end) (λ u low high. is_free-miss u cs current values (misses-after u low (omega arith))
+              (elim current as (λ o. IfSome o (λ x. t ≤ x.start) → IfSome o (λ x. u < x.start)) [ None ↦ λ _. tt | Some o ↦ λ at. omega (arith, at) ]
+              open_later)) in
               omega (arith, split, rest, free, covered (end - start) (omega arith)))
         ]
 

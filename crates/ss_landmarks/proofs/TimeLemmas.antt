@@ -1,5 +1,6 @@
 -- Landmarks none of whose times is after another, and the values of landmarks that change.
-use Rattle.std.proofs.Common.{◌≡◌, ◌∙◌, sym, ap, subst, refl, ℕ, ◌+◌, ◌-◌, ◌<◌, ◌≤◌, true, false, List, [], ◌∷◌, ◌++◌, length, Option, Some, None, IfSome, IsSome, IsNone, MatchOption, is_none, inl, inr, arith, get_or}
+use Rattle.std.proofs.Common.{◌≡◌, ◌∙◌, sym, ap, subst, refl, ℕ, ◌+◌, ◌-◌, ◌<◌, ◌≤◌, true, false, List, [], ◌∷◌, ◌++◌, length, Option, Some, None}
+use Rattle.std.proofs.Common.{IfSome, IsSome, IsNone, MatchOption, is_none, inl, inr, arith, get_or}
 use Rattle.std.specs.List.{All}
 use Rattle.std.proofs.lemmas.Bool.{both_ways, cond-true, cond-false}
 use Rattle.std.proofs.lemmas.List.{append-nil, append_assoc}
@@ -17,7 +18,8 @@ pub CanOpen-after : (ls : List Landmark) (last t : ℕ) → AllEndBy last ls →
 CanOpen-after [] last t ends none lt = λ k d below. absurd (omega arith)
 CanOpen-after (l ∷ ls) last t ends none lt =
     elim (cases-finish l.finish) [
-      | inl begun ↦ absurd (let is : open_landmark (l ∷ ls) ≡ Some l = cond-true (is_none l.finish) (Some l) (open_landmark ls) (ap is_none begun) in both_ways true (subst IsNone is none) refl)
+      | inl begun ↦ absurd (let is : open_landmark (l ∷ ls) ≡ Some l = cond-true (is_none l.finish) (Some l) (open_landmark ls) (ap is_none begun) in
+          both_ways true (subst IsNone is none) refl)
       | inr some ↦ (
           let is : open_landmark (l ∷ ls) ≡ open_landmark ls = cond-false (is_none l.finish) (Some l) (open_landmark ls) (ap is_none some.1) in
           let by : some.0 ≤ last = subst (λ (f : Option ℕ). IfSome f (λ finish. finish ≤ last)) some.1 (ends 0 l (omega arith)).1 in

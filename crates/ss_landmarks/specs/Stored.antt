@@ -1,5 +1,6 @@
 -- How landmarks are held: those that are closed, the one that is open, and the values of all of them in one list.
-use Rattle.std.specs.Prelude.{◌≡◌, ℕ, ◌+◌, ◌<◌, ◌≤◌, slice_index_or, List, [], ◌∷◌, ◌++◌, length, map, take, drop, Option, Some, None, is_some, cond, IfSome, MatchOption}
+use Rattle.std.specs.Prelude.{◌≡◌, ℕ, ◌+◌, ◌<◌, ◌≤◌, slice_index_or, List, [], ◌∷◌, ◌++◌, length, map, take, drop, Option, Some, None, is_some, cond}
+use Rattle.std.specs.Prelude.{IfSome, MatchOption}
 use Rattle.std.specs.List.{sum_by, count_by, range_with_len, All}
 use Rattle.std.specs.Option.{option_map, option_to_list}
 use Rattle.ss_landmarks.specs.declared.stored.Closed.{Closed}

@@ -1,12 +1,17 @@
 -- A line as it is held: what each change leaves of the ranks.
-use Rattle.std.proofs.Common.{◌≡◌, ◌≢◌, ◌∙◌, sym, ap, refl, ℕ, zero, suc, ◌+◌, ◌-◌, ◌<◌, ◌≤◌, ◌^◌, Bool, true, false, cond, not, nat_eq, nat_lt, List, [], ◌∷◌, ◌++◌, length, map, replicate, count_by, arith, get_or, set, length-append, take, if◌then◌else◌, inl, inr, subst}
-use Rattle.std.proofs.lemmas.Bool.{eq-eqb, ne_eqb, eqb-true, cases_eq, cases_lt, cond-true, cond-false, cond_both, not-false, lt-ltb, le-ltb, ltb-true, both_ways}
-use Rattle.std.proofs.lemmas.List.{get_or-set_same, get_or-set_other, get_or_past, get_or-replicate, get_or_append_left, take_all, length-set, length-replicate, length-map}
+use Rattle.std.proofs.Common.{◌≡◌, ◌≢◌, ◌∙◌, sym, ap, refl, ℕ, zero, suc, ◌+◌, ◌-◌, ◌<◌, ◌≤◌, ◌^◌, Bool, true, false, cond, not, nat_eq, nat_lt, List}
+use Rattle.std.proofs.Common.{[], ◌∷◌, ◌++◌, length, map, replicate, count_by, arith, get_or, set, length-append, take, if◌then◌else◌, inl, inr}
+use Rattle.std.proofs.Common.{subst}
+use Rattle.std.proofs.lemmas.Bool.{eq-eqb, ne_eqb, eqb-true, cases_eq, cases_lt, cond-true, cond-false, cond_both, not-false, lt-ltb, le-ltb}
+use Rattle.std.proofs.lemmas.Bool.{ltb-true, both_ways}
+use Rattle.std.proofs.lemmas.List.{get_or-set_same, get_or-set_other, get_or_past, get_or-replicate, get_or_append_left, take_all, length-set}
+use Rattle.std.proofs.lemmas.List.{length-replicate, length-map}
 use Rattle.std.proofs.lemmas.Grind.{get_or_default_zero}
 use Rattle.std.proofs.Math.Seq.{get_or-append_seam}
 use Rattle.std.proofs.lemmas.List.Edits.{length-remove, get_or-remove_below, get_or-remove_above}
 use Rattle.std.proofs.lemmas.List.Folds.{sum_by-replicate}
-use Rattle.std.proofs.lemmas.List.Sums.{count_by-le-length, sum_by-cons, sum_by_push, sum_by-set, sum_by-remove, sum_by-append, passes_at_first, fails_before_first, sum_by-le}
+use Rattle.std.proofs.lemmas.List.Sums.{count_by-le-length, sum_by-cons, sum_by_push, sum_by-set, sum_by-remove, sum_by-append, passes_at_first}
+use Rattle.std.proofs.lemmas.List.Sums.{fails_before_first, sum_by-le}
 use Rattle.std.specs.List.{remove}
 use Rattle.ss_line.specs.declared.entry.At.{At}
 use Rattle.ss_line.specs.declared.entry.Entry.{Entry}
@@ -40,8 +45,10 @@ one_less false taken n m is less = omega arith
 is_taken-set : (ranks : List ℕ) (i k rank : ℕ) → i < length ranks → is_taken (set ranks i rank) k ≡ cond (nat_eq i k) (is_rank rank) (is_taken ranks k)
 is_taken-set ranks i k rank lt =
     elim (cases_eq i k) [
-      | inl same ↦ rw (← same) (ap is_rank (get_or-set_same ranks i rank 0 lt) ∙ sym (cond-true (nat_eq i i) (is_rank rank) (is_taken ranks i) (eq-eqb i i refl)))
-      | inr other ↦ ap is_rank (get_or-set_other ranks i k rank 0 (λ same. other (sym same))) ∙ sym (cond-false (nat_eq i k) (is_rank rank) (is_taken ranks k) (ne_eqb i k other))
+      | inl same ↦ rw (← same) (ap is_rank (get_or-set_same ranks i rank 0 lt) ∙
+          sym (cond-true (nat_eq i i) (is_rank rank) (is_taken ranks i) (eq-eqb i i refl)))
+      | inr other ↦ ap is_rank (get_or-set_other ranks i k rank 0 (λ same. other (sym same))) ∙
+          sym (cond-false (nat_eq i k) (is_rank rank) (is_taken ranks k) (ne_eqb i k other))
     ]
 
 rank_at-replicate : (n k : ℕ) → rank_at (replicate n 0) k ≡ 0
@@ -73,12 +80,19 @@ lower-zero gone = cond_both (nat_lt gone 0) 0 0 (λ (n : ℕ). n ≡ 0) (λ _. r
 
 is_rank-lower : (i rank : ℕ) → is_rank (lower (suc i) rank) ≡ is_rank rank
 is_rank-lower i zero = ap is_rank (lower-zero (suc i))
-is_rank-lower i (suc r) = cond_both (nat_lt (suc i) (suc r)) (suc r - 1) (suc r) (λ n. is_rank n ≡ true) (λ is. is_rank-some (suc r - 1) (omega (arith, ltb-true (suc i) (suc r) is))) (λ _. refl)
+is_rank-lower i (suc r) = cond_both (nat_lt (suc i) (suc r)) (suc r - 1) (suc r) (λ n. is_rank n ≡ true)
+    (λ is. is_rank-some (suc r - 1) (omega (arith, ltb-true (suc i) (suc r) is))) (λ _. refl)
 
 count-lower : (i : ℕ) (ranks : List ℕ) → count_by is_rank (map (lower (suc i)) ranks) ≡ count_by is_rank ranks
 count-lower i [] = refl
 count-lower i (rank ∷ ranks) =
-    omega (arith, sum_by-cons (λ r. one (is_rank r)) rank ranks, sum_by-cons (λ r. one (is_rank r)) (lower (suc i) rank) (map (lower (suc i)) ranks), ap one (is_rank-lower i rank), count-lower i ranks)
+    omega (
+      arith,
+      sum_by-cons (λ r. one (is_rank r)) rank ranks,
+      sum_by-cons (λ r. one (is_rank r)) (lower (suc i) rank) (map (lower (suc i)) ranks),
+      ap one (is_rank-lower i rank),
+      count-lower i ranks,
+    )
 
 rank_at-lower : (i : ℕ) (ranks : List ℕ) (k : ℕ) → rank_at (map (lower (suc i)) ranks) k ≡ lower (suc i) (rank_at ranks k)
 rank_at-lower i [] k = sym (lower-zero (suc i))
@@ -113,7 +127,8 @@ module _ (entries : List (At × Entry)) (ranks : List ℕ) (held : AreRanks entr
       elim (cases_lt (index_of entries at) (length entries)) [
         | inl stands ↦ stands
         | inr past ↦ (
-            let none = sum_by-le (λ entry. one (is_at at entry)) 0 entries (λ k d lt. rw (fails_before_first (is_at at) entries k d (omega (arith, lt, past))) (omega arith)) in
+            let none = sum_by-le (λ entry. one (is_at at entry)) 0 entries
+            (λ k d lt. rw (fails_before_first (is_at at) entries k d (omega (arith, lt, past))) (omega arith)) in
             let some = held.once at ∙ ap one is in
             absurd (omega (arith, none, some)))
       ]
@@ -145,13 +160,22 @@ module _ (entries : List (At × Entry)) (ranks : List ℕ) (held : AreRanks entr
           most = omega (arith, held.most, length-set ranks at.0 (suc (length entries)));
           once = λ other.
               sum_by_push (λ e. one (is_at other e)) entries (at, entry)
-              ∙ one_more (nat_eq at.0 other.0) (is_taken ranks other.0) _ (held.once other) (λ same. subst (λ n. is_taken ranks n ≡ false) (eqb-true at.0 other.0 same) (ap is_rank free))
+              ∙ one_more (nat_eq at.0 other.0) (is_taken ranks other.0) _ (held.once other)
+              (λ same. subst (λ n. is_taken ranks n ≡ false) (eqb-true at.0 other.0 same) (ap is_rank free))
               ∙ sym (ap one (is_taken-set ranks at.0 other.0 (suc (length entries)) below));
-          as_many = omega (arith, held.as_many, sum_by-set (λ rank. one (is_rank rank)) ranks at.0 (suc (length entries)) 0 below, ap (λ rank. one (is_rank rank)) free, length-append entries ((at, entry) ∷ []));
+          as_many = omega (
+            arith,
+            held.as_many,
+            sum_by-set (λ rank. one (is_rank rank)) ranks at.0 (suc (length entries)) 0 below,
+            ap
+                (λ rank. one (is_rank rank)) free,
+            length-append entries ((at, entry) ∷ []),
+          );
           ranked = λ k d lt. elim (cases_lt k (length entries)) [
             | inl before ↦ (
                 let is = held.ranked k d before in
-                rw (get_or_append_left entries ((at, entry) ∷ []) d k before) (get_or-set_other ranks at.0 _ (suc (length entries)) 0 (λ same. absurd (omega (arith, is, free, ap (rank_at ranks) same))) ∙ is))
+                rw (get_or_append_left entries ((at, entry) ∷ []) d k before)
+                (get_or-set_other ranks at.0 _ (suc (length entries)) 0 (λ same. absurd (omega (arith, is, free, ap (rank_at ranks) same))) ∙ is))
             | inr past ↦ (
                 let last : length entries ≡ k = omega (arith, lt, past, length-append entries ((at, entry) ∷ [])) in
                 rw (← last) (rw (get_or-append_seam entries (at, entry) [] d) (get_or-set_same ranks at.0 (suc (length entries)) 0 below)))
@@ -164,11 +188,13 @@ module _ (entries : List (At × Entry)) (ranks : List ℕ) (held : AreRanks entr
 
   module _ (at : At) (stands : StandsIn entries at) where
     -- the place of another entry has its rank, lowered
-    ranked-other : (j : ℕ) (d : At × Entry) → j < length entries → j ≢ index_of entries at → rank_at (map (lower (suc (index_of entries at))) (set ranks at.0 0)) (get_or entries j d).0.0 ≡ lower (suc (index_of entries at)) (suc j)
+    ranked-other : (j : ℕ) (d : At × Entry) → j < length entries → j ≢ index_of entries at →
+        rank_at (map (lower (suc (index_of entries at))) (set ranks at.0 0)) (get_or entries j d).0.0 ≡ lower (suc (index_of entries at)) (suc j)
     ranked-other j d lt other =
         let is = held.ranked j d lt in
         rank_at-lower (index_of entries at) (set ranks at.0 0) _
-        ∙ ap (lower (suc (index_of entries at))) (get_or-set_other ranks at.0 _ 0 0 (λ same. other (omega (arith, is, rank-stands at stands, ap (rank_at ranks) same))) ∙ is)
+        ∙ ap (lower (suc (index_of entries at)))
+        (get_or-set_other ranks at.0 _ 0 0 (λ same. other (omega (arith, is, rank-stands at stands, ap (rank_at ranks) same))) ∙ is)
 
     pub AreRanks-remove : AreRanks (remove entries (index_of entries at)) (map (lower (suc (index_of entries at))) (set ranks at.0 0))
     AreRanks-remove =
@@ -180,23 +206,43 @@ module _ (entries : List (At × Entry)) (ranks : List ℕ) (held : AreRanks entr
           most = omega (arith, held.most, length-set ranks at.0 0, length-map left (lower (suc i)));
           once = λ other.
               one_less (nat_eq at.0 other.0) (is_taken ranks other.0) _ _ (held.once other)
-              (subst (λ n. count_by (is_at other) (remove entries i) + one (nat_eq n other.0) ≡ count_by (is_at other) entries) (place-index_of at stands) (sum_by-remove (λ e. one (is_at other e)) entries i (nothing at) stands))
+              (subst (λ n. count_by (is_at other) (remove entries i) + one (nat_eq n other.0) ≡ count_by (is_at other) entries)
+              (place-index_of at stands) (sum_by-remove (λ e. one (is_at other e)) entries i (nothing at) stands))
               ∙ sym (ap one (ap is_rank (rank_at-lower i left other.0) ∙ is_rank-lower i (rank_at left other.0) ∙ is_taken-set ranks at.0 other.0 0 below));
-          as_many = omega (arith, held.as_many, count-lower i left, sum_by-set (λ rank. one (is_rank rank)) ranks at.0 0 0 below, ap (λ rank. one (is_rank rank)) (rank-stands at stands), shorter);
+          as_many = omega (
+            arith,
+            held.as_many,
+            count-lower i left,
+            sum_by-set (λ rank. one (is_rank rank)) ranks at.0 0 0 below,
+            ap
+                (λ rank. one (is_rank rank)) (rank-stands at stands),
+            shorter,
+          );
           ranked = λ k d lt. elim (cases_lt k i) [
-            | inl before ↦ rw (get_or-remove_below entries i d k before stands) (ranked-other k d (omega (arith, before, stands)) (λ same. absurd (omega (arith, same, before))) ∙ cond-false _ _ _ (le-ltb (suc i) (suc k) (omega (arith, before))))
-            | inr behind ↦ rw (get_or-remove_above entries i d k behind stands) (ranked-other (k + 1) d (omega (arith, lt, shorter)) (λ same. absurd (omega (arith, same, behind))) ∙ cond-true _ _ _ (lt-ltb (suc i) (suc (k + 1)) (omega (arith, behind))) ∙ omega arith)
+            | inl before ↦ rw (get_or-remove_below entries i d k before stands)
+                (ranked-other k d (omega (arith, before, stands)) (λ same. absurd (omega (arith, same, before))) ∙
+                cond-false _ _ _ (le-ltb (suc i) (suc k) (omega (arith, before))))
+            | inr behind ↦ rw (get_or-remove_above entries i d k behind stands)
+                (ranked-other (k + 1) d (omega (arith, lt, shorter)) (λ same. absurd (omega (arith, same, behind))) ∙
+                cond-true _ _ _ (lt-ltb (suc i) (suc (k + 1)) (omega (arith, behind))) ∙ omega arith)
           ];
         }
 
     pub AreRanks-set : (entry : Entry) → AreRanks (set entries (index_of entries at) (at, entry)) ranks
     AreRanks-set entry = record {
       most = held.most;
-      once = λ other. omega (arith, held.once other, sum_by-set (λ e. one (is_at other e)) entries (index_of entries at) (at, entry) (nothing at) stands, ap (λ n. one (nat_eq n other.0)) (place-index_of at stands));
+      once = λ other. omega (
+        arith,
+        held.once other,
+        sum_by-set (λ e. one (is_at other e)) entries (index_of entries at) (at, entry) (nothing at)
+            stands,
+        ap (λ n. one (nat_eq n other.0)) (place-index_of at stands),
+      );
       as_many = held.as_many ∙ sym (length-set entries (index_of entries at) (at, entry));
       ranked = λ k d lt. elim (cases_eq (index_of entries at) k) [
         | inl same ↦ rw (← same) (rw (get_or-set_same entries (index_of entries at) (at, entry) d stands) (rank-stands at stands))
-        | inr other ↦ rw (get_or-set_other entries (index_of entries at) k (at, entry) d (λ same. other (sym same))) (held.ranked k d (omega (arith, lt, length-set entries (index_of entries at) (at, entry))))
+        | inr other ↦ rw (get_or-set_other entries (index_of entries at) k (at, entry) d (λ same. other (sym same)))
+            (held.ranked k d (omega (arith, lt, length-set entries (index_of entries at) (at, entry))))
       ];
     }
 
@@ -209,7 +255,8 @@ module _ (entries : List (At × Entry)) (ranks : List ℕ) (held : AreRanks entr
   }
 
   -- what a resize leaves, whether it found memory or not
-  pub AreRanks-resize : (n len : ℕ) (ok : Bool) → length ranks ≡ len → len ≤ n → n ≤ 2 ^ 24 → AreRanks entries (if ok then take n ranks ++ replicate (n - len) 0 else ranks)
+  pub AreRanks-resize : (n len : ℕ) (ok : Bool) → length ranks ≡ len → len ≤ n → n ≤ 2 ^ 24 →
+      AreRanks entries (if ok then take n ranks ++ replicate (n - len) 0 else ranks)
   AreRanks-resize n len true same le most = rw (take_all n ranks (omega (arith, same, le))) (AreRanks-more (n - len) (omega (arith, same, le, most)))
   AreRanks-resize n len false same le most = held
 

@@ -1,5 +1,6 @@
 -- Places in a line that changes.
-use Rattle.std.proofs.Common.{◌≡◌, ◌≢◌, ◌∙◌, sym, ap, refl, ℕ, zero, suc, ◌<◌, ◌≤◌, Bool, true, false, cond, not, List, [], ◌∷◌, ◌++◌, length, count_by, arith, get_or, set, length-append, Option, Some, None, is_some, IsSome, IfSome, ◌↔◌, inl, inr}
+use Rattle.std.proofs.Common.{◌≡◌, ◌≢◌, ◌∙◌, sym, ap, refl, ℕ, zero, suc, ◌<◌, ◌≤◌, Bool, true, false, cond, not, List, [], ◌∷◌, ◌++◌, length}
+use Rattle.std.proofs.Common.{count_by, arith, get_or, set, length-append, Option, Some, None, is_some, IsSome, IfSome, ◌↔◌, inl, inr}
 use Rattle.std.proofs.lemmas.Bool.{eq-eqb, eqb-true, ne_eqb, cond-true, cond-false, cond_both, cases_lt, cases_Bool, both_ways}
 use Rattle.std.proofs.lemmas.List.{get_or_past}
 use Rattle.std.proofs.Math.Seq.{get_or-append_seam}
@@ -13,7 +14,8 @@ use Rattle.ss_line.specs.declared.entry.Entry.{Entry}
 use Rattle.ss_line.specs.Line.{StandsIn, is_at, index_of, entry_at, place_at, place_before}
 
 -- what is read at the index of a place
-pub entry_at-read : (entries : List (At × Entry)) (at : At) (found : At × Entry) → StandsIn entries at → found ≡ get_or entries (index_of entries at) found → entry_at entries at ≡ Some found.1
+pub entry_at-read : (entries : List (At × Entry)) (at : At) (found : At × Entry) → StandsIn entries at →
+    found ≡ get_or entries (index_of entries at) found → entry_at entries at ≡ Some found.1
 entry_at-read entries at found stands is =
     ap (option_map (λ (e : At × Entry). e.1)) (find_at (is_at at) entries ∙ slice_get_read entries (length entries) (index_of entries at) found refl stands is)
 
@@ -40,7 +42,10 @@ stands-place_before entries (suc k) found is = stands-place_at entries k found i
 pub StandsIn-push : (entries : List (At × Entry)) (at : At) (entry : Entry) → StandsIn (entries ++ (at, entry) ∷ []) at
 StandsIn-push entries at entry =
     let all = entries ++ (at, entry) ∷ [] in
-    StandsIn-place_at all (length entries) at (ap (option_map (λ (e : At × Entry). e.0)) (slice_get_read all (length all) (length entries) (at, entry) refl (omega (arith, length-append entries ((at, entry) ∷ []))) (sym (get_or-append_seam entries (at, entry) [] (at, entry)))))
+    StandsIn-place_at all (length entries) at
+    (ap (option_map (λ (e : At × Entry). e.0))
+    (slice_get_read all (length all) (length entries) (at, entry) refl (omega (arith, length-append entries ((at, entry) ∷ [])))
+    (sym (get_or-append_seam entries (at, entry) [] (at, entry)))))
 
 -- an entry that the test doesn't pass is written or taken out
 find-set_other : {X : Type 0} (p : X → Bool) (xs : List X) (i : ℕ) (y d : X) → p y ≡ false → p (get_or xs i d) ≡ false → find p (set xs i y) ≡ find p xs
@@ -79,9 +84,12 @@ module _ (entries : List (At × Entry)) (at : At) where
       ] in
       ne_eqb _ _ (λ same. differ (sym same ∙ there))
 
-  pub entry_at-set_other : (other : At) (entry : Entry) → at.0 ≢ other.0 → entry_at (set entries (index_of entries other) (other, entry)) at ≡ entry_at entries at
+  pub entry_at-set_other : (other : At) (entry : Entry) → at.0 ≢ other.0 → entry_at (set entries (index_of entries other) (other, entry)) at ≡
+      entry_at entries at
   entry_at-set_other other entry differ =
-      ap (option_map (λ e. e.1)) (find-set_other (is_at at) entries (index_of entries other) (other, entry) (other, entry) (ne_eqb other.0 at.0 (λ same. differ (sym same))) (not_at-other other entry differ))
+      ap (option_map (λ e. e.1))
+      (find-set_other (is_at at) entries (index_of entries other) (other, entry) (other, entry) (ne_eqb other.0 at.0 (λ same. differ (sym same)))
+      (not_at-other other entry differ))
 
   pub entry_at-remove_other : (other : At) → at.0 ≢ other.0 → entry_at (remove entries (index_of entries other)) at ≡ entry_at entries at
   entry_at-remove_other other differ =
@@ -95,7 +103,15 @@ module _ (entries : List (At × Entry)) (at : At) where
       let left = remove entries (index_of entries at) in
       let was = cond-true {A = ℕ} _ 1 0 (passes_at_first (is_at at) entries nothing stood) in
       let is = cond-true {A = ℕ} _ 1 0 (passes_at_first (is_at at) left nothing stands) in
-      omega (arith, was, is, sum_by-remove (λ e. cond (is_at at e) 1 0) entries (index_of entries at) nothing stood, get_or-le-sum_by (λ e. cond (is_at at e) 1 0) left (index_of left at) nothing stands, once)
+      omega (
+        arith,
+        was,
+        is,
+        sum_by-remove (λ e. cond (is_at at e) 1 0) entries (index_of entries at) nothing stood,
+        get_or-le-sum_by
+            (λ e. cond (is_at at e) 1 0) left (index_of left at) nothing stands,
+        once,
+      )
 
   pub entry_at-stands : IsSome (entry_at entries at) ↔ StandsIn entries at
   entry_at-stands =
@@ -103,7 +119,9 @@ module _ (entries : List (At × Entry)) (at : At) where
       let found = ap (option_map (λ (e : At × Entry). e.1)) (find_at (is_at at) entries) in (
         λ is. elim (cases_lt index (length entries)) [
           | inl stands ↦ stands
-          | inr past ↦ absurd (both_ways false refl (sym (ap is_some (found ∙ ap (option_map (λ (e : At × Entry). e.1)) (slice_get_past entries index past))) ∙ is))
+          | inr past ↦ absurd (both_ways false refl
+              (sym (ap is_some (found ∙ ap (option_map (λ (e : At × Entry). e.1)) (slice_get_past entries index past))) ∙ is))
         ],
-        λ stands. ap is_some (found ∙ ap (option_map (λ (e : At × Entry). e.1)) (slice_get-get_or entries index (at, record { first = 0; last = 0; slot = 0 }) stands)),
+        λ stands. ap is_some (found ∙
+            ap (option_map (λ (e : At × Entry). e.1)) (slice_get-get_or entries index (at, record { first = 0; last = 0; slot = 0 }) stands)),
       )

@@ -53,7 +53,8 @@ answer-holds history query outcome whole answered =
     let s = mapped (answer_of query) (stream_named query.name (map (stream_after history) (standing history))) outcome answered in
     let of = named-after history query.name (standing history) s.0 s.1 in
     let is : answer_of query (stream_after history of.created) ≡ outcome = ap (answer_of query) (sym of.is) ∙ s.2 in
-    let holds = subst (HoldsTruth query (values_of history of.created.name) (marked_of history of.created.name)) is (stream-holds history query of.created whole) in
+    let holds = subst (HoldsTruth query (values_of history of.created.name) (marked_of history of.created.name)) is
+    (stream-holds history query of.created whole) in
     subst (λ n. HoldsTruth query (values_of history n) (marked_of history n) outcome) of.named holds
 
 kind-is : (kind : Kind) (free : ℕ → Bool) (query : Query) (ws : List Window) (marked : List (ℕ × ℤ))

@@ -58,7 +58,8 @@ lies_in-after from to t after = grind (arith, nat_tests)
 -- the values of a list and then another
 pub asked-append : (from to : ℕ) (xs ys : List (ℕ × ℤ)) → asked from to (xs ++ ys) ≡ asked from to xs ++ asked from to ys
 asked-append from to xs ys =
-    ap values_alone (filter-append (λ p. lies_in from to p.0) xs ys) ∙ map-append (λ p. p.1) (filter (λ p. lies_in from to p.0) xs) (filter (λ p. lies_in from to p.0) ys)
+    ap values_alone (filter-append (λ p. lies_in from to p.0) xs ys) ∙
+    map-append (λ p. p.1) (filter (λ p. lies_in from to p.0) xs) (filter (λ p. lies_in from to p.0) ys)
 
 module _ (free : ℕ → Bool) (from to : ℕ) where
   asked-whole : (p : ℕ × ℤ) (ps : List (ℕ × ℤ)) → RiseAtFree free (p.0 + 1) ps → from ≤ p.0 → last_time p.0 ps ≤ to
@@ -112,7 +113,8 @@ module _ (free : ℕ → Bool) (from to : ℕ) where
       let first = ap (λ (f : Figures). f.t_first) is in
       record {
         more = omega arith;
-        rising = RiseFree-RiseAtFree free w.summary.min w.summary.max 0 p (q ∷ qs) (omega arith, rising.1, rising.2) (omega (arith, ints)) (omega (arith, ints));
+        rising = RiseFree-RiseAtFree free w.summary.min w.summary.max 0 p (q ∷ qs) (omega arith, rising.1, rising.2) (omega (arith, ints))
+            (omega (arith, ints));
         is = λ i. split_of free from to (count i) (sum i) w.summary.min w.summary.max (first i) (last i);
       }
 

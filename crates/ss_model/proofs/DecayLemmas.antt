@@ -1,5 +1,6 @@
 -- How many windows stand once those that are due are joined, and how long each is.
-use Rattle.std.proofs.Common.{◌≡◌, ℕ, zero, suc, ◌+◌, ◌-◌, ◌*◌, ◌/◌, ◌^◌, ◌<◌, ◌≤◌, ℤ, inl, inr, true, false, List, [], ◌∷◌, ◌++◌, length, take, drop, refl, arith, lit≤, add_assoc, add-one, append_assoc}
+use Rattle.std.proofs.Common.{◌≡◌, ℕ, zero, suc, ◌+◌, ◌-◌, ◌*◌, ◌/◌, ◌^◌, ◌<◌, ◌≤◌, ℤ, inl, inr, true, false, List, [], ◌∷◌, ◌++◌, length, take, drop}
+use Rattle.std.proofs.Common.{refl, arith, lit≤, add_assoc, add-one, append_assoc}
 use Rattle.std.proofs.Math.Nat.{div-one, pow-suc, one-le-pow}
 use Rattle.std.proofs.lemmas.List.{append-nil, length_push}
 use Rattle.std.proofs.lemmas.List.Elements.{All-nil, All-cons, All-head, All-tail, All-push, All-weaker}
@@ -247,7 +248,8 @@ IsWithinTarget-windows len values full rising =
     (λ us p within.
     let n = length us + 1 in
     let new : Window = record { first = n; summary = summary_of (p ∷ []) } in
-    let older = All-weaker (IsWithinTarget len (length us)) (IsWithinTarget len n) (λ w. IsWithinTarget-later len (length us) w rising) (windows len us) within in
+    let older = All-weaker (IsWithinTarget len (length us)) (IsWithinTarget len n) (λ w. IsWithinTarget-later len (length us) w rising)
+    (windows len us) within in
     rw (windows_push len us p, length_push us p)
     (IsWithinTarget-closed len n (windows len us ++ new ∷ []) full (TileFrom-pushed len us p)
     (omega (arith, taken-append (windows len us) (new ∷ []), taken-windows len us))

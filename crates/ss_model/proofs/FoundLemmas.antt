@@ -1,5 +1,6 @@
 -- The one stream of a name among those of different names.
-use Rattle.std.proofs.Common.{◌≡◌, ℕ, zero, suc, ◌-◌, ◌+◌, ◌<◌, true, false, List, [], ◌∷◌, ◌++◌, length, map, get_or, refl, ap, sym, subst, ◌∙◌, arith, None, Some, inl, inr}
+use Rattle.std.proofs.Common.{◌≡◌, ℕ, zero, suc, ◌-◌, ◌+◌, ◌<◌, true, false, List, [], ◌∷◌, ◌++◌, length, map, get_or, refl, ap, sym, subst, ◌∙◌}
+use Rattle.std.proofs.Common.{arith, None, Some, inl, inr}
 use Rattle.std.specs.Prelude.{All}
 use Rattle.std.specs.List.{IsDistinct, AllByRecursion}
 use Rattle.std.specs.List.Sorted.{IsStrictlyIncreasing}
@@ -110,7 +111,9 @@ IsStrictlyIncreasing_push numbers n rising below k inside =
           rw (left, right) (rising k before))
       | inr last ↦
           (let end : k + 1 ≡ length numbers = omega arith in
-          let right : get_or (numbers ++ n ∷ []) (k + 1) 0 ≡ n = rw (get_or-append_right numbers (n ∷ []) (length numbers) (k + 1) 0 refl (omega arith)) (let same : k + 1 - length numbers ≡ 0 = omega arith in rw same refl) in
+          let right : get_or (numbers ++ n ∷ []) (k + 1) 0 ≡ n =
+          rw (get_or-append_right numbers (n ∷ []) (length numbers) (k + 1) 0 refl (omega arith)) (let same : k + 1 - length numbers ≡ 0 =
+          omega arith in rw same refl) in
           rw (left, right) (below k (omega arith)))
     ]
 

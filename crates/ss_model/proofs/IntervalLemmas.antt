@@ -14,7 +14,8 @@ use Rattle.ss_bounds.proofs.ChoiceLemmas.{IsChoice, IsChoice-min, IsChoice-max, 
 use Rattle.ss_bounds.specs.Extremes.{min_interval, max_interval}
 use Rattle.ss_bounds.proofs.ExtremeLemmas.{min_interval-Holds, max_interval-Holds}
 use Rattle.ss_bounds.proofs.TruthLemmas.{asked-MayLieThere, asked-sum}
-use Rattle.ss_model.specs.Interval.{is_whole, is_split, whole_windows, split_windows, split_figures, interval_of_count, interval_of_sum, interval_of_least, interval_of_greatest, IsExact}
+use Rattle.ss_model.specs.Interval.{is_whole, is_split, whole_windows, split_windows, split_figures, interval_of_count, interval_of_sum}
+use Rattle.ss_model.specs.Interval.{interval_of_least, interval_of_greatest, IsExact}
 use Rattle.ss_model.specs.Truth.{true_count, true_sum, true_least, true_greatest, RiseAtFree}
 use Rattle.ss_model.specs.declared.types.Window.{Window}
 use Rattle.ss_model.proofs.AskedLemmas.{Asked, whole, apart, split, asked-of, asked-append, total-alone, least-alone, greatest-alone}
@@ -175,7 +176,8 @@ module _ (free : ℕ → Bool) (from to : ℕ) where
         windows = rw not_split later.windows;
         may = later.may;
         sums = later.sums;
-        count = rw (values, is_in) (omega (arith, length-append front behind, length-alone (p ∷ ps), sum_by-cons (λ (v : Window). v.summary.count) w known, later.count));
+        count = rw (values, is_in)
+            (omega (arith, length-append front behind, length-alone (p ∷ ps), sum_by-cons (λ (v : Window). v.summary.count) w known, later.count));
         sum = rw (values, is_in) (omega (arith, ints, total-append front behind, later.sum));
         least = rw (values, is_in) (choice-ahead IsChoice-min front behind (mins_of known) inner w.summary.min (ap Some (sym min)) later.least);
         greatest = rw (values, is_in) (choice-ahead IsChoice-max front behind (maxs_of known) inner w.summary.max (ap Some (sym max)) later.greatest);
@@ -259,7 +261,8 @@ module _ (free : ℕ → Bool) (from to : ℕ) (ws : List Window) (plain marked 
       ∙ choice-last IsChoice-min min-comm known (asked from to marked) inner (least_in (asked from to plain)) parts.least in
       let holds = min_interval-Holds parts.splits parts.may (least_in (known ++ asked from to marked)) in
       subst (λ z. Holds (interval_of_least free from to ws marked) z) (sym truth)
-      (subst (λ z. Holds (min_interval (least_in (known ++ asked from to marked)) z) (lesser (least_in (known ++ asked from to marked)) (least_in inner))) parts.windows holds)
+      (subst (λ z. Holds (min_interval (least_in (known ++ asked from to marked)) z)
+      (lesser (least_in (known ++ asked from to marked)) (least_in inner))) parts.windows holds)
 
   pub greatest-Holds : Holds (interval_of_greatest free from to ws marked) (true_greatest from to plain marked)
   greatest-Holds =
@@ -271,7 +274,8 @@ module _ (free : ℕ → Bool) (from to : ℕ) (ws : List Window) (plain marked 
       ∙ choice-last IsChoice-max max-comm known (asked from to marked) inner (greatest_in (asked from to plain)) parts.greatest in
       let holds = max_interval-Holds parts.splits parts.may (greatest_in (known ++ asked from to marked)) in
       subst (λ z. Holds (interval_of_greatest free from to ws marked) z) (sym truth)
-      (subst (λ z. Holds (max_interval (greatest_in (known ++ asked from to marked)) z) (greater (greatest_in (known ++ asked from to marked)) (greatest_in inner))) parts.windows holds)
+      (subst (λ z. Holds (max_interval (greatest_in (known ++ asked from to marked)) z)
+      (greater (greatest_in (known ++ asked from to marked)) (greatest_in inner))) parts.windows holds)
 
 min_table-exact : (e : Option ℤ) → IsExact (min_interval e [])
 min_table-exact None = tt

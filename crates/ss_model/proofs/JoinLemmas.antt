@@ -1,5 +1,6 @@
 -- Joining windows that are due: what it leads to, and what it leaves.
-use Rattle.std.proofs.Common.{◌≡◌, ℕ, zero, suc, ◌+◌, ◌-◌, ◌==◌, Bool, true, false, cond, List, [], ◌∷◌, ◌++◌, refl, sym, ap, ◌∙◌, subst, ℤ, length, arith, append_assoc, length-append}
+use Rattle.std.proofs.Common.{◌≡◌, ℕ, zero, suc, ◌+◌, ◌-◌, ◌==◌, Bool, true, false, cond, List, [], ◌∷◌, ◌++◌, refl, sym, ap, ◌∙◌, subst, ℤ, length}
+use Rattle.std.proofs.Common.{arith, append_assoc, length-append}
 use Rattle.std.specs.Prelude.{IsTrue}
 use Rattle.std.specs.List.{list_all}
 use Rattle.std.proofs.lemmas.Bool.{and_from, and_parts, cond-true, cond-false, cond_both, eqb-true}
@@ -62,14 +63,16 @@ closed_onto-due len n first x [] w v vs tiles due =
     (closed_onto len n (joined_window x w) (v ∷ vs)) (x ∷ closed_onto len n w (v ∷ vs)) tests
     (λ (fit : fits len x.first (last_position w) n ≡ true).
     ap (λ z. closed_onto len n z vs) (sym (joined_window_assoc x w v))
-    ∙ sym (cond-true _ (closed_onto len n (joined_window (joined_window x w) v) vs) (joined_window x w ∷ closed_onto len n v vs) (sym (fits-due len n first x w v vs tiles due) ∙ fit)))
+    ∙ sym (cond-true _ (closed_onto len n (joined_window (joined_window x w) v) vs) (joined_window x w ∷ closed_onto len n v vs)
+    (sym (fits-due len n first x w v vs tiles due) ∙ fit)))
     (λ (unfit : fits len x.first (last_position w) n ≡ false).
     ap (λ zs. x ∷ zs) (sym (cond-true _ (closed_onto len n one vs) (w ∷ closed_onto len n v vs) due)))
 closed_onto-due len n first x (u ∷ us) w v vs tiles due =
     same_choice (fits len x.first (last_position u) n) (fits len x.first (last_position u) n)
     (closed_onto len n (joined_window x u) (us ++ joined_window w v ∷ vs)) (x ∷ closed_onto len n u (us ++ joined_window w v ∷ vs))
     (closed_onto len n (joined_window x u) (us ++ w ∷ v ∷ vs)) (x ∷ closed_onto len n u (us ++ w ∷ v ∷ vs)) refl
-    (λ (fit : fits len x.first (last_position u) n ≡ true). closed_onto-due len n first (joined_window x u) us w v vs (TileFrom_joined first x u (us ++ w ∷ v ∷ vs) tiles) due)
+    (λ (fit : fits len x.first (last_position u) n ≡ true). closed_onto-due len n first (joined_window x u) us w v vs
+    (TileFrom_joined first x u (us ++ w ∷ v ∷ vs) tiles) due)
     (λ (unfit : fits len x.first (last_position u) n ≡ false). ap (λ zs. x ∷ zs) (closed_onto-due len n (first + x.summary.count) u us w v vs tiles.2 due))
 
 closed-due : (len : ℕ → ℕ) (n : ℕ) (us : List Window) (w v : Window) (vs : List Window) → TileFrom 1 (us ++ w ∷ v ∷ vs) →
@@ -77,7 +80,8 @@ closed-due : (len : ℕ → ℕ) (n : ℕ) (us : List Window) (w v : Window) (vs
 closed-due len n [] w v vs tiles due = sym (cond-true _ (closed_onto len n (joined_window w v) vs) (w ∷ closed_onto len n v vs) due)
 closed-due len n (u ∷ us) w v vs tiles due = closed_onto-due len n 1 u us w v vs tiles due
 
-TileFrom-due : (first : ℕ) (us : List Window) (w v : Window) (vs : List Window) → TileFrom first (us ++ w ∷ v ∷ vs) → TileFrom first (us ++ joined_window w v ∷ vs)
+TileFrom-due : (first : ℕ) (us : List Window) (w v : Window) (vs : List Window) → TileFrom first (us ++ w ∷ v ∷ vs) →
+    TileFrom first (us ++ joined_window w v ∷ vs)
 TileFrom-due first [] w v vs tiles = TileFrom_joined first w v vs tiles
 TileFrom-due first (u ∷ us) w v vs tiles = (tiles.0, tiles.1, TileFrom-due (first + u.summary.count) us w v vs tiles.2)
 
@@ -126,7 +130,8 @@ pub closed-interrupted : (len : ℕ → ℕ) (values : List (ℕ × ℤ)) (p : �
     JoinsDue len (length values + 1) (windows len values ++ record { first = length values + 1; summary = summary_of (p ∷ []) } ∷ []) ws →
     closed len (length values + 1) ws ≡ windows len (values ++ p ∷ [])
 closed-interrupted len values p ws joins =
-    closed-joins len (length values + 1) joins.0 (windows len values ++ record { first = length values + 1; summary = summary_of (p ∷ []) } ∷ []) ws (TileFrom-pushed len values p) joins.1
+    closed-joins len (length values + 1) joins.0 (windows len values ++ record { first = length values + 1; summary = summary_of (p ∷ []) } ∷ []) ws
+    (TileFrom-pushed len values p) joins.1
     ∙ sym (windows_push len values p)
 
 pub closed-only_end : (len : ℕ → ℕ) (n : ℕ) (old new : List Window) → AreWindows old → JoinsDue len n old new → NoneIsDue len n new → new ≡ closed len n old
@@ -156,14 +161,22 @@ AreWindows-joins : (len : ℕ → ℕ) (n k : ℕ) (old new : List Window) → A
 AreWindows-joins len n zero old new tiles same = subst AreWindows same tiles
 AreWindows-joins len n (suc k) old new tiles joins =
     let one = joins.1 in
-    AreWindows-joins len n k joins.0 new (subst AreWindows (sym one.is) (AreWindows_two one.before one.rest one.window one.next (subst AreWindows one.was tiles))) joins.2
+    AreWindows-joins len n k joins.0 new
+    (subst AreWindows (sym one.is) (AreWindows_two one.before one.rest one.window one.next (subst AreWindows one.was tiles))) joins.2
 
 pub AreWindows-JoinsDue : (len : ℕ → ℕ) (n : ℕ) (old new : List Window) → AreWindows old → JoinsDue len n old new → AreWindows new
 AreWindows-JoinsDue len n old new tiles joins = AreWindows-joins len n joins.0 old new tiles joins.1
 
 taken_two : (us vs : List Window) (w v : Window) → taken (us ++ joined_window w v ∷ vs) ≡ taken (us ++ w ∷ v ∷ vs)
 taken_two us vs w v =
-    omega (arith, taken-append us (joined_window w v ∷ vs), taken-append us (w ∷ v ∷ vs), taken-cons (joined_window w v) vs, taken-cons w (v ∷ vs), taken-cons v vs)
+    omega (
+      arith,
+      taken-append us (joined_window w v ∷ vs),
+      taken-append us (w ∷ v ∷ vs),
+      taken-cons (joined_window w v) vs,
+      taken-cons w (v ∷ vs),
+      taken-cons v vs,
+    )
 
 taken-joins : (len : ℕ → ℕ) (n k : ℕ) (old new : List Window) → Joins len n k old new → taken new ≡ taken old
 taken-joins len n zero old new same = ap taken (sym same)
@@ -184,7 +197,8 @@ newest_time-joins : (len : ℕ → ℕ) (n k : ℕ) (old new : List Window) → 
 newest_time-joins len n zero old new same = ap newest_time (sym same)
 newest_time-joins len n (suc k) old new joins =
     let one = joins.1 in
-    newest_time-joins len n k joins.0 new joins.2 ∙ ap newest_time one.is ∙ newest_time_two one.before one.rest one.window one.next ∙ ap newest_time (sym one.was)
+    newest_time-joins len n k joins.0 new joins.2 ∙ ap newest_time one.is ∙ newest_time_two one.before one.rest one.window one.next ∙
+    ap newest_time (sym one.was)
 
 pub newest_time-JoinsDue : (len : ℕ → ℕ) (n : ℕ) (old new : List Window) → JoinsDue len n old new → newest_time new ≡ newest_time old
 newest_time-JoinsDue len n old new joins = newest_time-joins len n joins.0 old new joins.1

@@ -1,5 +1,6 @@
 -- The landmarks of a stream: their latest time, and which times stay free when they change and when windows are joined.
-use Rattle.std.proofs.Common.{◌≡◌, ℕ, ◌+◌, ◌-◌, ◌<◌, ◌≤◌, ℤ, Bool, true, false, ◌&&◌, List, [], ◌∷◌, map, max, refl, ap, sym, subst, ◌∙◌, arith, Option, None, Some, IfSome, MatchOption, is_none, inl, inr}
+use Rattle.std.proofs.Common.{◌≡◌, ℕ, ◌+◌, ◌-◌, ◌<◌, ◌≤◌, ℤ, Bool, true, false, ◌&&◌, List, [], ◌∷◌, map, max, refl, ap, sym, subst, ◌∙◌, arith}
+use Rattle.std.proofs.Common.{Option, None, Some, IfSome, MatchOption, is_none, inl, inr}
 use Rattle.std.specs.Prelude.{All, ◌⊎◌, nat_le, option_to_list, is_some}
 use Rattle.std.specs.List.{fold, list_all}
 use Rattle.std.proofs.lemmas.Bool.{cases_Bool, cond-true, cond-false, and_right, le-leb, lt-leb, leb-true}
@@ -163,7 +164,8 @@ closed-alike from (l ∷ []) t u order begun le = elim (cases-finish l.finish) [
 ]
 closed-alike from (l ∷ next ∷ ls) t u order begun le = elim (cases-finish l.finish) [
   | inl is ↦
-      absurd (let last : next ∷ ls ≡ [] = subst (λ (f : Option ℕ). MatchOption f (next ∷ ls ≡ []) (λ finish. FollowFrom (finish + 1) (next ∷ ls))) is order.2 in cc)
+      absurd (let last : next ∷ ls ≡ [] = subst (λ (f : Option ℕ). MatchOption f (next ∷ ls ≡ []) (λ finish. FollowFrom (finish + 1) (next ∷ ls))) is
+      order.2 in cc)
   | inr some ↦
       (let later : FollowFrom (some.0 + 1) (next ∷ ls) =
       subst (λ (f : Option ℕ). MatchOption f (next ∷ ls ≡ []) (λ finish. FollowFrom (finish + 1) (next ∷ ls))) some.1 order.2 in

@@ -72,7 +72,8 @@ crowded-sum = refl
 abbrev single : List Landmark
 single = record { start = 100; finish = Some 100; values = record { t = 100; v = pos 7 } ∷ [] } ∷ []
 
-marked_before : map (λ (range : ℕ × ℕ). interval_of_sum (is_free single) range.0 range.1 (windows (exp_length 2 1 1) ((101, pos 8) ∷ [])) (marked_values single))
+marked_before : map (λ (range : ℕ × ℕ). interval_of_sum (is_free single) range.0 range.1 (windows (exp_length 2 1 1) ((101, pos 8) ∷ []))
+    (marked_values single))
     ((100, 100) ∷ (101, 101) ∷ (0, 200) ∷ []) ≡ (pos 7, pos 7) ∷ (pos 8, pos 8) ∷ (pos 15, pos 15) ∷ []
 unfolding index_of sum_interval
 marked_before = refl

@@ -50,7 +50,8 @@ named-changed_other name other change (s ∷ ss) apart keeps =
     ]
 
 name-taken : (t : ℕ) (v : ℤ) (s : Stream) → (with_taken s t v).name ≡ s.name
-name-taken t v s = cond_both (has_open s.landmarks) (record s { landmarks = with_marked s.landmarks t v }) (with_value s t v) (λ (u : Stream). u.name ≡ s.name) (λ begun. refl) (λ none. refl)
+name-taken t v s = cond_both (has_open s.landmarks) (record s { landmarks = with_marked s.landmarks t v }) (with_value s t v)
+    (λ (u : Stream). u.name ≡ s.name) (λ begun. refl) (λ none. refl)
 
 option_or-none : {X : Type 0} (o : Option X) → option_or o None ≡ o
 option_or-none None = refl

@@ -1,5 +1,6 @@
 -- The values of a stream of a history that lie outside landmarks stand at rising times, and no landmark covers any of them.
-use Rattle.std.proofs.Common.{◌≡◌, ℕ, ◌+◌, ◌<◌, ◌≤◌, ℤ, Bool, true, false, not, ◌&&◌, List, [], ◌∷◌, ◌++◌, map, refl, ap, sym, ◌∙◌, subst, arith, Option, Some, None, is_some, length, inl, inr}
+use Rattle.std.proofs.Common.{◌≡◌, ℕ, ◌+◌, ◌<◌, ◌≤◌, ℤ, Bool, true, false, not, ◌&&◌, List, [], ◌∷◌, ◌++◌, map, refl, ap, sym, ◌∙◌, subst, arith}
+use Rattle.std.proofs.Common.{Option, Some, None, is_some, length, inl, inr}
 use Rattle.std.specs.Prelude.{All, ◌==◌}
 use Rattle.std.specs.Option.{option_map_or}
 use Rattle.std.proofs.lemmas.Bool.{cases_Bool}
@@ -232,7 +233,8 @@ LieFree-for history name (Open other t) whole accepted is before =
     subst LieFree (sym (given_to-event history name (Open other t) ((same_name-Decides name other).1 is) refl)) (LieFree-opened history name t here before)
 LieFree-for history name (Close other t) whole accepted is before =
     let here = subst (λ n. refuses (state history) (Close n t) ≡ None) (sym is) accepted in
-    subst LieFree (sym (given_to-event history name (Close other t) ((same_name-Decides name other).1 is) refl)) (LieFree-closed history name t whole here before)
+    subst LieFree (sym (given_to-event history name (Close other t) ((same_name-Decides name other).1 is) refl))
+    (LieFree-closed history name t whole here before)
 
 LieFree-event : (history : List Event) (name : List ℕ) (event : Event) → IsHistory history → refuses (state history) event ≡ None
     → LieFree (given_to history name) → LieFree (given_to (history ++ event ∷ []) name)

@@ -127,7 +127,29 @@ JoinsDue-newer_first = (
   2,
   (
     ending (2 ∷ 4 ∷ 6 ∷ []),
-    record { before = older ∷ newer ∷ []; window = reading 5 50 (pos 9); next = reading 6 60 (pos 2); rest = reading 7 70 (pos 7) ∷ []; was = refl; is = refl; due = refl },
-    (ending (4 ∷ 6 ∷ []), record { before = []; window = older; next = newer; rest = pair ∷ reading 7 70 (pos 7) ∷ []; was = refl; is = refl; due = refl }, refl),
+    record {
+      before = older ∷ newer ∷ [];
+      window = reading 5 50 (pos 9);
+      next = reading 6 60 (pos 2);
+      rest = reading 7 70 (pos 7) ∷ [];
+      was =
+          refl;
+      is = refl;
+      due = refl;
+    },
+    (
+      ending (4 ∷ 6 ∷ []),
+      record {
+        before = [];
+        window = older;
+        next = newer;
+        rest = pair ∷ reading 7 70 (pos 7) ∷ [];
+        was = refl;
+        is = refl;
+        due =
+            refl;
+      },
+      refl,
+    ),
   ),
 )

@@ -1,5 +1,6 @@
 -- What every state meets, through one step.
-use Rattle.std.proofs.Common.{◌≡◌, ℕ, ◌+◌, ◌<◌, ◌≤◌, ℤ, Bool, true, false, not, List, [], ◌∷◌, ◌++◌, length, refl, ap, sym, ◌∙◌, arith, None, Some, subst, inl, inr}
+use Rattle.std.proofs.Common.{◌≡◌, ℕ, ◌+◌, ◌<◌, ◌≤◌, ℤ, Bool, true, false, not, List, [], ◌∷◌, ◌++◌, length, refl, ap, sym, ◌∙◌, arith, None, Some}
+use Rattle.std.proofs.Common.{subst, inl, inr}
 use Rattle.std.specs.Prelude.{All, Option, FitsSigned, nat_le, ◌||◌, ◌==◌}
 use Rattle.std.specs.Int.{w64}
 use Rattle.std.specs.List.{IsDistinct, list_any}
@@ -31,7 +32,8 @@ use Rattle.ss_model.specs.declared.types.TheConstants.{MOST_RECORDS}
 use Rattle.ss_model.specs.declared.types.Window.{Window}
 use Rattle.ss_model.proofs.FoundLemmas.{IsFound, found, changed-found, stream_named-at, below_next, IsStrictlyIncreasing_push, IsDistinct_push, All-around}
 use Rattle.ss_model.proofs.StepLemmas.{CanCreate, CanAppend, CanOpenAt, CanCloseAt, CanCreate-refuses, CanAppend-refuses, CanOpenAt-refuses, CanCloseAt-refuses}
-use Rattle.ss_model.proofs.StreamLemmas.{IsStream-closed, IsStream-marked, IsStream-opened, IsStream-value, past-early, records_of-closed, records_of-marked, records_of-opened}
+use Rattle.ss_model.proofs.StreamLemmas.{IsStream-closed, IsStream-marked, IsStream-opened, IsStream-value, past-early, records_of-closed}
+use Rattle.ss_model.proofs.StreamLemmas.{records_of-marked, records_of-opened}
 use Rattle.ss_model.proofs.Tiles.{AreWindows-nil}
 
 -- closing makes no windows
@@ -155,7 +157,8 @@ module _ {name : List ℕ} {streams : List Stream} (at : IsFound name streams) w
   IsStream-found was = (All-around IsStream at.before at.stream at.after (subst (All IsStream) at.is was.each)).one
 
 pub IsPossible-single : (t : ℕ) (v : ℤ) → t ≤ LATEST_TIME → FitsSigned w64 v → IsPossible (summary_of ((t, v) ∷ []))
-IsPossible-single t v early fits = IsPossible-summary_of ((t, v) ∷ []) (record { some = omega arith; few = omega arith; rising = (omega arith, early, fits, tt) })
+IsPossible-single t v early fits =
+    IsPossible-summary_of ((t, v) ∷ []) (record { some = omega arith; few = omega arith; rising = (omega arith, early, fits, tt) })
 
 -- a value, which is the open landmark's, where one is open
 pub ChangesTo-value : (s : Stream) (t : ℕ) (v : ℤ) → IsStream s → is_early s t ≡ false → is_full s ≡ false → t ≤ LAST_TIME → FitsSigned w64 v →

@@ -1,5 +1,6 @@
 -- A stream with one more event is a stream again.
-use Rattle.std.proofs.Common.{◌≡◌, ℕ, ◌+◌, ◌<◌, ◌≤◌, ℤ, true, false, not, ◌&&◌, List, [], ◌∷◌, ◌++◌, length, refl, ap, sym, subst, ◌∙◌, arith, Option, None, Some, MatchOption, inl, inr}
+use Rattle.std.proofs.Common.{◌≡◌, ℕ, ◌+◌, ◌<◌, ◌≤◌, ℤ, true, false, not, ◌&&◌, List, [], ◌∷◌, ◌++◌, length, refl, ap, sym, subst, ◌∙◌, arith, Option}
+use Rattle.std.proofs.Common.{None, Some, MatchOption, inl, inr}
 use Rattle.std.specs.Prelude.{FitsSigned, ◌==◌, is_some, IsNone}
 use Rattle.std.specs.Int.{w64}
 use Rattle.std.specs.List.{list_all}
@@ -30,7 +31,8 @@ use Rattle.ss_model.specs.Steps.{single_window, with_value}
 use Rattle.ss_model.specs.Windows.{newest_time}
 use Rattle.ss_model.specs.declared.types.Window.{Window}
 use Rattle.ss_model.proofs.JoinLemmas.{AreWindows-JoinsDue, JoinsDue-closed, lie_free-JoinsDue}
-use Rattle.ss_model.proofs.MarkLemmas.{cases_end, free-later, is_free-closed, is_free-marked, is_free-opened, lie_free-same, lie_free-same_all, lies_free-single}
+use Rattle.ss_model.proofs.MarkLemmas.{cases_end, free-later, is_free-closed, is_free-marked, is_free-opened, lie_free-same, lie_free-same_all}
+use Rattle.ss_model.proofs.MarkLemmas.{lies_free-single}
 use Rattle.ss_model.proofs.Tiles.{AreWindows_push}
 
 -- ---- what the refusals leave

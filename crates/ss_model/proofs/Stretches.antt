@@ -103,4 +103,5 @@ stretches_push before end (b ∷ bs) (q ∷ qs) p count rising =
     let above = rising.0 in
     let short : k ≤ length (q ∷ qs) = omega arith in
     let later = stretches_push b end bs (drop k (q ∷ qs)) p back rising.1 in
-    rw (take-append-le k (q ∷ qs) (p ∷ []) short, drop-append-le k (q ∷ qs) (p ∷ []) short) (ap (λ ws. record { first = before + 1; summary = summary_of (take k (q ∷ qs)) } ∷ ws) later)
+    rw (take-append-le k (q ∷ qs) (p ∷ []) short, drop-append-le k (q ∷ qs) (p ∷ []) short)
+    (ap (λ ws. record { first = before + 1; summary = summary_of (take k (q ∷ qs)) } ∷ ws) later)

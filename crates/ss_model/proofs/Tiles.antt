@@ -1,5 +1,6 @@
 -- Windows tile after an append and after a close, and what follows of two side by side.
-use Rattle.std.proofs.Common.{◌≡◌, ℕ, ◌+◌, ◌<◌, ℤ, List, [], ◌∷◌, ◌++◌, length, Some, refl, arith, add_assoc, add-zero, ◌∙◌, sym, ap, subst, get_or, take, drop, append_assoc}
+use Rattle.std.proofs.Common.{◌≡◌, ℕ, ◌+◌, ◌<◌, ℤ, List, [], ◌∷◌, ◌++◌, length, Some, refl, arith, add_assoc, add-zero, ◌∙◌, sym, ap, subst, get_or}
+use Rattle.std.proofs.Common.{take, drop, append_assoc}
 use Rattle.std.proofs.lemmas.List.{take-append-drop, drop_more}
 use Rattle.std.proofs.lemmas.Bool.{cond_both}
 use Rattle.std.proofs.lemmas.List.Sums.{sum_by-append}
@@ -99,7 +100,15 @@ pub AreWindows_joined : (us vs : List Window) (w v : Window) → AreWindows (us 
     IsPossible (joined w.summary v.summary) → AreWindows (us ++ joined_window w v ∷ vs)
 AreWindows_joined us vs w v tiles possible = record {
   stand = StandFrom_joined 1 0 us vs w v possible tiles.stand;
-  few = omega (arith, tiles.few, taken-append us (w ∷ v ∷ vs), taken-append us (joined_window w v ∷ vs), taken-cons w (v ∷ vs), taken-cons v vs, taken-cons (joined_window w v) vs);
+  few = omega (
+    arith,
+    tiles.few,
+    taken-append us (w ∷ v ∷ vs),
+    taken-append us (joined_window w v ∷ vs),
+    taken-cons w (v ∷ vs),
+    taken-cons v vs,
+    taken-cons (joined_window w v) vs,
+  );
 }
 
 pub AreWindows-closed_onto : (len : ℕ → ℕ) (n : ℕ) (us : List Window) (w : Window) (ws : List Window) →

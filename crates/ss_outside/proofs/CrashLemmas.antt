@@ -53,7 +53,8 @@ module _ (old mid new : Told) (P : List ℕ → Type 0) where
   goes_on so_far time here = record {
     later = omega (arith, so_far.later, time.later);
     each = λ image left. ⊎_elim (so_far.each image) (here image) (time.nothing_else old.moment image so_far.later left);
-    earlier = λ t image le left. ⊎_elim (so_far.earlier t image le) (λ now. inr (here image now)) (time.nothing_else t image (omega (arith, le, so_far.later)) left);
+    earlier = λ t image le left. ⊎_elim (so_far.earlier t image le) (λ now. inr (here image now))
+        (time.nothing_else t image (omega (arith, le, so_far.later)) left);
   }
 
 -- calls that change nothing
@@ -79,7 +80,8 @@ reads-joined old mid new first second = record {
   same = same-joined old mid new first.same second.same;
   time = record {
     later = omega (arith, first.time.later, second.time.later);
-    nothing_else = λ t image le left. ⊎_elim (λ was. ⊎_elim (λ left. inl left) (λ is. inr ((second.same.images image).0 is)) (first.time.nothing_else t image le was)) (λ is. inr is)
+    nothing_else = λ t image le left. ⊎_elim
+        (λ was. ⊎_elim (λ left. inl left) (λ is. inr ((second.same.images image).0 is)) (first.time.nothing_else t image le was)) (λ is. inr is)
         (second.time.nothing_else t image (omega (arith, le, first.time.later)) left);
     keeps = λ t image le left. second.time.keeps t image (omega (arith, le, first.time.later)) (first.time.keeps t image le left);
   };

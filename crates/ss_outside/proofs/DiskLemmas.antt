@@ -10,7 +10,8 @@ use Rattle.ss_outside.specs.Disk.{AreBytes, IsOutside, IsOutsideAll, Torn, IsIma
 
 -- with nothing pending there is one image
 pub only_image : (synced image : List ℕ) → IsImage synced [] (length synced) image → image ≡ synced
-only_image synced image is = ext_get_or 0 image synced (omega (arith, is.no_shorter, is.no_longer)) (λ place lt. is.kept place (omega (arith, lt, is.no_longer)) tt)
+only_image synced image is = ext_get_or 0 image synced (omega (arith, is.no_shorter, is.no_longer))
+    (λ place lt. is.kept place (omega (arith, lt, is.no_longer)) tt)
 
 -- and that is what was synced
 pub image_now : (synced : List ℕ) → AreBytes synced → IsImage synced [] (length synced) synced
@@ -24,7 +25,8 @@ cases_place at count place = elim (cases_lt place at) [
 
 module _ (synced : List ℕ) (pending : List (ℕ × ℕ)) (longest at count : ℕ) where
   -- a torn image is an image with the range pending
-  pub torn_is_image : (old new : List ℕ) → IsImage synced pending longest old → Torn at count old new → IsImage synced ((at, count) ∷ pending) (max longest (at + count)) new
+  pub torn_is_image : (old new : List ℕ) → IsImage synced pending longest old → Torn at count old new →
+      IsImage synced ((at, count) ∷ pending) (max longest (at + count)) new
   torn_is_image old new is torn = record {
     no_shorter = omega (arith, is.no_shorter, torn.no_shorter);
     no_longer = omega (arith, is.no_longer, torn.no_longer);
@@ -55,7 +57,8 @@ module _ (synced : List ℕ) (pending : List (ℕ × ℕ)) (longest at count : �
       ]
     ]
 
-    stood_synced : EachIndex synced (λ place. IsOutsideAll ((at, count) ∷ pending) place → get_or new place 0 ≡ get_or synced place 0) → (place : ℕ) → place < length synced → IsOutsideAll pending place → stood place ≡ get_or synced place 0
+    stood_synced : EachIndex synced (λ place. IsOutsideAll ((at, count) ∷ pending) place → get_or new place 0 ≡ get_or synced place 0) → (place : ℕ) →
+        place < length synced → IsOutsideAll pending place → stood place ≡ get_or synced place 0
     stood_synced kept place lt others = elim (cases_place at count place) [
       | inl out ↦ stood_outside place out ∙ kept place lt (out, others)
       | inr is ↦ stood_inside place is.0 is.1 ∙ get_or_default synced place (get_or new place 0) 0 lt
@@ -73,7 +76,8 @@ module _ (synced : List ℕ) (pending : List (ℕ × ℕ)) (longest at count : �
     get_or-old place lt = get_or-map-range_with_len stood 0 (min (length new) longest) place place 0 (omega (arith, lt, length-old)) (omega arith)
 
     -- an image with the range pending is some image, torn there
-    pub image_is_torn : AreBytes synced → length synced ≤ longest → IsImage synced ((at, count) ∷ pending) (max longest (at + count)) new → (old : List ℕ) × IsImage synced pending longest old × Torn at count old new
+    pub image_is_torn : AreBytes synced → length synced ≤ longest → IsImage synced ((at, count) ∷ pending) (max longest (at + count)) new →
+        (old : List ℕ) × IsImage synced pending longest old × Torn at count old new
     image_is_torn synced_bytes short is = (
       old,
       record {
@@ -110,7 +114,8 @@ module _ (content bytes : List ℕ) (at : ℕ) (within : at ≤ length content) 
     ]
     | inr is ↦
         let there : at + (place - at) ≡ place = omega (arith, is.0) in
-        let same = subst (λ p. get_or (overwrite content at bytes) p 0 ≡ get_or bytes (place - at) 0) there (get_or-overwrite_inside (place - at) (omega (arith, is.0, is.1))) in
+        let same = subst (λ p. get_or (overwrite content at bytes) p 0 ≡ get_or bytes (place - at) 0) there
+        (get_or-overwrite_inside (place - at) (omega (arith, is.0, is.1))) in
         omega (arith, same, new_bytes (place - at) (omega (arith, is.0, is.1)))
   ]
 

@@ -7,7 +7,8 @@ use Rattle.ss_outside.proofs.MemDiskTime.{time_push}
 use Rattle.ss_outside.proofs.PastLemmas.{replay-append}
 use Rattle.ss_outside.specs.Crash.{Elapses}
 use Rattle.ss_outside.specs.Disk.{overwrite, IsImage, BecomesPending, StaysSame, NothingPending}
-use Rattle.ss_outside.specs.MemDisk.{DiskCall, Wrote, Tore, Synced, DiskState, MemDiskState, fresh, pend, step, now, Leaves, told_by, IsListed, IsConsistent, answered, failed, starved, with_change}
+use Rattle.ss_outside.specs.MemDisk.{DiskCall, Wrote, Tore, Synced, DiskState, MemDiskState, fresh, pend, step, now, Leaves, told_by, IsListed}
+use Rattle.ss_outside.specs.MemDisk.{IsConsistent, answered, failed, starved, with_change}
 use Rattle.ss_outside.specs.declared.source.Failed.{Failed}
 
 stepped : (s : MemDiskState) (call : DiskCall) → now (with_change s call) ≡ step (now s) call
@@ -35,12 +36,15 @@ module _ (old new : MemDiskState) where
           inr (subst (λ (t : DiskState). IsImage t.synced t.pending t.longest image) (sym is) model);
     }
 
-    pub pending_written : IsConsistent (now old) → IsConsistent (now new) → (result : Result (Unit {0}) Failed) → OnOk result (new ≡ with_change (answered old) (Wrote at bytes))
+    pub pending_written : IsConsistent (now old) → IsConsistent (now new) → (result : Result (Unit {0}) Failed) →
+        OnOk result (new ≡ with_change (answered old) (Wrote at bytes))
         → OnErr result ((IsListed old × (new ≡ with_change (failed old) (Tore at (length bytes)))) ⊎ (new ≡ starved old))
         → BecomesPending at (length bytes) (told_by old) (told_by new) ⊎ (IsErr result × StaysSame (told_by old) (told_by new))
     pending_written sound_old sound_new (Ok done) is none = inl (pends _ sound_old sound_new (ap now is ∙ stepped (answered old) (Wrote at bytes)))
-    pending_written sound_old sound_new (Err e) none (inl tore) = inl (pends _ sound_old sound_new (ap now tore.1 ∙ stepped (failed old) (Tore at (length bytes))))
-    pending_written sound_old sound_new (Err e) none (inr short) = inr (refl, subst (λ (s : MemDiskState). StaysSame (told_by old) (told_by s)) (sym short) (reads-none (told_by old)).same)
+    pending_written sound_old sound_new (Err e) none (inl tore) =
+        inl (pends _ sound_old sound_new (ap now tore.1 ∙ stepped (failed old) (Tore at (length bytes))))
+    pending_written sound_old sound_new (Err e) none (inr short) =
+        inr (refl, subst (λ (s : MemDiskState). StaysSame (told_by old) (told_by s)) (sym short) (reads-none (told_by old)).same)
 
     pub time_written : (result : Result (Unit {0}) Failed) → OnOk result (new ≡ with_change (answered old) (Wrote at bytes))
         → OnErr result ((IsListed old × (new ≡ with_change (failed old) (Tore at (length bytes)))) ⊎ (new ≡ starved old)) → Elapses (told_by old) (told_by new)
@@ -55,7 +59,8 @@ module _ (old new : MemDiskState) where
   time_synced (Err e) none (inr short) = subst (λ (s : MemDiskState). Elapses (told_by old) (told_by s)) (sym short.1) (reads-none (told_by old)).time
 
   pub state_synced : (result : Result (Unit {0}) Failed) → OnOk result (¬ IsListed old × (new ≡ with_change (answered old) Synced))
-      → OnErr result ((IsListed old × (new ≡ failed old)) ⊎ (¬ IsListed old × (new ≡ starved old))) → MatchResult result (λ _. now new ≡ fresh (now old).content) (λ _. now new ≡ now old)
+      → OnErr result ((IsListed old × (new ≡ failed old)) ⊎ (¬ IsListed old × (new ≡ starved old))) →
+      MatchResult result (λ _. now new ≡ fresh (now old).content) (λ _. now new ≡ now old)
   state_synced (Ok done) is none = ap now is.1 ∙ stepped (answered old) Synced
   state_synced (Err e) none (inl listed) = ap now listed.1
   state_synced (Err e) none (inr short) = ap now short.1

@@ -22,24 +22,31 @@ torn_not at count content bytes = record { no_shorter = omega arith; no_longer =
 
 -- one call more: `held` is what the disk then holds
 module _ (start : List ℕ) (calls after : List DiskCall) (held : List ℕ) (sound : IsConsistent (replay (fresh start) calls)) where
-  kept_more : (call : DiskCall) → after ≡ calls ++ call ∷ [] → held ≡ (step (replay (fresh start) calls) call).content → IsConsistent (step (replay (fresh start) calls) call)
+  kept_more : (call : DiskCall) → after ≡ calls ++ call ∷ [] → held ≡ (step (replay (fresh start) calls) call).content →
+      IsConsistent (step (replay (fresh start) calls) call)
       → (held ≡ (replay (fresh start) after).content) × IsConsistent (replay (fresh start) after)
   kept_more call is holds then =
       let more = ap (replay (fresh start)) is ∙ replay-append (fresh start) calls (call ∷ []) in
       (holds ∙ sym (ap (λ (s : DiskState). s.content) more), subst IsConsistent (sym more) then)
 
-  pub kept_wrote : (at : ℕ) (bytes : List ℕ) → after ≡ calls ++ Wrote at bytes ∷ [] → held ≡ overwrite (replay (fresh start) calls).content at bytes → at ≤ length (replay (fresh start) calls).content → AreBytes bytes
+  pub kept_wrote : (at : ℕ) (bytes : List ℕ) → after ≡ calls ++ Wrote at bytes ∷ [] → held ≡ overwrite (replay (fresh start) calls).content at bytes →
+      at ≤ length (replay (fresh start) calls).content → AreBytes bytes
       → (held ≡ (replay (fresh start) after).content) × IsConsistent (replay (fresh start) after)
   kept_wrote at bytes is holds within are =
-      kept_more (Wrote at bytes) is holds (sound_torn _ at (length bytes) _ sound (overwrite_is_torn (replay (fresh start) calls).content bytes at within sound.own.bytes are))
+      kept_more (Wrote at bytes) is holds
+      (sound_torn _ at (length bytes) _ sound (overwrite_is_torn (replay (fresh start) calls).content bytes at within sound.own.bytes are))
 
-  pub kept_tore : (at count : ℕ) → after ≡ calls ++ Tore at count ∷ [] → held ≡ (replay (fresh start) calls).content → (held ≡ (replay (fresh start) after).content) × IsConsistent (replay (fresh start) after)
+  pub kept_tore : (at count : ℕ) → after ≡ calls ++ Tore at count ∷ [] → held ≡ (replay (fresh start) calls).content →
+      (held ≡ (replay (fresh start) after).content) × IsConsistent (replay (fresh start) after)
   kept_tore at count is holds = kept_more (Tore at count) is holds (sound_torn _ at count _ sound (torn_not at count _ sound.own.bytes))
 
-  pub kept_synced : after ≡ calls ++ Synced ∷ [] → held ≡ (replay (fresh start) calls).content → (held ≡ (replay (fresh start) after).content) × IsConsistent (replay (fresh start) after)
+  pub kept_synced : after ≡ calls ++ Synced ∷ [] → held ≡ (replay (fresh start) calls).content →
+      (held ≡ (replay (fresh start) after).content) × IsConsistent (replay (fresh start) after)
   kept_synced is holds = kept_more Synced is holds (sound_fresh _ sound.own.bytes)
 
 -- the calls up to the last good sync and those since
-pub replay_synced : (start : List ℕ) (calls : List DiskCall) (synced : ℕ) → CountsToSync synced calls → replay (fresh start) calls ≡ replay (fresh (replay (fresh start) calls).synced) (drop synced calls)
+pub replay_synced : (start : List ℕ) (calls : List DiskCall) (synced : ℕ) → CountsToSync synced calls →
+    replay (fresh start) calls ≡ replay (fresh (replay (fresh start) calls).synced) (drop synced calls)
 replay_synced start calls synced is =
-    ap (replay (fresh start)) (sym (take-append-drop synced calls)) ∙ replay-append (fresh start) (take synced calls) (drop synced calls) ∙ ap (λ (s : DiskState). replay s (drop synced calls)) (is.nothing_pending start)
+    ap (replay (fresh start)) (sym (take-append-drop synced calls)) ∙ replay-append (fresh start) (take synced calls) (drop synced calls) ∙
+    ap (λ (s : DiskState). replay s (drop synced calls)) (is.nothing_pending start)

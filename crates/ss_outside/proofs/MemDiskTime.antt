@@ -8,7 +8,8 @@ left_push : (s : DiskState) (calls : List DiskCall) (call : DiskCall) (t : ℕ) 
 left_push s [] call zero image le left = left
 left_push s [] call (suc t) image le left = absurd (omega arith)
 left_push s (c ∷ calls) call zero image le (inl is) = inl (inl is)
-left_push s (c ∷ calls) call zero image le (inr left) = ⊎_elim (λ was. inl (inr was)) (λ is. inr is) (left_push (step s c) calls call zero image (omega arith) left)
+left_push s (c ∷ calls) call zero image le (inr left) =
+    ⊎_elim (λ was. inl (inr was)) (λ is. inr is) (left_push (step s c) calls call zero image (omega arith) left)
 left_push s (c ∷ calls) call (suc t) image le left = left_push (step s c) calls call t image (omega arith) left
 
 push_keeps : (s : DiskState) (calls : List DiskCall) (call : DiskCall) (t : ℕ) (image : List ℕ) → t ≤ length calls → LeftSince s calls t image

@@ -1,8 +1,10 @@
 -- How a disk in memory goes on from call to call.
-use Rattle.std.proofs.Common.{◌≡◌, ◌⊎◌, inl, inr, ℕ, zero, suc, ◌+◌, ◌<◌, ◌≤◌, max, List, [], ◌∷◌, ◌++◌, length, length-append, add-zero, get_or, map, filter, take, drop, refl, sym, ◌∙◌, ap, subst, arith}
+use Rattle.std.proofs.Common.{◌≡◌, ◌⊎◌, inl, inr, ℕ, zero, suc, ◌+◌, ◌<◌, ◌≤◌, max, List, [], ◌∷◌, ◌++◌, length, length-append, add-zero, get_or, map}
+use Rattle.std.proofs.Common.{filter, take, drop, refl, sym, ◌∙◌, ap, subst, arith}
 use Rattle.std.specs.Prelude.{All}
 use Rattle.std.proofs.lemmas.Bool.{cases_lt}
-use Rattle.std.proofs.lemmas.List.{take-append-le, drop-append-le, take_all, drop_at, take_more, get_or-map, length-map, length_push, length-take-le, length-drop, map_push, drop_all}
+use Rattle.std.proofs.lemmas.List.{take-append-le, drop-append-le, take_all, drop_at, take_more, get_or-map, length-map, length_push, length-take-le}
+use Rattle.std.proofs.lemmas.List.{length-drop, map_push, drop_all}
 use Rattle.std.proofs.lemmas.List.Elements.{All-head, All-tail, filter-append}
 use Rattle.ss_outside.specs.Disk.{IsOutside}
 use Rattle.ss_outside.specs.MemDisk.{DiskCall, Wrote, Tore, Synced, DiskState, fresh, good_syncs, is_sync, pend, step, replay}
@@ -25,13 +27,16 @@ synced_no_longer s (Synced ∷ calls) short = synced_no_longer (step s Synced) c
 -- more bytes in the pool
 call_of-grown : (pool more : List ℕ) (change : Change) → LiesWithin (length pool) change → call_of (pool ++ more) change ≡ call_of pool change
 call_of-grown pool more (Bytes at from count) kept =
-    ap (Wrote at) (ap (take count) (drop-append-le from pool more (omega (arith, kept.0))) ∙ take-append-le count (drop from pool) more (omega (arith, kept.0, length-drop from pool)))
+    ap (Wrote at) (ap (take count) (drop-append-le from pool more (omega (arith, kept.0))) ∙
+    take-append-le count (drop from pool) more (omega (arith, kept.0, length-drop from pool)))
 call_of-grown pool more (Torn at count) kept = refl
 call_of-grown pool more Sync kept = refl
 
-pub calls-grown : (pool more : List ℕ) (changes : List Change) → All (LiesWithin (length pool)) changes → map (call_of (pool ++ more)) changes ≡ map (call_of pool) changes
+pub calls-grown : (pool more : List ℕ) (changes : List Change) → All (LiesWithin (length pool)) changes →
+    map (call_of (pool ++ more)) changes ≡ map (call_of pool) changes
 calls-grown pool more [] kept = refl
-calls-grown pool more (change ∷ changes) kept = λ i. call_of-grown pool more change (All-head (LiesWithin (length pool)) change changes kept) i ∷ calls-grown pool more changes (All-tail (LiesWithin (length pool)) change changes kept) i
+calls-grown pool more (change ∷ changes) kept = λ i. call_of-grown pool more change (All-head (LiesWithin (length pool)) change changes kept) i ∷
+    calls-grown pool more changes (All-tail (LiesWithin (length pool)) change changes kept) i
 
 pub calls-push : (pool bytes : List ℕ) (changes : List Change) (at from : ℕ) → from ≡ length pool → All (LiesWithin (length pool)) changes
     → map (call_of (pool ++ bytes)) (changes ++ Bytes at from (length bytes) ∷ []) ≡ map (call_of pool) changes ++ Wrote at bytes ∷ []
@@ -57,17 +62,20 @@ counts_sync calls = record {
   within = omega (arith, length_push calls Synced);
   since = subst AreWrites (sym (drop_all (length calls + 1) (calls ++ Synced ∷ []) (omega (arith, length_push calls Synced)))) tt;
   nothing_pending = λ start.
-      ap (replay (fresh start)) (take_all (length calls + 1) (calls ++ Synced ∷ []) (omega (arith, length_push calls Synced))) ∙ replay-append (fresh start) calls (Synced ∷ [])
+      ap (replay (fresh start)) (take_all (length calls + 1) (calls ++ Synced ∷ []) (omega (arith, length_push calls Synced))) ∙
+      replay-append (fresh start) calls (Synced ∷ [])
       ∙ ap (λ (s : DiskState). fresh s.synced) (sym (replay-append (fresh start) calls (Synced ∷ [])));
 }
 
-pub counts_write : (synced : ℕ) (calls : List DiskCall) (call : DiskCall) → CountsToSync synced calls → AreWrites (call ∷ []) → CountsToSync synced (calls ++ call ∷ [])
+pub counts_write : (synced : ℕ) (calls : List DiskCall) (call : DiskCall) → CountsToSync synced calls → AreWrites (call ∷ []) →
+    CountsToSync synced (calls ++ call ∷ [])
 counts_write synced calls call is write = record {
   within = omega (arith, is.within, length_push calls call);
   since = subst AreWrites (sym (drop-append-le synced calls (call ∷ []) is.within)) (AreWrites-push (drop synced calls) call is.since write);
   nothing_pending = λ start.
       ap (replay (fresh start)) (take-append-le synced calls (call ∷ []) is.within) ∙ is.nothing_pending start
-      ∙ ap fresh (sym (ap (λ (s : DiskState). s.synced) (replay-append (fresh start) calls (call ∷ [])) ∙ synced-write (replay (fresh start) calls) call write));
+      ∙ ap fresh (sym (ap (λ (s : DiskState). s.synced) (replay-append (fresh start) calls (call ∷ [])) ∙
+      synced-write (replay (fresh start) calls) call write));
 }
 
 no_sync_at : (calls : List DiskCall) (k : ℕ) (e : DiskCall) → AreWrites calls → k < length calls → get_or calls k e ≡ Synced → ⊥
@@ -108,22 +116,26 @@ good_syncs-push calls call =
     ap length (filter-append is_sync calls (call ∷ [])) ∙ length-append (filter is_sync calls) (filter is_sync (call ∷ []))
 
 -- one call more of those that a disk keeps
-module _ (pool : List ℕ) (changes : List Change) (calls : List DiskCall) (kept : map (call_of pool) changes ≡ calls) (k : ℕ) (lt : k < length changes) (d : Change) where
+module _ (pool : List ℕ) (changes : List Change) (calls : List DiskCall) (kept : map (call_of pool) changes ≡ calls) (k : ℕ) (lt : k < length changes)
+    (d : Change) where
   calls_more : take (k + 1) calls ≡ take k calls ++ call_of pool (get_or changes k d) ∷ []
   calls_more =
       subst (λ (l : List DiskCall). take (k + 1) l ≡ take k l ++ call_of pool (get_or changes k d) ∷ []) kept
       (take_more (map (call_of pool) changes) k (call_of pool d) (omega (arith, lt, length-map changes (call_of pool)))
       ∙ ap (λ (c : DiskCall). take k (map (call_of pool) changes) ++ c ∷ []) (get_or-map (call_of pool) changes k d (call_of pool d) lt))
 
-  pub replay_more : (s : DiskState) (change : Change) → get_or changes k d ≡ change → replay s (take (k + 1) calls) ≡ step (replay s (take k calls)) (call_of pool change)
+  pub replay_more : (s : DiskState) (change : Change) → get_or changes k d ≡ change →
+      replay s (take (k + 1) calls) ≡ step (replay s (take k calls)) (call_of pool change)
   replay_more s change is =
-      ap (replay s) calls_more ∙ replay-append s (take k calls) (call_of pool (get_or changes k d) ∷ []) ∙ ap (λ (c : Change). step (replay s (take k calls)) (call_of pool c)) is
+      ap (replay s) calls_more ∙ replay-append s (take k calls) (call_of pool (get_or changes k d) ∷ []) ∙
+      ap (λ (c : Change). step (replay s (take k calls)) (call_of pool c)) is
 
   pub counts_more_sync : get_or changes k d ≡ Sync → CountsToSync (k + 1) (take (k + 1) calls)
   counts_more_sync is =
       let more : take (k + 1) calls ≡ take k calls ++ Synced ∷ [] = calls_more ∙ ap (λ (c : Change). take k calls ++ call_of pool c ∷ []) is in
       let size : length (take k calls) ≡ k = length-take-le k calls (omega (arith, lt, ap length kept, length-map changes (call_of pool))) in
-      subst (λ (l : List DiskCall). CountsToSync (k + 1) l) (sym more) (subst (λ (n : ℕ). CountsToSync (n + 1) (take k calls ++ Synced ∷ [])) size (counts_sync (take k calls)))
+      subst (λ (l : List DiskCall). CountsToSync (k + 1) l) (sym more)
+      (subst (λ (n : ℕ). CountsToSync (n + 1) (take k calls ++ Synced ∷ [])) size (counts_sync (take k calls)))
 
   pub syncs_more_sync : get_or changes k d ≡ Sync → good_syncs (take (k + 1) calls) ≡ good_syncs (take k calls) + 1
   syncs_more_sync is = ap good_syncs (calls_more ∙ ap (λ (c : Change). take k calls ++ call_of pool c ∷ []) is) ∙ good_syncs-push (take k calls) Synced
@@ -140,7 +152,8 @@ module _ (pool : List ℕ) (changes : List Change) (calls : List DiskCall) (kept
 
   pub counts_more_write : (synced : ℕ) → CountsToSync synced (take k calls) → (get_or changes k d ≡ Sync → ⊥) → CountsToSync synced (take (k + 1) calls)
   counts_more_write synced is other =
-      subst (λ (l : List DiskCall). CountsToSync synced l) (sym calls_more) (counts_write synced (take k calls) (call_of pool (get_or changes k d)) is (write-unless_sync (get_or changes k d) other))
+      subst (λ (l : List DiskCall). CountsToSync synced l) (sym calls_more)
+      (counts_write synced (take k calls) (call_of pool (get_or changes k d)) is (write-unless_sync (get_or changes k d) other))
     where
       write-unless_sync : (change : Change) → (change ≡ Sync → ⊥) → AreWrites (call_of pool change ∷ [])
       write-unless_sync (Bytes at from count) other = tt
@@ -148,9 +161,11 @@ module _ (pool : List ℕ) (changes : List Change) (calls : List DiskCall) (kept
       write-unless_sync Sync other = other refl
 
   -- a call that writes nothing leaves the content
-  pub content_more : (s : DiskState) (content : List ℕ) → content ≡ (replay s (take k calls)).content → ((at from count : ℕ) → get_or changes k d ≡ Bytes at from count → ⊥)
+  pub content_more : (s : DiskState) (content : List ℕ) → content ≡ (replay s (take k calls)).content →
+      ((at from count : ℕ) → get_or changes k d ≡ Bytes at from count → ⊥)
       → content ≡ (replay s (take (k + 1) calls)).content
-  content_more s content is other = is ∙ sym (ap (λ (t : DiskState). t.content) (replay_more s (get_or changes k d) refl) ∙ same (replay s (take k calls)) (get_or changes k d) other)
+  content_more s content is other = is ∙
+      sym (ap (λ (t : DiskState). t.content) (replay_more s (get_or changes k d) refl) ∙ same (replay s (take k calls)) (get_or changes k d) other)
     where
       same : (t : DiskState) (change : Change) → ((at from count : ℕ) → change ≡ Bytes at from count → ⊥) → (step t (call_of pool change)).content ≡ t.content
       same t (Bytes at from count) other = absurd (other at from count refl)
@@ -160,4 +175,5 @@ module _ (pool : List ℕ) (changes : List Change) (calls : List DiskCall) (kept
   pub no_sync : AreWrites calls → get_or changes k d ≡ Sync → ⊥
   no_sync are is =
       no_sync_at calls k (call_of pool d) are (omega (arith, lt, ap length kept, length-map changes (call_of pool)))
-      (subst (λ (l : List DiskCall). get_or l k (call_of pool d) ≡ Synced) kept (get_or-map (call_of pool) changes k d (call_of pool d) lt ∙ ap (call_of pool) is))
+      (subst (λ (l : List DiskCall). get_or l k (call_of pool d) ≡ Synced) kept (get_or-map (call_of pool) changes k d (call_of pool d) lt ∙
+      ap (call_of pool) is))

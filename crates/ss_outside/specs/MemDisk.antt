@@ -1,5 +1,6 @@
 -- A disk in memory, as its calls tell it.
-use Rattle.std.specs.Prelude.{◌≡◌, ◌⊎◌, ℕ, zero, suc, ◌+◌, ◌≤◌, max, Bool, true, false, List, [], ◌∷◌, ◌++◌, length, filter, Option, None, Contains, IsSomeAnd, refl}
+use Rattle.std.specs.Prelude.{◌≡◌, ◌⊎◌, ℕ, zero, suc, ◌+◌, ◌≤◌, max, Bool, true, false, List, [], ◌∷◌, ◌++◌, length, filter, Option, None, Contains}
+use Rattle.std.specs.Prelude.{IsSomeAnd, refl}
 use mathlib.Core.Logic.{inl, inr}
 use Rattle.ss_outside.specs.Crash.{KnowsNow}
 use Rattle.ss_outside.specs.Disk.{DiskView, Told, overwrite, IsImage, AreBytes}

@@ -58,7 +58,8 @@ impl MemDisk {
     ghost use Rattle.ss_outside.specs.Verdict.{HasCause};
     ghost use Rattle.ss_outside.specs.Choice.{IsChosen};
     ghost use Rattle.ss_outside.specs.Disk.{NothingPending};
-    ghost use Rattle.ss_outside.specs.MemDisk.{Wrote, Tore, Synced, made, now, good_syncs, told_by, Leaves, IsListed, IsConsistent, answered, failed, starved, with_change};
+    ghost use Rattle.ss_outside.specs.MemDisk.{Wrote, Tore, Synced, made, now, good_syncs, told_by, Leaves, IsListed, IsConsistent, answered, failed};
+    ghost use Rattle.ss_outside.specs.MemDisk.{starved, with_change};
 
     /// A disk that holds these bytes, with nothing pending and no call listed as failing. It takes memory for a copy of
     /// them.

@@ -1,6 +1,7 @@
 -- The groups of a power-law target, one after the other, and where all its windows have one length.
 use Rattle.std.proofs.Common.{ℕ, zero, suc, ◌≡◌, ◌+◌, ◌-◌, ◌*◌, ◌/◌, ◌^◌, ◌<◌, ◌≤◌, refl, sym, ap, ◌∙◌, lit≤, arith}
-use Rattle.std.proofs.Math.Nat.{mul-pos, one-le-pow, le_trans, mul-le-mul, mul-le-mul_left, mul-le-mul_right, mul-mul-mul_comm, pow-zero, pow-suc, pow-le-pow_left, pow-le-pow_right, div-mul-le_self, lt-div-mul-add}
+use Rattle.std.proofs.Math.Nat.{mul-pos, one-le-pow, le_trans, mul-le-mul, mul-le-mul_left, mul-le-mul_right, mul-mul-mul_comm, pow-zero, pow-suc}
+use Rattle.std.proofs.Math.Nat.{pow-le-pow_left, pow-le-pow_right, div-mul-le_self, lt-div-mul-add}
 use Rattle.std.proofs.lemmas.Nat.{mul-pow, pow-add}
 use Rattle.ss_windowing.specs.FirstFit.{FindsOfLength, NoneOfLength}
 use Rattle.ss_windowing.specs.Groups.{grouped}
@@ -79,7 +80,8 @@ module _ {p q r s : ℕ} {group : Group} (h : IsPower p q r s) (at : IsGroup p q
 
   -- the group after one that ends at the greatest age or before it
   module _ (ends : group.start + group.windows * group.len ≤ MOST_VALUES) where
-    pub windows-next : ((group.newer + 2) ^ (p - 1) ≤ r * (group.newer + 2) ^ (p - 1)) × (r * (group.newer + 2) ^ (p - 1) ≤ 8 * group.windows) × (group.windows ≤ 2 ^ 40)
+    pub windows-next : ((group.newer + 2) ^ (p - 1) ≤ r * (group.newer + 2) ^ (p - 1)) × (r * (group.newer + 2) ^ (p - 1) ≤ 8 * group.windows) ×
+        (group.windows ≤ 2 ^ 40)
     windows-next =
         let next = scaled-next r (p - 1) group.newer h.repeat_low (omega (arith, h.power_high)) in
         (next.0, rw at.windows next.1, omega (arith, factors.0))
@@ -132,7 +134,8 @@ module _ {p q r s : ℕ} {group : Group} (h : IsPower p q r s) (at : IsGroup p q
     pub short-next : group.len < wanted → (j : ℕ) → j < group.index + group.windows → power_length p q r s j < wanted
     unfolding power_length
     short-next short j inside =
-        Groups.short-next (group_size p r) (group_length q s) sizes lengths (in-group {age = group.start} (omega arith)) before (rw at.len at short) j (rw at.windows at inside)
+        Groups.short-next (group_size p r) (group_length q s) sizes lengths (in-group {age = group.start} (omega arith)) before (rw at.len at short) j
+        (rw at.windows at inside)
 
     pub NoneOfLength-after : group.len < wanted → group.start ≤ MOST_VALUES → MOST_VALUES - group.start < group.windows * group.len →
         NoneOfLength (power_length p q r s) 0 wanted
@@ -145,7 +148,8 @@ module _ {p q r s : ℕ} {group : Group} (h : IsPower p q r s) (at : IsGroup p q
         FindsOfLength (power_length p q r s) 0 wanted (record { index = group.index; start = group.start; len = group.len })
     unfolding power_length
     FindsOfLength-group long begun =
-        rw at.len (Groups.FindsOfLength-group (group_size p r) (group_length q s) sizes lengths (in-group {age = MOST_VALUES} begun) before (rw at.len at long) refl)
+        rw at.len (Groups.FindsOfLength-group (group_size p r) (group_length q s) sizes lengths (in-group {age = MOST_VALUES} begun) before
+        (rw at.len at long) refl)
 
 -- where q is 0 all windows have one length
 pub even-length : (p q r s i : ℕ) → q ≡ 0 → power_length p q r s i ≡ s

@@ -35,7 +35,8 @@ reply_line (Answered outcome) = answer_line outcome
 reply_line (Refused refusal) = line_of (codes "refused") (refusal_name refusal ∷ [])
 reply_line (WindowsHead count) = line_of (codes "windows") (decimal count ∷ [])
 reply_line (Window w) =
-    line_of (decimal w.first) (decimal w.last ∷ decimal w.summary.count ∷ signed_decimal w.summary.sum ∷ signed_decimal w.summary.min ∷ signed_decimal w.summary.max ∷ decimal w.summary.t_first ∷ decimal w.summary.t_last ∷ [])
+    line_of (decimal w.first) (decimal w.last ∷ decimal w.summary.count ∷ signed_decimal w.summary.sum ∷ signed_decimal w.summary.min ∷ signed_decimal
+    w.summary.max ∷ decimal w.summary.t_first ∷ decimal w.summary.t_last ∷ [])
 reply_line (ListHead count) = line_of (codes "list") (decimal count ∷ [])
 reply_line (Stream row) =
     line_of row.name (target_words row.params ++ decimal row.n ∷ decimal row.k ∷ decimal row.landmarks ∷ decimal row.values ∷ [])

@@ -85,7 +85,8 @@ is_possible-tells f = (
       let sum : has_sum f.count f.sum f.min f.max ≡ true = grind arith in
       IsPossible-tests f times (fits-true f.min min) (fits-true f.max max) sum,
   λ possible.
-      let times = true-times f.count f.t_first f.t_last (record { low = possible.count_low; high = possible.count_high; times = possible.times; last = possible.last; one = possible.one }) in
+      let times = true-times f.count f.t_first f.t_last
+      (record { low = possible.count_low; high = possible.count_high; times = possible.times; last = possible.last; one = possible.one }) in
       let min = true-fits f.min possible.min_fits in
       let max = true-fits f.max possible.max_fits in
       let sum = true-sum f.count f.sum f.min f.max (record { order = possible.order; low = possible.sum_low; high = possible.sum_high }) in

@@ -156,9 +156,15 @@ more_values f k possible more =
     let below = least-first m others in
     let greatest_is = greatest-spread m M possible.order f.t_last k rest m (f.t_first + 1) possible.order allows in
     let last_is = last_time-spread k m M rest (f.t_first + 1) f.t_first (f.t_last, M) in
-    let rising = RiseFrom-spread m M possible.order f.t_last possible.last possible.min_fits possible.max_fits k rest (f.t_first + 1) (omega (arith, possible.times)) allows in (
+    let rising = RiseFrom-spread m M possible.order f.t_last possible.last possible.min_fits possible.max_fits k rest (f.t_first + 1)
+    (omega (arith, possible.times)) allows in (
       (f.t_first, m) ∷ others,
-      record { some = omega arith; few = omega (arith, possible.count_high); rising = (omega arith, omega (arith, possible.times, possible.last), possible.min_fits, rising) },
+      record {
+        some = omega arith;
+        few = omega (arith, possible.count_high);
+        rising =
+            (omega arith, omega (arith, possible.times, possible.last), possible.min_fits, rising);
+      },
       same_figures f _ (omega arith) (omega (arith, ints)) (omega (arith, ints)) (sym greatest_is) refl (sym last_is),
     )
 

@@ -48,7 +48,8 @@ module _ {len : ℕ → ℕ} {spot next : Spot} (full : ArePositive len) (at : I
     window = finds.window;
     first = record {
       reached = elim (cases_lt found.index (spot.index + 1)) [
-        | inl before ↦ absurd (omega (arith, next-index, window.len, finds.first.long, lengths-monotone len found.index next.index never (omega (arith, next-index))))
+        | inl before ↦ absurd
+            (omega (arith, next-index, window.len, finds.first.long, lengths-monotone len found.index next.index never (omega (arith, next-index))))
         | inr after ↦ after
       ];
       long = finds.first.long;

@@ -10,5 +10,6 @@ use Rattle.ss_arguments.proofs.reading.has_option.Goals as goal
 pub returns : goal.returns
 returns c =
     let any : c.any.result ≡ list_any (λ word. starts_with_minus (string_bytes word)) c.args.words.now =
-    any_from_yields_List (λ word. starts_with_minus (string_bytes word)) _ _ _ c.any.ensures.ran (YieldsList-from_slice c.args.words.now cc) (λ x b q k. search (rules, tests)) in
+    any_from_yields_List (λ word. starts_with_minus (string_bytes word)) _ _ _ c.any.ensures.ran (YieldsList-from_slice c.args.words.now cc)
+    (λ x b q k. search (rules, tests)) in
     any ∙ list_any-map starts_with_minus (λ word. string_bytes word) c.args.words.now

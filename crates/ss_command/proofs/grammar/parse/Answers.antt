@@ -14,11 +14,13 @@ returns-in-None-clause-meaning c =
 
 pub returns-in-Ok-clause-meaning : goal.returns-in-Ok-clause-meaning
 returns-in-Ok-clause-meaning c =
-    ap (λ read. read >>= (λ command. Ok (Some command))) c.in-Ok.ensures.meaning ∙ sym (meaning-words c.args.line.now _ c.requires (sym c.is_comment.ensures ∙ c.if-is_comment.false) (sym c.of-words.ensures ∙ c.in-Some.ensures))
+    ap (λ read. read >>= (λ command. Ok (Some command))) c.in-Ok.ensures.meaning ∙
+    sym (meaning-words c.args.line.now _ c.requires (sym c.is_comment.ensures ∙ c.if-is_comment.false) (sym c.of-words.ensures ∙ c.in-Some.ensures))
 
 pub returns-in-Err-clause-meaning : goal.returns-in-Err-clause-meaning
 returns-in-Err-clause-meaning c =
-    ap (λ read. read >>= (λ command. Ok (Some command))) c.in-Err.ensures.meaning ∙ sym (meaning-words c.args.line.now _ c.requires (sym c.is_comment.ensures ∙ c.if-is_comment.false) (sym c.of-words.ensures ∙ c.in-Some.ensures))
+    ap (λ read. read >>= (λ command. Ok (Some command))) c.in-Err.ensures.meaning ∙
+    sym (meaning-words c.args.line.now _ c.requires (sym c.is_comment.ensures ∙ c.if-is_comment.false) (sym c.of-words.ensures ∙ c.in-Some.ensures))
 
 pub returns-in-Ok-clause-sayable : goal.returns-in-Ok-clause-sayable
 returns-in-Ok-clause-sayable c = meant-sayable c.args.line.now c.in-Ok.command (sym (returns-in-Ok-clause-meaning c))

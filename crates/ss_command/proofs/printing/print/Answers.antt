@@ -7,11 +7,13 @@ use Rattle.ss_command.proofs.printing.print.Goals as goal
 
 pub returns-in-Do-clause-reads_back : goal.returns-in-Do-clause-reads_back
 returns-in-Do-clause-reads_back c =
-    ap meaning c.print_event.ensures.text ∙ meaning-printed (commands.Do c.in-Do.event) c.print_event.ensures.sayable ∙ ap (λ command. Ok (Some command)) (sym c.in-Do.is)
+    ap meaning c.print_event.ensures.text ∙ meaning-printed (commands.Do c.in-Do.event) c.print_event.ensures.sayable ∙
+    ap (λ command. Ok (Some command)) (sym c.in-Do.is)
 
 pub returns-in-Ask-clause-reads_back : goal.returns-in-Ask-clause-reads_back
 returns-in-Ask-clause-reads_back c =
-    ap meaning c.print_query.ensures.text ∙ meaning-printed (commands.Ask c.in-Ask.query) c.print_query.ensures.sayable ∙ ap (λ command. Ok (Some command)) (sym c.in-Ask.is)
+    ap meaning c.print_query.ensures.text ∙ meaning-printed (commands.Ask c.in-Ask.query) c.print_query.ensures.sayable ∙
+    ap (λ command. Ok (Some command)) (sym c.in-Ask.is)
 
 pub returns-in-Windows-clause-text : goal.returns-in-Windows-clause-text
 unfolding printed

@@ -7,4 +7,5 @@ use Rattle.ss_command.proofs.put.put_sum.Goals as goal
 pub returns-clause-short : goal.returns-clause-short
 returns-clause-short c =
     let printed = rw (to_z-of_z w128 c.args.sum c.ranges.sum) at c.print_i128.ensures in
-    length-put c.print_i128.new.out.bytes c.push_str.new.self.bytes c.args.out.now.bytes (signed_decimal c.args.sum) 40 printed c.push_str.ensures.bytes (length-signed_128 c.args.sum c.ranges.sum)
+    length-put c.print_i128.new.out.bytes c.push_str.new.self.bytes c.args.out.now.bytes (signed_decimal c.args.sum) 40 printed
+    c.push_str.ensures.bytes (length-signed_128 c.args.sum c.ranges.sum)

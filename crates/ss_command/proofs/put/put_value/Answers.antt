@@ -7,4 +7,5 @@ use Rattle.ss_command.proofs.put.put_value.Goals as goal
 pub returns-clause-short : goal.returns-clause-short
 returns-clause-short c =
     let printed = rw (to_z-of_z w64 c.args.value c.ranges.value) at c.print_i64.ensures in
-    length-put c.print_i64.new.out.bytes c.push_str.new.self.bytes c.args.out.now.bytes (signed_decimal c.args.value) 20 printed c.push_str.ensures.bytes (length-signed_64 c.args.value c.ranges.value)
+    length-put c.print_i64.new.out.bytes c.push_str.new.self.bytes c.args.out.now.bytes (signed_decimal c.args.value) 20 printed
+    c.push_str.ensures.bytes (length-signed_64 c.args.value c.ranges.value)

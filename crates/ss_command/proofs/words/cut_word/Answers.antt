@@ -14,10 +14,12 @@ pub returns-in-Some : goal.returns-in-Some
 returns-in-Some c =
     let line = c.args.line.now in
     let at = position-Some is_blank line c.in-Some.end 0 (sym c.first_blank.ensures ∙ c.in-Some.is) in
-    words-first line c.in-Some.end (behind c.in-Some.end (λ k. is_blank (get_or line k 0)) c.requires.front at.1) at.0 at.2 at.1 ∙ ap (λ rest. take c.in-Some.end line ∷ words rest) (sym (take_rest line c.in-Some.end))
+    words-first line c.in-Some.end (behind c.in-Some.end (λ k. is_blank (get_or line k 0)) c.requires.front at.1) at.0 at.2 at.1 ∙
+    ap (λ rest. take c.in-Some.end line ∷ words rest) (sym (take_rest line c.in-Some.end))
 
 pub returns-in-None : goal.returns-in-None
 returns-in-None c =
     let line = c.args.line.now in
     let none = position-None is_blank line (sym c.first_blank.ensures ∙ c.in-None.is) in
-    words-last line c.requires.some none ∙ ap (λ rest. line ∷ rest) (sym (ap words (take_rest line (length line) ∙ drop_all (length line) line (omega arith)) ∙ words-nil))
+    words-last line c.requires.some none ∙
+    ap (λ rest. line ∷ rest) (sym (ap words (take_rest line (length line) ∙ drop_all (length line) line (omega arith)) ∙ words-nil))

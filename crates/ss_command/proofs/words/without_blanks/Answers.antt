@@ -30,4 +30,5 @@ pub returns-in-None-clause-words : goal.returns-in-None-clause-words
 returns-in-None-clause-words c =
     let line = c.args.line.now in
     let none = position-None (λ b. not (is_blank b)) line (sym c.first_of_word.ensures ∙ c.in-None.is) in
-    words-blanks line (λ k below. true_from_not _ (none k below)) ∙ sym (ap words (take_rest line (length line) ∙ drop_all (length line) line (omega arith)) ∙ words-nil)
+    words-blanks line (λ k below. true_from_not _ (none k below)) ∙
+    sym (ap words (take_rest line (length line) ∙ drop_all (length line) line (omega arith)) ∙ words-nil)

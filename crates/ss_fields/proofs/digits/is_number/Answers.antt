@@ -10,7 +10,8 @@ use Rattle.ss_fields.proofs.digits.is_number.Goals as goal
 pub returns-then-not-is_empty : goal.returns-then-not-is_empty
 unfolding is_number
 returns-then-not-is_empty c =
-    let all : c.all.result ≡ list_all is_ascii_digit c.args.word.now = all_from_yields_List is_ascii_digit _ _ _ c.all.ensures.ran (YieldsList-from_slice c.args.word.now cc) (λ x b q k. search (rules, tests)) in
+    let all : c.all.result ≡ list_all is_ascii_digit c.args.word.now =
+    all_from_yields_List is_ascii_digit _ _ _ c.all.ensures.ran (YieldsList-from_slice c.args.word.now cc) (λ x b q k. search (rules, tests)) in
     grind (arith, nat_tests)
 
 pub returns-else-not-is_empty : goal.returns-else-not-is_empty

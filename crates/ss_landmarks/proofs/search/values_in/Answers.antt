@@ -14,8 +14,10 @@ returns-clause-values c =
     let a = c.args.a in
     let b = c.args.b in
     let rise = stored-rise values c.requires in
-    let from = IsPartitionPoint-from_clause (λ (value : StoredValue). ltb value.t a) values _ c.partition_point-from.ensures.partitioned (IsPartitionedBy-ltb (λ (value : StoredValue). value.t) values a rise) (λ x r q k. search rules) in
-    let to = IsPartitionPoint-from_clause (λ (value : StoredValue). leb value.t b) values _ c.partition_point-to.ensures.partitioned (IsPartitionedBy-leb (λ (value : StoredValue). value.t) values b rise) (λ x r q k. search rules) in
+    let from = IsPartitionPoint-from_clause (λ (value : StoredValue). ltb value.t a) values _ c.partition_point-from.ensures.partitioned
+    (IsPartitionedBy-ltb (λ (value : StoredValue). value.t) values a rise) (λ x r q k. search rules) in
+    let to = IsPartitionPoint-from_clause (λ (value : StoredValue). leb value.t b) values _ c.partition_point-to.ensures.partitioned
+    (IsPartitionedBy-leb (λ (value : StoredValue). value.t) values b rise) (λ x r q k. search rules) in
     let i = c.partition_point-from.result in
     let j = c.partition_point-to.result in
     let n = c.max.result - i in

@@ -23,17 +23,22 @@ loop-value-preserved c =
     let more : map value_of (take (i + 1) values) ≡ map value_of (take i values) ++ value_of (get_or values i d) ∷ [] = map_more value_of values i d below in
     let done = map value_of (take i values) in
     let sum : total (map value_of (take (i + 1) values)) ≡ total done +ℤ v = ap total more ∙ total_push done (value_of (get_or values i d)) in
-    let least_more : least (map value_of (take (i + 1) values)) ≡ Some (lesser v (least done)) = ap least more ∙ least_push done (value_of (get_or values i d)) in
-    let greatest_more : greatest (map value_of (take (i + 1) values)) ≡ Some (greater v (greatest done)) = ap greatest more ∙ greatest_push done (value_of (get_or values i d)) in
+    let least_more : least (map value_of (take (i + 1) values)) ≡ Some (lesser v (least done)) = ap least more ∙
+    least_push done (value_of (get_or values i d)) in
+    let greatest_more : greatest (map value_of (take (i + 1) values)) ≡ Some (greater v (greatest done)) = ap greatest more ∙
+    greatest_push done (value_of (get_or values i d)) in
     let taken : c.from-sum.result ≡ v = c.from-sum.ensures ∙ same in
     let taken_fits : to_z w128 (of_z w128 c.from-sum.result) ≡ c.from-sum.result = to_z-of_z w128 c.from-sum.result (omega (arith, ints)) in
     let before : ℤ = to_z w128 c.loop-value.sum-bits in
     let added : before +ℤ to_z w128 (of_z w128 c.from-sum.result) ≡ before +ℤ v = ap (λ (x : ℤ). before +ℤ x) (taken_fits ∙ taken) in
     let whole : to_z w128 (of_z w128 (before +ℤ to_z w128 (of_z w128 c.from-sum.result))) ≡ before +ℤ v =
     ap (λ (x : ℤ). to_z w128 (of_z w128 x)) added
-    ∙ to_z-of_z w128 (before +ℤ v) (sum_fits i before v c.loop-value.invariant.low c.loop-value.invariant.high fits (omega (arith, below, c.well_formed.0.1))) in
-    let lesser_is : c.lesser.result ≡ lesser v (least done) = c.lesser.ensures ∙ ap (λ (x : ℤ). lesser x c.loop-value.least) same ∙ ap (lesser v) c.loop-value.invariant.least in
-    let greater_is : c.greater.result ≡ greater v (greatest done) = c.greater.ensures ∙ ap (λ (x : ℤ). greater x c.loop-value.greatest) same ∙ ap (greater v) c.loop-value.invariant.greatest in
+    ∙ to_z-of_z w128 (before +ℤ v)
+    (sum_fits i before v c.loop-value.invariant.low c.loop-value.invariant.high fits (omega (arith, below, c.well_formed.0.1))) in
+    let lesser_is : c.lesser.result ≡ lesser v (least done) = c.lesser.ensures ∙ ap (λ (x : ℤ). lesser x c.loop-value.least) same ∙
+    ap (lesser v) c.loop-value.invariant.least in
+    let greater_is : c.greater.result ≡ greater v (greatest done) = c.greater.ensures ∙ ap (λ (x : ℤ). greater x c.loop-value.greatest) same ∙
+    ap (greater v) c.loop-value.invariant.greatest in
     record {
       count = omega arith;
       sum = whole ∙ ap (λ (x : ℤ). x +ℤ v) c.loop-value.invariant.sum ∙ sym sum;

@@ -9,4 +9,5 @@ loop-rank-preserved c =
     let at = c.loop-rank.rank-index in
     let below : at < length c.args.ranks.now = omega arith in
     ap (λ (rank : ℕ). set c.loop-rank.ranks at rank) c.lower.ensures
-    ∙ map_over_more (lower c.args.gone) c.args.ranks.now c.loop-rank.ranks at (get_or c.loop-rank.ranks at 0) below c.loop-rank.invariant (sym (get_or_default_zero c.loop-rank.ranks at _ (omega arith)))
+    ∙ map_over_more (lower c.args.gone) c.args.ranks.now c.loop-rank.ranks at (get_or c.loop-rank.ranks at 0) below c.loop-rank.invariant
+    (sym (get_or_default_zero c.loop-rank.ranks at _ (omega arith)))

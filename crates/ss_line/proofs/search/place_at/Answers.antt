@@ -9,4 +9,5 @@ use Rattle.ss_line.proofs.search.place_at.Goals as goal
 pub returns-clause-stands : goal.returns-clause-stands
 returns-clause-stands c =
     let below = c.if-index-entries.false in
-    StandsIn-place_at c.args.entries.now c.args.index _ (ap (option_map (λ (e : At × Entry). e.0)) (slice_get-get_or c.args.entries.now c.args.index _ (omega (arith, below))))
+    StandsIn-place_at c.args.entries.now c.args.index _
+    (ap (option_map (λ (e : At × Entry). e.0)) (slice_get-get_or c.args.entries.now c.args.index _ (omega (arith, below))))

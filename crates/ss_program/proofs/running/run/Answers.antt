@@ -38,20 +38,23 @@ returns-in-Ok-Some-clause-source g c status is =
 
 pub returns-in-Ok-Some-clause-reads : goal.returns-in-Ok-Some-clause-reads
 returns-in-Ok-Some-clause-reads g c plain status is input left =
-    let mode = one_mode c.in-Ok-Some.field-0 (mode_of (words_of c.args.words.now)) c.in-Ok-Some.mode Run c.in-Ok-Some.ensures.mode c.in-Ok-Some.field-0-is plain in
+    let mode = one_mode c.in-Ok-Some.field-0 (mode_of (words_of c.args.words.now)) c.in-Ok-Some.mode Run c.in-Ok-Some.ensures.mode
+    c.in-Ok-Some.field-0-is plain in
     by-number (λ s. Reads input (g.S.Source.left c.run_mode.new.source) s) c.number.result c.run_mode.result c.number.ensures
     (c.run_mode.ensures.reads mode input left) status is
 
 pub returns-in-Ok-Some-clause-serves : goal.returns-in-Ok-Some-clause-serves
 returns-in-Ok-Some-clause-serves g c plain status is input left =
-    let mode = one_mode c.in-Ok-Some.field-0 (mode_of (words_of c.args.words.now)) c.in-Ok-Some.mode Run c.in-Ok-Some.ensures.mode c.in-Ok-Some.field-0-is plain in
+    let mode = one_mode c.in-Ok-Some.field-0 (mode_of (words_of c.args.words.now)) c.in-Ok-Some.mode Run c.in-Ok-Some.ensures.mode
+    c.in-Ok-Some.field-0-is plain in
     by-number (λ s. Between (g.D.Disk.seen c.args.disk.now) (g.D.Disk.seen c.run_mode.new.disk)
     (ServesInput input (g.S.Source.left c.run_mode.new.source) (g.K.Sink.held c.args.sink.now) (g.K.Sink.held c.run_mode.new.sink) s))
     c.number.result c.run_mode.result c.number.ensures (c.run_mode.ensures.serves mode input left) status is
 
 pub returns-in-Ok-Some-clause-checks : goal.returns-in-Ok-Some-clause-checks
 returns-in-Ok-Some-clause-checks g c asked status is =
-    let mode = one_mode c.in-Ok-Some.field-0 (mode_of (words_of c.args.words.now)) c.in-Ok-Some.mode Check c.in-Ok-Some.ensures.mode c.in-Ok-Some.field-0-is asked in
+    let mode = one_mode c.in-Ok-Some.field-0 (mode_of (words_of c.args.words.now)) c.in-Ok-Some.mode Check c.in-Ok-Some.ensures.mode
+    c.in-Ok-Some.field-0-is asked in
     by-number (λ s. OfContent (g.D.Disk.seen c.args.disk.now) (ChecksContent (g.K.Sink.held c.args.sink.now) (g.K.Sink.held c.run_mode.new.sink) s))
     c.number.result c.run_mode.result c.number.ensures (c.run_mode.ensures.checks mode) status is
 

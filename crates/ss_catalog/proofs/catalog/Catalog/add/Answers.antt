@@ -12,6 +12,8 @@ pub returns-clause-ok : goal.returns-clause-ok
 returns-clause-ok c =
     let put = (c.args.name, c.args.id) ∷ [] in
     elim c.match-insert.branch [
-      | in-Ok w ↦ rw w.result-is (w.in-Ok.ensures.entries ∙ insert_entry-new same_name c.self.inside.ids c.args.name c.args.id (none_from_is_some _ (sym c.contains_key.ensures ∙ c.if-contains_key.false)) ∙ ap (λ names. names ++ put) c.self.view_is)
+      | in-Ok w ↦ rw w.result-is
+          (w.in-Ok.ensures.entries ∙ insert_entry-new same_name c.self.inside.ids c.args.name c.args.id
+          (none_from_is_some _ (sym c.contains_key.ensures ∙ c.if-contains_key.false)) ∙ ap (λ names. names ++ put) c.self.view_is)
       | in-Err w ↦ rw w.result-is tt
     ]

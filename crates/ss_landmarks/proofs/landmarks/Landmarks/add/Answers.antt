@@ -20,14 +20,32 @@ invariant_of-self c =
     let pushed = c.push.ensures.items ∙ cond-true (is_ok c.push.result) _ _ (ap is_ok c.unwrap.ensures) in
     let same : to_z w64 (of_z w64 c.args.v) ≡ c.args.v = to_z-of_z w64 c.args.v c.ranges.v in
     let seen : map value_of c.push.new.self.items ≡ values ++ value ∷ [] =
-    ap (map value_of) pushed ∙ map_push value_of held.values.items _ ∙ ap (λ (v : ℤ). let new : LandmarkValue = record { t = c.args.t; v = v } in values ++ new ∷ []) same in
+    ap (map value_of) pushed ∙ map_push value_of held.values.items _ ∙
+    ap (λ (v : ℤ). let new : LandmarkValue = record { t = c.args.t; v = v } in values ++ new ∷ []) same in
     let room = ap (λ (state : LandmarksState). state.value_room) c.self.view_is in (
       subst (λ (all : List LandmarkValue). AreStored held.closed.items held.current all) (sym seen)
           (AreStored-take held.closed.items held.current values value c.self.invariant.0 can c.requires.time c.ranges.v),
       c.self.invariant.1,
       record {
-        fits = omega (arith, ap length pushed, length_push held.values.items (record { t = c.args.t; v = to_z w64 (of_z w64 c.args.v); slot = c.args.slot }), c.self.invariant.2.fits, c.requires.room, room, c.push.ensures.capacity);
-        most = omega (arith, ap length pushed, length_push held.values.items (record { t = c.args.t; v = to_z w64 (of_z w64 c.args.v); slot = c.args.slot }), c.self.invariant.2.most, c.requires.room, room);
+        fits = omega (
+          arith,
+          ap length pushed,
+          length_push held.values.items
+              (record { t = c.args.t; v = to_z w64 (of_z w64 c.args.v); slot = c.args.slot }),
+          c.self.invariant.2.fits,
+          c.requires.room,
+          room,
+          c.push.ensures.capacity,
+        );
+        most = omega (
+          arith,
+          ap length pushed,
+          length_push held.values.items
+              (record { t = c.args.t; v = to_z w64 (of_z w64 c.args.v); slot = c.args.slot }),
+          c.self.invariant.2.most,
+          c.requires.room,
+          room,
+        );
       },
     )
 
@@ -40,7 +58,8 @@ returns-clause-landmarks c =
     let pushed = c.push.ensures.items ∙ cond-true (is_ok c.push.result) _ _ (ap is_ok c.unwrap.ensures) in
     let same : to_z w64 (of_z w64 c.args.v) ≡ c.args.v = to_z-of_z w64 c.args.v c.ranges.v in
     let seen : map value_of c.push.new.self.items ≡ values ++ value ∷ [] =
-    ap (map value_of) pushed ∙ map_push value_of held.values.items _ ∙ ap (λ (v : ℤ). let new : LandmarkValue = record { t = c.args.t; v = v } in values ++ new ∷ []) same in
+    ap (map value_of) pushed ∙ map_push value_of held.values.items _ ∙
+    ap (λ (v : ℤ). let new : LandmarkValue = record { t = c.args.t; v = v } in values ++ new ∷ []) same in
     ap (landmarks_of held.closed.items held.current) seen
     ∙ landmarks_of_push held.closed.items held.current values value c.self.invariant.0 can
     ∙ ap (λ (state : LandmarksState). change_last (with_value value) state.landmarks) c.self.view_is

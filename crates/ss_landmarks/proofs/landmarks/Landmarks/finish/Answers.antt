@@ -22,7 +22,8 @@ invariant_of-self c =
     let can = subst (λ (current : Option Opened). CanClose (landmarks_of cs current values) c.args.t) c.in-Some.is
     (subst (λ (state : LandmarksState). CanClose state.landmarks c.args.t) (sym c.self.view_is) c.requires.after) in
     let pushed : c.push.new.self.items ≡ cs ++ new ∷ [] = c.push.ensures.items ∙ cond-true (is_ok c.push.result) _ _ (ap is_ok c.unwrap.ensures) in
-    let all : closed_values cs + new.values ≡ length values = omega (arith, stored.shared.0, stored.shared.1, c.len.ensures, length-map held.values.items value_of) in (
+    let all : closed_values cs + new.values ≡ length values =
+    omega (arith, stored.shared.0, stored.shared.1, c.len.ensures, length-map held.values.items value_of) in (
       subst (λ (closed : List Closed). AreStored closed None values) (sym pushed) (AreStored-close cs o new refl values stored all can c.requires.time refl),
       record {
         fits = omega (arith, ap length pushed, length_push cs new, c.self.invariant.1.fits, ap one_open c.in-Some.is, c.push.ensures.capacity);
@@ -40,7 +41,8 @@ returns-in-Some-clause-landmarks c =
     let new : Closed = record { start = o.start; finish = c.args.t; slot = o.slot; values = c.len.result - o.values_before; free_before = o.free_before } in
     let stored = subst (λ (current : Option Opened). AreStored cs current values) c.in-Some.is c.self.invariant.0 in
     let pushed : c.push.new.self.items ≡ cs ++ new ∷ [] = c.push.ensures.items ∙ cond-true (is_ok c.push.result) _ _ (ap is_ok c.unwrap.ensures) in
-    let all : closed_values cs + new.values ≡ length values = omega (arith, stored.shared.0, stored.shared.1, c.len.ensures, length-map held.values.items value_of) in
+    let all : closed_values cs + new.values ≡ length values =
+    omega (arith, stored.shared.0, stored.shared.1, c.len.ensures, length-map held.values.items value_of) in
     ap (λ (closed : List Closed). landmarks_of closed None values) pushed
     ∙ landmarks_of-close o new refl cs values all
     ∙ ap (λ (current : Option Opened). change_last (closed_at c.args.t) (landmarks_of cs current values)) (sym c.in-Some.is)
@@ -61,5 +63,6 @@ returns-in-Some-clause-slots c =
 pub returns-in_default-clause-landmarks : goal.returns-in_default-clause-landmarks
 returns-in_default-clause-landmarks c =
     absurd (CanClose-none c.args.t c.self.inside.closed.items (map value_of c.self.inside.values.items)
-    (subst (λ (current : Option Opened). CanClose (landmarks_of c.self.inside.closed.items current (map value_of c.self.inside.values.items)) c.args.t) c.in_default.is
+    (subst (λ (current : Option Opened). CanClose (landmarks_of c.self.inside.closed.items current (map value_of c.self.inside.values.items))
+    c.args.t) c.in_default.is
     (subst (λ (state : LandmarksState). CanClose state.landmarks c.args.t) (sym c.self.view_is) c.requires.after)))

@@ -14,7 +14,15 @@ returns-in-None-clause-value c =
     let held = c.self.inside in
     let values = map value_of held.values.items in
     sym (opened-none held.closed.items values (slots_of held.closed.items held.current))
-    ∙ ap (λ (current : Option Opened). opened (record { landmarks = landmarks_of held.closed.items current values; slots = slots_of held.closed.items held.current; value_slots = map (λ (value : StoredValue). value.slot) held.values.items; room = held.room; value_room = held.value_room })) (sym c.in-None.is)
+    ∙ ap (λ (current : Option Opened). opened
+    (record {
+      landmarks = landmarks_of held.closed.items current values;
+      slots = slots_of held.closed.items held.current;
+      value_slots =
+          map (λ (value : StoredValue). value.slot) held.values.items;
+      room = held.room;
+      value_room = held.value_room;
+    })) (sym c.in-None.is)
     ∙ ap opened c.self.view_is
 
 pub returns-in-Some-clause-value : goal.returns-in-Some-clause-value
@@ -24,10 +32,19 @@ returns-in-Some-clause-value c =
     let o = c.in-Some.opened in
     let values = map value_of held.values.items in
     let shared = subst (λ (current : Option Opened). AreShared cs current values) c.in-Some.is c.self.invariant.0.shared in
-    let count : c.len.result - o.values_before ≡ length values - closed_values cs = omega (arith, shared.0, c.len.ensures, length-map held.values.items value_of) in
+    let count : c.len.result - o.values_before ≡ length values - closed_values cs =
+    omega (arith, shared.0, c.len.ensures, length-map held.values.items value_of) in
     ap (λ (n : ℕ). Some (o.start, o.slot, n)) count
     ∙ sym (opened-some cs o values)
-    ∙ ap (λ (current : Option Opened). opened (record { landmarks = landmarks_of cs current values; slots = slots_of cs current; value_slots = map (λ (value : StoredValue). value.slot) held.values.items; room = held.room; value_room = held.value_room })) (sym c.in-Some.is)
+    ∙ ap (λ (current : Option Opened). opened
+    (record {
+      landmarks = landmarks_of cs current values;
+      slots = slots_of cs current;
+      value_slots =
+          map (λ (value : StoredValue). value.slot) held.values.items;
+      room = held.room;
+      value_room = held.value_room;
+    })) (sym c.in-Some.is)
     ∙ ap opened c.self.view_is
 
 is_some-map : (f : Landmark → ℕ × ℕ × ℕ) (o : Option Landmark) → is_some (option_map f o) ≡ is_some o

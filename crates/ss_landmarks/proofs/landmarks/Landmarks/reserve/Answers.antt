@@ -22,10 +22,29 @@ invariant_of-self-2 c =
       kept,
       record {
         fits = omega (arith, c.in_ok-reserve.ensures.ok, c.one_open.ensures, c.reserve.ensures.len);
-        most = omega (arith, c.self.invariant.1.most, c.max-room.ensures, c.requires.landmarks, count, length-landmarks_of held.closed.items held.current values, c.reserve.ensures.len);
+        most = omega (
+          arith,
+          c.self.invariant.1.most,
+          c.max-room.ensures,
+          c.requires.landmarks,
+          count,
+          length-landmarks_of held.closed.items
+              held.current values,
+          c.reserve.ensures.len,
+        );
       },
       record {
         fits = omega (arith, c.in_ok-reserve-2.ensures.ok, c.reserve-2.ensures.len);
-        most = omega (arith, c.self.invariant.2.most, c.max-value_room.ensures, c.requires.values, value_count, all, length-map held.values.items value_of, c.reserve-2.ensures.len);
+        most = omega (
+          arith,
+          c.self.invariant.2.most,
+          c.max-value_room.ensures,
+          c.requires.values,
+          value_count,
+          all,
+          length-map held.values.items
+              value_of,
+          c.reserve-2.ensures.len,
+        );
       },
     )

@@ -24,7 +24,8 @@ invariant_of-self c =
     let o : Opened = record { start = c.args.t; slot = c.args.slot; values_before = c.len.result; free_before = c.free_before-free_before.result } in
     let count : o.values_before ≡ length values = omega (arith, c.len.ensures, length-map held.values.items value_of) in
     let free : o.free_before ≡ free_before (landmarks_of cs None []) c.args.t =
-    c.free_before-free_before.ensures ∙ ap (λ (closed : List Closed). free_before (landmarks_of closed held.current []) c.args.t) c.deref.ensures.value ∙ ap (λ (current : Option Opened). free_before (landmarks_of cs current []) c.args.t) none in
+    c.free_before-free_before.ensures ∙ ap (λ (closed : List Closed). free_before (landmarks_of closed held.current []) c.args.t)
+    c.deref.ensures.value ∙ ap (λ (current : Option Opened). free_before (landmarks_of cs current []) c.args.t) none in
     let room = ap (λ (state : LandmarksState). state.room) c.self.view_is in (
       AreStored-open cs o values (subst (λ (current : Option Opened). AreStored cs current values) none c.self.invariant.0)
           (subst (λ (current : Option Opened). CanOpen (landmarks_of cs current values) c.args.t) none can) c.requires.time count free,

@@ -12,12 +12,20 @@ pub returns-clause-value : goal.returns-clause-value
 returns-clause-value c =
     let held = c.self.inside in
     let all = ap length (all_values-landmarks_of held.closed.items held.current (map value_of held.values.items) c.self.invariant.0.shared) in
-    omega (arith, c.len.ensures, all, length-map held.values.items value_of, ap (λ (state : LandmarksState). length (all_values state.landmarks)) c.self.view_is)
+    omega (
+      arith,
+      c.len.ensures,
+      all,
+      length-map held.values.items value_of,
+      ap (λ (state : LandmarksState). length (all_values state.landmarks))
+          c.self.view_is,
+    )
 
 pub returns-clause-state : goal.returns-clause-state
 returns-clause-state c =
     let held = c.self.inside in
     subst IsState c.self.view_is
-    (IsState-stored held.closed.items held.current (map value_of held.values.items) (map (λ (value : StoredValue). value.slot) held.values.items) held.room held.value_room c.self.invariant.0
+    (IsState-stored held.closed.items held.current (map value_of held.values.items) (map (λ (value : StoredValue). value.slot) held.values.items)
+    held.room held.value_room c.self.invariant.0
     (omega (arith, length-map held.values.items (λ (value : StoredValue). value.slot), length-map held.values.items value_of))
     (omega (arith, c.self.invariant.1.most)) (omega (arith, c.self.invariant.2.most, length-map held.values.items value_of)))

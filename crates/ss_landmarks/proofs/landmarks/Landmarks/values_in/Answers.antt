@@ -14,7 +14,8 @@ values_in-requires c =
     let stored = c.self.invariant.0 in
     let values = map value_of c.self.inside.values.items in
     let all = all_values-landmarks_of c.self.inside.closed.items c.self.inside.current values stored.shared in
-    subst (λ (held : List StoredValue). RiseFrom 0 (map value_of held)) (sym c.deref.ensures.value) (subst (RiseFrom 0) all (RiseFrom-all_values 0 _ stored.order))
+    subst (λ (held : List StoredValue). RiseFrom 0 (map value_of held)) (sym c.deref.ensures.value)
+    (subst (RiseFrom 0) all (RiseFrom-all_values 0 _ stored.order))
 
 pub returns : goal.returns
 returns c =
@@ -23,4 +24,5 @@ returns c =
     let all = all_values-landmarks_of c.self.inside.closed.items c.self.inside.current values stored.shared in
     let found = c.values_in.ensures.values ∙ ap (λ (held : List StoredValue). filter (lies_in c.args.a c.args.b) (map value_of held)) c.deref.ensures.value in
     c.tally_of.ensures
-    ∙ ap tally_of (found ∙ ap (filter (lies_in c.args.a c.args.b)) (sym all) ∙ ap (λ (state : LandmarksState). values_in state.landmarks c.args.a c.args.b) c.self.view_is)
+    ∙ ap tally_of (found ∙ ap (filter (lies_in c.args.a c.args.b)) (sym all) ∙
+    ap (λ (state : LandmarksState). values_in state.landmarks c.args.a c.args.b) c.self.view_is)

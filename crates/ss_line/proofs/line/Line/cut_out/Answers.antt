@@ -19,10 +19,18 @@ invariant_of-self g c =
     let left = set c.self.inside.ranks.items c.args.at.0 0 in
     let new = c.close_up.new.ranks in
     let stands = subst (λ (line : LineState). StandsIn line.entries c.args.at) (sym c.self.view_is) c.requires in
-    let index : c.index_of-index.result ≡ index_of entries c.args.at = c.index_of-index.ensures ∙ ap (λ (line : LineState). index_of line.entries c.args.at) (sym c.self.view_is) in
+    let index : c.index_of-index.result ≡ index_of entries c.args.at = c.index_of-index.ensures ∙
+    ap (λ (line : LineState). index_of line.entries c.args.at) (sym c.self.view_is) in
     let removed : c.remove.new.self.items ≡ remove entries (index_of entries c.args.at) = c.remove.ensures.items ∙ ap (λ (i : ℕ). remove entries i) index in
     let gone : c.index_of-index.result + 1 ≡ suc (index_of entries c.args.at) = omega (arith, index) in
-    let lowered : new ≡ map (lower (suc (index_of entries c.args.at))) left = c.close_up.ensures ∙ ap (λ (ranks : List ℕ). map (lower (c.index_of-index.result + 1)) ranks) c.deref_mut.ensures.value ∙ ap (λ (n : ℕ). map (lower n) left) gone in
-    let len : length new ≡ c.self.inside.ranks.len = omega (arith, ap length lowered, length-map left (lower (suc (index_of entries c.args.at))), length-set c.self.inside.ranks.items c.args.at.0 0) in
-    let whole = take-append-le c.self.inside.ranks.len new (drop (length new) left) (omega (arith, len)) ∙ take_all c.self.inside.ranks.len new (omega (arith, len)) ∙ lowered in
-    (subst (λ (ranks : List ℕ). AreRanks c.remove.new.self.items ranks) (sym whole) (subst (λ (es : List (At × Entry)). AreRanks es (map (lower (suc (index_of entries c.args.at))) left)) (sym removed) (AreRanks-remove entries _ c.self.invariant.0 c.args.at stands)), omega (arith, c.self.invariant.1, c.remove.ensures.capacity))
+    let lowered : new ≡ map (lower (suc (index_of entries c.args.at))) left = c.close_up.ensures ∙
+    ap (λ (ranks : List ℕ). map (lower (c.index_of-index.result + 1)) ranks) c.deref_mut.ensures.value ∙ ap (λ (n : ℕ). map (lower n) left) gone in
+    let len : length new ≡ c.self.inside.ranks.len =
+    omega (arith, ap length lowered, length-map left (lower (suc (index_of entries c.args.at))), length-set c.self.inside.ranks.items c.args.at.0 0) in
+    let whole = take-append-le c.self.inside.ranks.len new (drop (length new) left) (omega (arith, len)) ∙
+    take_all c.self.inside.ranks.len new (omega (arith, len)) ∙ lowered in (
+      subst (λ (ranks : List ℕ). AreRanks c.remove.new.self.items ranks) (sym whole)
+          (subst (λ (es : List (At × Entry)). AreRanks es (map (lower (suc (index_of entries c.args.at))) left)) (sym removed)
+          (AreRanks-remove entries _ c.self.invariant.0 c.args.at stands)),
+      omega (arith, c.self.invariant.1, c.remove.ensures.capacity),
+    )

@@ -14,7 +14,9 @@ invariant_of-self-2 c =
     let places = c.max-places.result in
     let same : length ranks ≡ len = omega arith in
     let more : len ≤ places = omega (arith, c.max-places.ensures) in
-    let held = AreRanks-resize entries ranks c.self.invariant.0 places len (is_ok c.resize.result) same more (omega (arith, c.max-places.ensures, c.self.invariant.0.most, c.requires, ap (λ (line : LineState). length line.entries) c.self.view_is)) in (
-      subst (λ (es : List (At × Entry)). AreRanks es c.resize.new.self.items) (sym c.reserve.ensures.items) (subst (λ (ranks : List ℕ). AreRanks entries ranks) (sym c.resize.ensures.items) held),
+    let held = AreRanks-resize entries ranks c.self.invariant.0 places len (is_ok c.resize.result) same more
+    (omega (arith, c.max-places.ensures, c.self.invariant.0.most, c.requires, ap (λ (line : LineState). length line.entries) c.self.view_is)) in (
+      subst (λ (es : List (At × Entry)). AreRanks es c.resize.new.self.items) (sym c.reserve.ensures.items)
+          (subst (λ (ranks : List ℕ). AreRanks entries ranks) (sym c.resize.ensures.items) held),
       omega (arith, c.resize.ensures.len, resized-le places len (is_ok c.resize.result) more, c.in_ok-reserve.ensures.ok, c.max-places.ensures),
     )

@@ -15,7 +15,8 @@ pub invariant_of-self-in_default-put : goal.invariant_of-self-in_default-put
 invariant_of-self-in_default-put c =
     let within : c.args.at ≤ length (replay (fresh c.self.inside.start.items) c.self.inside.past).content =
     subst (λ (s : MemDiskState). c.args.at ≤ length (now s).content) (sym (c.self.view_is ∙ c.in_default.ensures.answered)) c.requires.within in
-    kept_wrote _ _ c.put.new.past _ c.self.invariant.1 c.args.at c.args.bytes.now c.in_default-put.ensures.past (c.in_default-put.ensures.content ∙ ap (λ l. overwrite l c.args.at c.args.bytes.now) c.self.invariant.0) within
+    kept_wrote _ _ c.put.new.past _ c.self.invariant.1 c.args.at c.args.bytes.now c.in_default-put.ensures.past (c.in_default-put.ensures.content ∙
+    ap (λ l. overwrite l c.args.at c.args.bytes.now) c.self.invariant.0) within
     (λ place lt. omega (arith, c.type_inv.bytes place))
 
 pub returns-clause-sound : goal.returns-clause-sound

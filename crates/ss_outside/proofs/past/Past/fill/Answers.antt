@@ -22,18 +22,27 @@ loop-change-preserved c =
     let before = replay (fresh c.args.image.now.items) (take c.loop-change.change-index calls) in
     let short : length before.synced ≤ before.longest = synced_no_longer (fresh c.args.image.now.items) (take c.loop-change.change-index calls) (omega arith) in
     let all : All (LiesWithin (length pool)) changes =
-    All-take (LiesWithin (length pool)) (length c.deref.result.now - c.args.synced) (drop c.args.synced c.deref.result.now) (All-drop (LiesWithin (length pool)) c.args.synced c.deref.result.now (All-same (LiesWithin (length pool)) c.deref.result.now c.self.inside.changes.items c.deref.ensures.value c.self.invariant)) in
+    All-take (LiesWithin (length pool)) (length c.deref.result.now - c.args.synced) (drop c.args.synced c.deref.result.now)
+    (All-drop (LiesWithin (length pool)) c.args.synced c.deref.result.now
+    (All-same (LiesWithin (length pool)) c.deref.result.now c.self.inside.changes.items c.deref.ensures.value c.self.invariant)) in
     elim c.match-change.branch [
       | in-Bytes+in_ok-fill_at-in-Bytes w ↦
-          let more = replay_more pool changes calls kept c.loop-change.change-index c.loop-change-test.true (Bytes 0 0 0) (fresh c.args.image.now.items) (Bytes w.in-Bytes.at w.in-Bytes.from w.in-Bytes.count) w.in-Bytes.is in
+          let more = replay_more pool changes calls kept c.loop-change.change-index c.loop-change-test.true (Bytes 0 0 0)
+          (fresh c.args.image.now.items) (Bytes w.in-Bytes.at w.in-Bytes.from w.in-Bytes.count) w.in-Bytes.is in
           let bytes = take w.in-Bytes.count (drop w.in-Bytes.from pool) in
-          let room : LiesWithin (length pool) (Bytes w.in-Bytes.at w.in-Bytes.from w.in-Bytes.count) = subst (LiesWithin (length pool)) w.in-Bytes.is (all c.loop-change.change-index (Bytes 0 0 0) c.loop-change-test.true) in
-          let size : length bytes ≡ w.in-Bytes.count = omega (arith, room.0, length-take w.in-Bytes.count (drop w.in-Bytes.from pool), length-drop w.in-Bytes.from pool) in
+          let room : LiesWithin (length pool) (Bytes w.in-Bytes.at w.in-Bytes.from w.in-Bytes.count) =
+          subst (LiesWithin (length pool)) w.in-Bytes.is (all c.loop-change.change-index (Bytes 0 0 0) c.loop-change-test.true) in
+          let size : length bytes ≡ w.in-Bytes.count =
+          omega (arith, room.0, length-take w.in-Bytes.count (drop w.in-Bytes.from pool), length-drop w.in-Bytes.from pool) in
           let content = overwrite before.content w.in-Bytes.at bytes in
-          let filled = filled_more before c.args.byte c.loop-change.image.items w.fill_at.new.image.items w.in-Bytes.at w.in-Bytes.count content short c.loop-change.invariant w.in_ok-fill_at-in-Bytes.ensures.length w.in_ok-fill_at-in-Bytes.ensures.kept w.in_ok-fill_at-in-Bytes.ensures.filled in
+          let filled = filled_more before c.args.byte c.loop-change.image.items w.fill_at.new.image.items w.in-Bytes.at w.in-Bytes.count content short
+          c.loop-change.invariant w.in_ok-fill_at-in-Bytes.ensures.length w.in_ok-fill_at-in-Bytes.ensures.kept w.in_ok-fill_at-in-Bytes.ensures.filled in
           rw (w.image-is, more) (subst (λ (n : ℕ). IsFilled (pend before w.in-Bytes.at n content) c.args.byte w.fill_at.new.image.items) (sym size) filled)
       | in-Torn+in_ok-fill_at-in-Torn w ↦
-          let more = replay_more pool changes calls kept c.loop-change.change-index c.loop-change-test.true (Bytes 0 0 0) (fresh c.args.image.now.items) (Torn w.in-Torn.at w.in-Torn.count) w.in-Torn.is in
-          rw (w.image-is, more) (filled_more before c.args.byte c.loop-change.image.items w.fill_at-in-Torn.new.image.items w.in-Torn.at w.in-Torn.count before.content short c.loop-change.invariant w.in_ok-fill_at-in-Torn.ensures.length w.in_ok-fill_at-in-Torn.ensures.kept w.in_ok-fill_at-in-Torn.ensures.filled)
+          let more = replay_more pool changes calls kept c.loop-change.change-index c.loop-change-test.true (Bytes 0 0 0)
+          (fresh c.args.image.now.items) (Torn w.in-Torn.at w.in-Torn.count) w.in-Torn.is in
+          rw (w.image-is, more) (filled_more before c.args.byte c.loop-change.image.items w.fill_at-in-Torn.new.image.items w.in-Torn.at
+          w.in-Torn.count before.content short c.loop-change.invariant w.in_ok-fill_at-in-Torn.ensures.length w.in_ok-fill_at-in-Torn.ensures.kept
+          w.in_ok-fill_at-in-Torn.ensures.filled)
       | in-Sync w ↦ absurd (no_sync pool changes calls kept c.loop-change.change-index c.loop-change-test.true (Bytes 0 0 0) c.requires.since w.in-Sync.is)
     ]

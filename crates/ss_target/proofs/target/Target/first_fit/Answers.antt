@@ -26,4 +26,5 @@ returns-then-count-le-MOST_VALUES-clause-some c =
 pub returns-else-count-le-MOST_VALUES-clause-none : goal.returns-else-count-le-MOST_VALUES-clause-none
 returns-else-count-le-MOST_VALUES-clause-none c =
     Fits-found (target_lengths c.args.self.now) c.window_at-newest.result.index c.args.l c.args.r c.args.n (lengths-positive c.args.self.now)
-    c.requires.order c.requires.taken (sym c.fits.ensures ∙ c.if-fits.false) c.window_at-newest.ensures.holds c.in_ok-next.next c.in_ok-next.ensures.some c.if-count-le-MOST_VALUES.false
+    c.requires.order c.requires.taken (sym c.fits.ensures ∙ c.if-fits.false) c.window_at-newest.ensures.holds c.in_ok-next.next
+    c.in_ok-next.ensures.some c.if-count-le-MOST_VALUES.false
