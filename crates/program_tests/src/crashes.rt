@@ -80,6 +80,22 @@ const FIRST_MERGE: u64 = 3 + 2 * (1 + 7 + 3);
 // The gate of the seventh append's first entry is written, and not synced.
 const SEVENTH_GATE: u64 = 3 + 2 * (1 + 6 + 2) + 2;
 
+// How many good syncs a run over an input makes of a disk that holds nothing.
+fn syncs_over(alloc: Global, input: &str) -> Result<u64, AllocError> {
+    let mut disk = disk_of(alloc, &[])?;
+    let _ = answer_on(alloc, RUN, &mut disk, input)?;
+    Ok(disk.syncs())
+}
+
+// A birth makes 3 syncs, and each of the worked row's 8 events and 4 merges 2.
+#[test]
+fn each_event_and_merge_is_two_syncs(rt: HostRuntime) -> Result<(), Fail> {
+    for (input, syncs) in [("", 3), (READINGS, 27), ("list\n", 3)] {
+        assert_eq!(rt; syncs_over(rt.alloc(), input)?, syncs, "{input}");
+    }
+    Ok(())
+}
+
 const CRASHES: [Choice; 4] = [
     Choice::Lost,
     Choice::Kept,
