@@ -69,11 +69,11 @@ impl Disk for Silent {
     ghost use Rattle.std.specs.Prelude.{[], false};
     ghost use Rattle.std.proofs.lemmas.Bool.{false≢true};
 
-    ghost tells = { λ _. false };
-
-    ghost told = { λ _. record { content = []; may_leave = λ _. ⊥; moment = 0; left_since = λ _ _. ⊥ } };
-
-    ghost faults = { λ s. s.faults };
+    ghost seen = { λ s. record {
+      tells = false;
+      told = record { content = []; may_leave = λ _. ⊥; moment = 0; left_since = λ _ _. ⊥ };
+      faults = s.faults;
+    } };
 
     ghost knows_now = { λ _ told. absurd (false≢true told) };
 

@@ -1,7 +1,8 @@
 // Steps of a run, each with what must come of it.
 use crate::changed::{Taken, take};
+use crate::images::{FORMATTED, Slot, image};
 use crate::running::{
-    Answer, Asked, Question, Row, Running, Said, answered, fresh, held, only, play, reopen,
+    Answer, Asked, Question, Row, Running, Said, answered, fresh, held, only, opened, play, reopen,
     surveyed, told, window_read,
 };
 use crate::silent::Silent;
@@ -16,6 +17,8 @@ use std::alloc::Global;
 pub enum Step {
     /// From here on it is another store, on an empty disk.
     Fresh,
+    /// From here on it is another store, on a file that has these slots.
+    Made(&'static [Slot]),
     /// From here on it is another store, which has taken these and was opened again, so that it reads each record in its slot.
     Settled(Taken),
     /// An event of the stream whose name is a letter is answered so.
@@ -51,8 +54,8 @@ pub enum Step {
 }
 
 use Step::{
-    Apply, Clear, Counts, Crash, EndAt, Fresh, Holds, Lists, MoveTo, Play, Reads, Reopen, Settled,
-    Stop, Surveys, Tell, Untold,
+    Apply, Clear, Counts, Crash, EndAt, Fresh, Holds, Lists, Made, MoveTo, Play, Reads, Reopen,
+    Settled, Stop, Surveys, Tell, Untold,
 };
 
 fn are_told(running: &mut Running, rows: &[(Question, Outcome)]) -> bool {
@@ -104,6 +107,11 @@ fn renew(alloc: Global, running: &mut Running) -> Result<bool, OpenError> {
     Ok(true)
 }
 
+fn make(alloc: Global, running: &mut Running, slots: &[Slot]) -> Result<bool, OpenError> {
+    *running = opened(alloc, image(alloc, FORMATTED, slots)?)?;
+    Ok(true)
+}
+
 fn settle(alloc: Global, running: &mut Running, taken: Taken) -> Result<bool, OpenError> {
     renew(alloc, running)?;
     Ok(take(running, taken) && reopen(alloc, running).is_ok())
@@ -123,6 +131,7 @@ fn stop(disk: &mut Silent, calls: u64) -> bool {
 fn comes(alloc: Global, running: &mut Running, step: Step) -> Result<bool, OpenError> {
     match step {
         Fresh => renew(alloc, running),
+        Made(slots) => make(alloc, running, slots),
         Settled(taken) => settle(alloc, running, taken),
         Apply(letter, asked, answer) => Ok(answered(running, letter, asked) == Some(answer)),
         Play(rows) => Ok(play(running, rows) == rows.len()),
