@@ -46,6 +46,8 @@ Exit statuses:
 
   summarystore --help, -h     prints this text
   summarystore --version, -V  prints the version
+With --explain before STORE, or at a terminal, standard error says why lines are
+refused, for the first 20 of them.
 A store whose name begins with - is ./-NAME.
 Documents: README.md, docs/GUIDE.md.
 ";
