@@ -48,3 +48,4 @@ pub mod Applying
 pub mod Taking
 pub mod MarkTaking
 pub mod Creating
+pub mod KeyedWindows

@@ -36,19 +36,9 @@ use Rattle.ss_recover.specs.declared.parts.StreamParts.{StreamParts}
 use Rattle.ss_store.specs.Held.{values_held, with_windows}
 use Rattle.ss_store.specs.Joining.{AreDue}
 use Rattle.ss_query.proofs.Places.{entries_in, find-read, index-once}
-use Rattle.ss_store.proofs.Spans.{AreTiled, AreTiled-seam, joined_entry, values_held-windows}
+use Rattle.ss_schedule.specs.Pairs.{joined_entry}
+use Rattle.ss_store.proofs.Spans.{AreTiled, AreTiled-seam, values_held-windows}
 use Rattle.ss_query.proofs.Records.{zip-held}
-
-list_any-replaced : {X : Type 0} (p : X → Bool) (xs : List X) (x y : X) → p y ≡ p x → list_any p (xs ++ x ∷ []) ≡ false → list_any p (xs ++ y ∷ []) ≡ false
-list_any-replaced p [] x y same none = rw same none
-list_any-replaced p (z ∷ zs) x y same none =
-    let parts = or_parts (p z) (list_any p (zs ++ x ∷ [])) none in
-    let rest = list_any-replaced p zs x y same parts.1 in
-    rw (parts.0, rest) refl
-
-remove-seam : {X : Type 0} (xs : List X) (x : X) (ys : List X) → remove (xs ++ x ∷ ys) (length xs) ≡ xs ++ ys
-remove-seam [] x ys = refl
-remove-seam (z ∷ zs) x ys = ap (λ l. z ∷ l) (remove-seam zs x ys)
 
 -- Two entries that stand side by side and are due, and the line after the second is cut out and the first set.
 pub record AreJoined (len : ℕ → ℕ) (n : ℕ) (entries new : List (At × Entry)) (w v : Entry) : Type 0 where
@@ -60,9 +50,8 @@ pub record AreJoined (len : ℕ → ℕ) (n : ℕ) (entries new : List (At × En
   pub due : fits len w.first v.last n ≡ true
 
 -- the line with two entries as one
-abbrev pub joined_line : List (At × Entry) → At → At → Entry → Entry → List (At × Entry)
-joined_line entries left right w v =
-    let one = set entries (index_of entries left) (left, joined_entry w v) in remove one (index_of one right)
+abbrev pub joined_line : {len : ℕ → ℕ} {n : ℕ} {entries : List (At × Entry)} {left right : At} → AreDue len n entries left right → List (At × Entry)
+joined_line {len} {n} {entries} {left} due = due.pair.before ++ (left, joined_entry due.pair.window due.pair.next) ∷ due.pair.rest
 
 module _ (len : ℕ → ℕ) (n : ℕ) (entries : List (At × Entry)) (left right : At) (due : AreDue len n entries left right) where
   stands-seam : (es before : List (At × Entry)) (at : At) (e : Entry) (rest : List (At × Entry)) → es ≡ before ++ (at, e) ∷ rest →
@@ -88,47 +77,20 @@ module _ (len : ℕ → ℕ) (n : ℕ) (entries : List (At × Entry)) (left righ
     second_is : due.pair.next ≡ v
     second_is = find-read entries (due.pair.before ++ (left, due.pair.window) ∷ []) right due.pair.next due.pair.rest v moved due.pair.right_once read_right
 
-    set_is : set entries (index_of entries left) (left, joined_entry w v) ≡ due.pair.before ++ (left, joined_entry w v) ∷ (right, due.pair.next) ∷ due.pair.rest
-    set_is =
-        let index : index_of entries left ≡ length due.pair.before =
-        ap (λ l. index_of l left) due.pair.is ∙ index-once due.pair.before left due.pair.window ((right, due.pair.next) ∷ due.pair.rest) due.pair.left_once in
-        ap₂ (λ (l : List (At × Entry)) (k : ℕ). set l k (left, joined_entry w v)) due.pair.is index
-        ∙ set-append_seam due.pair.before (left, due.pair.window) ((right, due.pair.next) ∷ due.pair.rest) (left, joined_entry w v)
-
-    set_moved : set entries (index_of entries left) (left, joined_entry w v) ≡
-        (due.pair.before ++ (left, joined_entry w v) ∷ []) ++ (right, due.pair.next) ∷ due.pair.rest
-    set_moved = set_is ∙ sym (append_assoc due.pair.before ((left, joined_entry w v) ∷ []) ((right, due.pair.next) ∷ due.pair.rest))
-
-    right_once : list_any (is_at right) (due.pair.before ++ (left, joined_entry w v) ∷ []) ≡ false
-    right_once = list_any-replaced (is_at right) due.pair.before (left, due.pair.window) (left, joined_entry w v) refl due.pair.right_once
-
-    pub StandsIn-set : StandsIn (set entries (index_of entries left) (left, joined_entry w v)) right
-    StandsIn-set =
-        stands-seam (set entries (index_of entries left) (left, joined_entry w v)) (due.pair.before ++ (left, joined_entry w v) ∷ [])
-        right due.pair.next due.pair.rest set_moved right_once
-
-    line_is : joined_line entries left right w v ≡ due.pair.before ++ (left, joined_entry w v) ∷ due.pair.rest
-    line_is =
-        let front : List (At × Entry) = due.pair.before ++ (left, joined_entry w v) ∷ [] in
-        let one : List (At × Entry) = set entries (index_of entries left) (left, joined_entry w v) in
-        let index : index_of one right ≡ length front = ap (λ l. index_of l right) set_moved ∙ index-once front right due.pair.next due.pair.rest right_once in
-        ap₂ (λ (l : List (At × Entry)) (k : ℕ). remove l k) set_moved index
-        ∙ remove-seam front (right, due.pair.next) due.pair.rest ∙ append_assoc due.pair.before ((left, joined_entry w v) ∷ []) due.pair.rest
-
-    pub AreJoined-due : AreJoined len n entries (joined_line entries left right w v) w v
+    pub AreJoined-due : AreJoined len n entries (joined_line due) w v
     AreJoined-due =
         let second : At × Entry → Entry = λ e. e.1 in
         let all = ap (λ l. length l) due.pair.is in
-        let now = ap (λ l. length l) line_is in
         let long = length-append due.pair.before ((left, due.pair.window) ∷ (right, due.pair.next) ∷ due.pair.rest) in
-        let short = length-append due.pair.before ((left, joined_entry w v) ∷ due.pair.rest) in
+        let short = length-append due.pair.before ((left, joined_entry due.pair.window due.pair.next) ∷ due.pair.rest) in
         record {
           front = entries_in due.pair.before;
           rest = entries_in due.pair.rest;
           was = ap (λ l. entries_in l) due.pair.is ∙ map-append second due.pair.before ((left, due.pair.window) ∷ (right, due.pair.next) ∷ due.pair.rest)
               ∙ ap₂ (λ (x y : Entry). entries_in due.pair.before ++ x ∷ y ∷ entries_in due.pair.rest) first_is second_is;
-          is = ap (λ l. entries_in l) line_is ∙ map-append second due.pair.before ((left, joined_entry w v) ∷ due.pair.rest);
-          fewer = omega (arith, all, now, long, short);
+          is = map-append second due.pair.before ((left, joined_entry due.pair.window due.pair.next) ∷ due.pair.rest)
+              ∙ ap₂ (λ (x y : Entry). entries_in due.pair.before ++ joined_entry x y ∷ entries_in due.pair.rest) first_is second_is;
+          fewer = omega (arith, all, long, short);
           due = ap₂ (λ (x y : Entry). fits len x.first y.last n) (sym first_is) (sym second_is) ∙ due.due;
         }
 
@@ -215,20 +177,18 @@ AreSlots-joined len n part new w v same same_landmarks pair =
     }
 
 -- the stream with the line that a join leaves
-abbrev pub one_part : StreamParts → At → At → Entry → Entry → StreamParts
-one_part part left right w v = record part { line = record { entries = joined_line part.line.entries left right w v; spare = 0 } }
+abbrev pub one_part : StreamParts → List (At × Entry) → StreamParts
+one_part part entries = record part { line = record { entries = entries; spare = 0 } }
 
 -- two entries of a stream that were read side by side, and are due
-pub record ArePair (part : StreamParts) (left right : At) (w v : Entry) : Type 0 where
-  pub joined : AreJoined (lengths_of (params_of part.target)) (values_held (entries_of part)) part.line.entries
-      (joined_line part.line.entries left right w v) w v
+pub record ArePair (part : StreamParts) (entries : List (At × Entry)) (w v : Entry) : Type 0 where
+  pub joined : AreJoined (lengths_of (params_of part.target)) (values_held (entries_of part)) part.line.entries entries w v
   pub tiled : AreTiled w v (values_held (entries_of part))
-  pub slots : AreSlots part (one_part part left right w v) w v
-  pub stands : StandsIn (set part.line.entries (index_of part.line.entries left) (left, joined_entry w v)) right
+  pub slots : AreSlots part (one_part part entries) w v
 
-pub ArePair-read : (part : StreamParts) (left right : At) (w v : Entry) →
-    AreDue (lengths_of (params_of part.target)) (values_held (entries_of part)) part.line.entries left right → TileFrom 1 (entries_of part) →
-    entry_at part.line.entries left ≡ Some w → entry_at part.line.entries right ≡ Some v → ArePair part left right w v
+pub ArePair-read : (part : StreamParts) (left right : At) (w v : Entry)
+    (due : AreDue (lengths_of (params_of part.target)) (values_held (entries_of part)) part.line.entries left right) → TileFrom 1 (entries_of part) →
+    entry_at part.line.entries left ≡ Some w → entry_at part.line.entries right ≡ Some v → ArePair part (joined_line due) w v
 ArePair-read part left right w v due tiles read_left read_right =
     let len = lengths_of (params_of part.target) in
     let n = values_held (entries_of part) in
@@ -236,8 +196,7 @@ ArePair-read part left right w v due tiles read_left read_right =
     record {
       joined = pair;
       tiled = subst (λ es. AreTiled w v (values_held es)) (sym pair.was) (AreTiled-seam pair.front w v pair.rest (subst (λ es. TileFrom 1 es) pair.was tiles));
-      slots = AreSlots-joined len n part (one_part part left right w v) w v refl refl pair;
-      stands = StandsIn-set len n part.line.entries left right due w v read_left read_right;
+      slots = AreSlots-joined len n part (one_part part (joined_line due)) w v refl refl pair;
     }
 
 -- What joining two neighbours makes of a stream that is held beside others: which records lie where before it and after it.
@@ -276,8 +235,8 @@ span-joined w v one two next some first second =
     let last : v.last ≡ one.first + (one.summary.count + two.summary.count) - 1 = omega arith in
     λ i. (start i, last i)
 
-pub one_part-same : (part : StreamParts) (left right : At) (w v : Entry) → SameButLine part (one_part part left right w v)
-one_part-same part left right w v = record { id = refl; name = refl; target = refl; slot = refl; last_time = refl; landmarks = refl }
+pub one_part-same : (part : StreamParts) (entries : List (At × Entry)) → SameButLine part (one_part part entries)
+one_part-same part entries = record { id = refl; name = refl; target = refl; slot = refl; last_time = refl; landmarks = refl }
 
 -- the records of a stream beside others, those of its windows first
 pub records_held-apart : (part : StreamParts) (s : Stream) (others : List (ℕ × Option Record)) →

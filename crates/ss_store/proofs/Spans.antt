@@ -9,12 +9,9 @@ use Rattle.ss_model.specs.Windows.{taken}
 use Rattle.ss_model.specs.declared.types.Window.{Window}
 use Rattle.ss_model.proofs.Tiles.{last_position-from_AreWindows}
 use Rattle.ss_recover.specs.Held.{TileFrom, span_held, span_of}
+use Rattle.ss_schedule.specs.Pairs.{joined_entry}
 use Rattle.ss_store.specs.Held.{values_held}
 use Rattle.ss_store.specs.Joining.{NoSpansAreDue}
-
--- two entries as one, in the slot of the first
-abbrev pub joined_entry : Entry → Entry → Entry
-joined_entry w v = record { first = w.first; last = v.last; slot = w.slot }
 
 pub values_held-seam : (front : List Entry) (e : Entry) (rest : List Entry) → values_held (front ++ e ∷ rest) ≡ values_held (e ∷ rest)
 values_held-seam [] e rest = refl

@@ -1,6 +1,7 @@
 -- A store in which a stream takes a value outside landmarks: what is known before the call, and what the store does then.
 use Rattle.std.proofs.Common.{◌≡◌, ◌∙◌, ℕ, ℤ, ◌+◌, ◌<◌, ◌≤◌, Bool, true, false, List, get_or, slice_set, length, ap, arith, refl, sym}
 use Rattle.std.proofs.Common.{subst, Err, None, Ok, Some}
+use Rattle.std.proofs.lemmas.Option.{slice_get_within}
 use Rattle.ss_outside.specs.Disk.{DiskView, OfContent}
 use Rattle.ss_outside.specs.Step.{Step}
 use Rattle.ss_outside.specs.Verdict.{fine}
@@ -8,6 +9,7 @@ use Rattle.ss_journal.proofs.StepLemmas.{step-from}
 use Rattle.ss_catalog.specs.declared.event.Event.TheVariants.{Value}
 use Rattle.ss_catalog.specs.declared.stream_id.StreamId.{StreamId}
 use Rattle.ss_line.specs.Line.{LineState}
+use Rattle.ss_line.specs.declared.line.TheConstants.{MOST_PLACES}
 use Rattle.ss_model.specs.History.{CanBeSaid}
 use Rattle.ss_records.specs.Kept.{RecordsState}
 use Rattle.ss_recover.specs.Held.{entries_of, slots_held}
@@ -66,6 +68,15 @@ module _ {store : StoreState} {catalog : List (List ℕ × StreamId)} {name : Li
   -- the stream with room is the one before but for it
   same-part : is.taker.part ≡ was
   same-part = part-read store.streams place is.taker.part was is.taker.at is.read
+
+  pub inside-taker : place < length store.streams
+  inside-taker = slice_get_within store.streams place is.taker.part is.taker.at
+
+  pub few-taker : length was.line.entries < MOST_PLACES
+  few-taker = let few = rw same-part at is.taker.few in omega (arith, few)
+
+  pub runs-taker : store.stopped ≡ false
+  runs-taker = is.runs
 
   room : IsSpared is.taker.part (record was { line = line })
   room = IsSpared-line store place is.taker.part was same-part is.taker.at (is.sound.whole is.runs) line is.entries is.grows

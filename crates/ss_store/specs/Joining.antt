@@ -1,12 +1,11 @@
 -- Two windows side by side in a line, and a stream of which some windows were joined.
-use Rattle.std.specs.Prelude.{◌≡◌, ℕ, true, false, List, [], ◌∷◌, ◌++◌, Option, ⊤}
-use Rattle.std.specs.List.{list_any}
+use Rattle.std.specs.Prelude.{◌≡◌, ℕ, true, false, List, [], ◌∷◌, Option, ⊤}
 use Rattle.ss_codec.specs.declared.record.Record.{Record}
-use Rattle.ss_line.specs.Line.{is_at}
 use Rattle.ss_line.specs.declared.entry.At.{At}
 use Rattle.ss_line.specs.declared.entry.Entry.{Entry}
 use Rattle.ss_target.specs.Lengths.{lengths_of}
 use Rattle.ss_windowing.specs.Windowing.{fits}
+use Rattle.ss_schedule.specs.Pairs.{AreSideBySide}
 use Rattle.ss_model.specs.Joins.{JoinsDue}
 use Rattle.ss_model.specs.State.{Stream, values_in}
 use Rattle.ss_model.specs.declared.types.Window.{Window}
@@ -20,17 +19,7 @@ NoSpansAreDue len n [] = ⊤
 NoSpansAreDue len n (span ∷ []) = ⊤
 NoSpansAreDue len n (span ∷ next ∷ spans) = (fits len span.0 next.1 n ≡ false) × NoSpansAreDue len n (next ∷ spans)
 
--- two entries stand side by side in a line, and no entry before them has a place of theirs
-pub record AreSideBySide (entries : List (At × Entry)) (left right : At) : Type 0 where
-  pub before : List (At × Entry)
-  pub window : Entry
-  pub next : Entry
-  pub rest : List (At × Entry)
-  pub is : entries ≡ before ++ (left, window) ∷ (right, next) ∷ rest
-  pub left_once : list_any (is_at left) before ≡ false
-  pub right_once : list_any (is_at right) (before ++ (left, window) ∷ []) ≡ false
-
--- and at n they lie together in one target window
+-- two entries stand side by side in a line, and at n they lie together in one target window
 pub record AreDue (len : ℕ → ℕ) (n : ℕ) (entries : List (At × Entry)) (left right : At) : Type 0 where
   pub pair : AreSideBySide entries left right
   pub due : fits len pair.window.first pair.next.last n ≡ true

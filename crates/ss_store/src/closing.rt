@@ -1,27 +1,26 @@
 // The merges that are due in one stream.
-ghost use Rattle.std.specs.Prelude.{◌≡◌, ◌⊎◌, ◌+◌, ◌<◌, ◌≤◌, [], ◌∷◌, length, map, IfSome, IfNone, IfOk, OnOk, OnErr};
+ghost use Rattle.std.specs.Prelude.{◌≡◌, ◌⊎◌, ◌+◌, ◌<◌, ◌≤◌, [], ◌∷◌, length, IfOk, OnOk, OnErr};
 ghost use Rattle.ss_outside.specs.Disk.{OfContent};
 ghost use Rattle.ss_outside.specs.Step.{Step};
 ghost use Rattle.ss_outside.specs.Verdict.{IfChanged};
-ghost use Rattle.ss_target.specs.Lengths.{lengths_of};
-ghost use Rattle.ss_target.specs.Targets.{params_of};
 ghost use Rattle.ss_journal.specs.Kept.{IsRunning, IsSettled};
 ghost use Rattle.ss_records.specs.Kept.{AreKept};
 ghost use Rattle.ss_summary.specs.Figures.{IsPossible};
-ghost use Rattle.ss_recover.specs.Held.{TileFrom, entries_of, slots_held, span_held};
-ghost use Rattle.ss_store.specs.Changing.{AreNeighbours, ChangedIsHeld, ClosesStream, HoldsUntil, JoinsWindows, KeepsWhole, NoneAreDue, ReadsJoined};
+ghost use Rattle.ss_recover.specs.Held.{TileFrom, entries_of, slots_held};
+ghost use Rattle.ss_store.specs.Changing.{AreNeighbours, ChangedIsHeld, ClosesStream, HoldsUntil, JoinsWindows, KeepsWhole, ReadsJoined};
 ghost use Rattle.ss_query.specs.Reading.{verdict_of_read};
 ghost use Rattle.ss_store.specs.Held.{IsSameStream, values_held};
-ghost use Rattle.ss_store.specs.Joining.{AreDue, NoSpansAreDue};
+ghost use Rattle.ss_store.specs.Scheduled.{IsDuePair, IsKeyedFor, IsScheduled};
 ghost use Rattle.ss_store.specs.Slots.{AreSomeLive};
 
 use crate::writing::replace_two;
 use ss_codec::Record;
-use ss_line::{At, Entry};
+use ss_line::Entry;
 use ss_outside::Disk;
 use ss_query::{ReadError, read_window};
 use ss_records::Records;
 use ss_recover::StreamParts;
+use ss_schedule::{Pair, Schedule};
 use ss_steps::Steps;
 use ss_summary::Summary;
 use std::sync::ledger::Ledger;
@@ -37,30 +36,6 @@ pub fn values_held<L: Ledger>(part: &StreamParts, steps: &mut Steps<L>) -> u64
         None => 0,
         Some(at) => part.line.get(at, steps).last,
     }
-}
-
-// The first neighbours that lie together in one target window when n values are held.
-fn first_due<L: Ledger>(part: &StreamParts, n: u64, steps: &mut Steps<L>) -> Option<(At, At)>
-    requires tiles { TileFrom 1 (entries_of part.now) }
-    requires all { n ≡ values_held (entries_of part.now) }
-    ensures some { IfSome result (λ pair.
-        AreDue (lengths_of (params_of part.now.target)) n part.now.line.entries pair.0 pair.1) }
-    ensures none { IfNone result
-        (NoSpansAreDue (lengths_of (params_of part.now.target)) n (map span_held (entries_of part.now))) }
-{
-    if part.line.len() == 0 {
-        return None;
-    }
-    let mut left = part.line.first()?;
-    while let Some(right) = part.line.neighbours(left, steps).1 {
-        let window = part.line.get(left, steps);
-        let next = part.line.get(right, steps);
-        if part.target.fits(window.first, next.last, n) {
-            return Some((left, right));
-        }
-        left = right;
-    }
-    None
 }
 
 // The summary of two neighbouring windows as one, read from their records.
@@ -98,12 +73,12 @@ fn join<D: Disk, L: Ledger>(
     records: &mut Records,
     disk: &mut D,
     part: &mut StreamParts,
-    left: At,
-    right: At,
+    schedule: &mut Schedule,
+    pair: Pair,
     steps: &mut Steps<L>,
 ) -> Result<(), ReadError>
-    requires due { AreDue (lengths_of (params_of part.old.target)) (values_held (entries_of part.old)) part.old.line.entries
-        left right }
+    requires keyed { IsKeyedFor part.old schedule.old }
+    requires due { IsDuePair part.old pair }
     requires settled { IsSettled records.old.journal }
     requires tiles { TileFrom 1 (entries_of part.old) }
     requires live { AreSomeLive (slots_held part.old) records.old.live }
@@ -114,11 +89,12 @@ fn join<D: Disk, L: Ledger>(
     ensures whole { OnOk result (KeepsWhole part.old part.new records.old records.new 0) }
     ensures holds { OnOk result (HoldsUntil part.new (values_held (entries_of part.old)) part.old.last_time) }
     ensures fewer { OnOk result (length part.new.line.entries < length part.old.line.entries) }
+    ensures keyed { OnOk result (IsKeyedFor part.new schedule.new) }
     ensures err { OnErr result (part.new ≡ part.old) }
     ensures changed { ChangedIsHeld (verdict_of_read result) part.old }
 {
-    let window = part.line.get(left, steps);
-    let next = part.line.get(right, steps);
+    let window = part.line.get(pair.left, steps);
+    let next = part.line.get(pair.right, steps);
     let number = part.id.0;
     let joined = Record::Window {
         id: number,
@@ -126,13 +102,8 @@ fn join<D: Disk, L: Ledger>(
         summary: read_joined(records, disk, part, window, next)?,
     };
     replace_two(records, disk, window.slot, next.slot, &joined)?;
-    let entry = Entry {
-        first: window.first,
-        last: next.last,
-        slot: window.slot,
-    };
-    part.line.set(left, entry, steps);
-    part.line.cut_out(right, steps);
+    let n = values_held(part, steps);
+    schedule.merged(&mut part.line, pair, n, steps);
     Ok(())
 }
 
@@ -141,8 +112,10 @@ pub fn close_windows<D: Disk, L: Ledger>(
     records: &mut Records,
     disk: &mut D,
     part: &mut StreamParts,
+    schedule: &mut Schedule,
     steps: &mut Steps<L>,
 ) -> Result<(), ReadError>
+    requires keyed { IsKeyedFor part.old schedule.old }
     requires settled { IsSettled records.old.journal }
     requires tiles { TileFrom 1 (entries_of part.old) }
     requires live { AreSomeLive (slots_held part.old) records.old.live }
@@ -152,12 +125,12 @@ pub fn close_windows<D: Disk, L: Ledger>(
     ensures same { IsSameStream part.old part.new }
     ensures whole { OnOk result (KeepsWhole part.old part.new records.old records.new 0) }
     ensures holds { OnOk result (HoldsUntil part.new (values_held (entries_of part.old)) part.old.last_time) }
-    ensures none_due { OnOk result (NoneAreDue part.new) }
+    ensures scheduled { OnOk result (IsScheduled part.new schedule.new) }
     ensures changed { ChangedIsHeld (verdict_of_read result) part.new }
 {
     let n = values_held(part, steps);
-    while let Some((left, right)) = first_due(part, n, steps) {
-        join(records, disk, part, left, right, steps)?;
+    while let Some(pair) = schedule.due(&part.line, n, steps) {
+        join(records, disk, part, schedule, pair, steps)?;
     }
     Ok(())
 }

@@ -8,6 +8,7 @@ mod laws;
 mod marking;
 mod opening;
 mod place;
+mod scheduling;
 mod store;
 mod surveying;
 mod writing;

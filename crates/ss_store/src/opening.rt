@@ -1,6 +1,6 @@
 // The steps of opening a store.
 ghost use Rattle.std.specs.Prelude.{◌≡◌, ◌≤◌, map, length, IfOk, OnOk};
-ghost use Rattle.std.specs.List.{IsDistinct};
+ghost use Rattle.std.specs.List.{AllZip, IsDistinct};
 ghost use Rattle.ss_outside.specs.Disk.{OfContent};
 ghost use Rattle.ss_outside.specs.Step.{Step};
 ghost use Rattle.ss_outside.specs.Verdict.{IfChanged, IsFirm};
@@ -16,6 +16,7 @@ ghost use Rattle.ss_store.specs.Errors.{verdict_of_opening};
 ghost use Rattle.ss_query.specs.Reading.{verdict_of_read};
 ghost use Rattle.ss_store.specs.Kept.{entry_of};
 ghost use Rattle.ss_store.specs.Rebuilt.{ReadsAll};
+ghost use Rattle.ss_store.specs.Scheduled.{IsKeyedFor, IsScheduled};
 
 use crate::OpenError;
 use crate::closing::close_windows;
@@ -24,6 +25,7 @@ use ss_outside::Disk;
 use ss_query::ReadError;
 use ss_records::Records;
 use ss_recover::{Parts, StreamParts, rebuild};
+use ss_schedule::Schedule;
 use ss_steps::Steps;
 use std::alloc::{AllocError, Global};
 use std::sync::ledger::Ledger;
@@ -65,20 +67,29 @@ pub fn close_all<D: Disk, L: Ledger>(
     records: &mut Records,
     disk: &mut D,
     streams: &mut [StreamParts],
+    schedules: &mut [Schedule],
     steps: &mut Steps<L>,
 ) -> Result<(), ReadError>
     requires settled { IsSettled records.old.journal }
     requires whole { AreWhole streams.old records.old.live }
+    requires keyed { AllZip IsKeyedFor streams.old schedules.old }
     requires one_disk { OfContent (D.seen disk.old) (AreKept records.old) }
     ensures closes { Step (verdict_of_read result) (D.seen disk.old) (D.seen disk.new)
         (ClosesAll streams.old streams.new records.new result) }
     ensures entries { map entry_of streams.new ≡ map entry_of streams.old }
     ensures whole { OnOk result (AreWhole streams.new records.new.live) }
     ensures settled { OnOk result (IsSettled records.new.journal) }
+    ensures scheduled { OnOk result (AllZip IsScheduled streams.new schedules.new) }
     ensures changed { SomeChangedIsHeld (verdict_of_read result) streams.new }
 {
     for place in 0..streams.len() {
-        close_windows(records, disk, &mut streams[place], steps)?;
+        close_windows(
+            records,
+            disk,
+            &mut streams[place],
+            &mut schedules[place],
+            steps,
+        )?;
     }
     Ok(())
 }
@@ -88,18 +99,21 @@ pub fn settle_all<D: Disk, L: Ledger>(
     records: &mut Records,
     disk: &mut D,
     streams: &mut [StreamParts],
+    schedules: &mut [Schedule],
     steps: &mut Steps<L>,
 ) -> Result<(), ReadError>
     requires running { IsRunning records.old.journal }
     requires whole { AreWhole streams.old records.old.live }
+    requires keyed { AllZip IsKeyedFor streams.old schedules.old }
     requires one_disk { OfContent (D.seen disk.old) (AreKept records.old) }
     ensures closes { Step (verdict_of_read result) (D.seen disk.old) (D.seen disk.new)
         (ClosesAll streams.old streams.new records.new result) }
     ensures entries { map entry_of streams.new ≡ map entry_of streams.old }
     ensures whole { OnOk result (AreWhole streams.new records.new.live) }
     ensures settled { OnOk result (IsSettled records.new.journal) }
+    ensures scheduled { OnOk result (AllZip IsScheduled streams.new schedules.new) }
     ensures changed { SomeChangedIsHeld (verdict_of_read result) streams.new }
 {
     records.settle(disk)?;
-    close_all(records, disk, streams, steps)
+    close_all(records, disk, streams, schedules, steps)
 }

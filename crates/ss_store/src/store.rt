@@ -13,27 +13,36 @@ use crate::place::place_of;
 use ss_catalog::{Catalog, StreamId};
 use ss_records::Records;
 use ss_recover::StreamParts;
+use ss_schedule::Schedule;
 use std::marker::Model;
 
 /// Named streams on a disk that the store doesn't hold: each call takes the disk, as the last such call left it. In memory it
-/// keeps of each stream what its record says, and of each window the positions and the slot. docs/DEFINITIONS.md has what a
+/// keeps of each stream what its record says, of each window the positions and the slot, and of each two neighbouring windows
+/// when they first lie together in one target window. docs/DEFINITIONS.md has what a
 /// content stands for, and which events are refused. After a call that answers `Disk` or `Changed` the store has stopped.
 #[derive(Drop)]
 pub struct Store {
     streams: Vec<StreamParts>,
+    // The schedule of each stream, at its place.
+    schedules: Vec<Schedule>,
     catalog: Catalog,
     records: Records,
     stopped: bool,
 }
 
 impl Model for Store {
+    ghost use Rattle.std.specs.Prelude.{◌≡◌, false};
+    ghost use Rattle.std.specs.List.{AllZip};
     ghost use Rattle.ss_store.specs.Kept.{IsSound, StoreState};
+    ghost use Rattle.ss_store.specs.Scheduled.{IsScheduled};
 
     ghost Value = { StoreState };
 
     ghost view = { λ s. record { streams = s.streams.items; records = s.records; stopped = s.stopped } };
 
-    ghost invariant = { λ s. IsSound (record { streams = s.streams.items; records = s.records; stopped = s.stopped }) s.catalog };
+    ghost invariant = { λ s.
+        IsSound (record { streams = s.streams.items; records = s.records; stopped = s.stopped }) s.catalog
+        × (s.stopped ≡ false → AllZip IsScheduled s.streams.items s.schedules.items) };
 }
 
 impl Store {

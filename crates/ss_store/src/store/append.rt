@@ -2,7 +2,7 @@
 use super::Store;
 use super::times::is_past;
 use crate::ApplyError;
-use crate::appending::append_value;
+use crate::appending::{append_value, make_room};
 use crate::closing::values_held;
 use crate::place::place_of;
 use ss_catalog::{LAST_TIME, Name, Refusal};
@@ -78,11 +78,21 @@ impl Store {
             Err(refusal) => return Err(ApplyError::Refused(refusal)),
         };
         let stream = &mut self.streams[place];
-        match stream.line.reserve(1) {
+        let schedule = &mut self.schedules[place];
+        match make_room(&mut stream.line, schedule) {
             Ok(()) => {}
             Err(_) => return Err(ApplyError::OutOfMemory),
         }
-        match append_value(&mut self.records, disk, stream, slot, t, v, &mut steps) {
+        match append_value(
+            &mut self.records,
+            disk,
+            stream,
+            schedule,
+            slot,
+            t,
+            v,
+            &mut steps,
+        ) {
             Ok(()) => Ok(Ack {
                 n: values_held(stream, &mut steps),
                 k: stream.line.len(),

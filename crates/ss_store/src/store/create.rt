@@ -15,28 +15,36 @@ use ss_line::Line;
 use ss_model::Ack;
 use ss_outside::{Disk, Failed};
 use ss_recover::StreamParts;
+use ss_schedule::Schedule;
 use ss_target::Target;
 use std::alloc::AllocError;
 
-// Puts a stream last, and its name into the catalog, which is the last to grow. An error leaves both as they were.
+// Puts a stream and its schedule last, and its name into the catalog, which is the last to grow. An error leaves all as they
+// were.
 fn grow(
     streams: &mut Vec<StreamParts>,
+    schedules: &mut Vec<Schedule>,
     catalog: &mut Catalog,
     stream: StreamParts,
+    schedule: Schedule,
     name: Name,
     id: StreamId,
 ) -> Result<(), AllocError>
     ensures streams { OnOk result (streams.new.items ≡ streams.old.items ++ stream ∷ []) }
+    ensures schedules { OnOk result (schedules.new.items ≡ schedules.old.items ++ schedule ∷ []) }
     ensures catalog { OnOk result (catalog.new ≡ catalog.old ++ (name, id) ∷ []) }
     ensures err_streams { OnErr result (streams.new.items ≡ streams.old.items) }
+    ensures err_schedules { OnErr result (schedules.new.items ≡ schedules.old.items) }
     ensures err_catalog { OnErr result (catalog.new ≡ catalog.old) }
 {
     streams.reserve(1)?;
+    schedules.reserve(1)?;
     match catalog.add(name, id) {
         Ok(()) => {}
         Err(_) => return Err(AllocError),
     }
     streams.push(stream).unwrap();
+    schedules.push(schedule).unwrap();
     Ok(())
 }
 
@@ -115,7 +123,15 @@ impl Store {
             line: Line::new(alloc),
             landmarks: Landmarks::new(alloc),
         };
-        match grow(&mut self.streams, &mut self.catalog, stream, name, id) {
+        match grow(
+            &mut self.streams,
+            &mut self.schedules,
+            &mut self.catalog,
+            stream,
+            Schedule::new(alloc, target),
+            name,
+            id,
+        ) {
             Ok(()) => {}
             Err(_) => return Err(ApplyError::OutOfMemory),
         }

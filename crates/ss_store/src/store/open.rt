@@ -2,6 +2,7 @@
 use super::Store;
 use crate::OpenError;
 use crate::opening::{catalog_of, read_all, settle_all};
+use crate::scheduling::schedules_of;
 use ss_outside::Disk;
 use ss_steps::Steps;
 use std::alloc::Global;
@@ -40,9 +41,11 @@ impl Store {
         let (mut records, mut streams) = read_all(alloc, disk)?;
         let catalog = catalog_of(alloc, &streams)?;
         let mut steps = Steps::<L>::new(blank);
-        settle_all(&mut records, disk, &mut streams, &mut steps)?;
+        let mut schedules = schedules_of(alloc, &streams, &mut steps)?;
+        settle_all(&mut records, disk, &mut streams, &mut schedules, &mut steps)?;
         Ok(Store {
             streams,
+            schedules,
             catalog,
             records,
             stopped: false,

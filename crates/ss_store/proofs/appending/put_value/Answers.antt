@@ -1,9 +1,13 @@
-use Rattle.std.proofs.Common.{◌≡◌, ◌∙◌, ℕ, ◌+◌, List, [], ◌∷◌, ◌++◌, map, refl, ap, arith, Some, w64}
+use Rattle.std.proofs.Common.{◌≡◌, ◌∙◌, ℕ, ◌+◌, List, [], ◌∷◌, ◌++◌, map, refl, ap, arith, length, length-append, subst, sym, take, Some, w64}
 use Rattle.std.proofs.lemmas.List.{map-append}
 use Rattle.std.proofs.lemmas.Result.{err_from_is_err_and}
 use Rattle.std.proofs.Math.Facts.{to_z-of_z}
 use Rattle.ss_codec.proofs.RecordLemmas.{is_valid-IsWindow}
-use Rattle.ss_line.specs.Line.{LineState}
+use Rattle.ss_line.specs.Line.{LineState, index_of}
+use Rattle.ss_schedule.specs.Keyed.{IsKeyed, lengths}
+use Rattle.ss_schedule.specs.Pairs.{NoPairFits}
+use Rattle.ss_target.specs.Lengths.{lengths_of}
+use Rattle.ss_target.specs.Targets.{params_of}
 use Rattle.ss_line.specs.declared.entry.At.{At}
 use Rattle.ss_line.specs.declared.entry.Entry.{Entry}
 use Rattle.ss_outside.proofs.StepLemmas.{step-as}
@@ -13,6 +17,7 @@ use Rattle.ss_recover.specs.declared.parts.StreamParts.{StreamParts}
 use Rattle.ss_store.specs.Held.{IsHalfway, values_held, with_single}
 use Rattle.ss_query.specs.Held.{IsHeldIn}
 use Rattle.ss_store.proofs.Additions.{IsAdded, LiveSlotsGo-added, TileFrom-added, Turns-added, single_entry, values_held-added}
+use Rattle.ss_store.proofs.KeyedWindows.{FollowUpTo-take, FollowUpTo-tiles, NoPairFits-spans, take-all, take-seam}
 use Rattle.ss_store.proofs.Calls.{Turns-answers, Turns-failed}
 use Rattle.ss_store.proofs.appending.put_value.Goals as goal
 
@@ -80,7 +85,7 @@ pub returns-clause-puts : goal.returns-clause-puts
 returns-clause-puts g c =
     let part = c.args.part.now in
     let can = c.requires.can in
-    let new = record part { last_time = Some c.args.t; line = c.push.new.self } in
+    let new = record part { last_time = Some c.args.t; line = c.push-at.new.self } in
     let single : c.one.result ≡ summary_of ((c.args.t, c.args.v) ∷ []) =
     c.one.ensures ∙ ap (λ v. summary_of ((c.args.t, v) ∷ [])) (to_z-of_z {w = w64} {z = c.args.v} c.ranges.v) in
     step-as c.in_ok-add_record.ensures.adds (λ made. record {
@@ -88,7 +93,7 @@ returns-clause-puts g c =
           Turns-answers (IsHeldIn others part s) (IsHalfway others part s c.args.t c.args.v) (IsHeldIn others new (with_single s c.args.t c.args.v))
           _ _ c.in_ok-add_record.field-0 _
           (Turns-added part new c.args.slot c.args.t
-          (added part c.push.new.self c.push.result c.values_held-position.result c.args.slot c.args.t c.push.ensures.pushed
+          (added part c.push-at.new.self c.push-at.result c.values_held-position.result c.args.slot c.args.t c.push-at.ensures.pushed
           c.values_held-position.ensures) c.args.v c.one.result single (assumption c.one.type_inv)
           can.room can.plain can.later others s _ _ _ (rw (c.values_held-position.ensures, c.number_of.ensures) at made.changes));
       firm = λ others s held. tt;
@@ -99,8 +104,8 @@ pub returns-clause-holds : goal.returns-clause-holds
 returns-clause-holds g c =
     let part = c.args.part.now in
     record {
-      values = values_held-added part (record part { last_time = Some c.args.t; line = c.push.new.self }) c.args.slot c.args.t
-          (added part c.push.new.self c.push.result c.values_held-position.result c.args.slot c.args.t c.push.ensures.pushed
+      values = values_held-added part (record part { last_time = Some c.args.t; line = c.push-at.new.self }) c.args.slot c.args.t
+          (added part c.push-at.new.self c.push-at.result c.values_held-position.result c.args.slot c.args.t c.push-at.ensures.pushed
           c.values_held-position.ensures);
       last_time = refl;
     }
@@ -108,15 +113,71 @@ returns-clause-holds g c =
 pub returns-clause-whole : goal.returns-clause-whole
 returns-clause-whole g c =
     let part = c.args.part.now in
-    let new = record part { last_time = Some c.args.t; line = c.push.new.self } in
+    let new = record part { last_time = Some c.args.t; line = c.push-at.new.self } in
     let done = c.in_ok-add_record.ensures in
     record {
       tiles = TileFrom-added part new c.args.slot c.args.t
-          (added part c.push.new.self c.push.result c.values_held-position.result c.args.slot c.args.t c.push.ensures.pushed
+          (added part c.push-at.new.self c.push-at.result c.values_held-position.result c.args.slot c.args.t c.push-at.ensures.pushed
           c.values_held-position.ensures) c.requires.can.tiles c.requires.can.room;
       live = LiveSlotsGo-added part new c.args.slot c.args.t
-          (added part c.push.new.self c.push.result c.values_held-position.result c.args.slot c.args.t c.push.ensures.pushed
+          (added part c.push-at.new.self c.push-at.result c.values_held-position.result c.args.slot c.args.t c.push-at.ensures.pushed
           c.values_held-position.ensures) c.args.records.now.live c.add_record.new.records.live done.live;
       settled = done.settled;
       extent = done.extent;
+    }
+
+pub keyed_at_the_next_count-requires : goal.keyed_at_the_next_count-requires
+keyed_at_the_next_count-requires g c = ?
+
+pub the_last_one_pushed-requires : goal.the_last_one_pushed-requires
+the_last_one_pushed-requires g c = ?
+
+pub add_window-requires-clause-keyed : goal.add_window-requires-clause-keyed
+add_window-requires-clause-keyed g c =
+    let part = c.args.part.now in
+    let keyed = c.requires.scheduled.0 in
+    let entry : Entry = single_entry (c.values_held-position.result + 1) c.args.slot in
+    let index = c.the_last_one_pushed.ensures part.line.entries c.push-at.result entry c.push-at.ensures.fresh in
+    let none : NoPairFits (lengths c.args.schedule.now) (values_held (entries_of part)) part.line.entries =
+    rw keyed.target (NoPairFits-spans (lengths_of (params_of part.target)) (values_held (entries_of part)) part.line.entries c.requires.scheduled.1) in
+    let later : IsKeyed (values_held (entries_of part) + 1) part.line.entries c.args.schedule.now =
+    c.keyed_at_the_next_count.ensures (values_held (entries_of part)) part.line.entries c.args.schedule.now c.requires.can.room keyed.keyed none in
+    let front : take (index_of c.push-at.new.self.entries c.push-at.result) c.push-at.new.self.entries ≡ part.line.entries =
+    ap (λ es. take (index_of es c.push-at.result) es) c.push-at.ensures.pushed
+    ∙ ap (λ k. take k (part.line.entries ++ (c.push-at.result, entry) ∷ [])) index ∙ take-seam part.line.entries ((c.push-at.result, entry) ∷ []) in
+    subst (λ n. IsKeyed (n + 1) (take (index_of c.push-at.new.self.entries c.push-at.result) c.push-at.new.self.entries) c.args.schedule.now)
+    (sym c.values_held-position.ensures)
+    (subst (λ es. IsKeyed (values_held (entries_of part) + 1) es c.args.schedule.now) (sym front) later)
+
+pub add_window-requires-clause-follow : goal.add_window-requires-clause-follow
+add_window-requires-clause-follow g c =
+    let part = c.args.part.now in
+    let is = added part c.push-at.new.self c.push-at.result c.values_held-position.result c.args.slot c.args.t c.push-at.ensures.pushed
+    c.values_held-position.ensures in
+    let new = record part { last_time = Some c.args.t; line = c.push-at.new.self } in
+    let all = values_held-added part new c.args.slot c.args.t is in
+    FollowUpTo-take (c.values_held-position.result + 1) _ c.push-at.new.self.entries
+    (FollowUpTo-tiles (c.values_held-position.result + 1) c.push-at.new.self.entries
+    (TileFrom-added part new c.args.slot c.args.t is c.requires.can.tiles c.requires.can.room) (omega (arith, all, c.values_held-position.ensures)))
+
+pub add_window-requires-clause-stub : goal.add_window-requires-clause-stub
+add_window-requires-clause-stub g c = ?
+
+pub returns-clause-keyed : goal.returns-clause-keyed
+returns-clause-keyed g c =
+    let part = c.args.part.now in
+    let new = c.push-at.new.self in
+    let entry : Entry = single_entry (c.values_held-position.result + 1) c.args.slot in
+    let index : index_of new.entries c.push-at.result ≡ length part.line.entries =
+    ap (λ es. index_of es c.push-at.result) c.push-at.ensures.pushed
+    ∙ c.the_last_one_pushed.ensures part.line.entries c.push-at.result entry c.push-at.ensures.fresh in
+    let all = (returns-clause-holds g c).values in
+    let long : length new.entries ≡ length part.line.entries + 1 =
+    ap (λ es. length es) c.push-at.ensures.pushed ∙ length-append part.line.entries ((c.push-at.result, entry) ∷ []) in
+    let whole : take (index_of new.entries c.push-at.result + 1) new.entries ≡ new.entries =
+    take-all new.entries (index_of new.entries c.push-at.result + 1) (omega (arith, long, index)) in
+    record {
+      target = c.add_window.ensures.target ∙ c.requires.scheduled.0.target;
+      keyed = subst (λ n. IsKeyed n new.entries c.add_window.new.self) (omega (arith, all, c.values_held-position.ensures))
+          (subst (λ es. IsKeyed (c.values_held-position.result + 1) es c.add_window.new.self) whole c.add_window.ensures.keyed);
     }

@@ -7,67 +7,77 @@ use Rattle.ss_target.specs.Targets.{params_of}
 use Rattle.ss_recover.specs.Held.{entries_of, slots_held, span_held}
 use Rattle.ss_store.specs.Held.{IsPartlyJoined}
 use Rattle.ss_query.specs.Held.{IsHeldIn}
-use Rattle.ss_store.specs.Joining.{AreDue, IsJoinedIn, NoSpansAreDue}
+use Rattle.ss_schedule.specs.Keyed.{IsKeyed}
+use Rattle.ss_store.specs.Joining.{IsJoinedIn, NoSpansAreDue}
+use Rattle.ss_store.proofs.KeyedWindows.{NoSpansAreDue-pairs}
 use Rattle.ss_store.proofs.Calls.{Turns-failed}
 use Rattle.ss_store.proofs.Closings.{IsSameStream-more, Turns-closes}
 use Rattle.ss_store.proofs.LiveSlots.{AreSomeLive-go}
 use Rattle.ss_store.proofs.Wholes.{HoldsUntil-then, JoinsWindows-more, JoinsWindows-none, KeepsWhole-none, KeepsWhole-then}
 use Rattle.ss_store.proofs.closing.close_windows.Goals as goal
 
-pub loop-left-init : goal.loop-left-init
-loop-left-init g c = record {
-  step = step-none (g.D.Disk.seen c.args.disk.now) _ (λ told.
-      JoinsWindows-none c.args.part.now c.args.records.now _ (g.met.D.Disk.knows_now c.args.disk.now told) (c.requires.one_disk told));
-  same = record { id = refl; name = refl; target = refl; slot = refl; landmarks = refl };
-  whole = KeepsWhole-none c.args.part.now c.args.records.now c.requires.tiles c.requires.settled;
-  holds = record { values = refl; last_time = refl };
-}
+pub loop-pair-init : goal.loop-pair-init
+loop-pair-init g c = (
+  record {
+    step = step-none (g.D.Disk.seen c.args.disk.now) _ (λ told.
+        JoinsWindows-none c.args.part.now c.args.records.now _ (g.met.D.Disk.knows_now c.args.disk.now told) (c.requires.one_disk told));
+    same = record { id = refl; name = refl; target = refl; slot = refl; landmarks = refl };
+    whole = KeepsWhole-none c.args.part.now c.args.records.now c.requires.tiles c.requires.settled;
+    holds = record { values = refl; last_time = refl };
+  },
+  c.requires.keyed,
+)
 
-pub first_due-requires-clause-tiles : goal.first_due-requires-clause-tiles
-first_due-requires-clause-tiles g c = c.loop-left.invariant.whole.tiles
+pub due-requires-clause-holds : goal.due-requires-clause-holds
+due-requires-clause-holds g c =
+    subst (λ n. IsKeyed n c.loop-pair.part.line.entries c.loop-pair.schedule)
+    (c.loop-pair.invariant.0.holds.values ∙ sym c.values_held-n.ensures) c.loop-pair.invariant.1.keyed
 
-pub first_due-requires-clause-all : goal.first_due-requires-clause-all
-first_due-requires-clause-all g c = c.values_held-n.ensures ∙ sym c.loop-left.invariant.holds.values
+pub due-requires-clause-stub : goal.due-requires-clause-stub
+due-requires-clause-stub g c = ?
 
 pub join-requires-clause-due : goal.join-requires-clause-due
-join-requires-clause-due g c =
-    subst (λ n. AreDue (lengths_of (params_of c.loop-left.part.target)) n c.loop-left.part.line.entries c.in-Some.left c.in-Some.right)
-    (c.values_held-n.ensures ∙ sym c.loop-left.invariant.holds.values) c.in-Some.ensures.some
+join-requires-clause-due g c = record {
+  stands = c.in-Some.ensures.pair;
+  fits = rw (c.loop-pair.invariant.0.holds.values, ← c.values_held-n.ensures, ← c.loop-pair.invariant.1.target) c.in-Some.ensures.fits;
+}
 
 pub join-requires-clause-settled : goal.join-requires-clause-settled
-join-requires-clause-settled g c = c.loop-left.invariant.whole.settled
+join-requires-clause-settled g c = c.loop-pair.invariant.0.whole.settled
 
 pub join-requires-clause-tiles : goal.join-requires-clause-tiles
-join-requires-clause-tiles g c = c.loop-left.invariant.whole.tiles
+join-requires-clause-tiles g c = c.loop-pair.invariant.0.whole.tiles
 
 pub join-requires-clause-live : goal.join-requires-clause-live
 join-requires-clause-live g c =
-    AreSomeLive-go (slots_held c.args.part.now) (slots_held c.loop-left.part) c.args.records.now.live c.loop-left.records.live c.requires.live
-    c.loop-left.invariant.whole.live
+    AreSomeLive-go (slots_held c.args.part.now) (slots_held c.loop-pair.part) c.args.records.now.live c.loop-pair.records.live c.requires.live
+    c.loop-pair.invariant.0.whole.live
 
 pub join-requires-clause-one_disk : goal.join-requires-clause-one_disk
-join-requires-clause-one_disk g c = after-step c.loop-left.invariant.step (λ told has. has.kept)
+join-requires-clause-one_disk g c = after-step c.loop-pair.invariant.0.step (λ told has. has.kept)
 
-pub loop-left-smaller : goal.loop-left-smaller
-loop-left-smaller g c = c.in_ok-join.ensures.fewer
+pub loop-pair-smaller : goal.loop-pair-smaller
+loop-pair-smaller g c = c.in_ok-join.ensures.fewer
 
-pub loop-left-preserved : goal.loop-left-preserved
-loop-left-preserved g c =
-    let before = c.loop-left.invariant in
-    let after = c.in_ok-join.ensures in
-    record {
-      step = step-then before.step after.joins (λ first second. JoinsWindows-more _ first second);
-      same = IsSameStream-more c.args.part.now c.loop-left.part c.join.new.part before.same c.join.ensures.same;
-      whole = KeepsWhole-then before.whole after.whole;
-      holds = HoldsUntil-then before.holds after.holds;
-    }
+pub loop-pair-preserved : goal.loop-pair-preserved
+loop-pair-preserved g c =
+    let before = c.loop-pair.invariant.0 in
+    let after = c.in_ok-join.ensures in (
+      record {
+        step = step-then before.step after.joins (λ first second. JoinsWindows-more _ first second);
+        same = IsSameStream-more c.args.part.now c.loop-pair.part c.join.new.part before.same c.join.ensures.same;
+        whole = KeepsWhole-then before.whole after.whole;
+        holds = HoldsUntil-then before.holds after.holds;
+      },
+      after.keyed,
+    )
 
 pub returns-in_err-join-clause-closes : goal.returns-in_err-join-clause-closes
 returns-in_err-join-clause-closes g c =
     let part = c.args.part.now in
     let p = err_from_is_err_and c.from_residual.result c.from_residual.ensures.1 in
     rw (p.1, p.2)
-    (step-then c.loop-left.invariant.step c.in_err-join.ensures.joins (λ first second.
+    (step-then c.loop-pair.invariant.0.step c.in_err-join.ensures.joins (λ first second.
     let all = JoinsWindows-more _ first second in
     record {
       turns = λ others s.
@@ -78,33 +88,42 @@ returns-in_err-join-clause-closes g c =
 
 pub returns-in_err-join-clause-same : goal.returns-in_err-join-clause-same
 returns-in_err-join-clause-same g c =
-    IsSameStream-more c.args.part.now c.loop-left.part c.join.new.part c.loop-left.invariant.same c.join.ensures.same
+    IsSameStream-more c.args.part.now c.loop-pair.part c.join.new.part c.loop-pair.invariant.0.same c.join.ensures.same
 
 pub returns-in_err-join-clause-changed : goal.returns-in_err-join-clause-changed
 returns-in_err-join-clause-changed g c =
     let p = err_from_is_err_and c.from_residual.result c.from_residual.ensures.1 in
     rw (p.1, p.2, c.in_err-join.ensures.err) c.in_err-join.ensures.changed
 
+-- at the end none is due
+none_due : (g : _) (c : goal.In_default g) →
+    NoSpansAreDue (lengths_of (params_of c.loop-pair.part.target)) c.values_held-n.result (map span_held (entries_of c.loop-pair.part))
+none_due g c =
+    NoSpansAreDue-pairs (lengths_of (params_of c.loop-pair.part.target)) c.values_held-n.result c.loop-pair.part.line.entries
+    (rw (← c.loop-pair.invariant.1.target) c.in_default.ensures.none)
+
 pub returns-clause-closes : goal.returns-clause-closes
 returns-clause-closes g c =
-    step-as c.loop-left.invariant.step (λ has. record {
+    step-as c.loop-pair.invariant.0.step (λ has. record {
       turns = λ others s.
-          Turns-closes others c.args.part.now c.loop-left.part s c.values_held-n.result _ _
-          (c.values_held-n.ensures ∙ sym c.loop-left.invariant.holds.values) c.in_default.ensures.none has.turns;
+          Turns-closes others c.args.part.now c.loop-pair.part s c.values_held-n.result _ _
+          (c.values_held-n.ensures ∙ sym c.loop-pair.invariant.0.holds.values) (none_due g c) has.turns;
       firm = λ others s held. tt;
       kept = has.kept;
     })
 
 pub returns-clause-same : goal.returns-clause-same
-returns-clause-same g c = c.loop-left.invariant.same
+returns-clause-same g c = c.loop-pair.invariant.0.same
 
 pub returns-clause-whole : goal.returns-clause-whole
-returns-clause-whole g c = c.loop-left.invariant.whole
+returns-clause-whole g c = c.loop-pair.invariant.0.whole
 
 pub returns-clause-holds : goal.returns-clause-holds
-returns-clause-holds g c = c.loop-left.invariant.holds
+returns-clause-holds g c = c.loop-pair.invariant.0.holds
 
-pub returns-clause-none_due : goal.returns-clause-none_due
-returns-clause-none_due g c =
-    subst (λ n. NoSpansAreDue (lengths_of (params_of c.loop-left.part.target)) n (map span_held (entries_of c.loop-left.part)))
-    (c.values_held-n.ensures ∙ sym c.loop-left.invariant.holds.values) c.in_default.ensures.none
+pub returns-clause-scheduled : goal.returns-clause-scheduled
+returns-clause-scheduled g c = (
+  c.loop-pair.invariant.1,
+  subst (λ n. NoSpansAreDue (lengths_of (params_of c.loop-pair.part.target)) n (map span_held (entries_of c.loop-pair.part)))
+      (c.values_held-n.ensures ∙ sym c.loop-pair.invariant.0.holds.values) (none_due g c),
+)

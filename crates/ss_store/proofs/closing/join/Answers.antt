@@ -6,6 +6,7 @@ use Rattle.ss_line.specs.Line.{StandsIn, index_of}
 use Rattle.ss_line.specs.declared.entry.At.{At}
 use Rattle.ss_line.specs.declared.entry.Entry.{Entry}
 use Rattle.ss_summary.specs.Summaries.{joined}
+use Rattle.ss_schedule.specs.Keyed.{IsKeyed}
 use Rattle.ss_target.specs.Lengths.{lengths_of}
 use Rattle.ss_target.specs.Targets.{params_of}
 use Rattle.ss_recover.specs.Held.{TileFrom, entries_of}
@@ -18,29 +19,30 @@ use Rattle.ss_store.specs.Slots.{AreSomeLive, LiveSlotsGo}
 use Rattle.ss_store.proofs.Calls.{Turns-answers, Turns-failed}
 use Rattle.ss_store.proofs.Joinings.{AreSomeLive-two, IfChanged-window, IsFirm-read, LiveSlotsGo-two, Turns-join, Turns-not_read, read-held}
 use Rattle.ss_store.proofs.Pairs.{AreJoined, ArePair-read, AreSlots-joined, JoinsHeld-pair, StandsIn-left, StandsIn-right, joined_line, one_part, one_part-same}
+use Rattle.ss_store.proofs.KeyedWindows.{AreDue-pair}
 use Rattle.ss_store.proofs.Spans.{TileFrom-joined, values_held-joined}
 use Rattle.ss_store.proofs.closing.join.Goals as goal
 
 pub get-window-requires : goal.get-window-requires
 get-window-requires g c =
-    StandsIn-left (lengths_of (params_of c.args.part.now.target)) (values_held (entries_of c.args.part.now)) c.args.part.now.line.entries c.args.left
-    c.args.right c.requires.due
+    StandsIn-left (lengths_of (params_of c.args.part.now.target)) (values_held (entries_of c.args.part.now)) c.args.part.now.line.entries c.args.pair.left
+    c.args.pair.right (AreDue-pair c.args.part.now c.args.pair c.requires.due)
 
 pub get-next-requires : goal.get-next-requires
 get-next-requires g c =
-    StandsIn-right (lengths_of (params_of c.args.part.now.target)) (values_held (entries_of c.args.part.now)) c.args.part.now.line.entries c.args.left
-    c.args.right c.requires.due
+    StandsIn-right (lengths_of (params_of c.args.part.now.target)) (values_held (entries_of c.args.part.now)) c.args.part.now.line.entries c.args.pair.left
+    c.args.pair.right (AreDue-pair c.args.part.now c.args.pair c.requires.due)
 
 pub read_joined-requires-clause-live : goal.read_joined-requires-clause-live
 read_joined-requires-clause-live g c =
-    let pair = ArePair-read c.args.part.now c.args.left c.args.right c.get-window.result c.get-next.result c.requires.due c.requires.tiles
+    let pair = ArePair-read c.args.part.now c.args.pair.left c.args.pair.right c.get-window.result c.get-next.result (AreDue-pair c.args.part.now c.args.pair c.requires.due) c.requires.tiles
     c.get-window.ensures.entry c.get-next.ensures.entry in
-    AreSomeLive-two c.args.part.now (one_part c.args.part.now c.args.left c.args.right c.get-window.result c.get-next.result) c.get-window.result
+    AreSomeLive-two c.args.part.now (one_part c.args.part.now (joined_line (AreDue-pair c.args.part.now c.args.pair c.requires.due))) c.get-window.result
     c.get-next.result c.args.records.now.live pair.slots c.requires.live
 
 pub read_joined-requires-clause-neighbours : goal.read_joined-requires-clause-neighbours
 read_joined-requires-clause-neighbours g c =
-    let tiled = (ArePair-read c.args.part.now c.args.left c.args.right c.get-window.result c.get-next.result c.requires.due c.requires.tiles
+    let tiled = (ArePair-read c.args.part.now c.args.pair.left c.args.pair.right c.get-window.result c.get-next.result (AreDue-pair c.args.part.now c.args.pair c.requires.due) c.requires.tiles
     c.get-window.ensures.entry c.get-next.ensures.entry).tiled in
     record { first = tiled.first; side_by_side = tiled.next; few = omega (arith, tiled.last, tiled.few) }
 
@@ -49,9 +51,9 @@ returns-in_err-read_joined-clause-joins g c =
     let part = c.args.part.now in
     let w = c.get-window.result in
     let v = c.get-next.result in
-    let new = one_part part c.args.left c.args.right w v in
-    let same = one_part-same part c.args.left c.args.right w v in
-    let pair = ArePair-read part c.args.left c.args.right w v c.requires.due c.requires.tiles c.get-window.ensures.entry c.get-next.ensures.entry in
+    let new = one_part part (joined_line (AreDue-pair c.args.part.now c.args.pair c.requires.due)) in
+    let same = one_part-same part (joined_line (AreDue-pair c.args.part.now c.args.pair c.requires.due)) in
+    let pair = ArePair-read part c.args.pair.left c.args.pair.right w v (AreDue-pair c.args.part.now c.args.pair c.requires.due) c.requires.tiles c.get-window.ensures.entry c.get-next.ensures.entry in
     let failure = c.in_err-read_joined.field-0.0 in
     let p = err_from_is_err_and c.from_residual.result c.from_residual.ensures.1 in
     rw (p.1, p.2)
@@ -66,7 +68,7 @@ returns-in_err-read_joined-clause-joins g c =
 
 pub replace_two-requires-clause-valid : goal.replace_two-requires-clause-valid
 replace_two-requires-clause-valid g c =
-    let tiled = (ArePair-read c.args.part.now c.args.left c.args.right c.get-window.result c.get-next.result c.requires.due c.requires.tiles
+    let tiled = (ArePair-read c.args.part.now c.args.pair.left c.args.pair.right c.get-window.result c.get-next.result (AreDue-pair c.args.part.now c.args.pair c.requires.due) c.requires.tiles
     c.get-window.ensures.entry c.get-next.ensures.entry).tiled in
     let count = c.in_ok-read_joined.ensures.count in
     is_valid-IsWindow c.args.part.now.id.0 c.get-window.result.first c.in_ok-read_joined.field-0 (omega arith) tiled.first
@@ -75,10 +77,10 @@ replace_two-requires-clause-valid g c =
 
 pub replace_two-requires-clause-live : goal.replace_two-requires-clause-live
 replace_two-requires-clause-live g c =
-    let pair = ArePair-read c.args.part.now c.args.left c.args.right c.get-window.result c.get-next.result c.requires.due c.requires.tiles
+    let pair = ArePair-read c.args.part.now c.args.pair.left c.args.pair.right c.get-window.result c.get-next.result (AreDue-pair c.args.part.now c.args.pair c.requires.due) c.requires.tiles
     c.get-window.ensures.entry c.get-next.ensures.entry in
     subst (λ live. AreSomeLive (c.get-window.result.slot ∷ c.get-next.result.slot ∷ []) live) (sym c.read_joined.ensures.live)
-    (AreSomeLive-two c.args.part.now (one_part c.args.part.now c.args.left c.args.right c.get-window.result c.get-next.result) c.get-window.result
+    (AreSomeLive-two c.args.part.now (one_part c.args.part.now (joined_line (AreDue-pair c.args.part.now c.args.pair c.requires.due))) c.get-window.result
     c.get-next.result c.args.records.now.live pair.slots c.requires.live)
 
 pub returns-in_err-replace_two-clause-joins : goal.returns-in_err-replace_two-clause-joins
@@ -86,9 +88,9 @@ returns-in_err-replace_two-clause-joins g c =
     let part = c.args.part.now in
     let w = c.get-window.result in
     let v = c.get-next.result in
-    let new = one_part part c.args.left c.args.right w v in
-    let same = one_part-same part c.args.left c.args.right w v in
-    let pair = ArePair-read part c.args.left c.args.right w v c.requires.due c.requires.tiles c.get-window.ensures.entry c.get-next.ensures.entry in
+    let new = one_part part (joined_line (AreDue-pair c.args.part.now c.args.pair c.requires.due)) in
+    let same = one_part-same part (joined_line (AreDue-pair c.args.part.now c.args.pair c.requires.due)) in
+    let pair = ArePair-read part c.args.pair.left c.args.pair.right w v (AreDue-pair c.args.part.now c.args.pair c.requires.due) c.requires.tiles c.get-window.ensures.entry c.get-next.ensures.entry in
     let p = err_from_is_err_and c.from_residual-in_err-replace_two.result c.from_residual-in_err-replace_two.ensures.1 in
     rw (p.1, p.2)
     (step-next c.in_ok-read_joined.ensures.joined c.in_err-replace_two.ensures.replaces (λ told told_read read replaced. record {
@@ -105,38 +107,26 @@ returns-in_err-read_joined-clause-changed g c =
     let part = c.args.part.now in
     let w = c.get-window.result in
     let v = c.get-next.result in
-    let pair = ArePair-read part c.args.left c.args.right w v c.requires.due c.requires.tiles c.get-window.ensures.entry c.get-next.ensures.entry in
+    let pair = ArePair-read part c.args.pair.left c.args.pair.right w v (AreDue-pair c.args.part.now c.args.pair c.requires.due) c.requires.tiles c.get-window.ensures.entry c.get-next.ensures.entry in
     let p = err_from_is_err_and c.from_residual.result c.from_residual.ensures.1 in
     rw (p.1, p.2) (IfChanged-window (Unit {0}) part w v pair.joined c.in_err-read_joined.field-0.0 c.in_err-read_joined.ensures.changed)
 
-pub set-requires : goal.set-requires
-set-requires g c =
-    StandsIn-left (lengths_of (params_of c.args.part.now.target)) (values_held (entries_of c.args.part.now)) c.args.part.now.line.entries c.args.left
-    c.args.right c.requires.due
-
-pub cut_out-requires : goal.cut_out-requires
-cut_out-requires g c =
-    subst (λ es. StandsIn es c.args.right) (sym c.set.ensures.entries)
-    (ArePair-read c.args.part.now c.args.left c.args.right c.get-window.result c.get-next.result c.requires.due c.requires.tiles
-    c.get-window.ensures.entry c.get-next.ensures.entry).stands
-
 -- the line that is left, and what it is to the line before
-line : (g : _) (c : goal.After-cut_out g) →
-    AreJoined (lengths_of (params_of c.args.part.now.target)) (values_held (entries_of c.args.part.now)) c.args.part.now.line.entries c.cut_out.new.self.entries
+line : (g : _) (c : goal.After-merged g) →
+    AreJoined (lengths_of (params_of c.args.part.now.target)) (values_held (entries_of c.args.part.now)) c.args.part.now.line.entries c.merged.new.line.entries
     c.get-window.result c.get-next.result
 line g c =
-    let is : c.cut_out.new.self.entries ≡ joined_line c.args.part.now.line.entries c.args.left c.args.right c.get-window.result c.get-next.result =
-    c.cut_out.ensures.entries ∙ ap (λ (es : List (At × Entry)). remove es (index_of es c.args.right)) c.set.ensures.entries in
-    let pair = ArePair-read c.args.part.now c.args.left c.args.right c.get-window.result c.get-next.result c.requires.due c.requires.tiles
+    let due = AreDue-pair c.args.part.now c.args.pair c.requires.due in
+    let pair = ArePair-read c.args.part.now c.args.pair.left c.args.pair.right c.get-window.result c.get-next.result due c.requires.tiles
     c.get-window.ensures.entry c.get-next.ensures.entry in
     subst (λ es. AreJoined (lengths_of (params_of c.args.part.now.target)) (values_held (entries_of c.args.part.now)) c.args.part.now.line.entries es
     c.get-window.result c.get-next.result)
-    (sym is) pair.joined
+    (sym (c.merged.ensures.joined due.pair)) pair.joined
 
 pub returns-clause-joins : goal.returns-clause-joins
 returns-clause-joins g c =
     let part = c.args.part.now in
-    let new = record part { line = c.cut_out.new.self } in
+    let new = record part { line = c.merged.new.line } in
     step-next c.in_ok-read_joined.ensures.joined c.in_ok-replace_two.ensures.replaces (λ told told_read read replaced. record {
       turns = λ others s.
           Turns-answers (IsHeldIn others part s) (IsPartlyJoined others s) (IsJoinedIn others new s) _ _ c.in_ok-replace_two.field-0 _
@@ -162,7 +152,7 @@ returns-clause-fewer g c = (line g c).fewer
 pub returns-clause-whole : goal.returns-clause-whole
 returns-clause-whole g c =
     let part = c.args.part.now in
-    let new = record part { line = c.cut_out.new.self } in
+    let new = record part { line = c.merged.new.line } in
     let w = c.get-window.result in
     let v = c.get-next.result in
     let pair = line g c in
@@ -176,3 +166,22 @@ returns-clause-whole g c =
       settled = done.settled;
       extent = rw (done.extent, c.in_ok-read_joined.ensures.journal) (omega arith);
     }
+
+pub returns-clause-keyed : goal.returns-clause-keyed
+returns-clause-keyed g c = record {
+  target = c.merged.ensures.target ∙ c.requires.keyed.target;
+  keyed = subst (λ n. IsKeyed n c.merged.new.line.entries c.merged.new.self) (c.values_held-n.ensures ∙ sym (returns-clause-holds g c).values)
+      c.merged.ensures.keyed;
+}
+
+pub merged-requires-clause-neighbours : goal.merged-requires-clause-neighbours
+merged-requires-clause-neighbours g c = c.requires.due.stands
+
+pub merged-requires-clause-fits : goal.merged-requires-clause-fits
+merged-requires-clause-fits g c = rw (c.requires.keyed.target, c.values_held-n.ensures) c.requires.due.fits
+
+pub merged-requires-clause-keyed : goal.merged-requires-clause-keyed
+merged-requires-clause-keyed g c = subst (λ n. IsKeyed n c.args.part.now.line.entries c.args.schedule.now) (sym c.values_held-n.ensures) c.requires.keyed.keyed
+
+pub merged-requires-clause-stub : goal.merged-requires-clause-stub
+merged-requires-clause-stub g c = ?

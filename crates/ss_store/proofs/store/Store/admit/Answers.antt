@@ -20,7 +20,7 @@ pub returns-then-is_some-clause-refused : goal.returns-then-is_some-clause-refus
 returns-then-is_some-clause-refused c =
     let parts = c.self.inside.streams.items in
     let target : has_target c.args.params ≡ true = c.in-Ok.ensures.exactly.0 refl in
-    let listed = is_some-listed c.args.name.now parts c.self.inside.catalog c.self.invariant.listed in
+    let listed = is_some-listed c.args.name.now parts c.self.inside.catalog c.self.invariant.0.listed in
     let known : is_some (part_named c.args.name.now parts) ≡ true = cc in
     subst (λ (s : StoreState). refuses_held s.streams (Create c.args.name.now c.args.params) ≡ Some Exists) c.self.view_is
     (refuses_held-create parts c.args.name.now c.args.params true true _ _ target known refl refl)
@@ -29,7 +29,7 @@ pub returns-in_default-next_id-clause-refused : goal.returns-in_default-next_id-
 returns-in_default-next_id-clause-refused c =
     let parts = c.self.inside.streams.items in
     let target : has_target c.args.params ≡ true = c.in-Ok.ensures.exactly.0 refl in
-    let listed = is_some-listed c.args.name.now parts c.self.inside.catalog c.self.invariant.listed in
+    let listed = is_some-listed c.args.name.now parts c.self.inside.catalog c.self.invariant.0.listed in
     let new : is_some (part_named c.args.name.now parts) ≡ false = cc in
     let full : has_all_numbers (numbers_held parts) ≡ true = rw (← c.deref.ensures.value) (c.in_default-next_id.ensures.none.0 refl) in
     subst (λ (s : StoreState). refuses_held s.streams (Create c.args.name.now c.args.params) ≡ Some Streams) c.self.view_is
@@ -39,7 +39,7 @@ pub returns-in-Some-free_slot-clause-accepted : goal.returns-in-Some-free_slot-c
 returns-in-Some-free_slot-clause-accepted c =
     let parts = c.self.inside.streams.items in
     let target : has_target c.args.params ≡ true = c.in-Ok.ensures.exactly.0 refl in
-    let listed = is_some-listed c.args.name.now parts c.self.inside.catalog c.self.invariant.listed in
+    let listed = is_some-listed c.args.name.now parts c.self.inside.catalog c.self.invariant.0.listed in
     let new : is_some (part_named c.args.name.now parts) ≡ false = cc in
     let free : has_all_numbers (numbers_held parts) ≡ false =
     rw (← c.deref.ensures.value) (not-true _ (λ yes. let wrong : true ≡ false = c.in-Some.ensures.none.1 yes in cc)) in
@@ -53,7 +53,7 @@ pub returns-in-None-clause-refused : goal.returns-in-None-clause-refused
 returns-in-None-clause-refused c =
     let parts = c.self.inside.streams.items in
     let target : has_target c.args.params ≡ true = c.in-Ok.ensures.exactly.0 refl in
-    let listed = is_some-listed c.args.name.now parts c.self.inside.catalog c.self.invariant.listed in
+    let listed = is_some-listed c.args.name.now parts c.self.inside.catalog c.self.invariant.0.listed in
     let new : is_some (part_named c.args.name.now parts) ≡ false = cc in
     let free : has_all_numbers (numbers_held parts) ≡ false =
     rw (← c.deref.ensures.value) (not-true _ (λ yes. let wrong : true ≡ false = c.in-Some.ensures.none.1 yes in cc)) in
@@ -65,7 +65,7 @@ returns-in-None-clause-refused c =
 pub returns-in-Some-free_slot-clause-new : goal.returns-in-Some-free_slot-clause-new
 returns-in-Some-free_slot-clause-new c =
     let parts = c.self.inside.streams.items in
-    let listed = is_some-listed c.args.name.now parts c.self.inside.catalog c.self.invariant.listed in
+    let listed = is_some-listed c.args.name.now parts c.self.inside.catalog c.self.invariant.0.listed in
     let unknown : is_some (part_named c.args.name.now parts) ≡ false = cc in
     let numbers : has_all_numbers (numbers_held parts) ≡ false =
     rw (← c.deref.ensures.value) (not-true _ (λ yes. let wrong : true ≡ false = c.in-Some.ensures.none.1 yes in cc)) in

@@ -1,8 +1,10 @@
-use Rattle.std.proofs.Common.{None, ap, refl}
+use Rattle.std.proofs.Common.{◌≡◌, None, ap, arith, false, refl, true}
 use Rattle.ss_catalog.specs.declared.event.Event.TheVariants.{Create}
 use Rattle.ss_line.specs.Line.{LineState}
 use Rattle.ss_recover.specs.declared.parts.StreamParts.{StreamParts}
 use Rattle.ss_store.proofs.Appended.{SameButSpare-same}
+use Rattle.ss_store.specs.Scheduled.{IsScheduled}
+use Rattle.ss_store.proofs.KeyedWindows.{AllZip-more, IsScheduled-none}
 use Rattle.ss_store.proofs.Applying.{Applies-refused, Applies-starved}
 use Rattle.ss_store.proofs.Created.{IsFreshPart-made}
 use Rattle.ss_store.proofs.Creating.{applies-created, applies-unwritten, creating, sound-created, sound-unwritten}
@@ -31,10 +33,15 @@ invariant_of-self-in-Ok-add_record g c =
       landmarks = c.new-2.result;
     } in
     let is = creating {store = record { streams = c.self.inside.streams.items; records = c.self.inside.records; stopped = c.self.inside.stopped }} {part = part}
-    (g.D.Disk.seen c.args.disk.now) c.self.view_is c.requires.one_disk c.self.invariant c.requires.runs c.in-Ok.ensures.accepted
+    (g.D.Disk.seen c.args.disk.now) c.self.view_is c.requires.one_disk c.self.invariant.0 c.requires.runs c.in-Ok.ensures.accepted
     (IsFreshPart-made part c.args.params c.in-Ok.ensures.target refl (ap (λ (l : LineState). l.entries) c.new.ensures) c.new-2.ensures) c.in-Ok.ensures.new in
     let done = c.in-Ok-add_record.ensures in
-    rw (c.in-Ok-grow.ensures.streams, c.in-Ok-grow.ensures.catalog) (sound-created is c.add_record.new.records done.settled done.live)
+    (
+      rw (c.in-Ok-grow.ensures.streams, c.in-Ok-grow.ensures.catalog) (sound-created is c.add_record.new.records done.settled done.live),
+      λ run. rw (c.in-Ok-grow.ensures.streams, c.in-Ok-grow.ensures.schedules)
+          (AllZip-more IsScheduled c.self.inside.streams.items c.self.inside.schedules.items part c.new-3.result (c.self.invariant.1 run)
+          (IsScheduled-none part c.new-3.result c.new-3.ensures.target (ap (λ (l : LineState). l.entries) c.new.ensures) (c.new-3.ensures.keyed 0 (omega arith)))),
+    )
 
 pub invariant_of-self-in-Err-add_record : goal.invariant_of-self-in-Err-add_record
 invariant_of-self-in-Err-add_record g c =
@@ -48,9 +55,12 @@ invariant_of-self-in-Err-add_record g c =
       landmarks = c.new-2.result;
     } in
     let is = creating {store = record { streams = c.self.inside.streams.items; records = c.self.inside.records; stopped = c.self.inside.stopped }} {part = part}
-    (g.D.Disk.seen c.args.disk.now) c.self.view_is c.requires.one_disk c.self.invariant c.requires.runs c.in-Ok.ensures.accepted
+    (g.D.Disk.seen c.args.disk.now) c.self.view_is c.requires.one_disk c.self.invariant.0 c.requires.runs c.in-Ok.ensures.accepted
     (IsFreshPart-made part c.args.params c.in-Ok.ensures.target refl (ap (λ (l : LineState). l.entries) c.new.ensures) c.new-2.ensures) c.in-Ok.ensures.new in
-    rw (c.in-Ok-grow.ensures.streams, c.in-Ok-grow.ensures.catalog) (sound-unwritten is c.add_record.new.records)
+    (
+      rw (c.in-Ok-grow.ensures.streams, c.in-Ok-grow.ensures.catalog) (sound-unwritten is c.add_record.new.records),
+      λ run. let wrong : true ≡ false = run in absurd (cc),
+    )
 
 pub returns-in-Ok-add_record-clause-applies : goal.returns-in-Ok-add_record-clause-applies
 returns-in-Ok-add_record-clause-applies g c =
@@ -64,7 +74,7 @@ returns-in-Ok-add_record-clause-applies g c =
       landmarks = c.new-2.result;
     } in
     let is = creating {store = record { streams = c.self.inside.streams.items; records = c.self.inside.records; stopped = c.self.inside.stopped }} {part = part}
-    (g.D.Disk.seen c.args.disk.now) c.self.view_is c.requires.one_disk c.self.invariant c.requires.runs c.in-Ok.ensures.accepted
+    (g.D.Disk.seen c.args.disk.now) c.self.view_is c.requires.one_disk c.self.invariant.0 c.requires.runs c.in-Ok.ensures.accepted
     (IsFreshPart-made part c.args.params c.in-Ok.ensures.target refl (ap (λ (l : LineState). l.entries) c.new.ensures) c.new-2.ensures) c.in-Ok.ensures.new in
     let done = c.in-Ok-add_record.ensures in
     rw (← c.self.view_is, c.in-Ok-grow.ensures.streams)
@@ -82,7 +92,10 @@ returns-in-Err-add_record-clause-applies g c =
       landmarks = c.new-2.result;
     } in
     let is = creating {store = record { streams = c.self.inside.streams.items; records = c.self.inside.records; stopped = c.self.inside.stopped }} {part = part}
-    (g.D.Disk.seen c.args.disk.now) c.self.view_is c.requires.one_disk c.self.invariant c.requires.runs c.in-Ok.ensures.accepted
+    (g.D.Disk.seen c.args.disk.now) c.self.view_is c.requires.one_disk c.self.invariant.0 c.requires.runs c.in-Ok.ensures.accepted
     (IsFreshPart-made part c.args.params c.in-Ok.ensures.target refl (ap (λ (l : LineState). l.entries) c.new.ensures) c.new-2.ensures) c.in-Ok.ensures.new in
     rw (← c.self.view_is, c.in-Ok-grow.ensures.streams)
     (applies-unwritten is c.add_record.new.records _ _ (rw c.record_of.ensures.value at c.in-Err-add_record.ensures.adds))
+
+pub new-requires-3 : goal.new-requires-3
+new-requires-3 g c = ?

@@ -1,3 +1,6 @@
+use Rattle.std.proofs.Common.{◌≡◌, ap, false, refl, true}
+use Rattle.ss_line.specs.Line.{LineState}
+use Rattle.ss_store.proofs.KeyedWindows.{AreScheduled-other}
 use Rattle.ss_store.specs.Marking.{event_of}
 use Rattle.ss_store.proofs.Applying.{Applies-refused, Applies-starved}
 use Rattle.ss_store.proofs.MarkTaking.{applies-taken, applies-untaken, can-mark, live-spared, same-spared, sound-spared, sound-stopped, sound-taken}
@@ -12,15 +15,19 @@ returns-in-Err-clause-applies g c =
 pub invariant_of-self : goal.invariant_of-self
 invariant_of-self g c =
     let is = taking-mark {store = record { streams = c.self.inside.streams.items; records = c.self.inside.records; stopped = c.self.inside.stopped }}
-    (g.D.Disk.seen c.args.disk.now) c.self.view_is c.requires.one_disk c.self.invariant c.requires.runs c.in-Ok.ensures.marker
+    (g.D.Disk.seen c.args.disk.now) c.self.view_is c.requires.one_disk c.self.invariant.0 c.requires.runs c.in-Ok.ensures.marker
     c.in-Ok.ensures.accepted c.requires.in_time
     c.requires.marked c.index_mut-stream.ensures.value c.reserve.ensures.grown in
-    sound-spared is
+    (
+      sound-spared is,
+      λ run. AreScheduled-other c.self.inside.streams.items c.self.inside.schedules.items c.in-Ok.marker.0 c.index_mut-stream.result.now
+          (record c.index_mut-stream.result.now { landmarks = c.reserve.new.landmarks }) (c.self.invariant.1 run) c.index_mut-stream.ensures.value refl refl,
+    )
 
 pub returns-in-Err-reserve-clause-applies : goal.returns-in-Err-reserve-clause-applies
 returns-in-Err-reserve-clause-applies g c =
     let is = taking-mark {store = record { streams = c.self.inside.streams.items; records = c.self.inside.records; stopped = c.self.inside.stopped }}
-    (g.D.Disk.seen c.args.disk.now) c.self.view_is c.requires.one_disk c.self.invariant c.requires.runs c.in-Ok.ensures.marker
+    (g.D.Disk.seen c.args.disk.now) c.self.view_is c.requires.one_disk c.self.invariant.0 c.requires.runs c.in-Ok.ensures.marker
     c.in-Ok.ensures.accepted c.requires.in_time
     c.requires.marked c.index_mut-stream.ensures.value c.reserve.ensures.grown in
     rw (← c.self.view_is)
@@ -30,7 +37,7 @@ returns-in-Err-reserve-clause-applies g c =
 pub put_mark-requires-clause-can : goal.put_mark-requires-clause-can
 put_mark-requires-clause-can g c =
     let is = taking-mark {store = record { streams = c.self.inside.streams.items; records = c.self.inside.records; stopped = c.self.inside.stopped }}
-    (g.D.Disk.seen c.args.disk.now) c.self.view_is c.requires.one_disk c.self.invariant c.requires.runs c.in-Ok.ensures.marker
+    (g.D.Disk.seen c.args.disk.now) c.self.view_is c.requires.one_disk c.self.invariant.0 c.requires.runs c.in-Ok.ensures.marker
     c.in-Ok.ensures.accepted c.requires.in_time
     c.requires.marked c.index_mut-stream.ensures.value c.reserve.ensures.grown in
     can-mark is c.in-Ok-reserve.ensures.room c.in-Ok-reserve.ensures.value_room
@@ -38,7 +45,7 @@ put_mark-requires-clause-can g c =
 pub put_mark-requires-clause-live : goal.put_mark-requires-clause-live
 put_mark-requires-clause-live g c =
     let is = taking-mark {store = record { streams = c.self.inside.streams.items; records = c.self.inside.records; stopped = c.self.inside.stopped }}
-    (g.D.Disk.seen c.args.disk.now) c.self.view_is c.requires.one_disk c.self.invariant c.requires.runs c.in-Ok.ensures.marker
+    (g.D.Disk.seen c.args.disk.now) c.self.view_is c.requires.one_disk c.self.invariant.0 c.requires.runs c.in-Ok.ensures.marker
     c.in-Ok.ensures.accepted c.requires.in_time
     c.requires.marked c.index_mut-stream.ensures.value c.reserve.ensures.grown in
     live-spared is
@@ -46,24 +53,32 @@ put_mark-requires-clause-live g c =
 pub invariant_of-self-in-Ok-put_mark : goal.invariant_of-self-in-Ok-put_mark
 invariant_of-self-in-Ok-put_mark g c =
     let is = taking-mark {store = record { streams = c.self.inside.streams.items; records = c.self.inside.records; stopped = c.self.inside.stopped }}
-    (g.D.Disk.seen c.args.disk.now) c.self.view_is c.requires.one_disk c.self.invariant c.requires.runs c.in-Ok.ensures.marker
+    (g.D.Disk.seen c.args.disk.now) c.self.view_is c.requires.one_disk c.self.invariant.0 c.requires.runs c.in-Ok.ensures.marker
     c.in-Ok.ensures.accepted c.requires.in_time
     c.requires.marked c.index_mut-stream.ensures.value c.reserve.ensures.grown in
     let done = c.in-Ok-put_mark.ensures in
-    sound-taken is c.put_mark.new.part c.put_mark.new.records c.put_mark.ensures.same c.put_mark.ensures.fits done.whole done.taken
+    (
+      sound-taken is c.put_mark.new.part c.put_mark.new.records c.put_mark.ensures.same c.put_mark.ensures.fits done.whole done.taken,
+      λ run. AreScheduled-other c.self.inside.streams.items c.self.inside.schedules.items c.in-Ok.marker.0 c.index_mut-stream.result.now
+          c.put_mark.new.part (c.self.invariant.1 run) c.index_mut-stream.ensures.value c.put_mark.ensures.same.target
+          (ap (λ (l : LineState). l.entries) c.put_mark.ensures.same.line),
+    )
 
 pub invariant_of-self-in-Err-put_mark : goal.invariant_of-self-in-Err-put_mark
 invariant_of-self-in-Err-put_mark g c =
     let is = taking-mark {store = record { streams = c.self.inside.streams.items; records = c.self.inside.records; stopped = c.self.inside.stopped }}
-    (g.D.Disk.seen c.args.disk.now) c.self.view_is c.requires.one_disk c.self.invariant c.requires.runs c.in-Ok.ensures.marker
+    (g.D.Disk.seen c.args.disk.now) c.self.view_is c.requires.one_disk c.self.invariant.0 c.requires.runs c.in-Ok.ensures.marker
     c.in-Ok.ensures.accepted c.requires.in_time
     c.requires.marked c.index_mut-stream.ensures.value c.reserve.ensures.grown in
-    sound-stopped is c.put_mark.new.part c.put_mark.new.records c.put_mark.ensures.same c.put_mark.ensures.fits
+    (
+      sound-stopped is c.put_mark.new.part c.put_mark.new.records c.put_mark.ensures.same c.put_mark.ensures.fits,
+      λ run. let wrong : true ≡ false = run in absurd (cc),
+    )
 
 pub returns-in-Ok-put_mark-clause-applies : goal.returns-in-Ok-put_mark-clause-applies
 returns-in-Ok-put_mark-clause-applies g c =
     let is = taking-mark {store = record { streams = c.self.inside.streams.items; records = c.self.inside.records; stopped = c.self.inside.stopped }}
-    (g.D.Disk.seen c.args.disk.now) c.self.view_is c.requires.one_disk c.self.invariant c.requires.runs c.in-Ok.ensures.marker
+    (g.D.Disk.seen c.args.disk.now) c.self.view_is c.requires.one_disk c.self.invariant.0 c.requires.runs c.in-Ok.ensures.marker
     c.in-Ok.ensures.accepted c.requires.in_time
     c.requires.marked c.index_mut-stream.ensures.value c.reserve.ensures.grown in
     let done = c.in-Ok-put_mark.ensures in
@@ -74,7 +89,7 @@ returns-in-Ok-put_mark-clause-applies g c =
 pub returns-in-Err-put_mark-clause-applies : goal.returns-in-Err-put_mark-clause-applies
 returns-in-Err-put_mark-clause-applies g c =
     let is = taking-mark {store = record { streams = c.self.inside.streams.items; records = c.self.inside.records; stopped = c.self.inside.stopped }}
-    (g.D.Disk.seen c.args.disk.now) c.self.view_is c.requires.one_disk c.self.invariant c.requires.runs c.in-Ok.ensures.marker
+    (g.D.Disk.seen c.args.disk.now) c.self.view_is c.requires.one_disk c.self.invariant.0 c.requires.runs c.in-Ok.ensures.marker
     c.in-Ok.ensures.accepted c.requires.in_time
     c.requires.marked c.index_mut-stream.ensures.value c.reserve.ensures.grown in
     rw (← c.self.view_is)

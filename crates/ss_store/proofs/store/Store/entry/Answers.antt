@@ -5,7 +5,7 @@ use Rattle.ss_store.proofs.store.Store.entry.Goals as goal
 
 pub returns-clause-slot : goal.returns-clause-slot
 returns-clause-slot g c =
-    let whole = c.self.invariant.whole (ap (λ (s : StoreState). s.stopped) c.self.view_is ∙ c.requires.runs) in
+    let whole = c.self.invariant.0.whole (ap (λ (s : StoreState). s.stopped) c.self.view_is ∙ c.requires.runs) in
     let part = c.part.result.now in
     let numbered : part_numbered c.args.id.0 c.self.inside.streams.items ≡ Some part =
     ap (λ (s : StoreState). part_numbered c.args.id.0 s.streams) c.self.view_is ∙ c.part.ensures in
@@ -15,7 +15,7 @@ returns-clause-slot g c =
 
 pub returns-clause-some : goal.returns-clause-some
 returns-clause-some g c =
-    let whole = c.self.invariant.whole (ap (λ (s : StoreState). s.stopped) c.self.view_is ∙ c.requires.runs) in
+    let whole = c.self.invariant.0.whole (ap (λ (s : StoreState). s.stopped) c.self.view_is ∙ c.requires.runs) in
     let part = c.part.result.now in
     let numbered : part_numbered c.args.id.0 c.self.inside.streams.items ≡ Some part =
     ap (λ (s : StoreState). part_numbered c.args.id.0 s.streams) c.self.view_is ∙ c.part.ensures in
@@ -25,7 +25,7 @@ returns-clause-some g c =
 
 pub returns-clause-most : goal.returns-clause-most
 returns-clause-most g c =
-    let whole = c.self.invariant.whole (ap (λ (s : StoreState). s.stopped) c.self.view_is ∙ c.requires.runs) in
+    let whole = c.self.invariant.0.whole (ap (λ (s : StoreState). s.stopped) c.self.view_is ∙ c.requires.runs) in
     let part = c.part.result.now in
     let numbered : part_numbered c.args.id.0 c.self.inside.streams.items ≡ Some part =
     ap (λ (s : StoreState). part_numbered c.args.id.0 s.streams) c.self.view_is ∙ c.part.ensures in

@@ -5,12 +5,12 @@ use Rattle.ss_store.proofs.Named.{id_of-named, IsFoundBy, IsFoundBy-find, IfSome
 use Rattle.ss_store.proofs.store.Store.find.Goals as goal
 
 pub returns-clause-number : goal.returns-clause-number
-returns-clause-number c = rw (c.find.ensures, c.self.invariant.listed, id_of-named c.args.name.now _, ← c.self.view_is) refl
+returns-clause-number c = rw (c.find.ensures, c.self.invariant.0.listed, id_of-named c.args.name.now _, ← c.self.view_is) refl
 
 pub returns-clause-same : goal.returns-clause-same
 returns-clause-same c =
     let parts = c.self.inside.streams.items in
-    let found = IsFoundBy-find c.args.name.now parts c.self.inside.catalog c.find.result c.self.invariant.numbers c.self.invariant.listed c.find.ensures in
+    let found = IsFoundBy-find c.args.name.now parts c.self.inside.catalog c.find.result c.self.invariant.0.numbers c.self.invariant.0.listed c.find.ensures in
     rw (← c.self.view_is)
     (IfSome-weaker (IsFoundBy c.args.name.now parts) (λ id. part_numbered id.0 parts ≡ part_named c.args.name.now parts) c.find.result
     (λ id by. by.same) found)
@@ -18,6 +18,6 @@ returns-clause-same c =
 pub returns-clause-stands : goal.returns-clause-stands
 returns-clause-stands c =
     let parts = c.self.inside.streams.items in
-    let found = IsFoundBy-find c.args.name.now parts c.self.inside.catalog c.find.result c.self.invariant.numbers c.self.invariant.listed c.find.ensures in
+    let found = IsFoundBy-find c.args.name.now parts c.self.inside.catalog c.find.result c.self.invariant.0.numbers c.self.invariant.0.listed c.find.ensures in
     rw (← c.self.view_is)
     (IfSome-weaker (IsFoundBy c.args.name.now parts) (λ id. IsSome (part_numbered id.0 parts)) c.find.result (λ id by. by.stands) found)

@@ -10,14 +10,14 @@ use Rattle.ss_store.proofs.store.Store.has_open.Goals as goal
 pub place_of-requires-clause-stands : goal.place_of-requires-clause-stands
 place_of-requires-clause-stands c =
     let parts = c.self.inside.streams.items in
-    let found = IsListed-catalog c.args.name.now c.in-Some.id parts c.self.inside.catalog c.self.invariant.numbers c.self.invariant.listed cc in
+    let found = IsListed-catalog c.args.name.now c.in-Some.id parts c.self.inside.catalog c.self.invariant.0.numbers c.self.invariant.0.listed cc in
     rw (c.deref.ensures.value, found.numbered) refl
 
 pub returns-in-Some : goal.returns-in-Some
 returns-in-Some c =
     let parts = c.self.inside.streams.items in
     let part = c.index.result.now in
-    let found = IsListed-catalog c.args.name.now c.in-Some.id parts c.self.inside.catalog c.self.invariant.numbers c.self.invariant.listed cc in
+    let found = IsListed-catalog c.args.name.now c.in-Some.id parts c.self.inside.catalog c.self.invariant.0.numbers c.self.invariant.0.listed cc in
     let at : IsAtPlace c.args.name.now c.place_of.result parts part =
     IsAtPlace-listed c.args.name.now c.in-Some.id parts c.place_of.result part found (rw (← c.deref.ensures.value) c.place_of.ensures.at)
     (rw (← c.deref.ensures.value) c.place_of.ensures.inside) c.index.ensures in
@@ -30,7 +30,7 @@ returns-in-Some c =
 pub returns-in-None : goal.returns-in-None
 returns-in-None c =
     let parts = c.self.inside.streams.items in
-    let listed = is_some-listed c.args.name.now parts c.self.inside.catalog c.self.invariant.listed in
+    let listed = is_some-listed c.args.name.now parts c.self.inside.catalog c.self.invariant.0.listed in
     let none : part_named c.args.name.now parts ≡ None = none_is_some (part_named c.args.name.now parts) (sym listed ∙ ap is_some (sym c.in-None.ensures)) in
     let held : of_part c.args.name.now parts (λ part. has_open part.landmarks.landmarks) ≡ false = rw none refl in
     sym held ∙ ap (λ (s : StoreState). of_part c.args.name.now s.streams (λ part. has_open part.landmarks.landmarks)) c.self.view_is

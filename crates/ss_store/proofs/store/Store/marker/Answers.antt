@@ -17,7 +17,7 @@ use Rattle.ss_store.proofs.store.Store.marker.Goals as goal
 pub returns-in_default-clause-refused : goal.returns-in_default-clause-refused
 returns-in_default-clause-refused c =
     let parts = c.self.inside.streams.items in
-    let listed = is_some-listed c.args.name.now parts c.self.inside.catalog c.self.invariant.listed in
+    let listed = is_some-listed c.args.name.now parts c.self.inside.catalog c.self.invariant.0.listed in
     let none : is_some (part_named c.args.name.now parts) ≡ false = sym listed ∙ ap is_some (sym c.in_default.ensures) in
     subst (λ (s : StoreState). refuses_held s.streams (event_of c.args.name.now c.args.t c.args.mark) ≡ Some Unknown) c.self.view_is
     (refuses_held-unmarked parts c.args.name.now c.args.t c.args.mark (none_is_some (part_named c.args.name.now parts) none))
@@ -25,7 +25,7 @@ returns-in_default-clause-refused c =
 pub place_of-place-requires-clause-stands : goal.place_of-place-requires-clause-stands
 place_of-place-requires-clause-stands c =
     let parts = c.self.inside.streams.items in
-    let found = IsListed-catalog c.args.name.now c.in-Some.id parts c.self.inside.catalog c.self.invariant.numbers c.self.invariant.listed cc in
+    let found = IsListed-catalog c.args.name.now c.in-Some.id parts c.self.inside.catalog c.self.invariant.0.numbers c.self.invariant.0.listed cc in
     rw (c.deref.ensures.value, found.numbered) refl
 
 -- a landmark of the stream is open where a value is the open one's
@@ -45,7 +45,7 @@ pub returns-in-Some-refuses-clause-refused : goal.returns-in-Some-refuses-clause
 returns-in-Some-refuses-clause-refused c =
     let parts = c.self.inside.streams.items in
     let part = c.index-stream.result.now in
-    let found = IsListed-catalog c.args.name.now c.in-Some.id parts c.self.inside.catalog c.self.invariant.numbers c.self.invariant.listed cc in
+    let found = IsListed-catalog c.args.name.now c.in-Some.id parts c.self.inside.catalog c.self.invariant.0.numbers c.self.invariant.0.listed cc in
     let at : IsAtPlace c.args.name.now c.place_of-place.result parts part =
     IsAtPlace-listed c.args.name.now c.in-Some.id parts c.place_of-place.result part found (rw (← c.deref.ensures.value) c.place_of-place.ensures.at)
     (rw (← c.deref.ensures.value) c.place_of-place.ensures.inside) c.index-stream.ensures in
@@ -59,7 +59,7 @@ pub returns-in-Some-slot_for-clause-accepted : goal.returns-in-Some-slot_for-cla
 returns-in-Some-slot_for-clause-accepted c =
     let parts = c.self.inside.streams.items in
     let part = c.index-stream.result.now in
-    let found = IsListed-catalog c.args.name.now c.in-Some.id parts c.self.inside.catalog c.self.invariant.numbers c.self.invariant.listed cc in
+    let found = IsListed-catalog c.args.name.now c.in-Some.id parts c.self.inside.catalog c.self.invariant.0.numbers c.self.invariant.0.listed cc in
     let at : IsAtPlace c.args.name.now c.place_of-place.result parts part =
     IsAtPlace-listed c.args.name.now c.in-Some.id parts c.place_of-place.result part found (rw (← c.deref.ensures.value) c.place_of-place.ensures.at)
     (rw (← c.deref.ensures.value) c.place_of-place.ensures.inside) c.index-stream.ensures in
@@ -73,7 +73,7 @@ pub returns-in-None-clause-refused : goal.returns-in-None-clause-refused
 returns-in-None-clause-refused c =
     let parts = c.self.inside.streams.items in
     let part = c.index-stream.result.now in
-    let found = IsListed-catalog c.args.name.now c.in-Some.id parts c.self.inside.catalog c.self.invariant.numbers c.self.invariant.listed cc in
+    let found = IsListed-catalog c.args.name.now c.in-Some.id parts c.self.inside.catalog c.self.invariant.0.numbers c.self.invariant.0.listed cc in
     let at : IsAtPlace c.args.name.now c.place_of-place.result parts part =
     IsAtPlace-listed c.args.name.now c.in-Some.id parts c.place_of-place.result part found (rw (← c.deref.ensures.value) c.place_of-place.ensures.at)
     (rw (← c.deref.ensures.value) c.place_of-place.ensures.inside) c.index-stream.ensures in
@@ -87,13 +87,13 @@ pub returns-in-Some-slot_for-clause-marker : goal.returns-in-Some-slot_for-claus
 returns-in-Some-slot_for-clause-marker c =
     let parts = c.self.inside.streams.items in
     let part = c.index-stream.result.now in
-    let found = IsListed-catalog c.args.name.now c.in-Some.id parts c.self.inside.catalog c.self.invariant.numbers c.self.invariant.listed cc in
+    let found = IsListed-catalog c.args.name.now c.in-Some.id parts c.self.inside.catalog c.self.invariant.0.numbers c.self.invariant.0.listed cc in
     let at : IsAtPlace c.args.name.now c.place_of-place.result parts part =
     IsAtPlace-listed c.args.name.now c.in-Some.id parts c.place_of-place.result part found (rw (← c.deref.ensures.value) c.place_of-place.ensures.at)
     (rw (← c.deref.ensures.value) c.place_of-place.ensures.inside) c.index-stream.ensures in
     let here : IsAtPlace c.args.name.now c.place_of-place.result c.args.self.now.streams part =
     subst (λ (s : StoreState). IsAtPlace c.args.name.now c.place_of-place.result s.streams part) c.self.view_is at in
-    let whole = c.self.invariant.whole (ap (λ (s : StoreState). s.stopped) c.self.view_is ∙ c.requires.runs) in
+    let whole = c.self.invariant.0.whole (ap (λ (s : StoreState). s.stopped) c.self.view_is ∙ c.requires.runs) in
     let ends = (Marks-at parts c.self.inside.records.live c.place_of-place.result part whole at.at).1 in
     let all = live_count-slots parts c.self.inside.records.live whole in
     record {

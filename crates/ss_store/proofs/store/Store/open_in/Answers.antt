@@ -7,6 +7,10 @@ use Rattle.ss_journal.proofs.StepLemmas.{after-step, step-from, step-next}
 use Rattle.ss_recover.specs.declared.parts.StreamParts.{StreamParts}
 use Rattle.ss_store.specs.Kept.{IsSound, StoreState, entry_of}
 use Rattle.ss_store.specs.declared.error.OpenError.TheVariants.{OutOfMemory}
+use Rattle.std.specs.List.{AllZip}
+use Rattle.std.proofs.lemmas.Slice.Zip.{AllZip-long}
+use Rattle.ss_schedule.specs.Keyed.{ScheduleState}
+use Rattle.ss_store.specs.Scheduled.{IsKeyedFor, IsScheduled}
 use Rattle.ss_store.proofs.Opens.{OpensStore-closed, OpensStore-read, OpensStore-unclosed, verdict-fault}
 use Rattle.ss_store.proofs.Steps.{step-handed}
 use Rattle.ss_store.proofs.store.Store.open_in.Goals as goal
@@ -17,15 +21,34 @@ items_are : (v : Vec StreamParts Global) (now was : List StreamParts) → map en
 items_are v now was entries long =
     with_items_is v now (omega (arith, length-map now entry_of, length-map was entry_of, ap length entries, long))
 
+-- the schedules as closing left them, in their place
+scheduled_are : (v : Vec StreamParts Global) (w : Vec ScheduleState Global) (now was : List StreamParts) (schedules : List ScheduleState) →
+    AllZip IsScheduled now schedules → map entry_of now ≡ map entry_of was → length was ≡ vec_len v → vec_len w ≡ length was →
+    AllZip IsScheduled (with_items v now).items (with_items w schedules).items
+scheduled_are v w now was schedules all entries long as_many =
+    let many = AllZip-long IsScheduled now schedules all in
+    let same : length now ≡ length was = omega (arith, length-map now entry_of, length-map was entry_of, ap length entries) in
+    subst (λ ss. AllZip IsScheduled (with_items v now).items ss) (sym (with_items_is w schedules (omega (arith, many, same, as_many))))
+    (subst (λ ps. AllZip IsScheduled ps schedules) (sym (items_are v now was entries long)) all)
+
+keyed_long : (g : _) (c : goal.In_ok-settle_all g) → vec_len c.in_ok-schedules.schedules ≡ length c.deref_mut.result.now
+keyed_long g c =
+    let many = AllZip-long IsKeyedFor c.deref-2.result.now c.in_ok-schedules.schedules.items c.in_ok-schedules.ensures in
+    let first = ap length (c.deref-2.ensures.value ∙ sym c.deref_mut.ensures.value) in
+    let second = ap length c.deref_mut-2.ensures.value in
+    omega (arith, many, first, second, c.deref_mut-2.ensures.len)
+
 pub invariant_of-result : goal.invariant_of-result
 invariant_of-result g c =
     let now = c.settle_all.new.streams in
     let entries = c.in_ok-settle_all.ensures.entries in
     let listed = c.in_ok-catalog.ensures ∙ ap (map entry_of) (c.deref.ensures.value ∙ sym c.deref_mut.ensures.value) ∙ sym entries in
     let whole = c.in_ok-settle_all.ensures.whole in
-    subst (λ (streams : List StreamParts). IsSound (record { streams = streams; records = c.settle_all.new.records; stopped = false }) c.in_ok-catalog.catalog)
+    (subst (λ (streams : List StreamParts). IsSound (record { streams = streams; records = c.settle_all.new.records; stopped = false }) c.in_ok-catalog.catalog)
     (sym (items_are c.in_ok-records.streams now c.deref_mut.result.now entries c.deref_mut.ensures.len))
-    (record { listed = listed; numbers = whole.numbers; settled = λ runs. c.in_ok-settle_all.ensures.settled; whole = λ runs. whole })
+    (record { listed = listed; numbers = whole.numbers; settled = λ runs. c.in_ok-settle_all.ensures.settled; whole = λ runs. whole }),
+    λ run. scheduled_are c.in_ok-records.streams c.in_ok-schedules.schedules now c.deref_mut.result.now c.settle_all.new.schedules
+        c.in_ok-settle_all.ensures.scheduled entries c.deref_mut.ensures.len (keyed_long g c))
 
 pub returns-in_err-records-clause-opens : goal.returns-in_err-records-clause-opens
 returns-in_err-records-clause-opens g c =
@@ -67,3 +90,14 @@ returns-clause-opens g c =
     step-next c.in_ok-records.ensures.reads c.in_ok-settle_all.ensures.closes (λ told told_read read closes.
     OpensStore-closed parts now _ _ _ (g.met.D.Disk.knows_now c.args.disk.now told) (rw c.deref_mut.ensures.value read.rebuilt) read.reads
     c.settle_all.new.records store closes same refl)
+
+pub returns-in_err-schedules-clause-opens : goal.returns-in_err-schedules-clause-opens
+returns-in_err-schedules-clause-opens g c =
+    let p = err_from_is_err_and c.from_residual-in_err-schedules.result c.from_residual-in_err-schedules.ensures.1 in
+    let step = c.in_ok-records.ensures.reads in
+    rw (p.1, p.2)
+    (record {
+      tells = step.tells;
+      counted = step.counted;
+      told = λ told. OpensStore-read OutOfMemory _ _ (g.met.D.Disk.knows_now c.args.disk.now told) (step.told told).reads tt;
+    })

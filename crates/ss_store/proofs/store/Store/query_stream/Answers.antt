@@ -11,13 +11,13 @@ use Rattle.ss_store.proofs.WindowsHeld.{window_slots-below}
 use Rattle.ss_store.proofs.store.Store.query_stream.Goals as goal
 
 pub place_of-requires-clause-rising : goal.place_of-requires-clause-rising
-place_of-requires-clause-rising g c = subst (λ l. IsStrictlyIncreasing (numbers_held l)) (sym c.deref.ensures.value) c.self.invariant.numbers
+place_of-requires-clause-rising g c = subst (λ l. IsStrictlyIncreasing (numbers_held l)) (sym c.deref.ensures.value) c.self.invariant.0.numbers
 
 pub answer-requires-clause-slots : goal.answer-requires-clause-slots
 answer-requires-clause-slots g c =
     let streams = ap (λ (s : StoreState). s.streams) c.self.view_is in
     let part = IsPartAt-read c.deref.ensures.value streams c.place_of.ensures.at c.requires.stands c.index-stream.ensures in
-    let whole = c.self.invariant.whole (ap (λ (s : StoreState). s.stopped) c.self.view_is ∙ c.requires.runs) in
+    let whole = c.self.invariant.0.whole (ap (λ (s : StoreState). s.stopped) c.self.view_is ∙ c.requires.runs) in
     window_slots-below c.self.inside.streams.items c.self.inside.records.live c.place_of.result c.index-stream.result.now whole
     c.live-live.ensures.sound.slots (ap (λ l. slice_get l c.place_of.result) streams ∙ part.at)
 

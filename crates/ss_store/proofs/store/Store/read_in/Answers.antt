@@ -7,7 +7,7 @@ use Rattle.ss_store.proofs.WindowsRead.{IsFirm-read, entry-read, shows-read}
 use Rattle.ss_store.proofs.store.Store.read_in.Goals as goal
 
 pub place_of-requires-clause-rising : goal.place_of-requires-clause-rising
-place_of-requires-clause-rising g c = subst (λ l. IsStrictlyIncreasing (numbers_held l)) (sym c.deref.ensures.value) c.self.invariant.numbers
+place_of-requires-clause-rising g c = subst (λ l. IsStrictlyIncreasing (numbers_held l)) (sym c.deref.ensures.value) c.self.invariant.0.numbers
 
 pub returns-in-Ok-clause-shows : goal.returns-in-Ok-clause-shows
 returns-in-Ok-clause-shows g c =

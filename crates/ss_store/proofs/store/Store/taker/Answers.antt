@@ -18,25 +18,25 @@ use Rattle.ss_store.proofs.store.Store.taker.Goals as goal
 pub returns-in_default-clause-refused : goal.returns-in_default-clause-refused
 returns-in_default-clause-refused g c v =
     let parts = c.self.inside.streams.items in
-    let listed = is_some-listed c.args.name.now parts c.self.inside.catalog c.self.invariant.listed in
+    let listed = is_some-listed c.args.name.now parts c.self.inside.catalog c.self.invariant.0.listed in
     let none : is_some (part_named c.args.name.now parts) ≡ false = sym listed ∙ ap is_some (sym c.in_default.ensures) in
     subst (λ (s : StoreState). refuses_held s.streams (Value c.args.name.now c.args.t v) ≡ Some Unknown) c.self.view_is
     (refuses_held-unknown parts c.args.name.now c.args.t v (none_is_some (part_named c.args.name.now parts) none))
 
 pub place_of-place-requires-clause-rising : goal.place_of-place-requires-clause-rising
-place_of-place-requires-clause-rising g c = rw c.deref.ensures.value c.self.invariant.numbers
+place_of-place-requires-clause-rising g c = rw c.deref.ensures.value c.self.invariant.0.numbers
 
 pub place_of-place-requires-clause-stands : goal.place_of-place-requires-clause-stands
 place_of-place-requires-clause-stands g c =
     let parts = c.self.inside.streams.items in
-    let found = IsListed-catalog c.args.name.now c.in-Some.id parts c.self.inside.catalog c.self.invariant.numbers c.self.invariant.listed cc in
+    let found = IsListed-catalog c.args.name.now c.in-Some.id parts c.self.inside.catalog c.self.invariant.0.numbers c.self.invariant.0.listed cc in
     rw (c.deref.ensures.value, found.numbered) refl
 
 pub returns-then-is_past-clause-refused : goal.returns-then-is_past-clause-refused
 returns-then-is_past-clause-refused g c v =
     let parts = c.self.inside.streams.items in
     let part = c.index-stream.result.now in
-    let found = IsListed-catalog c.args.name.now c.in-Some.id parts c.self.inside.catalog c.self.invariant.numbers c.self.invariant.listed cc in
+    let found = IsListed-catalog c.args.name.now c.in-Some.id parts c.self.inside.catalog c.self.invariant.0.numbers c.self.invariant.0.listed cc in
     let at : IsAtPlace c.args.name.now c.place_of-place.result parts part =
     IsAtPlace-listed c.args.name.now c.in-Some.id parts c.place_of-place.result part found (rw (← c.deref.ensures.value) c.place_of-place.ensures.at)
     (rw (← c.deref.ensures.value) c.place_of-place.ensures.inside) c.index-stream.ensures in
@@ -51,7 +51,7 @@ pub returns-then-values_held-ge-MOST_VALUES-clause-refused : goal.returns-then-v
 returns-then-values_held-ge-MOST_VALUES-clause-refused g c v =
     let parts = c.self.inside.streams.items in
     let part = c.index-stream.result.now in
-    let found = IsListed-catalog c.args.name.now c.in-Some.id parts c.self.inside.catalog c.self.invariant.numbers c.self.invariant.listed cc in
+    let found = IsListed-catalog c.args.name.now c.in-Some.id parts c.self.inside.catalog c.self.invariant.0.numbers c.self.invariant.0.listed cc in
     let at : IsAtPlace c.args.name.now c.place_of-place.result parts part =
     IsAtPlace-listed c.args.name.now c.in-Some.id parts c.place_of-place.result part found (rw (← c.deref.ensures.value) c.place_of-place.ensures.at)
     (rw (← c.deref.ensures.value) c.place_of-place.ensures.inside) c.index-stream.ensures in
@@ -67,7 +67,7 @@ pub returns-in-Some-free_slot-clause-accepted : goal.returns-in-Some-free_slot-c
 returns-in-Some-free_slot-clause-accepted g c v =
     let parts = c.self.inside.streams.items in
     let part = c.index-stream.result.now in
-    let found = IsListed-catalog c.args.name.now c.in-Some.id parts c.self.inside.catalog c.self.invariant.numbers c.self.invariant.listed cc in
+    let found = IsListed-catalog c.args.name.now c.in-Some.id parts c.self.inside.catalog c.self.invariant.0.numbers c.self.invariant.0.listed cc in
     let at : IsAtPlace c.args.name.now c.place_of-place.result parts part =
     IsAtPlace-listed c.args.name.now c.in-Some.id parts c.place_of-place.result part found (rw (← c.deref.ensures.value) c.place_of-place.ensures.at)
     (rw (← c.deref.ensures.value) c.place_of-place.ensures.inside) c.index-stream.ensures in
@@ -86,7 +86,7 @@ pub returns-in-None-clause-refused : goal.returns-in-None-clause-refused
 returns-in-None-clause-refused g c v =
     let parts = c.self.inside.streams.items in
     let part = c.index-stream.result.now in
-    let found = IsListed-catalog c.args.name.now c.in-Some.id parts c.self.inside.catalog c.self.invariant.numbers c.self.invariant.listed cc in
+    let found = IsListed-catalog c.args.name.now c.in-Some.id parts c.self.inside.catalog c.self.invariant.0.numbers c.self.invariant.0.listed cc in
     let at : IsAtPlace c.args.name.now c.place_of-place.result parts part =
     IsAtPlace-listed c.args.name.now c.in-Some.id parts c.place_of-place.result part found (rw (← c.deref.ensures.value) c.place_of-place.ensures.at)
     (rw (← c.deref.ensures.value) c.place_of-place.ensures.inside) c.index-stream.ensures in
@@ -104,7 +104,7 @@ pub returns-in-Some-free_slot-clause-taker : goal.returns-in-Some-free_slot-clau
 returns-in-Some-free_slot-clause-taker g c =
     let parts = c.self.inside.streams.items in
     let part = c.index-stream.result.now in
-    let found = IsListed-catalog c.args.name.now c.in-Some.id parts c.self.inside.catalog c.self.invariant.numbers c.self.invariant.listed cc in
+    let found = IsListed-catalog c.args.name.now c.in-Some.id parts c.self.inside.catalog c.self.invariant.0.numbers c.self.invariant.0.listed cc in
     let at : IsAtPlace c.args.name.now c.place_of-place.result parts part =
     IsAtPlace-listed c.args.name.now c.in-Some.id parts c.place_of-place.result part found (rw (← c.deref.ensures.value) c.place_of-place.ensures.at)
     (rw (← c.deref.ensures.value) c.place_of-place.ensures.inside) c.index-stream.ensures in

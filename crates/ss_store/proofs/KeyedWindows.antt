@@ -1,0 +1,223 @@
+-- What a schedule says of the windows of a stream, as a store holds them.
+use Rattle.std.proofs.Common.{◌≡◌, ◌∙◌, ℕ, zero, suc, ◌+◌, ◌<◌, ◌≤◌, true, false, List, [], ◌∷◌, ◌++◌, map, length, take, refl, sym, ap, subst, arith, All, get_or, Option, Some, None}
+use Rattle.std.specs.Prelude.{slice_get, slice_set, ⊤}
+use Rattle.std.specs.List.{AllZip}
+use Rattle.std.proofs.lemmas.Option.{none-some, same_Some, slice_get_read}
+use Rattle.std.proofs.lemmas.Slice.Zip.{AllZip-long}
+use Rattle.std.proofs.lemmas.Bool.{eqb-true}
+use Rattle.std.proofs.lemmas.List.Elements.{All-get_or}
+use Rattle.std.proofs.lemmas.List.Sums.{passes_at_first}
+use Rattle.ss_windowing.specs.Windowing.{fits}
+use Rattle.ss_windowing.specs.declared.decay.TheConstants.{MOST_VALUES}
+use Rattle.ss_line.specs.Line.{IsLine, LineState, StandsIn, index_of, is_at, place_at}
+use Rattle.ss_line.specs.declared.entry.At.{At}
+use Rattle.ss_line.specs.declared.entry.Entry.{Entry}
+use Rattle.ss_target.specs.Lengths.{lengths_of}
+use Rattle.ss_target.specs.Targets.{params_of}
+use Rattle.ss_schedule.specs.Keyed.{FollowFrom, FollowUpTo, IsKeyed, ScheduleState}
+use Rattle.ss_schedule.specs.Pairs.{NoPairFits}
+use Rattle.ss_recover.specs.Held.{TileFrom, entries_of, span_held}
+use Rattle.ss_recover.specs.declared.parts.StreamParts.{StreamParts}
+use Rattle.ss_query.proofs.Places.{entries_in}
+use Rattle.ss_store.specs.Held.{values_held}
+use Rattle.ss_store.specs.Joining.{AreDue, NoSpansAreDue}
+use Rattle.ss_store.specs.Scheduled.{HasPlaces, IsDuePair, IsKeyedAt, IsKeyedFor, IsScheduled}
+use Rattle.ss_store.proofs.Spans.{last-held}
+
+-- no pair of a line fits, by its entries and by their positions
+pub NoSpansAreDue-pairs : (len : ℕ → ℕ) (n : ℕ) (entries : List (At × Entry)) → NoPairFits len n entries →
+    NoSpansAreDue len n (map span_held (entries_in entries))
+NoSpansAreDue-pairs len n [] none = tt
+NoSpansAreDue-pairs len n (e ∷ []) none = tt
+NoSpansAreDue-pairs len n (e ∷ f ∷ es) none = (none.0, NoSpansAreDue-pairs len n (f ∷ es) none.1)
+
+pub NoPairFits-spans : (len : ℕ → ℕ) (n : ℕ) (entries : List (At × Entry)) → NoSpansAreDue len n (map span_held (entries_in entries)) →
+    NoPairFits len n entries
+NoPairFits-spans len n [] none = tt
+NoPairFits-spans len n (e ∷ []) none = tt
+NoPairFits-spans len n (e ∷ f ∷ es) none = (none.0, NoPairFits-spans len n (f ∷ es) none.1)
+
+-- windows that tile follow one another up to the values that they hold
+FollowFrom-tiles : (n first : ℕ) (entries : List (At × Entry)) → TileFrom first (entries_in entries) → values_held (entries_in entries) ≤ n →
+    FollowFrom n first entries
+FollowFrom-tiles n first [] tiles held = tt
+FollowFrom-tiles n first (e ∷ []) tiles held = (tiles.0, omega (arith, tiles.0, tiles.1), held, tt)
+FollowFrom-tiles n first (e ∷ f ∷ es) tiles held =
+    let next = tiles.3 in
+    let rest = last-held (e.1.last + 1) f.1 (entries_in es) next in
+    (tiles.0, omega (arith, tiles.0, tiles.1), omega (arith, rest.0, held, next.0, next.1), FollowFrom-tiles n (e.1.last + 1) (f ∷ es) next held)
+
+pub FollowUpTo-tiles : (n : ℕ) (entries : List (At × Entry)) → TileFrom 1 (entries_in entries) → values_held (entries_in entries) ≤ n → FollowUpTo n entries
+FollowUpTo-tiles n [] tiles held = tt
+FollowUpTo-tiles n (e ∷ es) tiles held =
+    (omega (arith, tiles.0), subst (λ first. FollowFrom n first (e ∷ es)) (sym tiles.0) (FollowFrom-tiles n 1 (e ∷ es) tiles held))
+
+-- and so do the first of them
+FollowFrom-take : (n first k : ℕ) (entries : List (At × Entry)) → FollowFrom n first entries → FollowFrom n first (take k entries)
+FollowFrom-take n first zero [] follow = tt
+FollowFrom-take n first zero (e ∷ es) follow = tt
+FollowFrom-take n first (suc k) [] follow = tt
+FollowFrom-take n first (suc k) (e ∷ es) follow = (follow.0, follow.1, follow.2, FollowFrom-take n (e.1.last + 1) k es follow.3)
+
+pub FollowUpTo-take : (n k : ℕ) (entries : List (At × Entry)) → FollowUpTo n entries → FollowUpTo n (take k entries)
+FollowUpTo-take n zero [] follow = tt
+FollowUpTo-take n zero (e ∷ es) follow = tt
+FollowUpTo-take n (suc k) [] follow = tt
+FollowUpTo-take n (suc k) (e ∷ es) follow = (follow.0, FollowFrom-take n e.1.first (suc k) (e ∷ es) follow.1)
+
+-- a pair that is due, by its places
+pub AreDue-pair : (part : StreamParts) (pair : _) (is : IsDuePair part pair) →
+    AreDue (lengths_of (params_of part.target)) (values_held (entries_of part)) part.line.entries pair.left pair.right
+AreDue-pair part pair is = record {
+  pair = is.stands.neighbours;
+  due = rw (← is.stands.first, ← is.stands.last) is.fits;
+}
+
+-- all entries of a line, and those before the last
+pub take-all : {X : Type 0} (xs : List X) (k : ℕ) → length xs ≤ k → take k xs ≡ xs
+take-all [] zero long = refl
+take-all [] (suc k) long = refl
+take-all (x ∷ xs) zero long = absurd (omega arith)
+take-all (x ∷ xs) (suc k) long = ap (λ l. x ∷ l) (take-all xs k (omega arith))
+
+pub take-seam : {X : Type 0} (xs ys : List X) → take (length xs) (xs ++ ys) ≡ xs
+take-seam [] [] = refl
+take-seam [] (y ∷ ys) = refl
+take-seam (x ∷ xs) ys = ap (λ l. x ∷ l) (take-seam xs ys)
+
+-- the entries up to a place are keyed
+pub record IsKeyedUpTo (n : ℕ) (part : StreamParts) (schedule : ScheduleState) (at : At) : Type 0 where
+  pub target : schedule.target ≡ part.target
+  pub stands : StandsIn part.line.entries at
+  pub keyed : IsKeyed n (take (index_of part.line.entries at + 1) part.line.entries) schedule
+  pub room : HasPlaces part.line schedule
+
+-- a place that stands lies below a bound of all places
+pub StandsIn-below : (entries : List (At × Entry)) (n : ℕ) (at : At) → All (λ entry. entry.0.0 < n) entries → StandsIn entries at → at.0 < n
+StandsIn-below entries n at below stands =
+    let d : At × Entry = (at, record { first = 0; last = 0; slot = 0 }) in
+    let e : At × Entry = get_or entries (index_of entries at) d in
+    let there : e.0.0 < n = All-get_or (λ (x : At × Entry). x.0.0 < n) entries (index_of entries at) d stands below in
+    let same : e.0.0 ≡ at.0 = eqb-true e.0.0 at.0 (passes_at_first (is_at at) entries d stands) in
+    omega (arith, there, same)
+
+pub take-none : {X : Type 0} (xs : List X) → take 0 xs ≡ []
+take-none [] = refl
+take-none (x ∷ xs) = refl
+
+-- where no place stands the line has ended
+pub nothing_behind : (entries : List (At × Entry)) (k : ℕ) → None ≡ place_at entries k → length entries ≤ k
+nothing_behind [] k none = omega arith
+nothing_behind (e ∷ es) zero none = absurd (cc)
+nothing_behind (e ∷ es) (suc k) none = omega (arith, nothing_behind es k none)
+
+-- two lists whose items belong together, place by place: one place, one that changes, and one more
+module _ {A B : Type 0} (R : A → B → Type 0) where
+  pub AllZip-at : (xs : List A) (ys : List B) (i : ℕ) (x : A) (y : B) → AllZip R xs ys → slice_get xs i ≡ Some x → slice_get ys i ≡ Some y → R x y
+  AllZip-at [] ys i x y all first second = absurd (none-some x first)
+  AllZip-at (u ∷ us) [] i x y all first second = absurd (none-some y second)
+  AllZip-at (u ∷ us) (v ∷ vs) zero x y all first second = subst (λ a. R a y) (same_Some u x first) (subst (λ b. R u b) (same_Some v y second) all.0)
+  AllZip-at (u ∷ us) (v ∷ vs) (suc i) x y all first second = AllZip-at us vs i x y all.1 first second
+
+  pub AllZip-set : (xs : List A) (ys : List B) (i : ℕ) (x : A) (y : B) → AllZip R xs ys → R x y → AllZip R (slice_set xs i x) (slice_set ys i y)
+  AllZip-set [] [] i x y all one = tt
+  AllZip-set [] (v ∷ vs) i x y all one = absurd all
+  AllZip-set (u ∷ us) [] i x y all one = absurd all
+  AllZip-set (u ∷ us) (v ∷ vs) zero x y all one = (one, all.1)
+  AllZip-set (u ∷ us) (v ∷ vs) (suc i) x y all one = (all.0, AllZip-set us vs i x y all.1 one)
+
+  pub AllZip-more : (xs : List A) (ys : List B) (x : A) (y : B) → AllZip R xs ys → R x y → AllZip R (xs ++ x ∷ []) (ys ++ y ∷ [])
+  AllZip-more [] [] x y all one = (one, tt)
+  AllZip-more [] (v ∷ vs) x y all one = absurd all
+  AllZip-more (u ∷ us) [] x y all one = absurd all
+  AllZip-more (u ∷ us) (v ∷ vs) x y all one = (all.0, AllZip-more us vs x y all.1 one)
+
+-- the first of some streams are closed, the others keyed
+abbrev pub AreClosedTo : ℕ → List StreamParts → List ScheduleState → Type 0
+AreClosedTo k [] [] = ⊤
+AreClosedTo k [] (schedule ∷ schedules) = ⊥
+AreClosedTo k (part ∷ parts) [] = ⊥
+AreClosedTo zero (part ∷ parts) (schedule ∷ schedules) = IsKeyedFor part schedule × AreClosedTo zero parts schedules
+AreClosedTo (suc k) (part ∷ parts) (schedule ∷ schedules) = IsScheduled part schedule × AreClosedTo k parts schedules
+
+pub AreClosedTo-none : (parts : List StreamParts) (schedules : List ScheduleState) → AllZip IsKeyedFor parts schedules → AreClosedTo 0 parts schedules
+AreClosedTo-none [] [] all = tt
+AreClosedTo-none [] (schedule ∷ schedules) all = absurd all
+AreClosedTo-none (part ∷ parts) [] all = absurd all
+AreClosedTo-none (part ∷ parts) (schedule ∷ schedules) all = (all.0, AreClosedTo-none parts schedules all.1)
+
+pub AreClosedTo-long : (k : ℕ) (parts : List StreamParts) (schedules : List ScheduleState) → AreClosedTo k parts schedules → length schedules ≡ length parts
+AreClosedTo-long k [] [] all = refl
+AreClosedTo-long k [] (schedule ∷ schedules) all = absurd all
+AreClosedTo-long k (part ∷ parts) [] all = absurd all
+AreClosedTo-long zero (part ∷ parts) (schedule ∷ schedules) all = ap (λ n. suc n) (AreClosedTo-long zero parts schedules all.1)
+AreClosedTo-long (suc k) (part ∷ parts) (schedule ∷ schedules) all = ap (λ n. suc n) (AreClosedTo-long k parts schedules all.1)
+
+pub AreClosedTo-at : (k : ℕ) (parts : List StreamParts) (schedules : List ScheduleState) (part : StreamParts) (schedule : ScheduleState) →
+    AreClosedTo k parts schedules → slice_get parts k ≡ Some part → slice_get schedules k ≡ Some schedule → IsKeyedFor part schedule
+AreClosedTo-at k [] schedules part schedule all first second = absurd (none-some part first)
+AreClosedTo-at k (p ∷ ps) [] part schedule all first second = absurd (none-some schedule second)
+AreClosedTo-at zero (p ∷ ps) (s ∷ ss) part schedule all first second =
+    subst (λ a. IsKeyedFor a schedule) (same_Some p part first) (subst (λ b. IsKeyedFor p b) (same_Some s schedule second) all.0)
+AreClosedTo-at (suc k) (p ∷ ps) (s ∷ ss) part schedule all first second = AreClosedTo-at k ps ss part schedule all.1 first second
+
+pub AreClosedTo-more : (k : ℕ) (parts : List StreamParts) (schedules : List ScheduleState) (part : StreamParts) (schedule : ScheduleState) →
+    AreClosedTo k parts schedules → IsScheduled part schedule → AreClosedTo (suc k) (slice_set parts k part) (slice_set schedules k schedule)
+AreClosedTo-more k [] [] part schedule all one = tt
+AreClosedTo-more k [] (s ∷ ss) part schedule all one = absurd all
+AreClosedTo-more k (p ∷ ps) [] part schedule all one = absurd all
+AreClosedTo-more zero (p ∷ ps) (s ∷ ss) part schedule all one = (one, all.1)
+AreClosedTo-more (suc k) (p ∷ ps) (s ∷ ss) part schedule all one = (all.0, AreClosedTo-more k ps ss part schedule all.1 one)
+
+pub AreClosedTo-all : (k : ℕ) (parts : List StreamParts) (schedules : List ScheduleState) → length parts ≤ k → AreClosedTo k parts schedules →
+    AllZip IsScheduled parts schedules
+AreClosedTo-all k [] [] long all = tt
+AreClosedTo-all k [] (s ∷ ss) long all = absurd all
+AreClosedTo-all k (p ∷ ps) [] long all = absurd all
+AreClosedTo-all zero (p ∷ ps) (s ∷ ss) long all = absurd (omega arith)
+AreClosedTo-all (suc k) (p ∷ ps) (s ∷ ss) long all = (all.0, AreClosedTo-all k ps ss (omega arith) all.1)
+
+-- windows that tile hold no more values than a stream can have
+pub held-few : (entries : List Entry) → TileFrom 1 entries → values_held entries ≤ MOST_VALUES
+held-few [] tiles = omega arith
+held-few (e ∷ es) tiles = (last-held 1 e es tiles).1
+
+-- a stream with other room, and a schedule that says the same
+pub IsScheduled-same : (was now : StreamParts) (old new : ScheduleState) → now.target ≡ was.target → now.line.entries ≡ was.line.entries →
+    new.target ≡ old.target → ((n : ℕ) (entries : List (At × Entry)) → IsKeyed n entries old → IsKeyed n entries new) → IsScheduled was old →
+    IsScheduled now new
+IsScheduled-same was now old new target entries kept keep is = (
+  record {
+    target = kept ∙ is.0.target ∙ sym target;
+    keyed = keep (values_held (entries_of now)) now.line.entries (subst (λ es. IsKeyed (values_held (entries_in es)) es old) (sym entries) is.0.keyed);
+  },
+  subst (λ t. NoSpansAreDue (lengths_of (params_of t)) (values_held (entries_of now)) (map span_held (entries_of now))) (sym target)
+      (subst (λ es. NoSpansAreDue (lengths_of (params_of was.target)) (values_held (entries_in es)) (map span_held (entries_in es))) (sym entries) is.1),
+)
+
+-- the stream at a place has its schedule there
+pub IsScheduled-at : (streams : List StreamParts) (schedules : List ScheduleState) (place : ℕ) (was : StreamParts) (old : ScheduleState) →
+    AllZip IsScheduled streams schedules → place < length streams → was ≡ get_or streams place was → old ≡ get_or schedules place old → IsScheduled was old
+IsScheduled-at streams schedules place was old all inside read read_schedule =
+    let long = AllZip-long IsScheduled streams schedules all in
+    AllZip-at IsScheduled streams schedules place was old all (slice_get_read streams (length streams) place was refl inside read)
+    (slice_get_read schedules (length schedules) place old refl (omega (arith, long)) read_schedule)
+
+-- a stream that changes, but for its target and the windows in its line, keeps its schedule
+pub AreScheduled-other : (streams : List StreamParts) (schedules : List ScheduleState) (place : ℕ) (was now : StreamParts) →
+    AllZip IsScheduled streams schedules → was ≡ get_or streams place was → now.target ≡ was.target → now.line.entries ≡ was.line.entries →
+    AllZip IsScheduled (slice_set streams place now) schedules
+AreScheduled-other [] schedules place was now all read target entries = all
+AreScheduled-other (p ∷ ps) [] place was now all read target entries = absurd all
+AreScheduled-other (p ∷ ps) (s ∷ ss) zero was now all read target entries =
+    (IsScheduled-same was now s s target entries refl (λ n es keyed. keyed) (subst (λ a. IsScheduled a s) (sym read) all.0), all.1)
+AreScheduled-other (p ∷ ps) (s ∷ ss) (suc place) was now all read target entries =
+    (all.0, AreScheduled-other ps ss place was now all.1 read target entries)
+
+-- a stream without windows
+pub IsScheduled-none : (part : StreamParts) (schedule : ScheduleState) → schedule.target ≡ part.target → part.line.entries ≡ [] → IsKeyed 0 [] schedule →
+    IsScheduled part schedule
+IsScheduled-none part schedule target none keyed = (
+  record { target = target; keyed = subst (λ es. IsKeyed (values_held (entries_in es)) es schedule) (sym none) keyed },
+  subst (λ es. NoSpansAreDue (lengths_of (params_of part.target)) (values_held (entries_in es)) (map span_held (entries_in es))) (sym none) tt,
+)

@@ -1,0 +1,84 @@
+use Rattle.std.proofs.Common.{◌≡◌, ◌∙◌, ◌+◌, ◌≤◌, arith, ap, length, refl, subst, sym, take, [], None, Some}
+use Rattle.ss_line.specs.Line.{StandsIn, index_of, place_at}
+use Rattle.ss_schedule.specs.Keyed.{FollowUpTo, IsKeyed}
+use Rattle.ss_query.proofs.Places.{index_of-first, index_of-next, none-first}
+use Rattle.ss_store.proofs.KeyedWindows.{FollowUpTo-take, FollowUpTo-tiles, StandsIn-below, nothing_behind, take-all, take-none}
+use Rattle.ss_store.proofs.scheduling.key_windows.Goals as goal
+
+pub returns-in_default : goal.returns-in_default
+returns-in_default g c =
+    let none = none-first c.args.part.now.line.entries (sym c.in_default.is ∙ c.first.ensures.value) in
+    record { target = c.requires.target; keyed = subst (λ es. IsKeyed c.args.n es c.args.schedule.now) (sym none) c.requires.fresh }
+
+pub add_window-requires-clause-room : goal.add_window-requires-clause-room
+add_window-requires-clause-room g c =
+    let below = StandsIn-below c.args.part.now.line.entries c.places-places.result c.in-Some.at c.places-places.ensures.below
+    c.in-Some.ensures.stands in
+    omega (arith, below, c.places-places.ensures.value, c.requires.room)
+
+pub add_window-requires-clause-keyed : goal.add_window-requires-clause-keyed
+add_window-requires-clause-keyed g c =
+    let first = index_of-first c.args.part.now.line.entries (Some c.in-Some.at) (sym c.in-Some.is ∙ c.first.ensures.value) in
+    rw (first, take-none c.args.part.now.line.entries) c.requires.fresh
+
+pub add_window-requires-clause-follow : goal.add_window-requires-clause-follow
+add_window-requires-clause-follow g c =
+    FollowUpTo-take c.args.n (index_of c.args.part.now.line.entries c.in-Some.at + 1) c.args.part.now.line.entries
+    (FollowUpTo-tiles c.args.n c.args.part.now.line.entries c.requires.tiles (omega (arith, c.requires.all)))
+
+pub add_window-requires-clause-stub : goal.add_window-requires-clause-stub
+add_window-requires-clause-stub g c = ?
+
+pub loop-next-init : goal.loop-next-init
+loop-next-init g c = record {
+  target = c.add_window.ensures.target ∙ c.requires.target;
+  stands = c.in-Some.ensures.stands;
+  keyed = c.add_window.ensures.keyed;
+  room = omega (arith, c.requires.room, c.add_window.ensures.room);
+}
+
+pub neighbours-requires : goal.neighbours-requires
+neighbours-requires g c = c.loop-next.invariant.stands
+
+pub add_window-requires-in-Some-1₀-clause-room : goal.add_window-requires-in-Some-1₀-clause-room
+add_window-requires-in-Some-1₀-clause-room g c =
+    let stands : StandsIn c.args.part.now.line.entries c.in-Some-1₀.next = rw c.in-Some-1₀.is at c.neighbours.ensures.stand.1 in
+    let below = StandsIn-below c.args.part.now.line.entries c.places-places.result c.in-Some-1₀.next c.places-places.ensures.below stands in
+    omega (arith, below, c.places-places.ensures.value, c.loop-next.invariant.room)
+
+pub add_window-requires-in-Some-1₀-clause-keyed : goal.add_window-requires-in-Some-1₀-clause-keyed
+add_window-requires-in-Some-1₀-clause-keyed g c =
+    let next = index_of-next c.args.part.now.line (index_of c.args.part.now.line.entries c.loop-next.at + 1) (Some c.in-Some-1₀.next)
+    c.places-places.ensures.line (sym c.in-Some-1₀.is ∙ c.neighbours.ensures.behind) in
+    rw next c.loop-next.invariant.keyed
+
+pub add_window-requires-in-Some-1₀-clause-follow : goal.add_window-requires-in-Some-1₀-clause-follow
+add_window-requires-in-Some-1₀-clause-follow g c =
+    FollowUpTo-take c.args.n (index_of c.args.part.now.line.entries c.in-Some-1₀.next + 1) c.args.part.now.line.entries
+    (FollowUpTo-tiles c.args.n c.args.part.now.line.entries c.requires.tiles (omega (arith, c.requires.all)))
+
+pub add_window-requires-in-Some-1₀-clause-stub : goal.add_window-requires-in-Some-1₀-clause-stub
+add_window-requires-in-Some-1₀-clause-stub g c = ?
+
+pub loop-next-smaller : goal.loop-next-smaller
+loop-next-smaller g c =
+    let next = index_of-next c.args.part.now.line (index_of c.args.part.now.line.entries c.loop-next.at + 1) (Some c.in-Some-1₀.next)
+    c.places-places.ensures.line (sym c.in-Some-1₀.is ∙ c.neighbours.ensures.behind) in
+    omega (arith, next, c.loop-next.invariant.stands)
+
+pub loop-next-preserved : goal.loop-next-preserved
+loop-next-preserved g c = record {
+  target = c.add_window-in-Some-1₀.ensures.target ∙ c.loop-next.invariant.target;
+  stands = rw c.in-Some-1₀.is at c.neighbours.ensures.stand.1;
+  keyed = c.add_window-in-Some-1₀.ensures.keyed;
+  room = omega (arith, c.loop-next.invariant.room, c.add_window-in-Some-1₀.ensures.room);
+}
+
+pub returns : goal.returns
+returns g c =
+    let none = nothing_behind c.args.part.now.line.entries (index_of c.args.part.now.line.entries c.loop-next.at + 1)
+    (sym c.in_default-1₀.is ∙ c.neighbours.ensures.behind) in
+    record {
+      target = c.loop-next.invariant.target;
+      keyed = subst (λ es. IsKeyed c.args.n es c.loop-next.schedule) (take-all c.args.part.now.line.entries _ none) c.loop-next.invariant.keyed;
+    }
