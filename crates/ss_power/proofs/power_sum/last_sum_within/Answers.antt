@@ -7,7 +7,7 @@ pub loop-high-preserved-then-power_sum_upto-most : goal.loop-high-preserved-then
 loop-high-preserved-then-power_sum_upto-most g c =
     let before = c.loop-high.invariant in
     let left = c.args.steps.now + 42 - c.loop-high.steps in
-    let half = halves (c.loop-high.high - c.loop-high.low) left c.loop-high-test.true before.width in
+    let half = halves (c.loop-high.high - c.loop-high.low) left (omega arith) before.width in
     let next : c.args.steps.now + 42 - c.power_sum_upto.new.steps ≡ left - 1 = omega (arith, c.power_sum_upto.ensures.step) in
     record {
       within = omega (arith, c.power_sum_upto.ensures.sum);
@@ -22,7 +22,7 @@ pub loop-high-preserved : goal.loop-high-preserved
 loop-high-preserved g c =
     let before = c.loop-high.invariant in
     let left = c.args.steps.now + 42 - c.loop-high.steps in
-    let half = halves (c.loop-high.high - c.loop-high.low) left c.loop-high-test.true before.width in
+    let half = halves (c.loop-high.high - c.loop-high.low) left (omega arith) before.width in
     let next : c.args.steps.now + 42 - c.power_sum_upto.new.steps ≡ left - 1 = omega (arith, c.power_sum_upto.ensures.step) in
     record {
       within = before.within;
