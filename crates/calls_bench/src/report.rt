@@ -169,7 +169,7 @@ fn print_look_ups<R: Print + Clock>(rt: &R, name: &str, params: Params) -> bool 
     for age in AGES {
         let each = look_up_time(rt, params, age);
         printed &= each >= 0.0;
-        printed &= println!(rt; "{name:<14} {age:>10}  {each:>12.1}").is_ok();
+        printed &= println!(rt; "{name:<14} {age:>13}  {each:>12.1}").is_ok();
     }
     printed
 }
@@ -177,7 +177,7 @@ fn print_look_ups<R: Print + Clock>(rt: &R, name: &str, params: Params) -> bool 
 /// Prints the time of a look-up for each target and each age.
 pub fn print_look_up_times<R: Print + Clock>(rt: &R) -> u8 {
     let mut printed = rt
-        .println("target                age  ns a look-up")
+        .println("target                   age  ns a look-up")
         .is_ok();
     for (name, params) in TARGETS {
         printed &= print_look_ups(rt, name, params);
