@@ -16,9 +16,9 @@ use Rattle.ss_windowing.proofs.GroupLemmas.{InGroup, cut-groups}
 use Rattle.ss_power.specs.Power.{group_size, group_length, power_length, IsPower}
 use Rattle.ss_power.specs.PowerLaws.{power_length-positive}
 use Rattle.ss_power.specs.PowerSum.{cap, power_sum}
-use Rattle.ss_power.proofs.SumLemmas.{cap-falls, power-small, within-cap, lt-power_sum-cap}
+use Rattle.ss_power.proofs.SumLemmas.{power-small, within-cap, lt-power_sum-cap}
 
-pub group_size-positive : {p q r s : ℕ} → IsPower p q r s → ArePositive (group_size p r)
+group_size-positive : {p q r s : ℕ} → IsPower p q r s → ArePositive (group_size p r)
 group_size-positive {p} h g = mul-pos h.repeat_low (one-le-pow (p - 1) (g + 1) (omega arith))
 
 -- a group has its first window at r times a power sum
@@ -39,19 +39,19 @@ unfolding power_length
 cut-power_sum p q r s g h = cut-groups (group_size p r) (group_length q s) g (group_size-positive h) ∙ span-sum p q r s g
 
 -- a number times a quotient, and times one more
-pub times-within : (u a n : ℕ) → n ≤ a / u → u * n ≤ a
+times-within : (u a n : ℕ) → n ≤ a / u → u * n ≤ a
 times-within u a n within = le_trans (mul-le-mul_left u within) (mul-div-le a u)
 
-pub times-past : (u a n : ℕ) → 0 < u → a / u < n → a < u * n
+times-past : (u a n : ℕ) → 0 < u → a / u < n → a < u * n
 times-past u a n some past =
     let more : a / u + 1 ≤ n = omega arith in
     omega (arith, lt-mul-div-succ a some, mul-le-mul_left u more)
 
 module _ {p q r s : ℕ} (h : IsPower p q r s) where
-  pub exponent-low : p - 1 + q ≤ 6
+  exponent-low : p - 1 + q ≤ 6
   exponent-low = omega (arith, h.power_high, h.widening_high)
 
-  pub unit-positive : 0 < r * s
+  unit-positive : 0 < r * s
   unit-positive = mul-pos h.repeat_low h.scale_low
 
   -- what a sum that was compared with an age in units says of the start of a group
@@ -77,10 +77,7 @@ module _ {p q r s : ℕ} (h : IsPower p q r s) where
   unfolding power_length
   lengths = power_length-positive h
 
-  -- below the cap
-  pub capped-index : {g : ℕ} → g < cap (p - 1 + q) → g ≤ cap (p - 1)
-  capped-index {g} capped = omega (arith, cap-falls (p - 1) q exponent-low)
-
+  -- the length of a group below the cap
   pub length-power : {g : ℕ} → g < cap (p - 1 + q) → (g + 1) ^ q ≤ 2 ^ 42
   length-power {g} capped = power-small (p - 1 + q) q (g + 1) exponent-low (omega arith) (omega arith) (omega arith)
 

@@ -6,7 +6,7 @@ use Rattle.ss_windowing.specs.declared.decay.TheConstants.{MOST_VALUES}
 use Rattle.ss_power.specs.PowerSum.{cap, power_sum}
 
 -- a sum of n powers is at most n times the last
-pub power_sum-le : (e n : ℕ) → power_sum e n ≤ n * n ^ e
+power_sum-le : (e n : ℕ) → power_sum e n ≤ n * n ^ e
 power_sum-le e zero = omega arith
 power_sum-le e (suc n) =
     let same : suc n ≡ n + 1 = omega arith in
@@ -48,7 +48,7 @@ pow-step (suc e) n =
     rw (pow-suc (n + 1) (suc e), pow-suc n (suc e)) (rw more at step)
 
 -- e + 1 times the sum is at least n ^ (e + 1)
-pub le-power_sum : (e n : ℕ) → n ^ suc e ≤ suc e * power_sum e n
+le-power_sum : (e n : ℕ) → n ^ suc e ≤ suc e * power_sum e n
 le-power_sum e zero = rw pow-suc (omega arith)
 le-power_sum e (suc n) =
     let same : suc n ≡ n + 1 = omega arith in
@@ -70,24 +70,8 @@ lt-power_sum-cap e low = elim (cases_lt MOST_VALUES (power_sum e (cap e))) [
   | inr below ↦ absurd (omega (arith, cap-large e low, le-power_sum e (cap e), mul-le-mul_left (suc e) below))
 ]
 
--- the cap of a greater exponent is no greater
-cap-next : (e : ℕ) → e ≤ 5 → cap (suc e) ≤ cap e
-cap-next zero low = lit≤ tt
-cap-next (suc zero) low = lit≤ tt
-cap-next (suc (suc zero)) low = lit≤ tt
-cap-next (suc (suc (suc zero))) low = lit≤ tt
-cap-next (suc (suc (suc (suc zero)))) low = lit≤ tt
-cap-next (suc (suc (suc (suc (suc zero))))) low = lit≤ tt
-cap-next (suc (suc (suc (suc (suc (suc e)))))) low = absurd (omega arith)
-
-pub cap-falls : (e k : ℕ) → e + k ≤ 6 → cap (e + k) ≤ cap e
-cap-falls e zero low = let same : e + 0 ≡ e = omega arith in rw same (omega arith)
-cap-falls e (suc k) low =
-    let same : e + suc k ≡ suc (e + k) = omega arith in
-    rw same (le_trans (cap-next (e + k) (omega arith)) (cap-falls e k (omega arith)))
-
 -- a longer sum is no smaller
-pub power_sum-monotone : (e i j : ℕ) → i ≤ j → power_sum e i ≤ power_sum e j
+power_sum-monotone : (e i j : ℕ) → i ≤ j → power_sum e i ≤ power_sum e j
 power_sum-monotone e i zero order = let same : i ≡ 0 = omega arith in rw same (omega arith)
 power_sum-monotone e i (suc j) order = elim (cases_lt j i) [
   | inl late ↦ (let same : i ≡ suc j = omega arith in rw same (omega arith))
