@@ -6,7 +6,7 @@ use crate::codec::{decode_time, encode_time};
 use crate::journal::{COUNTED, calls_of, calls_of_birth, read_time, warm_commit_time};
 use crate::landmarks::{MOST_VALUES, landmark_times, landmarks_with};
 use crate::records::{MOST_RECORDS, record_times, seen_after};
-use crate::targets::{Cover, TAKEN, TARGETS, cover_of, look_up_time};
+use crate::targets::{AGES, Cover, TAKEN, TARGETS, cover_of, look_up_time};
 use ss_catalog::Params;
 use ss_journal::JournalError;
 use ss_landmarks::Landmarks;
@@ -166,10 +166,10 @@ pub fn print_targets(rt: &impl Print) -> u8 {
 // Prints the times of look-ups in a target.
 fn print_look_ups<R: Print + Clock>(rt: &R, name: &str, params: Params) -> bool {
     let mut printed = true;
-    for age in TAKEN {
+    for age in AGES {
         let each = look_up_time(rt, params, age);
         printed &= each >= 0.0;
-        printed &= println!(rt; "{name:<14} {age:>10}  {each:>12.1}").is_ok();
+        printed &= println!(rt; "{name:<14} {age:>13}  {each:>12.1}").is_ok();
     }
     printed
 }
@@ -177,7 +177,7 @@ fn print_look_ups<R: Print + Clock>(rt: &R, name: &str, params: Params) -> bool 
 /// Prints the time of a look-up for each target and each age.
 pub fn print_look_up_times<R: Print + Clock>(rt: &R) -> u8 {
     let mut printed = rt
-        .println("target                age  ns a look-up")
+        .println("target                   age  ns a look-up")
         .is_ok();
     for (name, params) in TARGETS {
         printed &= print_look_ups(rt, name, params);

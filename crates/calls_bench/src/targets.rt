@@ -8,8 +8,26 @@ use ss_windowing::{Decay, MOST_VALUES};
 use std::rt::Clock;
 
 /// The targets, with their names.
-pub const TARGETS: [(&str, Params); 3] = [
+pub const TARGETS: [(&str, Params); 5] = [
     ("exp 2 1 1", Params::Exp { b: 2, r: 1, s: 1 }),
+    (
+        "power 1 1 1 1",
+        Params::Power {
+            p: 1,
+            q: 1,
+            r: 1,
+            s: 1,
+        },
+    ),
+    (
+        "power 2 1 1 1",
+        Params::Power {
+            p: 2,
+            q: 1,
+            r: 1,
+            s: 1,
+        },
+    ),
     (
         "power 1 1 4 1",
         Params::Power {
@@ -32,6 +50,9 @@ pub const TARGETS: [(&str, Params); 3] = [
 
 /// How many values were taken. The oldest has one less as its age.
 pub const TAKEN: [u64; 3] = [1_000, 1_000_000, 1_000_000_000];
+
+/// The ages whose look-ups are timed.
+pub const AGES: [u64; 4] = [1_000, 1_000_000, 1_000_000_000, MOST_VALUES];
 
 // How many look-ups are timed.
 const LOOK_UPS: u32 = 1_000;

@@ -1,3 +1,4 @@
 mod Rows
 pub mod PowerLemmas
 pub mod SumLemmas
+pub mod ClosedFormLemmas

@@ -1,58 +1,74 @@
--- The groups of a power-law target, one after the other, and where all its windows have one length.
-use Rattle.std.proofs.Common.{ℕ, zero, suc, ◌≡◌, ◌+◌, ◌-◌, ◌*◌, ◌/◌, ◌^◌, ◌<◌, ◌≤◌, refl, sym, ap, ◌∙◌, lit≤, arith}
-use Rattle.std.proofs.Math.Nat.{mul-pos, one-le-pow, le_trans, mul-le-mul, mul-le-mul_left, mul-le-mul_right, mul-mul-mul_comm, pow-zero, pow-suc}
-use Rattle.std.proofs.Math.Nat.{pow-le-pow_left, pow-le-pow_right, div-mul-le_self, lt-div-mul-add}
-use Rattle.std.proofs.lemmas.Nat.{mul-pow, pow-add}
+-- The groups of a power-law target: where they start, and what a look-up finds in one.
+use Rattle.std.proofs.Common.{ℕ, zero, suc, ◌≡◌, ◌+◌, ◌-◌, ◌*◌, ◌/◌, ◌^◌, ◌<◌, ◌≤◌, inl, inr}
+use Rattle.std.proofs.Common.{refl, sym, ap, ◌∙◌, lit≤, add-one, arith}
+use Rattle.std.proofs.Math.Nat.{mul-pos, one-le-pow, le_trans, mul-le-mul, mul-le-mul_left, mul-mul-mul_comm}
+use Rattle.std.proofs.Math.Nat.{pow-le-pow_left, mul-div-le, lt-mul-div-succ, div-le_self}
+use Rattle.std.proofs.lemmas.Bool.{cases_lt}
+use Rattle.std.proofs.lemmas.Nat.{pow-add}
 use Rattle.ss_windowing.specs.FirstFit.{FindsOfLength, NoneOfLength}
 use Rattle.ss_windowing.specs.Groups.{grouped}
-use Rattle.ss_windowing.specs.Windowing.{cut, Holds, ArePositive}
+use Rattle.ss_windowing.specs.Windowing.{cut, Holds, index_of, ArePositive}
+use Rattle.ss_windowing.specs.declared.decay.Spot.{Spot}
 use Rattle.ss_windowing.specs.declared.decay.TheConstants.{MOST_VALUES}
-use Rattle.ss_windowing.proofs.WindowingLemmas.{index_le_cut}
+use Rattle.ss_windowing.proofs.WindowingLemmas.{cut-monotone, holds-index_of, index_le_cut}
 use Rattle.ss_windowing.proofs.GroupLemmas as Groups
 use Rattle.ss_windowing.proofs.GroupLemmas.{InGroup, cut-groups}
-use Rattle.ss_power.specs.Group.{IsGroup}
 use Rattle.ss_power.specs.Power.{group_size, group_length, power_length, IsPower}
 use Rattle.ss_power.specs.PowerLaws.{power_length-positive}
-use Rattle.ss_power.specs.PowerSum.{power_sum}
-use Rattle.ss_power.specs.declared.group.Group.{Group}
+use Rattle.ss_power.specs.PowerSum.{cap, power_sum}
+use Rattle.ss_power.proofs.SumLemmas.{power-small, within-cap, lt-power_sum-cap}
 
-pub group_size-positive : {p q r s : ℕ} → IsPower p q r s → ArePositive (group_size p r)
+group_size-positive : {p q r s : ℕ} → IsPower p q r s → ArePositive (group_size p r)
 group_size-positive {p} h g = mul-pos h.repeat_low (one-le-pow (p - 1) (g + 1) (omega arith))
 
--- from one group to the next a power up to the third grows at most 8 times
-pow-next : (k g : ℕ) → k ≤ 3 → (g + 2) ^ k ≤ 8 * (g + 1) ^ k
-pow-next k g small =
-    let twice : (g + 2) ^ k ≤ (2 * (g + 1)) ^ k = pow-le-pow_left (omega arith) k in
-    let eight : 2 ^ k ≤ 2 ^ 3 = pow-le-pow_right (lit≤ tt) small in
-    omega (arith, mul-pow 2 (g + 1) k, mul-le-mul_right ((g + 1) ^ k) eight)
+-- a group has its first window at r times a power sum
+pub cut-sizes : (p r g : ℕ) → cut (group_size p r) g ≡ r * power_sum (p - 1) g
+cut-sizes p r zero = omega arith
+cut-sizes p r (suc g) = omega (arith, cut-sizes p r g)
 
-scaled-next : (a k g : ℕ) → 1 ≤ a → k ≤ 3 → ((g + 2) ^ k ≤ a * (g + 2) ^ k) × (a * (g + 2) ^ k ≤ 8 * (a * (g + 1) ^ k))
-scaled-next a k g some small = (
-  omega (arith, mul-le-mul_right ((g + 2) ^ k) some),
-  omega (arith, mul-le-mul_left a (pow-next k g small)),
-)
+-- a group starts at r * s times the power sum of the groups before it
+span : (p q r s g : ℕ) → group_size p r g * group_length q s g ≡ r * s * (g + 1) ^ (p - 1 + q)
+span p q r s g = mul-mul-mul_comm r ((g + 1) ^ (p - 1)) s ((g + 1) ^ q) ∙ ap (λ n. r * s * n) (sym (pow-add (g + 1) (p - 1) q))
 
-product-factors : (a b : ℕ) → 0 < a → 0 < b → (a ≤ a * b) × (b ≤ a * b)
-product-factors a b some_a some_b = (omega (arith, mul-le-mul_left a some_b), omega (arith, mul-le-mul_right b some_a))
+span-sum : (p q r s g : ℕ) → cut (λ j. group_size p r j * group_length q s j) g ≡ r * s * power_sum (p - 1 + q) g
+span-sum p q r s zero = omega arith
+span-sum p q r s (suc g) = omega (arith, span-sum p q r s g, span p q r s g)
 
-one-pow : (k : ℕ) → 1 ^ k ≡ 1
-one-pow zero = refl
-one-pow (suc k) = pow-suc 1 k ∙ ap (λ n. n * 1) (one-pow k)
+pub cut-power_sum : (p q r s g : ℕ) → IsPower p q r s → cut (power_length p q r s) (cut (group_size p r) g) ≡ r * s * power_sum (p - 1 + q) g
+unfolding power_length
+cut-power_sum p q r s g h = cut-groups (group_size p r) (group_length q s) g (group_size-positive h) ∙ span-sum p q r s g
 
-pub IsGroup-newest : {p q r s : ℕ} → IsPower p q r s → IsGroup p q r s (record { newer = 0; index = 0; start = 0; windows = r; len = s })
-IsGroup-newest {p} {q} {r} {s} h = record {
-  index = refl;
-  start = refl;
-  windows = rw (one-pow (p - 1)) (omega arith);
-  len = rw (one-pow q) (omega arith);
-  short = le_trans (mul-le-mul h.repeat_high h.scale_high) (lit≤ tt);
-}
+-- a number times a quotient, and times one more
+times-within : (u a n : ℕ) → n ≤ a / u → u * n ≤ a
+times-within u a n within = le_trans (mul-le-mul_left u within) (mul-div-le a u)
 
--- one group of a target
-module _ {p q r s : ℕ} {group : Group} (h : IsPower p q r s) (at : IsGroup p q r s group) where
-  pub in-group : {age : ℕ} → group.start ≤ age → InGroup (group_size p r) (group_length q s) group.newer group.index group.start age
-  unfolding power_length
-  in-group begun = record { index_is = at.index; start_is = at.start; begun = begun }
+times-past : (u a n : ℕ) → 0 < u → a / u < n → a < u * n
+times-past u a n some past =
+    let more : a / u + 1 ≤ n = omega arith in
+    omega (arith, lt-mul-div-succ a some, mul-le-mul_left u more)
+
+module _ {p q r s : ℕ} (h : IsPower p q r s) where
+  exponent-low : p - 1 + q ≤ 6
+  exponent-low = omega (arith, h.power_high, h.widening_high)
+
+  unit-positive : 0 < r * s
+  unit-positive = mul-pos h.repeat_low h.scale_low
+
+  -- what a sum that was compared with an age in units says of the start of a group
+  pub start-within : {e u age : ℕ} (g : ℕ) → e ≡ p - 1 + q → u ≡ r * s → power_sum e g ≤ age / u → r * s * power_sum (p - 1 + q) g ≤ age
+  start-within {e} {u} {age} g exponent unit within = rw (exponent, unit) at (times-within u age (power_sum e g) within)
+
+  pub start-past : {e u age : ℕ} (g : ℕ) → e ≡ p - 1 + q → u ≡ r * s → age / u < power_sum e g → age < r * s * power_sum (p - 1 + q) g
+  start-past {e} {u} {age} g exponent unit past =
+      rw (exponent, unit) at (times-past u age (power_sum e g) (omega (arith, unit-positive)) past)
+
+  -- such a group lies below the cap, and the group of each age does
+  pub start-capped : (u g : ℕ) → power_sum (p - 1 + q) g ≤ MOST_VALUES / u → g < cap (p - 1 + q)
+  start-capped u g within = within-cap (p - 1 + q) g exponent-low (le_trans within (div-le_self MOST_VALUES u))
+
+  pub age-passed : (u : ℕ) {e age : ℕ} → e ≡ p - 1 + q → age ≤ MOST_VALUES → age / u < power_sum e (cap e)
+  age-passed u {e} {age} exponent recent =
+      rw exponent (omega (arith, lt-power_sum-cap (p - 1 + q) exponent-low, div-le_self age u))
 
   sizes : ArePositive (group_size p r)
   sizes = group_size-positive h
@@ -61,122 +77,85 @@ module _ {p q r s : ℕ} {group : Group} (h : IsPower p q r s) (at : IsGroup p q
   unfolding power_length
   lengths = power_length-positive h
 
-  pub factors-positive : (0 < group.windows) × (0 < group.len)
-  factors-positive = (
-    rw at.windows (sizes group.newer),
-    rw at.len (Groups.length-positive (group_size p r) (group_length q s) sizes lengths (in-group {age = group.start} (omega arith))),
-  )
+  -- the length of a group below the cap
+  pub length-power : {g : ℕ} → g < cap (p - 1 + q) → (g + 1) ^ q ≤ 2 ^ 42
+  length-power {g} capped = power-small (p - 1 + q) q (g + 1) exponent-low (omega arith) (omega arith) (omega arith)
 
-  pub span-positive : 0 < group.windows * group.len
-  span-positive = mul-pos factors-positive.0 factors-positive.1
+  pub length-small : {g : ℕ} → g < cap (p - 1 + q) → s * (g + 1) ^ q ≤ 2 ^ 58
+  length-small capped = le_trans (mul-le-mul h.scale_high (length-power capped)) (lit≤ tt)
 
-  factors : (group.windows ≤ group.windows * group.len) × (group.len ≤ group.windows * group.len)
-  factors = product-factors group.windows group.len factors-positive.0 factors-positive.1
+  -- the index of a group is at most its start
+  pub index-small : (g : ℕ) → r * power_sum (p - 1) g ≤ r * s * power_sum (p - 1 + q) g
+  index-small g =
+      omega (arith, cut-sizes p r g, cut-power_sum p q r s g h, index_le_cut (power_length p q r s) (cut (group_size p r) g) (power_length-positive h))
 
-  pub newer-le-start : (group.newer ≤ group.index) × (group.index ≤ group.start)
-  newer-le-start =
-      let order = Groups.group_le_age (group_size p r) (group_length q s) sizes lengths (in-group {age = group.start} (omega arith)) in
-      (order.0, order.1)
+  -- a group that starts at an age or before it
+  in-group : (g age : ℕ) → r * s * power_sum (p - 1 + q) g ≤ age →
+      InGroup (group_size p r) (group_length q s) g (cut (group_size p r) g) (r * s * power_sum (p - 1 + q) g) age
+  unfolding power_length
+  in-group g age begun = record { index_is = refl; start_is = sym (cut-power_sum p q r s g h); begun = begun }
 
-  -- the group after one that ends at the greatest age or before it
-  module _ (ends : group.start + group.windows * group.len ≤ MOST_VALUES) where
-    pub windows-next : ((group.newer + 2) ^ (p - 1) ≤ r * (group.newer + 2) ^ (p - 1)) × (r * (group.newer + 2) ^ (p - 1) ≤ 8 * group.windows) ×
-        (group.windows ≤ 2 ^ 40)
-    windows-next =
-        let next = scaled-next r (p - 1) group.newer h.repeat_low (omega (arith, h.power_high)) in
-        (next.0, rw at.windows next.1, omega (arith, factors.0))
+  pub length-positive : (g : ℕ) → 0 < group_length q s g
+  length-positive g = mul-pos h.scale_low (one-le-pow q (g + 1) (omega arith))
 
-    pub len-next : ((group.newer + 2) ^ q ≤ s * (group.newer + 2) ^ q) × (s * (group.newer + 2) ^ q ≤ 8 * group.len) × (group.len ≤ 2 ^ 40)
-    len-next =
-        let next = scaled-next s q group.newer h.scale_low h.widening_high in
-        (next.0, rw at.len next.1, omega (arith, factors.1))
+  -- the window of an age, in the last group that starts at it or before
+  module _ (g age : ℕ) (begun : r * s * power_sum (p - 1 + q) g ≤ age) (next : age < r * s * power_sum (p - 1 + q) (g + 1)) where
+    abbrev index : ℕ
+    index = cut (group_size p r) g + (age - r * s * power_sum (p - 1 + q) g) / group_length q s g
 
-    pub IsGroup-after : IsGroup p q r s (record {
-      newer = group.newer + 1;
-      index = group.index + group.windows;
-      start = group.start + group.windows * group.len;
-      windows = r * (group.newer + 2) ^ (p - 1);
-      len = s * (group.newer + 2) ^ q;
-    })
+    last : age - r * s * power_sum (p - 1 + q) g < group_size p r g * group_length q s g
+    last = let past = rw add-one at next in omega (arith, span p q r s g)
+
+    pub length-place : group_length q s g ≡ power_length p q r s index
     unfolding power_length
-    IsGroup-after =
-        let number : group.newer + 2 ≡ group.newer + 1 + 1 = omega arith in
-        let next = Groups.InGroup-next (group_size p r) (group_length q s) sizes lengths (in-group {age = MOST_VALUES} (omega arith))
-        (rw (at.windows, at.len) at ends) in
-        record {
-          index = rw at.windows next.index_is;
-          start = rw (at.windows, at.len) next.start_is;
-          windows = rw number refl;
-          len = rw number refl;
-          short = omega (arith, mul-le-mul windows-next.1 len-next.1);
-        }
+    length-place = Groups.grouped-place (group_size p r) (group_length q s) sizes lengths (in-group g age begun) last
 
-  -- the window of an age that the group holds
-  module _ {age : ℕ} (begun : group.start ≤ age) (last : age - group.start < group.windows * group.len) where
-    pub length-place : group.len ≡ power_length p q r s (group.index + (age - group.start) / group.len)
+    pub cut-place : r * s * power_sum (p - 1 + q) g + (age - r * s * power_sum (p - 1 + q) g) / group_length q s g * group_length q s g ≡
+        cut (power_length p q r s) index
     unfolding power_length
-    length-place = rw at.len (Groups.grouped-place (group_size p r) (group_length q s) sizes lengths (in-group begun) (rw (at.windows, at.len) at last))
+    cut-place = Groups.cut-place (group_size p r) (group_length q s) sizes lengths (in-group g age begun) last
 
-    pub cut-place : group.start + (age - group.start) / group.len * group.len ≡ cut (power_length p q r s) (group.index + (age - group.start) / group.len)
+    pub holds-place : Holds (power_length p q r s) index age
     unfolding power_length
-    cut-place = rw at.len (Groups.cut-place (group_size p r) (group_length q s) sizes lengths (in-group begun) (rw (at.windows, at.len) at last))
+    holds-place = Groups.holds-place (group_size p r) (group_length q s) sizes lengths (in-group g age begun) last
 
-    pub holds-place : Holds (power_length p q r s) (group.index + (age - group.start) / group.len) age
+    pub place_le_age : index ≤ age
+    place_le_age = omega (arith, holds-place.start, index_le_cut (power_length p q r s) index (power_length-positive h))
+
+  -- where the groups before one have windows shorter than a length
+  module _ (g wanted : ℕ) (short : (newer : ℕ) → newer < g → group_length q s newer < wanted) where
+    short-before : (j : ℕ) → j < cut (group_size p r) g → power_length p q r s j < wanted
     unfolding power_length
-    holds-place = rw at.len (Groups.holds-place (group_size p r) (group_length q s) sizes lengths (in-group begun) (rw (at.windows, at.len) at last))
+    short-before j inside =
+        let newer = index_of (group_size p r) j in
+        let here = holds-index_of (group_size p r) j sizes in
+        let below : newer < g = elim (cases_lt newer g) [
+          | inl before ↦ before
+          | inr after ↦ absurd (omega (arith, here.start, cut-monotone (group_size p r) g newer after))
+        ] in
+        short newer below
 
-    pub place_le_age : group.index + (age - group.start) / group.len ≤ age
-    place_le_age =
-        omega (arith, holds-place.start, index_le_cut (power_length p q r s) (group.index + (age - group.start) / group.len) (power_length-positive h))
+    pub NoneOfLength-past : MOST_VALUES < r * s * power_sum (p - 1 + q) g → NoneOfLength (power_length p q r s) 0 wanted
+    NoneOfLength-past past j from enough = elim (cases_lt j (cut (group_size p r) g)) [
+      | inl inside ↦ absurd (omega (arith, short-before j inside))
+      | inr after ↦ omega (arith, cut-power_sum p q r s g h, cut-monotone (power_length p q r s) (cut (group_size p r) g) j after)
+    ]
 
-  -- where the windows before a group are shorter than a length
-  module _ {wanted : ℕ} (before : (j : ℕ) → j < group.index → power_length p q r s j < wanted) where
-    pub short-next : group.len < wanted → (j : ℕ) → j < group.index + group.windows → power_length p q r s j < wanted
-    unfolding power_length
-    short-next short j inside =
-        Groups.short-next (group_size p r) (group_length q s) sizes lengths (in-group {age = group.start} (omega arith)) before (rw at.len at short) j
-        (rw at.windows at inside)
+    -- the first window of the group is found, where it begins early enough
+    module _ (spot : Spot) (index_is : spot.index ≡ cut (group_size p r) g) (start_is : spot.start ≡ r * s * power_sum (p - 1 + q) g)
+        (len_is : spot.len ≡ group_length q s g) (long : wanted ≤ group_length q s g) (early : r * s * power_sum (p - 1 + q) g ≤ MOST_VALUES) where
+      found : FindsOfLength (power_length p q r s) 0 wanted
+          (record { index = cut (group_size p r) g; start = r * s * power_sum (p - 1 + q) g; len = group_length q s g })
+      unfolding power_length
+      found = Groups.FindsOfLength-group (group_size p r) (group_length q s) sizes lengths (in-group g MOST_VALUES early) short-before long refl
 
-    pub NoneOfLength-after : group.len < wanted → group.start ≤ MOST_VALUES → MOST_VALUES - group.start < group.windows * group.len →
-        NoneOfLength (power_length p q r s) 0 wanted
-    unfolding power_length
-    NoneOfLength-after short begun past =
-        Groups.NoneOfLength-next (group_size p r) (group_length q s) sizes lengths (in-group {age = MOST_VALUES} begun) before (rw at.len at short)
-        refl (rw (at.windows, at.len) at past)
+      pub FindsOfLength-group : FindsOfLength (power_length p q r s) 0 wanted spot
+      FindsOfLength-group = record {
+        window = record { start = rw (start_is, index_is) found.window.start; len = rw (len_is, index_is) found.window.len };
+        first = rw index_is found.first;
+        early = rw start_is found.early;
+      }
 
-    pub FindsOfLength-group : wanted ≤ group.len → group.start ≤ MOST_VALUES →
-        FindsOfLength (power_length p q r s) 0 wanted (record { index = group.index; start = group.start; len = group.len })
-    unfolding power_length
-    FindsOfLength-group long begun =
-        rw at.len (Groups.FindsOfLength-group (group_size p r) (group_length q s) sizes lengths (in-group {age = MOST_VALUES} begun) before
-        (rw at.len at long) refl)
-
--- where q is 0 all windows have one length
-pub even-length : (p q r s i : ℕ) → q ≡ 0 → power_length p q r s i ≡ s
-unfolding power_length
-even-length p q r s i even = rw (even, pow-zero) (omega arith)
-
-pub even-cut : (p q r s i : ℕ) → q ≡ 0 → cut (power_length p q r s) i ≡ i * s
-even-cut p q r s zero even = omega arith
-even-cut p q r s (suc i) even = omega (arith, even-cut p q r s i even, even-length p q r s i even)
-
-pub even-holds : (p q r s age : ℕ) → q ≡ 0 → 1 ≤ s → Holds (power_length p q r s) (age / s) age
-even-holds p q r s age even some = record {
-  start = omega (arith, even-cut p q r s (age / s) even, div-mul-le_self age s);
-  end = omega (arith, even-cut p q r s (age / s) even, even-length p q r s (age / s) even, lt-div-mul-add {a = age} some);
-}
-
-pub NoneOfLength-even : (p q r s wanted : ℕ) → q ≡ 0 → s < wanted → NoneOfLength (power_length p q r s) 0 wanted
-NoneOfLength-even p q r s wanted even short j from long = absurd (omega (arith, even-length p q r s j even))
-
--- a group starts at r * s times the power sum of the groups before it
-span-sum : (p q r s g : ℕ) → cut (λ j. group_size p r j * group_length q s j) g ≡ r * s * power_sum (p - 1 + q) g
-span-sum p q r s zero = omega arith
-span-sum p q r s (suc g) =
-    let span : group_size p r g * group_length q s g ≡ r * s * (g + 1) ^ (p - 1 + q) =
-    mul-mul-mul_comm r ((g + 1) ^ (p - 1)) s ((g + 1) ^ q) ∙ ap (λ n. r * s * n) (sym (pow-add (g + 1) (p - 1) q)) in
-    omega (arith, span-sum p q r s g, span)
-
-pub cut-power_sum : (p q r s g : ℕ) → IsPower p q r s → cut (power_length p q r s) (cut (group_size p r) g) ≡ r * s * power_sum (p - 1 + q) g
-unfolding power_length
-cut-power_sum p q r s g h = cut-groups (group_size p r) (group_length q s) g (group_size-positive h) ∙ span-sum p q r s g
+-- no group has shorter windows than a newer one
+pub length-monotone : (q s i j : ℕ) → i ≤ j → group_length q s i ≤ group_length q s j
+length-monotone q s i j order = mul-le-mul_left s (pow-le-pow_left (omega arith) q)

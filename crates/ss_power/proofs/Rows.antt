@@ -3,11 +3,14 @@ use Rattle.std.proofs.Common.{◌≡◌, ◌^◌, ℕ, false, true, Bool, [], �
 use Rattle.ss_windowing.specs.Windowing.{cut, fits, index_of}
 use Rattle.ss_power.specs.Power.{group_size, group_length, power_length}
 use Rattle.ss_power.specs.PowerSum.{cap, power_sum}
-use Rattle.ss_power.specs.declared.power.TheConstants.{LEAST_POWER, GREATEST_POWER, GREATEST_WIDENING}
+use Rattle.ss_power.specs.declared.power.TheConstants.{LEAST_POWER, GREATEST_POWER, GREATEST_WIDENING, MOST_TICKS}
 use Rattle.ss_power.specs.declared.power_sum.TheConstants.{GREATEST_EXPONENT}
 
 powers : LEAST_POWER ∷ GREATEST_POWER ∷ GREATEST_WIDENING ∷ [] ≡ 1 ∷ 4 ∷ 3 ∷ []
 powers = refl
+
+most_ticks : MOST_TICKS ≡ 44
+most_ticks = refl
 
 greatest_exponent : GREATEST_EXPONENT ≡ 6
 greatest_exponent = refl

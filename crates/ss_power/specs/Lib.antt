@@ -2,4 +2,3 @@ pub mod PowerSum
 pub mod Power
 pub mod PowerLaws
 pub mod Family
-pub mod Group

@@ -1,11 +1,10 @@
 //! Power-law target windows, whose length grows with a power of their age, and power sums.
 #![tactic(auto)]
 
-mod group;
 mod laws;
 mod power;
 mod power_sum;
 
 pub use laws::{groups_start_at_power_sums, power_lengths_never_fall, sums_at_caps_pass_every_age};
-pub use power::{GREATEST_POWER, GREATEST_WIDENING, LEAST_POWER, Power};
+pub use power::{GREATEST_POWER, GREATEST_WIDENING, LEAST_POWER, MOST_TICKS, Power};
 pub use power_sum::{GREATEST_EXPONENT, PowerSum, power_sum_upto};

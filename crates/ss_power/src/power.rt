@@ -1,10 +1,16 @@
 // The power-law family of targets.
-ghost use Rattle.std.specs.Prelude.{◌≡◌, ◌≤◌, ◌↔◌, ℕ, IsOk, IfOk, IfSome, IfNone};
+ghost use Rattle.std.specs.Prelude.{◌≡◌, ◌+◌, ◌-◌, ◌*◌, ◌<◌, ◌≤◌, ◌↔◌, ℕ, IsOk, IfOk, IfSome, IfNone};
+ghost use Rattle.ss_steps.specs.Steps.{IsFresh};
+ghost use Rattle.ss_windowing.specs.FirstFit.{FindsOfLength, NoneOfLength};
 ghost use Rattle.ss_windowing.specs.Windowing.{cut, Holds};
-ghost use Rattle.ss_power.specs.Power.{IsPower, power_length};
+ghost use Rattle.ss_power.specs.Power.{group_length, group_size, IsPower, power_length};
+ghost use Rattle.ss_power.specs.PowerSum.{cap, power_sum};
 
-use crate::group::{after, newest};
+use crate::power_sum::{cap_of_exponent, last_sum_within, power_sum_upto};
+use ss_steps::Steps;
 use ss_windowing::{Decay, GREATEST_SCALE, MOST_REPEAT, MOST_VALUES, Param, Spot};
+use std::marker::Brand;
+use std::sync::ledger::{Blank, Ledger};
 
 /// The least P of a power-law target, by which group g has g^(P-1) times the windows of the first.
 pub const LEAST_POWER: u32 = 1;
@@ -14,6 +20,9 @@ pub const GREATEST_POWER: u32 = 4;
 
 /// The greatest Q of a power-law target, by which group g has g^Q times the length of the first; the least is 0.
 pub const GREATEST_WIDENING: u32 = 3;
+
+/// How often the counter of `seek` ticks at most.
+pub const MOST_TICKS: u64 = 44;
 
 /// A target whose group g = 1, 2, 3, .. has `repeat * g^(power-1)` windows of length `scale * g^widening`, counted back from
 /// the newest value. docs/DEFINITIONS.md ("Targets") has the first lengths of some.
@@ -58,40 +67,104 @@ impl Power {
         (self.power, self.widening, self.repeat, self.scale)
     }
 
-    // The window of an age, where all windows have one length.
-    fn even_window_at(&self, age: u64) -> Spot
-        requires even { self.now.widening ≡ 0 }
+    /// The window that holds an age, as `window_at` gives it. Its group is found by halves, in at most `MOST_TICKS` ticks.
+    pub fn seek<L: Ledger>(&self, age: u64, steps: &mut Steps<L>) -> Spot
+        requires { age ≤ MOST_VALUES }
+        ensures holds { Holds (power_lengths self.now) result.index age }
+        ensures start { result.start ≡ cut (power_lengths self.now) result.index }
+        ensures len { result.len ≡ power_lengths self.now result.index }
+        ensures ticks { steps.new ≤ steps.old + MOST_TICKS }
+    {
+        let group = last_sum_within(self.exponent(), age / self.unit(), steps);
+        let first = self.first_of_group(group, steps);
+        let place = (age - first.start) / first.len;
+        Spot {
+            index: first.index + place,
+            start: first.start + place * first.len,
+            len: first.len,
+        }
+    }
+
+    // The exponent of the power sums at which groups start.
+    fn exponent(&self) -> u32
+        ensures { result ≡ self.now.power - 1 + self.now.widening }
+    {
+        self.power - 1 + self.widening
+    }
+
+    // By how much a group starts later for each one more in its power sum.
+    fn unit(&self) -> u64
+        ensures { result ≡ self.now.repeat * self.now.scale }
+    {
+        u64::from(self.repeat) * u64::from(self.scale)
+    }
+
+    // The length of the windows of the group with so many newer ones.
+    fn length_of_group(&self, newer: u64) -> u64
+        requires { newer < cap (self.now.power - 1 + self.now.widening) }
+        ensures { result ≡ group_length self.now.widening self.now.scale newer }
+    {
+        u64::from(self.scale) * (newer + 1).pow(self.widening)
+    }
+
+    // The first window of the group with so many newer ones, where it starts at the greatest age or before.
+    fn first_of_group<L: Ledger>(&self, newer: u64, steps: &mut Steps<L>) -> Spot
+        requires capped { newer < cap (self.now.power - 1 + self.now.widening) }
+        requires early { self.now.repeat * self.now.scale * power_sum (self.now.power - 1 + self.now.widening) newer ≤ MOST_VALUES }
+        ensures index { result.index ≡ cut (group_size self.now.power self.now.repeat) newer }
+        ensures start { result.start ≡ self.now.repeat * self.now.scale * power_sum (self.now.power - 1 + self.now.widening) newer }
+        ensures len { result.len ≡ group_length self.now.widening self.now.scale newer }
+        ensures ticks { steps.new ≡ steps.old + 2 }
+    {
+        Spot {
+            index: u64::from(self.repeat) * power_sum_upto(self.power - 1, newer, steps),
+            start: self.unit() * power_sum_upto(self.exponent(), newer, steps),
+            len: self.length_of_group(newer),
+        }
+    }
+
+    // How many groups have shorter windows than a length, of those below the cap: by halves.
+    fn shorter_groups(&self, len: u64) -> u64
+        ensures short { (newer : ℕ) → newer < result → group_length self.now.widening self.now.scale newer < len }
+        ensures long { result < cap (self.now.power - 1 + self.now.widening) → len ≤ group_length self.now.widening self.now.scale result }
+        ensures capped { result ≤ cap (self.now.power - 1 + self.now.widening) }
+    {
+        let mut low = 0;
+        let mut high = cap_of_exponent(self.exponent());
+        while low < high {
+            let middle = low + (high - low) / 2;
+            if self.length_of_group(middle) < len {
+                low = middle + 1;
+            } else {
+                high = middle;
+            }
+        }
+        low
+    }
+
+    // The window of an age, and no count of the ticks.
+    fn seek_uncounted<L: Ledger>(&self, age: u64, blank: Blank) -> Spot
+        requires fresh { IsFresh L.name L.parts blank }
         requires recent { age ≤ MOST_VALUES }
         ensures holds { Holds (power_lengths self.now) result.index age }
         ensures start { result.start ≡ cut (power_lengths self.now) result.index }
         ensures len { result.len ≡ power_lengths self.now result.index }
     {
-        let len = u64::from(self.scale);
-        let index = age / len;
-        Spot {
-            index,
-            start: index * len,
-            len,
-        }
+        self.seek(age, &mut Steps::<L>::new(blank))
     }
 
-    // The window of an age, by a walk over the groups.
-    fn walk_to_age(&self, age: u64) -> Spot
-        requires { age ≤ MOST_VALUES }
-        ensures holds { Holds (power_lengths self.now) result.index age }
-        ensures start { result.start ≡ cut (power_lengths self.now) result.index }
-        ensures len { result.len ≡ power_lengths self.now result.index }
+    // The first window of the first group whose windows have at least a length.
+    fn first_long<L: Ledger>(&self, len: u64, blank: Blank) -> Option<Spot>
+        requires { IsFresh L.name L.parts blank }
+        ensures some { IfSome result (FindsOfLength (power_lengths self.now) 0 len) }
+        ensures none { IfNone result (NoneOfLength (power_lengths self.now) 0 len) }
     {
-        let mut group = newest(self.power, self.widening, self.repeat, self.scale);
-        while group.windows * group.len <= age - group.start {
-            group = after(self.power, self.widening, self.repeat, self.scale, group);
+        let mut steps = Steps::<L>::new(blank);
+        let group = self.shorter_groups(len);
+        if MOST_VALUES / self.unit() < power_sum_upto(self.exponent(), group, &mut steps) {
+            return None;
         }
-        let place = (age - group.start) / group.len;
-        Spot {
-            index: group.index + place,
-            start: group.start + place * group.len,
-            len: group.len,
-        }
+        Some(self.first_of_group(group, &mut steps))
     }
 }
 
@@ -106,28 +179,10 @@ impl Decay for Power {
     ghost never_falls = { λ target. power_length-never_falls target.in_range };
 
     fn window_at(&self, age: u64) -> Spot {
-        if self.widening == 0 {
-            self.even_window_at(age)
-        } else {
-            self.walk_to_age(age)
-        }
+        self.seek_uncounted::<Brand>(age, Blank::new(1))
     }
 
     fn first_at_least(&self, len: u64) -> Option<Spot> {
-        if self.widening == 0 && u64::from(self.scale) < len {
-            return None;
-        }
-        let mut group = newest(self.power, self.widening, self.repeat, self.scale);
-        while group.len < len {
-            if MOST_VALUES - group.start < group.windows * group.len {
-                return None;
-            }
-            group = after(self.power, self.widening, self.repeat, self.scale, group);
-        }
-        Some(Spot {
-            index: group.index,
-            start: group.start,
-            len: group.len,
-        })
+        self.first_long::<Brand>(len, Blank::new(1))
     }
 }

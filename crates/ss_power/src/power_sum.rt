@@ -1,5 +1,5 @@
 // Power sums.
-ghost use Rattle.std.specs.Prelude.{◌≡◌, ◌+◌, ◌≤◌};
+ghost use Rattle.std.specs.Prelude.{◌≡◌, ◌+◌, ◌<◌, ◌≤◌};
 ghost use Rattle.ss_power.specs.PowerSum.{cap, power_sum};
 
 use ss_steps::Steps;
@@ -48,6 +48,31 @@ macro_rules! cap_of {
     };
 }
 
+// The closed form of each exponent's sum: of n, of `pair`, which is n(n+1), and of `odd`, which is 2n+1.
+macro_rules! form_of {
+    (0, $n:expr, $pair:expr, $odd:expr) => {
+        $n
+    };
+    (1, $n:expr, $pair:expr, $odd:expr) => {
+        $pair / 2
+    };
+    (2, $n:expr, $pair:expr, $odd:expr) => {
+        $pair * $odd / 6
+    };
+    (3, $n:expr, $pair:expr, $odd:expr) => {
+        $pair * $pair / 4
+    };
+    (4, $n:expr, $pair:expr, $odd:expr) => {
+        (3 * $pair * $pair - $pair) * $odd / 30
+    };
+    (5, $n:expr, $pair:expr, $odd:expr) => {
+        (2 * $pair * $pair * $pair - $pair * $pair) / 12
+    };
+    (6, $n:expr, $pair:expr, $odd:expr) => {
+        (3 * $pair * $pair * $pair - 3 * $pair * $pair + $pair) * $odd / 42
+    };
+}
+
 // The sum of each exponent.
 macro_rules! sum_of {
     ($exponent:literal, $n:expr, $steps:expr) => {
@@ -75,11 +100,18 @@ impl<const E: u32> PowerSum<E> {
         ensures step { steps.new ≡ steps.old + 1 }
     {
         steps.tick();
-        let mut sum = 0u64;
-        for j in 0..n {
-            sum += (j + 1).pow(E);
-        }
-        sum
+        PowerSum::<E>::closed_form(u128::from(n)) as u64
+    }
+
+    // The closed form of the sum.
+    fn closed_form(n: u128) -> u128
+        requires exponent { E ≤ GREATEST_EXPONENT }
+        requires capped { n ≤ cap E }
+        ensures { result ≡ power_sum E n }
+    {
+        let pair = n * (n + 1);
+        let odd = 2 * n + 1;
+        by_exponent!(E, form_of, n, pair, odd)
     }
 }
 
@@ -91,4 +123,34 @@ pub fn power_sum_upto<L: Ledger>(exponent: u32, n: u64, steps: &mut Steps<L>) ->
     ensures step { steps.new ≡ steps.old + 1 }
 {
     by_exponent!(exponent, sum_of, n, steps)
+}
+
+// The cap of an exponent that is known only when the program runs.
+pub fn cap_of_exponent(exponent: u32) -> u64
+    requires { exponent ≤ GREATEST_EXPONENT }
+    ensures { result ≡ cap exponent }
+{
+    by_exponent!(exponent, cap_of)
+}
+
+// The greatest n whose power sum is at most so much: by halves, with one step for each.
+pub fn last_sum_within<L: Ledger>(exponent: u32, most: u64, steps: &mut Steps<L>) -> u64
+    requires exponent { exponent ≤ GREATEST_EXPONENT }
+    requires passed { most < power_sum exponent (cap exponent) }
+    ensures within { power_sum exponent result ≤ most }
+    ensures last { most < power_sum exponent (result + 1) }
+    ensures capped { result < cap exponent }
+    ensures ticks { steps.new ≤ steps.old + 42 }
+{
+    let mut low = 0;
+    let mut high = cap_of_exponent(exponent);
+    while 1 < high - low {
+        let middle = low + (high - low) / 2;
+        if power_sum_upto(exponent, middle, steps) <= most {
+            low = middle;
+        } else {
+            high = middle;
+        }
+    }
+    low
 }

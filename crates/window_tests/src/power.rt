@@ -1,13 +1,14 @@
 // Worked rows: tables of windows and of power sums, and the edges of the parameters.
+ghost use Rattle.std.specs.Prelude.{◌+◌, ◌≤◌};
 ghost use Rattle.ss_steps.specs.Steps.{IsFresh};
 
-use super::windowing::{Window, at, next};
+use super::windowing::{Window, at, next, parts};
 use ss_power::{
     Power, PowerSum, groups_start_at_power_sums, power_lengths_never_fall, power_sum_upto,
     sums_at_caps_pass_every_age,
 };
 use ss_steps::Steps;
-use ss_windowing::Param;
+use ss_windowing::{MOST_VALUES, Param, Spot};
 use std::marker::Brand;
 use std::sync::ledger::{Blank, Ledger};
 use std::test::Fail;
@@ -15,7 +16,7 @@ use std::test::Fail;
 // The parameters, an age, and the window that holds it.
 type Row = (u32, u32, u32, u32, u64, Window);
 
-const WINDOWS: [Row; 34] = [
+const WINDOWS: [Row; 37] = [
     (1, 1, 1, 1, 0, (0, 0, 1)),
     (1, 1, 1, 1, 1, (1, 1, 2)),
     (1, 1, 1, 1, 5, (2, 3, 3)),
@@ -27,6 +28,16 @@ const WINDOWS: [Row; 34] = [
     (2, 1, 1, 1, 5, (3, 5, 3)),
     (2, 1, 1, 1, 8, (4, 8, 3)),
     (2, 1, 1, 1, 11, (5, 11, 3)),
+    (2, 1, 1, 1, 1, (1, 1, 2)),
+    (2, 1, 1, 1, 1 << 20, (10_734, 1_048_502, 147)),
+    (
+        2,
+        1,
+        1,
+        1,
+        1 << 40,
+        (110_794_293, 1_099_511_625_003, 14_886),
+    ),
     (1, 0, 1, 2, 1, (0, 0, 2)),
     (1, 0, 1, 2, 2, (1, 2, 2)),
     (1, 0, 1, 2, 9, (4, 8, 2)),
@@ -73,9 +84,25 @@ const WINDOWS: [Row; 34] = [
     (1, 1, 4, 1, 86_299, (828, 86_112, 208)),
 ];
 
+// A caller that stands on the bound of a look-up. For `power 1 0 1 1` each age takes 44 ticks.
+fn seek<L: Ledger>(target: &Power, age: u64, steps: &mut Steps<L>) -> Spot
+    requires { age ≤ MOST_VALUES }
+    ensures { steps.new ≤ steps.old + 44 }
+{
+    target.seek(age, steps)
+}
+
+// The window of an age up to the greatest, looked up with a counter.
+fn sought<L: Ledger>(target: &Power, age: u64, blank: Blank) -> Window
+    requires { IsFresh L.name L.parts blank }
+{
+    parts(seek(target, age.min(MOST_VALUES), &mut Steps::<L>::new(blank)))
+}
+
 fn holds(row: &Row) -> Result<bool, Param> {
     let target = Power::new(row.0, row.1, row.2, row.3)?;
-    Ok(at(&target, row.4) == row.5)
+    let same = sought::<Brand>(&target, row.4, Blank::new(1)) == at(&target, row.4);
+    Ok(same && at(&target, row.4) == row.5)
 }
 
 #[test]
@@ -162,9 +189,37 @@ const SUMS: [(u64, u64, u64); 7] = [
     (0, 1, 1_978_405),
 ];
 
+// The sum up to the cap of each exponent.
+fn sums_at_caps<L: Ledger>(blank: Blank) -> [u64; 7]
+    requires { IsFresh L.name L.parts blank }
+{
+    let mut steps = Steps::<L>::new(blank);
+    [
+        PowerSum::<0>::upto(PowerSum::<0>::cap(), &mut steps),
+        PowerSum::<1>::upto(PowerSum::<1>::cap(), &mut steps),
+        PowerSum::<2>::upto(PowerSum::<2>::cap(), &mut steps),
+        PowerSum::<3>::upto(PowerSum::<3>::cap(), &mut steps),
+        PowerSum::<4>::upto(PowerSum::<4>::cap(), &mut steps),
+        PowerSum::<5>::upto(PowerSum::<5>::cap(), &mut steps),
+        PowerSum::<6>::upto(PowerSum::<6>::cap(), &mut steps),
+    ]
+}
+
+// Added up term by term, but for the first.
+const AT_CAPS: [u64; 7] = [
+    1 << 42,
+    8_796_095_119_360,
+    11_728_660_905_984,
+    70_403_108_110_336,
+    225_730_095_096_320,
+    47_464_041_496_576,
+    82_637_624_692_544,
+];
+
 #[test]
 fn power_sums(rt: HostRuntime) {
     assert!(rt; sums::<Brand>(Blank::new(1)) == SUMS);
+    assert!(rt; sums_at_caps::<Brand>(Blank::new(1)) == AT_CAPS);
     assert!(rt; PowerSum::<0>::cap() == 1 << 42);
     assert!(rt; PowerSum::<6>::cap() == 1 << 7);
 }

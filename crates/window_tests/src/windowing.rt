@@ -9,7 +9,7 @@ use std::test::Fail;
 // The index, the start and the length of a window.
 pub type Window = (u64, u64, u64);
 
-fn parts(spot: Spot) -> Window {
+pub fn parts(spot: Spot) -> Window {
     (spot.index, spot.start, spot.len)
 }
 
