@@ -1,4 +1,5 @@
-pub mod SearchLemmas
-pub mod HeldLemmas
 pub mod PlaceLemmas
-pub mod Rows
+pub mod IndexLemmas
+pub mod HeldLemmas
+pub mod PushLemmas
+pub mod CutLemmas
