@@ -3,3 +3,4 @@ pub mod IndexLemmas
 pub mod HeldLemmas
 pub mod PushLemmas
 pub mod CutLemmas
+pub mod Rows

@@ -149,8 +149,8 @@ impl Line {
         ensures look { steps.new ≡ steps.old + 1 }
     {
         steps.tick();
-        let node = self.chain.nodes[at.0 as usize];
-        self.chain.join(node.before, node.behind);
+        let cut = self.chain.nodes[at.0 as usize];
+        self.chain.join(cut.before, cut.behind);
         self.chain.give_back(at);
         self.len -= 1;
         self.spare += 1;

@@ -5,8 +5,8 @@ use Rattle.ss_line.proofs.HeldLemmas.{Joins-same, within-stands, within-place_be
 use Rattle.ss_line.proofs.CutLemmas.{IsHeld-cut}
 use Rattle.ss_line.proofs.line.Line.cut_out.Goals as goal
 
-pub index-node-requires : goal.index-node-requires
-index-node-requires g c =
+pub index-cut-requires : goal.index-cut-requires
+index-cut-requires g c =
     let held = subst (λ (line : LineState). IsHeld line c.self.inside.chain c.self.inside.len) c.self.view_is c.self.invariant in
     let within = within-stands _ _ _ held c.args.at c.requires in
     omega (arith, within)
@@ -14,12 +14,12 @@ index-node-requires g c =
 pub join-requires-clause-before : goal.join-requires-clause-before
 join-requires-clause-before g c =
     let held = subst (λ (line : LineState). IsHeld line c.self.inside.chain c.self.inside.len) c.self.view_is c.self.invariant in
-    within-place_before _ _ _ held _ _ (node-before _ _ _ held c.args.at c.requires c.index-node.result.now c.index-node.ensures)
+    within-place_before _ _ _ held _ _ (node-before _ _ _ held c.args.at c.requires c.index-cut.result.now c.index-cut.ensures)
 
 pub join-requires-clause-behind : goal.join-requires-clause-behind
 join-requires-clause-behind g c =
     let held = subst (λ (line : LineState). IsHeld line c.self.inside.chain c.self.inside.len) c.self.view_is c.self.invariant in
-    within-place_at _ _ _ held _ _ (node-behind _ _ _ held c.args.at c.requires c.index-node.result.now c.index-node.ensures)
+    within-place_at _ _ _ held _ _ (node-behind _ _ _ held c.args.at c.requires c.index-cut.result.now c.index-cut.ensures)
 
 pub give_back-requires : goal.give_back-requires
 give_back-requires g c =
@@ -30,8 +30,8 @@ give_back-requires g c =
 pub invariant_of-self : goal.invariant_of-self
 invariant_of-self g c =
     let held = subst (λ (line : LineState). IsHeld line c.self.inside.chain c.self.inside.len) c.self.view_is c.self.invariant in
-    let before = node-before _ _ _ held c.args.at c.requires c.index-node.result.now c.index-node.ensures in
-    let behind = node-behind _ _ _ held c.args.at c.requires c.index-node.result.now c.index-node.ensures in
+    let before = node-before _ _ _ held c.args.at c.requires c.index-cut.result.now c.index-cut.ensures in
+    let behind = node-behind _ _ _ held c.args.at c.requires c.index-cut.result.now c.index-cut.ensures in
     let joins = Joins-same _ _ _ _ _ _ before behind c.join.ensures in
     subst (λ (spare : ℕ). IsHeld (line_of c.give_back.new.self (c.self.inside.len - 1) (spare + 1)) c.give_back.new.self (c.self.inside.len - 1))
     (ap (λ (line : LineState). line.spare) (sym c.self.view_is))
@@ -40,8 +40,8 @@ invariant_of-self g c =
 pub returns-clause-entries : goal.returns-clause-entries
 returns-clause-entries g c =
     let held = subst (λ (line : LineState). IsHeld line c.self.inside.chain c.self.inside.len) c.self.view_is c.self.invariant in
-    let before = node-before _ _ _ held c.args.at c.requires c.index-node.result.now c.index-node.ensures in
-    let behind = node-behind _ _ _ held c.args.at c.requires c.index-node.result.now c.index-node.ensures in
+    let before = node-before _ _ _ held c.args.at c.requires c.index-cut.result.now c.index-cut.ensures in
+    let behind = node-behind _ _ _ held c.args.at c.requires c.index-cut.result.now c.index-cut.ensures in
     let joins = Joins-same _ _ _ _ _ _ before behind c.join.ensures in
     ap (λ (line : LineState). line.entries)
     (line_of-held _ _ _ (IsHeld-cut _ _ _ held c.args.at c.requires _ _ joins c.give_back.ensures (c.self.inside.len - 1) (omega (arith, c.requires, held.whole))))
