@@ -1,5 +1,6 @@
 -- An entry less in a line that is held, and another in place of one.
-use Rattle.std.proofs.Common.{◌≡◌, ◌≢◌, ◌∙◌, sym, ap, refl, subst, ℕ, zero, suc, ◌+◌, ◌≤◌, nat_eq, nat_lt, List, ◌∷◌, length}
+use Rattle.std.proofs.Common.{◌≡◌, ◌≢◌, ◌∙◌, sym, ap, refl, subst, ℕ, zero, suc, ◌+◌, ◌≤◌, nat_eq, nat_lt, List, ◌∷◌}
+use Rattle.std.proofs.Common.{length}
 use Rattle.std.proofs.Common.{count_by, arith, set, inl, inr, get_or, Some, vec_capacity}
 use Rattle.std.proofs.lemmas.Bool.{eq-eqb, cases_eq, cases_lt}
 use Rattle.std.proofs.lemmas.List.{length-set}
@@ -13,7 +14,8 @@ use Rattle.ss_line.specs.declared.chain.Chain.{Chain}
 use Rattle.ss_line.specs.Line.{LineState, StandsIn, is_at, index_of, place_at, place_before}
 use Rattle.ss_line.specs.Chain.{entry_in, behind_in, before_in, Joins, GivesBack, WritesEntry}
 use Rattle.ss_line.specs.Held.{IsHeld}
-use Rattle.ss_line.proofs.IndexLemmas.{counted, entry_there, place_at-index, not_placed, not_before, one_index, place_at-differ, place_before-differ, place_at-set, place_before-set}
+use Rattle.ss_line.proofs.IndexLemmas.{counted, entry_there, place_at-index, not_placed, not_before, one_index, place_at-differ, place_before-differ}
+use Rattle.ss_line.proofs.IndexLemmas.{place_at-set, place_before-set}
 use Rattle.ss_line.proofs.IndexLemmas.{slice_get-remove_below, slice_get-remove_above, place_at-remove_below, place_at-remove_above}
 use Rattle.ss_line.proofs.IndexLemmas.{place_before-remove_below, place_before-remove_above, slice_get-set_same, slice_get-set_other}
 use Rattle.ss_line.proofs.HeldLemmas.{one, one-le, is_place, apart}
@@ -31,7 +33,8 @@ module _ (line : LineState) (old : Chain) (len : ℕ) (held : IsHeld line old le
   free_differs k free is =
       omega (arith, held.once free, counted (is_place free) held.frees k free is (eq-eqb free.0 free.0 refl), one-le (nat_lt free.0 (length old.nodes.items)))
 
-  module _ (linked new : Chain) (joins : Joins old (place_before line.entries (index_of line.entries at)) (place_at line.entries (index_of line.entries at + 1)) linked)
+  module _ (linked new : Chain)
+      (joins : Joins old (place_before line.entries (index_of line.entries at)) (place_at line.entries (index_of line.entries at + 1)) linked)
       (gives : GivesBack linked at new) where
     -- a place that is neither this one nor the one before keeps what is behind it
     behind-other : (k : ℕ) → k ≤ length line.entries → k ≢ index_of line.entries at → k ≢ suc (index_of line.entries at) →
@@ -41,7 +44,8 @@ module _ (line : LineState) (old : Chain) (len : ℕ) (held : IsHeld line old le
         (same ∙ sym (place_at-index line.entries at stands))) ∙
         joins.behind_others _ (place_before-differ line.entries (apart line old len held) k index le (omega (arith, stands)) differ) ∙ held.behind k le
 
-    before-other : (k : ℕ) → k ≤ length line.entries → k ≢ index_of line.entries at + 1 → before_in new (place_at line.entries k) ≡ place_before line.entries k
+    before-other : (k : ℕ) → k ≤ length line.entries → k ≢ index_of line.entries at + 1 →
+        before_in new (place_at line.entries k) ≡ place_before line.entries k
     before-other k le differ =
         gives.before _ ∙
         joins.before_others _ (place_at-differ line.entries (apart line old len held) k (index + 1) le (omega (arith, stands)) differ) ∙ held.before k le
@@ -55,7 +59,8 @@ module _ (line : LineState) (old : Chain) (len : ℕ) (held : IsHeld line old le
         gives.behind (Some free) (λ same. not_placed line.entries free index none (place_at-index line.entries at stands ∙ sym same)) ∙
         joins.behind_others (Some free) (λ same. not_before line.entries free index none (sym same)) ∙ held.freed k free is
 
-    pub IsHeld-cut : (left : ℕ) → left + 1 ≡ len → IsHeld (record { entries = remove line.entries (index_of line.entries at); spare = line.spare + 1 }) new left
+    pub IsHeld-cut : (left : ℕ) → left + 1 ≡ len →
+        IsHeld (record { entries = remove line.entries (index_of line.entries at); spare = line.spare + 1 }) new left
     IsHeld-cut left fewer =
         let shorter : length (remove line.entries index) + 1 ≡ length line.entries = length-remove line.entries index stands in
         let nodes : length new.nodes.items ≡ length old.nodes.items = gives.size.nodes ∙ joins.size.nodes in
@@ -69,11 +74,14 @@ module _ (line : LineState) (old : Chain) (len : ℕ) (held : IsHeld line old le
           ];
           behind = λ k le. elim (cases_lt k index) [
             | inl before ↦ ap (behind_in new) (place_before-remove_below line.entries index k (omega (arith, before))) ∙
-                behind-other k (omega (arith, before, stands)) (λ same. absurd (omega (arith, before, same))) (λ same. absurd (omega (arith, before, same))) ∙
+                behind-other k (omega (arith, before, stands)) (λ same. absurd (omega (arith, before, same)))
+                (λ same. absurd (omega (arith, before, same))) ∙
                 sym (place_at-remove_below line.entries index k before)
             | inr past ↦ elim (cases_eq k index) [
-              | inl here ↦ ap (behind_in new) (place_before-remove_below line.entries index k (omega (arith, here)) ∙ ap (place_before line.entries) here) ∙
-                  gives.behind _ (λ same. place_before-differ line.entries (apart line old len held) index (suc index) (omega (arith, stands)) (omega (arith, stands))
+              | inl here ↦ ap (behind_in new) (place_before-remove_below line.entries index k (omega (arith, here)) ∙
+                  ap (place_before line.entries) here) ∙
+                  gives.behind _ (λ same. place_before-differ line.entries (apart line old len held) index (suc index) (omega (arith, stands))
+                  (omega (arith, stands))
                   (λ is. absurd (omega (arith, is))) (same ∙ sym (place_at-index line.entries at stands))) ∙
                   joins.behind_there ∙ ap (place_at line.entries) (omega (arith, here)) ∙ sym (place_at-remove_above line.entries index k past)
               | inr after ↦ ap (behind_in new) (place_before-remove_above line.entries index k (omega (arith, past, after))) ∙
@@ -87,7 +95,8 @@ module _ (line : LineState) (old : Chain) (len : ℕ) (held : IsHeld line old le
                 sym (place_before-remove_below line.entries index k (omega (arith, lt)))
             | inr past ↦ elim (cases_eq k index) [
               | inl here ↦ ap (before_in new) (place_at-remove_above line.entries index k past ∙ ap (place_at line.entries) (omega (arith, here))) ∙
-                  gives.before _ ∙ joins.before_there ∙ sym (place_before-remove_below line.entries index k (omega (arith, here)) ∙ ap (place_before line.entries) here)
+                  gives.before _ ∙ joins.before_there ∙ sym (place_before-remove_below line.entries index k (omega (arith, here)) ∙
+                  ap (place_before line.entries) here)
               | inr after ↦ ap (before_in new) (place_at-remove_above line.entries index k past) ∙
                   before-other (suc k) (omega (arith, le, shorter)) (λ same. after (omega (arith, same))) ∙
                   sym (place_before-remove_above line.entries index k (omega (arith, past, after)))
@@ -117,7 +126,8 @@ module _ (line : LineState) (old : Chain) (len : ℕ) (held : IsHeld line old le
     kept-set k e is =
         elim (cases_eq k index) [
           | inl here ↦ (
-              let same : (at, entry) ≡ e = (let there = slice_get-set_same line.entries index (at, entry) stands in let read = ap (slice_get with_entry) here in cc) in
+              let same : (at, entry) ≡ e = (let there = slice_get-set_same line.entries index (at, entry) stands in
+              let read = ap (slice_get with_entry) here in cc) in
               subst (λ (e : At × Entry). entry_in new e.0 ≡ Some e.1) same writes.there)
           | inr other ↦ (
               let was = sym (slice_get-set_other line.entries index k (at, entry) other) ∙ is in
@@ -132,7 +142,8 @@ module _ (line : LineState) (old : Chain) (len : ℕ) (held : IsHeld line old le
           frees = held.frees;
           whole = many ∙ held.whole;
           kept = kept-set;
-          behind = λ k le. ap (behind_in new) (place_before-set line.entries at entry k stands) ∙ writes.behind _ ∙ held.behind k (omega (arith, le, many)) ∙
+          behind = λ k le. ap (behind_in new) (place_before-set line.entries at entry k stands) ∙ writes.behind _ ∙
+              held.behind k (omega (arith, le, many)) ∙
               sym (place_at-set line.entries at entry k stands);
           before = λ k le. ap (before_in new) (place_at-set line.entries at entry k stands) ∙ writes.before _ ∙ held.before k (omega (arith, le, many)) ∙
               sym (place_before-set line.entries at entry k stands);

@@ -1,5 +1,6 @@
 -- A line as it is held: what is read in it, and what each change leaves.
-use Rattle.std.proofs.Common.{◌≡◌, ◌∙◌, sym, ap, refl, subst, ℕ, zero, suc, ◌+◌, ◌<◌, ◌≤◌, Bool, true, false, cond, nat_eq, nat_lt, List, [], ◌∷◌, length}
+use Rattle.std.proofs.Common.{◌≡◌, ◌∙◌, sym, ap, refl, subst, ℕ, zero, suc, ◌+◌, ◌<◌, ◌≤◌, Bool, true, false, cond, nat_eq, nat_lt}
+use Rattle.std.proofs.Common.{List, [], ◌∷◌, length}
 use Rattle.std.proofs.Common.{count_by, arith, get_or, inl, inr, Option, Some, None, IfSome}
 use Rattle.std.proofs.lemmas.Bool.{eq-eqb, cases_lt, cond-false, le-ltb}
 use Rattle.std.proofs.lemmas.List.Folds.{find_at}
@@ -30,7 +31,8 @@ is_place at free = nat_eq free.0 at.0
 
 -- the node of an entry, and then those behind it
 from_node : (nodes : List Node) (n : ℕ) (at : At) (entry : Entry) (behind : Option At) (rest : List (At × Entry)) (o : Option Node) →
-    option_and_then (λ node. Some node.entry) o ≡ Some entry → option_and_then (λ node. node.behind) o ≡ behind → entries_from nodes n behind ≡ rest →
+    option_and_then (λ node. Some node.entry) o ≡ Some entry → option_and_then (λ node. node.behind) o ≡ behind →
+    entries_from nodes n behind ≡ rest →
     (elim o [ None ↦ [] | Some node ↦ (at, node.entry) ∷ entries_from nodes n node.behind ]) ≡ (at, entry) ∷ rest
 from_node nodes n at entry behind rest None kept linked later = absurd (cc)
 from_node nodes n at entry behind rest (Some node) kept linked later =
@@ -106,7 +108,13 @@ module _ (line : LineState) (chain : Chain) (len : ℕ) (held : IsHeld line chai
         | inl lt ↦ lt
         | inr past ↦ (
             let there = entry_there line.entries at stands in
-            absurd (omega (arith, held.once at, cond-false {A = ℕ} _ 1 0 (le-ltb _ _ past), counted (is_at at) line.entries _ _ there.1 (eq-eqb at.0 at.0 refl))))
+            absurd (omega (
+              arith,
+              held.once at,
+              cond-false {A = ℕ} _ 1 0 (le-ltb _ _ past),
+              counted (is_at at) line.entries _ _ there.1
+                  (eq-eqb at.0 at.0 refl),
+            )))
       ]
 
   pub within-place_at : (k : ℕ) (o : Option At) → o ≡ place_at line.entries k → IfSome o (IsWithin chain)
@@ -135,7 +143,8 @@ module _ (line : LineState) (chain : Chain) (len : ℕ) (held : IsHeld line chai
   IsLine-held = record {
     most = held.most;
     below = λ k d lt. (
-        let stands = StandsIn-place_at line.entries k (get_or line.entries k d).0 (ap (option_map (λ (e : At × Entry). e.0)) (slice_get-get_or line.entries k d lt)) in
+        let stands = StandsIn-place_at line.entries k (get_or line.entries k d).0
+        (ap (option_map (λ (e : At × Entry). e.0)) (slice_get-get_or line.entries k d lt)) in
         let within = within-stands _ stands in
         omega (arith, within, held.used)
         );

@@ -1,5 +1,6 @@
 -- What stands at an index of a line that changes.
-use Rattle.std.proofs.Common.{◌≡◌, ◌≢◌, ◌∙◌, sym, ap, refl, ℕ, zero, suc, ◌+◌, ◌<◌, ◌≤◌, Bool, true, cond, List, [], ◌∷◌, ◌++◌, length, length-append, count_by, arith, set, inl, inr}
+use Rattle.std.proofs.Common.{◌≡◌, ◌≢◌, ◌∙◌, sym, ap, refl, ℕ, zero, suc, ◌+◌, ◌<◌, ◌≤◌, Bool, true, cond, List, []}
+use Rattle.std.proofs.Common.{◌∷◌, ◌++◌, length, length-append, count_by, arith, set, inl, inr}
 use Rattle.std.proofs.Common.{get_or, Some, None}
 use Rattle.std.proofs.lemmas.Bool.{eq-eqb, eqb-true, cases_eq, cases_lt, cond-true}
 use Rattle.std.proofs.lemmas.Option.{slice_get_past, slice_get_within, slice_get_cases, slice_get-get_or, get_or_from_slice_get}
@@ -64,7 +65,8 @@ module _ {X : Type 0} where
       omega (arith, get_or-le-sum_by one xs k x (slice_get_within xs k x is), ap one (get_or_from_slice_get xs k x x is), cond-true {A = ℕ} (p x) 1 0 passes)
 
   -- where at most one passes, it has one index
-  pub one_index : (p : X → Bool) (xs : List X) (k j : ℕ) (x y : X) → slice_get xs k ≡ Some x → slice_get xs j ≡ Some y → p x ≡ true → p y ≡ true →
+  pub one_index : (p : X → Bool) (xs : List X) (k j : ℕ) (x y : X) → slice_get xs k ≡ Some x → slice_get xs j ≡ Some y → p x ≡ true →
+      p y ≡ true →
       count_by p xs ≤ 1 → k ≡ j
   one_index p [] k j x y at_k at_j first second once = absurd (cc)
   one_index p (z ∷ zs) zero zero x y at_k at_j first second once = refl
@@ -176,7 +178,8 @@ module _ (entries : List (At × Entry)) where
   place_before-remove_above i (suc k) lt = place_at-remove_above i k (omega (arith, lt))
 
   -- another entry at the same place
-  pub place_at-set : (at : At) (entry : Entry) (k : ℕ) → StandsIn entries at → place_at (set entries (index_of entries at) (at, entry)) k ≡ place_at entries k
+  pub place_at-set : (at : At) (entry : Entry) (k : ℕ) → StandsIn entries at →
+      place_at (set entries (index_of entries at) (at, entry)) k ≡ place_at entries k
   place_at-set at entry k stands =
       elim (cases_eq k (index_of entries at)) [
         | inl same ↦ ap (place_at (set entries (index_of entries at) (at, entry))) same ∙

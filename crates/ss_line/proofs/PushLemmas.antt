@@ -1,5 +1,6 @@
 -- An entry more in a line that is held.
-use Rattle.std.proofs.Common.{◌≡◌, ◌≢◌, ◌∙◌, sym, ap, refl, subst, ℕ, suc, ◌+◌, ◌<◌, ◌≤◌, nat_eq, nat_lt, List, [], ◌∷◌, ◌++◌, length}
+use Rattle.std.proofs.Common.{◌≡◌, ◌≢◌, ◌∙◌, sym, ap, refl, subst, ℕ, suc, ◌+◌, ◌<◌, ◌≤◌, nat_eq, nat_lt, List, [], ◌∷◌}
+use Rattle.std.proofs.Common.{◌++◌, length}
 use Rattle.std.proofs.Common.{count_by, arith, inl, inr, length-append, Option, Some, None, IfSome, IsSome, ◌⊎◌, vec_capacity}
 use Rattle.std.proofs.lemmas.Bool.{eq-eqb, ne_eqb, cases_eq, cases_lt, cond-true, cond-false, lt-ltb, le-ltb}
 use Rattle.std.proofs.lemmas.List.Sums.{sum_by-cons, sum_by_push}
@@ -110,7 +111,8 @@ module _ (line : LineState) (old : Chain) (len : ℕ) (held : IsHeld line old le
           taken = omega (arith, held.once at, counts at, here, bound);
           once = λ other. omega (arith, held.once other, counts other, ap (λ n. one (nat_lt other.0 n)) nodes);
           as_many = omega (arith, held.as_many, nodes, ap length is);
-          freed = λ k other there. held.freed (suc k) other (ap (λ fs. slice_get fs (suc k)) (sym is) ∙ there) ∙ ap (λ fs. slice_get fs (suc (suc k))) (sym is);
+          freed = λ k other there. held.freed (suc k) other (ap (λ fs. slice_get fs (suc k)) (sym is) ∙ there) ∙
+              ap (λ fs. slice_get fs (suc (suc k))) (sym is);
           free = free ∙ held.freed 0 first (ap (λ fs. slice_get fs 0) (sym is)) ∙ ap (λ fs. slice_get fs 1) (sym is);
           used = omega (arith, held.used, nodes);
           below = elim (cases_lt at.0 (length old.nodes.items)) [
@@ -125,7 +127,8 @@ module _ (line : LineState) (old : Chain) (len : ℕ) (held : IsHeld line old le
         taken-free held.frees refl
         (subst (λ (o : Option At). MatchOption o (at.0 ≡ length old.nodes.items) (λ free. at ≡ free)) held.free takes.place)
         (subst (λ (o : Option At). MatchOption o (new.free ≡ None) (λ free. new.free ≡ behind_in old (Some free))) held.free takes.free)
-        (subst (λ (o : Option At). MatchOption o (length new.nodes.items ≡ length old.nodes.items + 1) (λ free. length new.nodes.items ≡ length old.nodes.items))
+        (subst (λ (o : Option At). MatchOption o (length new.nodes.items ≡ length old.nodes.items + 1)
+        (λ free. length new.nodes.items ≡ length old.nodes.items))
         held.free takes.nodes)
 
     -- no entry stands there
@@ -147,7 +150,8 @@ module _ (line : LineState) (old : Chain) (len : ℕ) (held : IsHeld line old le
     pub within-last : IfSome new.last (IsWithin new)
     within-last = within-more old new new.last IsTaken-place.more (within-place_before line old len held (length line.entries) new.last place-last)
 
-    module _ (linked ended : Chain) (joins : Joins new (place_before line.entries (length line.entries)) (Some at) linked) (ends : Joins linked (Some at) None ended) where
+    module _ (linked ended : Chain) (joins : Joins new (place_before line.entries (length line.entries)) (Some at) linked)
+        (ends : Joins linked (Some at) None ended) where
       -- a place that is neither the new one nor the last keeps what is behind it
       behind-other : (o : Option At) → o ≢ Some at → o ≢ place_before line.entries (length line.entries) → behind_in ended o ≡ behind_in old o
       behind-other o new_one last_one = ends.behind_others o new_one ∙ joins.behind_others o last_one ∙ takes.behind o new_one
@@ -158,7 +162,8 @@ module _ (line : LineState) (old : Chain) (len : ℕ) (held : IsHeld line old le
       abbrev pushed : List (At × Entry)
       pushed = line.entries ++ (at, entry) ∷ []
 
-      pub IsHeld-push : (spare : ℕ) → spare + 1 ≡ line.spare → IsHeld (record { entries = line.entries ++ (at, entry) ∷ []; spare = spare }) ended (len + 1)
+      pub IsHeld-push : (spare : ℕ) → spare + 1 ≡ line.spare →
+          IsHeld (record { entries = line.entries ++ (at, entry) ∷ []; spare = spare }) ended (len + 1)
       IsHeld-push spare fewer =
           let taken = IsTaken-place in
           let n = length line.entries in
@@ -186,7 +191,8 @@ module _ (line : LineState) (old : Chain) (len : ℕ) (held : IsHeld line old le
             behind = λ k le. elim (cases_lt k n) [
               | inl lt ↦ ap (behind_in ended) (place_before-push line.entries (at, entry) k (omega (arith, lt))) ∙
                   behind-other _ (not_before line.entries at k taken.fresh)
-                  (place_before-differ line.entries (apart line old len held) k n (omega (arith, lt)) (omega arith) (λ end. absurd (omega (arith, lt, end)))) ∙
+                  (place_before-differ line.entries (apart line old len held) k n (omega (arith, lt)) (omega arith)
+                  (λ end. absurd (omega (arith, lt, end)))) ∙
                   held.behind k (omega (arith, lt)) ∙ sym (place_at-push_below line.entries (at, entry) k lt)
               | inr past ↦ elim (cases_eq k n) [
                 | inl here ↦ ap (behind_in ended) (ap (place_before pushed) here ∙ place_before-push line.entries (at, entry) n (omega arith)) ∙
@@ -201,7 +207,8 @@ module _ (line : LineState) (old : Chain) (len : ℕ) (held : IsHeld line old le
             before = λ k le. elim (cases_lt k n) [
               | inl lt ↦ ap (before_in ended) (place_at-push_below line.entries (at, entry) k lt) ∙
                   before-other _ (not_placed line.entries at k taken.fresh)
-                  (λ none. place_at-differ line.entries (apart line old len held) k n (omega (arith, lt)) (omega arith) (λ end. absurd (omega (arith, lt, end)))
+                  (λ none. place_at-differ line.entries (apart line old len held) k n (omega (arith, lt)) (omega arith)
+                  (λ end. absurd (omega (arith, lt, end)))
                   (none ∙ sym (place_at-past line.entries n (omega arith)))) ∙
                   held.before k (omega (arith, lt)) ∙ sym (place_before-push line.entries (at, entry) k (omega (arith, lt)))
               | inr past ↦ elim (cases_eq k n) [

@@ -1,5 +1,6 @@
 -- How a line is held: its entries linked in order, and the free places linked in the order in which they are given.
-use Rattle.std.specs.Prelude.{◌≡◌, ℕ, zero, suc, ◌+◌, ◌≤◌, nat_lt, nat_eq, if◌then◌else◌, List, [], ◌∷◌, length, count_by, slice_get, vec_capacity}
+use Rattle.std.specs.Prelude.{◌≡◌, ℕ, zero, suc, ◌+◌, ◌≤◌, nat_lt, nat_eq, if◌then◌else◌, List, [], ◌∷◌, length}
+use Rattle.std.specs.Prelude.{count_by, slice_get, vec_capacity}
 use Rattle.std.specs.Prelude.{Option, Some, None}
 use Rattle.ss_line.specs.declared.entry.At.{At}
 use Rattle.ss_line.specs.declared.entry.Entry.{Entry}
@@ -36,11 +37,16 @@ pub record IsHeld (line : LineState) (chain : Chain) (len : ℕ) : Type 0 where
   pub before : (k : ℕ) → k ≤ length line.entries → before_in chain (place_at line.entries k) ≡ place_before line.entries k
   -- behind each free place is the free one that is given after it
   pub freed : (k : ℕ) (at : At) → slice_get frees k ≡ Some at → behind_in chain (Some at) ≡ slice_get frees (suc k)
+  -- the first of these is given next
   pub free : chain.free ≡ slice_get frees 0
   -- each node is that of one entry or of one free place
-  pub once : (at : At) → count_by (is_at at) line.entries + count_by (λ free. nat_eq free.0 at.0) frees ≡ (if nat_lt at.0 (length chain.nodes.items) then 1 else 0)
+  pub once : (at : At) →
+      count_by (is_at at) line.entries + count_by (λ free. nat_eq free.0 at.0) frees ≡ (if nat_lt at.0 (length chain.nodes.items) then 1 else 0)
+  -- and there are no further nodes
   pub as_many : length line.entries + length frees ≡ length chain.nodes.items
-  -- there is room for the nodes of all places
+  -- the places that were never given are to spare
   pub used : length chain.nodes.items ≤ length line.entries + line.spare
+  -- a node for each place needs no further memory
   pub room : length line.entries + line.spare ≤ vec_capacity chain.nodes
+  -- the limit of `MOST_PLACES` is kept
   pub most : length line.entries + line.spare ≤ MOST_PLACES

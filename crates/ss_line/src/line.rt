@@ -34,7 +34,8 @@ impl Model for Line {
 }
 
 impl Line {
-    ghost use Rattle.std.specs.Prelude.{◌≡◌, ◌+◌, ◌≤◌, ◌<◌, max, [], ◌∷◌, ◌++◌, length, slice_set, remove, All, Some, IfSome, OnOk};
+    ghost use Rattle.std.specs.Prelude.{◌≡◌, ◌+◌, ◌≤◌, ◌<◌, max, [], ◌∷◌, ◌++◌, length, slice_set, remove};
+    ghost use Rattle.std.specs.Prelude.{All, Some, IfSome, OnOk};
     ghost use Rattle.ss_line.specs.declared.entry.At.{At};
     ghost use Rattle.ss_line.specs.Line.{IsLine, StandsIn, index_of, entry_at, place_at, place_before};
 

@@ -1,4 +1,5 @@
-use Rattle.std.proofs.Common.{◌≡◌, ◌≢◌, ◌∙◌, sym, ap, arith, refl, subst, ◌+◌, ◌++◌, ◌∷◌, [], ℕ, List, length, length-append, slice_get, Option, Some, None, is_ok}
+use Rattle.std.proofs.Common.{◌≡◌, ◌≢◌, ◌∙◌, sym, ap, arith, refl, subst, ◌+◌, ◌++◌, ◌∷◌, [], ℕ, List, length, length-append}
+use Rattle.std.proofs.Common.{slice_get, Option, Some, None, is_ok}
 use Rattle.std.proofs.lemmas.Bool.{cond-true}
 use Rattle.std.specs.Option.{option_and_then, MatchOption}
 use Rattle.ss_line.specs.declared.entry.At.{At}
@@ -27,7 +28,8 @@ returns-in-None c =
     let new : Chain = record { nodes = c.push.new.self; first = old.first; last = old.last; free = old.free } in
     let node : Node = record { entry = c.args.entry; before = None; behind = None } in
     let at : At = record { 0 = c.len.result } in
-    let pushed : c.push.new.self.items ≡ old.nodes.items ++ node ∷ [] = c.push.ensures.items ∙ cond-true (is_ok c.push.result) _ _ (ap is_ok c.unwrap.ensures) in
+    let pushed : c.push.new.self.items ≡ old.nodes.items ++ node ∷ [] = c.push.ensures.items ∙
+    cond-true (is_ok c.push.result) _ _ (ap is_ok c.unwrap.ensures) in
     let end : c.len.result ≡ length old.nodes.items = omega (arith, c.len.ensures) in
     let others : (other : At) → other ≢ at → slice_get new.nodes.items other.0 ≡ slice_get old.nodes.items other.0 = λ other differ.
     ap (λ (ns : List Node). slice_get ns other.0) pushed ∙

@@ -35,7 +35,8 @@ invariant_of-self g c =
     let joins = Joins-same _ _ _ _ _ _ before behind c.join.ensures in
     subst (λ (spare : ℕ). IsHeld (line_of c.give_back.new.self (c.self.inside.len - 1) (spare + 1)) c.give_back.new.self (c.self.inside.len - 1))
     (ap (λ (line : LineState). line.spare) (sym c.self.view_is))
-    (IsHeld-line_of _ _ _ (IsHeld-cut _ _ _ held c.args.at c.requires _ _ joins c.give_back.ensures (c.self.inside.len - 1) (omega (arith, c.requires, held.whole))))
+    (IsHeld-line_of _ _ _ (IsHeld-cut _ _ _ held c.args.at c.requires _ _ joins c.give_back.ensures (c.self.inside.len - 1)
+    (omega (arith, c.requires, held.whole))))
 
 pub returns-clause-entries : goal.returns-clause-entries
 returns-clause-entries g c =
@@ -44,4 +45,5 @@ returns-clause-entries g c =
     let behind = node-behind _ _ _ held c.args.at c.requires c.index-cut.result.now c.index-cut.ensures in
     let joins = Joins-same _ _ _ _ _ _ before behind c.join.ensures in
     ap (λ (line : LineState). line.entries)
-    (line_of-held _ _ _ (IsHeld-cut _ _ _ held c.args.at c.requires _ _ joins c.give_back.ensures (c.self.inside.len - 1) (omega (arith, c.requires, held.whole))))
+    (line_of-held _ _ _ (IsHeld-cut _ _ _ held c.args.at c.requires _ _ joins c.give_back.ensures (c.self.inside.len - 1)
+    (omega (arith, c.requires, held.whole))))

@@ -62,4 +62,5 @@ returns-clause-below g c =
 pub returns-clause-stands : goal.returns-clause-stands
 returns-clause-stands g c =
     let pushed = returns-clause-pushed g c in
-    subst (λ (es : List (At × Entry)). StandsIn es c.take_place-at.result) (sym pushed) (StandsIn-push c.args.self.now.entries c.take_place-at.result c.args.entry)
+    subst (λ (es : List (At × Entry)). StandsIn es c.take_place-at.result) (sym pushed)
+    (StandsIn-push c.args.self.now.entries c.take_place-at.result c.args.entry)
