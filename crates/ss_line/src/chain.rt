@@ -1,8 +1,8 @@
 // The nodes that hold a line, linked in its order, and the list of the free ones.
-ghost use Rattle.std.specs.Prelude.{◌≡◌, ◌<◌, ◌≤◌, ◌^◌, ◌⊎◌, IfSome, IsSome, length, vec_len, vec_capacity};
+ghost use Rattle.std.specs.Prelude.{◌≡◌, ◌<◌, ◌≤◌, ◌⊎◌, IfSome, IsSome, length, vec_len, vec_capacity};
 ghost use Rattle.ss_line.specs.Chain.{HasNoPlace, IsWithin, LinksBehind, LinksBefore, Joins, TakesPlace, GivesBack, WritesEntry};
 
-use crate::{At, Entry};
+use crate::{At, Entry, MOST_PLACES};
 use std::alloc::Global;
 
 // What is kept at a place: the entry that stands there, and the places before and behind it. At a free place `behind` is
@@ -74,7 +74,7 @@ impl Chain {
     pub fn take_place(&mut self, entry: Entry) -> At
         requires free { IfSome self.old.free (IsWithin self.old) }
         requires room { IsSome self.old.free ⊎ (vec_len self.old.nodes < vec_capacity self.old.nodes) }
-        requires few { vec_len self.old.nodes ≤ 2 ^ 24 }
+        requires few { vec_len self.old.nodes ≤ MOST_PLACES }
         ensures { TakesPlace self.old entry result self.new }
     {
         match self.free {
