@@ -1,4 +1,6 @@
-pub mod SearchLemmas
-pub mod HeldLemmas
 pub mod PlaceLemmas
+pub mod IndexLemmas
+pub mod HeldLemmas
+pub mod PushLemmas
+pub mod CutLemmas
 pub mod Rows

@@ -1,10 +1,14 @@
--- Worked rows: a line of three, at the places 2, 0 and 1.
-use Rattle.std.proofs.Common.{◌≡◌, ℕ, ◌^◌, List, map, [], ◌∷◌, remove, Some, None, refl}
+-- Worked rows: a line of three, at the places 2, 0 and 1, and the nodes that hold it, of which that of place 3 is free.
+use Rattle.std.proofs.Common.{◌≡◌, ℕ, ◌^◌, List, [], ◌∷◌, remove, Option, Some, None, slice_get, ap, refl}
+use Rattle.std.specs.Option.{option_and_then}
 use Rattle.ss_line.specs.declared.entry.At.{At}
 use Rattle.ss_line.specs.declared.entry.Entry.{Entry}
+use Rattle.ss_line.specs.declared.chain.Node.{Node}
+use Rattle.ss_line.specs.declared.chain.Chain.{Chain}
 use Rattle.ss_line.specs.declared.line.TheConstants.{MOST_PLACES}
 use Rattle.ss_line.specs.Line.{index_of, entry_at, place_at, place_before}
-use Rattle.ss_line.specs.Held.{least_free, lower}
+use Rattle.ss_line.specs.Chain.{entry_in, behind_in, before_in}
+use Rattle.ss_line.specs.Held.{entries_from}
 
 abbrev place : ℕ → At
 place n = record { 0 = n }
@@ -40,15 +44,37 @@ place_at-end = refl
 pub remove-second : remove line (index_of line (place 0)) ≡ (place 2, window 1 4) ∷ (place 1, window 7 7) ∷ []
 remove-second = refl
 
-pub least_free-between : least_free (2 ∷ 0 ∷ 1 ∷ 0 ∷ []) ≡ 1
-least_free-between = refl
+abbrev node : Entry → Option At → Option At → Node
+node entry before behind = record { entry = entry; before = before; behind = behind }
 
-pub least_free-none : least_free (2 ∷ 1 ∷ []) ≡ 2
-least_free-none = refl
+abbrev nodes : List Node
+nodes = node (window 5 6) (Some (place 2)) (Some (place 1)) ∷ node (window 7 7) (Some (place 0)) None ∷
+    node (window 1 4) None (Some (place 0)) ∷ node (window 8 8) None None ∷ []
 
--- the second of four is gone
-pub lower-behind : map (lower 2) (4 ∷ 1 ∷ 0 ∷ 3 ∷ []) ≡ 3 ∷ 1 ∷ 0 ∷ 2 ∷ []
-lower-behind = refl
+pub entries_from-first : entries_from nodes 3 (Some (place 2)) ≡ line
+entries_from-first = refl
+
+pub entries_from-fewer : entries_from nodes 1 (Some (place 2)) ≡ (place 2, window 1 4) ∷ []
+entries_from-fewer = refl
+
+pub entries_from-end : entries_from nodes 9 (Some (place 1)) ≡ (place 1, window 7 7) ∷ []
+entries_from-end = refl
+
+module _ (chain : Chain) (are : chain.nodes.items ≡ nodes) where
+  pub entry_in-second : entry_in chain (place 0) ≡ Some (window 5 6)
+  entry_in-second = ap (λ (ns : List Node). option_and_then (λ (n : Node). Some n.entry) (slice_get ns 0)) are
+
+  pub behind_in-first : behind_in chain (Some (place 2)) ≡ Some (place 0)
+  behind_in-first = ap (λ (ns : List Node). option_and_then (λ (n : Node). n.behind) (slice_get ns 2)) are
+
+  pub before_in-first : before_in chain (Some (place 2)) ≡ None
+  before_in-first = ap (λ (ns : List Node). option_and_then (λ (n : Node). n.before) (slice_get ns 2)) are
+
+  pub behind_in-front : chain.first ≡ Some (place 2) → behind_in chain None ≡ Some (place 2)
+  behind_in-front first = first
+
+  pub before_in-end : chain.last ≡ Some (place 1) → before_in chain None ≡ Some (place 1)
+  before_in-end last = last
 
 pub MOST_PLACES-is : MOST_PLACES ≡ 2 ^ 24
 MOST_PLACES-is = refl

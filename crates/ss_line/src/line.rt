@@ -1,5 +1,5 @@
 // The line.
-use crate::search::{close_up, least_free, place_at, place_before};
+use crate::chain::Chain;
 use crate::{At, Entry};
 use ss_steps::Steps;
 use std::alloc::{AllocError, Global};
@@ -9,32 +9,33 @@ use std::sync::ledger::Ledger;
 /// The greatest number of places of a line.
 pub const MOST_PLACES: u32 = 1 << 24;
 
-/// A line of entries, and a number of places to spare for more. It is kept as a vector in order, and where in it a place
-/// stands is found in one step; a `push` and a `cut_out` also go over the places once. Each call with a counter is one look
+/// A line of entries, and a number of places to spare for more. It is a linked list in one vector, in which the free places
+/// form a list too. Each call but `reserve` takes the same few steps, whatever stands. Each call with a counter is one look
 /// at the line, and ticks once.
 #[derive(Drop)]
 pub struct Line {
-    // The entries in order.
-    entries: Vec<(At, Entry)>,
-    // How far each place stands in the line, counted from 1; 0 where no entry stands at it.
-    ranks: Vec<u32>,
+    // The places, linked.
+    chain: Chain,
+    // How many entries stand in the line.
+    len: u32,
+    // How many more fit.
+    spare: u32,
 }
 
 impl Model for Line {
-    ghost use Rattle.std.specs.Prelude.{◌≤◌, vec_len};
-    ghost use Rattle.std.specs.Vec.{vec_capacity};
     ghost use Rattle.ss_line.specs.Line.{LineState};
-    ghost use Rattle.ss_line.specs.Held.{line_of, AreRanks};
+    ghost use Rattle.ss_line.specs.Held.{line_of, IsHeld};
 
     ghost Value = { LineState };
 
-    ghost view = { λ s. line_of s.entries.items s.ranks.items };
+    ghost view = { λ s. line_of s.chain s.len s.spare };
 
-    ghost invariant = { λ s. AreRanks s.entries.items s.ranks.items × (vec_len s.ranks ≤ vec_capacity s.entries) };
+    ghost invariant = { λ s. IsHeld (line_of s.chain s.len s.spare) s.chain s.len };
 }
 
 impl Line {
-    ghost use Rattle.std.specs.Prelude.{◌≡◌, ◌+◌, ◌≤◌, ◌<◌, [], ◌∷◌, ◌++◌, length, slice_set, remove, All, Some, IfSome, OnOk};
+    ghost use Rattle.std.specs.Prelude.{◌≡◌, ◌+◌, ◌≤◌, ◌<◌, max, [], ◌∷◌, ◌++◌, length, slice_set, remove};
+    ghost use Rattle.std.specs.Prelude.{All, Some, IfSome, OnOk};
     ghost use Rattle.ss_line.specs.declared.entry.At.{At};
     ghost use Rattle.ss_line.specs.Line.{IsLine, StandsIn, index_of, entry_at, place_at, place_before};
 
@@ -43,8 +44,9 @@ impl Line {
         ensures { result ≡ record { entries = []; spare = 0 } }
     {
         Line {
-            entries: Vec::new(alloc),
-            ranks: Vec::new(alloc),
+            chain: Chain::new(alloc),
+            len: 0,
+            spare: 0,
         }
     }
 
@@ -53,7 +55,7 @@ impl Line {
         ensures value { result ≡ length self.now.entries }
         ensures line { IsLine self.now }
     {
-        self.entries.len() as u32
+        self.len
     }
 
     /// How many places there are, with those to spare. The number of each place in the line is below it, also of the one
@@ -64,20 +66,23 @@ impl Line {
         ensures below { All (λ entry. entry.0.0 < result) self.now.entries }
         ensures line { IsLine self.now }
     {
-        self.ranks.len() as u32
+        self.len + self.spare
     }
 
-    /// Makes `extra` places to spare, if there are fewer. An error leaves the entries, and the spare never falls.
+    /// Makes `extra` places to spare, if there are fewer, and no more than these. An error leaves the entries, and the spare
+    /// never falls.
     pub fn reserve(&mut self, extra: u32) -> Result<(), AllocError>
         requires { length self.old.entries + extra ≤ MOST_PLACES }
         ensures ok { OnOk result (extra ≤ self.new.spare) }
         ensures grows { self.old.spare ≤ self.new.spare }
+        ensures least { self.new.spare ≤ max self.old.spare extra }
         ensures entries { self.new.entries ≡ self.old.entries }
     {
-        let len = self.entries.len();
-        let places = self.ranks.len().max(len + extra as usize);
-        self.entries.reserve(places - len)?;
-        self.ranks.resize(places, 0)
+        let spare = self.spare.max(extra);
+        let nodes = &mut self.chain.nodes;
+        nodes.reserve((self.len + spare) as usize - nodes.len())?;
+        self.spare = spare;
+        Ok(())
     }
 
     /// Puts an entry at the end of the line, and gives its place, at which no other entry stands.
@@ -90,25 +95,13 @@ impl Line {
         ensures spare { self.new.spare + 1 ≡ self.old.spare }
         ensures look { steps.new ≡ steps.old + 1 }
     {
-        self.push_least(entry, steps)
-    }
-
-    // The same, and the place is the least that is free, as long as the line is a vector. Callers don't rely on it.
-    fn push_least<L: Ledger>(&mut self, entry: Entry, steps: &mut Steps<L>) -> At
-        requires { 1 ≤ self.old.spare }
-        ensures least { (place : At) → place.0 < result.0 → StandsIn self.old.entries place }
-        ensures fresh { ¬ StandsIn self.old.entries result }
-        ensures below { result.0 < length self.old.entries + self.old.spare }
-        ensures stands { StandsIn self.new.entries result }
-        ensures pushed { self.new.entries ≡ self.old.entries ++ (result, entry) ∷ [] }
-        ensures spare { self.new.spare + 1 ≡ self.old.spare }
-        ensures look { steps.new ≡ steps.old + 1 }
-    {
         steps.tick();
-        let place = least_free(&self.ranks);
-        let at = At(place as u32);
-        self.entries.push((at, entry)).unwrap();
-        self.ranks[place] = self.entries.len() as u32;
+        let at = self.chain.take_place(entry);
+        let last = self.chain.last;
+        self.chain.join(last, Some(at));
+        self.chain.join(Some(at), None);
+        self.len += 1;
+        self.spare -= 1;
         at
     }
 
@@ -117,7 +110,7 @@ impl Line {
         ensures value { result ≡ place_at self.now.entries 0 }
         ensures stands { IfSome result (StandsIn self.now.entries) }
     {
-        place_at(&self.entries, 0)
+        self.chain.first
     }
 
     /// The place of the last entry.
@@ -125,15 +118,7 @@ impl Line {
         ensures value { result ≡ place_before self.now.entries (length self.now.entries) }
         ensures stands { IfSome result (StandsIn self.now.entries) }
     {
-        place_before(&self.entries, self.entries.len())
-    }
-
-    // Where in the line the place stands, counted from 0.
-    fn index_of(&self, at: At) -> usize
-        requires { StandsIn self.now.entries at }
-        ensures { result ≡ index_of self.now.entries at }
-    {
-        self.ranks[at.0 as usize] as usize - 1
+        self.chain.last
     }
 
     /// The entry at a place.
@@ -143,8 +128,7 @@ impl Line {
         ensures look { steps.new ≡ steps.old + 1 }
     {
         steps.tick();
-        let (_, entry) = self.entries[self.index_of(at)];
-        entry
+        self.chain.nodes[at.0 as usize].entry
     }
 
     /// Puts an entry in place of the one that stands there.
@@ -155,8 +139,7 @@ impl Line {
         ensures look { steps.new ≡ steps.old + 1 }
     {
         steps.tick();
-        let index = self.index_of(at);
-        self.entries[index] = (at, entry);
+        self.chain.write(at, entry);
     }
 
     /// Takes the entry out of the line. Its place is free again, and one more is to spare.
@@ -167,10 +150,11 @@ impl Line {
         ensures look { steps.new ≡ steps.old + 1 }
     {
         steps.tick();
-        let index = self.index_of(at);
-        self.entries.remove(index);
-        self.ranks[at.0 as usize] = 0;
-        close_up(&mut self.ranks, index + 1);
+        let cut = self.chain.nodes[at.0 as usize];
+        self.chain.join(cut.before, cut.behind);
+        self.chain.give_back(at);
+        self.len -= 1;
+        self.spare += 1;
     }
 
     /// The places before and after a place.
@@ -182,10 +166,7 @@ impl Line {
         ensures look { steps.new ≡ steps.old + 1 }
     {
         steps.tick();
-        let index = self.index_of(at);
-        (
-            place_before(&self.entries, index),
-            place_at(&self.entries, index + 1),
-        )
+        let node = self.chain.nodes[at.0 as usize];
+        (node.before, node.behind)
     }
 }

@@ -1,16 +1,23 @@
-use Rattle.std.proofs.Common.{subst, sym, ap, ◌∙◌, ◌≡◌, ℕ, set}
-use Rattle.ss_line.specs.Line.{LineState, StandsIn, index_of}
-use Rattle.ss_line.specs.Held.{AreRanks}
-use Rattle.ss_line.proofs.HeldLemmas.{AreRanks-set}
+use Rattle.std.proofs.Common.{subst, sym, ap, ℕ}
+use Rattle.ss_line.specs.Line.{LineState}
+use Rattle.ss_line.specs.Held.{IsHeld, line_of}
+use Rattle.ss_line.proofs.HeldLemmas.{within-stands, line_of-held, IsHeld-line_of}
+use Rattle.ss_line.proofs.CutLemmas.{IsHeld-set}
 use Rattle.ss_line.proofs.line.Line.set.Goals as goal
+
+pub write-requires : goal.write-requires
+write-requires g c =
+    let held = subst (λ (line : LineState). IsHeld line c.self.inside.chain c.self.inside.len) c.self.view_is c.self.invariant in
+    within-stands _ _ _ held c.args.at c.requires
 
 pub invariant_of-self : goal.invariant_of-self
 invariant_of-self g c =
-    let entries = c.self.inside.entries.items in
-    let stands = subst (λ (line : LineState). StandsIn line.entries c.args.at) (sym c.self.view_is) c.requires in
-    let index : c.index_of-index.result ≡ index_of entries c.args.at = c.index_of-index.ensures ∙
-    ap (λ (line : LineState). index_of line.entries c.args.at) (sym c.self.view_is) in (
-      subst (λ (i : ℕ). AreRanks (set entries i (c.args.at, c.args.entry)) c.self.inside.ranks.items) (sym index)
-          (AreRanks-set entries _ c.self.invariant.0 c.args.at stands c.args.entry),
-      c.self.invariant.1,
-    )
+    let held = subst (λ (line : LineState). IsHeld line c.self.inside.chain c.self.inside.len) c.self.view_is c.self.invariant in
+    subst (λ (spare : ℕ). IsHeld (line_of c.write.new.self c.self.inside.len spare) c.write.new.self c.self.inside.len)
+    (ap (λ (line : LineState). line.spare) (sym c.self.view_is))
+    (IsHeld-line_of _ _ _ (IsHeld-set _ _ _ held c.args.at c.requires c.args.entry _ c.write.ensures))
+
+pub returns-clause-entries : goal.returns-clause-entries
+returns-clause-entries g c =
+    let held = subst (λ (line : LineState). IsHeld line c.self.inside.chain c.self.inside.len) c.self.view_is c.self.invariant in
+    ap (λ (line : LineState). line.entries) (line_of-held _ _ _ (IsHeld-set _ _ _ held c.args.at c.requires c.args.entry _ c.write.ensures))
