@@ -1,0 +1,69 @@
+// Pairs of neighbours.
+ghost use Rattle.std.specs.Prelude.{◌≡◌, ◌+◌, ◌≤◌, Some, None, IfSome, MatchOption};
+ghost use Rattle.ss_line.specs.Line.{StandsIn, entry_at, index_of, place_at, place_before};
+ghost use Rattle.ss_schedule.specs.Pairs.{pair_at};
+
+use ss_line::{At, Entry, Line};
+use ss_steps::Steps;
+use std::sync::ledger::Ledger;
+
+/// Two neighbours in a line: the places of the left and of the right one, and the positions of the first and the last
+/// value that they have together, counted from 1.
+#[derive(Clone, Copy, Debug, PartialEq, Eq)]
+pub struct Pair {
+    pub left: At,
+    pub right: At,
+    pub first: u64,
+    pub last: u64,
+}
+
+/// The pair of the entry at a place and the one behind it, if there is one.
+pub fn pair_behind<L: Ledger>(
+    line: &Line,
+    at: At,
+    entry: Entry,
+    behind: Option<At>,
+    steps: &mut Steps<L>,
+) -> Option<Pair>
+    requires stands { StandsIn line.now.entries at }
+    requires entry { entry_at line.now.entries at ≡ Some entry }
+    requires behind { behind ≡ place_at line.now.entries (index_of line.now.entries at + 1) }
+    ensures pair { result ≡ pair_at line.now.entries at }
+    ensures look { steps.new ≤ steps.old + 1 }
+{
+    let _len = line.len();
+    let right = behind?;
+    let last = line.get(right, steps).last;
+    Some(Pair {
+        left: at,
+        right,
+        first: entry.first,
+        last,
+    })
+}
+
+/// The pair of the entry before the one at a place and that one, if there is one before it.
+pub fn pair_before<L: Ledger>(
+    line: &Line,
+    before: Option<At>,
+    at: At,
+    entry: Entry,
+    steps: &mut Steps<L>,
+) -> Option<Pair>
+    requires stands { StandsIn line.now.entries at }
+    requires entry { entry_at line.now.entries at ≡ Some entry }
+    requires before { before ≡ place_before line.now.entries (index_of line.now.entries at) }
+    ensures pair { MatchOption before (result ≡ None) (λ left. pair_at line.now.entries left ≡ result) }
+    ensures left { IfSome result (λ pair. before ≡ Some pair.left) }
+    ensures look { steps.new ≤ steps.old + 1 }
+{
+    let _len = line.len();
+    let left = before?;
+    let first = line.get(left, steps).first;
+    Some(Pair {
+        left,
+        right: at,
+        first,
+        last: entry.last,
+    })
+}
