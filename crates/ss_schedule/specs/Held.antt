@@ -44,3 +44,4 @@ pub record AreHeld (keys : List (Option (At × ℕ))) (heap positions : List ℕ
   pub all : length heap ≡ length keys
   pub inverse : AreInverse heap positions
   pub order : IsHeap (fit_at keys heap) (length heap)
+  pub early : (place : ℕ) → fit_of (slice_index_or keys place None) ≤ NEVER

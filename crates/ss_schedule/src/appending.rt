@@ -1,11 +1,12 @@
 // What an append does with a schedule.
-ghost use Rattle.std.specs.Prelude.{◌≡◌, ◌+◌, ◌*◌, ◌≤◌, length};
+ghost use Rattle.std.specs.Prelude.{◌≡◌, ◌+◌, ◌*◌, ◌≤◌, ◌<◌, length, take};
+ghost use Rattle.ss_line.specs.Line.{StandsIn, index_of};
 ghost use Rattle.ss_target.specs.Lengths.{lengths_of};
-ghost use Rattle.ss_schedule.specs.Keyed.{IsKeyed};
+ghost use Rattle.ss_schedule.specs.Keyed.{FollowUpTo, IsKeyed};
 ghost use Rattle.ss_schedule.specs.Pairs.{NoPairFits};
 
-use crate::{Pair, Schedule};
-use ss_line::Line;
+use crate::Schedule;
+use ss_line::{At, Line};
 use ss_steps::Steps;
 use std::sync::ledger::Ledger;
 
@@ -30,4 +31,28 @@ pub fn merge_due<L: Ledger>(
         merges += 1;
     }
     merges
+}
+
+/// Takes up the last entry of a line when n values are held, and joins the pairs that are due: all that an append does with
+/// a schedule. Gives how many it joined. At most 4 looks at the line, and 8 more for each merge.
+pub fn take_up_last<L: Ledger>(
+    schedule: &mut Schedule,
+    line: &mut Line,
+    at: At,
+    n: u64,
+    steps: &mut Steps<L>,
+) -> u32
+    requires stands { StandsIn line.old.entries at }
+    requires last { index_of line.old.entries at + 1 ≡ length line.old.entries }
+    requires room { at.0 < length schedule.old.keys }
+    requires keyed { IsKeyed n (take (index_of line.old.entries at) line.old.entries) schedule.old }
+    requires follow { FollowUpTo n line.old.entries }
+    ensures keyed { IsKeyed n line.new.entries schedule.new }
+    ensures none { NoPairFits (lengths_of schedule.new.params) n line.new.entries }
+    ensures fewer { length line.new.entries + result ≡ length line.old.entries }
+    ensures params { schedule.new.params ≡ schedule.old.params }
+    ensures looks { steps.new ≤ steps.old + 4 + 8 * result }
+{
+    schedule.add_window(line, at, n, steps);
+    merge_due(schedule, line, n, steps)
 }

@@ -1,5 +1,5 @@
 // The keys of all places.
-use crate::sifting::{NEVER, fit_at, sift_down, sift_up};
+use crate::sifting::{NEVER, restore};
 use ss_line::{At, MOST_PLACES};
 use std::alloc::{AllocError, Global};
 use std::marker::Model;
@@ -78,14 +78,14 @@ impl Keys {
 
     /// Puts a key at a place, or takes it away.
     pub fn set(&mut self, at: At, key: Option<(At, u64)>)
-        requires { at.0 < length self.old }
+        requires room { at.0 < length self.old }
+        requires early { fit_of key ≤ NEVER }
         ensures { self.new ≡ slice_set self.old at.0 key }
     {
         let place = at.0 as usize;
         self.keys[place] = key;
         let start = self.positions[place] as usize;
-        let index = sift_up(&self.keys, &mut self.heap, &mut self.positions, start);
-        sift_down(&self.keys, &mut self.heap, &mut self.positions, index);
+        restore(&self.keys, &mut self.heap, &mut self.positions, start);
     }
 
     /// A place with a key that is at most n, and the place that the key names. None says that no key is.

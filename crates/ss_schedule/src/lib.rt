@@ -8,7 +8,7 @@ mod pair;
 mod schedule;
 mod sifting;
 
-pub use appending::merge_due;
-pub use laws::keyed_at_the_next_count;
+pub use appending::{merge_due, take_up_last};
+pub use laws::{keyed_at_the_next_count, the_last_one_pushed};
 pub use pair::Pair;
 pub use schedule::Schedule;

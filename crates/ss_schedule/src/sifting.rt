@@ -1,6 +1,7 @@
 // A binary heap of places, by when the pair of each first fits. The children of the node with an index are those with
 // twice that index and one or two more, and none of them comes before it.
-ghost use Rattle.std.specs.Prelude.{◌≡◌, ◌+◌, ◌*◌, ◌<◌, ◌≤◌, ◌^◌, ℕ, length, slice_index, swap};
+ghost use Rattle.std.specs.Prelude.{◌≡◌, ◌+◌, ◌*◌, ◌<◌, ◌≤◌, ◌^◌, ℕ, length, slice_index};
+ghost use Rattle.std.specs.List.{SwappedAt};
 ghost use Rattle.ss_schedule.specs.Held.{AreInverse, IsBelowParent, IsChild, IsHeap, IsHeapBut, fit_at, fit_of};
 
 use ss_line::At;
@@ -18,8 +19,8 @@ fn fit_of(key: Option<(At, u64)>) -> u64
     }
 }
 
-/// When the pair of the place at an index of the heap first fits.
-pub fn fit_at(keys: &[Option<(At, u64)>], heap: &[u32], index: usize) -> u64
+// When the pair of the place at an index of the heap first fits.
+fn fit_at(keys: &[Option<(At, u64)>], heap: &[u32], index: usize) -> u64
     requires all { length heap.now ≡ length keys.now }
     requires index { index < length heap.now }
     requires below { slice_index heap.now index < length heap.now }
@@ -34,7 +35,8 @@ fn change_places(heap: &mut [u32], positions: &mut [u32], one: usize, other: usi
     requires inverse { AreInverse heap.old positions.old }
     requires one { one < length heap.old }
     requires other { other < length heap.old }
-    ensures heap { heap.new ≡ swap heap.old one other }
+    ensures swapped { SwappedAt heap.old heap.new one other }
+    ensures len { length heap.new ≡ length heap.old }
     ensures inverse { AreInverse heap.new positions.new }
 {
     heap.swap(one, other);
@@ -42,8 +44,8 @@ fn change_places(heap: &mut [u32], positions: &mut [u32], one: usize, other: usi
     positions[heap[other] as usize] = other as u32;
 }
 
-/// Moves the place at an index up until its parent doesn't come after it, and gives the index where it stands then.
-pub fn sift_up(
+// Moves the place at an index up until its parent doesn't come after it, and gives the index where it stands then.
+fn sift_up(
     keys: &[Option<(At, u64)>],
     heap: &mut [u32],
     positions: &mut [u32],
@@ -90,8 +92,8 @@ fn least_child(keys: &[Option<(At, u64)>], heap: &[u32], index: usize) -> usize
     left
 }
 
-/// Moves the place at an index, which doesn't come before its parent, down until no child of it comes before it.
-pub fn sift_down(keys: &[Option<(At, u64)>], heap: &mut [u32], positions: &mut [u32], start: usize)
+// Moves the place at an index, which doesn't come before its parent, down until no child of it comes before it.
+fn sift_down(keys: &[Option<(At, u64)>], heap: &mut [u32], positions: &mut [u32], start: usize)
     requires few { length heap.old < 2 ^ 32 }
     requires all { length heap.old ≡ length keys.now }
     requires start { start < length heap.old }
@@ -111,4 +113,19 @@ pub fn sift_down(keys: &[Option<(At, u64)>], heap: &mut [u32], positions: &mut [
         change_places(heap, positions, index, child);
         index = child;
     }
+}
+
+/// Moves the place at an index, whose key changed, to where it has to stand in the heap.
+pub fn restore(keys: &[Option<(At, u64)>], heap: &mut [u32], positions: &mut [u32], start: usize)
+    requires few { length heap.old < 2 ^ 32 }
+    requires all { length heap.old ≡ length keys.now }
+    requires start { start < length heap.old }
+    requires inverse { AreInverse heap.old positions.old }
+    requires order { IsHeapBut (fit_at keys.now heap.old) (length heap.old) start }
+    ensures inverse { AreInverse heap.new positions.new }
+    ensures len { length heap.new ≡ length heap.old }
+    ensures order { IsHeap (fit_at keys.now heap.new) (length heap.new) }
+{
+    let index = sift_up(keys, heap, positions, start);
+    sift_down(keys, heap, positions, index);
 }
