@@ -2,7 +2,7 @@
 use Rattle.std.proofs.Common.{◌≡◌, ◌≢◌, ◌∙◌, ℕ, zero, suc, ◌+◌, ◌-◌, ◌/◌, ◌<◌, ◌≤◌, List, [], ◌∷◌, ◌++◌, length, get_or, set, take, drop, ap, sym, subst}
 use Rattle.std.proofs.Common.{Option, Some, None, arith, inl, inr, length-append}
 use Rattle.std.proofs.lemmas.Bool.{cases_eq, cases_lt}
-use Rattle.std.proofs.lemmas.List.{get_or-set_same, get_or-set_other, get_or_append_left, length-set, get_or_past, take-append-le, take_all}
+use Rattle.std.proofs.lemmas.List.{get_or-set_same, get_or-set_other, get_or_append_left, length-set, get_or_past, take-append-le, take_all, get_or_default}
 use Rattle.std.proofs.Math.Seq.{get_or-append_seam}
 use Rattle.ss_line.specs.declared.entry.At.{At}
 use Rattle.ss_schedule.specs.Held.{AreHeld, AreInverse, IsChild, IsHeap, IsHeapBut, fit_at, fit_of}
@@ -40,6 +40,15 @@ module _ (keys : List (Option (At × ℕ))) (heap positions : List ℕ) (held : 
             omega (arith, least, top, ap (λ (place : ℕ). fit_of (get_or keys place None)) (held.inverse.found at.0 in_heap)))
         | inr past ↦ omega (arith, some, ap fit_of (get_or_past keys at.0 None past))
       ]
+
+  -- the same, of the key that was read at the top
+  pub before_read : (n place : ℕ) (key : Option (At × ℕ)) → 0 < length heap → place ≡ get_or heap 0 place → key ≡ get_or keys place key → n < NEVER →
+      n < fit_of key → (at : At) → n < fit_of (get_or keys at.0 None)
+  before_read n place key some top read less first =
+      let is_top : place ≡ get_or heap 0 0 = top ∙ get_or_default heap 0 place 0 some in
+      let inside : place < length keys = omega (arith, is_top, held.inverse.below 0 some, held.all) in
+      let is_key : key ≡ get_or keys place None = read ∙ get_or_default keys place key None inside in
+      before_all n less (omega (arith, first, ap fit_of is_key, ap (λ (p : ℕ). fit_of (get_or keys p None)) is_top))
 
   -- a key changes
   pub IsHeapBut-set : (place : ℕ) (key : Option (At × ℕ)) → place < length keys →

@@ -1,2 +1,4 @@
 pub mod HeapLemmas
 pub mod InverseLemmas
+pub mod Places
+pub mod PairLemmas

@@ -1,20 +1,21 @@
 -- When each pair of neighbours first fits, by the place of the left one.
 use Rattle.std.specs.Prelude.{◌≡◌, ℕ, ◌+◌, ◌≤◌, List, [], ◌∷◌, slice_set, Option, Some, None, ⊤}
 use Rattle.std.specs.List.{slice_index_or}
-use Rattle.ss_catalog.specs.declared.params.Params.{Params}
 use Rattle.ss_line.specs.declared.entry.At.{At}
 use Rattle.ss_line.specs.declared.entry.Entry.{Entry}
 use Rattle.ss_target.specs.Lengths.{lengths_of}
+use Rattle.ss_target.specs.Targets.{params_of}
+use Rattle.ss_target.specs.declared.target.Target.{Target}
 use Rattle.ss_windowing.specs.FirstFit.{IsFirstFit}
 use Rattle.ss_windowing.specs.Windowing.{Fits}
 use Rattle.ss_windowing.specs.declared.decay.TheConstants.{MOST_VALUES}
 use Rattle.ss_schedule.specs.Pairs.{pair_at}
 use Rattle.ss_schedule.specs.declared.pair.Pair.{Pair}
 
--- a schedule: the parameters of its target, and the key of each place, if it has one: the place of the right neighbour, and when
+-- a schedule: its target, and the key of each place, if it has one: the place of the right neighbour, and when
 -- the two first fit. There are as many places as it has room for.
 pub record ScheduleState : Type 0 where
-  pub params : Params
+  pub target : Target
   pub keys : List (Option (At × ℕ))
 
 -- the key of this place; none past the end
@@ -37,6 +38,10 @@ IsKeyOf len n None key = key ≡ None
 IsKeyOf len n (Some pair) None = NeverFit len pair.first pair.last n
 IsKeyOf len n (Some pair) (Some key) = IsFirstKey len n pair key
 
+-- the window lengths of the target of a schedule
+abbrev pub lengths : ScheduleState → ℕ → ℕ
+lengths schedule = lengths_of (params_of schedule.target)
+
 -- the positions of entries follow one another from this one on, and end at or below n
 abbrev pub FollowFrom : ℕ → ℕ → List (At × Entry) → Type 0
 FollowFrom n first [] = ⊤
@@ -52,11 +57,11 @@ FollowUpTo n (entry ∷ entries) = (1 ≤ entry.1.first) × FollowFrom n entry.1
 pub record IsKeyed (n : ℕ) (entries : List (At × Entry)) (schedule : ScheduleState) : Type 0 where
   pub few : n ≤ MOST_VALUES
   pub follow : FollowUpTo n entries
-  pub keys : (at : At) → IsKeyOf (lengths_of schedule.params) n (pair_at entries at) (key_at schedule.keys at)
+  pub keys : (at : At) → IsKeyOf (lengths schedule) n (pair_at entries at) (key_at schedule.keys at)
 
 -- a key was put at a place: the one that it has to have where this pair has its left one
 pub record PutsKey (old new : ScheduleState) (n : ℕ) (at : At) (pair : Option Pair) : Type 0 where
   pub key : Option (At × ℕ)
-  pub is : IsKeyOf (lengths_of old.params) n pair key
+  pub is : IsKeyOf (lengths old) n pair key
   pub keys : new.keys ≡ slice_set old.keys at.0 key
-  pub params : new.params ≡ old.params
+  pub target : new.target ≡ old.target

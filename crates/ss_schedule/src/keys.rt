@@ -94,7 +94,10 @@ impl Keys {
         ensures some { IfSome result (λ found. (fit : ℕ) × (fit ≤ n) × (key_at self.now found.0 ≡ Some (found.1, fit))) }
         ensures none { IfNone result ((at : At) → n < fit_of (key_at self.now at)) }
     {
-        let place = *self.heap.first()?;
+        if self.heap.is_empty() {
+            return None;
+        }
+        let place = self.heap[0];
         match self.keys[place as usize] {
             Some((right, fit)) if fit <= n => Some((At(place), right)),
             _ => None,

@@ -28,6 +28,7 @@ pub fn pair_behind<L: Ledger>(
     requires stands { StandsIn line.now.entries at }
     requires entry { entry_at line.now.entries at ≡ Some entry }
     requires behind { behind ≡ place_at line.now.entries (index_of line.now.entries at + 1) }
+    requires behind_stands { IfSome behind (StandsIn line.now.entries) }
     ensures pair { result ≡ pair_at line.now.entries at }
     ensures look { steps.new ≤ steps.old + 1 }
 {
@@ -53,6 +54,7 @@ pub fn pair_before<L: Ledger>(
     requires stands { StandsIn line.now.entries at }
     requires entry { entry_at line.now.entries at ≡ Some entry }
     requires before { before ≡ place_before line.now.entries (index_of line.now.entries at) }
+    requires before_stands { IfSome before (StandsIn line.now.entries) }
     ensures pair { MatchOption before (result ≡ None) (λ left. pair_at line.now.entries left ≡ result) }
     ensures left { IfSome result (λ pair. before ≡ Some pair.left) }
     ensures look { steps.new ≤ steps.old + 1 }

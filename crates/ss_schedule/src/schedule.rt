@@ -20,12 +20,11 @@ pub struct Schedule {
 }
 
 impl Model for Schedule {
-    ghost use Rattle.ss_target.specs.Targets.{params_of};
     ghost use Rattle.ss_schedule.specs.Keyed.{ScheduleState};
 
     ghost Value = { ScheduleState };
 
-    ghost view = { λ s. record { params = params_of s.target; keys = s.keys } };
+    ghost view = { λ s. record { target = s.target; keys = s.keys } };
 }
 
 impl Schedule {
@@ -33,16 +32,14 @@ impl Schedule {
     ghost use Rattle.ss_line.specs.declared.entry.At.{At};
     ghost use Rattle.ss_line.specs.declared.entry.Entry.{Entry};
     ghost use Rattle.ss_line.specs.Line.{StandsIn, index_of};
-    ghost use Rattle.ss_target.specs.Lengths.{lengths_of};
-    ghost use Rattle.ss_target.specs.Targets.{params_of};
     ghost use Rattle.ss_windowing.specs.Windowing.{fits};
     ghost use Rattle.ss_schedule.specs.declared.pair.Pair.{Pair};
-    ghost use Rattle.ss_schedule.specs.Keyed.{FollowUpTo, IsKeyOf, IsKeyed, PutsKey, key_at};
+    ghost use Rattle.ss_schedule.specs.Keyed.{FollowUpTo, IsKeyOf, IsKeyed, PutsKey, key_at, lengths};
     ghost use Rattle.ss_schedule.specs.Pairs.{AreSideBySide, IsPairIn, IsSpan, NoPairFits, joined_entry};
 
     /// A schedule for this target, keyed for no entries, with no room.
     pub fn new(alloc: Global, target: Target) -> Schedule
-        ensures params { result.params ≡ params_of target }
+        ensures target { result.target ≡ target }
         ensures room { length result.keys ≡ 0 }
         ensures keyed { (n : ℕ) → n ≤ MOST_VALUES → IsKeyed n [] result }
     {
@@ -57,7 +54,7 @@ impl Schedule {
         requires { places ≤ MOST_PLACES }
         ensures ok { OnOk result (places ≤ length self.new.keys) }
         ensures grows { length self.old.keys ≤ length self.new.keys }
-        ensures params { self.new.params ≡ self.old.params }
+        ensures target { self.new.target ≡ self.old.target }
         ensures keys { (at : At) → key_at self.new.keys at ≡ key_at self.old.keys at }
         ensures keyed { (n : ℕ) (entries : List (At × Entry)) → IsKeyed n entries self.old → IsKeyed n entries self.new }
     {
@@ -68,7 +65,7 @@ impl Schedule {
     fn key_of(&self, pair: Pair, n: u64) -> Option<(At, u64)>
         requires span { IsSpan n pair }
         requires few { n ≤ MOST_VALUES }
-        ensures { IsKeyOf (lengths_of self.now.params) n (Some pair) result }
+        ensures { IsKeyOf (lengths self.now) n (Some pair) result }
     {
         match self.target.first_fit(pair.first, pair.last, n) {
             None => None,
@@ -98,7 +95,7 @@ impl Schedule {
         requires keyed { IsKeyed n (take (index_of line.now.entries at) line.now.entries) self.old }
         requires follow { FollowUpTo n (take (index_of line.now.entries at + 1) line.now.entries) }
         ensures keyed { IsKeyed n (take (index_of line.now.entries at + 1) line.now.entries) self.new }
-        ensures params { self.new.params ≡ self.old.params }
+        ensures target { self.new.target ≡ self.old.target }
         ensures room { length self.new.keys ≡ length self.old.keys }
         ensures looks { steps.new ≤ steps.old + 4 }
     {
@@ -114,8 +111,8 @@ impl Schedule {
     pub fn due<L: Ledger>(&self, line: &Line, n: u64, steps: &mut Steps<L>) -> Option<Pair>
         requires { IsKeyed n line.now.entries self.now }
         ensures pair { IfSome result (IsPairIn line.now.entries) }
-        ensures fits { IfSome result (λ pair. fits (lengths_of self.now.params) pair.first pair.last n ≡ true) }
-        ensures none { IfNone result (NoPairFits (lengths_of self.now.params) n line.now.entries) }
+        ensures fits { IfSome result (λ pair. fits (lengths self.now) pair.first pair.last n ≡ true) }
+        ensures none { IfNone result (NoPairFits (lengths self.now) n line.now.entries) }
         ensures looks { MatchOption result (steps.new ≡ steps.old) (λ _. steps.new ≤ steps.old + 2) }
     {
         let (left, right) = self.keys.least_by(n)?;
@@ -133,13 +130,13 @@ impl Schedule {
     /// the right one, which is cut out of the line, and the keys follow. At most 6 looks at the line.
     pub fn merged<L: Ledger>(&mut self, line: &mut Line, pair: Pair, n: u64, steps: &mut Steps<L>)
         requires neighbours { IsPairIn line.old.entries pair }
-        requires fits { fits (lengths_of self.old.params) pair.first pair.last n ≡ true }
+        requires fits { fits (lengths self.old) pair.first pair.last n ≡ true }
         requires keyed { IsKeyed n line.old.entries self.old }
         ensures joined { (it : AreSideBySide line.old.entries pair.left pair.right)
             → line.new.entries ≡ it.before ++ (pair.left, joined_entry it.window it.next) ∷ it.rest }
         ensures spare { line.new.spare ≡ line.old.spare + 1 }
         ensures keyed { IsKeyed n line.new.entries self.new }
-        ensures params { self.new.params ≡ self.old.params }
+        ensures target { self.new.target ≡ self.old.target }
         ensures room { length self.new.keys ≡ length self.old.keys }
         ensures looks { steps.new ≤ steps.old + 6 }
     {
