@@ -149,3 +149,32 @@ pub data Ends {X : Type 0} : List X → Type 0 where
 pub ends : {X : Type 0} (xs : List X) → Ends xs
 ends [] = without_last
 ends (x ∷ xs) = elim (ends xs) as (λ ys e. Ends (x ∷ ys)) [ without_last ↦ with_last [] x | with_last front y ↦ with_last (x ∷ front) y ]
+
+some-counted : {X : Type 0} (p : X → Bool) (xs : List X) → list_any p xs ≡ true → 1 ≤ count_by p xs
+some-counted p [] some = absurd (both_ways false refl some)
+some-counted p (x ∷ xs) some =
+    let first = sum_by-cons (λ z. cond (p z) 1 0) x xs in
+    elim (cases_Bool (p x)) [
+      | inl passes ↦ (let one : cond {A = ℕ} (p x) 1 0 ≡ 1 = cond-true (p x) 1 0 passes in omega (arith, first, one))
+      | inr fails ↦ (let later : list_any p xs ≡ true = rw fails at some in omega (arith, first, some-counted p xs later))
+    ]
+
+-- a place in one part of a line is in no other
+pub apart-parts : (xs ys : List (At × Entry)) (at : At) → AreApart (xs ++ ys) → list_any (is_at at) xs ≡ true → list_any (is_at at) ys ≡ false
+apart-parts xs ys at apart some =
+    elim (cases_Bool (list_any (is_at at) ys)) [
+      | inl also ↦ absurd (omega (
+        arith,
+        apart at,
+        sum_by-append (λ e. cond (is_at at e) 1 0) xs ys,
+        some-counted (is_at at) xs some,
+        some-counted (is_at at) ys also,
+      ))
+      | inr none ↦ none
+    ]
+
+pub AreApart-tail : (e : At × Entry) (es : List (At × Entry)) → AreApart (e ∷ es) → AreApart es
+AreApart-tail e es apart at = omega (arith, apart at, sum_by-cons (λ x. cond (is_at at x) 1 0) e es)
+
+pub AreApart-seam : (entries before : List (At × Entry)) → entries ≡ before → AreApart entries → AreApart before
+AreApart-seam entries before is apart = subst (λ (es : List (At × Entry)). AreApart es) is apart

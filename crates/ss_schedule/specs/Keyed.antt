@@ -1,5 +1,5 @@
--- When each pair of neighbours first fits, by the place of the left one.
-use Rattle.std.specs.Prelude.{◌≡◌, ℕ, ◌+◌, ◌≤◌, List, [], ◌∷◌, slice_set, Option, Some, None, ⊤}
+-- When each pair of neighbours first fits, by the place of the right one.
+use Rattle.std.specs.Prelude.{◌≡◌, ◌≢◌, ℕ, ◌+◌, ◌≤◌, List, [], ◌∷◌, length, Option, Some, None, ⊤}
 use Rattle.std.specs.List.{slice_index_or}
 use Rattle.ss_line.specs.declared.entry.At.{At}
 use Rattle.ss_line.specs.declared.entry.Entry.{Entry}
@@ -12,7 +12,7 @@ use Rattle.ss_windowing.specs.declared.decay.TheConstants.{MOST_VALUES}
 use Rattle.ss_schedule.specs.Pairs.{pair_at}
 use Rattle.ss_schedule.specs.declared.pair.Pair.{Pair}
 
--- a schedule: its target, and the key of each place, if it has one: the place of the right neighbour, and when
+-- a schedule: its target, and the key of each place, if it has one: the place of the left neighbour, and when
 -- the two first fit. There are as many places as it has room for.
 pub record ScheduleState : Type 0 where
   pub target : Target
@@ -26,13 +26,13 @@ key_at keys at = slice_index_or keys at.0 None
 abbrev pub NeverFit : (ℕ → ℕ) → ℕ → ℕ → ℕ → Type 0
 NeverFit len l r n = (m : ℕ) → n ≤ m → m ≤ MOST_VALUES → ¬ Fits len l r m
 
--- the key names the right neighbour, and the count from n on at which the two first lie in one target window
+-- the key names the left neighbour, and the count from n on at which the two first lie in one target window
 pub record IsFirstKey (len : ℕ → ℕ) (n : ℕ) (pair : Pair) (key : At × ℕ) : Type 0 where
-  pub right : key.0 ≡ pair.right
+  pub left : key.0 ≡ pair.left
   pub first : IsFirstFit len pair.first pair.last n key.1
   pub few : key.1 ≤ MOST_VALUES
 
--- what the key has to be where this pair has its left one: there is none without a pair, and for a pair that never fits
+-- what the key has to be where this pair has its right one: there is none without a pair, and for a pair that never fits
 abbrev pub IsKeyOf : (ℕ → ℕ) → ℕ → Option Pair → Option (At × ℕ) → Type 0
 IsKeyOf len n None key = key ≡ None
 IsKeyOf len n (Some pair) None = NeverFit len pair.first pair.last n
@@ -59,9 +59,9 @@ pub record IsKeyed (n : ℕ) (entries : List (At × Entry)) (schedule : Schedule
   pub follow : FollowUpTo n entries
   pub keys : (at : At) → IsKeyOf (lengths schedule) n (pair_at entries at) (key_at schedule.keys at)
 
--- a key was put at a place: the one that it has to have where this pair has its left one
+-- a key was put at a place: the one that it has to have where this pair has its right one
 pub record PutsKey (old new : ScheduleState) (n : ℕ) (at : At) (pair : Option Pair) : Type 0 where
-  pub key : Option (At × ℕ)
-  pub is : IsKeyOf (lengths old) n pair key
-  pub keys : new.keys ≡ slice_set old.keys at.0 key
+  pub here : IsKeyOf (lengths new) n pair (key_at new.keys at)
+  pub others : (other : At) → other.0 ≢ at.0 → key_at new.keys other ≡ key_at old.keys other
+  pub room : length new.keys ≡ length old.keys
   pub target : new.target ≡ old.target

@@ -4,7 +4,7 @@ use ss_line::{At, MOST_PLACES};
 use std::alloc::{AllocError, Global};
 use std::marker::Model;
 
-/// A key for some places, and room for more: which place its pair has on the right, and when the pair first fits. All
+/// A key for some places, and room for more: which place its pair has on the left, and when the pair first fits. All
 /// places stand in a heap, those without a key last, so the least key is found in one step, and one is changed in a
 /// number of steps that grows as the logarithm of the room.
 #[derive(Drop)]
@@ -45,6 +45,13 @@ impl Keys {
             heap: Vec::new(alloc),
             positions: Vec::new(alloc),
         }
+    }
+
+    /// How many places there is room for.
+    pub fn room(&self) -> u32
+        ensures { result ≡ length self.now }
+    {
+        self.keys.len() as u32
     }
 
     // Room for one place more, which has no key.
@@ -99,7 +106,7 @@ impl Keys {
         }
         let place = self.heap[0];
         match self.keys[place as usize] {
-            Some((right, fit)) if fit <= n => Some((At(place), right)),
+            Some((left, fit)) if fit <= n => Some((At(place), left)),
             _ => None,
         }
     }

@@ -1,5 +1,5 @@
 // Pairs of neighbours.
-ghost use Rattle.std.specs.Prelude.{◌≡◌, ◌+◌, ◌≤◌, Some, None, IfSome, MatchOption};
+ghost use Rattle.std.specs.Prelude.{◌≡◌, ◌+◌, ◌≤◌, Some, None, IfSome, IfNone};
 ghost use Rattle.ss_line.specs.Line.{StandsIn, entry_at, index_of, place_at, place_before};
 ghost use Rattle.ss_schedule.specs.Pairs.{pair_at};
 
@@ -17,32 +17,6 @@ pub struct Pair {
     pub last: u64,
 }
 
-/// The pair of the entry at a place and the one behind it, if there is one.
-pub fn pair_behind<L: Ledger>(
-    line: &Line,
-    at: At,
-    entry: Entry,
-    behind: Option<At>,
-    steps: &mut Steps<L>,
-) -> Option<Pair>
-    requires stands { StandsIn line.now.entries at }
-    requires entry { entry_at line.now.entries at ≡ Some entry }
-    requires behind { behind ≡ place_at line.now.entries (index_of line.now.entries at + 1) }
-    requires behind_stands { IfSome behind (StandsIn line.now.entries) }
-    ensures pair { result ≡ pair_at line.now.entries at }
-    ensures look { steps.new ≤ steps.old + 1 }
-{
-    let _len = line.len();
-    let right = behind?;
-    let last = line.get(right, steps).last;
-    Some(Pair {
-        left: at,
-        right,
-        first: entry.first,
-        last,
-    })
-}
-
 /// The pair of the entry before the one at a place and that one, if there is one before it.
 pub fn pair_before<L: Ledger>(
     line: &Line,
@@ -55,8 +29,7 @@ pub fn pair_before<L: Ledger>(
     requires entry { entry_at line.now.entries at ≡ Some entry }
     requires before { before ≡ place_before line.now.entries (index_of line.now.entries at) }
     requires before_stands { IfSome before (StandsIn line.now.entries) }
-    ensures pair { MatchOption before (result ≡ None) (λ left. pair_at line.now.entries left ≡ result) }
-    ensures left { IfSome result (λ pair. before ≡ Some pair.left) }
+    ensures pair { result ≡ pair_at line.now.entries at }
     ensures look { steps.new ≤ steps.old + 1 }
 {
     let _len = line.len();
@@ -67,5 +40,32 @@ pub fn pair_before<L: Ledger>(
         right: at,
         first,
         last: entry.last,
+    })
+}
+
+/// The pair of the entry at a place and the one behind it, if there is one.
+pub fn pair_behind<L: Ledger>(
+    line: &Line,
+    at: At,
+    entry: Entry,
+    behind: Option<At>,
+    steps: &mut Steps<L>,
+) -> Option<Pair>
+    requires stands { StandsIn line.now.entries at }
+    requires entry { entry_at line.now.entries at ≡ Some entry }
+    requires behind { behind ≡ place_at line.now.entries (index_of line.now.entries at + 1) }
+    requires behind_stands { IfSome behind (StandsIn line.now.entries) }
+    ensures none { IfNone result (behind ≡ None) }
+    ensures pair { IfSome result (λ pair. (behind ≡ Some pair.right) × (pair_at line.now.entries pair.right ≡ Some pair)) }
+    ensures look { steps.new ≤ steps.old + 1 }
+{
+    let _len = line.len();
+    let right = behind?;
+    let last = line.get(right, steps).last;
+    Some(Pair {
+        left: at,
+        right,
+        first: entry.first,
+        last,
     })
 }

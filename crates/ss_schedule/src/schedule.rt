@@ -15,7 +15,7 @@ use std::sync::ledger::Ledger;
 #[derive(Drop)]
 pub struct Schedule {
     target: Target,
-    // By the place of the left one of a pair: the place of the right one, and when the two first fit.
+    // By the place of the right one of a pair: the place of the left one, and when the two first fit.
     keys: Keys,
 }
 
@@ -28,7 +28,7 @@ impl Model for Schedule {
 }
 
 impl Schedule {
-    ghost use Rattle.std.specs.Prelude.{◌≡◌, ◌+◌, ◌≤◌, ◌<◌, ℕ, true, List, [], ◌∷◌, ◌++◌, length, take, Some, IfSome, IfNone, MatchOption, OnOk};
+    ghost use Rattle.std.specs.Prelude.{◌≡◌, ◌+◌, ◌≤◌, ◌<◌, ℕ, true, List, [], ◌∷◌, ◌++◌, length, take, Some, None, IfSome, IfNone, MatchOption, OnOk};
     ghost use Rattle.ss_line.specs.declared.entry.At.{At};
     ghost use Rattle.ss_line.specs.declared.entry.Entry.{Entry};
     ghost use Rattle.ss_line.specs.Line.{StandsIn, index_of};
@@ -69,13 +69,13 @@ impl Schedule {
     {
         match self.target.first_fit(pair.first, pair.last, n) {
             None => None,
-            Some(fit) => Some((pair.right, fit)),
+            Some(fit) => Some((pair.left, fit)),
         }
     }
 
-    // Puts the key of a pair, seen at n, at a place; none without a pair.
+    // Puts the key of a pair, seen at n, at a place; none without a pair. There is room for it, or it has no key.
     fn put(&mut self, at: At, pair: Option<Pair>, n: u64)
-        requires room { at.0 < length self.old.keys }
+        requires room { length self.old.keys ≤ at.0 → IsKeyOf (lengths self.old) n pair None }
         requires span { IfSome pair (IsSpan n) }
         requires few { n ≤ MOST_VALUES }
         ensures { PutsKey self.old self.new n at pair }
@@ -84,7 +84,9 @@ impl Schedule {
             None => None,
             Some(pair) => self.key_of(pair, n),
         };
-        self.keys.set(at, key);
+        if at.0 < self.keys.room() {
+            self.keys.set(at, key);
+        }
     }
 
     /// Takes up the entry at a place, when n values are held: it is the next one of the line after those that the schedule
@@ -101,9 +103,8 @@ impl Schedule {
     {
         let entry = line.get(at, steps);
         let (before, _) = line.neighbours(at, steps);
-        if let Some(pair) = pair_before(line, before, at, entry, steps) {
-            self.put(pair.left, Some(pair), n);
-        }
+        let previous = pair_before(line, before, at, entry, steps);
+        self.put(at, previous, n);
     }
 
     /// A pair of neighbours that lies in one target window when n values are held. None says that there is none, without a
@@ -115,7 +116,7 @@ impl Schedule {
         ensures none { IfNone result (NoPairFits (lengths self.now) n line.now.entries) }
         ensures looks { MatchOption result (steps.new ≡ steps.old) (λ _. steps.new ≤ steps.old + 2) }
     {
-        let (left, right) = self.keys.least_by(n)?;
+        let (right, left) = self.keys.least_by(n)?;
         let first = line.get(left, steps).first;
         let last = line.get(right, steps).last;
         Some(Pair {
@@ -149,12 +150,12 @@ impl Schedule {
         };
         line.set(pair.left, joined, steps);
         let (before, behind) = line.neighbours(pair.left, steps);
-        let next = pair_behind(line, pair.left, joined, behind, steps);
         let previous = pair_before(line, before, pair.left, joined, steps);
+        let next = pair_behind(line, pair.left, joined, behind, steps);
         self.put(pair.right, None, n);
-        self.put(pair.left, next, n);
-        if let Some(pair) = previous {
-            self.put(pair.left, previous, n);
+        self.put(pair.left, previous, n);
+        if let Some(pair) = next {
+            self.put(pair.right, next, n);
         }
     }
 }
