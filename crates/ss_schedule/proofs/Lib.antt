@@ -2,3 +2,4 @@ pub mod HeapLemmas
 pub mod InverseLemmas
 pub mod Places
 pub mod PairLemmas
+pub mod KeyedLemmas

@@ -178,3 +178,12 @@ AreApart-tail e es apart at = omega (arith, apart at, sum_by-cons (λ x. cond (i
 
 pub AreApart-seam : (entries before : List (At × Entry)) → entries ≡ before → AreApart entries → AreApart before
 AreApart-seam entries before is apart = subst (λ (es : List (At × Entry)). AreApart es) is apart
+
+-- a place that doesn't stand
+pub fresh-none : (entries : List (At × Entry)) (at : At) → ¬ StandsIn entries at → list_any (is_at at) entries ≡ false
+fresh-none [] at fresh = refl
+fresh-none (e ∷ es) at fresh =
+    elim (cases_Bool (is_at at e)) [
+      | inl here ↦ absurd (fresh (rw here (omega arith)))
+      | inr later ↦ list_any-cons_false (is_at at) e es later (fresh-none es at (λ stands. fresh (rw later (omega (arith, stands)))))
+    ]
