@@ -4,6 +4,7 @@ use Rattle.std.proofs.Common.{sym, ap, subst, arith, append_assoc, length-append
 use Rattle.std.specs.List.{list_any, remove}
 use Rattle.std.proofs.Math.Seq.{set-append_seam}
 use Rattle.std.proofs.lemmas.Bool.{cases_Bool, cases_eq, both_ways, eq-eqb, or_parts}
+use Rattle.std.proofs.lemmas.List.{get_or_past, get_or-set_other, get_or-set_same, length-set}
 use Rattle.ss_line.specs.Line.{StandsIn, entry_at, index_of, is_at, place_at, place_before}
 use Rattle.ss_line.specs.declared.entry.At.{At}
 use Rattle.ss_line.specs.declared.entry.Entry.{Entry}
@@ -16,7 +17,8 @@ use Rattle.ss_schedule.specs.Keyed.{FollowFrom, FollowUpTo, IsFirstKey, IsKeyOf,
 use Rattle.ss_schedule.specs.Pairs.{AreSideBySide, IsPairIn, IsSpan, NoPairFits, joined_entry, pair_at, pair_behind, pair_of}
 use Rattle.ss_schedule.specs.declared.pair.Pair.{Pair}
 use Rattle.ss_schedule.specs.declared.sifting.TheConstants.{NEVER}
-use Rattle.ss_schedule.proofs.PairLemmas.{pair_at-neighbours, pair_at-past, pair_at-within, pair_behind-absent, pair_behind-here}
+use Rattle.ss_schedule.proofs.PairLemmas.{pair_at-neighbours, pair_at-past, pair_at-within, pair_behind-absent, pair_behind-here, some-same}
+use Rattle.ss_schedule.proofs.JoinLemmas.{entry-left, entry-right, stands-left, stands-right}
 use Rattle.ss_schedule.proofs.Places.{AreApart, AreApart-seam, AreApart-tail, Ends, IsAt, IsAt-stands, apart-before, apart-behind, apart-parts, ends, with_last, without_last}
 use Rattle.ss_schedule.proofs.Places.{entry-once, index-once, is_at-same, list_any-cons_false, list_any-snoc_false, place_at-seam, remove-seam, same_place}
 use Rattle.ss_schedule.proofs.Places.{stands-once, take-seam}
@@ -70,7 +72,7 @@ FollowFrom-joined n first [] left right w v rest follow =
 FollowFrom-joined n first (e ∷ es) left right w v rest follow =
     (follow.0, follow.1, follow.2, FollowFrom-joined n (e.1.last + 1) es left right w v rest follow.3)
 
-FollowUpTo-joined : (n : ℕ) (before : List (At × Entry)) (left right : At) (w v : Entry) (rest : List (At × Entry)) →
+pub FollowUpTo-joined : (n : ℕ) (before : List (At × Entry)) (left right : At) (w v : Entry) (rest : List (At × Entry)) →
     FollowUpTo n (before ++ (left, w) ∷ (right, v) ∷ rest) → FollowUpTo n (before ++ (left, joined_entry w v) ∷ rest)
 FollowUpTo-joined n [] left right w v rest follow = (follow.0, FollowFrom-joined n w.first [] left right w v rest follow.1)
 FollowUpTo-joined n (e ∷ es) left right w v rest follow = (follow.0, FollowFrom-joined n e.1.first (e ∷ es) left right w v rest follow.1)
@@ -86,7 +88,7 @@ FollowFrom-seam n first [] x y rest follow =
     (omega arith, next, omega arith)
 FollowFrom-seam n first (e ∷ es) x y rest follow = FollowFrom-seam n (e.1.last + 1) es x y rest follow.3
 
-FollowUpTo-seam : (n : ℕ) (before : List (At × Entry)) (x y : At × Entry) (rest : List (At × Entry)) → FollowUpTo n (before ++ x ∷ y ∷ rest) →
+pub FollowUpTo-seam : (n : ℕ) (before : List (At × Entry)) (x y : At × Entry) (rest : List (At × Entry)) → FollowUpTo n (before ++ x ∷ y ∷ rest) →
     (x.1.first ≤ x.1.last) × (y.1.first ≡ x.1.last + 1) × (y.1.first ≤ y.1.last)
 FollowUpTo-seam n [] x y rest follow = FollowFrom-seam n x.1.first [] x y rest follow.1
 FollowUpTo-seam n (e ∷ es) x y rest follow = FollowFrom-seam n e.1.first (e ∷ es) x y rest follow.1
@@ -198,7 +200,7 @@ key-pair len n (Some pair) key is = (pair, refl, is)
 
 -- a key that was put
 module _ (old new : ScheduleState) (n : ℕ) (at : At) (found : Option Pair) (put : PutsKey old new n at found) where
-  len-kept : lengths new ≡ lengths old
+  pub len-kept : lengths new ≡ lengths old
   len-kept = ap (λ target. lengths (let s : ScheduleState = record { target = target; keys = [] } in s)) put.target
 
   pub put-here : (other : At) (entry : Entry) (pair : Option Pair) → is_at other (at, entry) ≡ true → pair ≡ found →
@@ -227,3 +229,162 @@ IsKeyed-more n before at entry old new keyed put follow = record {
         (rw (pair_at-within before ((at, entry) ∷ []) other (list_any-cons_false (is_at other) (at, entry) [] later refl)) (keyed.keys other))
   ];
 }
+
+-- a pair in a line, by the place of the right one
+pub record IsSplit (entries : List (At × Entry)) (at : At) (pair : Pair) : Type 0 where
+  pub before : List (At × Entry)
+  pub left : At × Entry
+  pub entry : Entry
+  pub rest : List (At × Entry)
+  pub is : entries ≡ before ++ left ∷ (at, entry) ∷ rest
+  pub pair_is : pair ≡ pair_of left (at, entry)
+
+IsSplit-behind : (e : At × Entry) (entries : List (At × Entry)) (at : At) (pair : Pair) → pair_behind e entries at ≡ Some pair →
+    IsSplit (e ∷ entries) at pair
+IsSplit-behind e [] at pair is = absurd (cc)
+IsSplit-behind e (x ∷ xs) at pair is =
+    elim (cases_Bool (is_at at x)) [
+      | inl here ↦ (
+          let place = same_place at x here in
+          let same : Some (pair_of e x) ≡ Some pair = rw here at is in
+          let one : pair_of e x ≡ pair = cc in
+          record {
+            before = [];
+            left = e;
+            entry = x.1;
+            rest = xs;
+            is = ap (λ (a : At). e ∷ (a, x.1) ∷ xs) place;
+            pair_is = sym one ∙ ap (λ (a : At). pair_of e (a, x.1)) place;
+          })
+      | inr later ↦ (
+          let rest = IsSplit-behind x xs at pair (rw later at is) in
+          record { before = e ∷ rest.before; left = rest.left; entry = rest.entry; rest = rest.rest; is = ap (λ es. e ∷ es) rest.is; pair_is = rest.pair_is })
+    ]
+
+pub IsSplit-pair : (entries : List (At × Entry)) (at : At) (pair : Pair) → pair_at entries at ≡ Some pair → IsSplit entries at pair
+IsSplit-pair [] at pair is = absurd (cc)
+IsSplit-pair (e ∷ es) at pair is = IsSplit-behind e es at pair is
+
+-- two neighbours as a line has them, by what was read of them
+module _ (entries : List (At × Entry)) (apart : AreApart entries) (at : At) (pair : Pair) (it : IsSplit entries at pair) where
+  side_by_side : AreSideBySide entries it.left.0 at
+  side_by_side =
+      let moved = it.is ∙ sym (append_assoc it.before (it.left ∷ []) ((at, it.entry) ∷ it.rest)) in
+      record {
+        before = it.before;
+        window = it.left.1;
+        next = it.entry;
+        rest = it.rest;
+        is = it.is;
+        left_once = apart-before it.before it.left.0 it.left.1 ((at, it.entry) ∷ it.rest) (AreApart-seam entries _ it.is apart);
+        right_once = apart-before (it.before ++ it.left ∷ []) at it.entry it.rest (AreApart-seam entries _ moved apart);
+      }
+
+  pub split-stands : (left : At) → left ≡ pair.left → (StandsIn entries left) × (StandsIn entries at)
+  split-stands left same =
+      let place : it.left.0 ≡ left = sym (same ∙ ap (λ (p : Pair). p.left) it.pair_is) in (
+        subst (λ (a : At). StandsIn entries a) place (stands-left entries it.left.0 at side_by_side),
+        stands-right entries it.left.0 at side_by_side,
+      )
+
+  pub IsPairIn-read : (left : At) (window entry : Entry) → left ≡ pair.left → entry_at entries left ≡ Some window → entry_at entries at ≡ Some entry →
+      let read : Pair = record { left = left; right = at; first = window.first; last = entry.last } in IsPairIn entries read
+  unfolding side_by_side
+  IsPairIn-read left window entry same read_left read_at =
+      let place : it.left.0 ≡ left = sym (same ∙ ap (λ (p : Pair). p.left) it.pair_is) in
+      let first = some-same it.left.1 window (sym (entry-left entries it.left.0 at side_by_side) ∙ ap (entry_at entries) place ∙ read_left) in
+      let last = some-same it.entry entry (sym (entry-right entries it.left.0 at side_by_side) ∙ read_at) in
+      let read : (a : At) → it.left.0 ≡ a → IsPairIn entries (let p : Pair = record { left = a; right = at; first = window.first; last = entry.last } in p) =
+      λ a is. subst (λ (b : At). IsPairIn entries (let p : Pair = record { left = b; right = at; first = window.first; last = entry.last } in p)) is
+      (record { neighbours = side_by_side; first = ap (λ (e : Entry). e.first) (sym first); last = ap (λ (e : Entry). e.last) (sym last) }) in
+      read left place
+
+  -- the positions that were read are those of the pair
+  pub positions-read : (left : At) (window entry : Entry) → left ≡ pair.left → entry_at entries left ≡ Some window → entry_at entries at ≡ Some entry →
+      (window.first ≡ pair.first) × (entry.last ≡ pair.last)
+  unfolding side_by_side
+  positions-read left window entry same read_left read_at =
+      let place : it.left.0 ≡ left = sym (same ∙ ap (λ (p : Pair). p.left) it.pair_is) in
+      let first = some-same it.left.1 window (sym (entry-left entries it.left.0 at side_by_side) ∙ ap (entry_at entries) place ∙ read_left) in
+      let last = some-same it.entry entry (sym (entry-right entries it.left.0 at side_by_side) ∙ read_at) in
+      (sym (ap (λ (p : Pair). p.first) it.pair_is ∙ ap (λ (e : Entry). e.first) first), sym (ap (λ (p : Pair). p.last) it.pair_is ∙ ap (λ (e : Entry). e.last) last))
+
+-- a key that is at most n is of a pair that fits at n
+pub fits-by : (len : ℕ → ℕ) (n fit : ℕ) (pair : Pair) (key : At × ℕ) → ArePositive len → IsSpan n pair → fit ≤ n → key.1 ≡ fit → IsFirstKey len n pair key →
+    fits len pair.first pair.last n ≡ true
+fits-by len n fit pair key full span le same is =
+    let reached = is.first.reached in
+    let now : key.1 ≡ n = omega arith in
+    (fits-one_window len pair.first pair.last n full span.order).1 (subst (λ m. Fits len pair.first pair.last m) now is.first.fits)
+
+-- the entries up to one of a line, and with it
+pub taken-before : (entries : List (At × Entry)) (at : At) (it : IsAt entries at) → take (index_of entries at) entries ≡ it.before
+taken-before entries at it =
+    let index = ap (λ es. index_of es at) it.is ∙ index-once it.before at it.entry it.rest it.once in
+    ap (λ k. take k entries) index ∙ ap (take (length it.before)) it.is ∙ take-seam it.before ((at, it.entry) ∷ it.rest)
+
+pub taken-with : (entries : List (At × Entry)) (at : At) (it : IsAt entries at) → take (index_of entries at + 1) entries ≡ it.before ++ (at, it.entry) ∷ []
+taken-with entries at it =
+    let index = ap (λ es. index_of es at) it.is ∙ index-once it.before at it.entry it.rest it.once in
+    let long : index_of entries at + 1 ≡ length (it.before ++ (at, it.entry) ∷ []) = omega (arith, index, length-append it.before ((at, it.entry) ∷ [])) in
+    ap (λ k. take k entries) long ∙ ap (take (length (it.before ++ (at, it.entry) ∷ []))) (it.is ∙ sym (append_assoc it.before ((at, it.entry) ∷ []) it.rest))
+    ∙ take-seam (it.before ++ (at, it.entry) ∷ []) it.rest
+
+-- what is behind doesn't matter to the pair of an entry and the one before it
+pub pair-with : (entries : List (At × Entry)) (at : At) (it : IsAt entries at) → AreApart entries →
+    pair_at entries at ≡ pair_at (it.before ++ (at, it.entry) ∷ []) at
+pair-with entries at it apart =
+    let moved = it.is ∙ sym (append_assoc it.before ((at, it.entry) ∷ []) it.rest) in
+    ap (λ es. pair_at es at) moved
+    ∙ pair_at-within (it.before ++ (at, it.entry) ∷ []) it.rest at (apart-behind it.before at it.entry it.rest (AreApart-seam entries _ it.is apart))
+
+-- the keys when the next entry of a line is taken up
+pub IsKeyed-added : (n : ℕ) (entries : List (At × Entry)) (at : At) (old new : ScheduleState) (found : Option Pair) → AreApart entries → StandsIn entries at →
+    found ≡ pair_at entries at → IsKeyed n (take (index_of entries at) entries) old → FollowUpTo n (take (index_of entries at + 1) entries) →
+    PutsKey old new n at found → IsKeyed n (take (index_of entries at + 1) entries) new
+IsKeyed-added n entries at old new found apart stands is keyed follow put =
+    let it = IsAt-stands entries at stands in
+    subst (λ (es : List (At × Entry)). IsKeyed n es new) (sym (taken-with entries at it))
+    (IsKeyed-more n it.before at it.entry old new (subst (λ (es : List (At × Entry)). IsKeyed n es old) (taken-before entries at it) keyed)
+    (subst (λ o. PutsKey old new n at o) (is ∙ pair-with entries at it apart) put)
+    (subst (λ (es : List (At × Entry)). FollowUpTo n es) (taken-with entries at it) follow))
+
+pub spans-added : (n : ℕ) (entries : List (At × Entry)) (at : At) (found : Option Pair) → AreApart entries → StandsIn entries at →
+    found ≡ pair_at entries at → FollowUpTo n (take (index_of entries at + 1) entries) → IfSome found (IsSpan n)
+spans-added n entries at found apart stands is follow =
+    let it = IsAt-stands entries at stands in
+    spans n (it.before ++ (at, it.entry) ∷ []) at found (subst (λ (es : List (At × Entry)). FollowUpTo n es) (taken-with entries at it) follow)
+    (is ∙ pair-with entries at it apart)
+
+-- a key that has room, and one that has none
+pub PutsKey-set : (old : ScheduleState) (keys : List (Option (At × ℕ))) (n : ℕ) (at : At) (pair : Option Pair) (key : Option (At × ℕ)) → IsKeyOf (lengths old) n pair key →
+    at.0 < length old.keys → keys ≡ set old.keys at.0 key → PutsKey old (let s : ScheduleState = record { target = old.target; keys = keys } in s) n at pair
+PutsKey-set old keys n at pair key is inside set_is = record {
+  here = subst (λ (k : Option (At × ℕ)). IsKeyOf (lengths old) n pair k)
+      (sym (ap (λ ks. key_at ks at) set_is ∙ get_or-set_same old.keys at.0 key None inside)) is;
+  others = λ other apart. ap (λ ks. key_at ks other) set_is ∙ get_or-set_other old.keys at.0 other.0 key None apart;
+  room = ap length set_is ∙ length-set old.keys at.0 key;
+  target = refl;
+}
+
+pub PutsKey-past : (old : ScheduleState) (n : ℕ) (at : At) (pair : Option Pair) → IsKeyOf (lengths old) n pair None → length old.keys ≤ at.0 → PutsKey old old n at pair
+PutsKey-past old n at pair is past = record {
+  here = subst (λ (k : Option (At × ℕ)). IsKeyOf (lengths old) n pair k) (sym (get_or_past old.keys at.0 None past)) is;
+  others = λ other apart. refl;
+  room = refl;
+  target = refl;
+}
+
+-- the pair of a key of a keyed schedule
+pub record IsPairOfKey (n : ℕ) (entries : List (At × Entry)) (schedule : ScheduleState) (right left : At) (fit : ℕ) : Type 0 where
+  pub pair : Pair
+  pub split : IsSplit entries right pair
+  pub key : IsFirstKey (lengths schedule) n pair (left, fit)
+  pub span : IsSpan n pair
+
+pub IsPairOfKey-keyed : (n : ℕ) (entries : List (At × Entry)) (schedule : ScheduleState) (right left : At) (fit : ℕ) → IsKeyed n entries schedule →
+    key_at schedule.keys right ≡ Some (left, fit) → IsPairOfKey n entries schedule right left fit
+IsPairOfKey-keyed n entries schedule right left fit keyed key =
+    let found = key-pair (lengths schedule) n (pair_at entries right) (left, fit)
+    (subst (λ (k : Option (At × ℕ)). IsKeyOf (lengths schedule) n (pair_at entries right) k) key (keyed.keys right)) in
+    record { pair = found.0; split = IsSplit-pair entries right found.0 found.1; key = found.2; span = IsSpan-pair n entries right found.0 keyed.follow found.1 }

@@ -3,3 +3,5 @@ pub mod InverseLemmas
 pub mod Places
 pub mod PairLemmas
 pub mod KeyedLemmas
+pub mod JoinLemmas
+pub mod MergeLemmas

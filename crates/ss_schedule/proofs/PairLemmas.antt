@@ -54,7 +54,7 @@ pair_at-seam before x at entry rest once = pair_at-past before x ((at, entry) �
 pub pair_at-first : (at : At) (entry : Entry) (rest : List (At × Entry)) → AreApart ((at, entry) ∷ rest) → pair_at ((at, entry) ∷ rest) at ≡ None
 pair_at-first at entry rest apart = pair_behind-absent (at, entry) rest at (apart-behind [] at entry rest apart)
 
-some-same : {X : Type 0} (x y : X) → Some x ≡ Some y → x ≡ y
+pub some-same : {X : Type 0} (x y : X) → Some x ≡ Some y → x ≡ y
 some-same x y same = cc
 
 module _ (entries : List (At × Entry)) (apart : AreApart entries) where

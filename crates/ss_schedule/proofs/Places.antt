@@ -187,3 +187,13 @@ fresh-none (e ∷ es) at fresh =
       | inl here ↦ absurd (fresh (rw here (omega arith)))
       | inr later ↦ list_any-cons_false (is_at at) e es later (fresh-none es at (λ stands. fresh (rw later (omega (arith, stands)))))
     ]
+
+-- the first place
+pub none-first : (entries : List (At × Entry)) → None ≡ place_at entries 0 → entries ≡ []
+none-first [] read = refl
+none-first (e ∷ es) read = absurd (cc)
+
+pub some-first : (entries : List (At × Entry)) (at : At) → Some at ≡ place_at entries 0 →
+    (e : At × Entry) × (es : List (At × Entry)) × (entries ≡ e ∷ es) × (e.0 ≡ at)
+some-first [] at read = absurd (cc)
+some-first (e ∷ es) at read = let place : e.0 ≡ at = cc in (e, es, refl, place)

@@ -1,7 +1,7 @@
 // Pairs of neighbours.
-ghost use Rattle.std.specs.Prelude.{◌≡◌, ◌+◌, ◌≤◌, Some, None, IfSome, IfNone};
-ghost use Rattle.ss_line.specs.Line.{StandsIn, entry_at, index_of, place_at, place_before};
-ghost use Rattle.ss_schedule.specs.Pairs.{pair_at};
+ghost use Rattle.std.specs.Prelude.{◌≡◌, ◌+◌, ◌≤◌, ◌∷◌, ◌++◌, Some, None, IfSome, IfNone};
+ghost use Rattle.ss_line.specs.Line.{IsLine, StandsIn, entry_at, index_of, place_at, place_before};
+ghost use Rattle.ss_schedule.specs.Pairs.{AreSideBySide, IsPairIn, joined_entry, pair_at};
 
 use ss_line::{At, Entry, Line};
 use ss_steps::Steps;
@@ -68,4 +68,27 @@ pub fn pair_behind<L: Ledger>(
         first: entry.first,
         last,
     })
+}
+
+/// Joins two neighbours at the place of the left one, and gives the entry that they make.
+pub fn join<L: Ledger>(line: &mut Line, pair: Pair, steps: &mut Steps<L>) -> Entry
+    requires { IsPairIn line.old.entries pair }
+    ensures joined { (it : AreSideBySide line.old.entries pair.left pair.right)
+        → line.new.entries ≡ it.before ++ (pair.left, joined_entry it.window it.next) ∷ it.rest }
+    ensures entry { entry_at line.new.entries pair.left ≡ Some result }
+    ensures stands { StandsIn line.new.entries pair.left }
+    ensures line { IsLine line.new }
+    ensures spare { line.new.spare ≡ line.old.spare + 1 }
+    ensures look { steps.new ≡ steps.old + 3 }
+{
+    line.cut_out(pair.right, steps);
+    let slot = line.get(pair.left, steps).slot;
+    let joined = Entry {
+        first: pair.first,
+        last: pair.last,
+        slot,
+    };
+    line.set(pair.left, joined, steps);
+    let _len = line.len();
+    joined
 }

@@ -1,7 +1,8 @@
 // The schedule of merges.
 use crate::keys::Keys;
-use crate::pair::{Pair, pair_before, pair_behind};
-use ss_line::{At, Entry, Line, MOST_PLACES};
+use crate::pair::{Pair, join, pair_before, pair_behind};
+use crate::sifting::NEVER;
+use ss_line::{At, Line, MOST_PLACES};
 use ss_steps::Steps;
 use ss_target::Target;
 use ss_windowing::MOST_VALUES;
@@ -34,6 +35,7 @@ impl Schedule {
     ghost use Rattle.ss_line.specs.Line.{StandsIn, index_of};
     ghost use Rattle.ss_windowing.specs.Windowing.{fits};
     ghost use Rattle.ss_schedule.specs.declared.pair.Pair.{Pair};
+    ghost use Rattle.ss_schedule.specs.Held.{fit_of};
     ghost use Rattle.ss_schedule.specs.Keyed.{FollowUpTo, IsKeyOf, IsKeyed, PutsKey, key_at, lengths};
     ghost use Rattle.ss_schedule.specs.Pairs.{AreSideBySide, IsPairIn, IsSpan, NoPairFits, joined_entry};
 
@@ -61,29 +63,26 @@ impl Schedule {
         self.keys.reserve(places)
     }
 
-    // The key of a pair, seen at n.
-    fn key_of(&self, pair: Pair, n: u64) -> Option<(At, u64)>
-        requires span { IsSpan n pair }
+    // The key of a pair, seen at n; none without a pair.
+    fn key_of(&self, pair: Option<Pair>, n: u64) -> Option<(At, u64)>
+        requires span { IfSome pair (IsSpan n) }
         requires few { n ≤ MOST_VALUES }
-        ensures { IsKeyOf (lengths self.now) n (Some pair) result }
+        ensures key { IsKeyOf (lengths self.now) n pair result }
+        ensures early { fit_of result ≤ NEVER }
     {
-        match self.target.first_fit(pair.first, pair.last, n) {
-            None => None,
-            Some(fit) => Some((pair.left, fit)),
-        }
+        let pair = pair?;
+        let fit = self.target.first_fit(pair.first, pair.last, n)?;
+        Some((pair.left, fit))
     }
 
-    // Puts the key of a pair, seen at n, at a place; none without a pair. There is room for it, or it has no key.
+    // Puts the key of a pair, seen at n, at a place. There is room for it, or it has no key.
     fn put(&mut self, at: At, pair: Option<Pair>, n: u64)
         requires room { length self.old.keys ≤ at.0 → IsKeyOf (lengths self.old) n pair None }
         requires span { IfSome pair (IsSpan n) }
         requires few { n ≤ MOST_VALUES }
         ensures { PutsKey self.old self.new n at pair }
     {
-        let key = match pair {
-            None => None,
-            Some(pair) => self.key_of(pair, n),
-        };
+        let key = self.key_of(pair, n);
         if at.0 < self.keys.room() {
             self.keys.set(at, key);
         }
@@ -101,6 +100,7 @@ impl Schedule {
         ensures room { length self.new.keys ≡ length self.old.keys }
         ensures looks { steps.new ≤ steps.old + 4 }
     {
+        let _len = line.len();
         let entry = line.get(at, steps);
         let (before, _) = line.neighbours(at, steps);
         let previous = pair_before(line, before, at, entry, steps);
@@ -116,6 +116,7 @@ impl Schedule {
         ensures none { IfNone result (NoPairFits (lengths self.now) n line.now.entries) }
         ensures looks { MatchOption result (steps.new ≡ steps.old) (λ _. steps.new ≤ steps.old + 2) }
     {
+        let _len = line.len();
         let (right, left) = self.keys.least_by(n)?;
         let first = line.get(left, steps).first;
         let last = line.get(right, steps).last;
@@ -141,14 +142,8 @@ impl Schedule {
         ensures room { length self.new.keys ≡ length self.old.keys }
         ensures looks { steps.new ≤ steps.old + 6 }
     {
-        line.cut_out(pair.right, steps);
-        let slot = line.get(pair.left, steps).slot;
-        let joined = Entry {
-            first: pair.first,
-            last: pair.last,
-            slot,
-        };
-        line.set(pair.left, joined, steps);
+        let _len = line.len();
+        let joined = join(line, pair, steps);
         let (before, behind) = line.neighbours(pair.left, steps);
         let previous = pair_before(line, before, pair.left, joined, steps);
         let next = pair_behind(line, pair.left, joined, behind, steps);
