@@ -1,6 +1,6 @@
 -- Two neighbours in a line that become one.
 use Rattle.std.proofs.Common.{◌≡◌, ◌∙◌, ℕ, ◌+◌, ◌≤◌, false, List, [], ◌∷◌, ◌++◌, length, set}
-use Rattle.std.proofs.Common.{sym, ap, ap₂, subst, append_assoc, Some}
+use Rattle.std.proofs.Common.{sym, ap, ap₂, subst, append_assoc, arith, length-append, Some}
 use Rattle.std.specs.List.{list_any, remove}
 use Rattle.std.proofs.Math.Seq.{set-append_seam}
 use Rattle.ss_line.specs.Line.{StandsIn, entry_at, index_of, is_at}
@@ -72,3 +72,15 @@ module _ (entries : List (At × Entry)) (left right : At) (it : AreSideBySide en
       other-right =
           let there = other.is ∙ sym (append_assoc other.before ((left, other.window) ∷ []) ((right, other.next) ∷ other.rest)) in
           ap (λ es. entry_at es right) there ∙ entry-once (other.before ++ (left, other.window) ∷ []) right other.next other.rest other.right_once
+
+  pub length-joined : (line : List (At × Entry)) (e : Entry) → line ≡ it.before ++ (left, e) ∷ it.rest → length line + 1 ≡ length entries
+  length-joined line e is =
+      let now = ap (λ (es : List (At × Entry)). length es) is in
+      let was = ap (λ (es : List (At × Entry)). length es) it.is in
+      omega (
+        arith,
+        now,
+        was,
+        length-append it.before ((left, e) ∷ it.rest),
+        length-append it.before ((left, it.window) ∷ (right, it.next) ∷ it.rest),
+      )

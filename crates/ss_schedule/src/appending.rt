@@ -24,6 +24,7 @@ pub fn merge_due<L: Ledger>(
     ensures target { schedule.new.target ≡ schedule.old.target }
     ensures looks { steps.new ≤ steps.old + 8 * result }
 {
+    let _len = line.len();
     let mut merges = 0;
     while let Some(pair) = schedule.due(line, n, steps) {
         schedule.merged(line, pair, n, steps);

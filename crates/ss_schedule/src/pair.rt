@@ -1,5 +1,5 @@
 // Pairs of neighbours.
-ghost use Rattle.std.specs.Prelude.{◌≡◌, ◌+◌, ◌≤◌, ◌∷◌, ◌++◌, Some, None, IfSome, IfNone};
+ghost use Rattle.std.specs.Prelude.{◌≡◌, ◌+◌, ◌≤◌, ◌∷◌, ◌++◌, length, Some, None, IfSome, IfNone};
 ghost use Rattle.ss_line.specs.Line.{IsLine, StandsIn, entry_at, index_of, place_at, place_before};
 ghost use Rattle.ss_schedule.specs.Pairs.{AreSideBySide, IsPairIn, joined_entry, pair_at};
 
@@ -78,6 +78,7 @@ pub fn join<L: Ledger>(line: &mut Line, pair: Pair, steps: &mut Steps<L>) -> Ent
     ensures entry { entry_at line.new.entries pair.left ≡ Some result }
     ensures stands { StandsIn line.new.entries pair.left }
     ensures line { IsLine line.new }
+    ensures fewer { length line.new.entries + 1 ≡ length line.old.entries }
     ensures spare { line.new.spare ≡ line.old.spare + 1 }
     ensures look { steps.new ≡ steps.old + 3 }
 {

@@ -136,6 +136,7 @@ impl Schedule {
         requires keyed { IsKeyed n line.old.entries self.old }
         ensures joined { (it : AreSideBySide line.old.entries pair.left pair.right)
             → line.new.entries ≡ it.before ++ (pair.left, joined_entry it.window it.next) ∷ it.rest }
+        ensures fewer { length line.new.entries + 1 ≡ length line.old.entries }
         ensures spare { line.new.spare ≡ line.old.spare + 1 }
         ensures keyed { IsKeyed n line.new.entries self.new }
         ensures target { self.new.target ≡ self.old.target }

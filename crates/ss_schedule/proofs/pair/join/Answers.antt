@@ -3,7 +3,7 @@ use Rattle.ss_line.specs.Line.{entry_at}
 use Rattle.ss_line.specs.declared.entry.At.{At}
 use Rattle.ss_line.specs.declared.entry.Entry.{Entry}
 use Rattle.ss_schedule.specs.Pairs.{joined_entry}
-use Rattle.ss_schedule.proofs.JoinLemmas.{cut-is, entry-joined, joined-is, set-is, stands-joined, stands-right}
+use Rattle.ss_schedule.proofs.JoinLemmas.{cut-is, entry-joined, joined-is, length-joined, set-is, stands-joined, stands-right}
 use Rattle.ss_schedule.proofs.pair.join.Goals as goal
 
 pub cut_out-requires : goal.cut_out-requires
@@ -37,4 +37,11 @@ returns-clause-stands g c =
     let it = c.requires.neighbours in
     let joined : Entry = record { first = c.args.pair.first; last = c.args.pair.last; slot = c.get-slot.result.slot } in
     stands-joined _ _ _ it c.set.new.self.entries joined
+    (c.set.ensures.entries ∙ set-is _ _ _ it c.cut_out.new.self.entries joined (c.cut_out.ensures.entries ∙ cut-is _ _ _ it))
+
+pub returns-clause-fewer : goal.returns-clause-fewer
+returns-clause-fewer g c =
+    let it = c.requires.neighbours in
+    let joined : Entry = record { first = c.args.pair.first; last = c.args.pair.last; slot = c.get-slot.result.slot } in
+    length-joined _ _ _ it c.set.new.self.entries joined
     (c.set.ensures.entries ∙ set-is _ _ _ it c.cut_out.new.self.entries joined (c.cut_out.ensures.entries ∙ cut-is _ _ _ it))
