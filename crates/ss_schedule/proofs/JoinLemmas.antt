@@ -1,13 +1,12 @@
 -- Two neighbours in a line that become one.
-use Rattle.std.proofs.Common.{◌≡◌, ◌∙◌, ℕ, ◌+◌, ◌≤◌, false, List, [], ◌∷◌, ◌++◌, length, set}
+use Rattle.std.proofs.Common.{◌≡◌, ◌∙◌, ℕ, ◌+◌, List, [], ◌∷◌, ◌++◌, length, set}
 use Rattle.std.proofs.Common.{sym, ap, ap₂, subst, append_assoc, arith, length-append, Some}
-use Rattle.std.specs.List.{list_any, remove}
+use Rattle.std.specs.List.{remove}
 use Rattle.std.proofs.Math.Seq.{set-append_seam}
-use Rattle.ss_line.specs.Line.{StandsIn, entry_at, index_of, is_at}
+use Rattle.ss_line.specs.Line.{StandsIn, entry_at, index_of}
 use Rattle.ss_line.specs.declared.entry.At.{At}
 use Rattle.ss_line.specs.declared.entry.Entry.{Entry}
-use Rattle.ss_schedule.specs.Pairs.{AreSideBySide, IsPairIn, joined_entry}
-use Rattle.ss_schedule.specs.declared.pair.Pair.{Pair}
+use Rattle.ss_schedule.specs.Pairs.{AreSideBySide, joined_entry}
 use Rattle.ss_schedule.proofs.PairLemmas.{some-same}
 use Rattle.ss_schedule.proofs.Places.{entry-once, index-once, remove-seam, stands-once}
 

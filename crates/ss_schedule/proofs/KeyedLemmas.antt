@@ -1,27 +1,23 @@
 -- What keys a schedule has for a line that changes.
-use Rattle.std.proofs.Common.{◌≡◌, ◌≢◌, ◌∙◌, ℕ, zero, suc, ◌+◌, ◌≤◌, ◌<◌, Bool, true, false, List, [], ◌∷◌, ◌++◌, length, refl, take, set}
+use Rattle.std.proofs.Common.{◌≡◌, ◌≢◌, ◌∙◌, ℕ, ◌+◌, ◌≤◌, ◌<◌, true, false, List, [], ◌∷◌, ◌++◌, length, refl, take, set}
 use Rattle.std.proofs.Common.{sym, ap, subst, arith, append_assoc, length-append, Option, Some, None, inl, inr, IfSome}
-use Rattle.std.specs.List.{list_any, remove}
-use Rattle.std.proofs.Math.Seq.{set-append_seam}
-use Rattle.std.proofs.lemmas.Bool.{cases_Bool, cases_eq, both_ways, eq-eqb, or_parts}
+use Rattle.std.proofs.lemmas.Bool.{cases_Bool, cases_eq, both_ways, eq-eqb}
 use Rattle.std.proofs.lemmas.List.{get_or_past, get_or-set_other, get_or-set_same, length-set}
-use Rattle.ss_line.specs.Line.{StandsIn, entry_at, index_of, is_at, place_at, place_before}
+use Rattle.ss_line.specs.Line.{StandsIn, entry_at, index_of, is_at}
 use Rattle.ss_line.specs.declared.entry.At.{At}
 use Rattle.ss_line.specs.declared.entry.Entry.{Entry}
-use Rattle.ss_windowing.specs.FirstFit.{IsFirstFit}
-use Rattle.ss_windowing.specs.Windowing.{ArePositive, Fits, cut, fits}
+use Rattle.ss_windowing.specs.Windowing.{ArePositive, Fits, fits}
 use Rattle.ss_windowing.specs.declared.decay.TheConstants.{MOST_VALUES}
 use Rattle.ss_windowing.proofs.WindowingLemmas.{fits-one_window}
 use Rattle.ss_schedule.specs.Held.{fit_of}
 use Rattle.ss_schedule.specs.Keyed.{FollowFrom, FollowUpTo, IsFirstKey, IsKeyOf, IsKeyed, NeverFit, PutsKey, ScheduleState, key_at, lengths}
 use Rattle.ss_schedule.specs.Pairs.{AreSideBySide, IsPairIn, IsSpan, NoPairFits, joined_entry, pair_at, pair_behind, pair_of}
 use Rattle.ss_schedule.specs.declared.pair.Pair.{Pair}
-use Rattle.ss_schedule.specs.declared.sifting.TheConstants.{NEVER}
-use Rattle.ss_schedule.proofs.PairLemmas.{pair_at-neighbours, pair_at-past, pair_at-within, pair_behind-absent, pair_behind-here, some-same}
+use Rattle.ss_schedule.proofs.PairLemmas.{pair_at-within, pair_behind-absent, pair_behind-here, some-same}
 use Rattle.ss_schedule.proofs.JoinLemmas.{entry-left, entry-right, stands-left, stands-right}
-use Rattle.ss_schedule.proofs.Places.{AreApart, AreApart-seam, AreApart-tail, Ends, IsAt, IsAt-stands, apart-before, apart-behind, apart-parts, ends, with_last, without_last}
-use Rattle.ss_schedule.proofs.Places.{entry-once, index-once, is_at-same, list_any-cons_false, list_any-snoc_false, place_at-seam, remove-seam, same_place}
-use Rattle.ss_schedule.proofs.Places.{stands-once, take-seam}
+use Rattle.ss_schedule.proofs.Places.{AreApart, AreApart-seam, AreApart-tail, IsAt, IsAt-stands, apart-before, apart-behind}
+use Rattle.ss_schedule.proofs.Places.{index-once, list_any-cons_false, same_place}
+use Rattle.ss_schedule.proofs.Places.{take-seam}
 
 -- the positions of a pair in a line whose positions follow one another
 IsSpan-behind : (n first : ℕ) (e : At × Entry) (entries : List (At × Entry)) (at : At) (pair : Pair) → FollowFrom n first (e ∷ entries) → 1 ≤ first →

@@ -5,3 +5,4 @@ pub mod PairLemmas
 pub mod KeyedLemmas
 pub mod JoinLemmas
 pub mod MergeLemmas
+pub mod Rows

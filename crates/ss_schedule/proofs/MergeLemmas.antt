@@ -1,5 +1,5 @@
 -- The keys after two neighbours are joined.
-use Rattle.std.proofs.Common.{◌≡◌, ◌≢◌, ◌∙◌, ℕ, ◌+◌, ◌≤◌, Bool, true, false, List, [], ◌∷◌, ◌++◌, length, refl}
+use Rattle.std.proofs.Common.{◌≡◌, ◌∙◌, ℕ, ◌+◌, ◌≤◌, Bool, true, false, List, [], ◌∷◌, ◌++◌, length, refl}
 use Rattle.std.proofs.Common.{sym, ap, subst, arith, append_assoc, Option, Some, None, IfSome, inl, inr}
 use Rattle.std.specs.List.{list_any}
 use Rattle.std.proofs.lemmas.Bool.{cases_Bool, both_ways, or_parts}
@@ -13,7 +13,7 @@ use Rattle.ss_schedule.specs.Pairs.{AreSideBySide, IsSpan, joined_entry, pair_at
 use Rattle.ss_schedule.specs.declared.pair.Pair.{Pair}
 use Rattle.ss_schedule.proofs.KeyedLemmas.{FollowUpTo-joined, FollowUpTo-seam, IsSpan-pair, NeverFit-among, len-kept, put-here, put-other, spans}
 use Rattle.ss_schedule.proofs.PairLemmas.{pair_at-neighbours, pair_at-past, pair_at-seam, pair_at-within, pair_behind-absent, some-same}
-use Rattle.ss_schedule.proofs.Places.{AreApart, AreApart-seam, Ends, apart-before, apart-behind, apart-parts, ends, with_last, without_last}
+use Rattle.ss_schedule.proofs.Places.{AreApart, AreApart-seam, Ends, apart-behind, apart-parts, ends, with_last, without_last}
 use Rattle.ss_schedule.proofs.Places.{index-once, list_any-cons_false, none-first, place_at-behind, same_place, some-first}
 
 -- whether the first of these entries stands at the place

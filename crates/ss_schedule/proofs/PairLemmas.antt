@@ -1,15 +1,14 @@
 -- The pairs of neighbours in a line.
-use Rattle.std.proofs.Common.{◌≡◌, ◌≢◌, ◌∙◌, ℕ, zero, suc, ◌+◌, Bool, true, false, List, [], ◌∷◌, ◌++◌, length, refl}
-use Rattle.std.proofs.Common.{sym, ap, subst, arith, append_assoc, length-append, Option, Some, None, inl, inr}
+use Rattle.std.proofs.Common.{◌≡◌, ◌∙◌, suc, ◌+◌, false, List, [], ◌∷◌, ◌++◌, length, refl}
+use Rattle.std.proofs.Common.{sym, ap, arith, append_assoc, length-append, Some, None, inl, inr}
 use Rattle.std.specs.List.{list_any}
-use Rattle.std.proofs.lemmas.Bool.{cases_Bool, cond-true, or_parts, both_ways, eq-eqb}
+use Rattle.std.proofs.lemmas.Bool.{cases_Bool, cond-true, or_parts}
 use Rattle.ss_line.specs.Line.{StandsIn, entry_at, index_of, is_at, place_at, place_before}
 use Rattle.ss_line.specs.declared.entry.At.{At}
 use Rattle.ss_line.specs.declared.entry.Entry.{Entry}
 use Rattle.ss_schedule.specs.Pairs.{pair_at, pair_behind, pair_of}
-use Rattle.ss_schedule.specs.declared.pair.Pair.{Pair}
-use Rattle.ss_schedule.proofs.Places.{AreApart, AreApart-seam, Ends, IsAt, IsAt-stands, apart-before, apart-behind, ends, with_last, without_last, entry-once, index-once}
-use Rattle.ss_schedule.proofs.Places.{is_at-same, list_any-snoc_false, place_at-behind, place_at-seam}
+use Rattle.ss_schedule.proofs.Places.{AreApart, AreApart-seam, Ends, IsAt-stands, apart-before, apart-behind, ends, with_last, without_last, entry-once, index-once}
+use Rattle.ss_schedule.proofs.Places.{is_at-same, place_at-behind, place_at-seam}
 
 pub pair_behind-absent : (e : At × Entry) (entries : List (At × Entry)) (at : At) → list_any (is_at at) entries ≡ false → pair_behind e entries at ≡ None
 pair_behind-absent e [] at none = refl

@@ -1,11 +1,11 @@
 -- Where entries stand in a line.
-use Rattle.std.proofs.Common.{◌≡◌, ◌∙◌, ℕ, suc, ◌+◌, ◌≤◌, ◌<◌, Bool, true, false, cond, List, [], ◌∷◌, ◌++◌, length, refl, take, set}
-use Rattle.std.proofs.Common.{sym, ap, subst, arith, append_assoc, length-append, count_by, Option, Some, None, inl, inr}
+use Rattle.std.proofs.Common.{◌≡◌, ◌∙◌, ℕ, ◌+◌, ◌≤◌, Bool, true, false, cond, List, [], ◌∷◌, ◌++◌, length, refl, take}
+use Rattle.std.proofs.Common.{sym, ap, subst, arith, append_assoc, length-append, count_by, Some, None, inl, inr}
 use Rattle.std.specs.List.{find, list_any, position_or_len, remove}
 use Rattle.std.specs.Option.{option_map}
 use Rattle.std.proofs.lemmas.Bool.{cases_Bool, cond-true, eqb-true, eq-eqb, or_parts, both_ways}
 use Rattle.std.proofs.lemmas.List.Sums.{sum_by-append, sum_by-cons}
-use Rattle.ss_line.specs.Line.{StandsIn, entry_at, index_of, is_at, place_at, place_before}
+use Rattle.ss_line.specs.Line.{StandsIn, entry_at, index_of, is_at, place_at}
 use Rattle.ss_line.specs.declared.entry.At.{At}
 use Rattle.ss_line.specs.declared.entry.Entry.{Entry}
 

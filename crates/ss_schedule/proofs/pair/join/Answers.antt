@@ -1,8 +1,6 @@
-use Rattle.std.proofs.Common.{◌≡◌, ◌∙◌, ◌++◌, ◌∷◌, List, ap, sym, Some}
+use Rattle.std.proofs.Common.{◌∙◌, ◌++◌, ◌∷◌, ap, sym}
 use Rattle.ss_line.specs.Line.{entry_at}
-use Rattle.ss_line.specs.declared.entry.At.{At}
 use Rattle.ss_line.specs.declared.entry.Entry.{Entry}
-use Rattle.ss_schedule.specs.Pairs.{joined_entry}
 use Rattle.ss_schedule.proofs.JoinLemmas.{cut-is, entry-joined, joined-is, length-joined, set-is, stands-joined, stands-right}
 use Rattle.ss_schedule.proofs.pair.join.Goals as goal
 

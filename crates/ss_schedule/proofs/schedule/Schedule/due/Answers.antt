@@ -1,4 +1,4 @@
-use Rattle.std.proofs.Common.{◌≡◌, ◌<◌, ◌∙◌, ℕ, ap, ap₂, refl, sym, subst, Some, Option, List, true}
+use Rattle.std.proofs.Common.{◌<◌, ◌∙◌, ℕ, ap, ap₂, refl, sym, subst, Option, List}
 use Rattle.ss_line.specs.declared.entry.At.{At}
 use Rattle.ss_target.specs.Targets.{lengths-positive}
 use Rattle.ss_windowing.specs.Windowing.{fits}

@@ -1,4 +1,4 @@
-use Rattle.std.proofs.Common.{◌≡◌, ◌∙◌, sym, Some, None}
+use Rattle.std.proofs.Common.{◌∙◌, sym}
 use Rattle.ss_schedule.proofs.MergeLemmas.{IsKeyed-joined_last, IsKeyed-joined_next, IsNext-read, room-left, room-next, span-left, span-next}
 use Rattle.ss_schedule.proofs.schedule.Schedule.merged.Goals as goal
 

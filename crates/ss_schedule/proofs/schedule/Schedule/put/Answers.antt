@@ -1,4 +1,4 @@
-use Rattle.std.proofs.Common.{◌≡◌, ◌<◌, ◌≤◌, ◌∙◌, List, Option, ℕ, arith, ap, length, subst, sym}
+use Rattle.std.proofs.Common.{◌<◌, ◌≤◌, arith, ap, length, subst, sym}
 use Rattle.ss_schedule.specs.Keyed.{IsKeyOf, PutsKey, ScheduleState, lengths}
 use Rattle.ss_schedule.proofs.KeyedLemmas.{PutsKey-past, PutsKey-set}
 use Rattle.ss_schedule.proofs.schedule.Schedule.put.Goals as goal
