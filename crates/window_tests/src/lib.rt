@@ -11,6 +11,8 @@ mod line;
 #[cfg(test)]
 mod power;
 #[cfg(test)]
+mod schedule;
+#[cfg(test)]
 mod steps;
 #[cfg(test)]
 mod summary;

@@ -56,7 +56,7 @@ fn power_law_parameters_that_have_a_target(rt: HostRuntime) {
 }
 
 // Whether positions can be l to r seen at n.
-fn are_positions(l: u64, r: u64, n: u64) -> bool
+pub fn are_positions(l: u64, r: u64, n: u64) -> bool
     ensures { IsTrue result → (1 ≤ l) × (l ≤ r) × (r ≤ n) × (n ≤ MOST_VALUES) }
 {
     1 <= l && l <= r && r <= n && n <= MOST_VALUES

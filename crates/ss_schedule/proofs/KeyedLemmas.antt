@@ -1,0 +1,386 @@
+-- What keys a schedule has for a line that changes.
+use Rattle.std.proofs.Common.{◌≡◌, ◌≢◌, ◌∙◌, ℕ, ◌+◌, ◌≤◌, ◌<◌, true, false, List, [], ◌∷◌, ◌++◌, length, refl, take, set}
+use Rattle.std.proofs.Common.{sym, ap, subst, arith, append_assoc, length-append, Option, Some, None, inl, inr, IfSome}
+use Rattle.std.proofs.lemmas.Bool.{cases_Bool, cases_eq, both_ways, eq-eqb}
+use Rattle.std.proofs.lemmas.List.{get_or_past, get_or-set_other, get_or-set_same, length-set}
+use Rattle.ss_line.specs.Line.{StandsIn, entry_at, index_of, is_at}
+use Rattle.ss_line.specs.declared.entry.At.{At}
+use Rattle.ss_line.specs.declared.entry.Entry.{Entry}
+use Rattle.ss_windowing.specs.Windowing.{ArePositive, Fits, fits}
+use Rattle.ss_windowing.specs.declared.decay.TheConstants.{MOST_VALUES}
+use Rattle.ss_windowing.proofs.WindowingLemmas.{fits-one_window}
+use Rattle.ss_schedule.specs.Held.{fit_of}
+use Rattle.ss_schedule.specs.Keyed.{FollowFrom, FollowUpTo, IsFirstKey, IsKeyOf, IsKeyed, NeverFit, PutsKey, ScheduleState, key_at, lengths}
+use Rattle.ss_schedule.specs.Pairs.{AreSideBySide, IsPairIn, IsSpan, NoPairFits, joined_entry, pair_at, pair_behind, pair_of}
+use Rattle.ss_schedule.specs.declared.pair.Pair.{Pair}
+use Rattle.ss_schedule.proofs.PairLemmas.{pair_at-within, pair_behind-absent, pair_behind-here, some-same}
+use Rattle.ss_schedule.proofs.JoinLemmas.{entry-left, entry-right, stands-left, stands-right}
+use Rattle.ss_schedule.proofs.Places.{AreApart, AreApart-seam, AreApart-tail, IsAt, IsAt-stands, apart-before, apart-behind}
+use Rattle.ss_schedule.proofs.Places.{index-once, list_any-cons_false, same_place}
+use Rattle.ss_schedule.proofs.Places.{take-seam}
+
+-- the positions of a pair in a line whose positions follow one another
+IsSpan-behind : (n first : ℕ) (e : At × Entry) (entries : List (At × Entry)) (at : At) (pair : Pair) → FollowFrom n first (e ∷ entries) → 1 ≤ first →
+    pair_behind e entries at ≡ Some pair → IsSpan n pair
+IsSpan-behind n first e [] at pair follow some is = absurd (cc)
+IsSpan-behind n first e (x ∷ xs) at pair follow some is =
+    let start = follow.0 in
+    let order = follow.1 in
+    let next = follow.3.0 in
+    let next_order = follow.3.1 in
+    elim (cases_Bool (is_at at x)) [
+      | inl here ↦ (
+          let same : Some (pair_of e x) ≡ Some pair = rw here at is in
+          let one : pair_of e x ≡ pair = cc in
+          subst (λ p. IsSpan n p) one (record { begins = omega arith; order = omega arith; taken = follow.3.2 }))
+      | inr later ↦ (
+          let rest : pair_behind x xs at ≡ Some pair = rw later at is in
+          IsSpan-behind n (e.1.last + 1) x xs at pair follow.3 (omega arith) rest)
+    ]
+
+pub IsSpan-pair : (n : ℕ) (entries : List (At × Entry)) (at : At) (pair : Pair) → FollowUpTo n entries → pair_at entries at ≡ Some pair → IsSpan n pair
+IsSpan-pair n [] at pair follow is = absurd (cc)
+IsSpan-pair n (e ∷ es) at pair follow is = IsSpan-behind n e.1.first e es at pair follow.1 follow.0 is
+
+pub spans : (n : ℕ) (entries : List (At × Entry)) (at : At) (found : Option Pair) → FollowUpTo n entries → found ≡ pair_at entries at →
+    IfSome found (IsSpan n)
+spans n entries at None follow is = tt
+spans n entries at (Some pair) follow is = IsSpan-pair n entries at pair follow (sym is)
+
+-- a greater count
+FollowFrom-more : (n m first : ℕ) (entries : List (At × Entry)) → n ≤ m → FollowFrom n first entries → FollowFrom m first entries
+FollowFrom-more n m first [] le follow = tt
+FollowFrom-more n m first (e ∷ es) le follow =
+    let taken = follow.2 in (follow.0, follow.1, omega arith, FollowFrom-more n m (e.1.last + 1) es le follow.3)
+
+FollowUpTo-more : (n m : ℕ) (entries : List (At × Entry)) → n ≤ m → FollowUpTo n entries → FollowUpTo m entries
+FollowUpTo-more n m [] le follow = tt
+FollowUpTo-more n m (e ∷ es) le follow = (follow.0, FollowFrom-more n m e.1.first (e ∷ es) le follow.1)
+
+-- two neighbours as one
+FollowFrom-joined : (n first : ℕ) (before : List (At × Entry)) (left right : At) (w v : Entry) (rest : List (At × Entry)) →
+    FollowFrom n first (before ++ (left, w) ∷ (right, v) ∷ rest) → FollowFrom n first (before ++ (left, joined_entry w v) ∷ rest)
+FollowFrom-joined n first [] left right w v rest follow =
+    let order = follow.1 in
+    let next = follow.3.0 in
+    let next_order = follow.3.1 in
+    (follow.0, omega arith, follow.3.2, follow.3.3)
+FollowFrom-joined n first (e ∷ es) left right w v rest follow =
+    (follow.0, follow.1, follow.2, FollowFrom-joined n (e.1.last + 1) es left right w v rest follow.3)
+
+pub FollowUpTo-joined : (n : ℕ) (before : List (At × Entry)) (left right : At) (w v : Entry) (rest : List (At × Entry)) →
+    FollowUpTo n (before ++ (left, w) ∷ (right, v) ∷ rest) → FollowUpTo n (before ++ (left, joined_entry w v) ∷ rest)
+FollowUpTo-joined n [] left right w v rest follow = (follow.0, FollowFrom-joined n w.first [] left right w v rest follow.1)
+FollowUpTo-joined n (e ∷ es) left right w v rest follow = (follow.0, FollowFrom-joined n e.1.first (e ∷ es) left right w v rest follow.1)
+
+-- the positions of two neighbours
+FollowFrom-seam : (n first : ℕ) (before : List (At × Entry)) (x y : At × Entry) (rest : List (At × Entry)) → FollowFrom n first (before ++ x ∷ y ∷ rest) →
+    (x.1.first ≤ x.1.last) × (y.1.first ≡ x.1.last + 1) × (y.1.first ≤ y.1.last)
+FollowFrom-seam n first [] x y rest follow =
+    let start = follow.0 in
+    let order = follow.1 in
+    let next = follow.3.0 in
+    let next_order = follow.3.1 in
+    (omega arith, next, omega arith)
+FollowFrom-seam n first (e ∷ es) x y rest follow = FollowFrom-seam n (e.1.last + 1) es x y rest follow.3
+
+pub FollowUpTo-seam : (n : ℕ) (before : List (At × Entry)) (x y : At × Entry) (rest : List (At × Entry)) → FollowUpTo n (before ++ x ∷ y ∷ rest) →
+    (x.1.first ≤ x.1.last) × (y.1.first ≡ x.1.last + 1) × (y.1.first ≤ y.1.last)
+FollowUpTo-seam n [] x y rest follow = FollowFrom-seam n x.1.first [] x y rest follow.1
+FollowUpTo-seam n (e ∷ es) x y rest follow = FollowFrom-seam n e.1.first (e ∷ es) x y rest follow.1
+
+-- positions among others that lie in one target window lie in it too
+Fits-among : (len : ℕ → ℕ) (l r a b n : ℕ) → a ≤ l → r ≤ b → Fits len a b n → Fits len l r n
+Fits-among len l r a b n first last fit =
+    let new = fit.1 in
+    let old = fit.2 in
+    (fit.0, omega arith, omega arith)
+
+pub NeverFit-among : (len : ℕ → ℕ) (l r a b n : ℕ) → a ≤ l → r ≤ b → NeverFit len l r n → NeverFit len a b n
+NeverFit-among len l r a b n first last never m le few fit = never m le few (Fits-among len l r a b m first last fit)
+
+-- no pair is due before its key
+unfit-before : (len : ℕ → ℕ) (n : ℕ) (pair : Pair) (key : Option (At × ℕ)) → n ≤ MOST_VALUES → IsKeyOf len n (Some pair) key → n < fit_of key →
+    ¬ Fits len pair.first pair.last n
+unfit-before len n pair None few is less fit = is n (omega arith) few fit
+unfit-before len n pair (Some key) few is less fit = let least = is.first.least n (omega arith) fit in absurd (omega (arith, least, less))
+
+unfit-false : (len : ℕ → ℕ) (l r n : ℕ) → ArePositive len → l ≤ r → ¬ Fits len l r n → fits len l r n ≡ false
+unfit-false len l r n full order unfit =
+    elim (cases_Bool (fits len l r n)) [ inl is ↦ absurd (unfit ((fits-one_window len l r n full order).0 is)) | inr is ↦ is ]
+
+NoPairFits-behind : (len : ℕ → ℕ) (n : ℕ) (e : At × Entry) (entries : List (At × Entry)) → AreApart (e ∷ entries) →
+    ((at : At) (pair : Pair) → pair_behind e entries at ≡ Some pair → fits len pair.first pair.last n ≡ false) → NoPairFits len n (e ∷ entries)
+NoPairFits-behind len n e [] apart none = tt
+NoPairFits-behind len n e (x ∷ xs) apart none = (
+  none x.0 (pair_of e x) (pair_behind-here e x.0 x.1 xs),
+  NoPairFits-behind len n x xs (AreApart-tail e (x ∷ xs) apart) (λ at pair is. elim (cases_Bool (is_at at x)) [
+    | inl here ↦ (
+        let same = same_place at x here in
+        let tail = AreApart-tail e (x ∷ xs) apart in
+        let gone : pair_behind x xs at ≡ None = ap (pair_behind x xs) (sym same) ∙ pair_behind-absent x xs x.0 (apart-behind [] x.0 x.1 xs tail) in
+        absurd (cc))
+    | inr later ↦ none at pair (rw later is)
+  ]),
+)
+
+pub NoPairFits-all : (len : ℕ → ℕ) (n : ℕ) (entries : List (At × Entry)) → AreApart entries →
+    ((at : At) (pair : Pair) → pair_at entries at ≡ Some pair → fits len pair.first pair.last n ≡ false) → NoPairFits len n entries
+NoPairFits-all len n [] apart none = tt
+NoPairFits-all len n (e ∷ es) apart none = NoPairFits-behind len n e es apart none
+
+-- all keys are past n
+pub NoPairFits-keyed : (n : ℕ) (entries : List (At × Entry)) (schedule : ScheduleState) → ArePositive (lengths schedule) → AreApart entries →
+    IsKeyed n entries schedule → ((at : At) → n < fit_of (key_at schedule.keys at)) → NoPairFits (lengths schedule) n entries
+NoPairFits-keyed n entries schedule full apart keyed past =
+    NoPairFits-all (lengths schedule) n entries apart
+    (λ at pair is.
+    let span = IsSpan-pair n entries at pair keyed.follow is in
+    let key = subst (λ o. IsKeyOf (lengths schedule) n o (key_at schedule.keys at)) is (keyed.keys at) in
+    unfit-false (lengths schedule) pair.first pair.last n full span.order
+    (unfit-before (lengths schedule) n pair (key_at schedule.keys at) keyed.few key (past at)))
+
+-- the next count
+NoPairFits-at_behind : (len : ℕ → ℕ) (n : ℕ) (e : At × Entry) (entries : List (At × Entry)) (at : At) (pair : Pair) → NoPairFits len n (e ∷ entries) →
+    pair_behind e entries at ≡ Some pair → fits len pair.first pair.last n ≡ false
+NoPairFits-at_behind len n e [] at pair none is = absurd (cc)
+NoPairFits-at_behind len n e (x ∷ xs) at pair none is =
+    elim (cases_Bool (is_at at x)) [
+      | inl here ↦ (
+          let same : Some (pair_of e x) ≡ Some pair = rw here at is in
+          let one : pair_of e x ≡ pair = cc in
+          subst (λ (p : Pair). fits len p.first p.last n ≡ false) one none.0)
+      | inr later ↦ (let rest : pair_behind x xs at ≡ Some pair = rw later at is in NoPairFits-at_behind len n x xs at pair none.1 rest)
+    ]
+
+NoPairFits-at : (len : ℕ → ℕ) (n : ℕ) (entries : List (At × Entry)) (at : At) (pair : Pair) → NoPairFits len n entries → pair_at entries at ≡ Some pair →
+    fits len pair.first pair.last n ≡ false
+NoPairFits-at len n [] at pair none is = absurd (cc)
+NoPairFits-at len n (e ∷ es) at pair none is = NoPairFits-at_behind len n e es at pair none is
+
+IsKeyOf-next : (len : ℕ → ℕ) (n : ℕ) (found : Option Pair) (key : Option (At × ℕ)) → ((pair : Pair) → found ≡ Some pair → ¬ Fits len pair.first pair.last n) →
+    IsKeyOf len n found key → IsKeyOf len (n + 1) found key
+IsKeyOf-next len n None key unfit is = is
+IsKeyOf-next len n (Some pair) None unfit is = λ m le few fit. is m (omega arith) few fit
+IsKeyOf-next len n (Some pair) (Some key) unfit is = record {
+  left = is.left;
+  first = record {
+    reached = elim (cases_eq key.1 n) [
+      | inl same ↦ absurd (unfit pair refl (subst (λ m. Fits len pair.first pair.last m) same is.first.fits))
+      | inr other ↦ (let reached = is.first.reached in omega arith)
+    ];
+    fits = is.first.fits;
+    least = λ k le fit. is.first.least k (omega arith) fit;
+  };
+  few = is.few;
+}
+
+pub IsKeyed-next : (n : ℕ) (entries : List (At × Entry)) (schedule : ScheduleState) → ArePositive (lengths schedule) → n < MOST_VALUES →
+    IsKeyed n entries schedule → NoPairFits (lengths schedule) n entries → IsKeyed (n + 1) entries schedule
+IsKeyed-next n entries schedule full few keyed none = record {
+  few = omega arith;
+  follow = FollowUpTo-more n (n + 1) entries (omega arith) keyed.follow;
+  keys = λ at. IsKeyOf-next (lengths schedule) n (pair_at entries at) (key_at schedule.keys at)
+      (λ pair is fit.
+      let span = IsSpan-pair n entries at pair keyed.follow is in
+      both_ways _ (NoPairFits-at (lengths schedule) n entries at pair none is)
+      ((fits-one_window (lengths schedule) pair.first pair.last n full span.order).1 fit))
+      (keyed.keys at);
+}
+
+-- the pair of a key
+pub key-pair : (len : ℕ → ℕ) (n : ℕ) (found : Option Pair) (key : At × ℕ) → IsKeyOf len n found (Some key) →
+    (pair : Pair) × (found ≡ Some pair) × IsFirstKey len n pair key
+key-pair len n None key is = absurd (cc)
+key-pair len n (Some pair) key is = (pair, refl, is)
+
+-- a key that was put
+module _ (old new : ScheduleState) (n : ℕ) (at : At) (found : Option Pair) (put : PutsKey old new n at found) where
+  pub len-kept : lengths new ≡ lengths old
+  len-kept = ap (λ target. lengths (let s : ScheduleState = record { target = target; keys = [] } in s)) put.target
+
+  pub put-here : (other : At) (entry : Entry) (pair : Option Pair) → is_at other (at, entry) ≡ true → pair ≡ found →
+      IsKeyOf (lengths new) n pair (key_at new.keys other)
+  put-here other entry pair here same =
+      let place = same_place other (at, entry) here in
+      rw same (subst (λ (a : At). IsKeyOf (lengths new) n found (key_at new.keys a)) place put.here)
+
+  pub put-other : (other : At) (entry : Entry) (pair : Option Pair) → is_at other (at, entry) ≡ false →
+      IsKeyOf (lengths old) n pair (key_at old.keys other) → IsKeyOf (lengths new) n pair (key_at new.keys other)
+  put-other other entry pair later was =
+      let apart : other.0 ≢ at.0 = λ same. both_ways (is_at other (at, entry)) later (eq-eqb at.0 other.0 (sym same)) in
+      subst (λ len. IsKeyOf len n pair (key_at new.keys other)) (sym len-kept) (rw (put.others other apart) was)
+
+-- one entry more at the end
+pub IsKeyed-more : (n : ℕ) (before : List (At × Entry)) (at : At) (entry : Entry) (old new : ScheduleState) → IsKeyed n before old →
+    PutsKey old new n at (pair_at (before ++ (at, entry) ∷ []) at) → FollowUpTo n (before ++ (at, entry) ∷ []) → IsKeyed n (before ++ (at, entry) ∷ []) new
+IsKeyed-more n before at entry old new keyed put follow = record {
+  few = keyed.few;
+  follow = follow;
+  keys = λ other. elim (cases_Bool (is_at other (at, entry))) [
+    | inl here ↦ (
+        let place = same_place other (at, entry) here in
+        put-here old new n at _ put other entry _ here (ap (pair_at (before ++ (at, entry) ∷ [])) (sym place)))
+    | inr later ↦ put-other old new n at _ put other entry _ later
+        (rw (pair_at-within before ((at, entry) ∷ []) other (list_any-cons_false (is_at other) (at, entry) [] later refl)) (keyed.keys other))
+  ];
+}
+
+-- a pair in a line, by the place of the right one
+pub record IsSplit (entries : List (At × Entry)) (at : At) (pair : Pair) : Type 0 where
+  pub before : List (At × Entry)
+  pub left : At × Entry
+  pub entry : Entry
+  pub rest : List (At × Entry)
+  pub is : entries ≡ before ++ left ∷ (at, entry) ∷ rest
+  pub pair_is : pair ≡ pair_of left (at, entry)
+
+IsSplit-behind : (e : At × Entry) (entries : List (At × Entry)) (at : At) (pair : Pair) → pair_behind e entries at ≡ Some pair →
+    IsSplit (e ∷ entries) at pair
+IsSplit-behind e [] at pair is = absurd (cc)
+IsSplit-behind e (x ∷ xs) at pair is =
+    elim (cases_Bool (is_at at x)) [
+      | inl here ↦ (
+          let place = same_place at x here in
+          let same : Some (pair_of e x) ≡ Some pair = rw here at is in
+          let one : pair_of e x ≡ pair = cc in
+          record {
+            before = [];
+            left = e;
+            entry = x.1;
+            rest = xs;
+            is = ap (λ (a : At). e ∷ (a, x.1) ∷ xs) place;
+            pair_is = sym one ∙ ap (λ (a : At). pair_of e (a, x.1)) place;
+          })
+      | inr later ↦ (
+          let rest = IsSplit-behind x xs at pair (rw later at is) in
+          record { before = e ∷ rest.before; left = rest.left; entry = rest.entry; rest = rest.rest; is = ap (λ es. e ∷ es) rest.is; pair_is = rest.pair_is })
+    ]
+
+pub IsSplit-pair : (entries : List (At × Entry)) (at : At) (pair : Pair) → pair_at entries at ≡ Some pair → IsSplit entries at pair
+IsSplit-pair [] at pair is = absurd (cc)
+IsSplit-pair (e ∷ es) at pair is = IsSplit-behind e es at pair is
+
+-- two neighbours as a line has them, by what was read of them
+module _ (entries : List (At × Entry)) (apart : AreApart entries) (at : At) (pair : Pair) (it : IsSplit entries at pair) where
+  side_by_side : AreSideBySide entries it.left.0 at
+  side_by_side =
+      let moved = it.is ∙ sym (append_assoc it.before (it.left ∷ []) ((at, it.entry) ∷ it.rest)) in
+      record {
+        before = it.before;
+        window = it.left.1;
+        next = it.entry;
+        rest = it.rest;
+        is = it.is;
+        left_once = apart-before it.before it.left.0 it.left.1 ((at, it.entry) ∷ it.rest) (AreApart-seam entries _ it.is apart);
+        right_once = apart-before (it.before ++ it.left ∷ []) at it.entry it.rest (AreApart-seam entries _ moved apart);
+      }
+
+  pub split-stands : (left : At) → left ≡ pair.left → (StandsIn entries left) × (StandsIn entries at)
+  split-stands left same =
+      let place : it.left.0 ≡ left = sym (same ∙ ap (λ (p : Pair). p.left) it.pair_is) in (
+        subst (λ (a : At). StandsIn entries a) place (stands-left entries it.left.0 at side_by_side),
+        stands-right entries it.left.0 at side_by_side,
+      )
+
+  pub IsPairIn-read : (left : At) (window entry : Entry) → left ≡ pair.left → entry_at entries left ≡ Some window → entry_at entries at ≡ Some entry →
+      let read : Pair = record { left = left; right = at; first = window.first; last = entry.last } in IsPairIn entries read
+  unfolding side_by_side
+  IsPairIn-read left window entry same read_left read_at =
+      let place : it.left.0 ≡ left = sym (same ∙ ap (λ (p : Pair). p.left) it.pair_is) in
+      let first = some-same it.left.1 window (sym (entry-left entries it.left.0 at side_by_side) ∙ ap (entry_at entries) place ∙ read_left) in
+      let last = some-same it.entry entry (sym (entry-right entries it.left.0 at side_by_side) ∙ read_at) in
+      let read : (a : At) → it.left.0 ≡ a → IsPairIn entries (let p : Pair = record { left = a; right = at; first = window.first; last = entry.last } in p) =
+      λ a is. subst (λ (b : At). IsPairIn entries (let p : Pair = record { left = b; right = at; first = window.first; last = entry.last } in p)) is
+      (record { neighbours = side_by_side; first = ap (λ (e : Entry). e.first) (sym first); last = ap (λ (e : Entry). e.last) (sym last) }) in
+      read left place
+
+  -- the positions that were read are those of the pair
+  pub positions-read : (left : At) (window entry : Entry) → left ≡ pair.left → entry_at entries left ≡ Some window → entry_at entries at ≡ Some entry →
+      (window.first ≡ pair.first) × (entry.last ≡ pair.last)
+  unfolding side_by_side
+  positions-read left window entry same read_left read_at =
+      let place : it.left.0 ≡ left = sym (same ∙ ap (λ (p : Pair). p.left) it.pair_is) in
+      let first = some-same it.left.1 window (sym (entry-left entries it.left.0 at side_by_side) ∙ ap (entry_at entries) place ∙ read_left) in
+      let last = some-same it.entry entry (sym (entry-right entries it.left.0 at side_by_side) ∙ read_at) in
+      (sym (ap (λ (p : Pair). p.first) it.pair_is ∙ ap (λ (e : Entry). e.first) first), sym (ap (λ (p : Pair). p.last) it.pair_is ∙ ap (λ (e : Entry). e.last) last))
+
+-- a key that is at most n is of a pair that fits at n
+pub fits-by : (len : ℕ → ℕ) (n fit : ℕ) (pair : Pair) (key : At × ℕ) → ArePositive len → IsSpan n pair → fit ≤ n → key.1 ≡ fit → IsFirstKey len n pair key →
+    fits len pair.first pair.last n ≡ true
+fits-by len n fit pair key full span le same is =
+    let reached = is.first.reached in
+    let now : key.1 ≡ n = omega arith in
+    (fits-one_window len pair.first pair.last n full span.order).1 (subst (λ m. Fits len pair.first pair.last m) now is.first.fits)
+
+-- the entries up to one of a line, and with it
+pub taken-before : (entries : List (At × Entry)) (at : At) (it : IsAt entries at) → take (index_of entries at) entries ≡ it.before
+taken-before entries at it =
+    let index = ap (λ es. index_of es at) it.is ∙ index-once it.before at it.entry it.rest it.once in
+    ap (λ k. take k entries) index ∙ ap (take (length it.before)) it.is ∙ take-seam it.before ((at, it.entry) ∷ it.rest)
+
+pub taken-with : (entries : List (At × Entry)) (at : At) (it : IsAt entries at) → take (index_of entries at + 1) entries ≡ it.before ++ (at, it.entry) ∷ []
+taken-with entries at it =
+    let index = ap (λ es. index_of es at) it.is ∙ index-once it.before at it.entry it.rest it.once in
+    let long : index_of entries at + 1 ≡ length (it.before ++ (at, it.entry) ∷ []) = omega (arith, index, length-append it.before ((at, it.entry) ∷ [])) in
+    ap (λ k. take k entries) long ∙ ap (take (length (it.before ++ (at, it.entry) ∷ []))) (it.is ∙ sym (append_assoc it.before ((at, it.entry) ∷ []) it.rest))
+    ∙ take-seam (it.before ++ (at, it.entry) ∷ []) it.rest
+
+-- what is behind doesn't matter to the pair of an entry and the one before it
+pub pair-with : (entries : List (At × Entry)) (at : At) (it : IsAt entries at) → AreApart entries →
+    pair_at entries at ≡ pair_at (it.before ++ (at, it.entry) ∷ []) at
+pair-with entries at it apart =
+    let moved = it.is ∙ sym (append_assoc it.before ((at, it.entry) ∷ []) it.rest) in
+    ap (λ es. pair_at es at) moved
+    ∙ pair_at-within (it.before ++ (at, it.entry) ∷ []) it.rest at (apart-behind it.before at it.entry it.rest (AreApart-seam entries _ it.is apart))
+
+-- the keys when the next entry of a line is taken up
+pub IsKeyed-added : (n : ℕ) (entries : List (At × Entry)) (at : At) (old new : ScheduleState) (found : Option Pair) → AreApart entries → StandsIn entries at →
+    found ≡ pair_at entries at → IsKeyed n (take (index_of entries at) entries) old → FollowUpTo n (take (index_of entries at + 1) entries) →
+    PutsKey old new n at found → IsKeyed n (take (index_of entries at + 1) entries) new
+IsKeyed-added n entries at old new found apart stands is keyed follow put =
+    let it = IsAt-stands entries at stands in
+    subst (λ (es : List (At × Entry)). IsKeyed n es new) (sym (taken-with entries at it))
+    (IsKeyed-more n it.before at it.entry old new (subst (λ (es : List (At × Entry)). IsKeyed n es old) (taken-before entries at it) keyed)
+    (subst (λ o. PutsKey old new n at o) (is ∙ pair-with entries at it apart) put)
+    (subst (λ (es : List (At × Entry)). FollowUpTo n es) (taken-with entries at it) follow))
+
+pub spans-added : (n : ℕ) (entries : List (At × Entry)) (at : At) (found : Option Pair) → AreApart entries → StandsIn entries at →
+    found ≡ pair_at entries at → FollowUpTo n (take (index_of entries at + 1) entries) → IfSome found (IsSpan n)
+spans-added n entries at found apart stands is follow =
+    let it = IsAt-stands entries at stands in
+    spans n (it.before ++ (at, it.entry) ∷ []) at found (subst (λ (es : List (At × Entry)). FollowUpTo n es) (taken-with entries at it) follow)
+    (is ∙ pair-with entries at it apart)
+
+-- a key that has room, and one that has none
+pub PutsKey-set : (old : ScheduleState) (keys : List (Option (At × ℕ))) (n : ℕ) (at : At) (pair : Option Pair) (key : Option (At × ℕ)) → IsKeyOf (lengths old) n pair key →
+    at.0 < length old.keys → keys ≡ set old.keys at.0 key → PutsKey old (let s : ScheduleState = record { target = old.target; keys = keys } in s) n at pair
+PutsKey-set old keys n at pair key is inside set_is = record {
+  here = subst (λ (k : Option (At × ℕ)). IsKeyOf (lengths old) n pair k)
+      (sym (ap (λ ks. key_at ks at) set_is ∙ get_or-set_same old.keys at.0 key None inside)) is;
+  others = λ other apart. ap (λ ks. key_at ks other) set_is ∙ get_or-set_other old.keys at.0 other.0 key None apart;
+  room = ap length set_is ∙ length-set old.keys at.0 key;
+  target = refl;
+}
+
+pub PutsKey-past : (old : ScheduleState) (n : ℕ) (at : At) (pair : Option Pair) → IsKeyOf (lengths old) n pair None → length old.keys ≤ at.0 → PutsKey old old n at pair
+PutsKey-past old n at pair is past = record {
+  here = subst (λ (k : Option (At × ℕ)). IsKeyOf (lengths old) n pair k) (sym (get_or_past old.keys at.0 None past)) is;
+  others = λ other apart. refl;
+  room = refl;
+  target = refl;
+}
+
+-- the pair of a key of a keyed schedule
+pub record IsPairOfKey (n : ℕ) (entries : List (At × Entry)) (schedule : ScheduleState) (right left : At) (fit : ℕ) : Type 0 where
+  pub pair : Pair
+  pub split : IsSplit entries right pair
+  pub key : IsFirstKey (lengths schedule) n pair (left, fit)
+  pub span : IsSpan n pair
+
+pub IsPairOfKey-keyed : (n : ℕ) (entries : List (At × Entry)) (schedule : ScheduleState) (right left : At) (fit : ℕ) → IsKeyed n entries schedule →
+    key_at schedule.keys right ≡ Some (left, fit) → IsPairOfKey n entries schedule right left fit
+IsPairOfKey-keyed n entries schedule right left fit keyed key =
+    let found = key-pair (lengths schedule) n (pair_at entries right) (left, fit)
+    (subst (λ (k : Option (At × ℕ)). IsKeyOf (lengths schedule) n (pair_at entries right) k) key (keyed.keys right)) in
+    record { pair = found.0; split = IsSplit-pair entries right found.0 found.1; key = found.2; span = IsSpan-pair n entries right found.0 keyed.follow found.1 }

@@ -1,0 +1,83 @@
+-- Worked rows: a line of three, at the places 2, 0 and 1.
+use Rattle.std.proofs.Common.{◌≡◌, ℕ, List, [], ◌∷◌, Option, Some, None, arith, refl, lit≤}
+use Rattle.ss_catalog.specs.declared.params.Params.TheVariants.{Exp}
+use Rattle.ss_line.specs.declared.entry.At.{At}
+use Rattle.ss_line.specs.declared.entry.Entry.{Entry}
+use Rattle.ss_target.specs.Lengths.{lengths_of}
+use Rattle.ss_windowing.specs.Windowing.{index_of}
+use Rattle.std.proofs.lemmas.Bool.{both_ways}
+use Rattle.ss_schedule.specs.Keyed.{FollowUpTo, key_at}
+use Rattle.ss_schedule.specs.Pairs.{NoPairFits, joined_entry, pair_at}
+
+abbrev place : ℕ → At
+place n = record { 0 = n }
+
+abbrev window : ℕ → ℕ → ℕ → Entry
+window first last slot = record { first = first; last = last; slot = slot }
+
+abbrev line : List (At × Entry)
+line = (place 2, window 1 4 9) ∷ (place 0, window 5 6 3) ∷ (place 1, window 7 7 8) ∷ []
+
+pub pair_at-first : pair_at line (place 2) ≡ None
+pair_at-first = refl
+
+pub pair_at-second : pair_at line (place 0) ≡ Some (record { left = place 2; right = place 0; first = 1; last = 6 })
+pair_at-second = refl
+
+pub pair_at-last : pair_at line (place 1) ≡ Some (record { left = place 0; right = place 1; first = 5; last = 7 })
+pair_at-last = refl
+
+pub pair_at-none : pair_at line (place 3) ≡ None
+pair_at-none = refl
+
+-- the slot is that of the left one
+pub joined_entry-first : joined_entry (window 1 4 9) (window 5 6 3) ≡ window 1 6 9
+joined_entry-first = refl
+
+abbrev keys : List (Option (At × ℕ))
+keys = Some (place 2, 11) ∷ None ∷ []
+
+pub key_at-some : key_at keys (place 0) ≡ Some (place 2, 11)
+key_at-some = refl
+
+pub key_at-none : key_at keys (place 1) ≡ None
+key_at-none = refl
+
+pub key_at-past : key_at keys (place 2) ≡ None
+key_at-past = refl
+
+-- positions that end at 7
+pub follow-now : FollowUpTo 7 line
+follow-now = (lit≤ tt, (refl, lit≤ tt, lit≤ tt, (refl, lit≤ tt, lit≤ tt, (refl, lit≤ tt, lit≤ tt, tt))))
+
+pub follow-late : ¬ FollowUpTo 6 line
+follow-late h = let last = h.1.3.3.2 in omega arith
+
+-- none before 1, none twice, none left out, and none empty
+pub follow-one : FollowUpTo 1 ((place 0, window 1 1 9) ∷ [])
+follow-one = (lit≤ tt, (refl, lit≤ tt, lit≤ tt, tt))
+
+pub follow-zero : ¬ FollowUpTo 1 ((place 0, window 0 1 9) ∷ [])
+follow-zero h = let first = h.0 in omega arith
+
+pub follow-twice : ¬ FollowUpTo 9 ((place 0, window 1 4 9) ∷ (place 1, window 4 5 9) ∷ [])
+follow-twice h = let next = h.1.3.0 in omega arith
+
+pub follow-left_out : ¬ FollowUpTo 9 ((place 0, window 1 4 9) ∷ (place 1, window 6 7 9) ∷ [])
+follow-left_out h = let next = h.1.3.0 in omega arith
+
+pub follow-empty : ¬ FollowUpTo 9 ((place 0, window 5 4 9) ∷ [])
+follow-empty h = let some = h.1.1 in omega arith
+
+-- windows of 1, 2 and 4 values are those of a doubling target, but not after one value more
+pub fits-none : NoPairFits (lengths_of (Exp 2 1 1)) 7 line
+unfolding index_of
+fits-none = (refl, (refl, tt))
+
+pub fits-second : ¬ NoPairFits (lengths_of (Exp 2 1 1)) 3 ((place 0, window 1 1 9) ∷ (place 1, window 2 2 9) ∷ (place 2, window 3 3 9) ∷ [])
+unfolding index_of
+fits-second h = both_ways _ h.0 refl
+
+pub fits-last : ¬ NoPairFits (lengths_of (Exp 2 1 1)) 9 ((place 0, window 1 6 9) ∷ (place 1, window 7 7 9) ∷ (place 2, window 8 8 9) ∷ [])
+unfolding index_of
+fits-last h = both_ways _ h.1.0 refl

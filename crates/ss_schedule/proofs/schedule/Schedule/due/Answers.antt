@@ -1,0 +1,47 @@
+use Rattle.std.proofs.Common.{◌<◌, ◌∙◌, ℕ, ap, ap₂, refl, sym, subst, Option, List}
+use Rattle.ss_line.specs.declared.entry.At.{At}
+use Rattle.ss_target.specs.Targets.{lengths-positive}
+use Rattle.ss_windowing.specs.Windowing.{fits}
+use Rattle.ss_schedule.specs.Held.{fit_of}
+use Rattle.ss_schedule.specs.Keyed.{ScheduleState, key_at, lengths}
+use Rattle.ss_schedule.proofs.KeyedLemmas.{IsPairIn-read, IsPairOfKey-keyed, NoPairFits-keyed, fits-by, positions-read, split-stands}
+use Rattle.ss_schedule.proofs.schedule.Schedule.due.Goals as goal
+
+pub returns-in_err-right-clause-none : goal.returns-in_err-right-clause-none
+returns-in_err-right-clause-none g c =
+    let keys = ap (λ (s : ScheduleState). s.keys) c.self.view_is in
+    rw c.from_residual.ensures
+    (NoPairFits-keyed c.args.n c.args.line.now.entries c.args.self.now (lengths-positive c.args.self.now.target) c.len-len.ensures.line.apart c.requires
+    (λ at. subst (λ (ks : List (Option (At × ℕ))). c.args.n < fit_of (key_at ks at)) keys (c.in_err-right.ensures.none at)))
+
+pub get-first-requires : goal.get-first-requires
+get-first-requires g c =
+    let some = c.in_ok-right.ensures.some in
+    let key = ap (λ (s : ScheduleState). key_at s.keys c.in_ok-right.right) (sym c.self.view_is) ∙ some.2 in
+    let it = IsPairOfKey-keyed c.args.n c.args.line.now.entries c.args.self.now c.in_ok-right.right c.in_ok-right.left some.0 c.requires key in
+    (split-stands c.args.line.now.entries c.len-len.ensures.line.apart c.in_ok-right.right it.pair it.split c.in_ok-right.left it.key.left).0
+
+pub get-last-requires : goal.get-last-requires
+get-last-requires g c =
+    let some = c.in_ok-right.ensures.some in
+    let key = ap (λ (s : ScheduleState). key_at s.keys c.in_ok-right.right) (sym c.self.view_is) ∙ some.2 in
+    let it = IsPairOfKey-keyed c.args.n c.args.line.now.entries c.args.self.now c.in_ok-right.right c.in_ok-right.left some.0 c.requires key in
+    (split-stands c.args.line.now.entries c.len-len.ensures.line.apart c.in_ok-right.right it.pair it.split c.in_ok-right.left it.key.left).1
+
+pub returns-clause-pair : goal.returns-clause-pair
+returns-clause-pair g c =
+    let some = c.in_ok-right.ensures.some in
+    let key = ap (λ (s : ScheduleState). key_at s.keys c.in_ok-right.right) (sym c.self.view_is) ∙ some.2 in
+    let it = IsPairOfKey-keyed c.args.n c.args.line.now.entries c.args.self.now c.in_ok-right.right c.in_ok-right.left some.0 c.requires key in
+    IsPairIn-read c.args.line.now.entries c.len-len.ensures.line.apart c.in_ok-right.right it.pair it.split c.in_ok-right.left c.get-first.result
+    c.get-last.result it.key.left c.get-first.ensures.entry c.get-last.ensures.entry
+
+pub returns-clause-fits : goal.returns-clause-fits
+returns-clause-fits g c =
+    let some = c.in_ok-right.ensures.some in
+    let key = ap (λ (s : ScheduleState). key_at s.keys c.in_ok-right.right) (sym c.self.view_is) ∙ some.2 in
+    let it = IsPairOfKey-keyed c.args.n c.args.line.now.entries c.args.self.now c.in_ok-right.right c.in_ok-right.left some.0 c.requires key in
+    let read = positions-read c.args.line.now.entries c.len-len.ensures.line.apart c.in_ok-right.right it.pair it.split c.in_ok-right.left c.get-first.result
+    c.get-last.result it.key.left c.get-first.ensures.entry c.get-last.ensures.entry in
+    ap₂ (λ l r. fits (lengths c.args.self.now) l r c.args.n) read.0 read.1
+    ∙ fits-by (lengths c.args.self.now) c.args.n some.0 it.pair (c.in_ok-right.left, some.0) (lengths-positive c.args.self.now.target) it.span some.1 refl it.key

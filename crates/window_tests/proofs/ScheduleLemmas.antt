@@ -1,0 +1,51 @@
+-- Positions of a line that goes on where it ended.
+use Rattle.std.proofs.Common.{◌≡◌, ◌∙◌, ℕ, suc, ◌+◌, ◌≤◌, List, [], ◌∷◌, ◌++◌, length, take, refl, sym, ap, arith, subst, length-append, append_assoc, Option, Some, None}
+use Rattle.std.proofs.lemmas.List.{take_all}
+use Rattle.ss_line.specs.Line.{StandsIn, entry_at, index_of, place_before}
+use Rattle.ss_line.specs.declared.entry.At.{At}
+use Rattle.ss_line.specs.declared.entry.Entry.{Entry}
+use Rattle.ss_schedule.specs.Keyed.{FollowFrom, FollowUpTo}
+use Rattle.ss_schedule.proofs.PairLemmas.{entry-apart, some-same}
+use Rattle.ss_schedule.proofs.Places.{AreApart, Ends, ends, place_at-seam, take-seam, with_last, without_last}
+
+FollowFrom-more : (n first : ℕ) (front : List (At × Entry)) (last new : At × Entry) → FollowFrom n first (front ++ last ∷ []) → new.1.first ≡ last.1.last + 1 →
+    new.1.first ≤ new.1.last → new.1.last ≤ n → FollowFrom n first ((front ++ last ∷ []) ++ new ∷ [])
+FollowFrom-more n first [] last new follow next order taken = (follow.0, follow.1, follow.2, (next, omega arith, taken, tt))
+FollowFrom-more n first (e ∷ es) last new follow next order taken =
+    (follow.0, follow.1, follow.2, FollowFrom-more n (e.1.last + 1) es last new follow.3 next order taken)
+
+FollowUpTo-more : (n : ℕ) (front : List (At × Entry)) (last new : At × Entry) → FollowUpTo n (front ++ last ∷ []) → new.1.first ≡ last.1.last + 1 →
+    new.1.first ≤ new.1.last → new.1.last ≤ n → FollowUpTo n ((front ++ last ∷ []) ++ new ∷ [])
+FollowUpTo-more n [] last new follow next order taken = (follow.0, FollowFrom-more n last.1.first [] last new follow.1 next order taken)
+FollowUpTo-more n (e ∷ es) last new follow next order taken = (follow.0, FollowFrom-more n e.1.first (e ∷ es) last new follow.1 next order taken)
+
+some-last : (front : List (At × Entry)) (x : At × Entry) → place_before (front ++ x ∷ []) (length (front ++ x ∷ [])) ≡ Some x.0
+some-last front x =
+    let long : length (front ++ x ∷ []) ≡ suc (length front) = omega (arith, length-append front (x ∷ [])) in
+    ap (place_before (front ++ x ∷ [])) long ∙ place_at-seam front (x ∷ [])
+
+-- the first window
+pub follows-none : (n : ℕ) (entries : List (At × Entry)) (new : At × Entry) → Ends entries → None ≡ place_before entries (length entries) → new.1.first ≡ 1 →
+    1 ≤ new.1.last → new.1.last ≤ n → FollowUpTo n (entries ++ new ∷ [])
+follows-none n _ new without_last none first some taken = (omega arith, (omega arith, omega arith, taken, tt))
+follows-none n _ new (with_last front x) none first some taken = let there : None ≡ Some x.0 = none ∙ some-last front x in absurd (cc)
+
+-- the window behind the last one
+pub follows-last : (n : ℕ) (entries : List (At × Entry)) (at : At) (e : Entry) (new : At × Entry) → Ends entries → AreApart entries → FollowUpTo n entries →
+    Some at ≡ place_before entries (length entries) → entry_at entries at ≡ Some e → new.1.first ≡ e.last + 1 → new.1.first ≤ new.1.last → new.1.last ≤ n →
+    FollowUpTo n (entries ++ new ∷ [])
+follows-last n _ at e new without_last apart follow last read next order taken = absurd (cc)
+follows-last n _ at e new (with_last front x) apart follow last read next order taken =
+    let place = some-same at x.0 (last ∙ some-last front x) in
+    let same = entry-apart (front ++ x ∷ []) apart front x.0 x.1 e [] refl (ap (entry_at (front ++ x ∷ [])) (sym place) ∙ read) in
+    FollowUpTo-more n front x new follow (next ∙ ap (λ (w : Entry). w.last + 1) (sym same)) order taken
+
+-- a line in which the last one is taken up
+pub taken-last : (entries : List (At × Entry)) (at : At) (entry : Entry) → index_of (entries ++ (at, entry) ∷ []) at ≡ length entries →
+    (take (index_of (entries ++ (at, entry) ∷ []) at) (entries ++ (at, entry) ∷ []) ≡ entries)
+    × (take (index_of (entries ++ (at, entry) ∷ []) at + 1) (entries ++ (at, entry) ∷ []) ≡ entries ++ (at, entry) ∷ [])
+taken-last entries at entry index =
+    let all : List (At × Entry) = entries ++ (at, entry) ∷ [] in
+    let long : index_of (entries ++ (at, entry) ∷ []) at + 1 ≡ length (entries ++ (at, entry) ∷ []) =
+    omega (arith, index, length-append entries ((at, entry) ∷ [])) in
+    (ap (λ k. take k (entries ++ (at, entry) ∷ [])) index ∙ take-seam entries ((at, entry) ∷ []), ap (λ k. take k (entries ++ (at, entry) ∷ [])) long ∙ take_all (length (entries ++ (at, entry) ∷ [])) (entries ++ (at, entry) ∷ []) (omega arith))

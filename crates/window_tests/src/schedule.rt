@@ -1,0 +1,269 @@
+// Lines in use with a schedule of their merges, beside the plain rule: as long as some two neighbours lie together in one
+// target window, join them.
+ghost use Rattle.std.specs.Prelude.{◌≡◌, ◌+◌, ◌≤◌, ◌<◌, ◌∷◌, ◌++◌, [], ℕ, length, IfOk, IfSome};
+ghost use Rattle.ss_line.specs.Line.{StandsIn};
+ghost use Rattle.ss_line.specs.declared.entry.At.{At};
+ghost use Rattle.ss_line.specs.declared.entry.Entry.{Entry};
+ghost use Rattle.ss_schedule.specs.Keyed.{FollowUpTo, IsKeyed, lengths};
+ghost use Rattle.ss_schedule.specs.Pairs.{NoPairFits};
+ghost use Rattle.ss_steps.specs.Steps.{IsFresh};
+
+use super::target::are_positions;
+use ss_catalog::Params;
+use ss_line::{Entry, Line, MOST_PLACES};
+use ss_schedule::{Schedule, keyed_at_the_next_count, merge_due, the_last_one_pushed};
+use ss_steps::Steps;
+use ss_target::Target;
+use ss_windowing::MOST_VALUES;
+use std::alloc::{AllocError, Global};
+use std::marker::Brand;
+use std::sync::ledger::{Blank, Ledger};
+
+// The position after the last one of a line.
+fn next_first<L: Ledger>(line: &Line, steps: &mut Steps<L>) -> Option<u64>
+    ensures { IfSome result (λ first. (n : ℕ) (new : At × Entry) → FollowUpTo n line.now.entries → new.1.first ≡ first
+        → first ≤ new.1.last → new.1.last ≤ n → FollowUpTo n (line.now.entries ++ new ∷ [])) }
+{
+    let _len = line.len();
+    let Some(at) = line.last() else {
+        return Some(1);
+    };
+    line.get(at, steps).last.checked_add(1)
+}
+
+// Puts a window of that many values at the end of a line, if they end at or below n. Whether they do.
+fn push<L: Ledger>(
+    line: &mut Line,
+    schedule: &mut Schedule,
+    len: u64,
+    n: u64,
+    steps: &mut Steps<L>,
+) -> Result<bool, AllocError>
+    requires { IsKeyed n line.old.entries schedule.old }
+    ensures { IsKeyed n line.new.entries schedule.new }
+{
+    if line.len() == MOST_PLACES {
+        return Ok(false);
+    }
+    line.reserve(1)?;
+    schedule.reserve(line.places())?;
+    let Some(first) = next_first(line, steps) else {
+        return Ok(false);
+    };
+    if len == 0 || first > n || n - first < len - 1 {
+        return Ok(false);
+    }
+    let entry = Entry {
+        first,
+        last: first + (len - 1),
+        slot: 7,
+    };
+    let at = line.push(entry, steps);
+    the_last_one_pushed();
+    schedule.add_window(line, at, n, steps);
+    Ok(true)
+}
+
+// Puts one value more into a line of which no pair is due after n, and joins the pairs that are due then. Whether it did.
+fn append<L: Ledger>(
+    line: &mut Line,
+    schedule: &mut Schedule,
+    n: u64,
+    steps: &mut Steps<L>,
+) -> Result<bool, AllocError>
+    requires few { n < MOST_VALUES }
+    requires keyed { IsKeyed n line.old.entries schedule.old }
+    requires none { NoPairFits (lengths schedule.old) n line.old.entries }
+    ensures keyed { IfOk result (λ did. did ≡ true → IsKeyed (n + 1) line.new.entries schedule.new) }
+    ensures none { IfOk result (λ did. did ≡ true → NoPairFits (lengths schedule.new) (n + 1) line.new.entries) }
+{
+    keyed_at_the_next_count();
+    if !push(line, schedule, 1, n + 1, steps)? {
+        return Ok(false);
+    }
+    merge_due(schedule, line, n + 1, steps);
+    Ok(true)
+}
+
+// The index of the right one of the first two windows that lie together in one target window after n values.
+fn first_due(target: Target, windows: &[(u64, u64)], n: u64) -> Option<usize>
+    ensures { IfSome result (λ k. (1 ≤ k) × (k < length windows.now)) }
+{
+    for k in 1..windows.len() {
+        let first = windows[k - 1].0;
+        let last = windows[k].1;
+        if are_positions(first, last, n) && target.fits(first, last, n) {
+            return Some(k);
+        }
+    }
+    None
+}
+
+// Joins windows by the plain rule.
+fn close(target: Target, windows: &mut Vec<(u64, u64)>, n: u64) {
+    while let Some(k) = first_due(target, windows, n) {
+        windows[k - 1].1 = windows[k].1;
+        windows.remove(k);
+    }
+}
+
+// Whether a line has these windows, in order, and no others.
+fn has<L: Ledger>(line: &Line, windows: &[(u64, u64)], steps: &mut Steps<L>) -> bool {
+    let mut place = line.first();
+    for window in windows {
+        let Some(at) = place else {
+            return false;
+        };
+        let entry = line.get(at, steps);
+        if entry.first != window.0 || entry.last != window.1 {
+            return false;
+        }
+        place = line.neighbours(at, steps).1;
+    }
+    place.is_none()
+}
+
+// Puts windows into an empty line.
+fn load<L: Ledger>(
+    line: &mut Line,
+    schedule: &mut Schedule,
+    windows: &[(u64, u64)],
+    n: u64,
+    steps: &mut Steps<L>,
+) -> Result<bool, AllocError>
+    requires { IsKeyed n line.old.entries schedule.old }
+    ensures { IsKeyed n line.new.entries schedule.new }
+{
+    for window in windows {
+        let len = window.1.wrapping_sub(window.0).wrapping_add(1);
+        if !push(line, schedule, len, n, steps)? {
+            return Ok(false);
+        }
+    }
+    Ok(true)
+}
+
+// Puts windows into an empty line, and then values one by one. Whether it has the windows of the plain rule each time.
+fn agree<L: Ledger>(
+    target: Target,
+    line: &mut Line,
+    schedule: &mut Schedule,
+    windows: &mut Vec<(u64, u64)>,
+    n: u64,
+    steps: &mut Steps<L>,
+) -> Result<bool, AllocError>
+    requires few { n ≤ MOST_VALUES }
+    requires keyed { IsKeyed n line.old.entries schedule.old }
+{
+    if !load(line, schedule, windows, n, steps)? {
+        return Ok(false);
+    }
+    merge_due(schedule, line, n, steps);
+    close(target, windows, n);
+    if !has(line, windows, steps) {
+        return Ok(false);
+    }
+    for count in n..(n + 300).min(MOST_VALUES) {
+        if !append(line, schedule, count, steps)? {
+            return Ok(false);
+        }
+        windows.push((count + 1, count + 1))?;
+        close(target, windows, count + 1);
+        if !has(line, windows, steps) {
+            return Ok(false);
+        }
+    }
+    Ok(true)
+}
+
+// That many windows, each of 1 to 9 values.
+fn made(alloc: Global, count: u32) -> Result<Vec<(u64, u64)>, AllocError> {
+    let mut windows = Vec::new(alloc);
+    let mut last: u64 = 0;
+    let mut random: u64 = 7;
+    for _ in 0..count {
+        random = random
+            .wrapping_mul(6364136223846793005)
+            .wrapping_add(1442695040888963407);
+        let first = last.wrapping_add(1);
+        last = last.wrapping_add(1 + (random >> 40) % 9);
+        windows.push((first, last))?;
+    }
+    Ok(windows)
+}
+
+fn agrees<L: Ledger>(alloc: Global, blank: Blank, row: &Row) -> Result<bool, AllocError>
+    requires { IsFresh L.name L.parts blank }
+{
+    let mut steps = Steps::<L>::new(blank);
+    let Ok(target) = Target::of(row.0) else {
+        return Ok(false);
+    };
+    let mut windows = made(alloc, row.1)?;
+    let n = windows.last().map_or(0, |window| window.1).min(MOST_VALUES);
+    let mut line = Line::new(alloc);
+    let mut schedule = Schedule::new(alloc, target);
+    agree(
+        target,
+        &mut line,
+        &mut schedule,
+        &mut windows,
+        n,
+        &mut steps,
+    )
+}
+
+// The parameters of a target, and how many windows are made up before the values come.
+type Row = (Params, u32);
+
+// The last ones keep more than 64 windows, so the heap has seven levels and more.
+const ROWS: [Row; 8] = [
+    (Params::Exp { b: 2, r: 1, s: 1 }, 0),
+    (Params::Exp { b: 3, r: 2, s: 1 }, 0),
+    (
+        Params::Power {
+            p: 1,
+            q: 1,
+            r: 1,
+            s: 1,
+        },
+        0,
+    ),
+    (
+        Params::Power {
+            p: 1,
+            q: 0,
+            r: 1,
+            s: 2,
+        },
+        0,
+    ),
+    (Params::Exp { b: 2, r: 1, s: 1 }, 100),
+    (Params::Exp { b: 2, r: 40, s: 2 }, 100),
+    (
+        Params::Power {
+            p: 2,
+            q: 1,
+            r: 3,
+            s: 1,
+        },
+        100,
+    ),
+    (
+        Params::Power {
+            p: 4,
+            q: 3,
+            r: 1,
+            s: 2,
+        },
+        200,
+    ),
+];
+
+#[test]
+fn merges_are_those_of_the_plain_rule(rt: HostRuntime) -> Result<(), AllocError> {
+    for (k, row) in ROWS.iter().enumerate() {
+        assert!(rt; agrees::<Brand>(rt.alloc(), Blank::new(1), row)?, "row {k}");
+    }
+    Ok(())
+}
