@@ -1,5 +1,6 @@
 -- What the file of a store was opened as.
-use Rattle.std.specs.Prelude.{◌≡◌, ◌⊎◌, ◌≤◌, ℕ, List, [], slice_index, Bool, true, false, IsTrue, Option, Some, None, ⊤}
+use Rattle.std.specs.Prelude.{◌≡◌, ◌⊎◌, ◌≤◌, ℕ, List, [], ◌∷◌, codes, if◌then◌else◌, slice_index, Bool, true, false, IsTrue, Option, Some, None, ⊤}
+use Rattle.std.specs.Str.{bytes_eq}
 use Rattle.ss_journal.specs.Format.{is_unborn}
 use Rattle.ss_journal.specs.declared.format.TheConstants.{FIRST_SLOT}
 use Rattle.summarystore.specs.System.{Fact, Unmade, OpenFor, LockedBy, RegularFile, Synced, Unsyncable, Durable}
@@ -12,6 +13,11 @@ use Rattle.summarystore.specs.declared.system.Access.TheVariants.{Change, Read}
 use Rattle.summarystore.specs.declared.system.Access.TheVariants as access
 use Rattle.summarystore.specs.declared.system.Lock.{Lock}
 use Rattle.summarystore.specs.declared.system.Lock.TheVariants.{Exclusive, Shared}
+
+-- what is done where there is no file: a check, the third word after the program's name and the path, makes none
+abbrev pub missing_for : List (List ℕ) → Missing
+missing_for (program ∷ path ∷ mode ∷ []) = if bytes_eq mode (codes "check") then ReadEmpty else Make
+missing_for _ = Make
 
 -- what a file that may be written is opened for
 abbrev pub access_for : Missing → Access

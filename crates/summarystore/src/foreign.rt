@@ -3,6 +3,9 @@ ghost use Rattle.std.specs.Prelude.{◌≡◌, ◌↔◌, ◌+◌, ◌<◌, ◌^
 ghost use Rattle.summarystore.specs.Opening.{IsBlank, IsNative};
 ghost use Rattle.summarystore.specs.System.{KeepsAll};
 
+#[cfg(test)]
+mod tests;
+
 use crate::reading::read_whole;
 use crate::system::System;
 use ss_journal::{FIRST_SLOT, Head};

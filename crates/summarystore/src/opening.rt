@@ -1,6 +1,6 @@
 // How the file of a store is opened.
-ghost use Rattle.std.specs.Prelude.{◌≡◌, ◌⊎◌, ◌↔◌, ℕ, List, Ok, Some, IsTrue, IfOk, OnOk};
-ghost use Rattle.summarystore.specs.Opening.{IsHeldAs, IsLocked, IsLockedAs, IsNative, IsSettledAs, MayHold, StaysUnmade, access_for};
+ghost use Rattle.std.specs.Prelude.{◌≡◌, ◌⊎◌, ◌↔◌, ℕ, List, Ok, Some, map, string_bytes, IsTrue, IfOk, OnOk};
+ghost use Rattle.summarystore.specs.Opening.{IsHeldAs, IsLocked, IsLockedAs, IsNative, IsSettledAs, MayHold, StaysUnmade, access_for, missing_for};
 ghost use Rattle.summarystore.specs.System.{Durable, IsUnsyncable, Keeps, KeepsAll, LockedBy, Synced, Unmade, Unsyncable, Unwritten};
 ghost use Rattle.summarystore.specs.System.{lasts_lock, lasts_open};
 
@@ -15,6 +15,16 @@ use std::path::Path;
 pub enum Missing {
     Make,
     ReadEmpty,
+}
+
+/// What is done where there is no file, by the words of the command line, the program's name first: a check makes none.
+pub fn missing_for(words: &[String]) -> Missing
+    ensures { result ≡ missing_for (map (λ word. string_bytes word) words.now) }
+{
+    match words {
+        [_, _, mode] if mode.as_str() == "check" => Missing::ReadEmpty,
+        _ => Missing::Make,
+    }
 }
 
 /// What stands behind a disk: no file, one that may only be read, one that may be written, or one that was made here.
