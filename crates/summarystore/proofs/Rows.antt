@@ -1,5 +1,6 @@
 -- Worked rows of the definitions.
-use Rattle.std.proofs.Common.{◌≡◌, ◌∙◌, ◌⊎◌, ◌≤◌, ℕ, Bool, true, false, List, [], ◌∷◌, ◌++◌, Option, Some, None, length, get_or, map, inl, inr, refl, sym, arith}
+use Rattle.std.proofs.Common.{◌≡◌, ◌∙◌, ◌⊎◌, ◌≤◌, ℕ, Bool, true, false, List, [], ◌∷◌, ◌++◌, Option, Some, None}
+use Rattle.std.proofs.Common.{length, get_or, map, inl, inr, refl, sym, arith}
 use Rattle.std.proofs.lemmas.List.{get_or_past, get_or-append_right, length-append}
 use Rattle.std.specs.IoError.{error_kind}
 use Rattle.std.specs.Prelude.{IsFalse, IsTrue, codes}
@@ -7,7 +8,8 @@ use Rattle.std.specs.declared.io.Error.{Error}
 use Rattle.std.specs.declared.io.ErrorKind.TheVariants.{InvalidInput, Other, ReadOnlyFilesystem}
 use Rattle.ss_journal.specs.Format.{is_unborn}
 use Rattle.summarystore.specs.FileDisk.{untold}
-use Rattle.summarystore.specs.Opening.{IsBlank, IsHeldAs, IsLockedAs, IsNative, IsSettledAs, MayHold, StaysHeld, StaysUnmade, access_for, is_writable, missing_for}
+use Rattle.summarystore.specs.Opening.{IsBlank, IsHeldAs, IsLockedAs, IsNative, IsSettledAs, MayHold, StaysHeld, StaysUnmade, access_for, is_writable}
+use Rattle.summarystore.specs.Opening.{missing_for}
 use Rattle.summarystore.specs.System.{Durable, Fact, IsUnsyncable, Keeps, KeepsAll, LockedBy, OpenFor, RegularFile, Synced, Unmade, Unsyncable, Unwritten}
 use Rattle.summarystore.specs.System.{lasts_lock, lasts_open, lasts_write}
 use Rattle.summarystore.specs.declared.opening.Missing.TheVariants as missing
@@ -62,7 +64,9 @@ missing_for-check : missing_for (codes "a" ∷ codes "b" ∷ codes "check" ∷ [
 missing_for-check = refl
 
 missing_for-others :
-    map missing_for ([] ∷ (codes "a" ∷ codes "check" ∷ []) ∷ (codes "a" ∷ codes "b" ∷ codes "run" ∷ []) ∷ (codes "a" ∷ codes "b" ∷ codes "check" ∷ [] ∷ []) ∷ [])
+    map missing_for
+    ([] ∷ (codes "a" ∷ codes "check" ∷ []) ∷ (codes "a" ∷ codes "b" ∷ codes "run" ∷ [])
+    ∷ (codes "a" ∷ codes "b" ∷ codes "check" ∷ [] ∷ []) ∷ [])
     ≡ missing.Make ∷ missing.Make ∷ missing.Make ∷ missing.Make ∷ []
 missing_for-others = refl
 
@@ -103,7 +107,9 @@ settled-Made holds is = is
 unmade-ReadEmpty : (old new : Fact → Type 0) → StaysUnmade missing.ReadEmpty old new → old Unmade → new Unmade
 unmade-ReadEmpty old new stays was = stays refl was
 
-writable-each : map is_writable (None ∷ Some Nothing ∷ Some ReadOnly ∷ Some Writable ∷ Some Made ∷ []) ≡ false ∷ false ∷ false ∷ true ∷ true ∷ []
+writable-each :
+    map is_writable (None ∷ Some Nothing ∷ Some ReadOnly ∷ Some Writable ∷ Some Made ∷ [])
+    ≡ false ∷ false ∷ false ∷ true ∷ true ∷ []
 writable-each = refl
 
 -- a byte in front of the first slot is none of a slot, and one at its place is

@@ -56,7 +56,10 @@ fn fills(byte: u8) -> bool {
 // Whether a read that fails is a failure.
 fn fails() -> bool {
     let mut buffer = [1; 2];
-    StdSource::new(&FillingInput(None)).read(&mut buffer).is_err() && buffer == [1, 1]
+    StdSource::new(&FillingInput(None))
+        .read(&mut buffer)
+        .is_err()
+        && buffer == [1, 1]
 }
 
 #[test]

@@ -47,6 +47,7 @@ fn read_only_at(at: u64) -> Reason {
 impl<S: System> FileDisk<S> {
     pub fn new(system: S, path: String, missing: Missing) -> FileDisk<S>
         ensures count { result.faults ≡ 0 }
+        ensures missing { result.missing ≡ missing }
         ensures held { StaysHeld result.missing result.opened (S.holds result.system) }
     {
         FileDisk {
@@ -83,6 +84,7 @@ impl<S: System> FileDisk<S> {
             IfOk result (λ opened. IsSettledAs opened (S.holds self.new.system)) }
         ensures native { self.old.opened ≡ None → OnOk result ((image : List ℕ) →
             MayHold self.new.opened (S.fits self.new.system) image → IsNative image) }
+        ensures missing { self.new.missing ≡ self.old.missing }
         ensures held { StaysHeld self.old.missing self.old.opened (S.holds self.old.system) →
             StaysHeld self.new.missing self.new.opened (S.holds self.new.system) }
         ensures unmade { StaysUnmade self.old.missing (S.holds self.old.system) (S.holds self.new.system) }
@@ -104,6 +106,7 @@ impl<S: System> FileDisk<S> {
         ensures ends { 0 < self.old.faults → IsErr result × (self.new ≡ self.old) }
         ensures measures { IfOk result (λ answer. (image : List ℕ) →
             MayHold self.new.opened (S.fits self.new.system) image → answer ≡ length image) }
+        ensures missing { self.new.missing ≡ self.old.missing }
         ensures held { StaysHeld self.old.missing self.old.opened (S.holds self.old.system) →
             StaysHeld self.new.missing self.new.opened (S.holds self.new.system) }
         ensures unmade { StaysUnmade self.old.missing (S.holds self.old.system) (S.holds self.new.system) }
@@ -123,6 +126,7 @@ impl<S: System> FileDisk<S> {
         ensures ends { 0 < self.old.faults → IsErr result × (self.new ≡ self.old) }
         ensures reads { at + length into.old < 2 ^ 64 → OnOk result ((image : List ℕ) →
             MayHold self.new.opened (S.fits self.new.system) image → IsReadFrom image at into.new) }
+        ensures missing { self.new.missing ≡ self.old.missing }
         ensures held { StaysHeld self.old.missing self.old.opened (S.holds self.old.system) →
             StaysHeld self.new.missing self.new.opened (S.holds self.new.system) }
         ensures unmade { StaysUnmade self.old.missing (S.holds self.old.system) (S.holds self.new.system) }
@@ -142,9 +146,10 @@ impl<S: System> FileDisk<S> {
         ensures faults { self.new.faults ≡ self.old.faults }
         ensures ends { 0 < self.old.faults → IsErr result × (self.new ≡ self.old) }
         ensures writes { at + length bytes.now < 2 ^ 64 →
-            OnOk result (S.has_written self.new.system at (at + length bytes.now)) }
+            OnOk result (S.has_written self.new.system at bytes.now) }
         ensures refused { IsFalse (is_writable self.new.opened) →
             IsErr result × (S.holds self.old.system Unwritten → S.holds self.new.system Unwritten) }
+        ensures missing { self.new.missing ≡ self.old.missing }
         ensures held { StaysHeld self.old.missing self.old.opened (S.holds self.old.system) →
             StaysHeld self.new.missing self.new.opened (S.holds self.new.system) }
         ensures unmade { StaysUnmade self.old.missing (S.holds self.old.system) (S.holds self.new.system) }
@@ -164,6 +169,7 @@ impl<S: System> FileDisk<S> {
         ensures faults { self.new.faults ≡ self.old.faults }
         ensures ends { 0 < self.old.faults → IsErr result × (self.new ≡ self.old) }
         ensures synced { OnOk result (S.holds self.new.system Synced) }
+        ensures missing { self.new.missing ≡ self.old.missing }
         ensures held { StaysHeld self.old.missing self.old.opened (S.holds self.old.system) →
             StaysHeld self.new.missing self.new.opened (S.holds self.new.system) }
         ensures unmade { StaysUnmade self.old.missing (S.holds self.old.system) (S.holds self.new.system) }
@@ -191,6 +197,7 @@ impl<S: System> Disk for FileDisk<S> {
         ensures step { Step (verdict result) (untold self.old.faults) (untold self.new.faults) (Measures result) }
         ensures measures { IfOk result (λ answer. (image : List ℕ) →
             MayHold self.new.opened (S.fits self.new.system) image → answer ≡ length image) }
+        ensures missing { self.new.missing ≡ self.old.missing }
         ensures held { StaysHeld self.old.missing self.old.opened (S.holds self.old.system) →
             StaysHeld self.new.missing self.new.opened (S.holds self.new.system) }
         ensures unmade { StaysUnmade self.old.missing (S.holds self.old.system) (S.holds self.new.system) }
@@ -204,6 +211,7 @@ impl<S: System> Disk for FileDisk<S> {
         ensures step { Step (verdict result) (untold self.old.faults) (untold self.new.faults) (ReadsAt at into.new result) }
         ensures reads { at + length into.old < 2 ^ 64 → OnOk result ((image : List ℕ) →
             MayHold self.new.opened (S.fits self.new.system) image → IsReadFrom image at into.new) }
+        ensures missing { self.new.missing ≡ self.old.missing }
         ensures held { StaysHeld self.old.missing self.old.opened (S.holds self.old.system) →
             StaysHeld self.new.missing self.new.opened (S.holds self.new.system) }
         ensures unmade { StaysUnmade self.old.missing (S.holds self.old.system) (S.holds self.new.system) }
@@ -216,9 +224,10 @@ impl<S: System> Disk for FileDisk<S> {
     fn write_at(&mut self, at: u64, bytes: &[u8]) -> Result<(), Failed>
         ensures step { Step (verdict result) (untold self.old.faults) (untold self.new.faults) (WritesAt at bytes.now result) }
         ensures writes { at + length bytes.now < 2 ^ 64 →
-            OnOk result (S.has_written self.new.system at (at + length bytes.now)) }
+            OnOk result (S.has_written self.new.system at bytes.now) }
         ensures refused { IsFalse (is_writable self.new.opened) →
             IsErr result × (S.holds self.old.system Unwritten → S.holds self.new.system Unwritten) }
+        ensures missing { self.new.missing ≡ self.old.missing }
         ensures held { StaysHeld self.old.missing self.old.opened (S.holds self.old.system) →
             StaysHeld self.new.missing self.new.opened (S.holds self.new.system) }
         ensures unmade { StaysUnmade self.old.missing (S.holds self.old.system) (S.holds self.new.system) }
@@ -230,6 +239,7 @@ impl<S: System> Disk for FileDisk<S> {
     fn sync(&mut self) -> Result<(), Failed>
         ensures step { Step (verdict result) (untold self.old.faults) (untold self.new.faults) (Syncs result) }
         ensures synced { OnOk result (S.holds self.new.system Synced) }
+        ensures missing { self.new.missing ≡ self.old.missing }
         ensures held { StaysHeld self.old.missing self.old.opened (S.holds self.old.system) →
             StaysHeld self.new.missing self.new.opened (S.holds self.new.system) }
         ensures unmade { StaysUnmade self.old.missing (S.holds self.old.system) (S.holds self.new.system) }

@@ -102,11 +102,7 @@ fn lock<S: System>(system: &mut S, how: Lock) -> Result<(), Reason>
 }
 
 // Opens a file that may not be written. It is locked against those that write.
-fn open_to_read<S: System>(
-    system: &mut S,
-    path: &str,
-    refused: io::Error,
-) -> Result<Opened, Reason>
+fn open_to_read<S: System>(system: &mut S, path: &str, refused: io::Error) -> Result<Opened, Reason>
     ensures read_only { IfOk result (λ opened. opened ≡ Opened.ReadOnly) }
     ensures locked { OnOk result (IsLocked Access.Read Lock.Shared (S.holds system.new)) }
     ensures unmade { S.holds system.old Unmade → S.holds system.new Unmade }

@@ -1,5 +1,5 @@
 // The calls of the system that a store's file needs.
-ghost use Rattle.std.specs.Prelude.{◌≡◌, ◌<◌, ◌≤◌, ◌+◌, ℕ, List, length, slice_index, Ok, IfOk, IfErr, OnOk, OnErr};
+ghost use Rattle.std.specs.Prelude.{◌≡◌, ◌<◌, ◌≤◌, ◌+◌, ◌++◌, [], ℕ, List, length, take, slice_index, Ok, IfOk, IfErr, OnOk, OnErr};
 ghost use Rattle.summarystore.specs.System.{Fact, OpenFor, LockedBy, RegularFile, Synced, Unsyncable, Durable};
 ghost use Rattle.summarystore.specs.System.{KeepsAll, Keeps, lasts_open, lasts_lock, lasts_write, IsUnsyncable};
 
@@ -41,8 +41,8 @@ pub trait System {
     /// The open file may hold this image by what was answered since it was opened and written.
     ghost fits: { Self → List ℕ → Type 0 };
 
-    /// All from the first place up to the second was written.
-    ghost has_written: { Self → ℕ → ℕ → Type 0 };
+    /// These bytes were written from the place on.
+    ghost has_written: { Self → ℕ → List ℕ → Type 0 };
 
     /// What has the path, through links.
     fn kind_of(&mut self, path: &str) -> io::Result<Kind>
@@ -82,10 +82,10 @@ pub trait System {
     /// Writes bytes from the front of the buffer to a place, and answers how many.
     fn write(&mut self, at: u64, bytes: &[u8]) -> io::Result<usize>
         ensures bound { IfOk result (λ count. count ≤ length bytes.now) }
-        ensures writes { IfOk result (λ count.
-            (start : ℕ) → has_written self.old start at → has_written self.new start (at + count)) }
+        ensures writes { IfOk result (λ count. (start : ℕ) (front : List ℕ) → at ≡ start + length front →
+            has_written self.old start front → has_written self.new start (front ++ take count bytes.now)) }
         ensures fails { OnErr result
-            ((start stop : ℕ) → has_written self.old start stop → has_written self.new start stop) }
+            ((start : ℕ) (front : List ℕ) → has_written self.old start front → has_written self.new start front) }
         ensures keeps { Keeps lasts_write (holds self.old) (holds self.new) };
 
     /// Makes durable what the open file holds, its length too.
@@ -105,5 +105,5 @@ pub trait System {
         ensures keeps { KeepsAll (holds self.old) (holds self.new) };
 
     /// To write no bytes no call is needed.
-    ghost nothing_written: { (system : Self) (at : ℕ) → has_written system at at };
+    ghost nothing_written: { (system : Self) (at : ℕ) → has_written system at [] };
 }

@@ -8,7 +8,7 @@ use std::io::{self, ErrorKind};
 /// Writes all of the bytes, from a place on. At an error some of them may be written.
 pub fn write_whole<S: System>(system: &mut S, at: u64, bytes: &[u8]) -> io::Result<()>
     ensures writes { at + length bytes.now < 2 ^ 64 →
-        OnOk result (S.has_written system.new at (at + length bytes.now)) }
+        OnOk result (S.has_written system.new at bytes.now) }
     ensures keeps { Keeps lasts_write (S.holds system.old) (S.holds system.new) }
 {
     let mut done = 0;

@@ -256,12 +256,7 @@ const MOVES: [(usize, bool, &str); 4] = [
 ];
 
 // Whether six bytes are moved by these calls.
-fn move_as(
-    disk: &mut FileDisk<MadeUpSystem>,
-    most: usize,
-    interrupts: bool,
-    calls: &str,
-) -> bool {
+fn move_as(disk: &mut FileDisk<MadeUpSystem>, most: usize, interrupts: bool, calls: &str) -> bool {
     open_first(disk);
     disk.system.most = most;
     disk.system.interrupts = interrupts;
