@@ -1,9 +1,9 @@
 -- Worked rows of the definitions.
-use Rattle.std.proofs.Common.{◌≡◌, [], ◌∷◌, map, refl}
+use Rattle.std.proofs.Common.{◌≡◌, [], ◌∷◌, length, map, refl}
 use Rattle.std.specs.Prelude.{codes, pos, negsuc}
 use Rattle.std.specs.Fmt.{digits}
 use Rattle.ss_command.specs.Printed.{printed}
-use Rattle.ss_generator.specs.Commands.{commands, of_round}
+use Rattle.ss_generator.specs.Commands.{commands, most_commands, of_round}
 use Rattle.ss_generator.specs.Numbers.{delay, number, number_after, time, value, value_of}
 use Rattle.ss_generator.specs.declared.TheConstants.{CLOSING_ROUND, DIFFERENT_VALUES, GREATEST_VALUE, INCREMENT, LANDMARK_ROUNDS, MOST_COUNT}
 use Rattle.ss_generator.specs.declared.TheConstants.{MULTIPLIER, OPENING_ROUND}
@@ -96,3 +96,11 @@ commands-1_2 :
     ∷ []
 unfolding commands number_after delay value_of printed digits
 commands-1_2 = refl
+
+-- no round has all three, so only the file of no rounds is as long as that
+most_commands-rows : map most_commands (0 ∷ 1 ∷ 2 ∷ []) ≡ 7 ∷ 10 ∷ 13 ∷ []
+most_commands-rows = refl
+
+length-commands : length (commands 0 0) ∷ length (commands 0 1) ∷ [] ≡ 7 ∷ 8 ∷ []
+unfolding commands
+length-commands = refl

@@ -1,5 +1,5 @@
 -- The commands of a generated command file.
-use Rattle.std.specs.Prelude.{ℕ, zero, suc, ◌*◌, ◌/◌, ◌%◌, ◌==◌, ℤ, List, [], ◌∷◌, ◌++◌, codes, if◌then◌else◌}
+use Rattle.std.specs.Prelude.{ℕ, zero, suc, ◌+◌, ◌*◌, ◌/◌, ◌%◌, ◌==◌, ℤ, List, [], ◌∷◌, ◌++◌, codes, if◌then◌else◌}
 use Rattle.ss_catalog.specs.declared.event.Event.TheVariants.{Create, Value, Open, Close}
 use Rattle.ss_catalog.specs.declared.params.Params.TheVariants.{Power}
 use Rattle.ss_catalog.specs.declared.query.Kind.{Kind}
@@ -48,3 +48,7 @@ queries t =
 -- all commands in order
 unfoldable pub commands : ℕ → ℕ → List Command
 commands seed count = create ∷ of_rounds seed count ++ queries (time seed count)
+
+-- so many commands a file of so many rounds has at most: three in a round, and seven besides
+abbrev pub most_commands : ℕ → ℕ
+most_commands count = 3 * count + 7

@@ -24,14 +24,14 @@ impl Model for Generator {
 }
 
 impl Generator {
-    ghost use Rattle.std.specs.Prelude.{◌≡◌, ◌≤◌, ◌+◌, ◌*◌, [], ◌∷◌, length, IfSome, MatchOption};
+    ghost use Rattle.std.specs.Prelude.{◌≡◌, ◌≤◌, [], ◌∷◌, length, IfSome, MatchOption};
     ghost use Rattle.ss_command.specs.Printed.{IsCommandInTime, IsSayable};
-    ghost use Rattle.ss_generator.specs.Commands.{commands};
+    ghost use Rattle.ss_generator.specs.Commands.{commands, most_commands};
 
     /// All commands of `count` rounds, with `start` as the seed. At most three come in a round, and seven besides.
     pub fn new(start: u64, count: u32) -> Generator
         ensures commands { result ≡ commands start count }
-        ensures bound { length result ≤ 3 * count + 7 }
+        ensures bound { length result ≤ most_commands count }
     {
         Generator {
             round: Round {

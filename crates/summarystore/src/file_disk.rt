@@ -1,5 +1,8 @@
 // The real disk: a file. It tells nothing of its bytes.
-ghost use Rattle.std.specs.Prelude.{◌≡◌, ◌⊎◌, ◌+◌, ◌<◌, ◌^◌, length, Some, IsErr, IfOk, OnOk};
+ghost use Rattle.std.specs.Prelude.{◌≡◌, ◌+◌, ◌<◌, ◌^◌, ℕ, List, length, None, Some, IsErr, IsFalse, IfOk, OnOk};
+ghost use Rattle.ss_outside.specs.Disk.{IsReadFrom};
+ghost use Rattle.summarystore.specs.Opening.{IsNative, IsSettledAs, MayHold, StaysHeld, StaysUnmade, is_writable};
+ghost use Rattle.summarystore.specs.System.{Synced, Unwritten};
 
 #[cfg(test)]
 mod tests;
@@ -44,6 +47,8 @@ fn read_only_at(at: u64) -> Reason {
 impl<S: System> FileDisk<S> {
     pub fn new(system: S, path: String, missing: Missing) -> FileDisk<S>
         ensures count { result.faults ≡ 0 }
+        ensures missing { result.missing ≡ missing }
+        ensures held { StaysHeld result.missing result.opened (S.holds result.system) }
     {
         FileDisk {
             system,
@@ -75,6 +80,15 @@ impl<S: System> FileDisk<S> {
         ensures faults { self.new.faults ≡ self.old.faults }
         ensures ends { 0 < self.old.faults → IsErr result × (self.new ≡ self.old) }
         ensures opens { IfOk result (λ opened. self.new.opened ≡ Some opened) }
+        ensures settled { self.old.opened ≡ None →
+            IfOk result (λ opened. IsSettledAs opened (S.holds self.new.system)) }
+        ensures native { self.old.opened ≡ None → OnOk result ((image : List ℕ) →
+            MayHold self.new.opened (S.fits self.new.system) image → IsNative image) }
+        ensures missing { self.new.missing ≡ self.old.missing }
+        ensures held { StaysHeld self.old.missing self.old.opened (S.holds self.old.system) →
+            StaysHeld self.new.missing self.new.opened (S.holds self.new.system) }
+        ensures unmade { StaysUnmade self.old.missing (S.holds self.old.system) (S.holds self.new.system) }
+        ensures unwritten { S.holds self.old.system Unwritten → S.holds self.new.system Unwritten }
     {
         if self.faults > 0 {
             return Err(Reason::own(Trouble::FailedBefore));
@@ -90,6 +104,13 @@ impl<S: System> FileDisk<S> {
     fn try_len(&mut self) -> Result<u64, Reason>
         ensures faults { self.new.faults ≡ self.old.faults }
         ensures ends { 0 < self.old.faults → IsErr result × (self.new ≡ self.old) }
+        ensures measures { IfOk result (λ answer. (image : List ℕ) →
+            MayHold self.new.opened (S.fits self.new.system) image → answer ≡ length image) }
+        ensures missing { self.new.missing ≡ self.old.missing }
+        ensures held { StaysHeld self.old.missing self.old.opened (S.holds self.old.system) →
+            StaysHeld self.new.missing self.new.opened (S.holds self.new.system) }
+        ensures unmade { StaysUnmade self.old.missing (S.holds self.old.system) (S.holds self.new.system) }
+        ensures unwritten { S.holds self.old.system Unwritten → S.holds self.new.system Unwritten }
     {
         if self.ready()? == Opened::Nothing {
             return Ok(0);
@@ -103,8 +124,13 @@ impl<S: System> FileDisk<S> {
     fn try_read(&mut self, at: u64, into: &mut [u8]) -> Result<(), Reason>
         ensures faults { self.new.faults ≡ self.old.faults }
         ensures ends { 0 < self.old.faults → IsErr result × (self.new ≡ self.old) }
-        ensures reads { at + length into.old < 2 ^ 64 → OnOk result
-            ((self.new.opened ≡ Some Opened.Nothing) ⊎ S.has_read self.new.system at (at + length into.old)) }
+        ensures reads { at + length into.old < 2 ^ 64 → OnOk result ((image : List ℕ) →
+            MayHold self.new.opened (S.fits self.new.system) image → IsReadFrom image at into.new) }
+        ensures missing { self.new.missing ≡ self.old.missing }
+        ensures held { StaysHeld self.old.missing self.old.opened (S.holds self.old.system) →
+            StaysHeld self.new.missing self.new.opened (S.holds self.new.system) }
+        ensures unmade { StaysUnmade self.old.missing (S.holds self.old.system) (S.holds self.new.system) }
+        ensures unwritten { S.holds self.old.system Unwritten → S.holds self.new.system Unwritten }
     {
         if self.ready()? == Opened::Nothing {
             into.fill(0);
@@ -120,7 +146,13 @@ impl<S: System> FileDisk<S> {
         ensures faults { self.new.faults ≡ self.old.faults }
         ensures ends { 0 < self.old.faults → IsErr result × (self.new ≡ self.old) }
         ensures writes { at + length bytes.now < 2 ^ 64 →
-            OnOk result (S.has_written self.new.system at (at + length bytes.now)) }
+            OnOk result (S.has_written self.new.system at bytes.now) }
+        ensures refused { IsFalse (is_writable self.new.opened) →
+            IsErr result × (S.holds self.old.system Unwritten → S.holds self.new.system Unwritten) }
+        ensures missing { self.new.missing ≡ self.old.missing }
+        ensures held { StaysHeld self.old.missing self.old.opened (S.holds self.old.system) →
+            StaysHeld self.new.missing self.new.opened (S.holds self.new.system) }
+        ensures unmade { StaysUnmade self.old.missing (S.holds self.old.system) (S.holds self.new.system) }
     {
         match self.ready()? {
             Opened::Nothing => return Err(Reason::own(Trouble::NoFile)),
@@ -136,7 +168,12 @@ impl<S: System> FileDisk<S> {
     fn try_sync(&mut self) -> Result<(), Reason>
         ensures faults { self.new.faults ≡ self.old.faults }
         ensures ends { 0 < self.old.faults → IsErr result × (self.new ≡ self.old) }
-        ensures synced { OnOk result (S.is_synced self.new.system) }
+        ensures synced { OnOk result (S.holds self.new.system Synced) }
+        ensures missing { self.new.missing ≡ self.old.missing }
+        ensures held { StaysHeld self.old.missing self.old.opened (S.holds self.old.system) →
+            StaysHeld self.new.missing self.new.opened (S.holds self.new.system) }
+        ensures unmade { StaysUnmade self.old.missing (S.holds self.old.system) (S.holds self.new.system) }
+        ensures unwritten { S.holds self.old.system Unwritten → S.holds self.new.system Unwritten }
     {
         self.ready()?;
         match self.system.sync_data() {
@@ -147,34 +184,67 @@ impl<S: System> FileDisk<S> {
 }
 
 impl<S: System> Disk for FileDisk<S> {
-    ghost use Rattle.std.specs.Prelude.{false};
-    ghost use Rattle.std.specs.Prelude.{[]};
+    ghost use Rattle.ss_outside.specs.Step.{Measures, ReadsAt, Step, Syncs, WritesAt};
+    ghost use Rattle.ss_outside.specs.Verdict.{verdict};
+    ghost use Rattle.summarystore.specs.FileDisk.{untold};
     ghost use Rattle.std.proofs.lemmas.Bool.{false≢true};
 
-    ghost seen = { λ s. record {
-      tells = false;
-      told = record { content = []; may_leave = λ _. ⊥; moment = 0; left_since = λ _ _. ⊥ };
-      faults = s.faults;
-    } };
+    ghost seen = { λ s. untold s.faults };
 
     ghost knows_now = { λ _ told. absurd (false≢true told) };
 
-    fn len(&mut self) -> Result<u64, Failed> {
+    fn len(&mut self) -> Result<u64, Failed>
+        ensures step { Step (verdict result) (untold self.old.faults) (untold self.new.faults) (Measures result) }
+        ensures measures { IfOk result (λ answer. (image : List ℕ) →
+            MayHold self.new.opened (S.fits self.new.system) image → answer ≡ length image) }
+        ensures missing { self.new.missing ≡ self.old.missing }
+        ensures held { StaysHeld self.old.missing self.old.opened (S.holds self.old.system) →
+            StaysHeld self.new.missing self.new.opened (S.holds self.new.system) }
+        ensures unmade { StaysUnmade self.old.missing (S.holds self.old.system) (S.holds self.new.system) }
+        ensures unwritten { S.holds self.old.system Unwritten → S.holds self.new.system Unwritten }
+    {
         let answer = self.try_len();
         judge(answer, &mut self.faults, &mut self.why)
     }
 
-    fn read_at(&mut self, at: u64, into: &mut [u8]) -> Result<(), Failed> {
+    fn read_at(&mut self, at: u64, into: &mut [u8]) -> Result<(), Failed>
+        ensures step { Step (verdict result) (untold self.old.faults) (untold self.new.faults) (ReadsAt at into.new result) }
+        ensures reads { at + length into.old < 2 ^ 64 → OnOk result ((image : List ℕ) →
+            MayHold self.new.opened (S.fits self.new.system) image → IsReadFrom image at into.new) }
+        ensures missing { self.new.missing ≡ self.old.missing }
+        ensures held { StaysHeld self.old.missing self.old.opened (S.holds self.old.system) →
+            StaysHeld self.new.missing self.new.opened (S.holds self.new.system) }
+        ensures unmade { StaysUnmade self.old.missing (S.holds self.old.system) (S.holds self.new.system) }
+        ensures unwritten { S.holds self.old.system Unwritten → S.holds self.new.system Unwritten }
+    {
         let answer = self.try_read(at, into);
         judge(answer, &mut self.faults, &mut self.why)
     }
 
-    fn write_at(&mut self, at: u64, bytes: &[u8]) -> Result<(), Failed> {
+    fn write_at(&mut self, at: u64, bytes: &[u8]) -> Result<(), Failed>
+        ensures step { Step (verdict result) (untold self.old.faults) (untold self.new.faults) (WritesAt at bytes.now result) }
+        ensures writes { at + length bytes.now < 2 ^ 64 →
+            OnOk result (S.has_written self.new.system at bytes.now) }
+        ensures refused { IsFalse (is_writable self.new.opened) →
+            IsErr result × (S.holds self.old.system Unwritten → S.holds self.new.system Unwritten) }
+        ensures missing { self.new.missing ≡ self.old.missing }
+        ensures held { StaysHeld self.old.missing self.old.opened (S.holds self.old.system) →
+            StaysHeld self.new.missing self.new.opened (S.holds self.new.system) }
+        ensures unmade { StaysUnmade self.old.missing (S.holds self.old.system) (S.holds self.new.system) }
+    {
         let answer = self.try_write(at, bytes);
         judge(answer, &mut self.faults, &mut self.why)
     }
 
-    fn sync(&mut self) -> Result<(), Failed> {
+    fn sync(&mut self) -> Result<(), Failed>
+        ensures step { Step (verdict result) (untold self.old.faults) (untold self.new.faults) (Syncs result) }
+        ensures synced { OnOk result (S.holds self.new.system Synced) }
+        ensures missing { self.new.missing ≡ self.old.missing }
+        ensures held { StaysHeld self.old.missing self.old.opened (S.holds self.old.system) →
+            StaysHeld self.new.missing self.new.opened (S.holds self.new.system) }
+        ensures unmade { StaysUnmade self.old.missing (S.holds self.old.system) (S.holds self.new.system) }
+        ensures unwritten { S.holds self.old.system Unwritten → S.holds self.new.system Unwritten }
+    {
         let answer = self.try_sync();
         judge(answer, &mut self.faults, &mut self.why)
     }

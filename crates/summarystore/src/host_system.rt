@@ -79,15 +79,11 @@ impl<'a, R: Files<File = File>> HostSystem<'a, R> {
 }
 
 impl<R: Files<File = File> + AllocGlobal> System for HostSystem<'_, R> {
-    ghost has_read = { λ _ _ _. ⊤ };
+    ghost holds = { λ _ _. ⊤ };
+
+    ghost fits = { λ _ _. ⊥ };
 
     ghost has_written = { λ _ _ _. ⊤ };
-
-    ghost is_synced = { λ _. ⊤ };
-
-    ghost is_durable = { λ _. ⊤ };
-
-    ghost nothing_read = { λ _ _. tt };
 
     ghost nothing_written = { λ _ _. tt };
 

@@ -3,13 +3,16 @@
 ghost use Rattle.std.specs.Prelude.{⊤};
 
 use crate::system::{Access, Kind, Lock, System};
+use std::alloc::Global;
 use std::io::{self, ErrorKind};
+
+/// The path of the file.
+pub const PATH: &str = "folder/any.store";
 
 #[derive(Drop)]
 pub struct MadeUpSystem {
     /// What has the path of the file. Every other path is that of a folder.
     pub found: Option<Kind>,
-    pub path: &'static str,
     pub may_be_written: bool,
     pub bytes: Vec<u8>,
     /// The call that fails, by its name, and how.
@@ -23,7 +26,30 @@ pub struct MadeUpSystem {
     pub calls: String,
 }
 
+fn name_of(access: Access) -> &'static str {
+    match access {
+        Access::Make => "make",
+        Access::Change => "change",
+        Access::Read => "open",
+    }
+}
+
 impl MadeUpSystem {
+    /// A system with an empty file, whose calls are all answered.
+    pub fn new(alloc: Global) -> MadeUpSystem {
+        MadeUpSystem {
+            found: Some(Kind::Regular),
+            may_be_written: true,
+            bytes: Vec::new(alloc),
+            failing: "",
+            error: ErrorKind::Other,
+            most: 4096,
+            interrupts: false,
+            is_interrupted: false,
+            calls: String::new(alloc),
+        }
+    }
+
     /// From now on this call fails, and no other.
     pub fn fail_at(&mut self, name: &'static str, error: ErrorKind) {
         self.failing = name;
@@ -32,12 +58,13 @@ impl MadeUpSystem {
 
     // Writes down a call. It fails if it is to.
     fn note(&mut self, name: &str) -> io::Result<()> {
-        self.calls.push_str(name)?;
-        self.calls.push_str(" ")?;
+        let _ = self.calls.push_str(name);
+        let _ = self.calls.push_str(" ");
         if name == self.failing {
-            return Err(io::Error::from(self.error));
+            Err(io::Error::from(self.error))
+        } else {
+            Ok(())
         }
-        Ok(())
     }
 
     // Writes down a call that moves bytes.
@@ -67,20 +94,16 @@ impl MadeUpSystem {
 }
 
 impl System for MadeUpSystem {
-    ghost has_read = { λ _ _ _. ⊤ };
+    ghost holds = { λ _ _. ⊤ };
+
+    ghost fits = { λ _ _. ⊥ };
 
     ghost has_written = { λ _ _ _. ⊤ };
-
-    ghost is_synced = { λ _. ⊤ };
-
-    ghost is_durable = { λ _. ⊤ };
-
-    ghost nothing_read = { λ _ _. tt };
 
     ghost nothing_written = { λ _ _. tt };
 
     fn kind_of(&mut self, path: &str) -> io::Result<Kind> {
-        if path != self.path {
+        if path != PATH {
             self.note("folder")?;
             return Ok(Kind::Folder);
         }
@@ -89,11 +112,7 @@ impl System for MadeUpSystem {
     }
 
     fn open(&mut self, _path: &str, access: Access) -> io::Result<()> {
-        match access {
-            Access::Make => self.note("make")?,
-            Access::Change => self.note("change")?,
-            Access::Read => self.note("open")?,
-        }
+        self.note(name_of(access))?;
         if access != Access::Read && !self.may_be_written {
             return Err(io::Error::from(ErrorKind::PermissionDenied));
         }

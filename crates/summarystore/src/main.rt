@@ -25,7 +25,7 @@ use adapters::{StdSink, StdSource};
 use file_disk::FileDisk;
 use host_system::HostSystem;
 use notice::notice;
-use opening::Missing;
+use opening::missing_for;
 use options::take_options;
 use ss_program::{Status, exit_code, run_store};
 use ss_watch::{Terminals, Watch, Watched};
@@ -48,14 +48,6 @@ fn path_of(alloc: Global, words: &[String]) -> Result<String, AllocError> {
     match words {
         [_, path, ..] => String::from_str(alloc, path.as_str()),
         _ => Ok(String::new(alloc)),
-    }
-}
-
-// What is done where there is no file: a check makes none.
-fn missing_for(words: &[String]) -> Missing {
-    match words {
-        [_, _, mode] if mode.as_str() == "check" => Missing::ReadEmpty,
-        _ => Missing::Make,
     }
 }
 

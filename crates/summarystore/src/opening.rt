@@ -1,5 +1,8 @@
 // How the file of a store is opened.
-ghost use Rattle.std.specs.Prelude.{◌≡◌, ◌⊎◌, IfOk, OnOk};
+ghost use Rattle.std.specs.Prelude.{◌≡◌, ◌⊎◌, ◌↔◌, ℕ, List, Ok, Some, map, string_bytes, IsTrue, IfOk, OnOk};
+ghost use Rattle.summarystore.specs.Opening.{IsHeldAs, IsLocked, IsLockedAs, IsNative, IsSettledAs, MayHold, StaysUnmade, access_for, missing_for};
+ghost use Rattle.summarystore.specs.System.{Durable, IsUnsyncable, Keeps, KeepsAll, LockedBy, Synced, Unmade, Unsyncable, Unwritten};
+ghost use Rattle.summarystore.specs.System.{lasts_lock, lasts_open};
 
 use crate::foreign::is_foreign;
 use crate::reason::{Reason, Trouble};
@@ -14,6 +17,16 @@ pub enum Missing {
     ReadEmpty,
 }
 
+/// What is done where there is no file, by the words of the command line, the program's name first: a check makes none.
+pub fn missing_for(words: &[String]) -> Missing
+    ensures { result ≡ missing_for (map (λ word. string_bytes word) words.now) }
+{
+    match words {
+        [_, _, mode] if mode.as_str() == "check" => Missing::ReadEmpty,
+        _ => Missing::Make,
+    }
+}
+
 /// What stands behind a disk: no file, one that may only be read, one that may be written, or one that was made here.
 #[derive(Clone, Copy, Debug, PartialEq, Eq)]
 pub enum Opened {
@@ -24,7 +37,9 @@ pub enum Opened {
 }
 
 // Fails where this isn't a regular file.
-fn require_regular(found: io::Result<Kind>) -> Result<(), Reason> {
+fn require_regular(found: io::Result<Kind>) -> Result<(), Reason>
+    ensures { OnOk result (found ≡ Ok Kind.Regular) }
+{
     match found {
         Ok(Kind::Regular) => Ok(()),
         Ok(kind) => Err(Reason::own(Trouble::Irregular(kind))),
@@ -50,7 +65,9 @@ fn is_read_only(error: &io::Error) -> bool {
 }
 
 // Whether an error says that nothing can be synced here.
-fn is_unsyncable(error: &io::Error) -> bool {
+fn is_unsyncable(error: &io::Error) -> bool
+    ensures { IsTrue result ↔ IsUnsyncable error.now }
+{
     match error.kind() {
         ErrorKind::InvalidInput | ErrorKind::ReadOnlyFilesystem => true,
         _ => false,
@@ -58,7 +75,9 @@ fn is_unsyncable(error: &io::Error) -> bool {
 }
 
 // Fails where the folder that the file would lie in is missing.
-fn require_folder<S: System>(system: &mut S, path: &str) -> Result<(), Reason> {
+fn require_folder<S: System>(system: &mut S, path: &str) -> Result<(), Reason>
+    ensures keeps { KeepsAll (S.holds system.old) (S.holds system.new) }
+{
     let folder = match Path::new(path).parent() {
         Some(folder) => folder.to_string_lossy(),
         None => "/",
@@ -71,7 +90,10 @@ fn require_folder<S: System>(system: &mut S, path: &str) -> Result<(), Reason> {
 }
 
 // Locks the open file, and doesn't wait for it.
-fn lock<S: System>(system: &mut S, how: Lock) -> Result<(), Reason> {
+fn lock<S: System>(system: &mut S, how: Lock) -> Result<(), Reason>
+    ensures locks { OnOk result (S.holds system.new (LockedBy how)) }
+    ensures keeps { Keeps lasts_lock (S.holds system.old) (S.holds system.new) }
+{
     match system.lock(how) {
         Ok(()) => Ok(()),
         Err(error) if error.kind() == ErrorKind::WouldBlock => Err(Reason::own(Trouble::InUse)),
@@ -80,11 +102,12 @@ fn lock<S: System>(system: &mut S, how: Lock) -> Result<(), Reason> {
 }
 
 // Opens a file that may not be written. It is locked against those that write.
-fn open_to_read<S: System>(
-    system: &mut S,
-    path: &str,
-    refused: io::Error,
-) -> Result<Opened, Reason> {
+fn open_to_read<S: System>(system: &mut S, path: &str, refused: io::Error) -> Result<Opened, Reason>
+    ensures read_only { IfOk result (λ opened. opened ≡ Opened.ReadOnly) }
+    ensures locked { OnOk result (IsLocked Access.Read Lock.Shared (S.holds system.new)) }
+    ensures unmade { S.holds system.old Unmade → S.holds system.new Unmade }
+    ensures unwritten { S.holds system.old Unwritten → S.holds system.new Unwritten }
+{
     match system.open(path, Access::Read) {
         Ok(()) => {}
         Err(error) if error.kind() == ErrorKind::NotFound => {
@@ -96,6 +119,16 @@ fn open_to_read<S: System>(
     Ok(Opened::ReadOnly)
 }
 
+// What a file that may be written is opened for.
+fn access_for(missing: Missing) -> Access
+    ensures { result ≡ access_for missing }
+{
+    match missing {
+        Missing::Make => Access::Make,
+        Missing::ReadEmpty => Access::Change,
+    }
+}
+
 // Opens the file, makes it where it is missing and to be made, and locks it. One that may be written is locked against
 // every other opening.
 fn open_locked<S: System>(
@@ -103,12 +136,12 @@ fn open_locked<S: System>(
     path: &str,
     missing: Missing,
     is_there: bool,
-) -> Result<Opened, Reason> {
-    let access = match missing {
-        Missing::Make => Access::Make,
-        Missing::ReadEmpty => Access::Change,
-    };
-    match system.open(path, access) {
+) -> Result<Opened, Reason>
+    ensures locked { IfOk result (λ opened. IsLockedAs missing opened (S.holds system.new)) }
+    ensures unmade { StaysUnmade missing (S.holds system.old) (S.holds system.new) }
+    ensures unwritten { S.holds system.old Unwritten → S.holds system.new Unwritten }
+{
+    match system.open(path, access_for(missing)) {
         Ok(()) => {}
         Err(error) if is_read_only(&error) => return open_to_read(system, path, error),
         Err(error) => return Err(Reason::of(error, refusal(&error))),
@@ -123,7 +156,9 @@ fn open_locked<S: System>(
 
 // Whether something has the path. It fails where that isn't a regular file: to open a pipe or a device might wait or do
 // something.
-fn is_there<S: System>(system: &mut S, path: &str) -> Result<bool, Reason> {
+fn is_there<S: System>(system: &mut S, path: &str) -> Result<bool, Reason>
+    ensures keeps { KeepsAll (S.holds system.old) (S.holds system.new) }
+{
     match system.kind_of(path) {
         Err(error) if error.kind() == ErrorKind::NotFound => Ok(false),
         found => {
@@ -135,7 +170,8 @@ fn is_there<S: System>(system: &mut S, path: &str) -> Result<bool, Reason> {
 
 // Makes durable what an earlier process left of the file, and then its name.
 fn make_durable<S: System>(system: &mut S, path: &str) -> Result<(), Reason>
-    ensures { OnOk result (S.is_durable system.new) }
+    ensures durable { OnOk result (S.holds system.new Durable) }
+    ensures keeps { KeepsAll (S.holds system.old) (S.holds system.new) }
 {
     if let Err(error) = system.sync_all() {
         return Err(Reason::of(error, Trouble::NotSynced));
@@ -147,7 +183,10 @@ fn make_durable<S: System>(system: &mut S, path: &str) -> Result<(), Reason>
 }
 
 // Makes durable what an earlier process left of a file that may only be read. It may lie where nothing can be synced.
-fn make_durable_where_it_can_be<S: System>(system: &mut S) -> Result<(), Reason> {
+fn make_durable_where_it_can_be<S: System>(system: &mut S) -> Result<(), Reason>
+    ensures synced { OnOk result (S.holds system.new Synced ⊎ S.holds system.new Unsyncable) }
+    ensures keeps { KeepsAll (S.holds system.old) (S.holds system.new) }
+{
     match system.sync_all() {
         Ok(()) => Ok(()),
         Err(error) if is_unsyncable(&error) => Ok(()),
@@ -155,9 +194,22 @@ fn make_durable_where_it_can_be<S: System>(system: &mut S) -> Result<(), Reason>
     }
 }
 
+// Makes durable what stands open, as far as it can be.
+fn settle<S: System>(system: &mut S, path: &str, opened: Opened) -> Result<(), Reason>
+    ensures settled { OnOk result (IsSettledAs opened (S.holds system.new)) }
+    ensures keeps { KeepsAll (S.holds system.old) (S.holds system.new) }
+{
+    match opened {
+        Opened::Nothing => Ok(()),
+        Opened::ReadOnly => make_durable_where_it_can_be(system),
+        Opened::Writable | Opened::Made => make_durable(system, path),
+    }
+}
+
 // Fails where the file isn't formatted, but holds something.
 fn refuse_foreign<S: System>(system: &mut S) -> Result<(), Reason>
-    ensures keeps { S.is_durable system.old → S.is_durable system.new }
+    ensures native { OnOk result ((image : List ℕ) → S.fits system.new image → IsNative image) }
+    ensures keeps { KeepsAll (S.holds system.old) (S.holds system.new) }
 {
     match is_foreign(system) {
         Ok(false) => Ok(()),
@@ -170,8 +222,13 @@ fn refuse_foreign<S: System>(system: &mut S) -> Result<(), Reason>
 /// where something else has the path, where another opening keeps it away, and where the file isn't formatted, but
 /// holds something.
 pub fn open<S: System>(system: &mut S, path: &str, missing: Missing) -> Result<Opened, Reason>
-    ensures durable { IfOk result (λ opened.
-        (opened ≡ Opened.Writable) ⊎ (opened ≡ Opened.Made) → S.is_durable system.new) }
+    ensures held { IfOk result (λ opened. IsHeldAs missing opened (S.holds system.new)) }
+    ensures settled { IfOk result (λ opened. IsSettledAs opened (S.holds system.new)) }
+    ensures native { IfOk result (λ opened.
+        (image : List ℕ) → MayHold (Some opened) (S.fits system.new) image → IsNative image) }
+    ensures unopened { result ≡ Ok Opened.Nothing → KeepsAll (S.holds system.old) (S.holds system.new) }
+    ensures unmade { StaysUnmade missing (S.holds system.old) (S.holds system.new) }
+    ensures unwritten { S.holds system.old Unwritten → S.holds system.new Unwritten }
 {
     if path.is_empty() {
         return Err(Reason::own(Trouble::NoName));
@@ -183,11 +240,7 @@ pub fn open<S: System>(system: &mut S, path: &str, missing: Missing) -> Result<O
     }
     let opened = open_locked(system, path, missing, is_there)?;
     require_regular(system.kind())?;
-    if opened == Opened::ReadOnly {
-        make_durable_where_it_can_be(system)?;
-    } else {
-        make_durable(system, path)?;
-    }
+    settle(system, path, opened)?;
     refuse_foreign(system)?;
     Ok(opened)
 }

@@ -1,5 +1,7 @@
 // The calls of the system that a store's file needs.
-ghost use Rattle.std.specs.Prelude.{◌≡◌, ◌<◌, ◌≤◌, ◌+◌, ℕ, length, Ok, IfOk, OnOk, OnErr};
+ghost use Rattle.std.specs.Prelude.{◌≡◌, ◌<◌, ◌≤◌, ◌+◌, ◌++◌, [], ℕ, List, length, take, slice_index, Ok, IfOk, IfErr, OnOk, OnErr};
+ghost use Rattle.summarystore.specs.System.{Fact, OpenFor, LockedBy, RegularFile, Synced, Unsyncable, Durable};
+ghost use Rattle.summarystore.specs.System.{KeepsAll, Keeps, lasts_open, lasts_lock, lasts_write, IsUnsyncable};
 
 use std::io;
 
@@ -30,70 +32,78 @@ pub enum Lock {
 
 /// The system, with at most one file open. A call of the open file fails where none is. No lock is waited for.
 ///
-/// The ghost members say which calls were answered. Nothing but these calls leads to them, so whatever is proved over
+/// The ghost members say which calls were answered, and how. Nothing but these calls leads to them, so whatever is proved over
 /// every system and promises one of them has made its call, and was answered.
 pub trait System {
-    /// All from the first place up to the second was read, or lies past the end.
-    ghost has_read: { Self → ℕ → ℕ → Type 0 };
+    /// What is known by the calls that were answered.
+    ghost holds: { Self → Fact → Type 0 };
 
-    /// All from the first place up to the second was written.
-    ghost has_written: { Self → ℕ → ℕ → Type 0 };
+    /// The open file may hold this image by what was answered since it was opened and written.
+    ghost fits: { Self → List ℕ → Type 0 };
 
-    /// What the file holds was synced.
-    ghost is_synced: { Self → Type 0 };
-
-    /// The file was synced, and after it the folder that names it.
-    ghost is_durable: { Self → Type 0 };
+    /// These bytes were written from the place on.
+    ghost has_written: { Self → ℕ → List ℕ → Type 0 };
 
     /// What has the path, through links.
-    fn kind_of(&mut self, path: &str) -> io::Result<Kind>;
+    fn kind_of(&mut self, path: &str) -> io::Result<Kind>
+        ensures keeps { KeepsAll (holds self.old) (holds self.new) };
 
     /// Opens a file in the place of the one that is open.
-    fn open(&mut self, path: &str, access: Access) -> io::Result<()>;
+    fn open(&mut self, path: &str, access: Access) -> io::Result<()>
+        ensures opens { OnOk result (holds self.new (OpenFor access)) }
+        ensures keeps { Keeps (lasts_open access) (holds self.old) (holds self.new) };
 
     /// Locks the open file. `WouldBlock` says that another opening has a lock that keeps this one away.
-    fn lock(&mut self, how: Lock) -> io::Result<()>;
+    fn lock(&mut self, how: Lock) -> io::Result<()>
+        ensures locks { OnOk result (holds self.new (LockedBy how)) }
+        ensures keeps { Keeps lasts_lock (holds self.old) (holds self.new) };
 
     /// What is open.
-    fn kind(&mut self) -> io::Result<Kind>;
+    fn kind(&mut self) -> io::Result<Kind>
+        ensures regular { result ≡ Ok Kind.Regular → holds self.new RegularFile }
+        ensures keeps { KeepsAll (holds self.old) (holds self.new) };
 
     /// How many bytes the open file has.
     fn len(&mut self) -> io::Result<u64>
-        ensures keeps { is_durable self.old → is_durable self.new };
+        ensures measures { IfOk result (λ answer. (image : List ℕ) → fits self.new image → answer ≡ length image) }
+        ensures fits { (image : List ℕ) → fits self.new image → fits self.old image }
+        ensures keeps { KeepsAll (holds self.old) (holds self.new) };
 
     /// Moves bytes from a place on to the front of the buffer, and answers how many. 0 says that none is there.
     fn read(&mut self, at: u64, into: &mut [u8]) -> io::Result<usize>
         ensures bound { IfOk result (λ count. count ≤ length into.old) }
-        ensures reads { IfOk result (λ count.
-            (start : ℕ) → has_read self.old start at → has_read self.new start (at + count)) }
+        ensures reads { IfOk result (λ count. (image : List ℕ) → fits self.new image →
+            (k : ℕ) → k < count → slice_index into.new k ≡ slice_index image (at + k)) }
         ensures ends { 0 < length into.old → result ≡ Ok 0 →
-            (start stop : ℕ) → has_read self.old start at → has_read self.new start stop }
-        ensures fails { OnErr result
-            ((start stop : ℕ) → has_read self.old start stop → has_read self.new start stop) }
-        ensures keeps { is_durable self.old → is_durable self.new };
+            (image : List ℕ) → fits self.new image → length image ≤ at }
+        ensures fits { (image : List ℕ) → fits self.new image → fits self.old image }
+        ensures keeps { KeepsAll (holds self.old) (holds self.new) };
 
     /// Writes bytes from the front of the buffer to a place, and answers how many.
     fn write(&mut self, at: u64, bytes: &[u8]) -> io::Result<usize>
         ensures bound { IfOk result (λ count. count ≤ length bytes.now) }
-        ensures writes { IfOk result (λ count.
-            (start : ℕ) → has_written self.old start at → has_written self.new start (at + count)) }
+        ensures writes { IfOk result (λ count. (start : ℕ) (front : List ℕ) → at ≡ start + length front →
+            has_written self.old start front → has_written self.new start (front ++ take count bytes.now)) }
         ensures fails { OnErr result
-            ((start stop : ℕ) → has_written self.old start stop → has_written self.new start stop) };
+            ((start : ℕ) (front : List ℕ) → has_written self.old start front → has_written self.new start front) }
+        ensures keeps { Keeps lasts_write (holds self.old) (holds self.new) };
 
     /// Makes durable what the open file holds, its length too.
     fn sync_data(&mut self) -> io::Result<()>
-        ensures synced { OnOk result (is_synced self.new) };
+        ensures synced { OnOk result (holds self.new Synced) }
+        ensures keeps { KeepsAll (holds self.old) (holds self.new) };
 
     /// The same, with all else that the system keeps of the file.
     fn sync_all(&mut self) -> io::Result<()>
-        ensures synced { OnOk result (is_synced self.new) };
+        ensures synced { OnOk result (holds self.new Synced) }
+        ensures refused { IfErr result (λ error. IsUnsyncable error → holds self.new Unsyncable) }
+        ensures keeps { KeepsAll (holds self.old) (holds self.new) };
 
     /// Makes the file's name durable, in the folder where the file really lies.
     fn sync_folder(&mut self, path: &str) -> io::Result<()>
-        ensures durable { OnOk result (is_synced self.old → is_durable self.new) };
+        ensures durable { OnOk result (holds self.old Synced → holds self.new Durable) }
+        ensures keeps { KeepsAll (holds self.old) (holds self.new) };
 
-    /// To read or to write no bytes no call is needed.
-    ghost nothing_read: { (system : Self) (at : ℕ) → has_read system at at };
-
-    ghost nothing_written: { (system : Self) (at : ℕ) → has_written system at at };
+    /// To write no bytes no call is needed.
+    ghost nothing_written: { (system : Self) (at : ℕ) → has_written system at [] };
 }

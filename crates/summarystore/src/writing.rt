@@ -1,5 +1,6 @@
 // Whole writes, of calls that may move fewer bytes or be interrupted.
 ghost use Rattle.std.specs.Prelude.{◌+◌, ◌<◌, ◌^◌, length, OnOk};
+ghost use Rattle.summarystore.specs.System.{Keeps, lasts_write};
 
 use crate::system::System;
 use std::io::{self, ErrorKind};
@@ -7,7 +8,8 @@ use std::io::{self, ErrorKind};
 /// Writes all of the bytes, from a place on. At an error some of them may be written.
 pub fn write_whole<S: System>(system: &mut S, at: u64, bytes: &[u8]) -> io::Result<()>
     ensures writes { at + length bytes.now < 2 ^ 64 →
-        OnOk result (S.has_written system.new at (at + length bytes.now)) }
+        OnOk result (S.has_written system.new at bytes.now) }
+    ensures keeps { Keeps lasts_write (S.holds system.old) (S.holds system.new) }
 {
     let mut done = 0;
     for _ in 0..u64::MAX {

@@ -1,16 +1,14 @@
 // The disk over a system that is made up, and once over a file.
 use super::FileDisk;
 use crate::host_system::HostSystem;
-use crate::made_up_system::MadeUpSystem;
+use crate::made_up_system::{MadeUpSystem, PATH};
 use crate::opening::Missing;
 use crate::system::Kind;
-use ss_outside::{Disk, Failed};
+use ss_outside::Disk;
 use std::alloc::{AllocError, Global};
 use std::fs;
 use std::io::ErrorKind;
 use std::test::Fail;
-
-const PATH: &str = "folder/any.store";
 
 // What the words of a table stand for.
 fn kind_named(word: &str) -> Option<Kind> {
@@ -26,26 +24,22 @@ fn kind_named(word: &str) -> Option<Kind> {
 
 // A system with this at the path, of which a call fails.
 fn system_of(alloc: Global, found: &str, failing: &'static str, error: &str) -> MadeUpSystem {
-    MadeUpSystem {
-        found: kind_named(found),
-        path: PATH,
-        may_be_written: found != "read-only",
-        bytes: Vec::new(alloc),
-        failing,
-        error: error_named(error),
-        most: 4096,
-        interrupts: false,
-        is_interrupted: false,
-        calls: String::new(alloc),
-    }
+    let mut system = MadeUpSystem::new(alloc);
+    system.found = kind_named(found);
+    system.may_be_written = found != "read-only";
+    system.fail_at(failing, error_named(error));
+    system
 }
 
 fn disk_over(
     alloc: Global,
-    system: MadeUpSystem,
+    found: &str,
+    failing: &'static str,
+    error: &str,
     missing: Missing,
 ) -> Result<FileDisk<MadeUpSystem>, AllocError> {
-    Ok(FileDisk::new(system, String::from_str(alloc, PATH)?, missing))
+    let path = String::from_str(alloc, PATH)?;
+    Ok(FileDisk::new(system_of(alloc, found, failing, error), path, missing))
 }
 
 // Whether these are the calls so far, and these words say why one failed, none where none did.
@@ -59,10 +53,10 @@ fn has(disk: &FileDisk<MadeUpSystem>, calls: &str, words: &str) -> bool {
 
 // Whether every call fails.
 fn has_ended<D: Disk>(disk: &mut D) -> bool {
-    disk.len() == Err(Failed)
-        && disk.read_at(0, &mut [0]) == Err(Failed)
-        && disk.write_at(0, b"a") == Err(Failed)
-        && disk.sync() == Err(Failed)
+    disk.len().is_err()
+        && disk.read_at(0, &mut [0]).is_err()
+        && disk.write_at(0, b"a").is_err()
+        && disk.sync().is_err()
 }
 
 // Whether the length can be asked for, or no call of the disk can be made.
@@ -85,7 +79,7 @@ fn error_named(word: &str) -> ErrorKind {
 }
 
 // A row: what has the path, the call that fails, how, the calls that are made, and what is said to be wrong.
-#[derive(Drop)]
+#[derive(Clone, Copy)]
 struct Row {
     found: &'static str,
     failing: &'static str,
@@ -146,34 +140,41 @@ read-only,,,kind_of change open share kind sync_all len read len ,
 
 fn opens_as(alloc: Global, line: &'static str, missing: Missing) -> Result<bool, AllocError> {
     let row = row_of(line);
-    let mut disk = disk_over(
-        alloc,
-        system_of(alloc, row.found, row.failing, row.error),
-        missing,
-    )?;
+    let mut disk = disk_over(alloc, row.found, row.failing, row.error, missing)?;
     Ok(opens_or_ends(&mut disk) && has(&disk, row.calls, row.words))
+}
+
+// Whether a file is opened as each row says.
+fn all_open(alloc: Global, rows: &'static str, missing: Missing) -> Result<bool, AllocError> {
+    for line in rows.lines() {
+        if !opens_as(alloc, line, missing)? {
+            return Ok(false);
+        }
+    }
+    Ok(true)
 }
 
 #[test]
 fn a_file_is_durable_before_it_is_read(rt: HostRuntime) -> Result<(), Fail> {
-    for line in OPENINGS.lines() {
-        assert!(rt; opens_as(rt.alloc(), line, Missing::Make)?, "{line}");
-    }
-    for line in LOOKS.lines() {
-        assert!(rt; opens_as(rt.alloc(), line, Missing::ReadEmpty)?, "{line}");
-    }
+    assert!(rt; all_open(rt.alloc(), OPENINGS, Missing::Make)?);
     Ok(())
 }
 
-// Whether a disk over no file is an empty one, which takes nothing.
+#[test]
+fn a_look_makes_no_file(rt: HostRuntime) -> Result<(), Fail> {
+    assert!(rt; all_open(rt.alloc(), LOOKS, Missing::ReadEmpty)?);
+    Ok(())
+}
+
+// Whether a disk is an empty one, which takes nothing.
+fn is_empty<D: Disk>(disk: &mut D) -> bool {
+    disk.len() == Ok(0) && holds(disk, 0, [0; 4]) && disk.write_at(0, b"a").is_err()
+}
+
+// Whether a disk over no file is an empty one.
 fn is_nothing(alloc: Global) -> Result<bool, AllocError> {
-    let mut disk = disk_over(alloc, system_of(alloc, "none", "", ""), Missing::ReadEmpty)?;
-    Ok(
-        disk.len() == Ok(0)
-            && holds(&mut disk, 0, [0; 4])
-            && disk.write_at(0, b"a") == Err(Failed)
-            && has(&disk, "kind_of folder ", "no such file"),
-    )
+    let mut disk = disk_over(alloc, "none", "", "", Missing::ReadEmpty)?;
+    Ok(is_empty(&mut disk) && has(&disk, "kind_of folder ", "no such file"))
 }
 
 #[test]
@@ -182,12 +183,10 @@ fn no_file_is_an_empty_one(rt: HostRuntime) -> Result<(), Fail> {
     Ok(())
 }
 
-// A disk over an open file, whose calls so far are forgotten.
-fn open_disk(alloc: Global, found: &str) -> Result<FileDisk<MadeUpSystem>, AllocError> {
-    let mut disk = disk_over(alloc, system_of(alloc, found, "", ""), Missing::Make)?;
+// Opens the file, and forgets the calls so far.
+fn open_first(disk: &mut FileDisk<MadeUpSystem>) {
     let _ = disk.len();
     disk.system.calls.clear();
-    Ok(disk)
 }
 
 // An open file is asked to take a write, a read, for its length and to sync.
@@ -203,32 +202,44 @@ file,sync_data,Interrupted,write read len sync_data ,a sync failed
 ";
 
 fn does_each_call<D: Disk>(disk: &mut D) -> bool {
-    disk.write_at(0, b"a") == Ok(())
-        && disk.read_at(0, &mut [0]) == Ok(())
+    disk.write_at(0, b"a").is_ok()
+        && disk.read_at(0, &mut [0]).is_ok()
         && disk.len() == Ok(1)
-        && disk.sync() == Ok(())
+        && disk.sync().is_ok()
+}
+
+// Whether the calls of an open file end as the row says.
+fn end_as(disk: &mut FileDisk<MadeUpSystem>, row: Row) -> bool {
+    open_first(disk);
+    disk.system.fail_at(row.failing, error_named(row.error));
+    (does_each_call(disk) || has_ended(disk)) && has(disk, row.calls, row.words)
 }
 
 fn ends_as(alloc: Global, line: &'static str) -> Result<bool, AllocError> {
     let row = row_of(line);
-    let mut disk = open_disk(alloc, row.found)?;
-    disk.system.fail_at(row.failing, error_named(row.error));
-    let is_answered = does_each_call(&mut disk) || has_ended(&mut disk);
-    Ok(is_answered && has(&disk, row.calls, row.words))
+    let mut disk = disk_over(alloc, row.found, "", "", Missing::Make)?;
+    Ok(end_as(&mut disk, row))
+}
+
+fn all_end(alloc: Global) -> Result<bool, AllocError> {
+    for line in LATER.lines() {
+        if !ends_as(alloc, line)? {
+            return Ok(false);
+        }
+    }
+    Ok(true)
 }
 
 #[test]
 fn a_call_that_fails_is_the_last(rt: HostRuntime) -> Result<(), Fail> {
-    for line in LATER.lines() {
-        assert!(rt; ends_as(rt.alloc(), line)?, "{line}");
-    }
+    assert!(rt; all_end(rt.alloc())?);
     Ok(())
 }
 
 // Whether a disk holds these four bytes at a place.
 fn holds<D: Disk>(disk: &mut D, at: u64, bytes: [u8; 4]) -> bool {
     let mut buffer = [7; 4];
-    disk.read_at(at, &mut buffer) == Ok(()) && buffer == bytes
+    disk.read_at(at, &mut buffer).is_ok() && buffer == bytes
 }
 
 // How many bytes a call moves at most, whether each is interrupted once before, and the calls of a write of six bytes and
@@ -244,23 +255,34 @@ const MOVES: [(usize, bool, &str); 4] = [
     (4096, true, "write write read read read read "),
 ];
 
-fn moves_as(alloc: Global, most: usize, interrupts: bool, calls: &str) -> Result<bool, AllocError> {
-    let mut disk = open_disk(alloc, "file")?;
+// Whether six bytes are moved by these calls.
+fn move_as(disk: &mut FileDisk<MadeUpSystem>, most: usize, interrupts: bool, calls: &str) -> bool {
+    open_first(disk);
     disk.system.most = most;
     disk.system.interrupts = interrupts;
-    Ok(
-        disk.write_at(0, b"abcdef") == Ok(())
-            && holds(&mut disk, 4, *b"ef\0\0")
-            && disk.system.bytes.as_slice() == b"abcdef".as_slice()
-            && has(&disk, calls, ""),
-    )
+    disk.write_at(0, b"abcdef").is_ok()
+        && holds(disk, 4, *b"ef\0\0")
+        && disk.system.bytes.as_slice() == b"abcdef".as_slice()
+        && has(disk, calls, "")
+}
+
+fn moves_as(alloc: Global, most: usize, interrupts: bool, calls: &str) -> Result<bool, AllocError> {
+    let mut disk = disk_over(alloc, "file", "", "", Missing::Make)?;
+    Ok(move_as(&mut disk, most, interrupts, calls))
+}
+
+fn all_move(alloc: Global) -> Result<bool, AllocError> {
+    for (most, interrupts, calls) in &MOVES {
+        if !moves_as(alloc, *most, *interrupts, calls)? {
+            return Ok(false);
+        }
+    }
+    Ok(true)
 }
 
 #[test]
 fn what_is_moved_in_parts_is_whole(rt: HostRuntime) -> Result<(), Fail> {
-    for (most, interrupts, calls) in MOVES {
-        assert!(rt; moves_as(rt.alloc(), most, interrupts, calls)?);
-    }
+    assert!(rt; all_move(rt.alloc())?);
     Ok(())
 }
 
@@ -280,67 +302,29 @@ const UNWRITTEN: [(u32, &str); 9] = [
     (36993, WORK),
 ];
 
+// Whether a file that may only be read is left as it is, and these words say so.
+fn stay_unwritten(disk: &mut FileDisk<MadeUpSystem>, at: u32, words: &str) -> bool {
+    open_first(disk);
+    disk.write_at(u64::from(at), b"a").is_err() && has(disk, "", words)
+}
+
 fn stays_unwritten(alloc: Global, at: u32, words: &str) -> Result<bool, AllocError> {
-    let mut disk = open_disk(alloc, "read-only")?;
-    Ok(disk.write_at(u64::from(at), b"a") == Err(Failed) && has(&disk, "", words))
+    let mut disk = disk_over(alloc, "read-only", "", "", Missing::Make)?;
+    Ok(stay_unwritten(&mut disk, at, words))
+}
+
+fn all_stay_unwritten(alloc: Global) -> Result<bool, AllocError> {
+    for (at, words) in &UNWRITTEN {
+        if !stays_unwritten(alloc, *at, words)? {
+            return Ok(false);
+        }
+    }
+    Ok(true)
 }
 
 #[test]
 fn what_may_only_be_read_is_not_written(rt: HostRuntime) -> Result<(), Fail> {
-    for (at, words) in UNWRITTEN {
-        assert!(rt; stays_unwritten(rt.alloc(), at, words)?);
-    }
-    Ok(())
-}
-
-// The length of a file, its first bytes, where a byte of it is 1 while all others are 0, and whether it is refused.
-const FOREIGN: [(usize, &[u8], usize, bool); 11] = [
-    (0, b"", 0, false),
-    (1, b"\x07", 0, false),
-    (36864, b"\0", 36863, false),
-    (36865, b"\0", 36863, false),
-    (36865, b"\0", 36864, true),
-    (50000, b"\0", 49999, true),
-    (50000, b"\0SSTORE01", 40960, true),
-    (50000, b"\xa4SSTORE01", 40959, true),
-    (50000, b"\xa5SSTORE01", 40959, false),
-    (50000, b"\xa4SSTORE02", 40959, false),
-    (50000, b"film", 40959, false),
-];
-
-// Puts bytes into a file, a one, and zeros up to its length.
-fn fill(
-    system: &mut MadeUpSystem,
-    length: usize,
-    first: &[u8],
-    one: usize,
-) -> Result<(), AllocError> {
-    for place in 0..length {
-        let byte = match first.get(place) {
-            Some(byte) => *byte,
-            None => u8::from(place == one),
-        };
-        system.bytes.push(byte)?;
-    }
-    Ok(())
-}
-
-fn is_refused(alloc: Global, length: usize, first: &[u8], one: usize) -> Result<bool, AllocError> {
-    let mut system = system_of(alloc, "file", "", "");
-    fill(&mut system, length, first, one)?;
-    let mut disk = disk_over(alloc, system, Missing::Make)?;
-    Ok(disk.len() != Ok(length as u64))
-}
-
-#[test]
-fn a_foreign_file_is_refused(rt: HostRuntime) -> Result<(), Fail> {
-    for (length, first, one, is_foreign) in FOREIGN {
-        assert_eq!(rt;
-            is_refused(rt.alloc(), length, first, one)?,
-            is_foreign,
-            "{length} {one}"
-        );
-    }
+    assert!(rt; all_stay_unwritten(rt.alloc())?);
     Ok(())
 }
 
@@ -348,42 +332,42 @@ fn disk_of<'a>(
     rt: &'a HostRuntime,
     path: &str,
 ) -> Result<FileDisk<HostSystem<'a, HostRuntime>>, AllocError> {
-    Ok(FileDisk::new(
-        HostSystem::new(rt),
-        String::from_str(rt.alloc(), path)?,
-        Missing::Make,
-    ))
+    let path = String::from_str(rt.alloc(), path)?;
+    Ok(FileDisk::new(HostSystem::new(rt), path, Missing::Make))
 }
 
 // Whether a disk that is empty takes two writes and a sync, and has five bytes then.
 fn takes_writes<D: Disk>(disk: &mut D) -> bool {
     disk.len() == Ok(0)
-        && disk.write_at(0, b"abcd") == Ok(())
-        && disk.write_at(3, b"XY") == Ok(())
-        && disk.sync() == Ok(())
+        && disk.write_at(0, b"abcd").is_ok()
+        && disk.write_at(3, b"XY").is_ok()
+        && disk.sync().is_ok()
         && disk.len() == Ok(5)
+        && holds(disk, 3, *b"XY\0\0")
 }
 
-// Whether a disk on a file works, and another on it fails, and goes on failing when the file is free.
-fn is_taken_once(rt: &HostRuntime, path: &str) -> Result<bool, AllocError> {
+// Whether a disk on a file works, and another on it fails meanwhile.
+fn works_alone<D: Disk>(rt: &HostRuntime, path: &str, second: &mut D) -> Result<bool, AllocError> {
     let mut disk = disk_of(rt, path)?;
+    Ok(takes_writes(&mut disk) && has_ended(second))
+}
+
+// The same, and that the other goes on failing when the file is free.
+fn is_taken_once(rt: &HostRuntime, path: &str) -> Result<bool, AllocError> {
     let mut second = disk_of(rt, path)?;
-    let works = takes_writes(&mut disk) && holds(&mut disk, 3, *b"XY\0\0");
-    let is_locked = has_ended(&mut second);
-    drop(disk);
-    Ok(works && is_locked && has_ended(&mut second))
+    Ok(works_alone(rt, path, &mut second).unwrap_or(false) && has_ended(&mut second))
 }
 
 fn is_kept(rt: &HostRuntime, path: &str) -> Result<bool, AllocError> {
-    Ok(holds(&mut disk_of(rt, path)?, 0, *b"abcX"))
+    let mut disk = disk_of(rt, path)?;
+    Ok(holds(&mut disk, 0, *b"abcX"))
 }
 
 #[test]
 fn a_file_is_a_disk(rt: HostRuntime) -> Result<(), Fail> {
     let path = "a_file_is_a_disk.store";
     let _ = fs::remove_file(&rt, path);
-    assert!(rt; is_taken_once(&rt, path)?);
-    assert!(rt; is_kept(&rt, path)?);
+    assert!(rt; is_taken_once(&rt, path)? && is_kept(&rt, path)?);
     fs::remove_file(&rt, path)?;
     Ok(())
 }

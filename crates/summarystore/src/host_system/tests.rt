@@ -56,9 +56,8 @@ fn passes_errors_on<S: System>(system: &mut S, link: &str) -> bool {
         && system.sync_folder("missing").is_err()
 }
 
-// Whether a file that is made takes bytes and keeps others away, and one that is opened to be read takes none.
-fn keeps_bytes<S: System>(system: &mut S, second: &mut S, path: &str) -> bool {
-    let mut buffer = [7; 3];
+// Whether a file is made, locked, takes bytes and is synced.
+fn keeps_bytes<S: System>(system: &mut S, path: &str) -> bool {
     system.open(path, Access::Make).is_ok()
         && system.lock(Lock::Exclusive).is_ok()
         && is(system.write(1, b"ab"), 2)
@@ -66,7 +65,12 @@ fn keeps_bytes<S: System>(system: &mut S, second: &mut S, path: &str) -> bool {
         && system.sync_all().is_ok()
         && system.sync_data().is_ok()
         && system.sync_folder(path).is_ok()
-        && second.open(path, Access::Read).is_ok()
+}
+
+// Whether the lock keeps others away, and a file that is opened to be read gives its bytes and takes none.
+fn only_reads<S: System>(second: &mut S, path: &str) -> bool {
+    let mut buffer = [7; 3];
+    second.open(path, Access::Read).is_ok()
         && fails_as(second.lock(Lock::Shared), ErrorKind::WouldBlock)
         && is(second.read(0, &mut buffer), 3)
         && buffer == *b"\0ab"
@@ -92,7 +96,7 @@ fn errors_of_the_system_are_passed_on(rt: HostRuntime) -> Result<(), Fail> {
 fn is_kept<R: Files<File = File> + AllocGlobal>(rt: &R, path: &str) -> bool {
     let mut system = HostSystem::new(rt);
     let mut second = HostSystem::new(rt);
-    keeps_bytes(&mut system, &mut second, path)
+    keeps_bytes(&mut system, path) && only_reads(&mut second, path)
 }
 
 #[test]

@@ -1,0 +1,85 @@
+-- What the file of a store was opened as.
+use Rattle.std.specs.Prelude.{◌≡◌, ◌⊎◌, ◌≤◌, ℕ, List, [], ◌∷◌, codes, if◌then◌else◌, slice_index, Bool, true, false}
+use Rattle.std.specs.Prelude.{IsTrue, Option, Some, None, ⊤}
+use Rattle.std.specs.Str.{bytes_eq}
+use Rattle.ss_journal.specs.Format.{is_unborn}
+use Rattle.ss_journal.specs.declared.format.TheConstants.{FIRST_SLOT}
+use Rattle.summarystore.specs.System.{Fact, Unmade, OpenFor, LockedBy, RegularFile, Synced, Unsyncable, Durable}
+use Rattle.summarystore.specs.declared.opening.Missing.{Missing}
+use Rattle.summarystore.specs.declared.opening.Missing.TheVariants.{Make, ReadEmpty}
+use Rattle.summarystore.specs.declared.opening.Opened.{Opened}
+use Rattle.summarystore.specs.declared.opening.Opened.TheVariants.{Nothing, ReadOnly, Writable, Made}
+use Rattle.summarystore.specs.declared.system.Access.{Access}
+use Rattle.summarystore.specs.declared.system.Access.TheVariants.{Change, Read}
+use Rattle.summarystore.specs.declared.system.Access.TheVariants as access
+use Rattle.summarystore.specs.declared.system.Lock.{Lock}
+use Rattle.summarystore.specs.declared.system.Lock.TheVariants.{Exclusive, Shared}
+
+-- what is done where there is no file: a check, the third word after the program's name and the path, makes none
+abbrev pub missing_for : List (List ℕ) → Missing
+missing_for (program ∷ path ∷ mode ∷ []) = if bytes_eq mode (codes "check") then ReadEmpty else Make
+missing_for _ = Make
+
+-- what a file that may be written is opened for
+abbrev pub access_for : Missing → Access
+access_for Make = access.Make
+access_for ReadEmpty = Change
+
+-- the file is open for this, and locked so
+pub record IsLocked (access : Access) (how : Lock) (holds : Fact → Type 0) : Type 0 where
+  pub opened : holds (OpenFor access)
+  pub locked : holds (LockedBy how)
+
+-- a file that may only be read is locked against those that write, any other against every other opening
+abbrev pub IsLockedAs : Missing → Opened → (Fact → Type 0) → Type 0
+IsLockedAs missing Nothing holds = ⊥
+IsLockedAs missing ReadOnly holds = IsLocked Read Shared holds
+IsLockedAs missing Writable holds = IsLocked (access_for missing) Exclusive holds
+IsLockedAs missing Made holds = IsLocked (access_for missing) Exclusive holds
+
+-- what stands open is a regular file, and locked; nothing does only where no file is made
+abbrev pub IsHeldAs : Missing → Opened → (Fact → Type 0) → Type 0
+IsHeldAs missing Nothing holds = missing ≡ ReadEmpty
+IsHeldAs missing ReadOnly holds = IsLockedAs missing ReadOnly holds × holds RegularFile
+IsHeldAs missing Writable holds = IsLockedAs missing Writable holds × holds RegularFile
+IsHeldAs missing Made holds = IsLockedAs missing Made holds × holds RegularFile
+
+-- the same of a disk, once it was opened
+abbrev pub StaysHeld : Missing → Option Opened → (Fact → Type 0) → Type 0
+StaysHeld missing None holds = ⊤
+StaysHeld missing (Some opened) holds = IsHeldAs missing opened holds
+
+-- what was made durable before anything is read
+abbrev pub IsSettledAs : Opened → (Fact → Type 0) → Type 0
+IsSettledAs Nothing holds = ⊤
+IsSettledAs ReadOnly holds = holds Synced ⊎ holds Unsyncable
+IsSettledAs Writable holds = holds Durable
+IsSettledAs Made holds = holds Durable
+
+-- where no file is to be made, none is
+abbrev pub StaysUnmade : Missing → (Fact → Type 0) → (Fact → Type 0) → Type 0
+StaysUnmade missing old new = missing ≡ ReadEmpty → old Unmade → new Unmade
+
+-- whether something can be written
+abbrev pub is_writable : Option Opened → Bool
+is_writable None = false
+is_writable (Some Nothing) = false
+is_writable (Some ReadOnly) = false
+is_writable (Some Writable) = true
+is_writable (Some Made) = true
+
+-- no byte other than 0 lies where slots lie, or after them
+abbrev pub IsBlank : List ℕ → Type 0
+IsBlank image = (place : ℕ) → FIRST_SLOT ≤ place → slice_index image place ≡ 0
+
+-- an image that is a store's, or may be made one
+abbrev pub IsNative : List ℕ → Type 0
+IsNative image = IsTrue (is_unborn image) → IsBlank image
+
+-- an image that a disk may hold: an empty one where there is no file, and else one that fits what was read
+abbrev pub MayHold : Option Opened → (List ℕ → Type 0) → List ℕ → Type 0
+MayHold (Some Nothing) fits image = image ≡ []
+MayHold (Some ReadOnly) fits image = fits image
+MayHold (Some Writable) fits image = fits image
+MayHold (Some Made) fits image = fits image
+MayHold None fits image = fits image

@@ -1,0 +1,52 @@
+-- What calls of the system lead to, and which of it later calls leave.
+use Rattle.std.specs.Prelude.{◌≡◌, ◌⊎◌, Bool, true, false, IsTrue}
+use Rattle.std.specs.IoError.{error_kind}
+use Rattle.std.specs.declared.io.Error.{Error}
+use Rattle.std.specs.declared.io.ErrorKind.TheVariants.{InvalidInput, ReadOnlyFilesystem}
+use Rattle.summarystore.specs.declared.system.Access.{Access}
+use Rattle.summarystore.specs.declared.system.Access.TheVariants.{Make, Change, Read}
+use Rattle.summarystore.specs.declared.system.Lock.{Lock}
+
+-- What is known of the system and of the file that is open: nothing was made, nothing was written, what it was opened for, how
+-- it is locked, that it is a regular file, that what it holds was synced or can't be, and its name after it.
+pub data Fact : Type 0 where
+  Unmade : Fact
+  Unwritten : Fact
+  OpenFor : Access → Fact
+  LockedBy : Lock → Fact
+  RegularFile : Fact
+  Synced : Fact
+  Unsyncable : Fact
+  Durable : Fact
+
+-- all that is known is left
+abbrev pub KeepsAll : (Fact → Type 0) → (Fact → Type 0) → Type 0
+KeepsAll old new = (fact : Fact) → old fact → new fact
+
+-- what passes a test is left of what is known
+abbrev pub Keeps : (Fact → Bool) → (Fact → Type 0) → (Fact → Type 0) → Type 0
+Keeps lasts old new = (fact : Fact) → IsTrue (lasts fact) → old fact → new fact
+
+-- what an opening leaves: that nothing was written, and that nothing was made, unless it may make a file
+abbrev pub lasts_open : Access → Fact → Bool
+lasts_open _ Unwritten = true
+lasts_open Make Unmade = false
+lasts_open Change Unmade = true
+lasts_open Read Unmade = true
+lasts_open _ _ = false
+
+-- what a lock leaves: all but earlier locks
+abbrev pub lasts_lock : Fact → Bool
+lasts_lock (LockedBy _) = false
+lasts_lock _ = true
+
+-- what a write leaves: all but that nothing was written, and what was said of syncs
+abbrev pub lasts_write : Fact → Bool
+lasts_write Unwritten = false
+lasts_write Synced = false
+lasts_write Durable = false
+lasts_write _ = true
+
+-- an error of a sync that says that nothing can be synced here
+abbrev pub IsUnsyncable : Error → Type 0
+IsUnsyncable error = (error_kind error ≡ InvalidInput) ⊎ (error_kind error ≡ ReadOnlyFilesystem)
