@@ -36,9 +36,8 @@ use Rattle.ss_recover.proofs.Marks.{length-marks_of, marks_of}
 use Rattle.ss_recover.proofs.MarksSoFar.{AreOf, AreOf-are_marks}
 use Rattle.ss_recover.proofs.ValidRecords.{all-counted, of_number, sum_by-le_each, sum_by-of_number}
 use Rattle.ss_recover.proofs.SoundStreams.{IsNew, IsOnce, at, lower, MeetsAll, MeetsAll-and}
-use Rattle.ss_recover.proofs.ValidRecords.{CanStand, IsValid, all-created_by, all-numbers_created, all-window_of, few-records, valid-records}
-use Rattle.ss_recover.specs.Walk.{IsUsable}
-use Rattle.ss_recover.proofs.ValidRecords.{IsUsable-valid}
+use Rattle.ss_recover.proofs.ValidRecords.{CanStand, IsFine, all-created_by, all-numbers_created, all-window_of, few-records, valid-records}
+use Rattle.ss_recover.specs.Usable.{IsUsable}
 
 -- where streams are carried, no stream is damaged
 carries-judged : (slot number : Option ℕ) (ss streams : List Stream) → judged slot number ss ≡ carries streams → (number ≡ None) × (ss ≡ streams)
@@ -93,7 +92,7 @@ BeginsFrom-zero : (ws : List Window) → BeginsFrom 0 ws
 BeginsFrom-zero [] = tt
 BeginsFrom-zero (w ∷ ws) = omega arith
 
-AreWindows-tile : (ws : List Window) → tile ws ≡ true → times_rise ws ≡ true → AllByRecursion (λ w. IsPossible w.summary) ws → AreWindows ws
+pub AreWindows-tile : (ws : List Window) → tile ws ≡ true → times_rise ws ≡ true → AllByRecursion (λ w. IsPossible w.summary) ws → AreWindows ws
 AreWindows-tile ws tiles rising possible =
     let parts = and_parts (tile_from 1 ws) (nat_le (taken ws) MOST_VALUES) tiles in
     record { stand = StandFrom-tile 1 0 ws parts.0 rising possible (BeginsFrom-zero ws); few = leb-true (taken ws) MOST_VALUES parts.1 }
@@ -185,7 +184,7 @@ each-own P ss each =
 
 -- what the records of a map carry, where all are sound
 module _ (rs : List Record) (sound : AllByRecursion (λ number. is_sound rs number ≡ true) (filter_map stream_number rs))
-    (valid : AllByRecursion IsValid rs) where
+    (valid : AllByRecursion IsFine rs) where
   abbrev ordered : List Created
   ordered = in_order (λ s. s.number) (streams_created rs)
 
@@ -249,9 +248,9 @@ module _ (rs : List Record) (sound : AllByRecursion (λ number. is_sound rs numb
   landmarks_are s is =
       let own = all-in_order place_of (λ r. is_mark_of s.number r ≡ true) (marks s) (all-passing (is_mark_of s.number) rs) in
       AreOf-are_marks s.number (marks_carried s.number rs) own
-      (all_both (λ r. is_mark_of s.number r ≡ true) IsValid IsUsable
-      (λ r own is. IsUsable-valid r is (λ free. true≢false (sym own ∙ ap (is_mark_of s.number) free))) (marks_carried s.number rs) own
-      (all-in_order place_of IsValid (marks s) (all-kept IsValid (is_mark_of s.number) rs valid))) is.marks
+      (all_both (λ r. is_mark_of s.number r ≡ true) IsFine IsUsable
+      (λ r own is. is (λ free. true≢false (sym own ∙ ap (is_mark_of s.number) free))) (marks_carried s.number rs) own
+      (all-in_order place_of IsFine (marks s) (all-kept IsFine (is_mark_of s.number) rs valid))) is.marks
 
   -- the streams
   carried_is : (s : Created) → IsSound rs s.number → CanStand s → IsStream (stream_carried rs s)

@@ -21,7 +21,7 @@ use Rattle.ss_recover.specs.Marked.{Marked, are_marks, has_said, is_closed_befor
 use Rattle.ss_recover.specs.Marked.{landmarks_made, marked_by, marked_on, marked_with, nothing_marked}
 use Rattle.ss_recover.proofs.Lists.{all_weaker, each-list_all}
 use Rattle.ss_recover.proofs.Marks.{marks_of, marks_of-append, value_records-append}
-use Rattle.ss_recover.specs.Walk.{IsTimed, IsUsable}
+use Rattle.ss_recover.specs.Usable.{IsTimed, IsUsable}
 pub use Rattle.ss_recover.proofs.Latest.{latest_in-closed, latest_in-value, latest_of-last}
 
 -- and back: records of landmarks with all their values are those of the landmarks that they make

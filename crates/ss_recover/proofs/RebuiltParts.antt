@@ -37,7 +37,8 @@ use Rattle.ss_recover.specs.Order.{found_key, key_of, place_of}
 use Rattle.ss_recover.specs.Parts.{bad_slot, bad_stream, carried, judged, lowest_in, lowest_bad_slot, lowest_bad_stream, records_in, streams_carried}
 use Rattle.ss_outside.specs.Verdict.{Verdict, fine, refused, no_memory}
 use Rattle.ss_recover.specs.Rebuilt.{RebuildsAs, verdict_of_rebuild}
-use Rattle.ss_recover.specs.Walk.{IsLowestUnsound, IsUsable, WalksAs, in_slot, without_slots}
+use Rattle.ss_recover.specs.Runs.{IsLowestUnsound, WalksAs}
+use Rattle.ss_recover.specs.Usable.{IsUsable, in_slot, without_slots}
 use Rattle.ss_recover.specs.declared.found.Found.{Found}
 use Rattle.ss_recover.specs.declared.parts.Parts.{Parts}
 use Rattle.ss_recover.specs.declared.parts.StreamParts.{StreamParts}

@@ -18,7 +18,8 @@ use Rattle.ss_recover.specs.Conditions.{has_new_name, has_one_record, has_place,
 use Rattle.ss_recover.specs.Marked.{are_marks, landmarks_made}
 use Rattle.ss_recover.specs.Order.{Rises, key_of, place_of, stream_of}
 use Rattle.ss_recover.specs.Parts.{lowest_in, lowest_bad_stream}
-use Rattle.ss_recover.specs.Walk.{IsLowestUnsound, IsUsable, is_sound_in_order}
+use Rattle.ss_recover.specs.Runs.{IsLowestUnsound, is_sound_in_order}
+use Rattle.ss_recover.specs.Usable.{IsUsable}
 use Rattle.ss_recover.proofs.InOrder.{IsPermutation-in_order, Rises-in_order}
 use Rattle.ss_catalog.specs.declared.TheConstants.{MOST_STREAMS}
 use Rattle.ss_recover.proofs.Lists.{all_weaker, filter_map-kept, kept}

@@ -18,7 +18,7 @@ use Rattle.ss_recover.specs.Order.{stream_of}
 use Rattle.ss_codec.specs.Record.{is_valid}
 use Rattle.ss_codec.proofs.RecordLemmas.{IsLandmark-is_valid, IsStream-is_valid, IsValue-is_valid, IsWindow-is_valid, Spells-decoded}
 use Rattle.ss_landmarks.specs.declared.landmarks.TheConstants.{LATEST_TIME}
-use Rattle.ss_recover.specs.Walk.{IsTimed, IsUsable}
+use Rattle.ss_recover.specs.Usable.{IsTimed, IsUsable}
 use Rattle.std.proofs.lemmas.List.FromFn.{length-map-range_with_len}
 use Rattle.ss_catalog.specs.declared.TheConstants.{LAST_STREAM}
 use Rattle.ss_target.specs.Lengths.{has_target}
@@ -133,20 +133,21 @@ IsUsable-valid (Value id number index t v) valid other =
     let is = IsValue-is_valid id number index t v valid in
     (is.low, is.high, is.index_high, is.early, is.fits)
 
-abbrev pub IsValid : Record → Type 0
-IsValid r = is_valid r ≡ true
+-- what a slot spells is usable, unless it is free
+abbrev pub IsFine : Record → Type 0
+IsFine r = (r ≡ Free → ⊥) → IsUsable r
 
-valid-option : (o : Option Record) (bytes : List ℕ) → decoded bytes ≡ o → (rest : List Record) → AllByRecursion IsValid rest →
-    AllByRecursion IsValid (cons_option o rest)
+valid-option : (o : Option Record) (bytes : List ℕ) → decoded bytes ≡ o → (rest : List Record) → AllByRecursion IsFine rest →
+    AllByRecursion IsFine (cons_option o rest)
 valid-option None bytes is rest valid = valid
-valid-option (Some r) bytes is rest valid = ((Spells-decoded bytes r is).valid, valid)
+valid-option (Some r) bytes is rest valid = (IsUsable-valid r (Spells-decoded bytes r is).valid, valid)
 
-valid-decoded : (bytes : ℕ → List ℕ) (slots : List ℕ) → AllByRecursion IsValid (records_in (map (λ slot. decoded (bytes slot)) slots))
+valid-decoded : (bytes : ℕ → List ℕ) (slots : List ℕ) → AllByRecursion IsFine (records_in (map (λ slot. decoded (bytes slot)) slots))
 valid-decoded bytes [] = tt
 valid-decoded bytes (slot ∷ slots) =
     valid-option (decoded (bytes slot)) (bytes slot) refl (records_in (map (λ s. decoded (bytes s)) slots)) (valid-decoded bytes slots)
 
-pub valid-records : (found : SlotMap) → AllByRecursion IsValid (records_in (spelled found))
+pub valid-records : (found : SlotMap) → AllByRecursion IsFine (records_in (spelled found))
 unfolding spelled
 valid-records found = valid-decoded found.bytes (range_with_len 0 found.extent)
 
@@ -170,19 +171,18 @@ pub record CanStand (s : Created) : Type 0 where
   pub target : IsTrue (has_target s.params)
   pub number : s.number ≤ LAST_STREAM
 
-pub all-created_by : (rs : List Record) → AllByRecursion IsValid rs → AllByRecursion CanStand (filter_map created_by rs)
+pub all-created_by : (rs : List Record) → AllByRecursion IsFine rs → AllByRecursion CanStand (filter_map created_by rs)
 all-created_by [] valid = tt
 all-created_by (Free ∷ rs) valid = all-created_by rs valid.1
 all-created_by (Stream id name params ∷ rs) valid =
-    let is = IsStream-is_valid id name params valid.0 in
-    let low = is.number in
-    (record { target = is.ranged; number = omega arith }, all-created_by rs valid.1)
+    let is = valid.0 (λ free. cc) in
+    (record { target = is.0; number = is.1 }, all-created_by rs valid.1)
 all-created_by (Window id first f ∷ rs) valid = all-created_by rs valid.1
 all-created_by (Landmark id number values start finish ∷ rs) valid = all-created_by rs valid.1
 all-created_by (Value id number index t v ∷ rs) valid = all-created_by rs valid.1
 
 -- the windows of a number
-pub all-window_of : (number : ℕ) (rs : List Record) → AllByRecursion IsValid rs →
+pub all-window_of : (number : ℕ) (rs : List Record) → AllByRecursion IsFine rs →
     AllByRecursion (λ w. IsPossible w.summary) (filter_map (window_of number) rs)
 all-window_of number [] valid = tt
 all-window_of number (Free ∷ rs) valid = all-window_of number rs valid.1
@@ -190,7 +190,7 @@ all-window_of number (Stream id name params ∷ rs) valid = all-window_of number
 all-window_of number (Window id first f ∷ rs) valid =
     let rest = all-window_of number rs valid.1 in
     elim (cases_Bool (id == number)) [
-      | inl same ↦ rw same ((IsWindow-is_valid id first f valid.0).possible, rest)
+      | inl same ↦ rw same ((valid.0 (λ free. cc)).2, rest)
       | inr other ↦ rw other rest
     ]
 all-window_of number (Landmark id n values start finish ∷ rs) valid = all-window_of number rs valid.1
