@@ -17,6 +17,8 @@ pub mod ValidRecords
 pub mod CarriedStates
 pub mod Latest
 pub mod RunLaws
+pub mod RunSound
+pub mod RunMarks
 pub mod RunSteps
 pub mod RunOrder
 pub mod RunWalk

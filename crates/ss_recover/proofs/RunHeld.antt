@@ -35,7 +35,7 @@ use Rattle.ss_recover.proofs.Lists.{all-kept, all-passing, all_push, all_weaker,
 use Rattle.ss_recover.proofs.Marks.{each-mark_of, marks_of}
 use Rattle.ss_recover.proofs.MarksSoFar.{AreOf, AreOf-are_marks}
 use Rattle.ss_recover.proofs.Permutations.{IsPermutation-append_both}
-use Rattle.ss_recover.proofs.RunLaws.{MeetsRun, run-meets, run-order}
+use Rattle.ss_recover.proofs.RunSound.{MeetsRun, run-meets, run-order}
 use Rattle.ss_recover.proofs.ValidRecords.{IsFine, all-window_of}
 
 -- of the records of landmarks, those of the landmarks and the others

@@ -34,7 +34,7 @@ use Rattle.ss_recover.specs.Held.{span_held, span_of}
 use Rattle.ss_recover.specs.Marked.{Marked, has_all_values, has_said, is_closed_before, is_next_landmark, is_next_value, landmarks_in, landmarks_made, marked_by, marked_with}
 use Rattle.ss_recover.specs.Marked.{nothing_marked}
 use Rattle.ss_recover.specs.Runs.{Run, is_next_window, marking, run_with, tiled_with, tiling, windows_from}
-use Rattle.ss_recover.specs.Shown.{Adds, AreKept, Grows, IsLast, IsRunOf, MayClose, Opens, Shows, ShowsMarks, ShowsRun, can_add, can_open, closes_before, finish_of}
+use Rattle.ss_recover.specs.Shown.{Adds, AreKept, Grows, HasClosed, IsReady, IsRunOf, MayClose, Opens, Shows, ShowsMarks, ShowsRun, can_add, can_open, closes_before, finish_of}
 use Rattle.ss_recover.specs.Shown.{found_by, has_said_last, is_landmark, is_value, is_window, latest_at_end, still_open, with_closing}
 use Rattle.ss_recover.specs.Usable.{IsTimed, slots_of, without_slots}
 use Rattle.ss_recover.specs.declared.found.Found.{Found}
@@ -46,149 +46,8 @@ use Rattle.ss_recover.specs.declared.run.Stage.TheVariants as stages
 use Rattle.ss_recover.proofs.Latest.{AllEndBy-latest, latest_of-closed, latest_of-opened, latest_of-value}
 use Rattle.ss_recover.proofs.Lists.{all_weaker, each-list_all}
 use Rattle.ss_recover.proofs.MarksSoFar.{marked-more}
-
--- ---- the last landmark
-
--- where landmarks are in order, the open one is the last
-open-last : (from : ℕ) (front : List Landmark) (x : Landmark) → FollowFrom from (front ++ x ∷ []) → x.finish ≡ None → open_landmark (front ++ x ∷ []) ≡ Some x
-open-last from [] x follow is = cond-true (is_none x.finish) (Some x) None (ap is_none is)
-open-last from (y ∷ ys) x follow is =
-    elim (cases-finish y.finish) [
-      | inl begun ↦
-          (let last : ys ++ x ∷ [] ≡ [] = subst (λ (f : Option ℕ). MatchOption f (ys ++ x ∷ [] ≡ []) (λ t. FollowFrom (t + 1) (ys ++ x ∷ []))) begun follow.2 in
-          absurd (omega (arith, ap (λ (l : List Landmark). length l) last, length-append ys (x ∷ []))))
-      | inr some ↦
-          (let later = subst (λ (f : Option ℕ). MatchOption f (ys ++ x ∷ [] ≡ []) (λ t. FollowFrom (t + 1) (ys ++ x ∷ []))) some.1 follow.2 in
-          cond-false (is_none y.finish) (Some y) (open_landmark (ys ++ x ∷ [])) (ap is_none some.1) ∙ open-last (some.0 + 1) ys x later is)
-    ]
-
-change_last-front : (change : Landmark → Landmark) (front : List Landmark) (x : Landmark) → change_last change (front ++ x ∷ []) ≡ front ++ change x ∷ []
-change_last-front change [] x = refl
-change_last-front change (y ∷ []) x = refl
-change_last-front change (y ∷ z ∷ zs) x = ap (λ ls. y ∷ ls) (change_last-front change (z ∷ zs) x)
-
-open-held : (c : Last) (ls : List Landmark) (latest : Option ℕ) (m : Marked) (is : IsLast c ls latest m) → AreLandmarks ls →
-    open_landmark ls ≡ Some (still_open is.landmark)
-open-held c ls latest m is order =
-    ap open_landmark is.held ∙ open-last 0 m.before (still_open is.landmark) (subst (FollowFrom 0) is.held order) refl
-
--- the landmarks with the last one, and how many they are
-in-held : (c : Last) (ls : List Landmark) (latest : Option ℕ) (m : Marked) (is : IsLast c ls latest m) → landmarks_in m ≡ m.before ++ is.landmark ∷ []
-in-held c ls latest m is = ap (λ o. m.before ++ option_to_list o) is.last
-
-long-held : (c : Last) (ls : List Landmark) (latest : Option ℕ) (m : Marked) → IsLast c ls latest m → length ls ≡ length (landmarks_in m)
-long-held c ls latest m is =
-    omega (
-      arith,
-      ap (λ (us : List Landmark). length us) is.held,
-      ap (λ (us : List Landmark). length us) (in-held c ls latest m is),
-      length-append m.before (still_open is.landmark ∷ []),
-      length-append m.before (is.landmark ∷ []),
-    )
-
-module _ (ls : List Landmark) (latest : Option ℕ) (m : Marked) where
-  -- it may close when it is to
-  pub MayClose-shown : (last : Option Last) → ShowsMarks last ls latest m → AreLandmarks ls → latest ≡ latest_of ls → MayClose (finish_of last) ls
-  MayClose-shown None shows order is = tt
-  MayClose-shown (Some c) shows order is =
-      elim c.finish as (λ o. IfSome o (λ t. (shows.time ≤ t) × (t ≤ LATEST_TIME)) → MayClose o ls) [
-        | None ↦ λ closes. tt
-        | Some t ↦ λ closes. (
-          closes.1,
-          CanClose-after ls shows.time t (AllEndBy-latest ls shows.time (sym is ∙ shows.latest))
-              (subst IsSome (sym (open-held c ls latest m shows order)) refl) closes.0,
-        )
-      ] shows.closes
-
-  -- then the landmarks are those that the records make
-  pub closed-shown : (last : Option Last) → ShowsMarks last ls latest m → with_closing (finish_of last) ls ≡ landmarks_in m
-  closed-shown None shows = shows.1 ∙ sym (ap landmarks_in shows.0)
-  closed-shown (Some c) shows =
-      let l = shows.landmark in
-      ap (λ o. with_closing o ls) shows.finish ∙ ap (with_closing l.finish) shows.held
-      ∙ (elim (cases-finish l.finish) [
-        | inl begun ↦
-            (let same : still_open l ≡ l = λ i. record { start = l.start; finish = sym begun i; values = l.values } in
-            ap (λ o. with_closing o (m.before ++ still_open l ∷ [])) begun ∙ ap (λ x. m.before ++ x ∷ []) same)
-        | inr closed ↦
-            (let same : closed_at closed.0 (still_open l) ≡ l = λ i. record { start = l.start; finish = sym closed.1 i; values = l.values } in
-            ap (λ o. with_closing o (m.before ++ still_open l ∷ [])) closed.1 ∙ change_last-front (closed_at closed.0) m.before (still_open l)
-            ∙ ap (λ x. m.before ++ x ∷ []) same)
-      ])
-      ∙ sym (in-held c ls latest m shows)
-
-  -- and their latest time is the one that is held
-  pub latest-shown : (last : Option Last) → ShowsMarks last ls latest m → latest ≡ latest_of ls →
-      latest_at_end (finish_of last) latest ≡ latest_of (with_closing (finish_of last) ls)
-  latest-shown None shows is = is
-  latest-shown (Some c) shows is =
-      elim c.finish as (λ o. IfSome o (λ t. (shows.time ≤ t) × (t ≤ LATEST_TIME)) → latest_at_end o latest ≡ latest_of (with_closing o ls)) [
-        | None ↦ λ closes. is
-        | Some t ↦ λ closes. sym (latest_of-closed t shows.time ls (sym is ∙ shows.latest) closes.0)
-      ] shows.closes
-
-  -- the tests of the code are those of the definition
-  pub said-shown : (last : Option Last) → ShowsMarks last ls latest m → has_said_last last ≡ has_all_values m
-  said-shown None shows = sym (ap has_all_values shows.0)
-  said-shown (Some c) shows =
-      (λ i. is_none (shows.finish i) || shows.values i == shows.said i) ∙ sym (ap (λ o. option_map_or (has_said m.said) o true) shows.last)
-
-  pub open-shown : (last : Option Last) (number start : ℕ) → ShowsMarks last ls latest m →
-      can_open (length ls) last number start ≡ is_next_landmark m number start
-  open-shown None number start shows =
-      ap (λ (us : List Landmark). number == length us + 1 && true) shows.1 ∙ sym (ap (λ k. is_next_landmark k number start) shows.0)
-  open-shown (Some c) number start shows =
-      (λ i. number == long-held c ls latest m shows i + 1
-      && ((is_none (shows.finish i) || shows.values i == shows.said i) && option_map_or (λ finish. nat_lt finish start) (shows.finish i) false))
-      ∙ sym (ap (λ o. number == length (landmarks_in m) + 1 && option_map_or (λ l. has_said m.said l && is_closed_before start l) o true) shows.last)
-
-  pub add-shown : (c : Last) (number index t : ℕ) → IsLast c ls latest m → can_add (length ls) c number index t ≡ is_next_value m number index t
-  add-shown c number index t shows =
-      (λ i. number == long-held c ls latest m shows i && (index == shows.values i + 1 && sym (shows.from t) i && is_up_to t (shows.finish i)))
-      ∙ ap (λ b. number == length (landmarks_in m) && b) (apart (index == length shows.landmark.values + 1) (nat_le shows.landmark.start t) _ _)
-      ∙ sym (ap (λ o. number == length (landmarks_in m) && option_map_or
-      (λ (l : Landmark). index == length l.values + 1 && nat_le l.start t
-      && list_all (λ (value : LandmarkValue). nat_lt value.t t) l.values && is_up_to t l.finish) o false) shows.last)
-    where
-      apart : (a b c d : Bool) → (a && (b && c) && d) ≡ (a && b && c && d)
-      apart true b c d = refl
-      apart false b c d = refl
-
-  -- a landmark may open after those that have closed, and the last one may take a value
-  pub CanOpen-shown : (last : Option Last) (us : List Landmark) (number start : ℕ) → ShowsMarks last ls latest m → latest ≡ latest_of ls → AreLandmarks ls →
-      can_open (length ls) last number start ≡ true → us ≡ with_closing (finish_of last) ls →
-      CanOpen us start × IfSome (latest_of us) (λ time. time < start)
-  CanOpen-shown None us number start shows is order can closed =
-      let none : us ≡ [] = closed ∙ shows.1 in
-      subst (λ vs. CanOpen vs start × IfSome (latest_of vs) (λ time. time < start)) (sym none) ((λ k d below. absurd (omega (arith, below))), tt)
-  CanOpen-shown (Some c) us number start shows is order can closed =
-      let tests = and_parts (number == length ls + 1) _ can in
-      let before = and_parts (is_none c.finish || c.values == c.said) (closes_before start c) tests.1 in
-      elim (cases-finish c.finish) [
-        | inl begun ↦ absurd (let wrong : false ≡ true = sym (ap (λ o. option_map_or (λ finish. nat_lt finish start) o false) begun) ∙ before.1 in cc)
-        | inr some ↦
-            let f = some.0 in
-            let lt = ltb-true f start (sym (ap (λ o. option_map_or (λ finish. nat_lt finish start) o false) some.1) ∙ before.1) in
-            let is_closed : us ≡ change_last (closed_at f) ls = closed ∙ ap (λ o. with_closing o ls) some.1 in
-            let last : latest_of us ≡ Some f =
-            ap latest_of closed ∙ sym (latest-shown (Some c) shows is) ∙ ap (λ o. latest_at_end o latest) some.1 in (
-              CanOpen-after us f start (AllEndBy-latest us f last)
-                  (subst (λ vs. IsNone (open_landmark vs)) (sym is_closed) (open_landmark-close 0 ls f order)) lt,
-              subst (λ (o : Option ℕ). IfSome o (λ time. time < start)) (sym last) lt,
-            )
-      ]
-
-  pub CanTake-shown : (c : Last) (number index t : ℕ) → IsLast c ls latest m → AreLandmarks ls → can_add (length ls) c number index t ≡ true → CanTake ls t
-  CanTake-shown c number index t shows order can =
-      let l = shows.landmark in
-      let tests = and_parts (index == c.values + 1 && nat_le c.from t) (is_up_to t c.finish) (and_parts (number == length ls) _ can).1 in
-      let times = and_parts (nat_le l.start t) _ (shows.from t ∙ (and_parts (index == c.values + 1) (nat_le c.from t) tests.0).1) in
-      subst (λ (o : Option Landmark). MatchOption o ⊥ (λ x. (x.start ≤ t) × All (λ value. value.t < t) x.values)) (sym (open-held c ls latest m shows order)) (
-        leb-true l.start t times.0,
-        All-from_recursion (λ (value : LandmarkValue). value.t < t) l.values
-            (all_weaker (λ (value : LandmarkValue). nat_lt value.t t ≡ true) (λ value. value.t < t) (λ value lt. ltb-true value.t t lt) l.values
-            (each-list_all (λ (value : LandmarkValue). nat_lt value.t t) l.values times.1)),
-      )
+use Rattle.ss_recover.proofs.RunMarks.{CanOpen-shown, CanTake-shown, MayClose-shown, add-shown, change_last-front, closed-shown, latest-shown}
+use Rattle.ss_recover.proofs.RunMarks.{open-shown, said-shown}
 
 -- ---- what is kept in slots
 
@@ -208,12 +67,9 @@ marks-push : (n : ℕ) (own : List Found) (x : Found) →
     filter (is_mark_of n) (without_slots (own ++ x ∷ [])) ≡ filter (is_mark_of n) (without_slots own) ++ filter (is_mark_of n) (x.holds ∷ [])
 marks-push n own x = ap (filter (is_mark_of n)) (records-push own x) ∙ filter-append (is_mark_of n) (without_slots own) (x.holds ∷ [])
 
-entries_in : LineState → List Entry
-entries_in line = map (λ (e : At × Entry). e.1) line.entries
-
 module _ (line : LineState) (landmarks values : List ℕ) (number : ℕ) (own : List Found) (kept : AreKept line landmarks values number own) where
   -- there is room for one more of each
-  pub room-kept : length own < MOST_RECORDS →
+  room-kept : length own < MOST_RECORDS →
       (length line.entries + 1 ≤ MOST_PLACES) × (length landmarks < MOST_LANDMARK_SLOTS) × (length values < MOST_LANDMARK_SLOTS)
   room-kept room =
       let few : (p : Record → Bool) → length (slots_of (found_by p own)) ≤ length own =
@@ -286,13 +142,6 @@ with_marks s marks stage = record { id = s.id; name = s.name; target = s.target;
 abbrev pub with_line : Open → LineState → Stage → Open
 with_line s line stage = record { id = s.id; name = s.name; target = s.target; slot = s.slot; marks = s.marks; line = line; stage = stage }
 
--- the last landmark has closed, where it was to
-pub record HasClosed (old new : Marks) (last : Option Last) : Type 0 where
-  pub landmarks : new.landmarks.landmarks ≡ with_closing (finish_of last) old.landmarks.landmarks
-  pub slots : new.landmarks.slots ≡ old.landmarks.slots
-  pub value_slots : new.landmarks.value_slots ≡ old.landmarks.value_slots
-  pub latest : new.latest ≡ latest_at_end (finish_of last) old.latest
-
 module _ (s : Open) (q : Run) (own : List Found) (shows : Shows s q own) where
   -- a stream whose landmarks or values come shows them
   in-marks : (last : Option Last) → s.stage ≡ stages.Marks last → ShowsRun (stages.Marks last) s.marks.landmarks.landmarks s.marks.latest q
@@ -307,7 +156,7 @@ module _ (s : Open) (q : Run) (own : List Found) (shows : Shows s q own) where
       go (tiling ls next newest) marks = absurd marks
 
   pub open-ready : (last : Option Last) (marks : Marks) (number start : ℕ) → s.stage ≡ stages.Marks last → AreLandmarks s.marks.landmarks.landmarks →
-      can_open (length s.marks.landmarks.landmarks) last number start ≡ true → HasClosed s.marks marks last → CanOpen marks.landmarks.landmarks start
+      can_open (length s.marks.landmarks.landmarks) last number start ≡ true → HasClosed (finish_of last) s.marks marks → CanOpen marks.landmarks.landmarks start
   open-ready last marks number start is order can closed = go q (in-marks last is)
     where
       go : (r : Run) → ShowsRun (stages.Marks last) s.marks.landmarks.landmarks s.marks.latest r → CanOpen marks.landmarks.landmarks start
@@ -325,7 +174,7 @@ module _ (s : Open) (q : Run) (own : List Found) (shows : Shows s q own) where
       go (tiling ls next newest) marks = absurd marks
 
   -- windows may come once the last landmark has closed
-  pub turned : (last : Option Last) (marks : Marks) → s.stage ≡ stages.Marks last → has_said_last last ≡ true → HasClosed s.marks marks last →
+  pub turned : (last : Option Last) (marks : Marks) → s.stage ≡ stages.Marks last → has_said_last last ≡ true → HasClosed (finish_of last) s.marks marks →
       MatchOption (windows_from q) ⊥ (λ next. Shows (with_marks s marks (stages.Windows 1 None)) next own)
   turned last marks is said closed = go q (in-marks last is) shows.of
     where
@@ -349,7 +198,7 @@ module _ (s : Open) (q : Run) (own : List Found) (shows : Shows s q own) where
 
   -- a landmark's record
   pub began : (last : Option Last) (closed opened : Marks) (slot id n said start : ℕ) (finish : Option ℕ) → s.stage ≡ stages.Marks last →
-      can_open (length s.marks.landmarks.landmarks) last n start ≡ true → AreLandmarks s.marks.landmarks.landmarks → HasClosed s.marks closed last →
+      can_open (length s.marks.landmarks.landmarks) last n start ≡ true → AreLandmarks s.marks.landmarks.landmarks → HasClosed (finish_of last) s.marks closed →
       Opens closed opened slot start → IsTimed said start finish → id ≡ s.id.0 →
       MatchOption (run_with q (records.Landmark id n said start finish)) ⊥
       (λ next. Shows (with_marks s opened (stages.Marks (Some (record { finish = finish; said = said; values = 0; from = start })))) next
@@ -534,7 +383,13 @@ grown s (Some (tiling ls at after)) own line slot id next first newest f shows i
     newest_time-push (v ∷ []) w = refl
     newest_time-push (v ∷ u ∷ us) w = newest_time-push (u ∷ us) w
 
--- there is room for one more window
+-- there is room for one more of each, and for one more window
+pub room-ready : (s : Open) → IsReady s →
+    (length s.marks.landmarks.slots < MOST_LANDMARK_SLOTS) × (length s.marks.landmarks.value_slots < MOST_LANDMARK_SLOTS)
+room-ready s ready =
+    let room = room-kept s.line s.marks.landmarks.slots s.marks.landmarks.value_slots s.id.0 ready.own ready.shows.kept ready.room in
+    (room.1, room.2)
+
 pub room-turned : (s : Open) (o : Option Run) (own : List Found) → MatchOption o ⊥ (λ q. Shows s q own) → length own < MOST_RECORDS →
     length s.line.entries + 1 ≤ MOST_PLACES
 room-turned s None own shows room = absurd shows

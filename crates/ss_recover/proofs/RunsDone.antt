@@ -33,7 +33,7 @@ use Rattle.ss_recover.proofs.InOrder.{increasing-Rise}
 use Rattle.ss_recover.proofs.Lists.{all_append, all_behind, all_front, all_weaker, map-all, map-map}
 use Rattle.ss_recover.proofs.Marks.{length-marks_of, marks_of}
 use Rattle.ss_recover.proofs.RunHeld.{AreHeldSoFar, AreHeldSoFar-none, done-push, done_stream}
-use Rattle.ss_recover.proofs.RunLaws.{is_run-sound}
+use Rattle.ss_recover.proofs.RunSound.{is_run-sound}
 use Rattle.ss_recover.proofs.RunOrder.{IsNextRun, IsNextRun-from, Rises-parts, places-rise, streams-rise}
 
 -- each record of a list is of a lower number than each of another one

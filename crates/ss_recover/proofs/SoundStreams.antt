@@ -197,11 +197,3 @@ MeetsAll-and a b c d e f g all =
     let third = and_parts (a && b) c fourth.0 in
     let second = and_parts a b third.0 in
     record { one = second.0; place = second.1; new = third.1; tiles = fourth.1; rising = fifth.1; marks = sixth.1; free = seventh.1 }
-
-pub and-MeetsAll : (a b c d e f g : Bool) → MeetsAll a b c d e f g → (a && b && c && d && e && f && g) ≡ true
-and-MeetsAll a b c d e f g all =
-    let two = and_from a b all.one all.place in
-    let three = and_from (a && b) c two all.new in
-    let four = and_from (a && b && c) d three all.tiles in
-    let five = and_from (a && b && c && d) e four all.rising in
-    and_from (a && b && c && d && e && f) g (and_from (a && b && c && d && e) f five all.marks) all.free

@@ -70,6 +70,13 @@ abbrev pub latest_at_end : Option ℕ → Option ℕ → Option ℕ
 latest_at_end None latest = latest
 latest_at_end (Some finish) latest = Some finish
 
+-- the last landmark has closed, if it was to
+pub record HasClosed (finish : Option ℕ) (old new : Marks) : Type 0 where
+  pub landmarks : new.landmarks.landmarks ≡ with_closing finish old.landmarks.landmarks
+  pub slots : new.landmarks.slots ≡ old.landmarks.slots
+  pub value_slots : new.landmarks.value_slots ≡ old.landmarks.value_slots
+  pub latest : new.latest ≡ latest_at_end finish old.latest
+
 -- it may close then
 abbrev pub MayClose : Option ℕ → List Landmark → Type 0
 MayClose finish landmarks = IfSome finish (λ t. (t ≤ LATEST_TIME) × CanClose landmarks t)

@@ -10,8 +10,8 @@ ghost use Rattle.ss_target.specs.Lengths.{has_target};
 ghost use Rattle.ss_model.specs.Marks.{later};
 ghost use Rattle.ss_recover.specs.Order.{stream_of};
 ghost use Rattle.ss_recover.specs.Runs.{Run, is_after, is_next_window, run_with, windows_from};
-ghost use Rattle.ss_recover.specs.Shown.{Adds, EndsAs, Grows, HasBegun, IsAll, IsReady, IsSame, MayClose, Opens, Shows, StepsAs, TurnsAs};
-ghost use Rattle.ss_recover.specs.Shown.{can_add, can_open, finish_of, has_said_last, latest_at_end, with_closing};
+ghost use Rattle.ss_recover.specs.Shown.{Adds, EndsAs, Grows, HasBegun, HasClosed, IsAll, IsReady, IsSame, MayClose, Opens, Shows, StepsAs, TurnsAs};
+ghost use Rattle.ss_recover.specs.Shown.{can_add, can_open, finish_of, has_said_last};
 ghost use Rattle.ss_recover.specs.Usable.{IsUsable};
 ghost use Rattle.ss_recover.specs.declared.found.Found.{Found};
 ghost use Rattle.ss_recover.specs.declared.recover_error.RecoverError.TheVariants.{OutOfMemory};
@@ -136,9 +136,7 @@ fn is_next(landmarks: &Landmarks, next: u64, newest: Option<u64>, window: &Windo
     requires { IsPossible window.now.summary }
     ensures { result ≡ is_next_window landmarks.now.landmarks next newest window.now }
 {
-    window.first == next
-        && is_after(newest, window.summary.t_first)
-        && lies_free(landmarks, window)
+    window.first == next && is_after(newest, window.summary.t_first) && lies_free(landmarks, window)
 }
 
 // Puts a window at the end of a line.
@@ -165,10 +163,7 @@ impl Marks {
     // The last landmark closes, if it is to.
     fn close(&mut self, finish: Option<u64>)
         requires { MayClose finish self.old.landmarks.landmarks }
-        ensures landmarks { self.new.landmarks.landmarks ≡ with_closing finish self.old.landmarks.landmarks }
-        ensures slots { self.new.landmarks.slots ≡ self.old.landmarks.slots }
-        ensures value_slots { self.new.landmarks.value_slots ≡ self.old.landmarks.value_slots }
-        ensures latest { self.new.latest ≡ latest_at_end finish self.old.latest }
+        ensures { HasClosed finish self.old self.new }
     {
         if let Some(t) = finish {
             self.landmarks.finish(t);

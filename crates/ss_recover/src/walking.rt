@@ -41,11 +41,7 @@ fn may_stand(names: &Catalog, name: &Name) -> bool
 }
 
 // The first record of a stream. None says that it isn't the stream's own, or that no stream of its name may be added.
-fn begin(
-    alloc: Global,
-    names: &mut Catalog,
-    found: &Found,
-) -> Result<Option<Open>, RecoverError>
+fn begin(alloc: Global, names: &mut Catalog, found: &Found) -> Result<Option<Open>, RecoverError>
     requires { IsUsable found.now.holds }
     ensures { BeginsAs names.old names.new found.now result }
 {

@@ -8,10 +8,10 @@ use Rattle.ss_landmarks.specs.declared.landmarks.TheConstants.{MOST_LANDMARK_SLO
 use Rattle.ss_summary.specs.Figures.{Figures}
 use Rattle.ss_recover.specs.Order.{stream_of}
 use Rattle.ss_recover.specs.Runs.{run_with, windows_from}
-use Rattle.ss_recover.specs.Shown.{Adds, MayClose, Shows, can_add, can_open, latest_at_end, with_closing}
+use Rattle.ss_recover.specs.Shown.{Adds, HasClosed, MayClose, Shows, can_add, can_open}
 use Rattle.ss_recover.specs.Usable.{IsUsable}
 use Rattle.ss_recover.specs.declared.run.Stage.TheVariants as stages
-use Rattle.ss_recover.proofs.RunSteps.{added, began, close-ready, grown, not-added, open-ready, room-kept, room-turned, take-ready, with_line, with_marks}
+use Rattle.ss_recover.proofs.RunSteps.{added, began, close-ready, grown, not-added, open-ready, room-ready, room-turned, take-ready, with_line, with_marks}
 use Rattle.ss_recover.proofs.run.Open.take.Goals as goal
 
 pub close-requires : goal.close-requires
@@ -23,17 +23,11 @@ close-requires g c =
 
 pub open-requires-clause-slots : goal.open-requires-clause-slots
 open-requires-clause-slots g c =
-    let s = c.args.self.now in
-    let ready = c.requires.ready in
-    subst (λ (l : List ℕ). length l < MOST_LANDMARK_SLOTS) (sym c.close.ensures.slots)
-    (room-kept s.line s.marks.landmarks.slots s.marks.landmarks.value_slots s.id.0 ready.own ready.shows.kept ready.room).1
+    subst (λ (l : List ℕ). length l < MOST_LANDMARK_SLOTS) (sym c.close.ensures.slots) (room-ready c.args.self.now c.requires.ready).0
 
 pub open-requires-clause-value_slots : goal.open-requires-clause-value_slots
 open-requires-clause-value_slots g c =
-    let s = c.args.self.now in
-    let ready = c.requires.ready in
-    subst (λ (l : List ℕ). length l < MOST_LANDMARK_SLOTS) (sym c.close.ensures.value_slots)
-    (room-kept s.line s.marks.landmarks.slots s.marks.landmarks.value_slots s.id.0 ready.own ready.shows.kept ready.room).2
+    subst (λ (l : List ℕ). length l < MOST_LANDMARK_SLOTS) (sym c.close.ensures.value_slots) (room-ready c.args.self.now c.requires.ready).1
 
 pub open-requires-clause-after : goal.open-requires-clause-after
 open-requires-clause-after g c =
@@ -42,12 +36,7 @@ open-requires-clause-after g c =
     open-ready s ready.run ready.own ready.shows c.in-Marks.last c.close.new.self c.in-Landmark.number c.in-Landmark.start c.in-Marks.is
     c.count.ensures.state.order
     (ap (λ (k : ℕ). can_open k c.in-Marks.last c.in-Landmark.number c.in-Landmark.start) (sym c.count.ensures.value)
-    ∙ sym c.can_open.ensures ∙ c.if-not-can_open.false) (record {
-      landmarks = c.close.ensures.landmarks ∙ ap (λ o. with_closing o s.marks.landmarks.landmarks) c.finish_of.ensures;
-      slots = c.close.ensures.slots;
-      value_slots = c.close.ensures.value_slots;
-      latest = c.close.ensures.latest ∙ ap (λ o. latest_at_end o s.marks.latest) c.finish_of.ensures;
-    })
+    ∙ sym c.can_open.ensures ∙ c.if-not-can_open.false) (subst (λ o. HasClosed o s.marks c.close.new.self) c.finish_of.ensures c.close.ensures)
 
 pub returns-in_ok-open-in-Landmark-clause-runs : goal.returns-in_ok-open-in-Landmark-clause-runs
 returns-in_ok-open-in-Landmark-clause-runs g c run own shows =
@@ -59,12 +48,7 @@ returns-in_ok-open-in-Landmark-clause-runs g c run own shows =
     (began s run own shows c.in-Marks.last c.close.new.self c.open.new.self c.args.found.now.slot r.id r.number r.values r.start r.finish c.in-Marks.is
     (ap (λ (k : ℕ). can_open k c.in-Marks.last r.number r.start) (sym c.count.ensures.value) ∙ sym c.can_open.ensures ∙ c.if-not-can_open.false)
     c.count.ensures.state.order
-    (record {
-      landmarks = c.close.ensures.landmarks ∙ ap (λ o. with_closing o s.marks.landmarks.landmarks) c.finish_of.ensures;
-      slots = c.close.ensures.slots;
-      value_slots = c.close.ensures.value_slots;
-      latest = c.close.ensures.latest ∙ ap (λ o. latest_at_end o s.marks.latest) c.finish_of.ensures;
-    })
+    (subst (λ o. HasClosed o s.marks c.close.new.self) c.finish_of.ensures c.close.ensures)
     c.in_ok-open-in-Landmark.ensures.ok (subst IsUsable r.is c.requires.valid).2 (ap stream_of (sym r.is) ∙ c.requires.own))
 
 pub returns-then-not-can_add-clause-runs : goal.returns-then-not-can_add-clause-runs
@@ -76,16 +60,10 @@ returns-then-not-can_add-clause-runs g c run own shows =
     (ap (λ (k : ℕ). can_add k last r.number r.index r.t) (sym c.count-in-Value.ensures.value) ∙ sym c.can_add.ensures ∙ c.if-not-can_add.true))
 
 pub add-requires-clause-slots : goal.add-requires-clause-slots
-add-requires-clause-slots g c =
-    let s = c.args.self.now in
-    let ready = c.requires.ready in
-    (room-kept s.line s.marks.landmarks.slots s.marks.landmarks.value_slots s.id.0 ready.own ready.shows.kept ready.room).1
+add-requires-clause-slots g c = (room-ready c.args.self.now c.requires.ready).0
 
 pub add-requires-clause-value_slots : goal.add-requires-clause-value_slots
-add-requires-clause-value_slots g c =
-    let s = c.args.self.now in
-    let ready = c.requires.ready in
-    (room-kept s.line s.marks.landmarks.slots s.marks.landmarks.value_slots s.id.0 ready.own ready.shows.kept ready.room).2
+add-requires-clause-value_slots g c = (room-ready c.args.self.now c.requires.ready).1
 
 pub add-requires-clause-after : goal.add-requires-clause-after
 add-requires-clause-after g c =

@@ -1,5 +1,5 @@
-use Rattle.std.proofs.Common.{◌∙◌, sym, ap, subst}
-use Rattle.ss_recover.specs.Shown.{MayClose, latest_at_end, with_closing}
+use Rattle.std.proofs.Common.{◌∙◌, sym, subst}
+use Rattle.ss_recover.specs.Shown.{HasClosed, MayClose}
 use Rattle.ss_recover.proofs.RunSteps.{close-ready, turned}
 use Rattle.ss_recover.proofs.run.Open.turn.Goals as goal
 
@@ -12,9 +12,5 @@ close-requires c =
 pub returns-clause-runs : goal.returns-clause-runs
 returns-clause-runs c run own shows =
     let s = c.args.self.now in
-    turned s run own shows c.in-Marks.last c.close.new.self c.in-Marks.is (sym c.has_said.ensures ∙ c.if-not-has_said.false) (record {
-      landmarks = c.close.ensures.landmarks ∙ ap (λ o. with_closing o s.marks.landmarks.landmarks) c.finish_of.ensures;
-      slots = c.close.ensures.slots;
-      value_slots = c.close.ensures.value_slots;
-      latest = c.close.ensures.latest ∙ ap (λ o. latest_at_end o s.marks.latest) c.finish_of.ensures;
-    })
+    turned s run own shows c.in-Marks.last c.close.new.self c.in-Marks.is (sym c.has_said.ensures ∙ c.if-not-has_said.false)
+    (subst (λ o. HasClosed o s.marks c.close.new.self) c.finish_of.ensures c.close.ensures)
