@@ -1,5 +1,5 @@
 -- The streams of runs that are done: what is held agrees with streams that their records are of.
-use Rattle.std.proofs.Common.{◌≡◌, ◌∙◌, ℕ, ◌+◌, ◌<◌, ◌≤◌, Bool, true, List, [], ◌∷◌, ◌++◌, flat_map, map, filter, Option, Some, refl, sym, ap, ap₂, subst, inl, inr}
+use Rattle.std.proofs.Common.{◌≡◌, ◌∙◌, ℕ, ◌+◌, ◌<◌, Bool, true, List, [], ◌∷◌, ◌++◌, flat_map, map, filter, Option, Some, refl, sym, ap, ap₂, subst, inl, inr}
 use Rattle.std.proofs.Common.{false, cond, arith}
 use Rattle.std.proofs.Common.{append-nil, append_assoc, IsPermutation}
 use Rattle.std.specs.Prelude.{zip}

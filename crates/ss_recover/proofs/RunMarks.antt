@@ -1,51 +1,26 @@
 -- What is held of the last landmark shows what its records say, while its values come.
-use Rattle.std.proofs.Common.{◌≡◌, ◌∙◌, ℕ, ℤ, ◌+◌, ◌<◌, ◌≤◌, Bool, true, false, cond, List, [], ◌∷◌, ◌++◌, length, map, filter, Option, Some, None, IsNone}
+use Rattle.std.proofs.Common.{◌≡◌, ◌∙◌, ℕ, ◌+◌, ◌<◌, ◌≤◌, Bool, true, false, List, [], ◌∷◌, ◌++◌, length, Option, Some, None, IsNone}
 use Rattle.std.proofs.Common.{IsSome, IfSome}
-use Rattle.std.proofs.Common.{MatchOption, is_none, refl, sym, ap, ap₂, subst, inl, inr, arith, append-nil, length-append}
-use Rattle.std.specs.Prelude.{◌==◌, ◌&&◌, ◌||◌, nat_le, nat_lt, option_and_then, option_to_list}
+use Rattle.std.proofs.Common.{MatchOption, is_none, refl, sym, ap, subst, inl, inr, arith, length-append}
+use Rattle.std.specs.Prelude.{◌==◌, ◌&&◌, ◌||◌, nat_le, nat_lt, option_to_list}
 use Rattle.std.specs.Option.{option_map_or}
-use Rattle.std.specs.List.{All, AllByRecursion, filter_map, list_all}
-use Rattle.std.proofs.lemmas.Bool.{and_from, and_parts, cases_Bool, cond-true, cond-false, eq-eqb, eqb-true, leb-true, ltb-true}
-use Rattle.std.proofs.lemmas.Bool.Decides.{nat_tests}
-use Rattle.std.proofs.lemmas.List.{length-map, map-append}
-use Rattle.std.proofs.lemmas.List.Elements.{All-from_recursion, filter-append, filter_map-append}
-use Rattle.std.proofs.lemmas.List.Folds.{list_all-append}
-use Rattle.std.proofs.lemmas.List.Sums.{count_by-le-length, length-filter}
-use Rattle.ss_codec.specs.declared.record.Record.{Record}
-use Rattle.ss_codec.specs.declared.record.Record.TheVariants as records
+use Rattle.std.specs.List.{All, list_all}
+use Rattle.std.proofs.lemmas.Bool.{and_parts, cond-true, cond-false, leb-true, ltb-true}
+use Rattle.std.proofs.lemmas.List.Elements.{All-from_recursion}
 use Rattle.ss_landmarks.specs.Free.{is_up_to}
-use Rattle.ss_landmarks.specs.Landmark.{Landmark, LandmarkValue, change_last, closed_at, open_landmark, opened_at, with_value}
-use Rattle.ss_landmarks.specs.Order.{AreLandmarks, CanClose, CanOpen, CanTake, FollowFrom}
-use Rattle.ss_landmarks.specs.declared.landmarks.TheConstants.{LATEST_TIME, MOST_LANDMARK_SLOTS}
+use Rattle.ss_landmarks.specs.Landmark.{Landmark, LandmarkValue, change_last, closed_at, open_landmark}
+use Rattle.ss_landmarks.specs.Order.{AreLandmarks, CanOpen, CanTake, FollowFrom}
+use Rattle.ss_landmarks.specs.declared.landmarks.TheConstants.{LATEST_TIME}
 use Rattle.ss_landmarks.proofs.OpenLemmas.{open_landmark-close}
 use Rattle.ss_landmarks.proofs.OrderLemmas.{cases-finish}
 use Rattle.ss_landmarks.proofs.TimeLemmas.{CanClose-after, CanOpen-after}
-use Rattle.ss_line.specs.Line.{LineState}
-use Rattle.ss_line.specs.declared.entry.At.{At}
-use Rattle.ss_line.specs.declared.entry.Entry.{Entry}
-use Rattle.ss_line.specs.declared.line.TheConstants.{MOST_PLACES}
-use Rattle.ss_summary.specs.Figures.{Figures}
 use Rattle.ss_model.specs.Marks.{latest_of}
-use Rattle.ss_model.specs.Windows.{newest_time}
-use Rattle.ss_model.specs.declared.types.TheConstants.{MOST_RECORDS}
-use Rattle.ss_model.specs.declared.types.Window.{Window}
-use Rattle.ss_recover.specs.Carried.{is_mark_of, window_of}
-use Rattle.ss_recover.specs.Held.{span_held, span_of}
-use Rattle.ss_recover.specs.Marked.{Marked, has_all_values, has_said, is_closed_before, is_next_landmark, is_next_value, landmarks_in, landmarks_made, marked_by, marked_with}
-use Rattle.ss_recover.specs.Marked.{nothing_marked}
-use Rattle.ss_recover.specs.Runs.{Run, is_next_window, marking, run_with, tiled_with, tiling, windows_from}
-use Rattle.ss_recover.specs.Shown.{Adds, AreKept, Grows, IsLast, IsRunOf, MayClose, Opens, Shows, ShowsMarks, ShowsRun, can_add, can_open, closes_before, finish_of}
-use Rattle.ss_recover.specs.Shown.{found_by, has_said_last, is_landmark, is_value, is_window, latest_at_end, still_open, with_closing}
-use Rattle.ss_recover.specs.Usable.{IsTimed, slots_of, without_slots}
-use Rattle.ss_recover.specs.declared.found.Found.{Found}
+use Rattle.ss_recover.specs.Marked.{Marked, has_all_values, has_said, is_closed_before, is_next_landmark, is_next_value, landmarks_in}
+use Rattle.ss_recover.specs.Shown.{IsLast, MayClose, ShowsMarks, can_add, can_open, closes_before, finish_of}
+use Rattle.ss_recover.specs.Shown.{has_said_last, latest_at_end, still_open, with_closing}
 use Rattle.ss_recover.specs.declared.run.Last.{Last}
-use Rattle.ss_recover.specs.declared.run.Marks.{Marks}
-use Rattle.ss_recover.specs.declared.run.Open.{Open}
-use Rattle.ss_recover.specs.declared.run.Stage.{Stage}
-use Rattle.ss_recover.specs.declared.run.Stage.TheVariants as stages
-use Rattle.ss_recover.proofs.Latest.{AllEndBy-latest, latest_of-closed, latest_of-opened, latest_of-value}
+use Rattle.ss_recover.proofs.Latest.{AllEndBy-latest, latest_of-closed}
 use Rattle.ss_recover.proofs.Lists.{all_weaker, each-list_all}
-use Rattle.ss_recover.proofs.MarksSoFar.{marked-more}
 
 -- ---- the last landmark
 

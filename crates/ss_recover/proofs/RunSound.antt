@@ -1,21 +1,18 @@
 -- The records of a number are sound, among those of others, where they are a run.
-use Rattle.std.proofs.Common.{◌≡◌, ◌∙◌, ℕ, ◌+◌, ◌*◌, ◌^◌, ◌<◌, ◌≤◌, Bool, true, false, not, ◌&&◌, ◌||◌, cond, List, [], ◌∷◌, ◌++◌, map, filter, length, refl, sym, ap}
-use Rattle.std.proofs.Common.{ap₂, subst, inl, inr, arith, append-nil, Option, Some, None}
-use Rattle.std.specs.Prelude.{◌==◌, nat_le, nat_lt, count_by, sum_by, fold, is_some, option_and_then}
-use Rattle.std.specs.Option.{option_map_or}
+use Rattle.std.proofs.Common.{◌≡◌, ◌∙◌, ℕ, ◌+◌, ◌^◌, ◌<◌, ◌≤◌, Bool, true, false, not, ◌&&◌, ◌||◌, cond, List, [], ◌∷◌, ◌++◌, map, length, refl, sym, ap}
+use Rattle.std.proofs.Common.{ap₂, inl, inr, arith, append-nil, Option, Some, None}
+use Rattle.std.specs.Prelude.{◌==◌, nat_le, nat_lt, count_by, fold}
 use Rattle.std.specs.List.{AllByRecursion, cons_option, filter_map, list_all, list_any}
-use Rattle.std.proofs.lemmas.Bool.{and_from, and_left, and_parts, and_right, cases_Bool, cond-true, eq-eqb, eqb-true, ne_eqb, or_from}
-use Rattle.std.proofs.lemmas.Bool.{ltb-true, lt-ltb, le-leb, le-ltb, true≢false}
+use Rattle.std.proofs.lemmas.Bool.{and_from, and_left, and_parts, and_right, cases_Bool, eq-eqb, eqb-true, ne_eqb, or_from}
+use Rattle.std.proofs.lemmas.Bool.{lt-ltb, le-leb, le-ltb}
 use Rattle.std.proofs.lemmas.List.{length-map}
 use Rattle.std.proofs.lemmas.List.Elements.{filter-append, filter_map-append}
 use Rattle.std.proofs.lemmas.List.Folds.{list_any-append}
 use Rattle.std.proofs.lemmas.List.Sums.{sum_by-cons, sum_by-append}
 use Rattle.ss_catalog.specs.Names.{same_name}
 use Rattle.ss_catalog.specs.declared.TheConstants.{MOST_STREAMS}
-use Rattle.ss_catalog.specs.declared.params.Params.{Params}
 use Rattle.ss_codec.specs.declared.record.Record.{Record}
 use Rattle.ss_codec.specs.declared.record.Record.TheVariants as records
-use Rattle.ss_landmarks.specs.Landmark.{Landmark}
 use Rattle.ss_model.proofs.NameLemmas.{same_name-swap}
 use Rattle.ss_model.specs.Marks.{lies_free}
 use Rattle.ss_model.specs.State.{Created}
@@ -24,14 +21,13 @@ use Rattle.ss_model.specs.declared.types.Window.{Window}
 use Rattle.ss_summary.specs.declared.summary.TheConstants.{GREATEST_COUNT}
 use Rattle.ss_windowing.specs.declared.decay.TheConstants.{MOST_VALUES}
 use Rattle.ss_recover.specs.Carried.{created_by, is_mark_of, streams_created, window_of}
-use Rattle.ss_recover.specs.Conditions.{has_new_name, has_one_record, has_place, is_named_before, tile, tile_from, times_rise}
+use Rattle.ss_recover.specs.Conditions.{has_new_name, is_named_before, tile, tile_from, times_rise}
 use Rattle.ss_recover.specs.Held.{window_record}
-use Rattle.ss_recover.specs.Marked.{Marked, are_marks, has_all_values, landmarks_in, landmarks_made, marked_by, marked_on, marked_with, nothing_marked}
+use Rattle.ss_recover.specs.Marked.{are_marks, landmarks_made, nothing_marked}
 use Rattle.ss_recover.specs.Order.{Rises, place_of, stream_of}
-use Rattle.ss_recover.specs.Runs.{Run, is_after, is_ended, is_run, is_sound_in_order, marking, run_of, run_on, tiled_with, tiling}
+use Rattle.ss_recover.specs.Runs.{Run, is_run, is_sound_in_order, marking, run_of, run_on}
 use Rattle.ss_recover.specs.Usable.{IsUsable}
 use Rattle.ss_recover.proofs.Lists.{all_weaker}
-use Rattle.ss_recover.proofs.MarksSoFar.{marked_on-none}
 use Rattle.ss_recover.proofs.SoundStreams.{MeetsAll-and}
 use Rattle.ss_recover.proofs.RunLaws.{ends, fold-none, fold-run, marks, no-marks, rise-times, windows}
 

@@ -1,25 +1,22 @@
 -- What is held of a stream shows its run, one record after another.
-use Rattle.std.proofs.Common.{◌≡◌, ◌∙◌, ℕ, ℤ, ◌+◌, ◌<◌, ◌≤◌, Bool, true, false, cond, List, [], ◌∷◌, ◌++◌, length, map, filter, Option, Some, None, IsNone}
-use Rattle.std.proofs.Common.{IsSome, IfSome}
-use Rattle.std.proofs.Common.{MatchOption, is_none, refl, sym, ap, ap₂, subst, inl, inr, arith, append-nil, length-append}
-use Rattle.std.specs.Prelude.{◌==◌, ◌&&◌, ◌||◌, nat_le, nat_lt, option_and_then, option_to_list}
+use Rattle.std.proofs.Common.{◌≡◌, ◌∙◌, ℕ, ℤ, ◌+◌, ◌<◌, ◌≤◌, Bool, true, false, List, [], ◌∷◌, ◌++◌, length, map, filter, Option, Some, None}
+use Rattle.std.proofs.Common.{IfSome}
+use Rattle.std.proofs.Common.{MatchOption, refl, sym, ap, subst, arith, append-nil, length-append}
+use Rattle.std.specs.Prelude.{◌==◌, ◌&&◌, nat_le, nat_lt, option_and_then}
 use Rattle.std.specs.Option.{option_map_or}
-use Rattle.std.specs.List.{All, AllByRecursion, filter_map, list_all}
-use Rattle.std.proofs.lemmas.Bool.{and_from, and_parts, cases_Bool, cond-true, cond-false, eq-eqb, eqb-true, leb-true, ltb-true}
+use Rattle.std.specs.List.{filter_map, list_all}
+use Rattle.std.proofs.lemmas.Bool.{and_parts, cond-true, cond-false, eq-eqb, eqb-true, leb-true}
 use Rattle.std.proofs.lemmas.Bool.Decides.{nat_tests}
 use Rattle.std.proofs.lemmas.List.{length-map, map-append}
-use Rattle.std.proofs.lemmas.List.Elements.{All-from_recursion, filter-append, filter_map-append}
+use Rattle.std.proofs.lemmas.List.Elements.{filter-append, filter_map-append}
 use Rattle.std.proofs.lemmas.List.Folds.{list_all-append}
 use Rattle.std.proofs.lemmas.List.Sums.{count_by-le-length, length-filter}
 use Rattle.ss_codec.specs.declared.record.Record.{Record}
 use Rattle.ss_codec.specs.declared.record.Record.TheVariants as records
 use Rattle.ss_landmarks.specs.Free.{is_up_to}
-use Rattle.ss_landmarks.specs.Landmark.{Landmark, LandmarkValue, change_last, closed_at, open_landmark, opened_at, with_value}
-use Rattle.ss_landmarks.specs.Order.{AreLandmarks, CanClose, CanOpen, CanTake, FollowFrom}
+use Rattle.ss_landmarks.specs.Landmark.{Landmark, LandmarkValue, change_last, opened_at, with_value}
+use Rattle.ss_landmarks.specs.Order.{AreLandmarks, CanOpen, CanTake}
 use Rattle.ss_landmarks.specs.declared.landmarks.TheConstants.{LATEST_TIME, MOST_LANDMARK_SLOTS}
-use Rattle.ss_landmarks.proofs.OpenLemmas.{open_landmark-close}
-use Rattle.ss_landmarks.proofs.OrderLemmas.{cases-finish}
-use Rattle.ss_landmarks.proofs.TimeLemmas.{CanClose-after, CanOpen-after}
 use Rattle.ss_line.specs.Line.{LineState}
 use Rattle.ss_line.specs.declared.entry.At.{At}
 use Rattle.ss_line.specs.declared.entry.Entry.{Entry}
@@ -31,11 +28,10 @@ use Rattle.ss_model.specs.declared.types.TheConstants.{MOST_RECORDS}
 use Rattle.ss_model.specs.declared.types.Window.{Window}
 use Rattle.ss_recover.specs.Carried.{is_mark_of, window_of}
 use Rattle.ss_recover.specs.Held.{span_held, span_of}
-use Rattle.ss_recover.specs.Marked.{Marked, has_all_values, has_said, is_closed_before, is_next_landmark, is_next_value, landmarks_in, landmarks_made, marked_by, marked_with}
-use Rattle.ss_recover.specs.Marked.{nothing_marked}
+use Rattle.ss_recover.specs.Marked.{Marked, has_all_values, is_next_landmark, is_next_value, landmarks_in, landmarks_made, marked_by, marked_with}
 use Rattle.ss_recover.specs.Runs.{Run, is_next_window, marking, run_with, tiled_with, tiling, windows_from}
-use Rattle.ss_recover.specs.Shown.{Adds, AreKept, Grows, HasClosed, IsReady, IsRunOf, MayClose, Opens, Shows, ShowsMarks, ShowsRun, can_add, can_open, closes_before, finish_of}
-use Rattle.ss_recover.specs.Shown.{found_by, has_said_last, is_landmark, is_value, is_window, latest_at_end, still_open, with_closing}
+use Rattle.ss_recover.specs.Shown.{Adds, AreKept, Grows, HasClosed, IsReady, IsRunOf, MayClose, Opens, Shows, ShowsRun, can_add, can_open, finish_of}
+use Rattle.ss_recover.specs.Shown.{found_by, has_said_last, is_landmark, is_value, is_window, still_open}
 use Rattle.ss_recover.specs.Usable.{IsTimed, slots_of, without_slots}
 use Rattle.ss_recover.specs.declared.found.Found.{Found}
 use Rattle.ss_recover.specs.declared.run.Last.{Last}
@@ -43,8 +39,7 @@ use Rattle.ss_recover.specs.declared.run.Marks.{Marks}
 use Rattle.ss_recover.specs.declared.run.Open.{Open}
 use Rattle.ss_recover.specs.declared.run.Stage.{Stage}
 use Rattle.ss_recover.specs.declared.run.Stage.TheVariants as stages
-use Rattle.ss_recover.proofs.Latest.{AllEndBy-latest, latest_of-closed, latest_of-opened, latest_of-value}
-use Rattle.ss_recover.proofs.Lists.{all_weaker, each-list_all}
+use Rattle.ss_recover.proofs.Latest.{latest_of-opened, latest_of-value}
 use Rattle.ss_recover.proofs.MarksSoFar.{marked-more}
 use Rattle.ss_recover.proofs.RunMarks.{CanOpen-shown, CanTake-shown, MayClose-shown, add-shown, change_last-front, closed-shown, latest-shown}
 use Rattle.ss_recover.proofs.RunMarks.{open-shown, said-shown}

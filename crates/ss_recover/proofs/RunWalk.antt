@@ -1,6 +1,6 @@
 -- A walk over the records of one stream, and over those of one stream after another.
-use Rattle.std.proofs.Common.{◌≡◌, ◌∙◌, ℕ, suc, ◌+◌, ◌<◌, ◌≤◌, Bool, true, false, List, [], ◌∷◌, ◌++◌, map, length, take, drop, Option, Some, None, refl, sym, ap}
-use Rattle.std.proofs.Common.{MatchOption, get_or, subst, arith, append_assoc, append-nil}
+use Rattle.std.proofs.Common.{◌≡◌, ◌∙◌, ℕ, suc, ◌<◌, Bool, true, false, List, [], ◌∷◌, ◌++◌, map, length, take, drop, Option, Some, None, refl, sym, ap}
+use Rattle.std.proofs.Common.{MatchOption, get_or, subst}
 use Rattle.std.specs.Prelude.{◌&&◌, not, fold, filter, is_some, nat_lt, All}
 use Rattle.std.specs.Option.{option_map_or}
 use Rattle.std.specs.List.{filter_map, list_any}

@@ -1,6 +1,6 @@
 -- What valid records have, and what is made of the records of a map: streams of different numbers need no more of them than there are.
 use Rattle.std.proofs.Common.{◌≡◌, ℕ, ◌+◌, ◌<◌, ◌≤◌, cond, List, [], ◌∷◌, filter, length, refl, arith, inl, inr, ◌^◌, IsTrue, MatchOption, Option, Some, None}
-use Rattle.std.proofs.Common.{true, map}
+use Rattle.std.proofs.Common.{map}
 use Rattle.std.specs.Prelude.{◌==◌, sum_by, IsTrue}
 use Rattle.std.specs.List.{AllByRecursion, filter_map, cons_option, range_with_len}
 use Rattle.std.proofs.lemmas.Bool.{cases_Bool, cond-false, cond-true, eqb-true}

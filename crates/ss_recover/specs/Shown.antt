@@ -1,9 +1,8 @@
 -- What is held of the stream whose records come shows what they are, and what a walk over the records of one stream answers.
 use Rattle.std.specs.Prelude.{◌≡◌, ℕ, ℤ, ◌+◌, ◌-◌, ◌<◌, ◌≤◌, Bool, true, false, ◌==◌, ◌&&◌, ◌||◌, nat_le, nat_lt, is_none, List, [], ◌∷◌, ◌++◌, length, map, filter}
-use Rattle.std.specs.Prelude.{IfSome, IsSome, MatchOption, Option, Some, None, Result, Ok, Err, ⊤}
+use Rattle.std.specs.Prelude.{IfSome, MatchOption, Option, Some, None, Result, Ok, Err, ⊤}
 use Rattle.std.specs.Option.{option_map_or}
 use Rattle.std.specs.List.{filter_map, list_all}
-use Rattle.std.specs.List.Sorted.{IsPermutation}
 use Rattle.ss_catalog.specs.declared.stream_id.StreamId.{StreamId}
 use Rattle.ss_catalog.specs.declared.params.Params.{Params}
 use Rattle.ss_codec.specs.declared.record.Record.{Record}

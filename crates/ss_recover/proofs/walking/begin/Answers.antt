@@ -1,4 +1,4 @@
-use Rattle.std.proofs.Common.{◌∙◌, ℕ, List, map, sym, ap}
+use Rattle.std.proofs.Common.{◌∙◌, ℕ, List, sym, ap}
 use Rattle.std.proofs.lemmas.List.{map-append}
 use Rattle.ss_catalog.specs.declared.stream_id.StreamId.{StreamId}
 use Rattle.ss_recover.specs.Shown.{names_in}

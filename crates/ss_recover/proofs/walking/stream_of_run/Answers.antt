@@ -1,11 +1,10 @@
-use Rattle.std.proofs.Common.{◌≡◌, ◌∙◌, ◌+◌, ◌++◌, [], ◌∷◌, All, None, Ok, suc, take, drop, true, arith, refl, sym, ap, subst}
+use Rattle.std.proofs.Common.{◌≡◌, ◌∙◌, ◌++◌, [], ◌∷◌, All, None, Ok, suc, take, drop, true, arith, refl, sym, ap, subst}
 use Rattle.std.proofs.lemmas.List.{take_all, take_more}
-use Rattle.ss_codec.specs.declared.record.Record.TheVariants as records
 use Rattle.ss_recover.specs.Order.{stream_of}
 use Rattle.ss_recover.specs.Runs.{is_run, run_with}
 use Rattle.ss_recover.specs.Shown.{BeginsAs, HasTaken, IsHeldOf, Shows, StepsAs, names_in}
 use Rattle.ss_recover.specs.Usable.{IsUsable, without_slots}
-use Rattle.ss_recover.proofs.RunWalk.{IsHeldOf-end, IsSoFar, IsSoFar-more, IsSoFar-none, all-at, at-index, ends-not, ends-run, not-run, same-id}
+use Rattle.ss_recover.proofs.RunWalk.{IsHeldOf-end, IsSoFar, IsSoFar-more, IsSoFar-none, all-at, at-index, ends-run, not-run, same-id}
 use Rattle.ss_recover.proofs.walking.stream_of_run.Goals as goal
 
 pub loop-found-init : goal.loop-found-init

@@ -1,4 +1,4 @@
-use Rattle.std.proofs.Common.{◌≡◌, ◌∙◌, ℕ, ◌+◌, ◌-◌, ◌++◌, List, [], ◌∷◌, All, Err, Ok, length, take, drop, sym, ap, subst, arith}
+use Rattle.std.proofs.Common.{◌≡◌, ◌∙◌, ◌+◌, ◌-◌, ◌++◌, [], ◌∷◌, All, Err, Ok, length, take, drop, sym, ap, subst, arith}
 use Rattle.std.specs.Prelude.{not, is_ok}
 use Rattle.std.proofs.lemmas.Bool.{cond-true}
 use Rattle.std.proofs.lemmas.List.{take_all, take_rest}
@@ -8,7 +8,7 @@ use Rattle.ss_recover.specs.Runs.{WalksAs}
 use Rattle.ss_recover.specs.Shown.{RunsAs}
 use Rattle.ss_recover.specs.Usable.{without_slots}
 use Rattle.ss_recover.specs.declared.found.Found.{Found}
-use Rattle.ss_recover.proofs.RunsDone.{AreBuilt-done, AreDone, AreDone-none, IsDoneTo, IsDoneTo-more, at-run, nothing-before, order-from, run-numbers, some-run, walk-refused}
+use Rattle.ss_recover.proofs.RunsDone.{AreBuilt-done, AreDone, AreDone-none, IsDoneTo, IsDoneTo-more, at-run, nothing-before, order-from, run-numbers, walk-refused}
 use Rattle.ss_recover.proofs.walking.streams_of.Goals as goal
 
 pub loop-at-init : goal.loop-at-init

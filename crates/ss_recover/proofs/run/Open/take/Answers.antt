@@ -1,4 +1,4 @@
-use Rattle.std.proofs.Common.{◌≡◌, ◌∙◌, ℕ, ℤ, ◌+◌, ◌<◌, true, Some, List, length, [], ◌∷◌, ◌++◌, MatchOption, None, sym, ap, subst}
+use Rattle.std.proofs.Common.{◌≡◌, ◌∙◌, ℕ, ℤ, ◌+◌, ◌<◌, Some, List, length, [], ◌∷◌, ◌++◌, MatchOption, None, sym, ap, subst}
 use Rattle.std.specs.Int.{w64}
 use Rattle.std.proofs.lemmas.Int.{to_z-of_z}
 use Rattle.ss_catalog.specs.declared.stream_id.StreamId.{StreamId}
