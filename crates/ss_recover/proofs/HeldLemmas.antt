@@ -10,6 +10,7 @@ use Rattle.std.proofs.lemmas.List.Elements.{All-from_recursion, recursion_from_A
 use Rattle.std.proofs.lemmas.List.Sorted.{All-permutation}
 use Rattle.std.proofs.lemmas.List.Sums.{sum_by-cons}
 use Rattle.ss_catalog.specs.Names.{same_name}
+use Rattle.ss_catalog.specs.declared.TheConstants.{MOST_STREAMS}
 use Rattle.ss_journal.specs.Redo.{SlotMap}
 use Rattle.ss_codec.specs.declared.record.Record.{Record}
 use Rattle.ss_model.specs.Marks.{lies_free}
@@ -25,9 +26,9 @@ use Rattle.ss_recover.specs.Parts.{carried, carries, judged, lowest_in, lowest_b
 use Rattle.ss_recover.specs.declared.parts.StreamParts.{StreamParts}
 use Rattle.ss_recover.proofs.HeldRecords.{every_slot_spells, made_of_records}
 use Rattle.ss_recover.proofs.InOrder.{Rise, Rise-increasing, in_order-IsPermutation}
-use Rattle.ss_recover.proofs.Lists.{all_both, filter_map-kept, kept, position-none, all-from_map, map-map}
+use Rattle.ss_recover.proofs.Lists.{all_both, all_weaker, filter_map-kept, kept, position-none, all-from_map, map-map}
 use Rattle.ss_recover.proofs.Marks.{are_marks-marks_of, in_order-marks_of, landmarks_made-marks_of, length-marks_of, marks_of}
-use Rattle.ss_recover.proofs.SoundStreams.{IsNew-each, IsOnce-each, Rise-AreWindows, has_new_name-moved, has_one_record-moved, has_place-moved}
+use Rattle.ss_recover.proofs.SoundStreams.{Rise-AreWindows, stands_alone, stands_alone-each, stands_alone-moved}
 use Rattle.ss_recover.proofs.SoundStreams.{tile-AreWindows, times_rise-AreWindows}
 use Rattle.ss_recover.proofs.HeldRecords.{HasOwn, HasOwn-each, all-number_of, all_walked, created, created-all_walked}
 
@@ -123,37 +124,34 @@ module _ (parts : List StreamParts) (streams : List Stream) (found : SlotMap) (w
       ∙ map-stream_carried records streams carries_each
 
   -- the conditions
-  few : length (map created streams) ≤ 4096
+  few : length (map created streams) ≤ MOST_STREAMS
   few = omega (arith, state.few, length-map streams created)
 
-  once : AllByRecursion (λ (s : Stream). sum_by (λ (u : Created). cond (u.number == s.number) 1 0) (map created streams) ≡ 1) streams
-  once =
-      all-from_map (λ s. sum_by (λ (u : Created). cond (u.number == s.number) 1 0) (map created streams) ≡ 1) created streams
-      (IsOnce-each (map created streams) rise_created)
+  alone : AllByRecursion (λ (s : Stream). stands_alone s.number (streams_created records) ≡ true) streams
+  alone =
+      let names = subst (IsDistinct same_name) (sym (map-map (λ (s : Created). s.name) created streams)) state.names in
+      all-from_map (λ s. stands_alone s.number (streams_created records) ≡ true) created streams
+      (all_weaker (λ s. stands_alone s.number (map created streams) ≡ true) (λ s. stands_alone s.number (streams_created records) ≡ true)
+      (λ s is. sym (stands_alone-moved s.number (map created streams) (streams_created records) moved) ∙ is) (map created streams)
+      (stands_alone-each (map created streams) rise_created names few))
 
   sound : AllByRecursion (λ s. is_sound records s.number ≡ true) streams
   unfolding is_sound
   sound =
-      let names = subst (IsDistinct same_name) (sym (map-map (λ (s : Created). s.name) created streams)) state.names in
-      let new = IsNew-each (map created streams) rise_created names in
-      let Once : Stream → Type 0 = λ s. sum_by (λ (u : Created). cond (u.number == s.number) 1 0) (map created streams) ≡ 1 in
+      let Alone : Stream → Type 0 = λ s. stands_alone s.number (streams_created records) ≡ true in
       let Both : Stream → Type 0 = λ s. Carries records s × MarksAre s in
       let All : Stream → Type 0 = λ s. Both s × IsStream s in
-      all_both Once All (λ s. is_sound records s.number ≡ true)
+      all_both Alone All (λ s. is_sound records s.number ≡ true)
       (λ s one all.
-      let created_here = streams_created records in
       let windows = all.0.0.0 in
       let landmarks = all.0.0.1 in
-      let a = has_one_record-moved (map created streams) created_here moved s.number one in
-      let b = has_place-moved (map created streams) created_here moved s.number one few in
-      let c = has_new_name-moved (map created streams) created_here moved s.number new in
       let d : tile (windows_carried s.number records) ≡ true = ap tile windows ∙ tile-AreWindows s.windows all.1.windows in
       let e : times_rise (windows_carried s.number records) ≡ true = ap times_rise windows ∙ times_rise-AreWindows s.windows all.1.windows in
       let f : are_marks (marks_carried s.number records) ≡ true = ap are_marks all.0.1 ∙ are_marks-marks_of s.number s.landmarks all.1.landmarks in
       let g : list_all (lies_free (landmarks_made (marks_carried s.number records))) (windows_carried s.number records) ≡ true =
       ap₂ (λ ls ws. list_all (lies_free ls) ws) landmarks windows ∙ all.1.free in
-      and_from _ _ (and_from _ _ (and_from _ _ (and_from _ _ (and_from _ _ (and_from _ _ a b) c) d) e) f) g)
-      streams once
+      and_from _ _ (and_from _ _ (and_from _ _ (and_from _ _ one d) e) f) g)
+      streams alone
       (all_both Both IsStream All (λ s both is. (both, is)) streams
       (all_both (Carries records) MarksAre Both (λ s carries marks. (carries, marks)) streams carries_each marks_are) each_is)
 

@@ -21,14 +21,14 @@ use Rattle.ss_model.specs.declared.types.Window.{Window}
 use Rattle.ss_summary.specs.declared.summary.TheConstants.{GREATEST_COUNT}
 use Rattle.ss_windowing.specs.declared.decay.TheConstants.{MOST_VALUES}
 use Rattle.ss_recover.specs.Carried.{created_by, is_mark_of, streams_created, window_of}
-use Rattle.ss_recover.specs.Conditions.{has_new_name, is_named_before, tile, tile_from, times_rise}
+use Rattle.ss_recover.specs.Conditions.{has_new_name, has_one_record, has_place, tile, tile_from, times_rise}
 use Rattle.ss_recover.specs.Held.{window_record}
 use Rattle.ss_recover.specs.Marked.{are_marks, landmarks_made, nothing_marked}
 use Rattle.ss_recover.specs.Order.{Rises, place_of, stream_of}
 use Rattle.ss_recover.specs.Runs.{Run, is_run, is_sound_in_order, marking, run_of, run_on}
 use Rattle.ss_recover.specs.Usable.{IsUsable}
 use Rattle.ss_recover.proofs.Lists.{all_weaker}
-use Rattle.ss_recover.proofs.SoundStreams.{MeetsAll-and}
+use Rattle.ss_recover.proofs.SoundStreams.{MeetsAll-and, count-at, count-below, new-name}
 use Rattle.ss_recover.proofs.RunLaws.{ends, fold-none, fold-run, marks, no-marks, rise-times, windows}
 
 -- more than one stream record ends no run
@@ -41,28 +41,6 @@ twice (records.Window id first summary ∷ rs) (Some run) c cs is = twice rs (ru
 twice (records.Landmark id number values start finish ∷ rs) (Some run) c cs is =
     twice rs (run_on (Some run) (records.Landmark id number values start finish)) c cs is
 twice (records.Value id number index t v ∷ rs) (Some run) c cs is = twice rs (run_on (Some run) (records.Value id number index t v)) c cs is
-
-abbrev digit : Bool → ℕ
-digit b = cond b 1 0
-
-abbrev at : ℕ → Created → Bool
-at m c = c.number == m
-
-abbrev below : ℕ → Created → Bool
-below m c = nat_lt c.number m
-
--- how many pass a test that all pass, or none does
-count-none : (p : Created → Bool) (cs : List Created) → AllByRecursion (λ c. p c ≡ false) cs → count_by p cs ≡ 0
-count-none p [] none = refl
-count-none p (c ∷ cs) none = omega (arith, sum_by-cons (λ (x : Created). digit (p x)) c cs, ap digit none.0, count-none p cs none.1)
-
-count-all : (p : Created → Bool) (cs : List Created) → AllByRecursion (λ c. p c ≡ true) cs → count_by p cs ≡ length cs
-count-all p [] all = refl
-count-all p (c ∷ cs) all = omega (arith, sum_by-cons (λ (x : Created). digit (p x)) c cs, ap digit all.0, count-all p cs all.1)
-
-none-passes : (p : Created → Bool) (cs : List Created) → AllByRecursion (λ c. p c ≡ false) cs → list_any p cs ≡ false
-none-passes p [] all = refl
-none-passes p (c ∷ cs) all = or_from (p c) (list_any p cs) all.0 (none-passes p cs all.1)
 
 -- what the records of some numbers create
 created-of : (P : ℕ → Type 0) (rs : List Record) → AllByRecursion (λ r. P (stream_of r)) rs → AllByRecursion (λ c. P c.number) (filter_map created_by rs)
@@ -143,13 +121,6 @@ never : (a b t u v w x : Bool) → a ≡ false → (a && b && t && u && v && w &
 never false b t u v w x is = refl
 never true b t u v w x is = cc
 
--- a stream of a number whose name one before it has, and one before it that has its name
-abbrev named : ℕ → List Created → Created → Bool
-named n all o = o.number == n && is_named_before all o
-
-abbrev before : Created → Created → Bool
-before c o = nat_lt o.number c.number && same_name o.name c.name
-
 -- Records of lower numbers, those of a number, and those of greater ones.
 module _ (front run back : List Record) (n : ℕ) (lower : AllByRecursion (λ r. stream_of r < n) front) (own : AllByRecursion (λ r. stream_of r ≡ n) run)
     (above : AllByRecursion (λ r. n < stream_of r) back) where
@@ -174,12 +145,12 @@ module _ (front run back : List Record) (n : ℕ) (lower : AllByRecursion (λ r.
   back-apart : AllByRecursion (λ r. stream_of r ≡ n → ⊥) back
   back-apart = all_weaker (λ r. n < stream_of r) (λ r. stream_of r ≡ n → ⊥) (λ r lt same. absurd (omega (arith, lt, same))) back above
 
-  windows-own : windows n all ≡ windows n run
+  pub windows-own : windows n all ≡ windows n run
   windows-own =
       filter_map-append (window_of n) front (run ++ back) ∙ ap₂ ◌++◌ (windows-apart n front front-apart)
       (filter_map-append (window_of n) run back ∙ ap (λ l. windows n run ++ l) (windows-apart n back back-apart) ∙ append-nil (windows n run))
 
-  marks-own : marks n all ≡ marks n run
+  pub marks-own : marks n all ≡ marks n run
   marks-own =
       filter-append (is_mark_of n) front (run ++ back) ∙ ap₂ ◌++◌ (marks-apart n front front-apart)
       (filter-append (is_mark_of n) run back ∙ ap (λ l. marks n run ++ l) (marks-apart n back back-apart) ∙ append-nil (marks n run))
@@ -193,77 +164,20 @@ module _ (front run back : List Record) (n : ℕ) (lower : AllByRecursion (λ r.
   later-above : AllByRecursion (λ c. n < c.number) later
   later-above = created-of (λ k. n < k) back above
 
-  count-parts : (p : Created → Bool) → count_by p (streams_created all) ≡ count_by p cs + count_by p here + count_by p later
-  count-parts p =
-      omega (
-        arith,
-        ap (count_by p) created-parts,
-        sum_by-append (λ (c : Created). digit (p c)) cs (here ++ later),
-        sum_by-append (λ (c : Created). digit (p c)) here later,
-      )
-
-  count-at : count_by (at n) (streams_created all) ≡ length here
-  count-at =
-      omega (
-        arith,
-        count-parts (at n),
-        count-none (at n) cs (all_weaker (λ c. c.number < n) (λ c. at n c ≡ false) (λ c lt. ne_eqb c.number n (λ e. absurd (omega (arith, e, lt)))) cs cs-below),
-        count-all (at n) here (all_weaker (λ c. c.number ≡ n) (λ c. at n c ≡ true) (λ c is. eq-eqb c.number n is) here here-own),
-        count-none (at n) later
-            (all_weaker (λ c. n < c.number) (λ c. at n c ≡ false) (λ c lt. ne_eqb c.number n (λ e. absurd (omega (arith, e, lt)))) later later-above),
-      )
-
-  count-below : count_by (below n) (streams_created all) ≡ length cs
-  count-below =
-      omega (
-        arith,
-        count-parts (below n),
-        count-all (below n) cs (all_weaker (λ c. c.number < n) (λ c. below n c ≡ true) (λ c lt. lt-ltb c.number n lt) cs cs-below),
-        count-none (below n) here (all_weaker (λ c. c.number ≡ n) (λ c. below n c ≡ false) (λ c is. le-ltb c.number n (omega (arith, is))) here here-own),
-        count-none (below n) later (all_weaker (λ c. n < c.number) (λ c. below n c ≡ false) (λ c lt. le-ltb c.number n (omega (arith, lt))) later later-above),
-      )
-
   -- they are sound where the streams, of which so many are of the number, and the other records are
   sound-parts : is_sound_in_order all n
       ≡ ((length here == 1) && nat_lt (length cs) MOST_STREAMS && has_new_name n (cs ++ (here ++ later)) && tile (windows n run) && times_rise (windows n run)
       && are_marks (marks n run) && list_all (lies_free (landmarks_made (marks n run))) (windows n run))
-  sound-parts i =
-      (count-at i == 1) && nat_lt (count-below i) MOST_STREAMS && has_new_name n (created-parts i) && tile (windows-own i) && times_rise (windows-own i)
-      && are_marks (marks-own i) && list_all (lies_free (landmarks_made (marks-own i))) (windows-own i)
+  sound-parts =
+      let one = count-at cs here later n cs-below here-own later-above in
+      let place = count-below cs here later n cs-below here-own later-above in
+      (λ i. has_one_record n (created-parts i) && has_place n (created-parts i) && has_new_name n (created-parts i) && tile (windows-own i)
+      && times_rise (windows-own i) && are_marks (marks-own i) && list_all (lies_free (landmarks_made (marks-own i))) (windows-own i))
+      ∙ (λ i. (one i == 1) && nat_lt (place i) MOST_STREAMS && has_new_name n (cs ++ (here ++ later)) && tile (windows n run) && times_rise (windows n run)
+      && are_marks (marks n run) && list_all (lies_free (landmarks_made (marks n run))) (windows n run))
 
   sound-never : (length here ≡ 1 → ⊥) → is_sound_in_order all n ≡ false
   sound-never other = sound-parts ∙ never _ _ _ _ _ _ _ (ne_eqb (length here) 1 other)
-
-  -- a name is new where no stream before has it
-  new-name : (c : Created) → c.number ≡ n → has_new_name n (cs ++ (c ∷ later)) ≡ not (list_any (same_name c.name) (map (λ (o : Created). o.name) cs))
-  new-name c is =
-      let us = cs ++ (c ∷ later) in
-      let first = none-passes (named n us) cs (all_weaker (λ o. o.number < n) (λ o. named n us o ≡ false)
-      (λ o lt. and_left _ _ (ne_eqb o.number n (λ e. absurd (omega (arith, e, lt))))) cs cs-below) in
-      let last = none-passes (named n us) later (all_weaker (λ o. n < o.number) (λ o. named n us o ≡ false)
-      (λ o lt. and_left _ _ (ne_eqb o.number n (λ e. absurd (omega (arith, e, lt))))) later later-above) in
-      let rest : list_any (before c) (c ∷ later) ≡ false =
-      none-passes (before c) (c ∷ later) (
-        and_left _ _ (le-ltb c.number c.number (omega arith)),
-        all_weaker (λ o. n < o.number) (λ o. before c o ≡ false) (λ o lt. and_left _ _ (le-ltb o.number c.number (omega (arith, lt, is)))) later later-above,
-      ) in
-      ap not
-      (list_any-append (named n us) cs (c ∷ later)
-      ∙ (λ i. first i || (named n us c || last i)) ∙ or-false (named n us c) ∙ ap (λ b. b && is_named_before us c) (eq-eqb c.number n is)
-      ∙ list_any-append (before c) cs (c ∷ later) ∙ (λ i. by-name cs cs-below i || rest i)
-      ∙ or-false (list_any (same_name c.name) (map (λ (o : Created). o.name) cs)))
-    where
-      or-false : (b : Bool) → (b || false) ≡ b
-      or-false true = refl
-      or-false false = refl
-
-      by-name : (us : List Created) → AllByRecursion (λ o. o.number < n) us →
-          list_any (before c) us ≡ list_any (same_name c.name) (map (λ (o : Created). o.name) us)
-      by-name [] lows = refl
-      by-name (u ∷ us) lows =
-          ap₂ (λ (x y : Bool). x || y)
-          (ap (λ b. b && same_name u.name c.name) (lt-ltb u.number c.number (let lt = lows.0 in omega (arith, lt, is))) ∙ same_name-swap u.name c.name)
-          (by-name us lows.1)
 
 -- the records of a number are sound where they are a run
 pub is_run-sound : (front run back : List Record) (n : ℕ) → AllByRecursion (λ r. stream_of r < n) front → AllByRecursion (λ r. stream_of r ≡ n) run →
@@ -296,7 +210,8 @@ is_run-sound front (records.Stream id name params ∷ rest) back n lower own abo
           let few : length names ≡ length (streams_created front) = length-map (streams_created front) (λ (o : Created). o.name) in
           let new : has_new_name n (streams_created front ++ ((c ∷ streams_created rest) ++ streams_created back)) ≡ not (list_any (same_name name) names) =
           ap (λ us. has_new_name n (streams_created front ++ ((c ∷ us) ++ streams_created back))) none
-          ∙ new-name front (r ∷ rest) back n lower own above c own.0 in
+          ∙ new-name (streams_created front) (c ∷ []) (streams_created back) n (cs-below front (r ∷ rest) back n lower own above) (own.0, tt)
+          (later-above front (r ∷ rest) back n lower own above) c own.0 in
           let tiles = tile-run n rest usable.1 in
           let times = rise-times ws in
           let whole : ends (run_of rest)
