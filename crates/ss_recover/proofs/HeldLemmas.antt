@@ -1,6 +1,6 @@
 -- What is held is what the map carries.
 use Rattle.std.proofs.Common.{◌≡◌, ℕ, ◌≤◌, Bool, true, not, cond, List, [], ◌∷◌, filter, map, length, refl, sym, ap, ap₂, subst, ◌∙◌, arith}
-use Rattle.std.proofs.Common.{IsPermutation, None}
+use Rattle.std.proofs.Common.{IsPermutation, None, Option}
 use Rattle.std.specs.Prelude.{◌==◌, is_none, sum_by}
 use Rattle.std.specs.List.{AllByRecursion, IsDistinct, filter_map, list_all}
 use Rattle.std.specs.List.Sorted.{IsStrictlyIncreasing}
@@ -13,6 +13,7 @@ use Rattle.ss_catalog.specs.Names.{same_name}
 use Rattle.ss_catalog.specs.declared.TheConstants.{MOST_STREAMS}
 use Rattle.ss_journal.specs.Redo.{SlotMap}
 use Rattle.ss_codec.specs.declared.record.Record.{Record}
+use Rattle.ss_codec.specs.declared.record.Record.TheVariants.{Free}
 use Rattle.ss_model.specs.Marks.{lies_free}
 use Rattle.ss_model.specs.Standing.{IsState, IsStream}
 use Rattle.ss_model.specs.State.{Created, Stream, live, records_of}
@@ -54,14 +55,9 @@ each-records_of [] most room = tt
 each-records_of (s ∷ ss) most room =
     let all = sum_by-cons records_of s ss in (omega (arith, all, room), each-records_of ss most (omega (arith, all, room)))
 
--- what is held over a map of whole slots
-module _ (parts : List StreamParts) (streams : List Stream) (found : SlotMap) (whole : HasWholeSlots found) (held : AreHeld parts streams found) where
-  abbrev records : List Record
-  records = records_in (spelled found)
-
-  state : IsState streams
-  state = held.state
-
+-- records of which is made what is made of those of streams
+module _ (streams : List Stream) (records : List Record) (state : IsState streams)
+    (made : (Y : Type 0) (f : Record → Option Y) → f Free ≡ None → IsPermutation (filter_map f (all_walked streams)) (filter_map f records)) where
   rise : Rise (λ (s : Stream). s.number) streams
   rise = Rise-increasing (λ (s : Stream). s.number) streams state.numbers
 
@@ -73,7 +69,7 @@ module _ (parts : List StreamParts) (streams : List Stream) (found : SlotMap) (w
   moved : IsPermutation (map created streams) (streams_created records)
   moved =
       subst (λ l. IsPermutation l (streams_created records)) (created-all_walked streams)
-      (made_of_records parts streams found whole held created_by refl)
+      (made Created created_by refl)
 
   each_is : AllByRecursion IsStream streams
   each_is = recursion_from_All IsStream streams state.each
@@ -85,7 +81,7 @@ module _ (parts : List StreamParts) (streams : List Stream) (found : SlotMap) (w
       (λ s has is.
       in_order-IsPermutation (λ (w : Window). w.first) (filter_map (window_of s.number) records) s.windows
       (subst (λ l. IsPermutation l (filter_map (window_of s.number) records)) has.windows
-      (made_of_records parts streams found whole held (window_of s.number) refl))
+      (made Window (window_of s.number) refl))
       (Rise-AreWindows s.windows is.windows))
       streams (HasOwn-each streams rise) each_is
 
@@ -95,7 +91,7 @@ module _ (parts : List StreamParts) (streams : List Stream) (found : SlotMap) (w
   marks_moved number =
       subst (λ l. IsPermutation l (filter (is_mark_of number) records)) (filter_map-kept (is_mark_of number) (all_walked streams))
       (subst (λ l. IsPermutation (filter_map (kept (is_mark_of number)) (all_walked streams)) l) (filter_map-kept (is_mark_of number) records)
-      (made_of_records parts streams found whole held (kept (is_mark_of number)) refl))
+      (made Record (kept (is_mark_of number)) refl))
 
   abbrev MarksAre : Stream → Type 0
   MarksAre s = marks_carried s.number records ≡ marks_of s.number 1 s.landmarks
@@ -117,7 +113,7 @@ module _ (parts : List StreamParts) (streams : List Stream) (found : SlotMap) (w
       (λ s both is. (both.0, ap landmarks_made both.1 ∙ landmarks_made-marks_of s.number s.landmarks is.landmarks)) streams
       (all_both Windows MarksAre Both (λ s windows marks. (windows, marks)) streams windows_are marks_are) each_is
 
-  streams_are : streams_carried records ≡ streams
+  pub streams_are : streams_carried records ≡ streams
   streams_are =
       ap (map (stream_carried records))
       (in_order-IsPermutation (λ (s : Created). s.number) (streams_created records) (map created streams) moved rise_created)
@@ -155,20 +151,23 @@ module _ (parts : List StreamParts) (streams : List Stream) (found : SlotMap) (w
       (all_both Both IsStream All (λ s both is. (both, is)) streams
       (all_both (Carries records) MarksAre Both (λ s carries marks. (carries, marks)) streams carries_each marks_are) each_is)
 
-  none_bad : lowest_bad_stream records ≡ None
+  pub none_bad : lowest_bad_stream records ≡ None
   none_bad =
       let numbers = filter_map stream_number records in
       let P : ℕ → Type 0 = λ number. is_sound records number ≡ true in
       let all : AllByRecursion P numbers =
       recursion_from_All P numbers
-      (All-permutation P (filter_map stream_number (all_walked streams)) numbers (made_of_records parts streams found whole held stream_number refl)
+      (All-permutation P (filter_map stream_number (all_walked streams)) numbers (made ℕ stream_number refl)
       (All-from_recursion P (filter_map stream_number (all_walked streams)) (all-number_of P streams sound))) in
       ap lowest_in (filter-sound (is_sound records) numbers all)
 
-  pub carried-AreHeld : carried found ≡ carries streams
-  unfolding carried
-  carried-AreHeld =
-      let slot : lowest_bad_slot (spelled found) ≡ None = position-none is_none (spelled found) (every_slot_spells parts streams found whole held) in
-      ap (λ o. judged o (lowest_bad_stream records) (streams_carried records)) slot
-      ∙ ap (λ o. judged None o (streams_carried records)) none_bad
-      ∙ ap (judged None None) streams_are
+-- what is held over a map of whole slots
+pub carried-AreHeld : (parts : List StreamParts) (streams : List Stream) (found : SlotMap) → HasWholeSlots found → AreHeld parts streams found →
+    carried found ≡ carries streams
+unfolding carried
+carried-AreHeld parts streams found whole held =
+    let rs = records_in (spelled found) in
+    let slot : lowest_bad_slot (spelled found) ≡ None = position-none is_none (spelled found) (every_slot_spells parts streams found whole held) in
+    ap (λ o. judged o (lowest_bad_stream rs) (streams_carried rs)) slot
+    ∙ ap (λ o. judged None o (streams_carried rs)) (none_bad streams rs held.state (λ Y f free. made_of_records parts streams found whole held f free))
+    ∙ ap (judged None None) (streams_are streams rs held.state (λ Y f free. made_of_records parts streams found whole held f free))

@@ -22,6 +22,7 @@ pub mod RunMarks
 pub mod RunSteps
 pub mod RunOrder
 pub mod RunWalk
+pub mod RunStream
 pub mod RunHeld
 pub mod RunsDone
 mod Rows

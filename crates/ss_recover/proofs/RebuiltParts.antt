@@ -65,7 +65,7 @@ made-found f free found all whole are =
     ∙ ap (λ (es : List (ℕ × Option Record)). filter_map f (records_in (map (λ e. e.1) es))) (sym are.occupied_by)
     ∙ ap (filter_map f) (records_in-found all)
 
-is_sound-made : (rs us : List Record) (n : ℕ) → streams_created rs ≡ streams_created us → filter_map (window_of n) rs ≡ filter_map (window_of n) us →
+pub is_sound-made : (rs us : List Record) (n : ℕ) → streams_created rs ≡ streams_created us → filter_map (window_of n) rs ≡ filter_map (window_of n) us →
     filter (is_mark_of n) rs ≡ filter (is_mark_of n) us → is_sound rs n ≡ is_sound us n
 unfolding is_sound
 is_sound-made rs us n created windows marks =

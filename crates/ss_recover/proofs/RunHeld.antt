@@ -15,7 +15,7 @@ use Rattle.ss_codec.specs.declared.record.Record.TheVariants as records
 use Rattle.ss_landmarks.specs.Landmark.{Landmark, LandmarkValue}
 use Rattle.ss_model.specs.Marks.{later, latest_of}
 use Rattle.ss_model.specs.Standing.{IsStream}
-use Rattle.ss_model.specs.State.{Created, Stream}
+use Rattle.ss_model.specs.State.{Created, Stream, names_of}
 use Rattle.ss_model.specs.Windows.{newest_time}
 use Rattle.ss_model.specs.declared.types.Window.{Window}
 use Rattle.ss_recover.specs.Carried.{created_by, is_mark_of, streams_created, window_of}
@@ -30,12 +30,11 @@ use Rattle.ss_recover.specs.declared.found.Found.{Found}
 use Rattle.ss_recover.specs.declared.parts.StreamParts.{StreamParts}
 use Rattle.ss_recover.proofs.HeldRecords.{all_walked, walked}
 use Rattle.ss_recover.proofs.InOrder.{Rise}
-use Rattle.ss_recover.proofs.CarriedStates.{AreWindows-tile}
 use Rattle.ss_recover.proofs.Lists.{all-kept, all-passing, all_push, all_weaker, filter-none, map-all}
 use Rattle.ss_recover.proofs.Marks.{each-mark_of, marks_of}
 use Rattle.ss_recover.proofs.MarksSoFar.{AreOf, AreOf-are_marks}
 use Rattle.ss_recover.proofs.Permutations.{IsPermutation-append_both}
-use Rattle.ss_recover.proofs.RunSound.{MeetsRun, run-meets, run-order}
+use Rattle.ss_recover.proofs.RunStream.{AreWalked, AreWalked-none, AreWalked-run, meets, rest-order, stream_made}
 use Rattle.ss_recover.proofs.ValidRecords.{IsFine, all-window_of}
 
 -- of the records of landmarks, those of the landmarks and the others
@@ -77,10 +76,8 @@ slots-records (f ∷ fs) = ap (λ l. in_slot f ∷ l) (slots-records fs)
 -- Parts agree with streams that the records so far are of, in their order.
 pub record AreHeldSoFar (parts : List StreamParts) (streams : List Stream) (all : List Found) : Type 0 where
   pub each : AllAgree parts streams
-  pub order : without_slots all ≡ all_walked streams
   pub records : IsPermutation (flat_map records_held (zip parts streams)) (map in_slot all)
-  pub sound : AllByRecursion IsStream streams
-  pub rise : Rise (λ s. s.number) streams
+  pub walked : AreWalked (without_slots all) streams
 
 -- lists that agree, with one more of each
 pub AllAgree-push : (parts : List StreamParts) (streams : List Stream) (part : StreamParts) (s : Stream) → AllAgree parts streams → Agrees part s →
@@ -99,32 +96,9 @@ held-push (p ∷ ps) (s' ∷ ss) part s each =
     ap (λ l. records_held (p, s') ++ l) (held-push ps ss part s each.1)
     ∙ sym (append_assoc (records_held (p, s')) (flat_map records_held (zip ps ss)) (records_held (part, s)))
 
-pub Rise-push : {X : Type 0} (key : X → ℕ) (xs : List X) (x : X) → Rise key xs → AllByRecursion (λ y. key y < key x) xs → Rise key (xs ++ x ∷ [])
-Rise-push key [] x rise below = (tt, tt)
-Rise-push key (y ∷ ys) x rise below = (all_push (λ z. key y < key z) ys x rise.0 below.0, Rise-push key ys x rise.1 below.1)
-
 -- nothing is held yet
 pub AreHeldSoFar-none : AreHeldSoFar [] [] []
-AreHeldSoFar-none = record { each = tt; order = refl; records = IsPermutation-refl []; sound = tt; rise = tt }
-
--- one more stream is held, whose records come after those of the others
-pub AreHeldSoFar-push : (parts : List StreamParts) (streams : List Stream) (part : StreamParts) (s : Stream) (before own : List Found) →
-    AreHeldSoFar parts streams before → Agrees part s → IsStream s → AllByRecursion (λ u. u.number < s.number) streams →
-    IsPermutation (records_held (part, s)) (map in_slot own) → without_slots own ≡ walked s →
-    AreHeldSoFar (parts ++ part ∷ []) (streams ++ s ∷ []) (before ++ own)
-AreHeldSoFar-push parts streams part s before own held agrees is above records order = record {
-  each = AllAgree-push parts streams part s held.each agrees;
-  order =
-      map-append (λ (f : Found). f.holds) before own ∙ ap₂ ◌++◌ held.order order
-      ∙ sym (flat_map-append walked streams (s ∷ []) ∙ ap (λ l. all_walked streams ++ l) (append-nil (walked s)));
-  records =
-      subst (λ l. IsPermutation l (map in_slot (before ++ own))) (sym (held-push parts streams part s held.each))
-      (subst (IsPermutation (flat_map records_held (zip parts streams) ++ records_held (part, s))) (sym (map-append in_slot before own))
-      (IsPermutation-append_both (flat_map records_held (zip parts streams)) (map in_slot before) (records_held (part, s))
-      (map in_slot own) held.records records));
-  sound = all_push IsStream streams s held.sound is;
-  rise = Rise-push (λ u. u.number) streams s held.rise above;
-}
+AreHeldSoFar-none = record { each = tt; records = IsPermutation-refl []; walked = AreWalked-none }
 
 -- ---- a stream that is done
 
@@ -179,10 +153,10 @@ some-windows number [] = refl
 some-windows number (w ∷ ws) = ap (λ l. Some (window_record number w) ∷ l) (some-windows number ws)
 
 -- The records of a run, after those of lower numbers.
-module _ (front : List Record) (names : List (List ℕ)) (all : List Found) (n : ℕ) (part : StreamParts) (held : IsHeldOf part all)
-    (lower : AllByRecursion (λ r. stream_of r < n) front) (own : AllByRecursion (λ r. stream_of r ≡ n) (without_slots all))
+module _ (front : List Record) (streams : List Stream) (done : AreWalked front streams) (all : List Found) (n : ℕ) (part : StreamParts)
+    (held : IsHeldOf part all) (lower : AllByRecursion (λ r. stream_of r < n) front) (own : AllByRecursion (λ r. stream_of r ≡ n) (without_slots all))
     (usable : AllByRecursion (λ (f : Found). IsUsable f.holds) all) (rises : Rises place_of (without_slots all))
-    (of_front : map (λ (c : Created). c.name) (streams_created front) ≡ names) (run : is_run names (without_slots all) ≡ true) where
+    (run : is_run (names_of streams) (without_slots all) ≡ true) where
   abbrev rs : List Record
   rs = without_slots held.rest
 
@@ -195,18 +169,24 @@ module _ (front : List Record) (names : List (List ℕ)) (all : List Found) (n :
   same : held.head.number ≡ n
   same = (subst (AllByRecursion (λ r. stream_of r ≡ n)) split own).0
 
-  usable-all : AllByRecursion IsUsable (head ∷ rs)
+  pub lower-head : AllByRecursion (λ r. stream_of r < held.head.number) front
+  lower-head = subst (λ (k : ℕ). AllByRecursion (λ r. stream_of r < k) front) (sym same) lower
+
+  pub usable-all : AllByRecursion IsUsable (head ∷ rs)
   usable-all = subst (AllByRecursion IsUsable) split (map-all IsUsable (λ (f : Found). f.holds) all usable)
 
   usable-rest : AllByRecursion (λ (f : Found). IsUsable f.holds) held.rest
   usable-rest = (subst (AllByRecursion (λ (f : Found). IsUsable f.holds)) held.split usable).1
 
-  own-rest : AllByRecursion (λ r. stream_of r ≡ held.head.number) rs
+  pub own-rest : AllByRecursion (λ r. stream_of r ≡ held.head.number) rs
   own-rest = all_weaker (λ r. stream_of r ≡ n) (λ r. stream_of r ≡ held.head.number) (λ r is. is ∙ sym same) rs
       (subst (AllByRecursion (λ r. stream_of r ≡ n)) split own).1
 
-  rises-rest : Rises place_of rs
-  rises-rest = (subst (Rises place_of) split rises).1
+  pub rises-all : Rises place_of (head ∷ rs)
+  rises-all = subst (Rises place_of) split rises
+
+  pub run-all : is_run (names_of streams) (head ∷ rs) ≡ true
+  run-all = ap (is_run (names_of streams)) (sym split) ∙ run
 
   abbrev ws : List Window
   ws = filter_map (window_of held.head.number) rs
@@ -214,24 +194,8 @@ module _ (front : List Record) (names : List (List ℕ)) (all : List Found) (n :
   abbrev ms : List Record
   ms = filter (is_mark_of held.head.number) rs
 
-  meets : MeetsRun front rs held.head
-  meets = run-meets front rs held.head (subst (λ (k : ℕ). AllByRecursion (λ r. stream_of r < k) front) (sym same) lower) own-rest usable-all
-      (subst (Rises place_of) split rises) (ap (λ ns. is_run ns (head ∷ rs)) of_front ∙ ap (is_run names) (sym split) ∙ run)
-
-  marks-usable : AllByRecursion IsUsable ms
-  marks-usable = all-kept IsUsable (is_mark_of held.head.number) rs usable-all.1
-
-  marks-are : AreOf held.head.number ms (landmarks_made ms)
-  marks-are = AreOf-are_marks held.head.number ms (all-passing (is_mark_of held.head.number) rs) marks-usable meets.landmarks
-
   abbrev pub done_stream : Stream
-  done_stream = record {
-    number = held.head.number;
-    name = held.head.name;
-    params = held.head.params;
-    windows = ws;
-    landmarks = landmarks_made ms;
-  }
+  done_stream = stream_made front streams done held.head rs lower-head own-rest usable-all rises-all run-all
 
   pub done-agrees : Agrees part done_stream
   done-agrees = record {
@@ -244,29 +208,14 @@ module _ (front : List Record) (names : List (List ℕ)) (all : List Found) (n :
     last_time = held.last_time ∙ ap (λ ls. later (newest_time ws) (latest_of ls)) held.landmarks;
   }
 
-  pub done-is : IsStream done_stream
-  done-is = record {
-    target = usable-all.0.0;
-    number = usable-all.0.1;
-    windows = AreWindows-tile ws meets.tiles meets.rising (all-window_of held.head.number rs (all_weaker IsUsable IsFine (λ r is _. is) rs usable-all.1));
-    landmarks = marks-are.landmarks;
-    free = meets.free;
-  }
-
-  -- the records, in the order of the walk
-  rest-order : rs ≡ marks_of held.head.number 1 (landmarks_made ms) ++ map (window_record held.head.number) ws
-  rest-order =
-      run-order held.head.number rs own-rest usable-all.1 rises-rest meets.alone
-      ∙ ap (λ l. l ++ map (window_record held.head.number) ws) marks-are.records
-
-  pub done-records : without_slots all ≡ walked done_stream
-  done-records = split ∙ ap (λ l. head ∷ l) rest-order
+  order-rest : rs ≡ marks_of held.head.number 1 (landmarks_made ms) ++ map (window_record held.head.number) ws
+  order-rest = rest-order front streams done held.head rs lower-head own-rest usable-all rises-all run-all
 
   of-kind : (p : Record → Bool) (b : Bool) → ((w : Window) → p (window_record held.head.number w) ≡ b) →
       without_slots (found_by p held.rest)
       ≡ filter p (marks_of held.head.number 1 (landmarks_made ms)) ++ cond b (map (window_record held.head.number) ws) []
   of-kind p b is =
-      filter-records p held.rest ∙ ap (filter p) rest-order
+      filter-records p held.rest ∙ ap (filter p) order-rest
       ∙ filter-append p (marks_of held.head.number 1 (landmarks_made ms)) (map (window_record held.head.number) ws)
       ∙ ap (λ l. filter p (marks_of held.head.number 1 (landmarks_made ms)) ++ l) (of-windows p b held.head.number ws is)
 
@@ -298,15 +247,24 @@ module _ (front : List Record) (names : List (List ℕ)) (all : List Found) (n :
       let fs = found_by is_window held.rest in
       let us = found_by is_landmark held.rest ++ found_by is_value held.rest in
       let moved : IsPermutation (h ∷ (fs ++ us)) all =
-      subst (IsPermutation (h ∷ (fs ++ us))) (sym held.split) (IsPermutation-cons h (fs ++ us) held.rest (parts-found held.rest usable-rest meets.alone)) in
+      subst (IsPermutation (h ∷ (fs ++ us))) (sym held.split) (IsPermutation-cons h (fs ++ us) held.rest (parts-found held.rest usable-rest
+      (meets front streams done held.head rs lower-head own-rest usable-all rises-all run-all).alone)) in
       let parts : records_held (part, done_stream) ≡ map in_slot (h ∷ (fs ++ us)) =
       ap₂ ◌++◌ windows-held (ap₂ ◌++◌ landmarks-held values-held ∙ sym (map-append in_slot (found_by is_landmark held.rest) (found_by is_value held.rest)))
       ∙ sym (map-append in_slot (h ∷ fs) us) in
       subst (λ l. IsPermutation l (map in_slot all)) (sym parts) (IsPermutation-map in_slot (h ∷ (fs ++ us)) all moved)
 
-  pub done-push : (parts : List StreamParts) (streams : List Stream) (before : List Found) → without_slots before ≡ front →
-      AreHeldSoFar parts streams before → AllByRecursion (λ s. s.number < n) streams →
+  pub done-push : (parts : List StreamParts) (before : List Found) → without_slots before ≡ front → AllAgree parts streams →
+      IsPermutation (flat_map records_held (zip parts streams)) (map in_slot before) →
       AreHeldSoFar (parts ++ part ∷ []) (streams ++ done_stream ∷ []) (before ++ all)
-  done-push parts streams before is so_far below =
-      AreHeldSoFar-push parts streams part done_stream before all so_far done-agrees done-is
-      (all_weaker (λ s. s.number < n) (λ s. s.number < held.head.number) (λ s lt. omega (arith, lt, same)) streams below) done-held done-records
+  done-push parts before is each so_far = record {
+    each = AllAgree-push parts streams part done_stream each done-agrees;
+    records =
+        subst (λ l. IsPermutation l (map in_slot (before ++ all))) (sym (held-push parts streams part done_stream each))
+        (subst (IsPermutation (flat_map records_held (zip parts streams) ++ records_held (part, done_stream))) (sym (map-append in_slot before all))
+        (IsPermutation-append_both (flat_map records_held (zip parts streams)) (map in_slot before) (records_held (part, done_stream))
+        (map in_slot all) so_far done-held));
+    walked =
+        subst (λ l. AreWalked l (streams ++ done_stream ∷ [])) (sym (map-append (λ (f : Found). f.holds) before all ∙ (λ i. is i ++ split i)))
+        (AreWalked-run front streams done held.head rs lower-head own-rest usable-all rises-all run-all);
+  }

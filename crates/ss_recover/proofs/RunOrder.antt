@@ -1,13 +1,13 @@
 -- Records in the order of their keys: those of one stream after another, and where those of one end.
-use Rattle.std.proofs.Common.{◌≡◌, ◌∙◌, ℕ, zero, suc, ◌+◌, ◌*◌, ◌^◌, ◌<◌, ◌≤◌, List, [], ◌∷◌, ◌++◌, length, take, drop, get_or, refl, sym, ap, subst, arith}
+use Rattle.std.proofs.Common.{◌≡◌, ◌∙◌, ℕ, zero, suc, ◌+◌, ◌*◌, ◌^◌, ◌<◌, ◌≤◌, List, [], ◌∷◌, ◌++◌, length, map, take, drop, get_or, refl, sym, ap, subst, arith}
 use Rattle.std.specs.List.{AllByRecursion}
 use Rattle.std.specs.List.Sorted.{IsNonDecreasingBy}
 use Rattle.std.proofs.lemmas.List.{take-append-drop}
 use Rattle.std.proofs.lemmas.List.Elements.{All-from_recursion}
 use Rattle.ss_codec.specs.declared.record.Record.{Record}
 use Rattle.ss_codec.specs.declared.record.Record.TheVariants as records
-use Rattle.ss_recover.specs.Order.{Rises, found_key, place_of, stream_of}
-use Rattle.ss_recover.specs.Usable.{IsUsable, without_slots}
+use Rattle.ss_recover.specs.Order.{Rises, key_of, place_of, stream_of}
+use Rattle.ss_recover.specs.Usable.{IsUsable}
 use Rattle.ss_recover.specs.declared.found.Found.{Found}
 use Rattle.ss_recover.proofs.Lists.{all_both, all_front, map-all}
 
@@ -26,24 +26,24 @@ key-place : (a b p q : ℕ) → a * 2 ^ 65 + p ≤ b * 2 ^ 65 + q → b ≡ a �
 key-place a b p q le same = let same' : b * 2 ^ 65 ≡ a * 2 ^ 65 = ap (λ (n : ℕ). n * 2 ^ 65) same in omega (arith, le, same')
 
 -- their streams rise, and in one stream their places
-pub streams-rise : (fs : List Found) → Rises found_key fs → AllByRecursion (λ (f : Found). IsUsable f.holds) fs →
-    Rises (λ (f : Found). stream_of f.holds) fs
-streams-rise [] rises usable = tt
-streams-rise (f ∷ fs) rises usable = (
-  all_both (λ g. found_key f ≤ found_key g) (λ (g : Found). IsUsable g.holds) (λ g. stream_of f.holds ≤ stream_of g.holds)
-      (λ g le small. key-le (stream_of f.holds) (stream_of g.holds) (place_of f.holds) (place_of g.holds) (place-below f.holds usable.0)
-      (place-below g.holds small) le) fs rises.0 usable.1,
-  streams-rise fs rises.1 usable.1,
-)
+module _ {X : Type 0} (h : X → Record) where
+  pub streams-rise : (xs : List X) → Rises (λ x. key_of (h x)) xs → AllByRecursion (λ x. IsUsable (h x)) xs → Rises (λ x. stream_of (h x)) xs
+  streams-rise [] rises usable = tt
+  streams-rise (x ∷ xs) rises usable = (
+    all_both (λ y. key_of (h x) ≤ key_of (h y)) (λ y. IsUsable (h y)) (λ y. stream_of (h x) ≤ stream_of (h y))
+        (λ y le small. key-le (stream_of (h x)) (stream_of (h y)) (place_of (h x)) (place_of (h y)) (place-below (h x) usable.0) (place-below (h y) small) le)
+        xs rises.0 usable.1,
+    streams-rise xs rises.1 usable.1,
+  )
 
-pub places-rise : (n : ℕ) (fs : List Found) → Rises found_key fs → AllByRecursion (λ (f : Found). stream_of f.holds ≡ n) fs → Rises place_of (without_slots fs)
-places-rise n [] rises own = tt
-places-rise n (f ∷ fs) rises own = (
-  map-all (λ r. place_of f.holds ≤ place_of r) (λ (g : Found). g.holds) fs
-      (all_both (λ g. found_key f ≤ found_key g) (λ (g : Found). stream_of g.holds ≡ n) (λ g. place_of f.holds ≤ place_of g.holds)
-      (λ g le is. key-place (stream_of f.holds) (stream_of g.holds) (place_of f.holds) (place_of g.holds) le (is ∙ sym own.0)) fs rises.0 own.1),
-  places-rise n fs rises.1 own.1,
-)
+  pub places-rise : (n : ℕ) (xs : List X) → Rises (λ x. key_of (h x)) xs → AllByRecursion (λ x. stream_of (h x) ≡ n) xs → Rises place_of (map h xs)
+  places-rise n [] rises own = tt
+  places-rise n (x ∷ xs) rises own = (
+    map-all (λ r. place_of (h x) ≤ place_of r) h xs
+        (all_both (λ y. key_of (h x) ≤ key_of (h y)) (λ y. stream_of (h y) ≡ n) (λ y. place_of (h x) ≤ place_of (h y))
+        (λ y le is. key-place (stream_of (h x)) (stream_of (h y)) (place_of (h x)) (place_of (h y)) le (is ∙ sym own.0)) xs rises.0 own.1),
+    places-rise n xs rises.1 own.1,
+  )
 
 pub Rises-parts : {X : Type 0} (key : X → ℕ) (xs ys : List X) → Rises key (xs ++ ys) → Rises key xs × Rises key ys
 Rises-parts key [] ys rises = (tt, rises)

@@ -34,11 +34,8 @@ use Rattle.ss_recover.proofs.Lists.{all_append, all_behind, all_front, all_weake
 use Rattle.ss_recover.proofs.Marks.{length-marks_of, marks_of}
 use Rattle.ss_recover.proofs.RunHeld.{AreHeldSoFar, AreHeldSoFar-none, done-push, done_stream}
 use Rattle.ss_recover.proofs.RunSound.{is_run-sound}
+use Rattle.ss_recover.proofs.RunStream.{AreBefore, AreBefore-run, IsState-walked, names-front}
 use Rattle.ss_recover.proofs.RunOrder.{IsNextRun, IsNextRun-from, Rises-parts, places-rise, streams-rise}
-
--- each record of a list is of a lower number than each of another one
-abbrev pub AreBefore : List Record → List Record → Type 0
-AreBefore front back = AllByRecursion (λ q. AllByRecursion (λ r. stream_of r < stream_of q) front) back
 
 -- Parts are held of streams with these names that the records so far are of, and they are sound whatever comes after them.
 pub record AreDone (names : List (List ℕ × StreamId)) (parts : List StreamParts) (front : List Found) : Type 0 where
@@ -50,15 +47,6 @@ pub record AreDone (names : List (List ℕ × StreamId)) (parts : List StreamPar
 
 pub AreDone-none : (names : List (List ℕ × StreamId)) → names ≡ [] → AreDone names [] []
 AreDone-none names none = record { streams = []; held = AreHeldSoFar-none; names_are = ap names_in none; sound = λ back before. tt }
-
-pub nothing-before : (back : List Record) → AreBefore [] back
-nothing-before [] = tt
-nothing-before (r ∷ rs) = (tt, nothing-before rs)
-
--- the numbers of streams are those of their records
-numbers-walked : (P : ℕ → Type 0) (ss : List Stream) → AllByRecursion (λ r. P (stream_of r)) (all_walked ss) → AllByRecursion (λ s. P s.number) ss
-numbers-walked P [] all = tt
-numbers-walked P (s ∷ ss) all = (all.0, numbers-walked P ss (all_behind (λ r. P (stream_of r)) (walked s) (all_walked ss) all))
 
 -- a run after those that are done
 module _ (names : List (List ℕ × StreamId)) (parts : List StreamParts) (front : List Found) (done : AreDone names parts front)
@@ -76,10 +64,7 @@ module _ (names : List (List ℕ × StreamId)) (parts : List StreamParts) (front
   rs = without_slots (first ∷ run)
 
   of_front : map (λ (c : Created). c.name) (streams_created fs) ≡ names_in names
-  of_front =
-      ap (λ us. map (λ (c : Created). c.name) (streams_created us)) done.held.order
-      ∙ ap (map (λ (c : Created). c.name)) (created-all_walked done.streams)
-      ∙ map-map (λ (c : Created). c.name) created done.streams ∙ sym done.names_are
+  of_front = names-front fs done.streams done.held.walked ∙ sym done.names_are
 
   is-sound : (rest : List Record) → AllByRecursion (λ r. n < stream_of r) rest →
       is_sound_in_order (fs ++ (rs ++ rest)) n ≡ is_run (names_in names) rs
@@ -99,12 +84,13 @@ module _ (names : List (List ℕ × StreamId)) (parts : List StreamParts) (front
   pub AreDone-more : (new : List (List ℕ × StreamId)) (part : StreamParts) → is_run (names_in names) rs ≡ true → names_in new ≡ names_in names ++ part.name ∷ [] →
       IsHeldOf part (first ∷ run) → AreDone new (parts ++ part ∷ []) (front ++ first ∷ run)
   AreDone-more new part sound more held =
-      let below = numbers-walked (λ k. k < n) done.streams (subst (AllByRecursion (λ r. stream_of r < n)) done.held.order lower) in
-      let s = done_stream fs (names_in names) (first ∷ run) n part held lower own usable rises of_front sound in
+      let run_is : is_run (names_of done.streams) rs ≡ true = ap (λ ns. is_run ns rs) (sym done.names_are) ∙ sound in
+      let s = done_stream fs done.streams done.held.walked (first ∷ run) n part held lower own usable rises run_is in
       let whole : without_slots (front ++ first ∷ run) ≡ fs ++ rs = map-append (λ (f : Found). f.holds) front (first ∷ run) in
       record {
         streams = done.streams ++ s ∷ [];
-        held = done-push fs (names_in names) (first ∷ run) n part held lower own usable rises of_front sound parts done.streams front refl done.held below;
+        held = done-push fs done.streams done.held.walked (first ∷ run) n part held lower own usable rises run_is parts front refl done.held.each
+            done.held.records;
         names_are =
             more ∙ ap₂ (λ (a : List (List ℕ)) (b : List ℕ). a ++ b ∷ []) done.names_are held.name
             ∙ sym (map-append (λ (u : Stream). u.name) done.streams (s ∷ []));
@@ -163,7 +149,7 @@ pub order-from : (all : List Found) (at : ℕ) → Rises found_key all → All (
     Rises (λ (f : Found). stream_of f.holds) (drop at all)
 order-from all at order usable =
     let parted : all ≡ take at all ++ drop at all = sym (take-append-drop at all) in
-    streams-rise (drop at all) (Rises-parts found_key (take at all) (drop at all) (subst (Rises found_key) parted order)).1
+    streams-rise (λ (f : Found). f.holds) (drop at all) (Rises-parts found_key (take at all) (drop at all) (subst (Rises found_key) parted order)).1
     (all_behind (λ (f : Found). IsUsable f.holds) (take at all) (drop at all)
     (subst (AllByRecursion (λ (f : Found). IsUsable f.holds)) parted (recursion_from_All (λ (f : Found). IsUsable f.holds) all usable)))
 
@@ -203,7 +189,7 @@ module _ (all : List Found) (at len : ℕ) (names : List (List ℕ × StreamId))
   order-rest = (Rises-parts found_key (take at all) rest (subst (Rises found_key) parted run.order)).1
 
   next : IsNextRun rest len x
-  next = IsNextRun-from rest len x (let lt = run.within in omega (arith, lt, length-drop at all)) run.is (streams-rise rest order-rest usable-rest) run.front run.back
+  next = IsNextRun-from rest len x (let lt = run.within in omega (arith, lt, length-drop at all)) run.is (streams-rise (λ (f : Found). f.holds) rest order-rest usable-rest) run.front run.back
 
   run-usable : AllByRecursion (λ (f : Found). IsUsable f.holds) (x ∷ next.run)
   run-usable = subst (AllByRecursion (λ (f : Found). IsUsable f.holds)) next.split
@@ -211,7 +197,7 @@ module _ (all : List Found) (at len : ℕ) (names : List (List ℕ × StreamId))
       (subst (AllByRecursion (λ (f : Found). IsUsable f.holds)) (sym (take-append-drop len rest)) usable-rest))
 
   run-rises : Rises place_of (without_slots (x ∷ next.run))
-  run-rises = places-rise (stream_of x.holds) (x ∷ next.run)
+  run-rises = places-rise (λ (f : Found). f.holds) (stream_of x.holds) (x ∷ next.run)
       (subst (Rises found_key) next.split (Rises-parts found_key (take len rest) others (subst (Rises found_key) (sym (take-append-drop len rest)) order-rest)).0)
       next.own
 
@@ -248,15 +234,10 @@ module _ (all : List Found) (at len : ℕ) (names : List (List ℕ × StreamId))
         (AreDone-more names parts (take at all) run.to.done x next.run lower run-own run-usable run-rises new part
         (subst (λ fs. is_run (names_in names) (without_slots fs) ≡ true) next.split runs.0) runs.1 (subst (IsHeldOf part) next.split runs.2));
     below =
-        let P : Record → Type 0 = λ q. AllByRecursion (λ r. stream_of r < stream_of q) (without_slots (take at all ++ x ∷ next.run)) in
-        subst (λ fs. AreBefore (without_slots fs) (without_slots (drop (at + len) all))) (sym whole)
-        (subst (λ fs. AllByRecursion P (without_slots fs)) (drop-drop len at all)
-        (all_weaker (λ q. stream_of x.holds < stream_of q) P
-        (λ q more. subst (AllByRecursion (λ r. stream_of r < stream_of q)) (sym (map-append (λ (f : Found). f.holds) (take at all) (x ∷ next.run)))
-        (all_append (λ r. stream_of r < stream_of q) (without_slots (take at all)) (without_slots (x ∷ next.run))
-        (all_weaker (λ r. stream_of r < stream_of x.holds) (λ r. stream_of r < stream_of q) (λ r lt. omega (arith, lt, more)) (without_slots (take at all)) lower)
-        (all_weaker (λ r. stream_of r ≡ stream_of x.holds) (λ r. stream_of r < stream_of q) (λ r own. omega (arith, own, more))
-        (without_slots (x ∷ next.run)) run-own))) (without_slots others) above));
+        subst (λ rs. AreBefore rs (without_slots (drop (at + len) all)))
+        (sym (ap without_slots whole ∙ map-append (λ (f : Found). f.holds) (take at all) (x ∷ next.run)))
+        (subst (λ fs. AreBefore (without_slots (take at all) ++ without_slots (x ∷ next.run)) (without_slots fs)) (drop-drop len at all)
+        (AreBefore-run (without_slots (take at all)) (without_slots (x ∷ next.run)) (without_slots others) (stream_of x.holds) lower run-own above));
   }
 
   -- what is answered where the run isn't sound
@@ -272,44 +253,11 @@ module _ (all : List Found) (at len : ℕ) (names : List (List ℕ × StreamId))
   walk-refused new (BadSlot n) runs = absurd runs
   walk-refused new Disk runs = absurd runs
 
--- how many records streams have
-length-records : (ss : List Stream) → length (all_walked ss) ≡ live ss
-length-records [] = refl
-length-records (s ∷ ss) =
-    omega (
-      arith,
-      length-append (walked s) (all_walked ss),
-      length-append (marks_of s.number 1 s.landmarks) (map (window_record s.number) s.windows),
-      length-marks_of s.number 1 s.landmarks,
-      length-map s.windows (window_record s.number),
-      length-records ss,
-      sum_by-cons Streams.records_of s ss,
-    )
-
 -- at the end all streams are held
 pub AreBuilt-done : (names : List (List ℕ × StreamId)) (parts : List StreamParts) (all : List Found) (done : AreDone names parts all) →
-    HasDistinctNames names → length names ≤ MOST_STREAMS → length all ≤ MOST_RECORDS → AreBuilt parts done.streams all
-AreBuilt-done names parts all done distinct most few = record {
+    length all ≤ MOST_RECORDS → AreBuilt parts done.streams all
+AreBuilt-done names parts all done few = record {
   each = done.held.each;
   records = done.held.records;
-  state = record {
-    each = All-from_recursion IsStream done.streams done.held.sound;
-    numbers = increasing-Rise (λ (s : Stream). s.number) done.streams done.held.rise;
-    names = subst (IsDistinct same_name) done.names_are distinct;
-    few =
-        omega (
-          arith,
-          most,
-          length-map names (λ (n : List ℕ × StreamId). n.0),
-          length-map done.streams (λ (s : Stream). s.name),
-          ap (λ (ns : List (List ℕ)). length ns) done.names_are,
-        );
-    room = omega (
-      arith,
-      few,
-      length-records done.streams,
-      ap (λ (rs : List Record). length rs) done.held.order,
-      length-map all (λ (f : Found). f.holds),
-    );
-  };
+  state = IsState-walked (without_slots all) done.streams done.held.walked (omega (arith, few, length-map all (λ (f : Found). f.holds)));
 }

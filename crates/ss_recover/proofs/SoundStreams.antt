@@ -3,7 +3,7 @@ use Rattle.std.proofs.Common.{◌≡◌, ℕ, ◌+◌, ◌<◌, ◌≤◌, true,
 use Rattle.std.proofs.Common.{append_assoc, arith, length-append, IsPermutation, Bool}
 use Rattle.std.specs.Prelude.{◌==◌, count_by, nat_le, nat_lt, sum_by}
 use Rattle.std.specs.List.{AllByRecursion, IsDistinct, list_any}
-use Rattle.std.proofs.lemmas.Bool.{and_from, and_left, and_parts, eq-eqb, le-ltb, lt-ltb, ne_eqb, or_from}
+use Rattle.std.proofs.lemmas.Bool.{and_from, and_left, and_parts, eq-eqb, eqb-true, le-ltb, leb-true, ltb-true, lt-ltb, ne_eqb, or_from}
 use Rattle.std.proofs.lemmas.Bool.Decides.{nat_tests}
 use Rattle.std.proofs.lemmas.List.Folds.{list_any-append}
 use Rattle.std.proofs.lemmas.List.Sorted.{list_any-IsPermutation, sum_by-IsPermutation}
@@ -13,6 +13,7 @@ use Rattle.ss_catalog.specs.Names.{same_name}
 use Rattle.ss_catalog.specs.declared.TheConstants.{MOST_STREAMS}
 use Rattle.ss_windowing.specs.declared.decay.TheConstants.{MOST_VALUES}
 use Rattle.ss_model.proofs.NameLemmas.{same_name-swap}
+use Rattle.ss_summary.specs.Figures.{IsPossible}
 use Rattle.ss_model.specs.State.{Created}
 use Rattle.ss_model.specs.Tiling.{AreWindows, StandFrom}
 use Rattle.ss_model.specs.Windows.{taken}
@@ -20,20 +21,6 @@ use Rattle.ss_model.specs.declared.types.Window.{Window}
 use Rattle.ss_recover.specs.Conditions.{has_new_name, has_one_record, has_place, is_named_before, tile, tile_from, times_rise}
 use Rattle.ss_recover.proofs.InOrder.{Rise, Rise-split}
 use Rattle.ss_recover.proofs.Lists.{all-from_map, all_behind, all_weaker}
-
--- 1 at the streams of a number, and at those of lower numbers
-abbrev pub at : ℕ → Created → ℕ
-at number s = cond (s.number == number) 1 0
-
-abbrev pub lower : ℕ → Created → ℕ
-lower number s = cond (nat_lt s.number number) 1 0
-
--- where numbers rise, each is that of one stream, and where names differ, none is that of a stream of a lower number
-abbrev pub IsOnce : List Created → Created → Type 0
-IsOnce ss s = sum_by (at s.number) ss ≡ 1
-
-abbrev pub IsNew : List Created → Created → Type 0
-IsNew ss s = is_named_before ss s ≡ false
 
 abbrev digit : Bool → ℕ
 digit b = cond b 1 0
@@ -166,8 +153,8 @@ stands_alone-each ss rise distinct few = alone-each [] ss rise distinct few
 -- in any order too
 pub stands_alone-moved : (n : ℕ) (us vs : List Created) → IsPermutation us vs → stands_alone n us ≡ stands_alone n vs
 stands_alone-moved n us vs moved =
-    let one : has_one_record n us ≡ has_one_record n vs = ap (λ (k : ℕ). k == 1) (sym (sum_by-IsPermutation (at n) us vs moved)) in
-    let place : has_place n us ≡ has_place n vs = ap (λ (k : ℕ). nat_lt k MOST_STREAMS) (sym (sum_by-IsPermutation (lower n) us vs moved)) in
+    let one : has_one_record n us ≡ has_one_record n vs = ap (λ (k : ℕ). k == 1) (sym (sum_by-IsPermutation (λ (c : Created). digit (is_at n c)) us vs moved)) in
+    let place : has_place n us ≡ has_place n vs = ap (λ (k : ℕ). nat_lt k MOST_STREAMS) (sym (sum_by-IsPermutation (λ (c : Created). digit (is_below n c)) us vs moved)) in
     let before_same : (c : Created) → is_named_before us c ≡ is_named_before vs c = λ c. list_any-IsPermutation (before c) us vs moved in
     let new : has_new_name n us ≡ has_new_name n vs =
     ap not ((λ i. list_any (λ (c : Created). c.number == n && before_same c i) us) ∙ list_any-IsPermutation (named n vs) us vs moved) in
@@ -200,6 +187,36 @@ times_rise-StandFrom first time (w ∷ v ∷ ws) stand =
 
 pub times_rise-AreWindows : (ws : List Window) → AreWindows ws → times_rise ws ≡ true
 times_rise-AreWindows ws are = times_rise-StandFrom 1 0 ws are.stand
+
+-- and back: windows that tile, at rising times, from a time on
+abbrev BeginsFrom : ℕ → List Window → Type 0
+BeginsFrom time [] = Unit
+BeginsFrom time (w ∷ ws) = time ≤ w.summary.t_first
+
+StandFrom-tile : (first time : ℕ) (ws : List Window) → tile_from first ws ≡ true → times_rise ws ≡ true →
+    AllByRecursion (λ w. IsPossible w.summary) ws → BeginsFrom time ws → StandFrom first time ws
+StandFrom-tile first time [] tiles rising possible late = tt
+StandFrom-tile first time (w ∷ []) tiles rising possible late =
+    let parts = and_parts (w.first == first) _ tiles in
+    (eqb-true w.first first parts.0, possible.0, late, tt)
+StandFrom-tile first time (w ∷ v ∷ ws) tiles rising possible late =
+    let parts = and_parts (w.first == first) (tile_from (first + w.summary.count) (v ∷ ws)) tiles in
+    let times = and_parts (nat_lt w.summary.t_last v.summary.t_first) (times_rise (v ∷ ws)) rising in
+    let next : w.summary.t_last < v.summary.t_first = ltb-true w.summary.t_last v.summary.t_first times.0 in (
+      eqb-true w.first first parts.0,
+      possible.0,
+      late,
+      StandFrom-tile (first + w.summary.count) (w.summary.t_last + 1) (v ∷ ws) parts.1 times.1 possible.1 (omega arith),
+    )
+
+BeginsFrom-zero : (ws : List Window) → BeginsFrom 0 ws
+BeginsFrom-zero [] = tt
+BeginsFrom-zero (w ∷ ws) = omega arith
+
+pub AreWindows-tile : (ws : List Window) → tile ws ≡ true → times_rise ws ≡ true → AllByRecursion (λ w. IsPossible w.summary) ws → AreWindows ws
+AreWindows-tile ws tiles rising possible =
+    let parts = and_parts (tile_from 1 ws) (nat_le (taken ws) MOST_VALUES) tiles in
+    record { stand = StandFrom-tile 1 0 ws parts.0 rising possible (BeginsFrom-zero ws); few = leb-true (taken ws) MOST_VALUES parts.1 }
 
 -- and their first positions rise
 first-after : (first time : ℕ) (ws : List Window) → StandFrom first time ws → AllByRecursion (λ w. first ≤ w.first) ws

@@ -8,7 +8,8 @@ use Rattle.ss_recover.specs.Runs.{WalksAs}
 use Rattle.ss_recover.specs.Shown.{RunsAs}
 use Rattle.ss_recover.specs.Usable.{without_slots}
 use Rattle.ss_recover.specs.declared.found.Found.{Found}
-use Rattle.ss_recover.proofs.RunsDone.{AreBuilt-done, AreDone, AreDone-none, IsDoneTo, IsDoneTo-more, at-run, nothing-before, order-from, run-numbers, walk-refused}
+use Rattle.ss_recover.proofs.RunsDone.{AreBuilt-done, AreDone, AreDone-none, IsDoneTo, IsDoneTo-more, at-run, order-from, run-numbers, walk-refused}
+use Rattle.ss_recover.proofs.RunStream.{nothing-before}
 use Rattle.ss_recover.proofs.walking.streams_of.Goals as goal
 
 pub loop-at-init : goal.loop-at-init
@@ -81,4 +82,4 @@ returns g c =
     let all = c.args.all.now in
     let to = c.loop-at.invariant in
     let done = subst (AreDone c.loop-at.names c.loop-at.done.items) (take_all c.loop-at.at all c.loop-at-test.false) to.done in
-    (done.streams, AreBuilt-done c.loop-at.names c.loop-at.done.items all done c.len.ensures.distinct c.len.ensures.most c.requires.few)
+    (done.streams, AreBuilt-done c.loop-at.names c.loop-at.done.items all done c.requires.few)
