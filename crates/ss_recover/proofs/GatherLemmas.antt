@@ -30,7 +30,7 @@ use Rattle.ss_recover.specs.Rebuilt.{verdict_of_rebuild}
 use Rattle.ss_recover.specs.declared.recover_error.RecoverError.{RecoverError}
 use Rattle.ss_recover.specs.declared.recover_error.RecoverError.TheVariants.{BadSlot, BadStream, Disk, OutOfMemory}
 use Rattle.ss_recover.specs.Parts.{lowest_bad_slot}
-use Rattle.ss_recover.specs.Walk.{in_slot}
+use Rattle.ss_recover.specs.Usable.{in_slot}
 use Rattle.ss_recover.specs.declared.found.Found.{Found}
 use Rattle.ss_recover.proofs.HeldRecords.{decoded-free}
 use Rattle.ss_recover.proofs.Lists.{range_with_len-append}

@@ -1,6 +1,6 @@
 -- What is held is what the map carries.
 use Rattle.std.proofs.Common.{◌≡◌, ℕ, ◌≤◌, Bool, true, not, cond, List, [], ◌∷◌, filter, map, length, refl, sym, ap, ap₂, subst, ◌∙◌, arith}
-use Rattle.std.proofs.Common.{IsPermutation, None}
+use Rattle.std.proofs.Common.{IsPermutation, None, Option}
 use Rattle.std.specs.Prelude.{◌==◌, is_none, sum_by}
 use Rattle.std.specs.List.{AllByRecursion, IsDistinct, filter_map, list_all}
 use Rattle.std.specs.List.Sorted.{IsStrictlyIncreasing}
@@ -10,8 +10,10 @@ use Rattle.std.proofs.lemmas.List.Elements.{All-from_recursion, recursion_from_A
 use Rattle.std.proofs.lemmas.List.Sorted.{All-permutation}
 use Rattle.std.proofs.lemmas.List.Sums.{sum_by-cons}
 use Rattle.ss_catalog.specs.Names.{same_name}
+use Rattle.ss_catalog.specs.declared.TheConstants.{MOST_STREAMS}
 use Rattle.ss_journal.specs.Redo.{SlotMap}
 use Rattle.ss_codec.specs.declared.record.Record.{Record}
+use Rattle.ss_codec.specs.declared.record.Record.TheVariants.{Free}
 use Rattle.ss_model.specs.Marks.{lies_free}
 use Rattle.ss_model.specs.Standing.{IsState, IsStream}
 use Rattle.ss_model.specs.State.{Created, Stream, live, records_of}
@@ -25,9 +27,9 @@ use Rattle.ss_recover.specs.Parts.{carried, carries, judged, lowest_in, lowest_b
 use Rattle.ss_recover.specs.declared.parts.StreamParts.{StreamParts}
 use Rattle.ss_recover.proofs.HeldRecords.{every_slot_spells, made_of_records}
 use Rattle.ss_recover.proofs.InOrder.{Rise, Rise-increasing, in_order-IsPermutation}
-use Rattle.ss_recover.proofs.Lists.{all_both, filter_map-kept, kept, position-none, all-from_map, map-map}
+use Rattle.ss_recover.proofs.Lists.{all_both, all_weaker, filter_map-kept, kept, position-none, all-from_map, map-map}
 use Rattle.ss_recover.proofs.Marks.{are_marks-marks_of, in_order-marks_of, landmarks_made-marks_of, length-marks_of, marks_of}
-use Rattle.ss_recover.proofs.SoundStreams.{IsNew-each, IsOnce-each, Rise-AreWindows, has_new_name-moved, has_one_record-moved, has_place-moved}
+use Rattle.ss_recover.proofs.SoundStreams.{Rise-AreWindows, stands_alone, stands_alone-each, stands_alone-moved}
 use Rattle.ss_recover.proofs.SoundStreams.{tile-AreWindows, times_rise-AreWindows}
 use Rattle.ss_recover.proofs.HeldRecords.{HasOwn, HasOwn-each, all-number_of, all_walked, created, created-all_walked}
 
@@ -53,14 +55,9 @@ each-records_of [] most room = tt
 each-records_of (s ∷ ss) most room =
     let all = sum_by-cons records_of s ss in (omega (arith, all, room), each-records_of ss most (omega (arith, all, room)))
 
--- what is held over a map of whole slots
-module _ (parts : List StreamParts) (streams : List Stream) (found : SlotMap) (whole : HasWholeSlots found) (held : AreHeld parts streams found) where
-  abbrev records : List Record
-  records = records_in (spelled found)
-
-  state : IsState streams
-  state = held.state
-
+-- records of which is made what is made of those of streams
+module _ (streams : List Stream) (records : List Record) (state : IsState streams)
+    (made : (Y : Type 0) (f : Record → Option Y) → f Free ≡ None → IsPermutation (filter_map f (all_walked streams)) (filter_map f records)) where
   rise : Rise (λ (s : Stream). s.number) streams
   rise = Rise-increasing (λ (s : Stream). s.number) streams state.numbers
 
@@ -72,7 +69,7 @@ module _ (parts : List StreamParts) (streams : List Stream) (found : SlotMap) (w
   moved : IsPermutation (map created streams) (streams_created records)
   moved =
       subst (λ l. IsPermutation l (streams_created records)) (created-all_walked streams)
-      (made_of_records parts streams found whole held created_by refl)
+      (made Created created_by refl)
 
   each_is : AllByRecursion IsStream streams
   each_is = recursion_from_All IsStream streams state.each
@@ -84,7 +81,7 @@ module _ (parts : List StreamParts) (streams : List Stream) (found : SlotMap) (w
       (λ s has is.
       in_order-IsPermutation (λ (w : Window). w.first) (filter_map (window_of s.number) records) s.windows
       (subst (λ l. IsPermutation l (filter_map (window_of s.number) records)) has.windows
-      (made_of_records parts streams found whole held (window_of s.number) refl))
+      (made Window (window_of s.number) refl))
       (Rise-AreWindows s.windows is.windows))
       streams (HasOwn-each streams rise) each_is
 
@@ -94,7 +91,7 @@ module _ (parts : List StreamParts) (streams : List Stream) (found : SlotMap) (w
   marks_moved number =
       subst (λ l. IsPermutation l (filter (is_mark_of number) records)) (filter_map-kept (is_mark_of number) (all_walked streams))
       (subst (λ l. IsPermutation (filter_map (kept (is_mark_of number)) (all_walked streams)) l) (filter_map-kept (is_mark_of number) records)
-      (made_of_records parts streams found whole held (kept (is_mark_of number)) refl))
+      (made Record (kept (is_mark_of number)) refl))
 
   abbrev MarksAre : Stream → Type 0
   MarksAre s = marks_carried s.number records ≡ marks_of s.number 1 s.landmarks
@@ -116,61 +113,61 @@ module _ (parts : List StreamParts) (streams : List Stream) (found : SlotMap) (w
       (λ s both is. (both.0, ap landmarks_made both.1 ∙ landmarks_made-marks_of s.number s.landmarks is.landmarks)) streams
       (all_both Windows MarksAre Both (λ s windows marks. (windows, marks)) streams windows_are marks_are) each_is
 
-  streams_are : streams_carried records ≡ streams
+  pub streams_are : streams_carried records ≡ streams
   streams_are =
       ap (map (stream_carried records))
       (in_order-IsPermutation (λ (s : Created). s.number) (streams_created records) (map created streams) moved rise_created)
       ∙ map-stream_carried records streams carries_each
 
   -- the conditions
-  few : length (map created streams) ≤ 4096
+  few : length (map created streams) ≤ MOST_STREAMS
   few = omega (arith, state.few, length-map streams created)
 
-  once : AllByRecursion (λ (s : Stream). sum_by (λ (u : Created). cond (u.number == s.number) 1 0) (map created streams) ≡ 1) streams
-  once =
-      all-from_map (λ s. sum_by (λ (u : Created). cond (u.number == s.number) 1 0) (map created streams) ≡ 1) created streams
-      (IsOnce-each (map created streams) rise_created)
+  alone : AllByRecursion (λ (s : Stream). stands_alone s.number (streams_created records) ≡ true) streams
+  alone =
+      let names = subst (IsDistinct same_name) (sym (map-map (λ (s : Created). s.name) created streams)) state.names in
+      all-from_map (λ s. stands_alone s.number (streams_created records) ≡ true) created streams
+      (all_weaker (λ s. stands_alone s.number (map created streams) ≡ true) (λ s. stands_alone s.number (streams_created records) ≡ true)
+      (λ s is. sym (stands_alone-moved s.number (map created streams) (streams_created records) moved) ∙ is) (map created streams)
+      (stands_alone-each (map created streams) rise_created names few))
 
   sound : AllByRecursion (λ s. is_sound records s.number ≡ true) streams
   unfolding is_sound
   sound =
-      let names = subst (IsDistinct same_name) (sym (map-map (λ (s : Created). s.name) created streams)) state.names in
-      let new = IsNew-each (map created streams) rise_created names in
-      let Once : Stream → Type 0 = λ s. sum_by (λ (u : Created). cond (u.number == s.number) 1 0) (map created streams) ≡ 1 in
+      let Alone : Stream → Type 0 = λ s. stands_alone s.number (streams_created records) ≡ true in
       let Both : Stream → Type 0 = λ s. Carries records s × MarksAre s in
       let All : Stream → Type 0 = λ s. Both s × IsStream s in
-      all_both Once All (λ s. is_sound records s.number ≡ true)
+      all_both Alone All (λ s. is_sound records s.number ≡ true)
       (λ s one all.
-      let created_here = streams_created records in
       let windows = all.0.0.0 in
       let landmarks = all.0.0.1 in
-      let a = has_one_record-moved (map created streams) created_here moved s.number one in
-      let b = has_place-moved (map created streams) created_here moved s.number one few in
-      let c = has_new_name-moved (map created streams) created_here moved s.number new in
       let d : tile (windows_carried s.number records) ≡ true = ap tile windows ∙ tile-AreWindows s.windows all.1.windows in
       let e : times_rise (windows_carried s.number records) ≡ true = ap times_rise windows ∙ times_rise-AreWindows s.windows all.1.windows in
       let f : are_marks (marks_carried s.number records) ≡ true = ap are_marks all.0.1 ∙ are_marks-marks_of s.number s.landmarks all.1.landmarks in
       let g : list_all (lies_free (landmarks_made (marks_carried s.number records))) (windows_carried s.number records) ≡ true =
       ap₂ (λ ls ws. list_all (lies_free ls) ws) landmarks windows ∙ all.1.free in
-      and_from _ _ (and_from _ _ (and_from _ _ (and_from _ _ (and_from _ _ (and_from _ _ a b) c) d) e) f) g)
-      streams once
+      and_from _ _ (and_from _ _ (and_from _ _ (and_from _ _ one d) e) f) g)
+      streams alone
       (all_both Both IsStream All (λ s both is. (both, is)) streams
       (all_both (Carries records) MarksAre Both (λ s carries marks. (carries, marks)) streams carries_each marks_are) each_is)
 
-  none_bad : lowest_bad_stream records ≡ None
+  pub none_bad : lowest_bad_stream records ≡ None
   none_bad =
       let numbers = filter_map stream_number records in
       let P : ℕ → Type 0 = λ number. is_sound records number ≡ true in
       let all : AllByRecursion P numbers =
       recursion_from_All P numbers
-      (All-permutation P (filter_map stream_number (all_walked streams)) numbers (made_of_records parts streams found whole held stream_number refl)
+      (All-permutation P (filter_map stream_number (all_walked streams)) numbers (made ℕ stream_number refl)
       (All-from_recursion P (filter_map stream_number (all_walked streams)) (all-number_of P streams sound))) in
       ap lowest_in (filter-sound (is_sound records) numbers all)
 
-  pub carried-AreHeld : carried found ≡ carries streams
-  unfolding carried
-  carried-AreHeld =
-      let slot : lowest_bad_slot (spelled found) ≡ None = position-none is_none (spelled found) (every_slot_spells parts streams found whole held) in
-      ap (λ o. judged o (lowest_bad_stream records) (streams_carried records)) slot
-      ∙ ap (λ o. judged None o (streams_carried records)) none_bad
-      ∙ ap (judged None None) streams_are
+-- what is held over a map of whole slots
+pub carried-AreHeld : (parts : List StreamParts) (streams : List Stream) (found : SlotMap) → HasWholeSlots found → AreHeld parts streams found →
+    carried found ≡ carries streams
+unfolding carried
+carried-AreHeld parts streams found whole held =
+    let rs = records_in (spelled found) in
+    let slot : lowest_bad_slot (spelled found) ≡ None = position-none is_none (spelled found) (every_slot_spells parts streams found whole held) in
+    ap (λ o. judged o (lowest_bad_stream rs) (streams_carried rs)) slot
+    ∙ ap (λ o. judged None o (streams_carried rs)) (none_bad streams rs held.state (λ Y f free. made_of_records parts streams found whole held f free))
+    ∙ ap (judged None None) (streams_are streams rs held.state (λ Y f free. made_of_records parts streams found whole held f free))

@@ -1,9 +1,10 @@
 -- The records of streams, as a walk takes them and as they are held, and those that the slots of a map spell.
 use Rattle.std.proofs.Common.{◌≡◌, ◌∙◌, ℕ, ◌<◌, false, List, [], ◌∷◌, ◌++◌, map, filter, flat_map, Option, None, refl, ap, ap₂, arith, append-nil, true, ◌||◌}
-use Rattle.std.proofs.Common.{length, replicate, sym, subst, inl, inr, IsPermutation, Some}
+use Rattle.std.proofs.Common.{append_assoc, length, replicate, sym, subst, inl, inr, IsPermutation, Some}
 use Rattle.std.specs.Prelude.{◌==◌, is_none, zip}
 use Rattle.std.specs.List.{AllByRecursion, filter_map, cons_option, list_any, range_with_len}
 use Rattle.std.proofs.lemmas.Bool.{eq-eqb, ne_eqb, cases_Bool}
+use Rattle.std.proofs.lemmas.List.Concat.{flat_map-append}
 use Rattle.std.proofs.lemmas.List.Elements.{filter-append, filter_map-append}
 use Rattle.ss_codec.specs.declared.record.Record.{Record}
 use Rattle.ss_codec.specs.declared.record.Record.TheVariants as records
@@ -13,9 +14,9 @@ use Rattle.ss_recover.specs.Carried.{created_by, is_mark_of, window_of, stream_n
 use Rattle.ss_recover.specs.Held.{stream_record, window_record, AllAgree, AreHeld, Agrees, HasWholeSlots, all_value_records, entries_of, landmark_records}
 use Rattle.ss_recover.specs.Held.{marks_held, mark_slots, slots_held, window_slots, occupied, records_held, span_held, span_of}
 use Rattle.ss_recover.specs.Order.{stream_of}
-use Rattle.ss_recover.proofs.InOrder.{Rise}
+use Rattle.ss_recover.proofs.InOrder.{Rise, Rise-split}
 use Rattle.ss_recover.proofs.Lists.{all_append, all_weaker, map-map, range-within}
-use Rattle.ss_recover.proofs.Marks.{each-mark_of, marks_of, other-marks, own-marks, length-all_value_records, length-landmark_records, IsPermutation-walked}
+use Rattle.ss_recover.proofs.Marks.{each-mark_of, marks_of, own-marks, length-all_value_records, length-landmark_records, IsPermutation-walked}
 use Rattle.std.proofs.lemmas.List.{length-map, map-append, length-append}
 use Rattle.std.proofs.lemmas.List.Sorted.{IsPermutation-map, list_any-IsPermutation, IsPermutation-refl, IsPermutation-trans}
 use Rattle.ss_journal.specs.Redo.{SlotMap, zeros}
@@ -28,6 +29,7 @@ use Rattle.ss_landmarks.specs.Landmark.{all_values}
 use Rattle.ss_line.specs.declared.entry.Entry.{Entry}
 use Rattle.ss_recover.specs.Parts.{records_in}
 use Rattle.ss_recover.specs.declared.parts.StreamParts.{StreamParts}
+use Rattle.ss_recover.proofs.RunSound.{marks-own, windows-own}
 use Rattle.ss_recover.proofs.Occupied.{filled, filled-live, filled-zeros}
 use Rattle.ss_recover.proofs.Permutations.{IsPermutation-filter_map, IsPermutation-append_both}
 use Rattle.std.proofs.lemmas.Slice.Zip.{seconds-zip}
@@ -71,10 +73,6 @@ pub own-windows : (number : ℕ) (ws : List Window) → filter_map (window_of nu
 own-windows number [] = refl
 own-windows number (w ∷ ws) = rw (eq-eqb number number refl) (ap (λ l. w ∷ l) (own-windows number ws))
 
-other-windows : (number other : ℕ) (ws : List Window) → (other == number) ≡ false → filter_map (window_of number) (map (window_record other) ws) ≡ []
-other-windows number other [] apart = refl
-other-windows number other (w ∷ ws) apart = rw apart (other-windows number other ws apart)
-
 windows-walked : (number : ℕ) (s : Stream) → filter_map (window_of number) (walked s) ≡ filter_map (window_of number) (map (window_record s.number) s.windows)
 windows-walked number s =
     filter_map-append (window_of number) (marks_of s.number 1 s.landmarks) (map (window_record s.number) s.windows)
@@ -97,53 +95,6 @@ pub record HasOwn (ss : List Stream) (s : Stream) : Type 0 where
   pub windows : filter_map (window_of s.number) (all_walked ss) ≡ s.windows
   pub marks : filter (is_mark_of s.number) (all_walked ss) ≡ marks_of s.number 1 s.landmarks
 
--- none is of another number
-pub windows-others : (number : ℕ) (ss : List Stream) → AllByRecursion (λ s. s.number ≡ number → ⊥) ss → filter_map (window_of number) (all_walked ss) ≡ []
-windows-others number [] apart = refl
-windows-others number (s ∷ ss) apart =
-    filter_map-append (window_of number) (walked s) (all_walked ss)
-    ∙ ap₂ ◌++◌ (windows-walked number s ∙ other-windows number s.number s.windows (ne_eqb s.number number apart.0)) (windows-others number ss apart.1)
-
-pub marks-others : (number : ℕ) (ss : List Stream) → AllByRecursion (λ s. s.number ≡ number → ⊥) ss → filter (is_mark_of number) (all_walked ss) ≡ []
-marks-others number [] apart = refl
-marks-others number (s ∷ ss) apart =
-    filter-append (is_mark_of number) (walked s) (all_walked ss)
-    ∙ ap₂ ◌++◌ (marks-walked number s ∙ other-marks number s.number 1 s.landmarks (ne_eqb s.number number apart.0)) (marks-others number ss apart.1)
-
-above-apart : (number : ℕ) (ss : List Stream) → AllByRecursion (λ s. number < s.number) ss → AllByRecursion (λ s. s.number ≡ number → ⊥) ss
-above-apart number [] above = tt
-above-apart number (s ∷ ss) above = let first = above.0 in ((λ same. absurd (omega (arith, same, first))), above-apart number ss above.1)
-
-pub HasOwn-each : (ss : List Stream) → Rise (λ s. s.number) ss → AllByRecursion (HasOwn ss) ss
-HasOwn-each [] rise = tt
-HasOwn-each (s ∷ ss) rise =
-    let apart = above-apart s.number ss rise.0 in
-    let first : HasOwn (s ∷ ss) s = record {
-      windows =
-          filter_map-append (window_of s.number) (walked s) (all_walked ss)
-          ∙ ap₂ ◌++◌ (windows-walked s.number s ∙ own-windows s.number s.windows) (windows-others s.number ss apart) ∙ append-nil s.windows;
-      marks =
-          filter-append (is_mark_of s.number) (walked s) (all_walked ss)
-          ∙ ap₂ ◌++◌ (marks-walked s.number s ∙ own-marks s.number 1 s.landmarks) (marks-others s.number ss apart)
-          ∙ append-nil (marks_of s.number 1 s.landmarks);
-    } in
-    (first, go ss rise.0 (HasOwn-each ss rise.1))
-  where
-    go : (us : List Stream) → AllByRecursion (λ u. s.number < u.number) us → AllByRecursion (HasOwn ss) us → AllByRecursion (HasOwn (s ∷ ss)) us
-    go [] above has = tt
-    go (u ∷ us) above has =
-        let greater = above.0 in
-        let apart : (s.number == u.number) ≡ false = ne_eqb s.number u.number (λ same. absurd (omega (arith, same, greater))) in
-        let here : HasOwn (s ∷ ss) u = record {
-          windows =
-              filter_map-append (window_of u.number) (walked s) (all_walked ss)
-              ∙ ap₂ ◌++◌ (windows-walked u.number s ∙ other-windows u.number s.number s.windows apart) has.0.windows;
-          marks =
-              filter-append (is_mark_of u.number) (walked s) (all_walked ss)
-              ∙ ap₂ ◌++◌ (marks-walked u.number s ∙ other-marks u.number s.number 1 s.landmarks apart) has.0.marks;
-        } in
-        (here, go us above.1 has.1)
-
 -- each is of the number of its stream
 pub all-own : (P : ℕ → Type 0) (s : Stream) → P s.number → AllByRecursion (λ r. P (stream_of r)) (walked s)
 all-own P s own = (
@@ -159,6 +110,30 @@ all-own P s own = (
 pub all-all_walked : (P : ℕ → Type 0) (ss : List Stream) → AllByRecursion (λ s. P s.number) ss → AllByRecursion (λ r. P (stream_of r)) (all_walked ss)
 all-all_walked P [] all = tt
 all-all_walked P (s ∷ ss) all = all_append (λ r. P (stream_of r)) (walked s) (all_walked ss) (all-own P s all.0) (all-all_walked P ss all.1)
+
+-- those of lower and of greater numbers are of other streams
+own-each : (xs ys : List Stream) → Rise (λ s. s.number) (xs ++ ys) → AllByRecursion (HasOwn (xs ++ ys)) ys
+own-each xs [] rise = tt
+own-each xs (y ∷ ys) rise =
+    let parts = Rise-split (λ (s : Stream). s.number) xs y ys rise in
+    let before = all-all_walked (λ n. n < y.number) xs parts.0 in
+    let own = all-own (λ n. n ≡ y.number) y refl in
+    let behind = all-all_walked (λ n. y.number < n) ys parts.1 in
+    let whole : all_walked (xs ++ y ∷ ys) ≡ all_walked xs ++ (walked y ++ all_walked ys) = flat_map-append walked xs (y ∷ ys) in
+    let same : xs ++ y ∷ ys ≡ (xs ++ y ∷ []) ++ ys = sym (append_assoc xs (y ∷ []) ys) in (
+      record {
+        windows =
+            ap (filter_map (window_of y.number)) whole ∙ windows-own (all_walked xs) (walked y) (all_walked ys) y.number before own behind
+            ∙ windows-walked y.number y ∙ own-windows y.number y.windows;
+        marks =
+            ap (filter (is_mark_of y.number)) whole ∙ marks-own (all_walked xs) (walked y) (all_walked ys) y.number before own behind
+            ∙ marks-walked y.number y ∙ own-marks y.number 1 y.landmarks;
+      },
+      subst (λ ss. AllByRecursion (HasOwn ss) ys) (sym same) (own-each (xs ++ y ∷ []) ys (subst (Rise (λ s. s.number)) same rise)),
+    )
+
+pub HasOwn-each : (ss : List Stream) → Rise (λ s. s.number) ss → AllByRecursion (HasOwn ss) ss
+HasOwn-each ss rise = own-each [] ss rise
 
 pub all-number_of : (P : ℕ → Type 0) (ss : List Stream) → AllByRecursion (λ s. P s.number) ss → AllByRecursion P (filter_map stream_number (all_walked ss))
 all-number_of P ss all = go (all_walked ss) (all-all_walked P ss all)

@@ -1,5 +1,5 @@
 -- A list in the order of its keys: where its elements are those of a list whose keys rise, it is that list.
-use Rattle.std.proofs.Common.{◌≡◌, ℕ, ◌+◌, ◌<◌, ◌≤◌, true, false, zero, suc, cond, List, [], ◌∷◌, map, refl, ap, arith, IsPermutation}
+use Rattle.std.proofs.Common.{◌≡◌, ℕ, ◌+◌, ◌<◌, ◌≤◌, true, false, zero, suc, cond, List, [], ◌∷◌, ◌++◌, map, refl, ap, arith, IsPermutation}
 use Rattle.std.specs.Prelude.{nat_le, nat_lt, sum_by}
 use Rattle.std.specs.List.{AllByRecursion, AllPairs}
 use Rattle.std.specs.List.Sorted.{IsStrictlyIncreasing}
@@ -10,6 +10,7 @@ use Rattle.std.proofs.lemmas.List.Kept.{AllPairs-from_increasing}
 use Rattle.std.proofs.lemmas.List.Sorted.{IsPermutation-refl, IsPermutation-trans, IsPermutation-cons, All-permutation, sum_by-IsPermutation}
 use Rattle.std.proofs.lemmas.List.Sums.{sum_by-cons}
 use Rattle.ss_recover.specs.Carried.{put_in_order, in_order}
+use Rattle.ss_recover.proofs.Lists.{all_behind}
 pub use Rattle.ss_recover.proofs.Lists.{all_weaker}
 use Rattle.ss_recover.proofs.Permutations.{IsPermutation-turn}
 use Rattle.ss_recover.specs.Order.{Rises}
@@ -128,6 +129,14 @@ module _ {X : Type 0} (key : X → ℕ) where
       (λ f. sum_by-IsPermutation f ys (in_order key xs) all_moved)
       (recursion_from_All (AreThose ys) (in_order key xs)
       (All-permutation (AreThose ys) ys (in_order key xs) all_moved (All-from_recursion (AreThose ys) ys (AreThose-Rise ys rise))))
+
+  -- what comes before and after an element
+  pub Rise-split : (xs : List X) (y : X) (ys : List X) → Rise (xs ++ y ∷ ys) →
+      AllByRecursion (λ x. key x < key y) xs × AllByRecursion (λ x. key y < key x) ys
+  Rise-split [] y ys rise = (tt, rise.0)
+  Rise-split (x ∷ xs) y ys rise =
+      let rest = Rise-split xs y ys rise.1 in
+      (((all_behind (λ z. key x < key z) xs (y ∷ ys) rise.0).0, rest.0), rest.1)
 
   -- keys that rise from each to the next
   Rise-pairs : (xs : List X) → AllPairs (λ m n. m < n) (map key xs) → Rise xs

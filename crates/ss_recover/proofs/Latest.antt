@@ -8,7 +8,6 @@ use Rattle.std.proofs.lemmas.List.Sums.{fold-append}
 use Rattle.ss_landmarks.specs.Landmark.{Landmark, LandmarkValue, change_last, closed_at, opened_at, with_value}
 use Rattle.ss_landmarks.specs.Order.{AllEndBy, EndsBy}
 use Rattle.ss_model.specs.Marks.{later, latest_in, latest_of}
-use Rattle.ss_recover.specs.Walk.{IsAfter}
 use Rattle.ss_recover.proofs.Lists.{all_weaker, all-from_map, map-all}
 
 -- the greatest of some times
@@ -132,12 +131,12 @@ pub latest_of-value : (value : LandmarkValue) (last : ℕ) (ls : List Landmark) 
 latest_of-value value last ls is le = latest_of-change (with_value value) value.t
     (λ l by. latest_in-value l value (EndsBy-latest_in l value.t by)) last ls is le
 
-later-after : (t : ℕ) (o : Option ℕ) (first : ℕ) → IsAfter (later (Some first) o) t → (first < t) × IsAfter o t
+later-after : (t : ℕ) (o : Option ℕ) (first : ℕ) → IfSome (later (Some first) o) (λ last. last < t) → (first < t) × IfSome o (λ last. last < t)
 later-after t None first after = (after, tt)
 later-after t (Some u) first after = (omega (arith, after), omega (arith, after))
 
 -- one more that opens after all of them
-pub latest_of-opened : (t : ℕ) (ls : List Landmark) → IsAfter (latest_of ls) t → latest_of (ls ++ opened_at t ∷ []) ≡ Some t
+pub latest_of-opened : (t : ℕ) (ls : List Landmark) → IfSome (latest_of ls) (λ last. last < t) → latest_of (ls ++ opened_at t ∷ []) ≡ Some t
 latest_of-opened t [] after = refl
 latest_of-opened t (l ∷ ls) after =
     let both = later-after t (latest_of ls) (latest_in l) after in

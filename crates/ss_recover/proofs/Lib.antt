@@ -9,11 +9,6 @@ pub mod PutLemmas
 pub mod WholeSlots
 pub mod HeldRecords
 pub mod SoundStreams
-pub mod WalkLemmas
-pub mod SoundInOrder
-pub mod WalkSteps
-pub mod Refusals
-pub mod Built
 pub mod GatherLemmas
 pub mod Unordered
 pub mod RebuiltParts
@@ -21,8 +16,13 @@ pub mod HeldLemmas
 pub mod ValidRecords
 pub mod CarriedStates
 pub mod Latest
-pub mod WalkCode
-pub mod Phases
-pub mod WalkCurrent
-pub mod WalkClosed
+pub mod RunLaws
+pub mod RunSound
+pub mod RunMarks
+pub mod RunSteps
+pub mod RunOrder
+pub mod RunWalk
+pub mod RunStream
+pub mod RunHeld
+pub mod RunsDone
 mod Rows

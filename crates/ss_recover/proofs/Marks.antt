@@ -346,14 +346,9 @@ pub in_order-marks_of : (number n : ℕ) (ls : List Landmark) (rs : List Record)
     length (marks_of number n ls) < 2 ^ 32 → in_order place_of rs ≡ marks_of number n ls
 in_order-marks_of number n ls rs moved few = in_order-IsPermutation place_of rs (marks_of number n ls) moved (Rise-marks_of number n ls few)
 
--- each is one of the stream of its number, and of no other
+-- each is one of the stream of its number
 pub own-marks : (number n : ℕ) (ls : List Landmark) → filter (is_mark_of number) (marks_of number n ls) ≡ marks_of number n ls
 own-marks number n ls =
     let same = eq-eqb number number refl in
     filter-all (is_mark_of number) (marks_of number n ls)
     (each-mark_of (λ r. is_mark_of number r ≡ true) number (λ n values start finish. same) (λ n index t v. same) n ls)
-
-pub other-marks : (number other n : ℕ) (ls : List Landmark) → (other == number) ≡ false → filter (is_mark_of number) (marks_of other n ls) ≡ []
-other-marks number other n ls apart =
-    filter-none (is_mark_of number) (marks_of other n ls)
-    (each-mark_of (λ r. is_mark_of number r ≡ false) other (λ n values start finish. apart) (λ n index t v. apart) n ls)

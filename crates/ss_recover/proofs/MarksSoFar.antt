@@ -21,7 +21,7 @@ use Rattle.ss_recover.specs.Marked.{Marked, are_marks, has_said, is_closed_befor
 use Rattle.ss_recover.specs.Marked.{landmarks_made, marked_by, marked_on, marked_with, nothing_marked}
 use Rattle.ss_recover.proofs.Lists.{all_weaker, each-list_all}
 use Rattle.ss_recover.proofs.Marks.{marks_of, marks_of-append, value_records-append}
-use Rattle.ss_recover.specs.Walk.{IsTimed, IsUsable}
+use Rattle.ss_recover.specs.Usable.{IsTimed, IsUsable}
 pub use Rattle.ss_recover.proofs.Latest.{latest_in-closed, latest_in-value, latest_of-last}
 
 -- and back: records of landmarks with all their values are those of the landmarks that they make
@@ -264,17 +264,6 @@ AreOf-are_marks number rs own usable are = go (marked_by rs) refl are
 pub marked-more : (rs : List Record) (r : Record) (m next : Marked) → marked_by rs ≡ Some m → marked_with m r ≡ Some next → marked_by (rs ++ r ∷ []) ≡ Some next
 marked-more rs r m next by with_r =
     fold-append marked_on (Some nothing_marked) rs (r ∷ []) ∙ ap (λ o. marked_on o r) by ∙ with_r
-
--- a record that may not come after those before it makes none of all
-pub not-marks : (rs : List Record) (r : Record) (rest : List Record) (m : Marked) → marked_by rs ≡ Some m → marked_with m r ≡ None →
-    are_marks (rs ++ r ∷ rest) ≡ false
-not-marks rs r rest m by none =
-    ap (λ o. option_map_or has_all_values o false)
-    (fold-append marked_on (Some nothing_marked) rs (r ∷ rest) ∙ ap (λ o. fold marked_on (marked_on o r) rest) by ∙ ap (λ o. fold marked_on o rest) none
-    ∙ marked_on-none rest)
-
-pub marks-whole : (rs : List Record) (m : Marked) (b : Bool) → marked_by rs ≡ Some m → has_all_values m ≡ b → are_marks rs ≡ b
-marks-whole rs m b by whole = ap (λ o. option_map_or has_all_values o false) by ∙ whole
 
 pub marks-made : (rs : List Record) (m : Marked) → marked_by rs ≡ Some m → landmarks_made rs ≡ landmarks_in m
 marks-made rs m by = ap (λ o. option_map_or landmarks_in o []) by

@@ -37,7 +37,8 @@ use Rattle.ss_recover.specs.Order.{found_key, key_of, place_of}
 use Rattle.ss_recover.specs.Parts.{bad_slot, bad_stream, carried, judged, lowest_in, lowest_bad_slot, lowest_bad_stream, records_in, streams_carried}
 use Rattle.ss_outside.specs.Verdict.{Verdict, fine, refused, no_memory}
 use Rattle.ss_recover.specs.Rebuilt.{RebuildsAs, verdict_of_rebuild}
-use Rattle.ss_recover.specs.Walk.{IsLowestUnsound, IsUsable, WalksAs, in_slot, without_slots}
+use Rattle.ss_recover.specs.Runs.{IsLowestUnsound, WalksAs}
+use Rattle.ss_recover.specs.Usable.{IsUsable, in_slot, without_slots}
 use Rattle.ss_recover.specs.declared.found.Found.{Found}
 use Rattle.ss_recover.specs.declared.parts.Parts.{Parts}
 use Rattle.ss_recover.specs.declared.parts.StreamParts.{StreamParts}
@@ -64,7 +65,7 @@ made-found f free found all whole are =
     ∙ ap (λ (es : List (ℕ × Option Record)). filter_map f (records_in (map (λ e. e.1) es))) (sym are.occupied_by)
     ∙ ap (filter_map f) (records_in-found all)
 
-is_sound-made : (rs us : List Record) (n : ℕ) → streams_created rs ≡ streams_created us → filter_map (window_of n) rs ≡ filter_map (window_of n) us →
+pub is_sound-made : (rs us : List Record) (n : ℕ) → streams_created rs ≡ streams_created us → filter_map (window_of n) rs ≡ filter_map (window_of n) us →
     filter (is_mark_of n) rs ≡ filter (is_mark_of n) us → is_sound rs n ≡ is_sound us n
 unfolding is_sound
 is_sound-made rs us n created windows marks =

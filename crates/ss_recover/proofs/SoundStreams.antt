@@ -1,129 +1,164 @@
 -- The streams of a state meet the conditions that records have to meet.
-use Rattle.std.proofs.Common.{◌≡◌, ℕ, ◌+◌, ◌<◌, ◌≤◌, true, false, not, ◌&&◌, cond, List, [], ◌∷◌, length, map, refl, sym, ap, ◌∙◌, arith, IsPermutation, Bool}
-use Rattle.std.specs.Prelude.{◌==◌, nat_le, nat_lt, sum_by}
+use Rattle.std.proofs.Common.{◌≡◌, ℕ, ◌+◌, ◌<◌, ◌≤◌, true, false, not, ◌&&◌, ◌||◌, cond, List, [], ◌∷◌, ◌++◌, length, map, refl, sym, ap, ap₂, subst, ◌∙◌}
+use Rattle.std.proofs.Common.{append_assoc, arith, length-append, IsPermutation, Bool}
+use Rattle.std.specs.Prelude.{◌==◌, count_by, nat_le, nat_lt, sum_by}
 use Rattle.std.specs.List.{AllByRecursion, IsDistinct, list_any}
-use Rattle.std.proofs.lemmas.Bool.{and_from, or_from, and_parts}
+use Rattle.std.proofs.lemmas.Bool.{and_from, and_left, and_parts, eq-eqb, eqb-true, le-ltb, leb-true, ltb-true, lt-ltb, ne_eqb, or_from}
 use Rattle.std.proofs.lemmas.Bool.Decides.{nat_tests}
+use Rattle.std.proofs.lemmas.List.Folds.{list_any-append}
 use Rattle.std.proofs.lemmas.List.Sorted.{list_any-IsPermutation, sum_by-IsPermutation}
-use Rattle.std.proofs.lemmas.List.Sums.{sum_by-cons}
+use Rattle.std.proofs.lemmas.List.Sums.{sum_by-append, sum_by-cons}
 use Rattle.std.proofs.lemmas.Map.Keys.{IsDistinct-head, IsDistinct-tail}
 use Rattle.ss_catalog.specs.Names.{same_name}
 use Rattle.ss_catalog.specs.declared.TheConstants.{MOST_STREAMS}
 use Rattle.ss_windowing.specs.declared.decay.TheConstants.{MOST_VALUES}
+use Rattle.ss_model.proofs.NameLemmas.{same_name-swap}
+use Rattle.ss_summary.specs.Figures.{IsPossible}
 use Rattle.ss_model.specs.State.{Created}
 use Rattle.ss_model.specs.Tiling.{AreWindows, StandFrom}
 use Rattle.ss_model.specs.Windows.{taken}
 use Rattle.ss_model.specs.declared.types.Window.{Window}
 use Rattle.ss_recover.specs.Conditions.{has_new_name, has_one_record, has_place, is_named_before, tile, tile_from, times_rise}
-use Rattle.ss_recover.proofs.InOrder.{Rise}
-use Rattle.ss_recover.proofs.Lists.{all_weaker}
+use Rattle.ss_recover.proofs.InOrder.{Rise, Rise-split}
+use Rattle.ss_recover.proofs.Lists.{all-from_map, all_behind, all_weaker}
 
--- 1 at the streams of a number, and at those of lower numbers
-abbrev pub at : ℕ → Created → ℕ
-at number s = cond (s.number == number) 1 0
+abbrev digit : Bool → ℕ
+digit b = cond b 1 0
 
-abbrev pub lower : ℕ → Created → ℕ
-lower number s = cond (nat_lt s.number number) 1 0
+abbrev is_at : ℕ → Created → Bool
+is_at n c = c.number == n
 
-at-other : (number : ℕ) (s : Created) → number < s.number → at number s ≡ 0
-at-other number s above = grind (arith, nat_tests)
+abbrev is_below : ℕ → Created → Bool
+is_below n c = nat_lt c.number n
 
-none-at : (number : ℕ) (ss : List Created) → AllByRecursion (λ s. number < s.number) ss → sum_by (at number) ss ≡ 0
-none-at number [] above = refl
-none-at number (s ∷ ss) above = omega (arith, sum_by-cons (at number) s ss, at-other number s above.0, none-at number ss above.1)
+-- how many pass a test that all pass, or none does
+count-none : (p : Created → Bool) (cs : List Created) → AllByRecursion (λ c. p c ≡ false) cs → count_by p cs ≡ 0
+count-none p [] none = refl
+count-none p (c ∷ cs) none = omega (arith, sum_by-cons (λ (x : Created). digit (p x)) c cs, ap digit none.0, count-none p cs none.1)
 
-at-same : (number : ℕ) (s : Created) → s.number ≡ number → at number s ≡ 1
-at-same number s same = grind (arith, nat_tests)
+count-all : (p : Created → Bool) (cs : List Created) → AllByRecursion (λ c. p c ≡ true) cs → count_by p cs ≡ length cs
+count-all p [] all = refl
+count-all p (c ∷ cs) all = omega (arith, sum_by-cons (λ (x : Created). digit (p x)) c cs, ap digit all.0, count-all p cs all.1)
 
--- where numbers rise, each is that of one stream
-abbrev pub IsOnce : List Created → Created → Type 0
-IsOnce ss s = sum_by (at s.number) ss ≡ 1
+none-passes : (p : Created → Bool) (cs : List Created) → AllByRecursion (λ c. p c ≡ false) cs → list_any p cs ≡ false
+none-passes p [] all = refl
+none-passes p (c ∷ cs) all = or_from (p c) (list_any p cs) all.0 (none-passes p cs all.1)
 
-pub IsOnce-each : (ss : List Created) → Rise (λ s. s.number) ss → AllByRecursion (IsOnce ss) ss
-IsOnce-each [] rise = tt
-IsOnce-each (s ∷ ss) rise =
-    let first : IsOnce (s ∷ ss) s = omega (arith, sum_by-cons (at s.number) s ss, at-same s.number s refl, none-at s.number ss rise.0) in
-    (first, go ss rise.0 (IsOnce-each ss rise.1))
-  where
-    lower-not_at : (u : Created) → s.number < u.number → at u.number s ≡ 0
-    lower-not_at u above = grind (arith, nat_tests)
+-- a stream of a number whose name one before it has, and one before it that has its name
+abbrev named : ℕ → List Created → Created → Bool
+named n all o = o.number == n && is_named_before all o
 
-    go : (us : List Created) → AllByRecursion (λ u. s.number < u.number) us → AllByRecursion (IsOnce ss) us → AllByRecursion (IsOnce (s ∷ ss)) us
-    go [] above once = tt
-    go (u ∷ us) above once =
-        let here : IsOnce (s ∷ ss) u = omega (arith, sum_by-cons (at u.number) s ss, lower-not_at u above.0, once.0) in
-        (here, go us above.1 once.1)
+abbrev before : Created → Created → Bool
+before c o = nat_lt o.number c.number && same_name o.name c.name
 
--- a stream isn't lower than itself
-at-lower : (number : ℕ) (s : Created) → at number s + lower number s ≤ 1
-at-lower number s = grind (arith, nat_tests)
+-- streams of lower numbers, those of a number, and those of greater ones
+module _ (cs here later : List Created) (n : ℕ) (cs-below : AllByRecursion (λ c. c.number < n) cs) (here-own : AllByRecursion (λ c. c.number ≡ n) here)
+    (later-above : AllByRecursion (λ c. n < c.number) later) where
+  count-parts : (p : Created → Bool) → count_by p (cs ++ (here ++ later)) ≡ count_by p cs + count_by p here + count_by p later
+  count-parts p =
+      omega (
+        arith,
+        sum_by-append (λ (c : Created). digit (p c)) cs (here ++ later),
+        sum_by-append (λ (c : Created). digit (p c)) here later,
+      )
 
-pub count-lower : (number : ℕ) (ss : List Created) → sum_by (at number) ss + sum_by (lower number) ss ≤ length ss
-count-lower number [] = omega arith
-count-lower number (s ∷ ss) =
-    omega (arith, sum_by-cons (at number) s ss, sum_by-cons (lower number) s ss, at-lower number s, count-lower number ss)
+  pub count-at : count_by (is_at n) (cs ++ (here ++ later)) ≡ length here
+  count-at =
+      omega (
+        arith,
+        count-parts (is_at n),
+        count-none (is_at n) cs (all_weaker (λ c. c.number < n) (λ c. is_at n c ≡ false) (λ c lt. ne_eqb c.number n (λ e. absurd (omega (arith, e, lt)))) cs cs-below),
+        count-all (is_at n) here (all_weaker (λ c. c.number ≡ n) (λ c. is_at n c ≡ true) (λ c is. eq-eqb c.number n is) here here-own),
+        count-none (is_at n) later
+            (all_weaker (λ c. n < c.number) (λ c. is_at n c ≡ false) (λ c lt. ne_eqb c.number n (λ e. absurd (omega (arith, e, lt)))) later later-above),
+      )
 
--- where names differ, none is that of a stream of a lower number
-abbrev pub IsNew : List Created → Created → Type 0
-IsNew ss s = is_named_before ss s ≡ false
+  pub count-below : count_by (is_below n) (cs ++ (here ++ later)) ≡ length cs
+  count-below =
+      omega (
+        arith,
+        count-parts (is_below n),
+        count-all (is_below n) cs (all_weaker (λ c. c.number < n) (λ c. is_below n c ≡ true) (λ c lt. lt-ltb c.number n lt) cs cs-below),
+        count-none (is_below n) here (all_weaker (λ c. c.number ≡ n) (λ c. is_below n c ≡ false) (λ c is. le-ltb c.number n (omega (arith, is))) here here-own),
+        count-none (is_below n) later (all_weaker (λ c. n < c.number) (λ c. is_below n c ≡ false) (λ c lt. le-ltb c.number n (omega (arith, lt))) later later-above),
+      )
 
-none-lower : (s : Created) (ss : List Created) → AllByRecursion (λ u. s.number < u.number) ss → is_named_before ss s ≡ false
-none-lower s [] above = refl
-none-lower s (u ∷ us) above =
-    let greater = above.0 in
-    let apart : nat_lt u.number s.number ≡ false = grind (arith, nat_tests) in
-    rw apart (none-lower s us above.1)
+  -- a name is new where no stream before has it
+  pub new-name : (c : Created) → c.number ≡ n → has_new_name n (cs ++ (c ∷ later)) ≡ not (list_any (same_name c.name) (map (λ (o : Created). o.name) cs))
+  new-name c is =
+      let us = cs ++ (c ∷ later) in
+      let first = none-passes (named n us) cs (all_weaker (λ o. o.number < n) (λ o. named n us o ≡ false)
+      (λ o lt. and_left _ _ (ne_eqb o.number n (λ e. absurd (omega (arith, e, lt))))) cs cs-below) in
+      let last = none-passes (named n us) later (all_weaker (λ o. n < o.number) (λ o. named n us o ≡ false)
+      (λ o lt. and_left _ _ (ne_eqb o.number n (λ e. absurd (omega (arith, e, lt))))) later later-above) in
+      let rest : list_any (before c) (c ∷ later) ≡ false =
+      none-passes (before c) (c ∷ later) (
+        and_left _ _ (le-ltb c.number c.number (omega arith)),
+        all_weaker (λ o. n < o.number) (λ o. before c o ≡ false) (λ o lt. and_left _ _ (le-ltb o.number c.number (omega (arith, lt, is)))) later later-above,
+      ) in
+      ap not
+      (list_any-append (named n us) cs (c ∷ later)
+      ∙ (λ i. first i || (named n us c || last i)) ∙ or-false (named n us c) ∙ ap (λ b. b && is_named_before us c) (eq-eqb c.number n is)
+      ∙ list_any-append (before c) cs (c ∷ later) ∙ (λ i. by-name cs cs-below i || rest i)
+      ∙ or-false (list_any (same_name c.name) (map (λ (o : Created). o.name) cs)))
+    where
+      or-false : (b : Bool) → (b || false) ≡ b
+      or-false true = refl
+      or-false false = refl
 
-pub IsNew-each : (ss : List Created) → Rise (λ s. s.number) ss → IsDistinct same_name (map (λ s. s.name) ss) → AllByRecursion (IsNew ss) ss
-IsNew-each [] rise distinct = tt
-IsNew-each (s ∷ ss) rise distinct =
-    let apart : nat_lt s.number s.number ≡ false = grind (arith, nat_tests) in
-    let first : IsNew (s ∷ ss) s = rw apart (none-lower s ss rise.0) in
-    let names = map (λ u. u.name) ss in
-    (first, go ss (IsDistinct-head same_name s.name names distinct) (IsNew-each ss rise.1 (IsDistinct-tail same_name s.name names distinct)))
-  where
-    go : (us : List Created) → AllByRecursion (λ name. same_name s.name name ≡ false) (map (λ u. u.name) us) → AllByRecursion (IsNew ss) us →
-        AllByRecursion (IsNew (s ∷ ss)) us
-    go [] others new = tt
-    go (u ∷ us) others new =
-        let here : (nat_lt s.number u.number && same_name s.name u.name) ≡ false = grind (arith, nat_tests, others.0) in
-        let one : IsNew (s ∷ ss) u = or_from (nat_lt s.number u.number && same_name s.name u.name) (is_named_before ss u) here new.0 in
-        (one, go us others.1 new.1)
+      by-name : (us : List Created) → AllByRecursion (λ o. o.number < n) us →
+          list_any (before c) us ≡ list_any (same_name c.name) (map (λ (o : Created). o.name) us)
+      by-name [] lows = refl
+      by-name (u ∷ us) lows =
+          ap₂ (λ (x y : Bool). x || y)
+          (ap (λ b. b && same_name u.name c.name) (lt-ltb u.number c.number (let lt = lows.0 in omega (arith, lt, is))) ∙ same_name-swap u.name c.name)
+          (by-name us lows.1)
 
--- so no stream of a number is named before
-none-named : (number : ℕ) (all ss : List Created) → AllByRecursion (IsNew all) ss →
-    list_any (λ s. s.number == number && is_named_before all s) ss ≡ false
-none-named number all [] new = refl
-none-named number all (s ∷ ss) new =
-    let here : (s.number == number && is_named_before all s) ≡ false = grind (arith, nat_tests, new.0) in
-    or_from (s.number == number && is_named_before all s) (list_any (λ u. u.number == number && is_named_before all u) ss) here
-    (none-named number all ss new.1)
+-- a stream has one record, a place and a name that is new
+abbrev pub stands_alone : ℕ → List Created → Bool
+stands_alone n us = has_one_record n us && has_place n us && has_new_name n us
+
+-- where numbers rise and names differ, each does
+new-split : (xs : List Created) (y : Created) (ys : List Created) → IsDistinct same_name (map (λ c. c.name) (xs ++ y ∷ ys)) →
+    list_any (same_name y.name) (map (λ c. c.name) xs) ≡ false
+new-split [] y ys distinct = refl
+new-split (x ∷ xs) y ys distinct =
+    let names = map (λ (c : Created). c.name) (xs ++ y ∷ ys) in
+    let others = all-from_map (λ name. same_name x.name name ≡ false) (λ (c : Created). c.name) (xs ++ y ∷ ys)
+    (IsDistinct-head same_name x.name names distinct) in
+    or_from _ _ (same_name-swap y.name x.name ∙ (all_behind (λ (c : Created). same_name x.name c.name ≡ false) xs (y ∷ ys) others).0)
+    (new-split xs y ys (IsDistinct-tail same_name x.name names distinct))
+
+alone-each : (xs ys : List Created) → Rise (λ c. c.number) (xs ++ ys) → IsDistinct same_name (map (λ c. c.name) (xs ++ ys)) →
+    length (xs ++ ys) ≤ MOST_STREAMS → AllByRecursion (λ c. stands_alone c.number (xs ++ ys) ≡ true) ys
+alone-each xs [] rise distinct few = tt
+alone-each xs (y ∷ ys) rise distinct few =
+    let parts = Rise-split (λ (c : Created). c.number) xs y ys rise in
+    let one = count-at xs (y ∷ []) ys y.number parts.0 (refl, tt) parts.1 in
+    let lower = count-below xs (y ∷ []) ys y.number parts.0 (refl, tt) parts.1 in
+    let place = lt-ltb _ MOST_STREAMS (omega (arith, lower, few, length-append xs (y ∷ ys))) in
+    let new = new-name xs (y ∷ []) ys y.number parts.0 (refl, tt) parts.1 y refl ∙ ap not (new-split xs y ys distinct) in
+    let same : xs ++ y ∷ ys ≡ (xs ++ y ∷ []) ++ ys = sym (append_assoc xs (y ∷ []) ys) in (
+      and_from _ _ (and_from _ _ (eq-eqb _ 1 one) place) new,
+      subst (λ us. AllByRecursion (λ c. stands_alone c.number us ≡ true) ys) (sym same)
+          (alone-each (xs ++ y ∷ []) ys (subst (Rise (λ c. c.number)) same rise)
+          (subst (λ us. IsDistinct same_name (map (λ (c : Created). c.name) us)) same distinct)
+          (subst (λ (us : List Created). length us ≤ MOST_STREAMS) same few)),
+    )
+
+pub stands_alone-each : (ss : List Created) → Rise (λ c. c.number) ss → IsDistinct same_name (map (λ c. c.name) ss) → length ss ≤ MOST_STREAMS →
+    AllByRecursion (λ c. stands_alone c.number ss ≡ true) ss
+stands_alone-each ss rise distinct few = alone-each [] ss rise distinct few
 
 -- in any order too
-module _ (streams found : List Created) (moved : IsPermutation streams found) where
-  pub has_one_record-moved : (number : ℕ) → sum_by (at number) streams ≡ 1 → has_one_record number found ≡ true
-  has_one_record-moved number once =
-      let same = sum_by-IsPermutation (at number) streams found moved in
-      let count : sum_by (at number) found ≡ 1 = omega arith in
-      rw count refl
-
-  pub has_place-moved : (number : ℕ) → sum_by (at number) streams ≡ 1 → length streams ≤ MOST_STREAMS → has_place number found ≡ true
-  has_place-moved number once few =
-      let same = sum_by-IsPermutation (lower number) streams found moved in
-      let count : sum_by (lower number) found < MOST_STREAMS = omega (arith, count-lower number streams, once, few, same) in
-      grind (arith, nat_tests)
-
-  named_before-moved : (s : Created) → is_named_before found s ≡ is_named_before streams s
-  named_before-moved s = sym (list_any-IsPermutation (λ other. nat_lt other.number s.number && same_name other.name s.name) streams found moved)
-
-  new-moved : (ss : List Created) → AllByRecursion (IsNew streams) ss → AllByRecursion (IsNew found) ss
-  new-moved ss new = all_weaker (IsNew streams) (IsNew found) (λ s is. named_before-moved s ∙ is) ss new
-
-  pub has_new_name-moved : (number : ℕ) → AllByRecursion (IsNew streams) streams → has_new_name number found ≡ true
-  has_new_name-moved number new =
-      ap not
-      (sym (list_any-IsPermutation (λ s. s.number == number && is_named_before found s) streams found moved)
-      ∙ none-named number found streams (new-moved streams new))
+pub stands_alone-moved : (n : ℕ) (us vs : List Created) → IsPermutation us vs → stands_alone n us ≡ stands_alone n vs
+stands_alone-moved n us vs moved =
+    let one : has_one_record n us ≡ has_one_record n vs = ap (λ (k : ℕ). k == 1) (sym (sum_by-IsPermutation (λ (c : Created). digit (is_at n c)) us vs moved)) in
+    let place : has_place n us ≡ has_place n vs = ap (λ (k : ℕ). nat_lt k MOST_STREAMS) (sym (sum_by-IsPermutation (λ (c : Created). digit (is_below n c)) us vs moved)) in
+    let before_same : (c : Created) → is_named_before us c ≡ is_named_before vs c = λ c. list_any-IsPermutation (before c) us vs moved in
+    let new : has_new_name n us ≡ has_new_name n vs =
+    ap not ((λ i. list_any (λ (c : Created). c.number == n && before_same c i) us) ∙ list_any-IsPermutation (named n vs) us vs moved) in
+    λ i. one i && place i && new i
 
 -- windows that stand tile, and their times rise
 tile_from-StandFrom : (first time : ℕ) (ws : List Window) → StandFrom first time ws → tile_from first ws ≡ true
@@ -152,6 +187,36 @@ times_rise-StandFrom first time (w ∷ v ∷ ws) stand =
 
 pub times_rise-AreWindows : (ws : List Window) → AreWindows ws → times_rise ws ≡ true
 times_rise-AreWindows ws are = times_rise-StandFrom 1 0 ws are.stand
+
+-- and back: windows that tile, at rising times, from a time on
+abbrev BeginsFrom : ℕ → List Window → Type 0
+BeginsFrom time [] = Unit
+BeginsFrom time (w ∷ ws) = time ≤ w.summary.t_first
+
+StandFrom-tile : (first time : ℕ) (ws : List Window) → tile_from first ws ≡ true → times_rise ws ≡ true →
+    AllByRecursion (λ w. IsPossible w.summary) ws → BeginsFrom time ws → StandFrom first time ws
+StandFrom-tile first time [] tiles rising possible late = tt
+StandFrom-tile first time (w ∷ []) tiles rising possible late =
+    let parts = and_parts (w.first == first) _ tiles in
+    (eqb-true w.first first parts.0, possible.0, late, tt)
+StandFrom-tile first time (w ∷ v ∷ ws) tiles rising possible late =
+    let parts = and_parts (w.first == first) (tile_from (first + w.summary.count) (v ∷ ws)) tiles in
+    let times = and_parts (nat_lt w.summary.t_last v.summary.t_first) (times_rise (v ∷ ws)) rising in
+    let next : w.summary.t_last < v.summary.t_first = ltb-true w.summary.t_last v.summary.t_first times.0 in (
+      eqb-true w.first first parts.0,
+      possible.0,
+      late,
+      StandFrom-tile (first + w.summary.count) (w.summary.t_last + 1) (v ∷ ws) parts.1 times.1 possible.1 (omega arith),
+    )
+
+BeginsFrom-zero : (ws : List Window) → BeginsFrom 0 ws
+BeginsFrom-zero [] = tt
+BeginsFrom-zero (w ∷ ws) = omega arith
+
+pub AreWindows-tile : (ws : List Window) → tile ws ≡ true → times_rise ws ≡ true → AllByRecursion (λ w. IsPossible w.summary) ws → AreWindows ws
+AreWindows-tile ws tiles rising possible =
+    let parts = and_parts (tile_from 1 ws) (nat_le (taken ws) MOST_VALUES) tiles in
+    record { stand = StandFrom-tile 1 0 ws parts.0 rising possible (BeginsFrom-zero ws); few = leb-true (taken ws) MOST_VALUES parts.1 }
 
 -- and their first positions rise
 first-after : (first time : ℕ) (ws : List Window) → StandFrom first time ws → AllByRecursion (λ w. first ≤ w.first) ws
@@ -197,11 +262,3 @@ MeetsAll-and a b c d e f g all =
     let third = and_parts (a && b) c fourth.0 in
     let second = and_parts a b third.0 in
     record { one = second.0; place = second.1; new = third.1; tiles = fourth.1; rising = fifth.1; marks = sixth.1; free = seventh.1 }
-
-pub and-MeetsAll : (a b c d e f g : Bool) → MeetsAll a b c d e f g → (a && b && c && d && e && f && g) ≡ true
-and-MeetsAll a b c d e f g all =
-    let two = and_from a b all.one all.place in
-    let three = and_from (a && b) c two all.new in
-    let four = and_from (a && b && c) d three all.tiles in
-    let five = and_from (a && b && c && d) e four all.rising in
-    and_from (a && b && c && d && e && f) g (and_from (a && b && c && d && e) f five all.marks) all.free

@@ -18,11 +18,13 @@ use Rattle.ss_recover.specs.Conditions.{has_new_name, has_one_record, has_place,
 use Rattle.ss_recover.specs.Marked.{are_marks, landmarks_made}
 use Rattle.ss_recover.specs.Order.{Rises, key_of, place_of, stream_of}
 use Rattle.ss_recover.specs.Parts.{lowest_in, lowest_bad_stream}
-use Rattle.ss_recover.specs.Walk.{IsLowestUnsound, IsUsable, is_sound_in_order}
+use Rattle.ss_recover.specs.Runs.{IsLowestUnsound, is_sound_in_order}
+use Rattle.ss_recover.specs.Usable.{IsUsable}
 use Rattle.ss_recover.proofs.InOrder.{IsPermutation-in_order, Rises-in_order}
 use Rattle.ss_catalog.specs.declared.TheConstants.{MOST_STREAMS}
 use Rattle.ss_recover.proofs.Lists.{all_weaker, filter_map-kept, kept}
 use Rattle.ss_recover.proofs.Permutations.{IsPermutation-filter_map}
+use Rattle.ss_recover.proofs.SoundStreams.{stands_alone-moved}
 use Rattle.ss_recover.proofs.OrderLemmas.{put-less, put-more}
 
 -- elements that give something are put in order as what they give is
@@ -138,19 +140,10 @@ unfolding is_sound
 is_sound-in_order rs n =
     let qs : List Record = in_order key_of rs in
     let moved : IsPermutation (streams_created rs) (streams_created qs) = IsPermutation-filter_map created_by rs qs (IsPermutation-in_order key_of rs) in
-    let one : has_one_record n (streams_created rs) ≡ has_one_record n (streams_created qs) =
-    ap (λ (k : ℕ). k == 1) (sym (sum_by-IsPermutation (λ (c : Created). cond (c.number == n) 1 0) (streams_created rs) (streams_created qs) moved)) in
-    let place : has_place n (streams_created rs) ≡ has_place n (streams_created qs) =
-    ap (λ (k : ℕ). nat_lt k MOST_STREAMS) (sym (sum_by-IsPermutation (λ (c : Created). cond (nat_lt c.number n) 1 0) (streams_created rs)
-    (streams_created qs) moved)) in
-    let named : (s : Created) → is_named_before (streams_created rs) s ≡ is_named_before (streams_created qs) s =
-    λ s. list_any-IsPermutation (λ (o : Created). nat_lt o.number s.number && same_name o.name s.name) (streams_created rs) (streams_created qs) moved in
-    let new : has_new_name n (streams_created rs) ≡ has_new_name n (streams_created qs) =
-    ap not ((λ i. list_any (λ (s : Created). s.number == n && named s i) (streams_created rs))
-    ∙ list_any-IsPermutation (λ (s : Created). s.number == n && is_named_before (streams_created qs) s) (streams_created rs) (streams_created qs) moved) in
+    let alone = stands_alone-moved n (streams_created rs) (streams_created qs) moved in
     let windows = windows-in_order n rs in
     let marks = marks-in_order n rs in
-    λ i. one i && place i && new i && tile (windows i) && times_rise (windows i) && are_marks (marks i)
+    λ i. alone i && tile (windows i) && times_rise (windows i) && are_marks (marks i)
     && list_all (lies_free (landmarks_made (marks i))) (windows i)
 
 -- the least of some numbers

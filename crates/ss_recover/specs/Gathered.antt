@@ -12,7 +12,7 @@ use Rattle.ss_codec.specs.declared.record.Record.TheVariants.{Free}
 use Rattle.ss_recover.specs.Carried.{spelled}
 use Rattle.ss_recover.specs.Held.{occupied}
 use Rattle.ss_recover.specs.Parts.{lowest_bad_slot}
-use Rattle.ss_recover.specs.Walk.{in_slot}
+use Rattle.ss_recover.specs.Usable.{in_slot}
 use Rattle.ss_recover.specs.declared.found.Found.{Found}
 use Rattle.ss_recover.specs.declared.recover_error.RecoverError.{RecoverError}
 use Rattle.ss_recover.specs.declared.recover_error.RecoverError.TheVariants.{BadSlot, BadStream, Disk, OutOfMemory}

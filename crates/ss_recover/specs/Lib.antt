@@ -5,5 +5,7 @@ pub mod Conditions
 pub mod Parts
 pub mod Held
 pub mod Rebuilt
-pub mod Walk
+pub mod Usable
+pub mod Runs
+pub mod Shown
 pub mod Gathered

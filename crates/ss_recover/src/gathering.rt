@@ -10,7 +10,7 @@ ghost use Rattle.ss_records.specs.Live.{is_live};
 ghost use Rattle.ss_codec.specs.Decoded.{decoded};
 ghost use Rattle.ss_recover.specs.Gathered.{SpellsNone, ReadsAs, GathersAs, FindsOut, LeavesRecords};
 ghost use Rattle.ss_recover.specs.Rebuilt.{verdict_of_rebuild};
-ghost use Rattle.ss_recover.specs.Walk.{IsUsable};
+ghost use Rattle.ss_recover.specs.Usable.{IsUsable};
 
 use crate::RecoverError;
 use crate::found::Found;

@@ -8,6 +8,7 @@ mod laws;
 mod parts;
 mod rebuilding;
 mod recover_error;
+mod run;
 mod sorting;
 mod walking;
 

@@ -10,7 +10,7 @@ use Rattle.std.proofs.lemmas.List.Elements.{All-push}
 use Rattle.ss_journal.specs.declared.format.TheConstants.{MOST_SLOTS}
 use Rattle.ss_records.specs.Kept.{RecordsState}
 use Rattle.ss_recover.specs.Gathered.{FindsOut, GathersAs, ReadsAs}
-use Rattle.ss_recover.specs.Walk.{IsUsable}
+use Rattle.ss_recover.specs.Usable.{IsUsable}
 use Rattle.ss_recover.specs.declared.found.Found.{Found}
 use Rattle.std.proofs.lemmas.Result.{err_from_is_err_and}
 use Rattle.ss_outside.specs.Step.{Step}

@@ -4,7 +4,7 @@ use Rattle.ss_outside.specs.Step.{Step}
 use Rattle.ss_outside.specs.Verdict.{fine}
 use Rattle.ss_records.specs.Live.{is_live}
 use Rattle.ss_recover.specs.Gathered.{FindsOut}
-use Rattle.ss_recover.specs.Walk.{IsUsable}
+use Rattle.ss_recover.specs.Usable.{IsUsable}
 use Rattle.ss_recover.specs.declared.found.Found.{Found}
 use Rattle.ss_recover.proofs.GatherLemmas.{AreRead}
 use Rattle.ss_recover.proofs.gathering.gather.Given as goal

@@ -5,7 +5,8 @@ use Rattle.ss_outside.specs.Verdict.{Counted, OnFailed, UnlessFailed}
 use Rattle.ss_outside.proofs.StepLemmas.{step-verdict}
 use Rattle.ss_records.specs.Kept.{AreKept}
 use Rattle.ss_recover.specs.Order.{Rises, found_key}
-use Rattle.ss_recover.specs.Walk.{IsUsable, WalksAs}
+use Rattle.ss_recover.specs.Runs.{WalksAs}
+use Rattle.ss_recover.specs.Usable.{IsUsable}
 use Rattle.ss_recover.specs.declared.found.Found.{Found}
 use Rattle.ss_recover.proofs.GatherLemmas.{verdict-same}
 use Rattle.ss_recover.proofs.InOrder.{Rises-in_order}

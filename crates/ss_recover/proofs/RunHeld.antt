@@ -1,0 +1,270 @@
+-- The streams of runs that are done: what is held agrees with streams that their records are of.
+use Rattle.std.proofs.Common.{◌≡◌, ◌∙◌, ℕ, ◌+◌, ◌<◌, Bool, true, List, [], ◌∷◌, ◌++◌, flat_map, map, filter, Option, Some, refl, sym, ap, ap₂, subst, inl, inr}
+use Rattle.std.proofs.Common.{false, cond, arith}
+use Rattle.std.proofs.Common.{append-nil, append_assoc, IsPermutation}
+use Rattle.std.specs.Prelude.{zip}
+use Rattle.std.specs.List.{AllByRecursion, filter_map}
+use Rattle.std.proofs.lemmas.Bool.{cases_Bool, cond-true, cond-false}
+use Rattle.std.proofs.lemmas.List.{map-append}
+use Rattle.std.proofs.lemmas.List.Concat.{flat_map-append}
+use Rattle.std.proofs.lemmas.List.Elements.{filter-append}
+use Rattle.std.proofs.lemmas.List.Sorted.{IsPermutation-cons, IsPermutation-middle}
+use Rattle.std.proofs.lemmas.List.Sorted.{IsPermutation-map, IsPermutation-refl, IsPermutation-trans}
+use Rattle.ss_codec.specs.declared.record.Record.{Record}
+use Rattle.ss_codec.specs.declared.record.Record.TheVariants as records
+use Rattle.ss_landmarks.specs.Landmark.{Landmark, LandmarkValue}
+use Rattle.ss_model.specs.Marks.{later, latest_of}
+use Rattle.ss_model.specs.Standing.{IsStream}
+use Rattle.ss_model.specs.State.{Created, Stream, names_of}
+use Rattle.ss_model.specs.Windows.{newest_time}
+use Rattle.ss_model.specs.declared.types.Window.{Window}
+use Rattle.ss_recover.specs.Carried.{created_by, is_mark_of, streams_created, window_of}
+use Rattle.ss_recover.specs.Held.{Agrees, AllAgree, all_value_records, in_slots, landmark_record, landmark_records, records_held, stream_record}
+use Rattle.ss_recover.specs.Held.{value_records, window_record, windows_held}
+use Rattle.ss_recover.specs.Marked.{landmarks_made}
+use Rattle.ss_recover.specs.Order.{Rises, place_of, stream_of}
+use Rattle.ss_recover.specs.Runs.{is_run}
+use Rattle.ss_recover.specs.Shown.{IsHeldOf, found_by, head_found, is_landmark, is_value, is_window}
+use Rattle.ss_recover.specs.Usable.{IsUsable, in_slot, slots_of, without_slots}
+use Rattle.ss_recover.specs.declared.found.Found.{Found}
+use Rattle.ss_recover.specs.declared.parts.StreamParts.{StreamParts}
+use Rattle.ss_recover.proofs.HeldRecords.{all_walked, walked}
+use Rattle.ss_recover.proofs.InOrder.{Rise}
+use Rattle.ss_recover.proofs.Lists.{all-kept, all-passing, all_push, all_weaker, filter-none, map-all}
+use Rattle.ss_recover.proofs.Marks.{each-mark_of, marks_of}
+use Rattle.ss_recover.proofs.MarksSoFar.{AreOf, AreOf-are_marks}
+use Rattle.ss_recover.proofs.Permutations.{IsPermutation-append_both}
+use Rattle.ss_recover.proofs.RunStream.{AreWalked, AreWalked-none, AreWalked-run, meets, rest-order, stream_made}
+use Rattle.ss_recover.proofs.ValidRecords.{IsFine, all-window_of}
+
+-- of the records of landmarks, those of the landmarks and the others
+landmarks-values : (number n index : ℕ) (values : List LandmarkValue) → filter is_landmark (value_records number n index values) ≡ []
+landmarks-values number n index [] = refl
+landmarks-values number n index (v ∷ vs) = landmarks-values number n (index + 1) vs
+
+values-values : (number n index : ℕ) (values : List LandmarkValue) → filter is_value (value_records number n index values)
+    ≡ value_records number n index values
+values-values number n index [] = refl
+values-values number n index (v ∷ vs) = ap (λ rs. records.Value number n index v.t v.v ∷ rs) (values-values number n (index + 1) vs)
+
+landmarks-marks : (number n : ℕ) (ls : List Landmark) → filter is_landmark (marks_of number n ls) ≡ landmark_records number n ls
+landmarks-marks number n [] = refl
+landmarks-marks number n (l ∷ ls) =
+    ap (λ rs. landmark_record number n l ∷ rs)
+    (filter-append is_landmark (value_records number n 1 l.values) (marks_of number (n + 1) ls)
+    ∙ ap₂ ◌++◌ (landmarks-values number n 1 l.values) (landmarks-marks number (n + 1) ls))
+
+values-marks : (number n : ℕ) (ls : List Landmark) → filter is_value (marks_of number n ls) ≡ all_value_records number n ls
+values-marks number n [] = refl
+values-marks number n (l ∷ ls) =
+    filter-append is_value (value_records number n 1 l.values) (marks_of number (n + 1) ls)
+    ∙ ap₂ ◌++◌ (values-values number n 1 l.values) (values-marks number (n + 1) ls)
+
+filter-records : (p : Record → Bool) (all : List Found) → without_slots (filter (λ (f : Found). p f.holds) all) ≡ filter p (without_slots all)
+filter-records p [] = refl
+filter-records p (f ∷ fs) =
+    elim (cases_Bool (p f.holds)) [
+      | inl is ↦ ap without_slots (cond-true (p f.holds) _ _ is) ∙ ap (λ rs. f.holds ∷ rs) (filter-records p fs) ∙ sym (cond-true (p f.holds) _ _ is)
+      | inr is ↦ ap without_slots (cond-false (p f.holds) _ _ is) ∙ filter-records p fs ∙ sym (cond-false (p f.holds) _ _ is)
+    ]
+
+-- the records that were found, each in its slot
+slots-records : (all : List Found) → in_slots (slots_of all) (without_slots all) ≡ map in_slot all
+slots-records [] = refl
+slots-records (f ∷ fs) = ap (λ l. in_slot f ∷ l) (slots-records fs)
+
+-- Parts agree with streams that the records so far are of, in their order.
+pub record AreHeldSoFar (parts : List StreamParts) (streams : List Stream) (all : List Found) : Type 0 where
+  pub each : AllAgree parts streams
+  pub records : IsPermutation (flat_map records_held (zip parts streams)) (map in_slot all)
+  pub walked : AreWalked (without_slots all) streams
+
+-- lists that agree, with one more of each
+pub AllAgree-push : (parts : List StreamParts) (streams : List Stream) (part : StreamParts) (s : Stream) → AllAgree parts streams → Agrees part s →
+    AllAgree (parts ++ part ∷ []) (streams ++ s ∷ [])
+AllAgree-push [] [] part s each one = (one, tt)
+AllAgree-push [] (s' ∷ ss) part s each one = absurd each
+AllAgree-push (p ∷ ps) [] part s each one = absurd each
+AllAgree-push (p ∷ ps) (s' ∷ ss) part s each one = (each.0, AllAgree-push ps ss part s each.1 one)
+
+pub held-push : (parts : List StreamParts) (streams : List Stream) (part : StreamParts) (s : Stream) → AllAgree parts streams →
+    flat_map records_held (zip (parts ++ part ∷ []) (streams ++ s ∷ [])) ≡ flat_map records_held (zip parts streams) ++ records_held (part, s)
+held-push [] [] part s each = append-nil (records_held (part, s))
+held-push [] (s' ∷ ss) part s each = absurd each
+held-push (p ∷ ps) [] part s each = absurd each
+held-push (p ∷ ps) (s' ∷ ss) part s each =
+    ap (λ l. records_held (p, s') ++ l) (held-push ps ss part s each.1)
+    ∙ sym (append_assoc (records_held (p, s')) (flat_map records_held (zip ps ss)) (records_held (part, s)))
+
+-- nothing is held yet
+pub AreHeldSoFar-none : AreHeldSoFar [] [] []
+AreHeldSoFar-none = record { each = tt; records = IsPermutation-refl []; walked = AreWalked-none }
+
+-- ---- a stream that is done
+
+-- records after a stream's own are those of windows, of landmarks and of values
+parts-found : (fs : List Found) → AllByRecursion (λ (f : Found). IsUsable f.holds) fs → filter_map created_by (without_slots fs) ≡ [] →
+    IsPermutation (found_by is_window fs ++ (found_by is_landmark fs ++ found_by is_value fs)) fs
+parts-found [] usable none = IsPermutation-refl []
+parts-found (f ∷ fs) usable none =
+    go f.slot f.holds usable.0 none (parts-found fs usable.1)
+  where
+    ws : List Found
+    ws = found_by is_window fs
+
+    ls : List Found
+    ls = found_by is_landmark fs
+
+    vs : List Found
+    vs = found_by is_value fs
+
+    go : (slot : ℕ) (r : Record) → IsUsable r → filter_map created_by (r ∷ without_slots fs) ≡ [] →
+        (filter_map created_by (without_slots fs) ≡ [] → IsPermutation (ws ++ (ls ++ vs)) fs) →
+        IsPermutation (found_by is_window (record { slot = slot; holds = r } ∷ fs)
+        ++ (found_by is_landmark (record { slot = slot; holds = r } ∷ fs) ++ found_by is_value (record { slot = slot; holds = r } ∷ fs)))
+        (record { slot = slot; holds = r } ∷ fs)
+    go slot records.Free usable none rest = absurd usable
+    go slot (records.Stream id name params) usable none rest = cc
+    go slot (records.Window id first summary) usable none rest =
+        IsPermutation-cons (record { slot = slot; holds = records.Window id first summary }) (ws ++ (ls ++ vs)) fs (rest none)
+    go slot (records.Landmark id n said start finish) usable none rest =
+        let x : Found = record { slot = slot; holds = records.Landmark id n said start finish } in
+        IsPermutation-trans (ws ++ x ∷ (ls ++ vs)) (x ∷ (ws ++ (ls ++ vs))) (x ∷ fs) (IsPermutation-middle ws x (ls ++ vs))
+        (IsPermutation-cons x (ws ++ (ls ++ vs)) fs (rest none))
+    go slot (records.Value id n index t v) usable none rest =
+        let x : Found = record { slot = slot; holds = records.Value id n index t v } in
+        subst (λ l. IsPermutation l (x ∷ fs)) (append_assoc ws ls (x ∷ vs))
+        (IsPermutation-trans ((ws ++ ls) ++ x ∷ vs) (x ∷ ((ws ++ ls) ++ vs)) (x ∷ fs) (IsPermutation-middle (ws ++ ls) x vs)
+        (IsPermutation-cons x ((ws ++ ls) ++ vs) fs (subst (λ l. IsPermutation l fs) (sym (append_assoc ws ls vs)) (rest none))))
+
+no-windows : (n k : ℕ) (ls : List Landmark) → filter is_window (marks_of n k ls) ≡ []
+no-windows n k ls = filter-none is_window (marks_of n k ls)
+    (each-mark_of (λ r. is_window r ≡ false) n (λ n values start finish. refl) (λ n index t v. refl) k ls)
+
+of-windows : (p : Record → Bool) (b : Bool) (n : ℕ) (ws : List Window) → ((w : Window) → p (window_record n w) ≡ b) →
+    filter p (map (window_record n) ws) ≡ cond b (map (window_record n) ws) []
+of-windows p true n [] is = refl
+of-windows p false n [] is = refl
+of-windows p true n (w ∷ ws) is = rw (is w) (ap (λ l. window_record n w ∷ l) (of-windows p true n ws is))
+of-windows p false n (w ∷ ws) is = rw (is w) (of-windows p false n ws is)
+
+some-windows : (number : ℕ) (ws : List Window) → map Some (map (window_record number) ws) ≡ map (λ w. Some (window_record number w)) ws
+some-windows number [] = refl
+some-windows number (w ∷ ws) = ap (λ l. Some (window_record number w) ∷ l) (some-windows number ws)
+
+-- The records of a run, after those of lower numbers.
+module _ (front : List Record) (streams : List Stream) (done : AreWalked front streams) (all : List Found) (n : ℕ) (part : StreamParts)
+    (held : IsHeldOf part all) (lower : AllByRecursion (λ r. stream_of r < n) front) (own : AllByRecursion (λ r. stream_of r ≡ n) (without_slots all))
+    (usable : AllByRecursion (λ (f : Found). IsUsable f.holds) all) (rises : Rises place_of (without_slots all))
+    (run : is_run (names_of streams) (without_slots all) ≡ true) where
+  abbrev rs : List Record
+  rs = without_slots held.rest
+
+  abbrev head : Record
+  head = records.Stream held.head.number held.head.name held.head.params
+
+  split : without_slots all ≡ head ∷ rs
+  split = ap without_slots held.split
+
+  same : held.head.number ≡ n
+  same = (subst (AllByRecursion (λ r. stream_of r ≡ n)) split own).0
+
+  pub lower-head : AllByRecursion (λ r. stream_of r < held.head.number) front
+  lower-head = subst (λ (k : ℕ). AllByRecursion (λ r. stream_of r < k) front) (sym same) lower
+
+  pub usable-all : AllByRecursion IsUsable (head ∷ rs)
+  usable-all = subst (AllByRecursion IsUsable) split (map-all IsUsable (λ (f : Found). f.holds) all usable)
+
+  usable-rest : AllByRecursion (λ (f : Found). IsUsable f.holds) held.rest
+  usable-rest = (subst (AllByRecursion (λ (f : Found). IsUsable f.holds)) held.split usable).1
+
+  pub own-rest : AllByRecursion (λ r. stream_of r ≡ held.head.number) rs
+  own-rest = all_weaker (λ r. stream_of r ≡ n) (λ r. stream_of r ≡ held.head.number) (λ r is. is ∙ sym same) rs
+      (subst (AllByRecursion (λ r. stream_of r ≡ n)) split own).1
+
+  pub rises-all : Rises place_of (head ∷ rs)
+  rises-all = subst (Rises place_of) split rises
+
+  pub run-all : is_run (names_of streams) (head ∷ rs) ≡ true
+  run-all = ap (is_run (names_of streams)) (sym split) ∙ run
+
+  abbrev ws : List Window
+  ws = filter_map (window_of held.head.number) rs
+
+  abbrev ms : List Record
+  ms = filter (is_mark_of held.head.number) rs
+
+  abbrev pub done_stream : Stream
+  done_stream = stream_made front streams done held.head rs lower-head own-rest usable-all rises-all run-all
+
+  pub done-agrees : Agrees part done_stream
+  done-agrees = record {
+    number = held.id;
+    name = held.name;
+    params = held.params;
+    positions = held.kept.positions;
+    landmarks = held.landmarks;
+    known = held.known;
+    last_time = held.last_time ∙ ap (λ ls. later (newest_time ws) (latest_of ls)) held.landmarks;
+  }
+
+  order-rest : rs ≡ marks_of held.head.number 1 (landmarks_made ms) ++ map (window_record held.head.number) ws
+  order-rest = rest-order front streams done held.head rs lower-head own-rest usable-all rises-all run-all
+
+  of-kind : (p : Record → Bool) (b : Bool) → ((w : Window) → p (window_record held.head.number w) ≡ b) →
+      without_slots (found_by p held.rest)
+      ≡ filter p (marks_of held.head.number 1 (landmarks_made ms)) ++ cond b (map (window_record held.head.number) ws) []
+  of-kind p b is =
+      filter-records p held.rest ∙ ap (filter p) order-rest
+      ∙ filter-append p (marks_of held.head.number 1 (landmarks_made ms)) (map (window_record held.head.number) ws)
+      ∙ ap (λ l. filter p (marks_of held.head.number 1 (landmarks_made ms)) ++ l) (of-windows p b held.head.number ws is)
+
+  windows-held : windows_held (part, done_stream) ≡ map in_slot (head_found held.slot held.head ∷ found_by is_window held.rest)
+  windows-held =
+      ap₂ (λ (slot : ℕ) l. (slot, Some (stream_record done_stream)) ∷ l) held.in_slot
+      (ap₂ (λ (a : List ℕ) (b : List (Option Record)). zip a b) held.kept.entries
+      (sym (some-windows held.head.number ws)
+      ∙ ap (map Some) (sym (of-kind is_window true (λ w. refl)
+      ∙ ap (λ l. l ++ map (window_record held.head.number) ws) (no-windows held.head.number 1 (landmarks_made ms)))))
+      ∙ slots-records (found_by is_window held.rest))
+
+  landmarks-held : in_slots part.landmarks.slots (landmark_records held.head.number 1 (landmarks_made ms)) ≡ map in_slot (found_by is_landmark held.rest)
+  landmarks-held =
+      ap₂ in_slots held.kept.slots
+      (sym (of-kind is_landmark false (λ w. refl) ∙ append-nil _ ∙ landmarks-marks held.head.number 1 (landmarks_made ms)))
+      ∙ slots-records (found_by is_landmark held.rest)
+
+  values-held : in_slots part.landmarks.value_slots (all_value_records held.head.number 1 (landmarks_made ms)) ≡ map in_slot (found_by is_value held.rest)
+  values-held =
+      ap₂ in_slots held.kept.value_slots
+      (sym (of-kind is_value false (λ w. refl) ∙ append-nil _ ∙ values-marks held.head.number 1 (landmarks_made ms)))
+      ∙ slots-records (found_by is_value held.rest)
+
+  -- they are those that are held, in another order
+  pub done-held : IsPermutation (records_held (part, done_stream)) (map in_slot all)
+  done-held =
+      let h = head_found held.slot held.head in
+      let fs = found_by is_window held.rest in
+      let us = found_by is_landmark held.rest ++ found_by is_value held.rest in
+      let moved : IsPermutation (h ∷ (fs ++ us)) all =
+      subst (IsPermutation (h ∷ (fs ++ us))) (sym held.split) (IsPermutation-cons h (fs ++ us) held.rest (parts-found held.rest usable-rest
+      (meets front streams done held.head rs lower-head own-rest usable-all rises-all run-all).alone)) in
+      let parts : records_held (part, done_stream) ≡ map in_slot (h ∷ (fs ++ us)) =
+      ap₂ ◌++◌ windows-held (ap₂ ◌++◌ landmarks-held values-held ∙ sym (map-append in_slot (found_by is_landmark held.rest) (found_by is_value held.rest)))
+      ∙ sym (map-append in_slot (h ∷ fs) us) in
+      subst (λ l. IsPermutation l (map in_slot all)) (sym parts) (IsPermutation-map in_slot (h ∷ (fs ++ us)) all moved)
+
+  pub done-push : (parts : List StreamParts) (before : List Found) → without_slots before ≡ front → AllAgree parts streams →
+      IsPermutation (flat_map records_held (zip parts streams)) (map in_slot before) →
+      AreHeldSoFar (parts ++ part ∷ []) (streams ++ done_stream ∷ []) (before ++ all)
+  done-push parts before is each so_far = record {
+    each = AllAgree-push parts streams part done_stream each done-agrees;
+    records =
+        subst (λ l. IsPermutation l (map in_slot (before ++ all))) (sym (held-push parts streams part done_stream each))
+        (subst (IsPermutation (flat_map records_held (zip parts streams) ++ records_held (part, done_stream))) (sym (map-append in_slot before all))
+        (IsPermutation-append_both (flat_map records_held (zip parts streams)) (map in_slot before) (records_held (part, done_stream))
+        (map in_slot all) so_far done-held));
+    walked =
+        subst (λ l. AreWalked l (streams ++ done_stream ∷ [])) (sym (map-append (λ (f : Found). f.holds) before all ∙ (λ i. is i ++ split i)))
+        (AreWalked-run front streams done held.head rs lower-head own-rest usable-all rises-all run-all);
+  }

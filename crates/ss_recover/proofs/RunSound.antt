@@ -1,0 +1,271 @@
+-- The records of a number are sound, among those of others, where they are a run.
+use Rattle.std.proofs.Common.{◌≡◌, ◌∙◌, ℕ, ◌+◌, ◌^◌, ◌<◌, ◌≤◌, Bool, true, false, not, ◌&&◌, ◌||◌, cond, List, [], ◌∷◌, ◌++◌, map, length, refl, sym, ap}
+use Rattle.std.proofs.Common.{ap₂, inl, inr, arith, append-nil, Option, Some, None}
+use Rattle.std.specs.Prelude.{◌==◌, nat_le, nat_lt, count_by, fold}
+use Rattle.std.specs.List.{AllByRecursion, cons_option, filter_map, list_all, list_any}
+use Rattle.std.proofs.lemmas.Bool.{and_from, and_left, and_parts, and_right, cases_Bool, eq-eqb, eqb-true, ne_eqb, or_from}
+use Rattle.std.proofs.lemmas.Bool.{lt-ltb, le-leb, le-ltb}
+use Rattle.std.proofs.lemmas.List.{length-map}
+use Rattle.std.proofs.lemmas.List.Elements.{filter-append, filter_map-append}
+use Rattle.std.proofs.lemmas.List.Folds.{list_any-append}
+use Rattle.std.proofs.lemmas.List.Sums.{sum_by-cons, sum_by-append}
+use Rattle.ss_catalog.specs.Names.{same_name}
+use Rattle.ss_catalog.specs.declared.TheConstants.{MOST_STREAMS}
+use Rattle.ss_codec.specs.declared.record.Record.{Record}
+use Rattle.ss_codec.specs.declared.record.Record.TheVariants as records
+use Rattle.ss_model.proofs.NameLemmas.{same_name-swap}
+use Rattle.ss_model.specs.Marks.{lies_free}
+use Rattle.ss_model.specs.State.{Created}
+use Rattle.ss_model.specs.Windows.{taken}
+use Rattle.ss_model.specs.declared.types.Window.{Window}
+use Rattle.ss_summary.specs.declared.summary.TheConstants.{GREATEST_COUNT}
+use Rattle.ss_windowing.specs.declared.decay.TheConstants.{MOST_VALUES}
+use Rattle.ss_recover.specs.Carried.{created_by, is_mark_of, streams_created, window_of}
+use Rattle.ss_recover.specs.Conditions.{has_new_name, has_one_record, has_place, tile, tile_from, times_rise}
+use Rattle.ss_recover.specs.Held.{window_record}
+use Rattle.ss_recover.specs.Marked.{are_marks, landmarks_made, nothing_marked}
+use Rattle.ss_recover.specs.Order.{Rises, place_of, stream_of}
+use Rattle.ss_recover.specs.Runs.{Run, is_run, is_sound_in_order, marking, run_of, run_on}
+use Rattle.ss_recover.specs.Usable.{IsUsable}
+use Rattle.ss_recover.proofs.Lists.{all_weaker}
+use Rattle.ss_recover.proofs.SoundStreams.{MeetsAll-and, count-at, count-below, new-name}
+use Rattle.ss_recover.proofs.RunLaws.{ends, fold-none, fold-run, marks, no-marks, rise-times, windows}
+
+-- more than one stream record ends no run
+twice : (rs : List Record) (run : Option Run) (c : Created) (cs : List Created) → filter_map created_by rs ≡ c ∷ cs → fold run_on run rs ≡ None
+twice [] run c cs is = cc
+twice (r ∷ rs) None c cs is = fold-none rs
+twice (records.Free ∷ rs) (Some run) c cs is = twice rs (run_on (Some run) records.Free) c cs is
+twice (records.Stream id name params ∷ rs) (Some run) c cs is = fold-none rs
+twice (records.Window id first summary ∷ rs) (Some run) c cs is = twice rs (run_on (Some run) (records.Window id first summary)) c cs is
+twice (records.Landmark id number values start finish ∷ rs) (Some run) c cs is =
+    twice rs (run_on (Some run) (records.Landmark id number values start finish)) c cs is
+twice (records.Value id number index t v ∷ rs) (Some run) c cs is = twice rs (run_on (Some run) (records.Value id number index t v)) c cs is
+
+-- what the records of some numbers create
+created-of : (P : ℕ → Type 0) (rs : List Record) → AllByRecursion (λ r. P (stream_of r)) rs → AllByRecursion (λ c. P c.number) (filter_map created_by rs)
+created-of P [] all = tt
+created-of P (records.Free ∷ rs) all = created-of P rs all.1
+created-of P (records.Stream id name params ∷ rs) all = (all.0, created-of P rs all.1)
+created-of P (records.Window id first summary ∷ rs) all = created-of P rs all.1
+created-of P (records.Landmark id number values start finish ∷ rs) all = created-of P rs all.1
+created-of P (records.Value id number index t v ∷ rs) all = created-of P rs all.1
+
+-- after the first place no stream is created
+none-created : (rs : List Record) → AllByRecursion (λ r. 1 ≤ place_of r) rs → filter_map created_by rs ≡ []
+none-created [] all = refl
+none-created (records.Free ∷ rs) all = none-created rs all.1
+none-created (records.Stream id name params ∷ rs) all = absurd (let first = all.0 in omega (arith, first))
+none-created (records.Window id first summary ∷ rs) all = none-created rs all.1
+none-created (records.Landmark id number values start finish ∷ rs) all = none-created rs all.1
+none-created (records.Value id number index t v ∷ rs) all = none-created rs all.1
+
+windows-apart : (n : ℕ) (rs : List Record) → AllByRecursion (λ r. stream_of r ≡ n → ⊥) rs → windows n rs ≡ []
+windows-apart n [] apart = refl
+windows-apart n (records.Free ∷ rs) apart = windows-apart n rs apart.1
+windows-apart n (records.Stream id name params ∷ rs) apart = windows-apart n rs apart.1
+windows-apart n (records.Window id first summary ∷ rs) apart = rw (ne_eqb id n apart.0) (windows-apart n rs apart.1)
+windows-apart n (records.Landmark id number values start finish ∷ rs) apart = windows-apart n rs apart.1
+windows-apart n (records.Value id number index t v ∷ rs) apart = windows-apart n rs apart.1
+
+marks-apart : (n : ℕ) (rs : List Record) → AllByRecursion (λ r. stream_of r ≡ n → ⊥) rs → marks n rs ≡ []
+marks-apart n [] apart = refl
+marks-apart n (records.Free ∷ rs) apart = marks-apart n rs apart.1
+marks-apart n (records.Stream id name params ∷ rs) apart = marks-apart n rs apart.1
+marks-apart n (records.Window id first summary ∷ rs) apart = marks-apart n rs apart.1
+marks-apart n (records.Landmark id number values start finish ∷ rs) apart = rw (ne_eqb id n apart.0) (marks-apart n rs apart.1)
+marks-apart n (records.Value id number index t v ∷ rs) apart = rw (ne_eqb id n apart.0) (marks-apart n rs apart.1)
+
+-- windows that tile hold no more than a stream can take, since they are usable
+tile-windows : (n first : ℕ) (rs : List Record) → AllByRecursion IsUsable rs → first ≤ GREATEST_COUNT + 1 → tile_from first (windows n rs) ≡ true →
+    first + taken (windows n rs) ≤ GREATEST_COUNT + 1
+tile-windows n first [] usable low tiles = omega (arith, low)
+tile-windows n first (records.Free ∷ rs) usable low tiles = tile-windows n first rs usable.1 low tiles
+tile-windows n first (records.Stream id name params ∷ rs) usable low tiles = tile-windows n first rs usable.1 low tiles
+tile-windows n first (records.Landmark id number values start finish ∷ rs) usable low tiles = tile-windows n first rs usable.1 low tiles
+tile-windows n first (records.Value id number index t v ∷ rs) usable low tiles = tile-windows n first rs usable.1 low tiles
+tile-windows n first (records.Window id place summary ∷ rs) usable low tiles =
+    elim (id == n) as (λ b. tile_from first (cons_option (cond b (Some (record { first = place; summary = summary })) None) (windows n rs)) ≡ true →
+    first + taken (cons_option (cond b (Some (record { first = place; summary = summary })) None) (windows n rs)) ≤ GREATEST_COUNT + 1) [
+      | true ↦ λ tiles.
+          let w : Window = record { first = place; summary = summary } in
+          let parts = and_parts (place == first) (tile_from (first + summary.count) (windows n rs)) tiles in
+          let same = eqb-true place first parts.0 in
+          let high = usable.0.1 in
+          let rest = tile-windows n (first + summary.count) rs usable.1 (omega (arith, same, high)) parts.1 in
+          omega (arith, rest, sum_by-cons (λ (v : Window). v.summary.count) w (windows n rs))
+      | false ↦ λ tiles. tile-windows n first rs usable.1 low tiles
+    ] tiles
+
+tile-run : (n : ℕ) (rs : List Record) → AllByRecursion IsUsable rs → tile_from 1 (windows n rs) ≡ tile (windows n rs)
+tile-run n rs usable =
+    elim (cases_Bool (tile_from 1 (windows n rs))) [
+      | inl tiles ↦
+          let few = tile-windows n 1 rs usable (omega arith) tiles in
+          tiles ∙ sym (and_from (tile_from 1 (windows n rs)) (nat_le (taken (windows n rs)) MOST_VALUES) tiles (le-leb (taken (windows n rs)) MOST_VALUES (omega (arith, few))))
+      | inr fails ↦ fails ∙ sym (and_left (tile_from 1 (windows n rs)) (nat_le (taken (windows n rs)) MOST_VALUES) fails)
+    ]
+
+-- the conditions on windows and landmarks
+abbrev Conditions : List Window → List Record → Bool → Bool
+Conditions ws ms b = b && tile ws && times_rise ws && are_marks ms && list_all (lies_free (landmarks_made ms)) ws
+
+joined : (a b t u v w x : Bool) → a ≡ true → ((b && t) && ((u && v) && w && x)) ≡ (a && b && t && u && v && w && x)
+joined true true true true v w x is = refl
+joined true true true false v w x is = refl
+joined true true false u v w x is = refl
+joined true false t u v w x is = refl
+joined false b t u v w x is = cc
+
+never : (a b t u v w x : Bool) → a ≡ false → (a && b && t && u && v && w && x) ≡ false
+never false b t u v w x is = refl
+never true b t u v w x is = cc
+
+-- Records of lower numbers, those of a number, and those of greater ones.
+module _ (front run back : List Record) (n : ℕ) (lower : AllByRecursion (λ r. stream_of r < n) front) (own : AllByRecursion (λ r. stream_of r ≡ n) run)
+    (above : AllByRecursion (λ r. n < stream_of r) back) where
+  abbrev all : List Record
+  all = front ++ (run ++ back)
+
+  abbrev cs : List Created
+  cs = streams_created front
+
+  abbrev here : List Created
+  here = streams_created run
+
+  abbrev later : List Created
+  later = streams_created back
+
+  created-parts : streams_created all ≡ cs ++ (here ++ later)
+  created-parts = filter_map-append created_by front (run ++ back) ∙ ap (λ l. cs ++ l) (filter_map-append created_by run back)
+
+  front-apart : AllByRecursion (λ r. stream_of r ≡ n → ⊥) front
+  front-apart = all_weaker (λ r. stream_of r < n) (λ r. stream_of r ≡ n → ⊥) (λ r lt same. absurd (omega (arith, lt, same))) front lower
+
+  back-apart : AllByRecursion (λ r. stream_of r ≡ n → ⊥) back
+  back-apart = all_weaker (λ r. n < stream_of r) (λ r. stream_of r ≡ n → ⊥) (λ r lt same. absurd (omega (arith, lt, same))) back above
+
+  pub windows-own : windows n all ≡ windows n run
+  windows-own =
+      filter_map-append (window_of n) front (run ++ back) ∙ ap₂ ◌++◌ (windows-apart n front front-apart)
+      (filter_map-append (window_of n) run back ∙ ap (λ l. windows n run ++ l) (windows-apart n back back-apart) ∙ append-nil (windows n run))
+
+  pub marks-own : marks n all ≡ marks n run
+  marks-own =
+      filter-append (is_mark_of n) front (run ++ back) ∙ ap₂ ◌++◌ (marks-apart n front front-apart)
+      (filter-append (is_mark_of n) run back ∙ ap (λ l. marks n run ++ l) (marks-apart n back back-apart) ∙ append-nil (marks n run))
+
+  cs-below : AllByRecursion (λ c. c.number < n) cs
+  cs-below = created-of (λ k. k < n) front lower
+
+  here-own : AllByRecursion (λ c. c.number ≡ n) here
+  here-own = created-of (λ k. k ≡ n) run own
+
+  later-above : AllByRecursion (λ c. n < c.number) later
+  later-above = created-of (λ k. n < k) back above
+
+  -- they are sound where the streams, of which so many are of the number, and the other records are
+  sound-parts : is_sound_in_order all n
+      ≡ ((length here == 1) && nat_lt (length cs) MOST_STREAMS && has_new_name n (cs ++ (here ++ later)) && tile (windows n run) && times_rise (windows n run)
+      && are_marks (marks n run) && list_all (lies_free (landmarks_made (marks n run))) (windows n run))
+  sound-parts =
+      let one = count-at cs here later n cs-below here-own later-above in
+      let place = count-below cs here later n cs-below here-own later-above in
+      (λ i. has_one_record n (created-parts i) && has_place n (created-parts i) && has_new_name n (created-parts i) && tile (windows-own i)
+      && times_rise (windows-own i) && are_marks (marks-own i) && list_all (lies_free (landmarks_made (marks-own i))) (windows-own i))
+      ∙ (λ i. (one i == 1) && nat_lt (place i) MOST_STREAMS && has_new_name n (cs ++ (here ++ later)) && tile (windows n run) && times_rise (windows n run)
+      && are_marks (marks n run) && list_all (lies_free (landmarks_made (marks n run))) (windows n run))
+
+  sound-never : (length here ≡ 1 → ⊥) → is_sound_in_order all n ≡ false
+  sound-never other = sound-parts ∙ never _ _ _ _ _ _ _ (ne_eqb (length here) 1 other)
+
+-- the records of a number are sound where they are a run
+pub is_run-sound : (front run back : List Record) (n : ℕ) → AllByRecursion (λ r. stream_of r < n) front → AllByRecursion (λ r. stream_of r ≡ n) run →
+    AllByRecursion (λ r. n < stream_of r) back → AllByRecursion IsUsable run → Rises place_of run → 1 ≤ length run →
+    is_sound_in_order (front ++ (run ++ back)) n ≡ is_run (map (λ (c : Created). c.name) (streams_created front)) run
+is_run-sound front [] back n lower own above usable rises some = absurd (omega (arith, some))
+is_run-sound front (records.Free ∷ rest) back n lower own above usable rises some = absurd usable.0
+is_run-sound front (records.Window id first summary ∷ rest) back n lower own above usable rises some =
+    let r = records.Window id first summary in
+    let none = none-created rest (all_weaker (λ q. place_of r ≤ place_of q) (λ q. 1 ≤ place_of q) (λ q le. omega (arith, le)) rest rises.0) in
+    sound-never front (r ∷ rest) back n lower own above (λ one. absurd (omega (arith, one, ap (λ (l : List Created). length l) none)))
+is_run-sound front (records.Landmark id number values start finish ∷ rest) back n lower own above usable rises some =
+    let r = records.Landmark id number values start finish in
+    let low = usable.0.0 in
+    let none = none-created rest (all_weaker (λ q. place_of r ≤ place_of q) (λ q. 1 ≤ place_of q) (λ q le. omega (arith, le, low)) rest rises.0) in
+    sound-never front (r ∷ rest) back n lower own above (λ one. absurd (omega (arith, one, ap (λ (l : List Created). length l) none)))
+is_run-sound front (records.Value id number index t v ∷ rest) back n lower own above usable rises some =
+    let r = records.Value id number index t v in
+    let low = usable.0.0 in
+    let none = none-created rest (all_weaker (λ q. place_of r ≤ place_of q) (λ q. 1 ≤ place_of q) (λ q le. omega (arith, le, low)) rest rises.0) in
+    sound-never front (r ∷ rest) back n lower own above (λ one. absurd (omega (arith, one, ap (λ (l : List Created). length l) none)))
+is_run-sound front (records.Stream id name params ∷ rest) back n lower own above usable rises some =
+    let r = records.Stream id name params in
+    let c : Created = record { number = id; name = name; params = params } in
+    let names = map (λ (o : Created). o.name) (streams_created front) in
+    let may = nat_lt (length names) MOST_STREAMS && not (list_any (same_name name) names) in
+    let ws = windows n rest in
+    elim (streams_created rest) as (λ us. streams_created rest ≡ us → is_sound_in_order (front ++ ((r ∷ rest) ++ back)) n ≡ is_run names (r ∷ rest)) [
+      | [] ↦ λ none.
+          let few : length names ≡ length (streams_created front) = length-map (streams_created front) (λ (o : Created). o.name) in
+          let new : has_new_name n (streams_created front ++ ((c ∷ streams_created rest) ++ streams_created back)) ≡ not (list_any (same_name name) names) =
+          ap (λ us. has_new_name n (streams_created front ++ ((c ∷ us) ++ streams_created back))) none
+          ∙ new-name (streams_created front) (c ∷ []) (streams_created back) n (cs-below front (r ∷ rest) back n lower own above) (own.0, tt)
+          (later-above front (r ∷ rest) back n lower own above) c own.0 in
+          let tiles = tile-run n rest usable.1 in
+          let times = rise-times ws in
+          let whole : ends (run_of rest)
+          ≡ (tile ws && times_rise ws && are_marks (marks n rest) && list_all (lies_free (landmarks_made (marks n rest))) ws) =
+          fold-run n rest own.1 usable.1 rises.1 none nothing_marked
+          ∙ (λ i. tiles i && times i && are_marks (marks n rest) && list_all (lies_free (landmarks_made (marks n rest))) ws) in
+          sound-parts front (r ∷ rest) back n lower own above
+          ∙ sym (joined (length (c ∷ streams_created rest) == 1) (nat_lt (length (streams_created front)) MOST_STREAMS)
+          (has_new_name n (streams_created front ++ ((c ∷ streams_created rest) ++ streams_created back))) (tile ws) (times_rise ws)
+          (are_marks (marks n rest)) (list_all (lies_free (landmarks_made (marks n rest))) ws)
+          (ap (λ (l : List Created). length (c ∷ l) == 1) none))
+          ∙ (λ i. nat_lt (sym few i) MOST_STREAMS && new i && sym whole i)
+      | u ∷ us ↦ λ is.
+          sound-never front (r ∷ rest) back n lower own above (λ one. absurd (omega (arith, one, ap (λ (l : List Created). length l) is)))
+          ∙ sym (ap (λ o. may && ends o) (twice rest (Some (marking nothing_marked)) u us is) ∙ and_right may false refl)
+    ] refl
+
+-- what the records of a run meet
+pub record MeetsRun (front rest : List Record) (head : Created) : Type 0 where
+  pub alone : filter_map created_by rest ≡ []
+  pub tiles : tile (windows head.number rest) ≡ true
+  pub rising : times_rise (windows head.number rest) ≡ true
+  pub landmarks : are_marks (marks head.number rest) ≡ true
+  pub free : list_all (lies_free (landmarks_made (marks head.number rest))) (windows head.number rest) ≡ true
+
+pub run-meets : (front rest : List Record) (head : Created) → AllByRecursion (λ r. stream_of r < head.number) front →
+    AllByRecursion (λ r. stream_of r ≡ head.number) rest → AllByRecursion IsUsable (records.Stream head.number head.name head.params ∷ rest) →
+    Rises place_of (records.Stream head.number head.name head.params ∷ rest) →
+    is_run (map (λ (c : Created). c.name) (streams_created front)) (records.Stream head.number head.name head.params ∷ rest) ≡ true →
+    MeetsRun front rest head
+run-meets front rest head lower own usable rises run =
+    let r = records.Stream head.number head.name head.params in
+    let all = MeetsAll-and _ _ _ _ _ _ _ (sym (sound-parts front (r ∷ rest) [] head.number lower (refl, own) tt)
+    ∙ is_run-sound front (r ∷ rest) [] head.number lower (refl, own) tt usable rises (omega arith) ∙ run) in
+    let one = eqb-true (length (head ∷ streams_created rest)) 1 all.one in
+    record { alone = nothing (streams_created rest) (omega (arith, one)); tiles = all.tiles; rising = all.rising; landmarks = all.marks; free = all.free }
+  where
+    nothing : (us : List Created) → length us ≡ 0 → us ≡ []
+    nothing [] none = refl
+    nothing (u ∷ us) none = absurd (omega (arith, none))
+
+-- the records of a run are those of landmarks and their values, and then those of windows
+pub run-order : (n : ℕ) (rs : List Record) → AllByRecursion (λ r. stream_of r ≡ n) rs → AllByRecursion IsUsable rs → Rises place_of rs →
+    filter_map created_by rs ≡ [] → rs ≡ marks n rs ++ map (window_record n) (windows n rs)
+run-order n [] own usable rises none = refl
+run-order n (records.Free ∷ rs) own usable rises none = absurd usable.0
+run-order n (records.Stream id name params ∷ rs) own usable rises none = cc
+run-order n (records.Landmark id number values start finish ∷ rs) own usable rises none =
+    rw (eq-eqb id n own.0) (ap (λ l. records.Landmark id number values start finish ∷ l) (run-order n rs own.1 usable.1 rises.1 none))
+run-order n (records.Value id number index t v ∷ rs) own usable rises none =
+    rw (eq-eqb id n own.0) (ap (λ l. records.Value id number index t v ∷ l) (run-order n rs own.1 usable.1 rises.1 none))
+run-order n (records.Window id first summary ∷ rs) own usable rises none =
+    let late = all_weaker (λ q. 2 ^ 64 + first ≤ place_of q) (λ q. 2 ^ 64 ≤ place_of q) (λ q le. omega (arith, le)) rs rises.0 in
+    let none_marks = no-marks n rs usable.1 late in
+    let rest : rs ≡ map (window_record n) (windows n rs) =
+    run-order n rs own.1 usable.1 rises.1 none ∙ ap (λ l. l ++ map (window_record n) (windows n rs)) none_marks in
+    rw (eq-eqb id n own.0, none_marks) (λ i. records.Window (own.0 i) first summary ∷ rest i)

@@ -1,0 +1,244 @@
+-- Streams that records in order are of, one run after another.
+use Rattle.std.proofs.Common.{◌≡◌, ◌∙◌, ℕ, suc, zero, ◌+◌, ◌<◌, ◌≤◌, Bool, true, false, List, [], ◌∷◌, ◌++◌, filter, map, length, flat_map, refl, sym, ap, subst, arith}
+use Rattle.std.proofs.Common.{append_assoc, append-nil, inl, inr}
+use Rattle.std.specs.Prelude.{nat_lt, not}
+use Rattle.std.specs.Option.{option_map_or}
+use Rattle.std.specs.List.{AllByRecursion, IsDistinct, filter_map, list_any}
+use Rattle.std.proofs.lemmas.Bool.{and_parts, cases_eq, ltb-true, not-true, or_parts}
+use Rattle.std.proofs.lemmas.List.{length-append, length-map, map-append}
+use Rattle.std.proofs.lemmas.List.Concat.{flat_map-append}
+use Rattle.std.proofs.lemmas.List.Elements.{All-from_recursion}
+use Rattle.std.proofs.lemmas.List.Sums.{sum_by-cons}
+use Rattle.std.proofs.lemmas.Map.Keys.{IsDistinct-cons, IsDistinct-from_apart, IsDistinct-head, IsDistinct-tail}
+use Rattle.ss_catalog.specs.Names.{same_name}
+use Rattle.ss_catalog.specs.declared.TheConstants.{MOST_STREAMS}
+use Rattle.ss_codec.specs.declared.record.Record.{Record}
+use Rattle.ss_codec.specs.declared.record.Record.TheVariants as records
+use Rattle.ss_model.proofs.NameLemmas.{same_name-swap}
+use Rattle.ss_model.specs.Standing.{IsState, IsStream}
+use Rattle.ss_model.specs.State as Streams
+use Rattle.ss_model.specs.State.{Created, Stream, live, names_of}
+use Rattle.ss_model.specs.declared.types.TheConstants.{MOST_RECORDS}
+use Rattle.ss_model.specs.declared.types.Window.{Window}
+use Rattle.ss_recover.specs.Carried.{is_mark_of, streams_created, window_of}
+use Rattle.ss_recover.specs.Held.{window_record}
+use Rattle.ss_recover.specs.Marked.{landmarks_made}
+use Rattle.ss_recover.specs.Order.{Rises, key_of, place_of, stream_of}
+use Rattle.ss_recover.specs.Runs.{is_ended, is_run, is_sound_in_order, may_stand, run_of}
+use Rattle.ss_recover.specs.Usable.{IsUsable}
+use Rattle.ss_recover.proofs.HeldRecords.{all_walked, created, created-all_walked, walked}
+use Rattle.ss_recover.proofs.InOrder.{Rise, increasing-Rise}
+use Rattle.ss_recover.proofs.Lists.{all-kept, all-passing, all_append, all_behind, all_front, all_push, all_weaker, map-map}
+use Rattle.ss_recover.proofs.Marks.{length-marks_of, marks_of}
+use Rattle.ss_recover.proofs.MarksSoFar.{AreOf, AreOf-are_marks}
+use Rattle.ss_recover.proofs.RunOrder.{places-rise, streams-rise, Rises-parts}
+use Rattle.ss_recover.proofs.RunSound.{MeetsRun, is_run-sound, run-meets, run-order}
+use Rattle.ss_recover.proofs.SoundStreams.{AreWindows-tile}
+use Rattle.ss_recover.proofs.ValidRecords.{all-window_of}
+
+-- Records are those of streams of a state, in order.
+pub record AreWalked (front : List Record) (streams : List Stream) : Type 0 where
+  pub order : front ≡ all_walked streams
+  pub sound : AllByRecursion IsStream streams
+  pub rise : Rise (λ s. s.number) streams
+  pub distinct : IsDistinct same_name (names_of streams)
+  pub few : length streams ≤ MOST_STREAMS
+
+pub AreWalked-none : AreWalked [] []
+AreWalked-none = record {
+  order = refl;
+  sound = tt;
+  rise = tt;
+  distinct = IsDistinct-from_apart same_name [] (λ i j d before within. absurd (omega (arith, within)));
+  few = omega arith;
+}
+
+pub Rise-push : {X : Type 0} (key : X → ℕ) (xs : List X) (x : X) → Rise key xs → AllByRecursion (λ y. key y < key x) xs → Rise key (xs ++ x ∷ [])
+Rise-push key [] x rise below = (tt, tt)
+Rise-push key (y ∷ ys) x rise below = (all_push (λ z. key y < key z) ys x rise.0 below.0, Rise-push key ys x rise.1 below.1)
+
+-- how many records streams have
+length-records : (ss : List Stream) → length (all_walked ss) ≡ live ss
+length-records [] = refl
+length-records (s ∷ ss) =
+    omega (
+      arith,
+      length-append (walked s) (all_walked ss),
+      length-append (marks_of s.number 1 s.landmarks) (map (window_record s.number) s.windows),
+      length-marks_of s.number 1 s.landmarks,
+      length-map s.windows (window_record s.number),
+      length-records ss,
+      sum_by-cons Streams.records_of s ss,
+    )
+
+pub IsState-walked : (rs : List Record) (streams : List Stream) → AreWalked rs streams → length rs ≤ MOST_RECORDS → IsState streams
+IsState-walked rs streams are few = record {
+  each = All-from_recursion IsStream streams are.sound;
+  numbers = increasing-Rise (λ (s : Stream). s.number) streams are.rise;
+  names = are.distinct;
+  few = are.few;
+  room = omega (arith, few, length-records streams, ap (λ (us : List Record). length us) are.order);
+}
+
+distinct-push : (xs : List (List ℕ)) (y : List ℕ) → IsDistinct same_name xs → list_any (same_name y) xs ≡ false → IsDistinct same_name (xs ++ y ∷ [])
+distinct-push [] y distinct new = IsDistinct-cons same_name y [] tt distinct
+distinct-push (x ∷ xs) y distinct new =
+    let parts = or_parts (same_name y x) (list_any (same_name y) xs) new in
+    IsDistinct-cons same_name x (xs ++ y ∷ [])
+    (all_push (λ z. same_name x z ≡ false) xs y (IsDistinct-head same_name x xs distinct) (same_name-swap x y ∙ parts.0))
+    (distinct-push xs y (IsDistinct-tail same_name x xs distinct) parts.1)
+
+-- each record of a list is of a lower number than each of another one
+abbrev pub AreBefore : List Record → List Record → Type 0
+AreBefore front back = AllByRecursion (λ q. AllByRecursion (λ r. stream_of r < stream_of q) front) back
+
+pub nothing-before : (back : List Record) → AreBefore [] back
+nothing-before [] = tt
+nothing-before (r ∷ rs) = (tt, nothing-before rs)
+
+-- the numbers of streams are those of their records
+numbers-walked : (P : ℕ → Type 0) (ss : List Stream) → AllByRecursion (λ r. P (stream_of r)) (all_walked ss) → AllByRecursion (λ s. P s.number) ss
+numbers-walked P [] all = tt
+numbers-walked P (s ∷ ss) all = (all.0, numbers-walked P ss (all_behind (λ r. P (stream_of r)) (walked s) (all_walked ss) all))
+
+-- what comes before a run and the run itself come before what comes after it
+pub AreBefore-run : (front run back : List Record) (n : ℕ) → AllByRecursion (λ r. stream_of r < n) front → AllByRecursion (λ r. stream_of r ≡ n) run →
+    AllByRecursion (λ r. n < stream_of r) back → AreBefore (front ++ run) back
+AreBefore-run front run back n lower own above =
+    all_weaker (λ q. n < stream_of q) (λ q. AllByRecursion (λ r. stream_of r < stream_of q) (front ++ run))
+    (λ q more. all_append (λ r. stream_of r < stream_of q) front run
+    (all_weaker (λ r. stream_of r < n) (λ r. stream_of r < stream_of q) (λ r lt. omega (arith, lt, more)) front lower)
+    (all_weaker (λ r. stream_of r ≡ n) (λ r. stream_of r < stream_of q) (λ r is. omega (arith, is, more)) run own)) back above
+
+-- the names of the streams that records create
+pub names-front : (front : List Record) (streams : List Stream) → AreWalked front streams →
+    map (λ (c : Created). c.name) (streams_created front) ≡ names_of streams
+names-front front streams done =
+    ap (λ us. map (λ (c : Created). c.name) (streams_created us)) done.order ∙ ap (map (λ (c : Created). c.name)) (created-all_walked streams)
+    ∙ map-map (λ (c : Created). c.name) created streams
+
+-- A run after the records of streams.
+module _ (front : List Record) (streams : List Stream) (done : AreWalked front streams) (head : Created) (rest : List Record)
+    (lower : AllByRecursion (λ r. stream_of r < head.number) front) (own : AllByRecursion (λ r. stream_of r ≡ head.number) rest)
+    (usable : AllByRecursion IsUsable (records.Stream head.number head.name head.params ∷ rest))
+    (rises : Rises place_of (records.Stream head.number head.name head.params ∷ rest))
+    (run : is_run (names_of streams) (records.Stream head.number head.name head.params ∷ rest) ≡ true) where
+  abbrev first : Record
+  first = records.Stream head.number head.name head.params
+
+  pub meets : MeetsRun front rest head
+  meets = run-meets front rest head lower own usable rises (ap (λ ns. is_run ns (first ∷ rest)) (names-front front streams done) ∙ run)
+
+  abbrev ms : List Record
+  ms = filter (is_mark_of head.number) rest
+
+  abbrev ws : List Window
+  ws = filter_map (window_of head.number) rest
+
+  marks-are : AreOf head.number ms (landmarks_made ms)
+  marks-are = AreOf-are_marks head.number ms (all-passing (is_mark_of head.number) rest) (all-kept IsUsable (is_mark_of head.number) rest usable.1)
+      meets.landmarks
+
+  abbrev pub stream_made : Stream
+  stream_made = record { number = head.number; name = head.name; params = head.params; windows = ws; landmarks = landmarks_made ms }
+
+  is-stream : IsStream stream_made
+  is-stream = record {
+    target = usable.0.0;
+    number = usable.0.1;
+    windows = AreWindows-tile ws meets.tiles meets.rising
+        (all-window_of head.number rest (all_weaker IsUsable (λ r. (r ≡ records.Free → ⊥) → IsUsable r) (λ r is _. is) rest usable.1));
+    landmarks = marks-are.landmarks;
+    free = meets.free;
+  }
+
+  -- the records are those of the stream, in order
+  pub rest-order : rest ≡ marks_of head.number 1 (landmarks_made ms) ++ map (window_record head.number) ws
+  rest-order = run-order head.number rest own usable.1 rises.1 meets.alone ∙ ap (λ l. l ++ map (window_record head.number) ws) marks-are.records
+
+  pub AreWalked-run : AreWalked (front ++ first ∷ rest) (streams ++ stream_made ∷ [])
+  AreWalked-run =
+      let both = and_parts (may_stand (names_of streams) head.name) (option_map_or is_ended (run_of rest) false) run in
+      let may = and_parts (nat_lt (length (names_of streams)) MOST_STREAMS) (not (list_any (same_name head.name) (names_of streams))) both.0 in
+      let below = numbers-walked (λ k. k < head.number) streams (subst (AllByRecursion (λ r. stream_of r < head.number)) done.order lower) in
+      let least = ltb-true (length (names_of streams)) MOST_STREAMS may.0 in
+      record {
+        order =
+            (λ i. done.order i ++ first ∷ rest-order i)
+            ∙ sym (flat_map-append walked streams (stream_made ∷ []) ∙ ap (λ l. all_walked streams ++ l) (append-nil (walked stream_made)));
+        sound = all_push IsStream streams stream_made done.sound is-stream;
+        rise = Rise-push (λ s. s.number) streams stream_made done.rise below;
+        distinct = subst (IsDistinct same_name) (sym (map-append (λ (s : Stream). s.name) streams (stream_made ∷ [])))
+            (distinct-push (names_of streams) head.name done.distinct (not-true (list_any (same_name head.name) (names_of streams)) may.1));
+        few = omega (arith, least, length-map streams (λ (s : Stream). s.name), length-append streams (stream_made ∷ []));
+      }
+
+-- ---- all runs, where each is sound
+
+-- The first records of a list, which are of one stream.
+record IsCut (n : ℕ) (rs : List Record) : Type 0 where
+  own : List Record
+  back : List Record
+  split : rs ≡ own ++ back
+  same : AllByRecursion (λ r. stream_of r ≡ n) own
+  above : AllByRecursion (λ r. n < stream_of r) back
+
+cut : (n : ℕ) (rs : List Record) → AllByRecursion (λ r. n ≤ stream_of r) rs → Rises stream_of rs → IsCut n rs
+cut n [] low rises = record { own = []; back = []; split = refl; same = tt; above = tt }
+cut n (r ∷ rs) low rises =
+    elim (cases_eq (stream_of r) n) [
+      | inl is ↦
+          (let rest = cut n rs low.1 rises.1 in
+          record { own = r ∷ rest.own; back = rest.back; split = ap (λ l. r ∷ l) rest.split; same = (is, rest.same); above = rest.above })
+      | inr other ↦
+          (let lt : n < stream_of r = omega (arith, other, low.0) in record {
+            own = [];
+            back = r ∷ rs;
+            split = refl;
+            same = tt;
+            above = (lt, all_weaker (λ q. stream_of r ≤ stream_of q) (λ q. n < stream_of q) (λ q le. omega (arith, lt, le)) rs rises.0);
+          })
+    ]
+
+step : (front : List Record) (streams : List Stream) → AreWalked front streams → (r : Record) (own : List Record) →
+    AllByRecursion (λ q. stream_of q < stream_of r) front → AllByRecursion (λ q. stream_of q ≡ stream_of r) own → AllByRecursion IsUsable (r ∷ own) →
+    Rises place_of (r ∷ own) → is_run (names_of streams) (r ∷ own) ≡ true → (s : Stream) × AreWalked (front ++ r ∷ own) (streams ++ s ∷ [])
+step front streams done records.Free own lower same usable rises run = absurd usable.0
+step front streams done (records.Window id first summary) own lower same usable rises run = absurd (cc)
+step front streams done (records.Landmark id n said start finish) own lower same usable rises run = absurd (cc)
+step front streams done (records.Value id n index t v) own lower same usable rises run = absurd (cc)
+step front streams done (records.Stream id name params) own lower same usable rises run =
+    let head : Created = record { number = id; name = name; params = params } in
+    (stream_made front streams done head own lower same usable rises run, AreWalked-run front streams done head own lower same usable rises run)
+
+pub walk : (most : ℕ) (front back : List Record) (streams : List Stream) → length back ≤ most → AreWalked front streams → AreBefore front back →
+    AllByRecursion IsUsable back → Rises key_of back → AllByRecursion (λ r. is_sound_in_order (front ++ back) (stream_of r) ≡ true) back →
+    (ss : List Stream) × AreWalked (front ++ back) ss
+walk most front [] streams few done before usable order sound = (streams, subst (λ l. AreWalked l streams) (sym (append-nil front)) done)
+walk zero front (r ∷ more) streams few done before usable order sound = absurd (omega (arith, few))
+walk (suc most) front (r ∷ more) streams few done before usable order sound =
+    let n = stream_of r in
+    let rising = streams-rise (λ q. q) (r ∷ more) order usable in
+    let c = cut n more rising.0 rising.1 in
+    let run = r ∷ c.own in
+    let whole : r ∷ more ≡ run ++ c.back = ap (λ l. r ∷ l) c.split in
+    let same : front ++ r ∷ more ≡ (front ++ run) ++ c.back = ap (λ l. front ++ l) whole ∙ sym (append_assoc front run c.back) in
+    let usable_run = all_front IsUsable run c.back (subst (AllByRecursion IsUsable) whole usable) in
+    let orders = Rises-parts key_of run c.back (subst (Rises key_of) whole order) in
+    let own : AllByRecursion (λ q. stream_of q ≡ n) run = (refl, c.same) in
+    let rises : Rises place_of run = subst (Rises place_of) (map-same run) (places-rise (λ (q : Record). q) n run orders.0 own) in
+    let is : is_run (names_of streams) run ≡ true =
+    sym (is_run-sound front run c.back n before.0 own c.above usable_run rises (omega arith) ∙ ap (λ ns. is_run ns run) (names-front front streams done))
+    ∙ ap (λ l. is_sound_in_order (front ++ l) n) (sym whole) ∙ sound.0 in
+    let next = step front streams done r c.own before.0 c.same usable_run rises is in
+    let long = ap (λ (l : List Record). length l) c.split in
+    let sounds = all_behind (λ q. is_sound_in_order (front ++ r ∷ more) (stream_of q) ≡ true) run c.back
+    (subst (AllByRecursion (λ q. is_sound_in_order (front ++ r ∷ more) (stream_of q) ≡ true)) whole sound) in
+    let rest = walk most (front ++ run) c.back (streams ++ next.0 ∷ []) (omega (arith, few, long, length-append c.own c.back)) next.1
+    (AreBefore-run front run c.back n before.0 own c.above) (all_behind IsUsable run c.back (subst (AllByRecursion IsUsable) whole usable)) orders.1
+    (subst (λ l. AllByRecursion (λ q. is_sound_in_order l (stream_of q) ≡ true) c.back) same sounds) in
+    (rest.0, subst (λ l. AreWalked l rest.0) (sym same) rest.1)
+  where
+    map-same : (rs : List Record) → map (λ (q : Record). q) rs ≡ rs
+    map-same [] = refl
+    map-same (q ∷ qs) = ap (λ l. q ∷ l) (map-same qs)

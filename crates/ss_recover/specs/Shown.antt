@@ -1,0 +1,282 @@
+-- What is held of the stream whose records come shows what they are, and what a walk over the records of one stream answers.
+use Rattle.std.specs.Prelude.{◌≡◌, ℕ, ℤ, ◌+◌, ◌-◌, ◌<◌, ◌≤◌, Bool, true, false, ◌==◌, ◌&&◌, ◌||◌, nat_le, nat_lt, is_none, List, [], ◌∷◌, ◌++◌, length, map, filter}
+use Rattle.std.specs.Prelude.{IfSome, MatchOption, Option, Some, None, Result, Ok, Err, ⊤}
+use Rattle.std.specs.Option.{option_map_or}
+use Rattle.std.specs.List.{filter_map, list_all}
+use Rattle.ss_catalog.specs.declared.stream_id.StreamId.{StreamId}
+use Rattle.ss_catalog.specs.declared.params.Params.{Params}
+use Rattle.ss_codec.specs.declared.record.Record.{Record}
+use Rattle.ss_codec.specs.declared.record.Record.TheVariants as records
+use Rattle.ss_landmarks.specs.Free.{is_up_to}
+use Rattle.ss_landmarks.specs.Landmark.{Landmark, LandmarkValue, change_last, closed_at, opened_at, with_value}
+use Rattle.ss_landmarks.specs.Landmarks.{IsState as AreKnown}
+use Rattle.ss_landmarks.specs.Order.{CanClose}
+use Rattle.ss_landmarks.specs.declared.landmarks.TheConstants.{LATEST_TIME}
+use Rattle.ss_line.specs.Line.{LineState}
+use Rattle.ss_line.specs.declared.entry.At.{At}
+use Rattle.ss_line.specs.declared.entry.Entry.{Entry}
+use Rattle.ss_summary.specs.Figures.{Figures}
+use Rattle.ss_target.specs.Targets.{params_of}
+use Rattle.ss_model.specs.Marks.{later, latest_of}
+use Rattle.ss_model.specs.State.{Created}
+use Rattle.ss_model.specs.Windows.{newest_time}
+use Rattle.ss_model.specs.declared.types.TheConstants.{MOST_RECORDS}
+use Rattle.ss_recover.specs.Carried.{is_mark_of, window_of}
+use Rattle.ss_recover.specs.Held.{span_held, span_of}
+use Rattle.ss_recover.specs.Marked.{Marked, landmarks_made, marked_by, nothing_marked}
+use Rattle.ss_recover.specs.Runs.{Run, is_ended, is_run, marking, may_stand, tiling}
+use Rattle.ss_recover.specs.Usable.{slots_of, without_slots}
+use Rattle.ss_recover.specs.declared.found.Found.{Found}
+use Rattle.ss_recover.specs.declared.parts.StreamParts.{StreamParts}
+use Rattle.ss_recover.specs.declared.run.Last.{Last}
+use Rattle.ss_recover.specs.declared.run.Marks.{Marks}
+use Rattle.ss_recover.specs.declared.run.Open.{Open}
+use Rattle.ss_recover.specs.declared.run.Stage.{Stage}
+use Rattle.ss_recover.specs.declared.run.Stage.TheVariants as stages
+use Rattle.ss_recover.specs.declared.recover_error.RecoverError.{RecoverError}
+use Rattle.ss_recover.specs.declared.recover_error.RecoverError.TheVariants.{BadSlot, BadStream, Disk, OutOfMemory}
+
+-- ---- what is asked of the last landmark
+
+-- when it closes, if it is to
+abbrev pub finish_of : Option Last → Option ℕ
+finish_of None = None
+finish_of (Some last) = last.finish
+
+-- it has the values that its record says, if it is to close
+abbrev pub has_said_last : Option Last → Bool
+has_said_last last = option_map_or (λ c. is_none c.finish || c.values == c.said) last true
+
+-- it closes before a time
+abbrev pub closes_before : ℕ → Last → Bool
+closes_before t last = option_map_or (λ finish. nat_lt finish t) last.finish false
+
+-- a landmark of this number may open then
+abbrev pub can_open : ℕ → Option Last → ℕ → ℕ → Bool
+can_open count last number start =
+    number == count + 1 && option_map_or (λ c. (is_none c.finish || c.values == c.said) && closes_before start c) last true
+
+-- a value of these numbers may come then
+abbrev pub can_add : ℕ → Last → ℕ → ℕ → ℕ → Bool
+can_add count c number index t = number == count && (index == c.values + 1 && nat_le c.from t && is_up_to t c.finish)
+
+-- the landmarks, and their latest time, once the last one has closed, if it is to
+abbrev pub with_closing : Option ℕ → List Landmark → List Landmark
+with_closing None landmarks = landmarks
+with_closing (Some finish) landmarks = change_last (closed_at finish) landmarks
+
+abbrev pub latest_at_end : Option ℕ → Option ℕ → Option ℕ
+latest_at_end None latest = latest
+latest_at_end (Some finish) latest = Some finish
+
+-- the last landmark has closed, if it was to
+pub record HasClosed (finish : Option ℕ) (old new : Marks) : Type 0 where
+  pub landmarks : new.landmarks.landmarks ≡ with_closing finish old.landmarks.landmarks
+  pub slots : new.landmarks.slots ≡ old.landmarks.slots
+  pub value_slots : new.landmarks.value_slots ≡ old.landmarks.value_slots
+  pub latest : new.latest ≡ latest_at_end finish old.latest
+
+-- it may close then
+abbrev pub MayClose : Option ℕ → List Landmark → Type 0
+MayClose finish landmarks = IfSome finish (λ t. (t ≤ LATEST_TIME) × CanClose landmarks t)
+
+-- ---- what is held
+
+-- a landmark without its closing
+abbrev pub still_open : Landmark → Landmark
+still_open l = record { start = l.start; finish = None; values = l.values }
+
+-- The last landmark is held without its closing, and what is known beside it is when it closes, how many values its record says,
+-- how many it has, and the earliest time that the next one may have, which is not before any of its times.
+pub record IsLast (c : Last) (landmarks : List Landmark) (at : Option ℕ) (m : Marked) : Type 0 where
+  pub landmark : Landmark
+  pub last : m.last ≡ Some landmark
+  pub held : landmarks ≡ m.before ++ still_open landmark ∷ []
+  pub finish : c.finish ≡ landmark.finish
+  pub said : c.said ≡ m.said
+  pub values : c.values ≡ length landmark.values
+  pub from : (t : ℕ) → (nat_le landmark.start t && list_all (λ (value : LandmarkValue). nat_lt value.t t) landmark.values) ≡ nat_le c.from t
+  pub time : ℕ
+  pub latest : at ≡ Some time
+  pub early : time ≤ c.from
+  pub closes : IfSome c.finish (λ t. (time ≤ t) × (t ≤ LATEST_TIME))
+
+-- the landmarks so far are held
+abbrev pub ShowsMarks : Option Last → List Landmark → Option ℕ → Marked → Type 0
+ShowsMarks None landmarks latest m = (m ≡ nothing_marked) × (landmarks ≡ []) × (latest ≡ None)
+ShowsMarks (Some c) landmarks latest m = IsLast c landmarks latest m
+
+-- so are the landmarks, the position and the time that windows come after
+abbrev pub ShowsRun : Stage → List Landmark → Option ℕ → Run → Type 0
+ShowsRun (stages.Marks last) landmarks latest (marking m) = ShowsMarks last landmarks latest m
+ShowsRun (stages.Marks last) landmarks latest (tiling among next newest) = ⊥
+ShowsRun (stages.Windows at after) landmarks latest (marking m) = ⊥
+ShowsRun (stages.Windows at after) landmarks latest (tiling among next newest) = (among ≡ landmarks) × (next ≡ at) × (newest ≡ after)
+
+-- what a run makes of the records so far
+abbrev pub IsRunOf : ℕ → Run → List Record → Type 0
+IsRunOf number (marking m) rs = (marked_by (filter (is_mark_of number) rs) ≡ Some m) × (filter_map (window_of number) rs ≡ [])
+IsRunOf number (tiling landmarks next newest) rs =
+    (landmarks_made (filter (is_mark_of number) rs) ≡ landmarks) × (newest_time (filter_map (window_of number) rs) ≡ newest)
+
+-- which record was found
+abbrev pub is_landmark : Record → Bool
+is_landmark records.Free = false
+is_landmark (records.Stream id name params) = false
+is_landmark (records.Window id first summary) = false
+is_landmark (records.Landmark id number values start finish) = true
+is_landmark (records.Value id number index t v) = false
+
+abbrev pub is_value : Record → Bool
+is_value records.Free = false
+is_value (records.Stream id name params) = false
+is_value (records.Window id first summary) = false
+is_value (records.Landmark id number values start finish) = false
+is_value (records.Value id number index t v) = true
+
+abbrev pub is_window : Record → Bool
+is_window records.Free = false
+is_window (records.Stream id name params) = false
+is_window (records.Window id first summary) = true
+is_window (records.Landmark id number values start finish) = false
+is_window (records.Value id number index t v) = false
+
+-- the stream's own record
+abbrev pub head_found : ℕ → Created → Found
+head_found slot head = record { slot = slot; holds = records.Stream head.number head.name head.params }
+
+abbrev pub found_by : (Record → Bool) → List Found → List Found
+found_by p all = filter (λ (f : Found). p f.holds) all
+
+-- Windows and landmarks are held in the slots of their records.
+pub record AreKept (line : LineState) (landmarks values : List ℕ) (number : ℕ) (own : List Found) : Type 0 where
+  pub positions : map span_held (map (λ (e : At × Entry). e.1) line.entries) ≡ map span_of (filter_map (window_of number) (without_slots own))
+  pub entries : map (λ (e : Entry). e.slot) (map (λ (e : At × Entry). e.1) line.entries) ≡ slots_of (found_by is_window own)
+  pub slots : landmarks ≡ slots_of (found_by is_landmark own)
+  pub value_slots : values ≡ slots_of (found_by is_value own)
+
+-- What is held of the stream whose records come, after its own, shows the run that they are.
+pub record Shows (stream : Open) (q : Run) (own : List Found) : Type 0 where
+  pub run : ShowsRun stream.stage stream.marks.landmarks.landmarks stream.marks.latest q
+  pub latest : stream.marks.latest ≡ latest_of stream.marks.landmarks.landmarks
+  pub of : IsRunOf stream.id.0 q (without_slots own)
+  pub kept : AreKept stream.line stream.marks.landmarks.slots stream.marks.landmarks.value_slots stream.id.0 own
+
+-- It shows some run, and there is room for one more record.
+pub record IsReady (stream : Open) : Type 0 where
+  pub run : Run
+  pub own : List Found
+  pub shows : Shows stream run own
+  pub room : length own < MOST_RECORDS
+
+-- a stream of which no other record came
+pub record HasBegun (stream : Open) (slot id : ℕ) (name : List ℕ) (params : Params) : Type 0 where
+  pub has_id : stream.id.0 ≡ id
+  pub has_name : stream.name ≡ name
+  pub has_params : params_of stream.target ≡ params
+  pub in_slot : stream.slot ≡ slot
+  pub stage : stream.stage ≡ stages.Marks None
+  pub latest : stream.marks.latest ≡ None
+  pub landmarks : stream.marks.landmarks.landmarks ≡ []
+  pub slots : stream.marks.landmarks.slots ≡ []
+  pub value_slots : stream.marks.landmarks.value_slots ≡ []
+  pub entries : stream.line.entries ≡ []
+
+-- what no other record changes of a stream
+pub record IsSame (old new : Open) : Type 0 where
+  pub id : new.id ≡ old.id
+  pub name : new.name ≡ old.name
+  pub target : new.target ≡ old.target
+  pub slot : new.slot ≡ old.slot
+
+-- ---- what is answered
+
+-- a record is taken, or it may not come, or memory ran out
+abbrev pub StepsAs : Result Bool RecoverError → Option Run → (Run → Type 0) → Type 0
+StepsAs (Ok true) run P = MatchOption run ⊥ P
+StepsAs (Ok false) run P = run ≡ None
+StepsAs (Err error) run P = error ≡ OutOfMemory
+
+-- windows may come from here on, or they may not
+abbrev pub TurnsAs : Bool → Option Run → (Run → Type 0) → Type 0
+TurnsAs true run P = MatchOption run ⊥ P
+TurnsAs false run P = run ≡ None
+
+-- a landmark opens, the last one takes a value, and a line has one more window
+pub record Opens (old new : Marks) (slot start : ℕ) : Type 0 where
+  pub landmarks : new.landmarks.landmarks ≡ old.landmarks.landmarks ++ opened_at start ∷ []
+  pub slots : new.landmarks.slots ≡ old.landmarks.slots ++ slot ∷ []
+  pub value_slots : new.landmarks.value_slots ≡ old.landmarks.value_slots
+  pub latest : new.latest ≡ Some start
+
+pub record Adds (old new : Marks) (slot t : ℕ) (v : ℤ) : Type 0 where
+  pub landmarks : new.landmarks.landmarks ≡ change_last (with_value (record { t = t; v = v })) old.landmarks.landmarks
+  pub slots : new.landmarks.slots ≡ old.landmarks.slots
+  pub value_slots : new.landmarks.value_slots ≡ old.landmarks.value_slots ++ slot ∷ []
+  pub latest : new.latest ≡ Some t
+
+pub record Grows (old new : LineState) (slot first : ℕ) (summary : Figures) : Type 0 where
+  pub at : At
+  pub entry : Entry
+  pub entries : new.entries ≡ old.entries ++ (at, entry) ∷ []
+  pub from : entry.first ≡ first
+  pub to : entry.last ≡ first + summary.count - 1
+  pub in_slot : entry.slot ≡ slot
+
+-- What is held of a stream, once all its records came.
+pub record IsAll (stream : Open) (own : List Found) (part : StreamParts) : Type 0 where
+  pub id : part.id ≡ stream.id
+  pub name : part.name ≡ stream.name
+  pub target : part.target ≡ stream.target
+  pub slot : part.slot ≡ stream.slot
+  pub last_time : part.last_time
+      ≡ later (newest_time (filter_map (window_of stream.id.0) (without_slots own))) (latest_of part.landmarks.landmarks)
+  pub landmarks : part.landmarks.landmarks ≡ landmarks_made (filter (is_mark_of stream.id.0) (without_slots own))
+  pub known : AreKnown part.landmarks
+  pub kept : AreKept part.line part.landmarks.slots part.landmarks.value_slots stream.id.0 own
+
+-- a stream ends where no record has to come any more
+abbrev pub EndsAs : Option StreamParts → Run → (StreamParts → Type 0) → Type 0
+EndsAs (Some part) run P = (is_ended run ≡ true) × P part
+EndsAs None run P = is_ended run ≡ false
+
+-- What is held of a stream whose records these are, the first its own: the other ones are held, and end as they may.
+pub record IsHeldOf (part : StreamParts) (all : List Found) : Type 0 where
+  pub head : Created
+  pub slot : ℕ
+  pub rest : List Found
+  pub split : all ≡ head_found slot head ∷ rest
+  pub id : part.id.0 ≡ head.number
+  pub name : part.name ≡ head.name
+  pub params : params_of part.target ≡ head.params
+  pub in_slot : part.slot ≡ slot
+  pub last_time : part.last_time ≡ later (newest_time (filter_map (window_of head.number) (without_slots rest))) (latest_of part.landmarks.landmarks)
+  pub landmarks : part.landmarks.landmarks ≡ landmarks_made (filter (is_mark_of head.number) (without_slots rest))
+  pub known : AreKnown part.landmarks
+  pub kept : AreKept part.line part.landmarks.slots part.landmarks.value_slots head.number rest
+
+-- the names of streams
+abbrev pub names_in : List (List ℕ × StreamId) → List (List ℕ)
+names_in names = map (λ n. n.0) names
+
+-- The first record of a stream is taken: its own, with a name that is new.
+pub record HasTaken (old new : List (List ℕ × StreamId)) (found : Found) (stream : Open) : Type 0 where
+  pub head : Created
+  pub holds : found.holds ≡ records.Stream head.number head.name head.params
+  pub begun : HasBegun stream found.slot head.number head.name head.params
+  pub names : names_in new ≡ names_in old ++ head.name ∷ []
+  pub stands : may_stand (names_in old) head.name ≡ true
+
+-- the first record of a stream is taken, or no stream begins by it
+abbrev pub BeginsAs : List (List ℕ × StreamId) → List (List ℕ × StreamId) → Found → Result (Option Open) RecoverError → Type 0
+BeginsAs old new found (Ok (Some stream)) = HasTaken old new found stream
+BeginsAs old new found (Ok None) = (rest : List Record) → is_run (names_in old) (found.holds ∷ rest) ≡ false
+BeginsAs old new found (Err error) = error ≡ OutOfMemory
+
+-- what the records of one stream answer
+abbrev pub RunsAs : List (List ℕ × StreamId) → List (List ℕ × StreamId) → ℕ → List Found → Result StreamParts RecoverError → Type 0
+RunsAs old new id all (Ok part) = (is_run (names_in old) (without_slots all) ≡ true) × (names_in new ≡ names_in old ++ part.name ∷ []) × IsHeldOf part all
+RunsAs old new id all (Err (BadStream n)) = (n ≡ id) × (is_run (names_in old) (without_slots all) ≡ false)
+RunsAs old new id all (Err OutOfMemory) = ⊤
+RunsAs old new id all (Err (BadSlot n)) = ⊥
+RunsAs old new id all (Err Disk) = ⊥
