@@ -181,8 +181,8 @@ module _ (streams : List Stream) (name : List ℕ) (t : ℕ) where
 order-query : (streams : List Stream) (q : Query) → map (λ r. r.1) (query_refusals streams q) ≡ refusal.Unknown ∷ refusal.Range ∷ []
 order-query streams q = refl
 
-exact-count : IsExactOutcome (Count 1 2) → 1 ≡ 2
-exact-count exact = exact
+exact-count : (lo hi : ℕ) → IsExactOutcome (Count lo hi) → lo ≡ hi
+exact-count lo hi exact = exact
 
 exact-sum : IsExactOutcome (Sum (pos 1) (pos 2)) → pos 1 ≡ pos 2
 exact-sum exact = exact
