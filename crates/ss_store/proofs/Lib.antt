@@ -18,7 +18,7 @@ pub mod Pairs
 pub mod Readings
 pub mod Slots
 pub mod Spans
-pub mod Walks
+pub mod LastEntries
 pub mod Surveys
 pub mod SurveyedStreams
 pub mod PlaceLemmas
@@ -49,3 +49,4 @@ pub mod Taking
 pub mod MarkTaking
 pub mod Creating
 pub mod KeyedWindows
+pub mod ScheduledStreams

@@ -89,12 +89,6 @@ pub TileFrom-push : (es : List Entry) (e : Entry) → TileFrom 1 es → e.first 
 TileFrom-push [] e tiles start one few = (start, omega arith, few, tt)
 TileFrom-push (f ∷ fs) e tiles start one few = TileFrom-more 1 f fs e tiles start one few
 
-pub NoSpansAreDue-push : (len : ℕ → ℕ) (n : ℕ) (front : List Entry) (w v : Entry) → NoSpansAreDue len n (map span_held (front ++ w ∷ [])) →
-    fits len w.first v.last n ≡ false → NoSpansAreDue len n (map span_held ((front ++ w ∷ []) ++ v ∷ []))
-NoSpansAreDue-push len n [] w v none unfit = (unfit, tt)
-NoSpansAreDue-push len n (f ∷ []) w v none unfit = (none.0, (unfit, tt))
-NoSpansAreDue-push len n (f ∷ g ∷ gs) w v none unfit = (none.0, NoSpansAreDue-push len n (g ∷ gs) w v none.1 unfit)
-
 -- positions of windows
 pub NoneIsDue-spans : (len : ℕ → ℕ) (n : ℕ) (ws : List Window) → NoSpansAreDue len n (map span_of ws) → NoneIsDue len n ws
 NoneIsDue-spans len n [] none = tt

@@ -26,7 +26,7 @@ use ss_outside::Disk;
 use ss_query::ReadError;
 use ss_records::Records;
 use ss_recover::StreamParts;
-use ss_schedule::{Schedule, keyed_at_the_next_count, the_last_one_pushed};
+use ss_schedule::Schedule;
 use ss_steps::Steps;
 use ss_summary::{LATEST_TIME, Summary};
 use std::alloc::AllocError;
@@ -85,9 +85,6 @@ fn put_value<D: Disk, L: Ledger>(
         last: position,
         slot,
     };
-    // One value later no key is another, and the window is the last one.
-    keyed_at_the_next_count();
-    the_last_one_pushed();
     let at = part.line.push(entry, steps);
     schedule.add_window(&part.line, at, position, steps);
     part.last_time = Some(t);

@@ -6,8 +6,10 @@ use Rattle.ss_codec.proofs.RecordLemmas.{is_valid-IsWindow}
 use Rattle.ss_line.specs.Line.{LineState, index_of}
 use Rattle.ss_schedule.specs.Keyed.{IsKeyed, lengths}
 use Rattle.ss_schedule.specs.Pairs.{NoPairFits}
+use Rattle.ss_schedule.proofs.KeyedLemmas.{IsKeyed-next}
+use Rattle.ss_schedule.proofs.Places.{fresh-none, index-once, take-seam}
 use Rattle.ss_target.specs.Lengths.{lengths_of}
-use Rattle.ss_target.specs.Targets.{params_of}
+use Rattle.ss_target.specs.Targets.{lengths-positive, params_of}
 use Rattle.ss_line.specs.declared.entry.At.{At}
 use Rattle.ss_line.specs.declared.entry.Entry.{Entry}
 use Rattle.ss_outside.proofs.StepLemmas.{step-as}
@@ -17,7 +19,7 @@ use Rattle.ss_recover.specs.declared.parts.StreamParts.{StreamParts}
 use Rattle.ss_store.specs.Held.{IsHalfway, values_held, with_single}
 use Rattle.ss_query.specs.Held.{IsHeldIn}
 use Rattle.ss_store.proofs.Additions.{IsAdded, LiveSlotsGo-added, TileFrom-added, Turns-added, single_entry, values_held-added}
-use Rattle.ss_store.proofs.KeyedWindows.{FollowUpTo-take, FollowUpTo-tiles, NoPairFits-spans, take-all, take-seam}
+use Rattle.ss_store.proofs.KeyedWindows.{FollowUpTo-take, FollowUpTo-tiles, NoPairFits-spans, take-all}
 use Rattle.ss_store.proofs.Calls.{Turns-answers, Turns-failed}
 use Rattle.ss_store.proofs.appending.put_value.Goals as goal
 
@@ -126,22 +128,16 @@ returns-clause-whole g c =
       extent = done.extent;
     }
 
-pub keyed_at_the_next_count-requires : goal.keyed_at_the_next_count-requires
-keyed_at_the_next_count-requires g c = ?
-
-pub the_last_one_pushed-requires : goal.the_last_one_pushed-requires
-the_last_one_pushed-requires g c = ?
-
 pub add_window-requires-clause-keyed : goal.add_window-requires-clause-keyed
 add_window-requires-clause-keyed g c =
     let part = c.args.part.now in
     let keyed = c.requires.scheduled.0 in
     let entry : Entry = single_entry (c.values_held-position.result + 1) c.args.slot in
-    let index = c.the_last_one_pushed.ensures part.line.entries c.push-at.result entry c.push-at.ensures.fresh in
+    let index = index-once part.line.entries c.push-at.result entry [] (fresh-none part.line.entries c.push-at.result c.push-at.ensures.fresh) in
     let none : NoPairFits (lengths c.args.schedule.now) (values_held (entries_of part)) part.line.entries =
     rw keyed.target (NoPairFits-spans (lengths_of (params_of part.target)) (values_held (entries_of part)) part.line.entries c.requires.scheduled.1) in
     let later : IsKeyed (values_held (entries_of part) + 1) part.line.entries c.args.schedule.now =
-    c.keyed_at_the_next_count.ensures (values_held (entries_of part)) part.line.entries c.args.schedule.now c.requires.can.room keyed.keyed none in
+    IsKeyed-next (values_held (entries_of part)) part.line.entries c.args.schedule.now (lengths-positive c.args.schedule.now.target) c.requires.can.room keyed.keyed none in
     let front : take (index_of c.push-at.new.self.entries c.push-at.result) c.push-at.new.self.entries ≡ part.line.entries =
     ap (λ es. take (index_of es c.push-at.result) es) c.push-at.ensures.pushed
     ∙ ap (λ k. take k (part.line.entries ++ (c.push-at.result, entry) ∷ [])) index ∙ take-seam part.line.entries ((c.push-at.result, entry) ∷ []) in
@@ -160,9 +156,6 @@ add_window-requires-clause-follow g c =
     (FollowUpTo-tiles (c.values_held-position.result + 1) c.push-at.new.self.entries
     (TileFrom-added part new c.args.slot c.args.t is c.requires.can.tiles c.requires.can.room) (omega (arith, all, c.values_held-position.ensures)))
 
-pub add_window-requires-clause-stub : goal.add_window-requires-clause-stub
-add_window-requires-clause-stub g c = ?
-
 pub returns-clause-keyed : goal.returns-clause-keyed
 returns-clause-keyed g c =
     let part = c.args.part.now in
@@ -170,7 +163,7 @@ returns-clause-keyed g c =
     let entry : Entry = single_entry (c.values_held-position.result + 1) c.args.slot in
     let index : index_of new.entries c.push-at.result ≡ length part.line.entries =
     ap (λ es. index_of es c.push-at.result) c.push-at.ensures.pushed
-    ∙ c.the_last_one_pushed.ensures part.line.entries c.push-at.result entry c.push-at.ensures.fresh in
+    ∙ index-once part.line.entries c.push-at.result entry [] (fresh-none part.line.entries c.push-at.result c.push-at.ensures.fresh) in
     let all = (returns-clause-holds g c).values in
     let long : length new.entries ≡ length part.line.entries + 1 =
     ap (λ es. length es) c.push-at.ensures.pushed ∙ length-append part.line.entries ((c.push-at.result, entry) ∷ []) in

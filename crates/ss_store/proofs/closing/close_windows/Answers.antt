@@ -28,13 +28,10 @@ loop-pair-init g c = (
   c.requires.keyed,
 )
 
-pub due-requires-clause-holds : goal.due-requires-clause-holds
-due-requires-clause-holds g c =
+pub due-requires : goal.due-requires
+due-requires g c =
     subst (λ n. IsKeyed n c.loop-pair.part.line.entries c.loop-pair.schedule)
     (c.loop-pair.invariant.0.holds.values ∙ sym c.values_held-n.ensures) c.loop-pair.invariant.1.keyed
-
-pub due-requires-clause-stub : goal.due-requires-clause-stub
-due-requires-clause-stub g c = ?
 
 pub join-requires-clause-due : goal.join-requires-clause-due
 join-requires-clause-due g c = record {

@@ -182,6 +182,3 @@ merged-requires-clause-fits g c = rw (c.requires.keyed.target, c.values_held-n.e
 
 pub merged-requires-clause-keyed : goal.merged-requires-clause-keyed
 merged-requires-clause-keyed g c = subst (λ n. IsKeyed n c.args.part.now.line.entries c.args.schedule.now) (sym c.values_held-n.ensures) c.requires.keyed.keyed
-
-pub merged-requires-clause-stub : goal.merged-requires-clause-stub
-merged-requires-clause-stub g c = ?

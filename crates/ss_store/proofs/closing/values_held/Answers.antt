@@ -1,5 +1,5 @@
 use Rattle.std.proofs.Common.{sym, ◌∙◌}
-use Rattle.ss_store.proofs.Walks.{values_held-last}
+use Rattle.ss_store.proofs.LastEntries.{values_held-last}
 use Rattle.ss_store.proofs.closing.values_held.Goals as goal
 
 pub returns-in-Some : goal.returns-in-Some

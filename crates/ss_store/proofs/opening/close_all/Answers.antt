@@ -12,7 +12,7 @@ use Rattle.ss_store.proofs.Calls.{Turns-failed}
 use Rattle.ss_store.proofs.ClosingAll.{AreHeldIn, ClosesFirst-more, ClosesFirst-none, SomeChangedIsHeld-set, Turns-all, Turns-open, closed_until}
 use Rattle.ss_store.proofs.ClosingAll.{firm-ClosesFirst}
 use Rattle.ss_store.proofs.OneOfMany.{map-set_same}
-use Rattle.ss_store.proofs.KeyedWindows.{AreClosedTo-all, AreClosedTo-at, AreClosedTo-long, AreClosedTo-more, AreClosedTo-none}
+use Rattle.ss_store.proofs.ScheduledStreams.{AreClosedTo-all, AreClosedTo-at, AreClosedTo-long, AreClosedTo-more, AreClosedTo-none}
 use Rattle.ss_store.proofs.opening.close_all.Goals as goal
 
 pub loop-place-init : goal.loop-place-init

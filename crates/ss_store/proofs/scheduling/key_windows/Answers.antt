@@ -2,7 +2,7 @@ use Rattle.std.proofs.Common.{◌≡◌, ◌∙◌, ◌+◌, ◌≤◌, arith, a
 use Rattle.ss_line.specs.Line.{StandsIn, index_of, place_at}
 use Rattle.ss_schedule.specs.Keyed.{FollowUpTo, IsKeyed}
 use Rattle.ss_query.proofs.Places.{index_of-first, index_of-next, none-first}
-use Rattle.ss_store.proofs.KeyedWindows.{FollowUpTo-take, FollowUpTo-tiles, StandsIn-below, nothing_behind, take-all, take-none}
+use Rattle.ss_store.proofs.KeyedWindows.{FollowUpTo-take, FollowUpTo-tiles, StandsIn-below, none_past, take-all, take-none}
 use Rattle.ss_store.proofs.scheduling.key_windows.Goals as goal
 
 pub returns-in_default : goal.returns-in_default
@@ -25,9 +25,6 @@ pub add_window-requires-clause-follow : goal.add_window-requires-clause-follow
 add_window-requires-clause-follow g c =
     FollowUpTo-take c.args.n (index_of c.args.part.now.line.entries c.in-Some.at + 1) c.args.part.now.line.entries
     (FollowUpTo-tiles c.args.n c.args.part.now.line.entries c.requires.tiles (omega (arith, c.requires.all)))
-
-pub add_window-requires-clause-stub : goal.add_window-requires-clause-stub
-add_window-requires-clause-stub g c = ?
 
 pub loop-next-init : goal.loop-next-init
 loop-next-init g c = record {
@@ -57,9 +54,6 @@ add_window-requires-in-Some-1₀-clause-follow g c =
     FollowUpTo-take c.args.n (index_of c.args.part.now.line.entries c.in-Some-1₀.next + 1) c.args.part.now.line.entries
     (FollowUpTo-tiles c.args.n c.args.part.now.line.entries c.requires.tiles (omega (arith, c.requires.all)))
 
-pub add_window-requires-in-Some-1₀-clause-stub : goal.add_window-requires-in-Some-1₀-clause-stub
-add_window-requires-in-Some-1₀-clause-stub g c = ?
-
 pub loop-next-smaller : goal.loop-next-smaller
 loop-next-smaller g c =
     let next = index_of-next c.args.part.now.line (index_of c.args.part.now.line.entries c.loop-next.at + 1) (Some c.in-Some-1₀.next)
@@ -76,7 +70,7 @@ loop-next-preserved g c = record {
 
 pub returns : goal.returns
 returns g c =
-    let none = nothing_behind c.args.part.now.line.entries (index_of c.args.part.now.line.entries c.loop-next.at + 1)
+    let none = none_past c.args.part.now.line.entries (index_of c.args.part.now.line.entries c.loop-next.at + 1)
     (sym c.in_default-1₀.is ∙ c.neighbours.ensures.behind) in
     record {
       target = c.loop-next.invariant.target;

@@ -6,12 +6,6 @@ use Rattle.ss_store.specs.Scheduled.{IsKeyedAt}
 use Rattle.ss_store.proofs.KeyedWindows.{held-few}
 use Rattle.ss_store.proofs.scheduling.schedule_of.Goals as goal
 
-pub new-schedule-requires : goal.new-schedule-requires
-new-schedule-requires g c = ?
-
-pub reserve-requires-clause-stub : goal.reserve-requires-clause-stub
-reserve-requires-clause-stub g c = ?
-
 pub key_windows-requires-clause-fresh : goal.key_windows-requires-clause-fresh
 key_windows-requires-clause-fresh g c =
     c.reserve.ensures.keyed c.values_held-n.result []

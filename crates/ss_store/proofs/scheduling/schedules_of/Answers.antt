@@ -2,7 +2,7 @@ use Rattle.std.proofs.Common.{get_or, subst, sym, take}
 use Rattle.std.specs.List.{AllZip}
 use Rattle.std.proofs.lemmas.List.{take_more}
 use Rattle.ss_store.specs.Scheduled.{IsKeyedFor}
-use Rattle.ss_store.proofs.KeyedWindows.{AllZip-more}
+use Rattle.ss_store.proofs.ScheduledStreams.{AllZip-more}
 use Rattle.ss_store.proofs.scheduling.schedules_of.Goals as goal
 
 pub loop-part-preserved : goal.loop-part-preserved

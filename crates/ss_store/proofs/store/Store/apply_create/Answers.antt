@@ -4,7 +4,8 @@ use Rattle.ss_line.specs.Line.{LineState}
 use Rattle.ss_recover.specs.declared.parts.StreamParts.{StreamParts}
 use Rattle.ss_store.proofs.Appended.{SameButSpare-same}
 use Rattle.ss_store.specs.Scheduled.{IsScheduled}
-use Rattle.ss_store.proofs.KeyedWindows.{AllZip-more, IsScheduled-none}
+use Rattle.ss_store.proofs.KeyedWindows.{IsScheduled-none}
+use Rattle.ss_store.proofs.ScheduledStreams.{AllZip-more}
 use Rattle.ss_store.proofs.Applying.{Applies-refused, Applies-starved}
 use Rattle.ss_store.proofs.Created.{IsFreshPart-made}
 use Rattle.ss_store.proofs.Creating.{applies-created, applies-unwritten, creating, sound-created, sound-unwritten}
@@ -96,6 +97,3 @@ returns-in-Err-add_record-clause-applies g c =
     (IsFreshPart-made part c.args.params c.in-Ok.ensures.target refl (ap (λ (l : LineState). l.entries) c.new.ensures) c.new-2.ensures) c.in-Ok.ensures.new in
     rw (← c.self.view_is, c.in-Ok-grow.ensures.streams)
     (applies-unwritten is c.add_record.new.records _ _ (rw c.record_of.ensures.value at c.in-Err-add_record.ensures.adds))
-
-pub new-requires-3 : goal.new-requires-3
-new-requires-3 g c = ?

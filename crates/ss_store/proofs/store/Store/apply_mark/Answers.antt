@@ -1,6 +1,6 @@
 use Rattle.std.proofs.Common.{◌≡◌, ap, false, refl, true}
 use Rattle.ss_line.specs.Line.{LineState}
-use Rattle.ss_store.proofs.KeyedWindows.{AreScheduled-other}
+use Rattle.ss_store.proofs.ScheduledStreams.{AreScheduled-other}
 use Rattle.ss_store.specs.Marking.{event_of}
 use Rattle.ss_store.proofs.Applying.{Applies-refused, Applies-starved}
 use Rattle.ss_store.proofs.MarkTaking.{applies-taken, applies-untaken, can-mark, live-spared, same-spared, sound-spared, sound-stopped, sound-taken}

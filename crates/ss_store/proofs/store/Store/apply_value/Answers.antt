@@ -3,7 +3,8 @@ use Rattle.std.proofs.lemmas.Int.{to_z-of_z}
 use Rattle.ss_catalog.specs.declared.event.Event.TheVariants.{Value}
 use Rattle.std.proofs.lemmas.Slice.Zip.{AllZip-long}
 use Rattle.ss_store.specs.Scheduled.{IsScheduled}
-use Rattle.ss_store.proofs.KeyedWindows.{AllZip-set, IsScheduled-at, IsScheduled-same}
+use Rattle.ss_store.proofs.KeyedWindows.{IsScheduled-same}
+use Rattle.ss_store.proofs.ScheduledStreams.{AllZip-set, IsScheduled-at}
 use Rattle.ss_store.proofs.Applying.{Applies-refused, Applies-starved}
 use Rattle.ss_store.proofs.Taking.{applies-taken, applies-untaken, can-append, live-spared, same-spared, sound-spared, sound-stopped, sound-taken}
 use Rattle.ss_store.proofs.Taking.{few-taker, inside-taker, runs-taker, stands-spared, taking}
