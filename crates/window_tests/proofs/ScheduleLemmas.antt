@@ -1,5 +1,7 @@
 -- Positions of a line that goes on where it ended.
-use Rattle.std.proofs.Common.{◌≡◌, ◌∙◌, ℕ, suc, ◌+◌, ◌≤◌, List, [], ◌∷◌, ◌++◌, length, take, refl, sym, ap, arith, subst, length-append, append_assoc, Option, Some, None}
+use Rattle.std.proofs.Common.{◌≡◌, ◌∙◌, ℕ, suc, ◌+◌, ◌≤◌, List, [], ◌∷◌, ◌++◌, length, take, refl}
+use Rattle.std.proofs.Common.{sym, ap, arith, length-append, Option, Some, None, IfSome}
+use Rattle.std.specs.Option.{SomeIff}
 use Rattle.std.proofs.lemmas.List.{take_all}
 use Rattle.ss_line.specs.Line.{StandsIn, entry_at, index_of, place_before}
 use Rattle.ss_line.specs.declared.entry.At.{At}
@@ -45,7 +47,18 @@ pub taken-last : (entries : List (At × Entry)) (at : At) (entry : Entry) → in
     (take (index_of (entries ++ (at, entry) ∷ []) at) (entries ++ (at, entry) ∷ []) ≡ entries)
     × (take (index_of (entries ++ (at, entry) ∷ []) at + 1) (entries ++ (at, entry) ∷ []) ≡ entries ++ (at, entry) ∷ [])
 taken-last entries at entry index =
-    let all : List (At × Entry) = entries ++ (at, entry) ∷ [] in
     let long : index_of (entries ++ (at, entry) ∷ []) at + 1 ≡ length (entries ++ (at, entry) ∷ []) =
-    omega (arith, index, length-append entries ((at, entry) ∷ [])) in
-    (ap (λ k. take k (entries ++ (at, entry) ∷ [])) index ∙ take-seam entries ((at, entry) ∷ []), ap (λ k. take k (entries ++ (at, entry) ∷ [])) long ∙ take_all (length (entries ++ (at, entry) ∷ [])) (entries ++ (at, entry) ∷ []) (omega arith))
+    omega (arith, index, length-append entries ((at, entry) ∷ [])) in (
+      ap (λ k. take k (entries ++ (at, entry) ∷ [])) index ∙ take-seam entries ((at, entry) ∷ []),
+      ap (λ k. take k (entries ++ (at, entry) ∷ [])) long
+          ∙ take_all (length (entries ++ (at, entry) ∷ [])) (entries ++ (at, entry) ∷ []) (omega arith),
+    )
+
+-- the position after the last one, if it is a number of the code
+pub next-first : (entries : List (At × Entry)) (at : At) (e : Entry) (found : Option ℕ) (P : Type 0) → AreApart entries →
+    Some at ≡ place_before entries (length entries) → entry_at entries at ≡ Some e → SomeIff found P (e.last + 1) →
+    IfSome found
+    (λ first. (n : ℕ) (new : At × Entry) → FollowUpTo n entries → new.1.first ≡ first → first ≤ new.1.last → new.1.last ≤ n → FollowUpTo n (entries ++ new ∷ []))
+next-first entries at e None P apart last read is = tt
+next-first entries at e (Some first) P apart last read is = λ n new follow start order taken.
+    follows-last n entries at e new (ends entries) apart follow last read (start ∙ is.1) (omega arith) taken

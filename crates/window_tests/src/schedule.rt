@@ -1,6 +1,6 @@
 // Lines in use with a schedule of their merges, beside the plain rule: as long as some two neighbours lie together in one
 // target window, join them.
-ghost use Rattle.std.specs.Prelude.{◌≡◌, ◌+◌, ◌≤◌, ◌<◌, ◌∷◌, ◌++◌, [], ℕ, length, IfOk, IfSome};
+ghost use Rattle.std.specs.Prelude.{◌≡◌, ◌+◌, ◌≤◌, ◌<◌, ◌∷◌, ◌++◌, [], ℕ, true, length, IfOk, IfSome};
 ghost use Rattle.ss_line.specs.Line.{StandsIn};
 ghost use Rattle.ss_line.specs.declared.entry.At.{At};
 ghost use Rattle.ss_line.specs.declared.entry.Entry.{Entry};
