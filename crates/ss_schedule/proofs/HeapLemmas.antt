@@ -1,5 +1,6 @@
 -- The keys as they are held: what a key that changes and a place more leave of the heap.
-use Rattle.std.proofs.Common.{◌≡◌, ◌≢◌, ◌∙◌, ℕ, zero, suc, ◌+◌, ◌-◌, ◌/◌, ◌<◌, ◌≤◌, List, [], ◌∷◌, ◌++◌, length, get_or, set, take, drop, ap, sym}
+use Rattle.std.proofs.Common.{◌≡◌, ◌≢◌, ◌∙◌, ℕ, zero, suc, ◌+◌, ◌-◌, ◌/◌, ◌<◌, ◌≤◌, List, [], ◌∷◌}
+use Rattle.std.proofs.Common.{◌++◌, length, get_or, set, take, drop, ap, sym}
 use Rattle.std.proofs.Common.{Option, None, arith, inl, inr, length-append}
 use Rattle.std.proofs.lemmas.Bool.{cases_eq, cases_lt}
 use Rattle.std.proofs.lemmas.List.{get_or-set_same, get_or-set_other, get_or_append_left, length-set, get_or_past, take-append-le, take_all, get_or_default}
@@ -9,7 +10,8 @@ use Rattle.ss_schedule.specs.Held.{AreHeld, AreInverse, IsChild, IsHeap, IsHeapB
 use Rattle.ss_schedule.specs.declared.sifting.TheConstants.{NEVER}
 
 -- one node of a heap changes
-IsHeapBut-changed : (fit changed : ℕ → ℕ) (len index : ℕ) → IsHeap fit len → ((k : ℕ) → k < len → k ≢ index → changed k ≡ fit k) → index < len →
+IsHeapBut-changed : (fit changed : ℕ → ℕ) (len index : ℕ) → IsHeap fit len → ((k : ℕ) → k < len → k ≢ index → changed k ≡ fit k) →
+    index < len →
     IsHeapBut changed len index
 IsHeapBut-changed fit changed len index heap kept inside = record {
   ordered = λ q k of_q lt not_q not_k. omega (arith, heap q k of_q lt, kept q (omega arith) not_q, kept k lt not_k);
@@ -42,7 +44,8 @@ module _ (keys : List (Option (At × ℕ))) (heap positions : List ℕ) (held : 
       ]
 
   -- the same, of the key that was read at the top
-  pub before_read : (n place : ℕ) (key : Option (At × ℕ)) → 0 < length heap → place ≡ get_or heap 0 place → key ≡ get_or keys place key → n < NEVER →
+  pub before_read : (n place : ℕ) (key : Option (At × ℕ)) → 0 < length heap → place ≡ get_or heap 0 place → key ≡ get_or keys place key →
+      n < NEVER →
       n < fit_of key → (at : At) → n < fit_of (get_or keys at.0 None)
   before_read n place key some top read less first =
       let is_top : place ≡ get_or heap 0 0 = top ∙ get_or_default heap 0 place 0 some in
@@ -60,15 +63,22 @@ module _ (keys : List (Option (At × ℕ))) (heap positions : List ℕ) (held : 
       (λ same. other (sym (held.inverse.placed k lt) ∙ ap (λ (p : ℕ). get_or positions p 0) same))))
       (held.inverse.stands place in_heap)
 
-  early-set : (place : ℕ) (key : Option (At × ℕ)) → place < length keys → fit_of key ≤ NEVER → (other : ℕ) → fit_of (get_or (set keys place key) other None) ≤ NEVER
+  early-set : (place : ℕ) (key : Option (At × ℕ)) → place < length keys → fit_of key ≤ NEVER → (other : ℕ) →
+      fit_of (get_or (set keys place key) other None) ≤ NEVER
   early-set place key inside early other =
       elim (cases_eq other place) [
-        | inl same ↦ omega (arith, early, ap (λ (p : ℕ). fit_of (get_or (set keys place key) p None)) same, ap fit_of (get_or-set_same keys place key None inside))
+        | inl same ↦ omega (
+          arith,
+          early,
+          ap (λ (p : ℕ). fit_of (get_or (set keys place key) p None)) same,
+          ap fit_of (get_or-set_same keys place key None inside),
+        )
         | inr else ↦ omega (arith, held.early other, ap fit_of (get_or-set_other keys place other key None else))
       ]
 
   -- and the heap is put in order again
-  pub AreHeld-set : (place : ℕ) (key : Option (At × ℕ)) (new moved : List ℕ) → place < length keys → fit_of key ≤ NEVER → AreInverse new moved →
+  pub AreHeld-set : (place : ℕ) (key : Option (At × ℕ)) (new moved : List ℕ) → place < length keys → fit_of key ≤ NEVER →
+      AreInverse new moved →
       length new ≡ length heap → IsHeap (fit_at (set keys place key) new) (length new) → AreHeld (set keys place key) new moved
   AreHeld-set place key new moved inside early inverse len order = record {
     all = omega (arith, len, held.all, length-set keys place key);
@@ -91,8 +101,10 @@ each_more xs ys n xs_len ys_len below there k lt =
     elim (cases_lt k n) [
       | inl front ↦ (
           let kept = at_front xs n 0 k (omega (arith, xs_len)) in
-          let small = below k front in
-          (omega (arith, kept, small), ap (λ (p : ℕ). get_or (ys ++ n ∷ []) p 0) kept ∙ at_front ys n 0 (get_or xs k 0) (omega (arith, small, ys_len)) ∙ there k front))
+          let small = below k front in (
+            omega (arith, kept, small),
+            ap (λ (p : ℕ). get_or (ys ++ n ∷ []) p 0) kept ∙ at_front ys n 0 (get_or xs k 0) (omega (arith, small, ys_len)) ∙ there k front,
+          ))
       | inr behind ↦ (
           let last : k ≡ n = omega arith in
           let end = at_end xs n 0 k (omega (arith, xs_len)) in
@@ -123,7 +135,8 @@ module _ (keys : List (Option (At × ℕ))) (heap positions : List ℕ) (n : ℕ
   heap_side = each_more heap positions n heap_len positions_len (λ k lt. omega (arith, heap_len, held.inverse.below k (omega (arith, heap_len))))
       (λ k lt. held.inverse.placed k (omega (arith, heap_len)))
 
-  positions_side : (k : ℕ) → k < n + 1 → (get_or (positions ++ n ∷ []) k 0 < n + 1) × (get_or (heap ++ n ∷ []) (get_or (positions ++ n ∷ []) k 0) 0 ≡ k)
+  positions_side : (k : ℕ) → k < n + 1 →
+      (get_or (positions ++ n ∷ []) k 0 < n + 1) × (get_or (heap ++ n ∷ []) (get_or (positions ++ n ∷ []) k 0) 0 ≡ k)
   positions_side = each_more positions heap n positions_len heap_len (λ k lt. omega (arith, heap_len, held.inverse.stands k (omega (arith, heap_len))))
       (λ k lt. held.inverse.found k (omega (arith, heap_len)))
 

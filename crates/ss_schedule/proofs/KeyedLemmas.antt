@@ -1,5 +1,6 @@
 -- What keys a schedule has for a line that changes.
-use Rattle.std.proofs.Common.{◌≡◌, ◌≢◌, ◌∙◌, ℕ, ◌+◌, ◌≤◌, ◌<◌, true, false, List, [], ◌∷◌, ◌++◌, length, refl, take, set}
+use Rattle.std.proofs.Common.{◌≡◌, ◌≢◌, ◌∙◌, ℕ, ◌+◌, ◌≤◌, ◌<◌, true, false, List, [], ◌∷◌, ◌++◌, length}
+use Rattle.std.proofs.Common.{refl, take, set}
 use Rattle.std.proofs.Common.{sym, ap, subst, arith, append_assoc, length-append, Option, Some, None, inl, inr, IfSome}
 use Rattle.std.proofs.lemmas.Bool.{cases_Bool, cases_eq, both_ways, eq-eqb}
 use Rattle.std.proofs.lemmas.List.{get_or_past, get_or-set_other, get_or-set_same, length-set}
@@ -20,7 +21,8 @@ use Rattle.ss_schedule.proofs.Places.{index-once, list_any-cons_false, same_plac
 use Rattle.ss_schedule.proofs.Places.{take-seam}
 
 -- the positions of a pair in a line whose positions follow one another
-IsSpan-behind : (n first : ℕ) (e : At × Entry) (entries : List (At × Entry)) (at : At) (pair : Pair) → FollowFrom n first (e ∷ entries) → 1 ≤ first →
+IsSpan-behind : (n first : ℕ) (e : At × Entry) (entries : List (At × Entry)) (at : At) (pair : Pair) → FollowFrom n first (e ∷ entries) →
+    1 ≤ first →
     pair_behind e entries at ≡ Some pair → IsSpan n pair
 IsSpan-behind n first e [] at pair follow some is = absurd (cc)
 IsSpan-behind n first e (x ∷ xs) at pair follow some is =
@@ -38,7 +40,8 @@ IsSpan-behind n first e (x ∷ xs) at pair follow some is =
           IsSpan-behind n (e.1.last + 1) x xs at pair follow.3 (omega arith) rest)
     ]
 
-pub IsSpan-pair : (n : ℕ) (entries : List (At × Entry)) (at : At) (pair : Pair) → FollowUpTo n entries → pair_at entries at ≡ Some pair → IsSpan n pair
+pub IsSpan-pair : (n : ℕ) (entries : List (At × Entry)) (at : At) (pair : Pair) → FollowUpTo n entries → pair_at entries at ≡ Some pair →
+    IsSpan n pair
 IsSpan-pair n [] at pair follow is = absurd (cc)
 IsSpan-pair n (e ∷ es) at pair follow is = IsSpan-behind n e.1.first e es at pair follow.1 follow.0 is
 
@@ -74,7 +77,8 @@ FollowUpTo-joined n [] left right w v rest follow = (follow.0, FollowFrom-joined
 FollowUpTo-joined n (e ∷ es) left right w v rest follow = (follow.0, FollowFrom-joined n e.1.first (e ∷ es) left right w v rest follow.1)
 
 -- the positions of two neighbours
-FollowFrom-seam : (n first : ℕ) (before : List (At × Entry)) (x y : At × Entry) (rest : List (At × Entry)) → FollowFrom n first (before ++ x ∷ y ∷ rest) →
+FollowFrom-seam : (n first : ℕ) (before : List (At × Entry)) (x y : At × Entry) (rest : List (At × Entry)) →
+    FollowFrom n first (before ++ x ∷ y ∷ rest) →
     (x.1.first ≤ x.1.last) × (y.1.first ≡ x.1.last + 1) × (y.1.first ≤ y.1.last)
 FollowFrom-seam n first [] x y rest follow =
     let start = follow.0 in
@@ -100,7 +104,8 @@ pub NeverFit-among : (len : ℕ → ℕ) (l r a b n : ℕ) → a ≤ l → r ≤
 NeverFit-among len l r a b n first last never m le few fit = never m le few (Fits-among len l r a b m first last fit)
 
 -- no pair is due before its key
-unfit-before : (len : ℕ → ℕ) (n : ℕ) (pair : Pair) (key : Option (At × ℕ)) → n ≤ MOST_VALUES → IsKeyOf len n (Some pair) key → n < fit_of key →
+unfit-before : (len : ℕ → ℕ) (n : ℕ) (pair : Pair) (key : Option (At × ℕ)) → n ≤ MOST_VALUES → IsKeyOf len n (Some pair) key →
+    n < fit_of key →
     ¬ Fits len pair.first pair.last n
 unfit-before len n pair None few is less fit = is n (omega arith) few fit
 unfit-before len n pair (Some key) few is less fit = let least = is.first.least n (omega arith) fit in absurd (omega (arith, least, less))
@@ -141,7 +146,8 @@ NoPairFits-keyed n entries schedule full apart keyed past =
     (unfit-before (lengths schedule) n pair (key_at schedule.keys at) keyed.few key (past at)))
 
 -- the next count
-NoPairFits-at_behind : (len : ℕ → ℕ) (n : ℕ) (e : At × Entry) (entries : List (At × Entry)) (at : At) (pair : Pair) → NoPairFits len n (e ∷ entries) →
+NoPairFits-at_behind : (len : ℕ → ℕ) (n : ℕ) (e : At × Entry) (entries : List (At × Entry)) (at : At) (pair : Pair) →
+    NoPairFits len n (e ∷ entries) →
     pair_behind e entries at ≡ Some pair → fits len pair.first pair.last n ≡ false
 NoPairFits-at_behind len n e [] at pair none is = absurd (cc)
 NoPairFits-at_behind len n e (x ∷ xs) at pair none is =
@@ -153,12 +159,14 @@ NoPairFits-at_behind len n e (x ∷ xs) at pair none is =
       | inr later ↦ (let rest : pair_behind x xs at ≡ Some pair = rw later at is in NoPairFits-at_behind len n x xs at pair none.1 rest)
     ]
 
-NoPairFits-at : (len : ℕ → ℕ) (n : ℕ) (entries : List (At × Entry)) (at : At) (pair : Pair) → NoPairFits len n entries → pair_at entries at ≡ Some pair →
+NoPairFits-at : (len : ℕ → ℕ) (n : ℕ) (entries : List (At × Entry)) (at : At) (pair : Pair) → NoPairFits len n entries →
+    pair_at entries at ≡ Some pair →
     fits len pair.first pair.last n ≡ false
 NoPairFits-at len n [] at pair none is = absurd (cc)
 NoPairFits-at len n (e ∷ es) at pair none is = NoPairFits-at_behind len n e es at pair none is
 
-IsKeyOf-next : (len : ℕ → ℕ) (n : ℕ) (found : Option Pair) (key : Option (At × ℕ)) → ((pair : Pair) → found ≡ Some pair → ¬ Fits len pair.first pair.last n) →
+IsKeyOf-next : (len : ℕ → ℕ) (n : ℕ) (found : Option Pair) (key : Option (At × ℕ)) →
+    ((pair : Pair) → found ≡ Some pair → ¬ Fits len pair.first pair.last n) →
     IsKeyOf len n found key → IsKeyOf len (n + 1) found key
 IsKeyOf-next len n None key unfit is = is
 IsKeyOf-next len n (Some pair) None unfit is = λ m le few fit. is m (omega arith) few fit
@@ -213,7 +221,8 @@ module _ (old new : ScheduleState) (n : ℕ) (at : At) (found : Option Pair) (pu
 
 -- one entry more at the end
 pub IsKeyed-more : (n : ℕ) (before : List (At × Entry)) (at : At) (entry : Entry) (old new : ScheduleState) → IsKeyed n before old →
-    PutsKey old new n at (pair_at (before ++ (at, entry) ∷ []) at) → FollowUpTo n (before ++ (at, entry) ∷ []) → IsKeyed n (before ++ (at, entry) ∷ []) new
+    PutsKey old new n at (pair_at (before ++ (at, entry) ∷ []) at) → FollowUpTo n (before ++ (at, entry) ∷ []) →
+    IsKeyed n (before ++ (at, entry) ∷ []) new
 IsKeyed-more n before at entry old new keyed put follow = record {
   few = keyed.few;
   follow = follow;
@@ -254,7 +263,14 @@ IsSplit-behind e (x ∷ xs) at pair is =
           })
       | inr later ↦ (
           let rest = IsSplit-behind x xs at pair (rw later at is) in
-          record { before = e ∷ rest.before; left = rest.left; entry = rest.entry; rest = rest.rest; is = ap (λ es. e ∷ es) rest.is; pair_is = rest.pair_is })
+          record {
+            before = e ∷ rest.before;
+            left = rest.left;
+            entry = rest.entry;
+            rest = rest.rest;
+            is = ap (λ es. e ∷ es) rest.is;
+            pair_is = rest.pair_is;
+          })
     ]
 
 pub IsSplit-pair : (entries : List (At × Entry)) (at : At) (pair : Pair) → pair_at entries at ≡ Some pair → IsSplit entries at pair
@@ -283,30 +299,36 @@ module _ (entries : List (At × Entry)) (apart : AreApart entries) (at : At) (pa
         stands-right entries it.left.0 at side_by_side,
       )
 
-  pub IsPairIn-read : (left : At) (window entry : Entry) → left ≡ pair.left → entry_at entries left ≡ Some window → entry_at entries at ≡ Some entry →
+  pub IsPairIn-read : (left : At) (window entry : Entry) → left ≡ pair.left → entry_at entries left ≡ Some window →
+      entry_at entries at ≡ Some entry →
       let read : Pair = record { left = left; right = at; first = window.first; last = entry.last } in IsPairIn entries read
   unfolding side_by_side
   IsPairIn-read left window entry same read_left read_at =
       let place : it.left.0 ≡ left = sym (same ∙ ap (λ (p : Pair). p.left) it.pair_is) in
       let first = some-same it.left.1 window (sym (entry-left entries it.left.0 at side_by_side) ∙ ap (entry_at entries) place ∙ read_left) in
       let last = some-same it.entry entry (sym (entry-right entries it.left.0 at side_by_side) ∙ read_at) in
-      let read : (a : At) → it.left.0 ≡ a → IsPairIn entries (let p : Pair = record { left = a; right = at; first = window.first; last = entry.last } in p) =
+      let read : (a : At) → it.left.0 ≡ a →
+      IsPairIn entries (let p : Pair = record { left = a; right = at; first = window.first; last = entry.last } in p) =
       λ a is. subst (λ (b : At). IsPairIn entries (let p : Pair = record { left = b; right = at; first = window.first; last = entry.last } in p)) is
       (record { neighbours = side_by_side; first = ap (λ (e : Entry). e.first) (sym first); last = ap (λ (e : Entry). e.last) (sym last) }) in
       read left place
 
   -- the positions that were read are those of the pair
-  pub positions-read : (left : At) (window entry : Entry) → left ≡ pair.left → entry_at entries left ≡ Some window → entry_at entries at ≡ Some entry →
+  pub positions-read : (left : At) (window entry : Entry) → left ≡ pair.left → entry_at entries left ≡ Some window →
+      entry_at entries at ≡ Some entry →
       (window.first ≡ pair.first) × (entry.last ≡ pair.last)
   unfolding side_by_side
   positions-read left window entry same read_left read_at =
       let place : it.left.0 ≡ left = sym (same ∙ ap (λ (p : Pair). p.left) it.pair_is) in
       let first = some-same it.left.1 window (sym (entry-left entries it.left.0 at side_by_side) ∙ ap (entry_at entries) place ∙ read_left) in
-      let last = some-same it.entry entry (sym (entry-right entries it.left.0 at side_by_side) ∙ read_at) in
-      (sym (ap (λ (p : Pair). p.first) it.pair_is ∙ ap (λ (e : Entry). e.first) first), sym (ap (λ (p : Pair). p.last) it.pair_is ∙ ap (λ (e : Entry). e.last) last))
+      let last = some-same it.entry entry (sym (entry-right entries it.left.0 at side_by_side) ∙ read_at) in (
+        sym (ap (λ (p : Pair). p.first) it.pair_is ∙ ap (λ (e : Entry). e.first) first),
+        sym (ap (λ (p : Pair). p.last) it.pair_is ∙ ap (λ (e : Entry). e.last) last),
+      )
 
 -- a key that is at most n is of a pair that fits at n
-pub fits-by : (len : ℕ → ℕ) (n fit : ℕ) (pair : Pair) (key : At × ℕ) → ArePositive len → IsSpan n pair → fit ≤ n → key.1 ≡ fit → IsFirstKey len n pair key →
+pub fits-by : (len : ℕ → ℕ) (n fit : ℕ) (pair : Pair) (key : At × ℕ) → ArePositive len → IsSpan n pair → fit ≤ n → key.1 ≡ fit →
+    IsFirstKey len n pair key →
     fits len pair.first pair.last n ≡ true
 fits-by len n fit pair key full span le same is =
     let reached = is.first.reached in
@@ -319,11 +341,14 @@ taken-before entries at it =
     let index = ap (λ es. index_of es at) it.is ∙ index-once it.before at it.entry it.rest it.once in
     ap (λ k. take k entries) index ∙ ap (take (length it.before)) it.is ∙ take-seam it.before ((at, it.entry) ∷ it.rest)
 
-pub taken-with : (entries : List (At × Entry)) (at : At) (it : IsAt entries at) → take (index_of entries at + 1) entries ≡ it.before ++ (at, it.entry) ∷ []
+pub taken-with : (entries : List (At × Entry)) (at : At) (it : IsAt entries at) →
+    take (index_of entries at + 1) entries ≡ it.before ++ (at, it.entry) ∷ []
 taken-with entries at it =
     let index = ap (λ es. index_of es at) it.is ∙ index-once it.before at it.entry it.rest it.once in
-    let long : index_of entries at + 1 ≡ length (it.before ++ (at, it.entry) ∷ []) = omega (arith, index, length-append it.before ((at, it.entry) ∷ [])) in
-    ap (λ k. take k entries) long ∙ ap (take (length (it.before ++ (at, it.entry) ∷ []))) (it.is ∙ sym (append_assoc it.before ((at, it.entry) ∷ []) it.rest))
+    let long : index_of entries at + 1 ≡ length (it.before ++ (at, it.entry) ∷ []) =
+    omega (arith, index, length-append it.before ((at, it.entry) ∷ [])) in
+    ap (λ k. take k entries) long ∙ ap (take (length (it.before ++ (at, it.entry) ∷ [])))
+    (it.is ∙ sym (append_assoc it.before ((at, it.entry) ∷ []) it.rest))
     ∙ take-seam (it.before ++ (at, it.entry) ∷ []) it.rest
 
 -- what is behind doesn't matter to the pair of an entry and the one before it
@@ -335,7 +360,8 @@ pair-with entries at it apart =
     ∙ pair_at-within (it.before ++ (at, it.entry) ∷ []) it.rest at (apart-behind it.before at it.entry it.rest (AreApart-seam entries _ it.is apart))
 
 -- the keys when the next entry of a line is taken up
-pub IsKeyed-added : (n : ℕ) (entries : List (At × Entry)) (at : At) (old new : ScheduleState) (found : Option Pair) → AreApart entries → StandsIn entries at →
+pub IsKeyed-added : (n : ℕ) (entries : List (At × Entry)) (at : At) (old new : ScheduleState) (found : Option Pair) → AreApart entries →
+    StandsIn entries at →
     found ≡ pair_at entries at → IsKeyed n (take (index_of entries at) entries) old → FollowUpTo n (take (index_of entries at + 1) entries) →
     PutsKey old new n at found → IsKeyed n (take (index_of entries at + 1) entries) new
 IsKeyed-added n entries at old new found apart stands is keyed follow put =
@@ -353,8 +379,10 @@ spans-added n entries at found apart stands is follow =
     (is ∙ pair-with entries at it apart)
 
 -- a key that has room, and one that has none
-pub PutsKey-set : (old : ScheduleState) (keys : List (Option (At × ℕ))) (n : ℕ) (at : At) (pair : Option Pair) (key : Option (At × ℕ)) → IsKeyOf (lengths old) n pair key →
-    at.0 < length old.keys → keys ≡ set old.keys at.0 key → PutsKey old (let s : ScheduleState = record { target = old.target; keys = keys } in s) n at pair
+pub PutsKey-set : (old : ScheduleState) (keys : List (Option (At × ℕ))) (n : ℕ) (at : At) (pair : Option Pair) (key : Option (At × ℕ)) →
+    IsKeyOf (lengths old) n pair key →
+    at.0 < length old.keys → keys ≡ set old.keys at.0 key →
+    PutsKey old (let s : ScheduleState = record { target = old.target; keys = keys } in s) n at pair
 PutsKey-set old keys n at pair key is inside set_is = record {
   here = subst (λ (k : Option (At × ℕ)). IsKeyOf (lengths old) n pair k)
       (sym (ap (λ ks. key_at ks at) set_is ∙ get_or-set_same old.keys at.0 key None inside)) is;
@@ -363,7 +391,8 @@ PutsKey-set old keys n at pair key is inside set_is = record {
   target = refl;
 }
 
-pub PutsKey-past : (old : ScheduleState) (n : ℕ) (at : At) (pair : Option Pair) → IsKeyOf (lengths old) n pair None → length old.keys ≤ at.0 → PutsKey old old n at pair
+pub PutsKey-past : (old : ScheduleState) (n : ℕ) (at : At) (pair : Option Pair) → IsKeyOf (lengths old) n pair None → length old.keys ≤ at.0 →
+    PutsKey old old n at pair
 PutsKey-past old n at pair is past = record {
   here = subst (λ (k : Option (At × ℕ)). IsKeyOf (lengths old) n pair k) (sym (get_or_past old.keys at.0 None past)) is;
   others = λ other apart. refl;
@@ -383,4 +412,9 @@ pub IsPairOfKey-keyed : (n : ℕ) (entries : List (At × Entry)) (schedule : Sch
 IsPairOfKey-keyed n entries schedule right left fit keyed key =
     let found = key-pair (lengths schedule) n (pair_at entries right) (left, fit)
     (subst (λ (k : Option (At × ℕ)). IsKeyOf (lengths schedule) n (pair_at entries right) k) key (keyed.keys right)) in
-    record { pair = found.0; split = IsSplit-pair entries right found.0 found.1; key = found.2; span = IsSpan-pair n entries right found.0 keyed.follow found.1 }
+    record {
+      pair = found.0;
+      split = IsSplit-pair entries right found.0 found.1;
+      key = found.2;
+      span = IsSpan-pair n entries right found.0 keyed.follow found.1;
+    }

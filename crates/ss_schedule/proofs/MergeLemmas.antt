@@ -27,7 +27,8 @@ pair_behind-same : (e f : At × Entry) (entries : List (At × Entry)) (at : At) 
 pair_behind-same e f [] at other = refl
 pair_behind-same e f (x ∷ xs) at other = rw other refl
 
-none_in_both : (xs ys : List (At × Entry)) (at : At) → list_any (is_at at) xs ≡ false → list_any (is_at at) ys ≡ false → list_any (is_at at) (xs ++ ys) ≡ false
+none_in_both : (xs ys : List (At × Entry)) (at : At) → list_any (is_at at) xs ≡ false → list_any (is_at at) ys ≡ false →
+    list_any (is_at at) (xs ++ ys) ≡ false
 none_in_both xs ys at first second = list_any-append (is_at at) xs ys ∙ rw (first, second) refl
 
 none_in_front : (xs ys : List (At × Entry)) (at : At) → list_any (is_at at) (xs ++ ys) ≡ false → list_any (is_at at) xs ≡ false
@@ -66,7 +67,8 @@ module _ (n : ℕ) (entries : List (At × Entry)) (left right : At) (it : AreSid
             let none = apart-parts it.before ((left, it.window) ∷ (right, it.next) ∷ it.rest) at apart-split some in
             let tail = (or_parts (is_at at (left, it.window)) _ none).1 in
             let rest = (or_parts (is_at at (right, it.next)) _ tail).1 in
-            pair_at-within it.before ((left, joined_entry it.window it.next) ∷ it.rest) at (list_any-cons_false (is_at at) (left, joined_entry it.window it.next) it.rest not_left rest)
+            pair_at-within it.before ((left, joined_entry it.window it.next) ∷ it.rest) at
+            (list_any-cons_false (is_at at) (left, joined_entry it.window it.next) it.rest not_left rest)
             ∙ sym (pair_at-within it.before ((left, it.window) ∷ (right, it.next) ∷ it.rest) at none)
             ∙ sym (ap (λ es. pair_at es at) it.is))
         | inr none ↦ (
@@ -157,7 +159,8 @@ module _ (n : ℕ) (entries : List (At × Entry)) (left right : At) (it : AreSid
       ∙ ap (λ (es : List (At × Entry)). pair_at (es ++ (left, it.window) ∷ (right, it.next) ∷ it.rest) left) (sym is)
       ∙ ap (λ es. pair_at es left) (append_assoc front (x ∷ []) ((left, it.window) ∷ (right, it.next) ∷ it.rest))
       ∙ pair_at-seam front x left it.window ((right, it.next) ∷ it.rest) once in
-      let now : pair_at ((front ++ x ∷ []) ++ (left, joined_entry it.window it.next) ∷ it.rest) left ≡ Some (pair_of x (left, joined_entry it.window it.next)) =
+      let now : pair_at ((front ++ x ∷ []) ++ (left, joined_entry it.window it.next) ∷ it.rest) left ≡
+      Some (pair_of x (left, joined_entry it.window it.next)) =
       ap (λ es. pair_at es left) (append_assoc front (x ∷ []) ((left, joined_entry it.window it.next) ∷ it.rest))
       ∙ pair_at-seam front x left (joined_entry it.window it.next) it.rest once in
       let key : IsKeyOf (lengths old) n (Some (pair_of x (left, it.window))) None =
@@ -165,12 +168,14 @@ module _ (n : ℕ) (entries : List (At × Entry)) (left right : At) (it : AreSid
       (subst (λ (o : Option Pair). IsKeyOf (lengths old) n o (key_at old.keys left)) was (keyed.keys left)) in
       rw now (NeverFit-among (lengths old) x.1.first it.window.last x.1.first it.next.last n (omega arith) order-joined.0 key)
 
-  pub no-room-left : (one : ScheduleState) → PutsKey old one n right None → length one.keys ≤ left.0 → IsKeyOf (lengths one) n (pair_at joined left) None
+  pub no-room-left : (one : ScheduleState) → PutsKey old one n right None → length one.keys ≤ left.0 →
+      IsKeyOf (lengths one) n (pair_at joined left) None
   no-room-left one first past =
       subst (λ len. IsKeyOf len n (pair_at joined left) None) (sym (len-kept old one n right None first))
       (never-left it.before (ends it.before) refl (key_at-past old left (omega (arith, past, first.room))))
 
-  pub no-room-next : (two : ScheduleState) (x : At × Entry) (xs : List (At × Entry)) → it.rest ≡ x ∷ xs → lengths two ≡ lengths old → length two.keys ≡ length old.keys →
+  pub no-room-next : (two : ScheduleState) (x : At × Entry) (xs : List (At × Entry)) → it.rest ≡ x ∷ xs → lengths two ≡ lengths old →
+      length two.keys ≡ length old.keys →
       length two.keys ≤ x.0.0 → NeverFit (lengths two) (joined_entry it.window it.next).first x.1.last n
   no-room-next two x xs is len room past =
       let there : entries ≡ (it.before ++ (left, it.window) ∷ []) ++ (right, it.next) ∷ x ∷ xs = it.is
@@ -192,7 +197,8 @@ module _ (n : ℕ) (entries : List (At × Entry)) (left right : At) (it : AreSid
 
   -- the line as the join leaves it
   module _ (line : List (At × Entry)) (line_is : line ≡ it.before ++ (left, joined_entry it.window it.next) ∷ it.rest) where
-    pub room-left : (one : ScheduleState) (found : Option Pair) → PutsKey old one n right None → found ≡ pair_at line left → length one.keys ≤ left.0 →
+    pub room-left : (one : ScheduleState) (found : Option Pair) → PutsKey old one n right None → found ≡ pair_at line left →
+        length one.keys ≤ left.0 →
         IsKeyOf (lengths one) n found None
     room-left one found first is past =
         subst (λ (o : Option Pair). IsKeyOf (lengths one) n o None) (sym (is ∙ ap (λ es. pair_at es left) line_is)) (no-room-left one first past)
@@ -226,7 +232,8 @@ module _ (n : ℕ) (entries : List (At × Entry)) (left right : At) (it : AreSid
       pub place : entry.0 ≡ pair.right
       pub pair_is : pair ≡ pair_of (left, joined_entry it.window it.next) entry
 
-    pub IsNext-read : (pair : Pair) → AreApart line → Some pair.right ≡ place_at line (index_of line left + 1) → pair_at line pair.right ≡ Some pair → IsNext pair
+    pub IsNext-read : (pair : Pair) → AreApart line → Some pair.right ≡ place_at line (index_of line left + 1) →
+        pair_at line pair.right ≡ Some pair → IsNext pair
     IsNext-read pair apart_line behind is =
         let first = some-first it.rest pair.right (behind ∙ behind-is) in
         let there = pair-next (AreApart-seam line _ line_is apart_line) first.0 first.1 first.2 in

@@ -7,10 +7,12 @@ use Rattle.ss_line.specs.Line.{StandsIn, entry_at, index_of, is_at, place_at, pl
 use Rattle.ss_line.specs.declared.entry.At.{At}
 use Rattle.ss_line.specs.declared.entry.Entry.{Entry}
 use Rattle.ss_schedule.specs.Pairs.{pair_at, pair_behind, pair_of}
-use Rattle.ss_schedule.proofs.Places.{AreApart, AreApart-seam, Ends, IsAt-stands, apart-before, apart-behind, ends, with_last, without_last, entry-once, index-once}
+use Rattle.ss_schedule.proofs.Places.{AreApart, AreApart-seam, Ends, IsAt-stands, apart-before, apart-behind, ends, with_last, without_last}
+use Rattle.ss_schedule.proofs.Places.{entry-once, index-once}
 use Rattle.ss_schedule.proofs.Places.{is_at-same, place_at-behind, place_at-seam}
 
-pub pair_behind-absent : (e : At × Entry) (entries : List (At × Entry)) (at : At) → list_any (is_at at) entries ≡ false → pair_behind e entries at ≡ None
+pub pair_behind-absent : (e : At × Entry) (entries : List (At × Entry)) (at : At) → list_any (is_at at) entries ≡ false →
+    pair_behind e entries at ≡ None
 pair_behind-absent e [] at none = refl
 pair_behind-absent e (x ∷ xs) at none =
     let parts = or_parts (is_at at x) (list_any (is_at at) xs) none in rw parts.0 (pair_behind-absent x xs at parts.1)
@@ -22,7 +24,8 @@ pair_behind-past e [] x tail at none = let parts = or_parts (is_at at x) false n
 pair_behind-past e (y ∷ ys) x tail at none =
     let parts = or_parts (is_at at y) (list_any (is_at at) (ys ++ x ∷ [])) none in rw parts.0 (pair_behind-past y ys x tail at parts.1)
 
-pub pair_at-past : (front : List (At × Entry)) (x : At × Entry) (tail : List (At × Entry)) (at : At) → list_any (is_at at) (front ++ x ∷ []) ≡ false →
+pub pair_at-past : (front : List (At × Entry)) (x : At × Entry) (tail : List (At × Entry)) (at : At) →
+    list_any (is_at at) (front ++ x ∷ []) ≡ false →
     pair_at (front ++ x ∷ tail) at ≡ pair_behind x tail at
 pair_at-past [] x tail at none = refl
 pair_at-past (y ∷ ys) x tail at none =
@@ -94,7 +97,8 @@ module _ (entries : List (At × Entry)) (apart : AreApart entries) where
       paired-behind at right entry next it.entry it.before it.rest it.is first there read_next
 
   paired-before : (at left : At) (entry window w : Entry) (before : List (At × Entry)) → Ends before → (rest : List (At × Entry)) →
-      entries ≡ before ++ (at, w) ∷ rest → w ≡ entry → Some left ≡ place_before entries (length before) → entry_at entries left ≡ Some window →
+      entries ≡ before ++ (at, w) ∷ rest → w ≡ entry → Some left ≡ place_before entries (length before) →
+      entry_at entries left ≡ Some window →
       pair_at entries at ≡ Some (pair_of (left, window) (at, entry))
   paired-before at left entry window w _ without_last rest is first there read = absurd (cc)
   paired-before at left entry window w _ (with_last front x) rest is first there read =
@@ -116,7 +120,8 @@ module _ (entries : List (At × Entry)) (apart : AreApart entries) where
       let first = entry-apart it.before at it.entry entry it.rest it.is read in
       paired-before at left entry window it.entry it.before (ends it.before) it.rest it.is first (before ∙ ap (place_before entries) index) read_window
 
-  no-pair-before : (at : At) (w : Entry) (before : List (At × Entry)) → Ends before → (rest : List (At × Entry)) → entries ≡ before ++ (at, w) ∷ rest →
+  no-pair-before : (at : At) (w : Entry) (before : List (At × Entry)) → Ends before → (rest : List (At × Entry)) →
+      entries ≡ before ++ (at, w) ∷ rest →
       None ≡ place_before entries (length before) → pair_at entries at ≡ None
   no-pair-before at w _ without_last rest is none = ap (λ es. pair_at es at) is ∙ pair_at-first at w rest (AreApart-seam entries _ is apart)
   no-pair-before at w _ (with_last front x) rest is none =

@@ -30,7 +30,8 @@ same_place at e is = let same = eqb-true e.0.0 at.0 is in ap (λ n. let a : At =
 pub list_any-cons_false : {X : Type 0} (p : X → Bool) (x : X) (xs : List X) → p x ≡ false → list_any p xs ≡ false → list_any p (x ∷ xs) ≡ false
 list_any-cons_false p x xs first rest = rw (first, rest) refl
 
-pub list_any-snoc_false : {X : Type 0} (p : X → Bool) (xs : List X) (x : X) → list_any p xs ≡ false → p x ≡ false → list_any p (xs ++ x ∷ []) ≡ false
+pub list_any-snoc_false : {X : Type 0} (p : X → Bool) (xs : List X) (x : X) → list_any p xs ≡ false → p x ≡ false →
+    list_any p (xs ++ x ∷ []) ≡ false
 list_any-snoc_false p [] x none last = rw last refl
 list_any-snoc_false p (y ∷ ys) x none last =
     let parts = or_parts (p y) (list_any p ys) none in list_any-cons_false p y (ys ++ x ∷ []) parts.0 (list_any-snoc_false p ys x parts.1 last)

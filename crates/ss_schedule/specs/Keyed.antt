@@ -45,7 +45,8 @@ lengths schedule = lengths_of (params_of schedule.target)
 -- the positions of entries follow one another from this one on, and end at or below n
 abbrev pub FollowFrom : ℕ → ℕ → List (At × Entry) → Type 0
 FollowFrom n first [] = ⊤
-FollowFrom n first (entry ∷ entries) = (entry.1.first ≡ first) × (first ≤ entry.1.last) × (entry.1.last ≤ n) × FollowFrom n (entry.1.last + 1) entries
+FollowFrom n first (entry ∷ entries) =
+    (entry.1.first ≡ first) × (first ≤ entry.1.last) × (entry.1.last ≤ n) × FollowFrom n (entry.1.last + 1) entries
 
 -- the positions of entries begin at 1 or above, follow one another, and end at or below n
 abbrev pub FollowUpTo : ℕ → List (At × Entry) → Type 0

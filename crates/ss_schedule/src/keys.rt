@@ -31,7 +31,8 @@ impl Model for Keys {
 }
 
 impl Keys {
-    ghost use Rattle.std.specs.Prelude.{◌≡◌, ◌+◌, ◌<◌, ◌≤◌, ℕ, [], ◌∷◌, ◌++◌, length, slice_set, Some, None, IfSome, IfNone, OnOk, OnErr};
+    ghost use Rattle.std.specs.Prelude.{◌≡◌, ◌+◌, ◌<◌, ◌≤◌, ℕ, [], ◌∷◌, ◌++◌, length, slice_set, Some, None, IfSome};
+    ghost use Rattle.std.specs.Prelude.{IfNone, OnOk, OnErr};
     ghost use Rattle.ss_line.specs.declared.entry.At.{At};
     ghost use Rattle.ss_schedule.specs.Held.{fit_of};
     ghost use Rattle.ss_schedule.specs.Keyed.{key_at};

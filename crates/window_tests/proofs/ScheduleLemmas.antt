@@ -1,5 +1,7 @@
 -- Positions of a line that goes on where it ended.
-use Rattle.std.proofs.Common.{◌≡◌, ◌∙◌, ℕ, suc, ◌+◌, ◌≤◌, List, [], ◌∷◌, ◌++◌, length, take, refl, sym, ap, arith, subst, length-append, append_assoc, Option, Some, None}
+use Rattle.std.proofs.Common.{◌≡◌, ◌∙◌, ℕ, suc, ◌+◌, ◌≤◌, List, [], ◌∷◌, ◌++◌, length, take, refl}
+use Rattle.std.proofs.Common.{sym, ap, arith, length-append, Option, Some, None, IfSome}
+use Rattle.std.specs.Option.{SomeIff}
 use Rattle.std.proofs.lemmas.List.{take_all}
 use Rattle.ss_line.specs.Line.{StandsIn, entry_at, index_of, place_before}
 use Rattle.ss_line.specs.declared.entry.At.{At}
@@ -8,13 +10,15 @@ use Rattle.ss_schedule.specs.Keyed.{FollowFrom, FollowUpTo}
 use Rattle.ss_schedule.proofs.PairLemmas.{entry-apart, some-same}
 use Rattle.ss_schedule.proofs.Places.{AreApart, Ends, ends, place_at-seam, take-seam, with_last, without_last}
 
-FollowFrom-more : (n first : ℕ) (front : List (At × Entry)) (last new : At × Entry) → FollowFrom n first (front ++ last ∷ []) → new.1.first ≡ last.1.last + 1 →
+FollowFrom-more : (n first : ℕ) (front : List (At × Entry)) (last new : At × Entry) → FollowFrom n first (front ++ last ∷ []) →
+    new.1.first ≡ last.1.last + 1 →
     new.1.first ≤ new.1.last → new.1.last ≤ n → FollowFrom n first ((front ++ last ∷ []) ++ new ∷ [])
 FollowFrom-more n first [] last new follow next order taken = (follow.0, follow.1, follow.2, (next, omega arith, taken, tt))
 FollowFrom-more n first (e ∷ es) last new follow next order taken =
     (follow.0, follow.1, follow.2, FollowFrom-more n (e.1.last + 1) es last new follow.3 next order taken)
 
-FollowUpTo-more : (n : ℕ) (front : List (At × Entry)) (last new : At × Entry) → FollowUpTo n (front ++ last ∷ []) → new.1.first ≡ last.1.last + 1 →
+FollowUpTo-more : (n : ℕ) (front : List (At × Entry)) (last new : At × Entry) → FollowUpTo n (front ++ last ∷ []) →
+    new.1.first ≡ last.1.last + 1 →
     new.1.first ≤ new.1.last → new.1.last ≤ n → FollowUpTo n ((front ++ last ∷ []) ++ new ∷ [])
 FollowUpTo-more n [] last new follow next order taken = (follow.0, FollowFrom-more n last.1.first [] last new follow.1 next order taken)
 FollowUpTo-more n (e ∷ es) last new follow next order taken = (follow.0, FollowFrom-more n e.1.first (e ∷ es) last new follow.1 next order taken)
@@ -24,15 +28,11 @@ some-last front x =
     let long : length (front ++ x ∷ []) ≡ suc (length front) = omega (arith, length-append front (x ∷ [])) in
     ap (place_before (front ++ x ∷ [])) long ∙ place_at-seam front (x ∷ [])
 
--- the first window
-pub follows-none : (n : ℕ) (entries : List (At × Entry)) (new : At × Entry) → Ends entries → None ≡ place_before entries (length entries) → new.1.first ≡ 1 →
-    1 ≤ new.1.last → new.1.last ≤ n → FollowUpTo n (entries ++ new ∷ [])
-follows-none n _ new without_last none first some taken = (omega arith, (omega arith, omega arith, taken, tt))
-follows-none n _ new (with_last front x) none first some taken = let there : None ≡ Some x.0 = none ∙ some-last front x in absurd (cc)
-
 -- the window behind the last one
-pub follows-last : (n : ℕ) (entries : List (At × Entry)) (at : At) (e : Entry) (new : At × Entry) → Ends entries → AreApart entries → FollowUpTo n entries →
-    Some at ≡ place_before entries (length entries) → entry_at entries at ≡ Some e → new.1.first ≡ e.last + 1 → new.1.first ≤ new.1.last → new.1.last ≤ n →
+pub follows-last : (n : ℕ) (entries : List (At × Entry)) (at : At) (e : Entry) (new : At × Entry) → Ends entries → AreApart entries →
+    FollowUpTo n entries →
+    Some at ≡ place_before entries (length entries) → entry_at entries at ≡ Some e → new.1.first ≡ e.last + 1 → new.1.first ≤ new.1.last →
+    new.1.last ≤ n →
     FollowUpTo n (entries ++ new ∷ [])
 follows-last n _ at e new without_last apart follow last read next order taken = absurd (cc)
 follows-last n _ at e new (with_last front x) apart follow last read next order taken =
@@ -40,12 +40,12 @@ follows-last n _ at e new (with_last front x) apart follow last read next order 
     let same = entry-apart (front ++ x ∷ []) apart front x.0 x.1 e [] refl (ap (entry_at (front ++ x ∷ [])) (sym place) ∙ read) in
     FollowUpTo-more n front x new follow (next ∙ ap (λ (w : Entry). w.last + 1) (sym same)) order taken
 
--- a line in which the last one is taken up
-pub taken-last : (entries : List (At × Entry)) (at : At) (entry : Entry) → index_of (entries ++ (at, entry) ∷ []) at ≡ length entries →
-    (take (index_of (entries ++ (at, entry) ∷ []) at) (entries ++ (at, entry) ∷ []) ≡ entries)
-    × (take (index_of (entries ++ (at, entry) ∷ []) at + 1) (entries ++ (at, entry) ∷ []) ≡ entries ++ (at, entry) ∷ [])
-taken-last entries at entry index =
-    let all : List (At × Entry) = entries ++ (at, entry) ∷ [] in
-    let long : index_of (entries ++ (at, entry) ∷ []) at + 1 ≡ length (entries ++ (at, entry) ∷ []) =
-    omega (arith, index, length-append entries ((at, entry) ∷ [])) in
-    (ap (λ k. take k (entries ++ (at, entry) ∷ [])) index ∙ take-seam entries ((at, entry) ∷ []), ap (λ k. take k (entries ++ (at, entry) ∷ [])) long ∙ take_all (length (entries ++ (at, entry) ∷ [])) (entries ++ (at, entry) ∷ []) (omega arith))
+-- the position after the last one, if it is a number of the code
+pub next-first : (entries : List (At × Entry)) (at : At) (e : Entry) (found : Option ℕ) (P : Type 0) → AreApart entries →
+    Some at ≡ place_before entries (length entries) → entry_at entries at ≡ Some e → SomeIff found P (e.last + 1) →
+    IfSome found
+    (λ first. (n : ℕ) (new : At × Entry) → FollowUpTo n entries → new.1.first ≡ first → first ≤ new.1.last → new.1.last ≤ n →
+    FollowUpTo n (entries ++ new ∷ []))
+next-first entries at e None P apart last read is = tt
+next-first entries at e (Some first) P apart last read is = λ n new follow start order taken.
+    follows-last n entries at e new (ends entries) apart follow last read (start ∙ is.1) (omega arith) taken

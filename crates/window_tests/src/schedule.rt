@@ -1,7 +1,7 @@
 // Lines in use with a schedule of their merges, beside the plain rule: as long as some two neighbours lie together in one
 // target window, join them.
-ghost use Rattle.std.specs.Prelude.{◌≡◌, ◌+◌, ◌≤◌, ◌<◌, ◌∷◌, ◌++◌, [], ℕ, length, IfOk, IfSome};
-ghost use Rattle.ss_line.specs.Line.{StandsIn};
+ghost use Rattle.std.specs.Prelude.{◌≡◌, ◌+◌, ◌≤◌, ◌<◌, ◌∷◌, ◌++◌, [], ℕ, true, length, take, IfOk, IfSome, IfNone};
+ghost use Rattle.ss_line.specs.Line.{StandsIn, index_of};
 ghost use Rattle.ss_line.specs.declared.entry.At.{At};
 ghost use Rattle.ss_line.specs.declared.entry.Entry.{Entry};
 ghost use Rattle.ss_schedule.specs.Keyed.{FollowUpTo, IsKeyed, lengths};
@@ -10,8 +10,10 @@ ghost use Rattle.ss_steps.specs.Steps.{IsFresh};
 
 use super::target::are_positions;
 use ss_catalog::Params;
-use ss_line::{Entry, Line, MOST_PLACES};
-use ss_schedule::{Schedule, keyed_at_the_next_count, merge_due, the_last_one_pushed};
+use ss_line::{At, Entry, Line, MOST_PLACES};
+use ss_schedule::{
+    Schedule, keyed_at_the_next_count, merge_due, take_up_last, the_last_one_pushed,
+};
 use ss_steps::Steps;
 use ss_target::Target;
 use ss_windowing::MOST_VALUES;
@@ -31,7 +33,44 @@ fn next_first<L: Ledger>(line: &Line, steps: &mut Steps<L>) -> Option<u64>
     line.get(at, steps).last.checked_add(1)
 }
 
-// Puts a window of that many values at the end of a line, if they end at or below n. Whether they do.
+// Puts a window of that many values at the end of a line, and makes room for it. None if they don't end at or below n.
+fn put_last<L: Ledger>(
+    line: &mut Line,
+    schedule: &mut Schedule,
+    len: u64,
+    n: u64,
+    steps: &mut Steps<L>,
+) -> Result<Option<At>, AllocError>
+    requires { IsKeyed n line.old.entries schedule.old }
+    ensures kept { IfOk result (λ put. IfNone put (IsKeyed n line.new.entries schedule.new)) }
+    ensures stands { IfOk result (λ put. IfSome put (StandsIn line.new.entries)) }
+    ensures last { IfOk result (λ put. IfSome put (λ at. index_of line.new.entries at + 1 ≡ length line.new.entries)) }
+    ensures room { IfOk result (λ put. IfSome put (λ at. at.0 < length schedule.new.keys)) }
+    ensures keyed { IfOk result (λ put. IfSome put (λ at.
+        IsKeyed n (take (index_of line.new.entries at) line.new.entries) schedule.new)) }
+    ensures follow { IfOk result (λ put. IfSome put (λ _. FollowUpTo n line.new.entries)) }
+{
+    if line.len() == MOST_PLACES {
+        return Ok(None);
+    }
+    line.reserve(1)?;
+    schedule.reserve(line.places())?;
+    let Some(first) = next_first(line, steps) else {
+        return Ok(None);
+    };
+    if len == 0 || first > n || n - first < len - 1 {
+        return Ok(None);
+    }
+    let entry = Entry {
+        first,
+        last: first + (len - 1),
+        slot: 7,
+    };
+    the_last_one_pushed();
+    Ok(Some(line.push(entry, steps)))
+}
+
+// The same, and takes it up. Whether it did.
 fn push<L: Ledger>(
     line: &mut Line,
     schedule: &mut Schedule,
@@ -40,26 +79,11 @@ fn push<L: Ledger>(
     steps: &mut Steps<L>,
 ) -> Result<bool, AllocError>
     requires { IsKeyed n line.old.entries schedule.old }
-    ensures { IsKeyed n line.new.entries schedule.new }
+    ensures { IfOk result (λ _. IsKeyed n line.new.entries schedule.new) }
 {
-    if line.len() == MOST_PLACES {
-        return Ok(false);
-    }
-    line.reserve(1)?;
-    schedule.reserve(line.places())?;
-    let Some(first) = next_first(line, steps) else {
+    let Some(at) = put_last(line, schedule, len, n, steps)? else {
         return Ok(false);
     };
-    if len == 0 || first > n || n - first < len - 1 {
-        return Ok(false);
-    }
-    let entry = Entry {
-        first,
-        last: first + (len - 1),
-        slot: 7,
-    };
-    let at = line.push(entry, steps);
-    the_last_one_pushed();
     schedule.add_window(line, at, n, steps);
     Ok(true)
 }
@@ -78,10 +102,10 @@ fn append<L: Ledger>(
     ensures none { IfOk result (λ did. did ≡ true → NoPairFits (lengths schedule.new) (n + 1) line.new.entries) }
 {
     keyed_at_the_next_count();
-    if !push(line, schedule, 1, n + 1, steps)? {
+    let Some(at) = put_last(line, schedule, 1, n + 1, steps)? else {
         return Ok(false);
-    }
-    merge_due(schedule, line, n + 1, steps);
+    };
+    take_up_last(schedule, line, at, n + 1, steps);
     Ok(true)
 }
 
@@ -132,7 +156,7 @@ fn load<L: Ledger>(
     steps: &mut Steps<L>,
 ) -> Result<bool, AllocError>
     requires { IsKeyed n line.old.entries schedule.old }
-    ensures { IsKeyed n line.new.entries schedule.new }
+    ensures { IfOk result (λ _. IsKeyed n line.new.entries schedule.new) }
 {
     for window in windows {
         let len = window.1.wrapping_sub(window.0).wrapping_add(1);

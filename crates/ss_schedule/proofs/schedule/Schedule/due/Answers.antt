@@ -44,4 +44,5 @@ returns-clause-fits g c =
     let read = positions-read c.args.line.now.entries c.len-len.ensures.line.apart c.in_ok-right.right it.pair it.split c.in_ok-right.left c.get-first.result
     c.get-last.result it.key.left c.get-first.ensures.entry c.get-last.ensures.entry in
     ap₂ (λ l r. fits (lengths c.args.self.now) l r c.args.n) read.0 read.1
-    ∙ fits-by (lengths c.args.self.now) c.args.n some.0 it.pair (c.in_ok-right.left, some.0) (lengths-positive c.args.self.now.target) it.span some.1 refl it.key
+    ∙ fits-by (lengths c.args.self.now) c.args.n some.0 it.pair (c.in_ok-right.left, some.0) (lengths-positive c.args.self.now.target)
+    it.span some.1 refl it.key

@@ -6,7 +6,8 @@ pub put-requires-2-clause-room : goal.put-requires-2-clause-room
 put-requires-2-clause-room g c past =
     let it = c.requires.neighbours.neighbours in
     room-left c.args.n c.args.line.now.entries c.args.pair.left c.args.pair.right it c.len-len.ensures.line.apart c.args.self.now c.requires.keyed
-    c.join-joined.new.line.entries (c.join-joined.ensures.joined it) c.put.new.self c.pair_before-previous.result c.put.ensures c.pair_before-previous.ensures.pair past
+    c.join-joined.new.line.entries (c.join-joined.ensures.joined it) c.put.new.self c.pair_before-previous.result c.put.ensures
+    c.pair_before-previous.ensures.pair past
 
 pub put-requires-2-clause-span : goal.put-requires-2-clause-span
 put-requires-2-clause-span g c =
