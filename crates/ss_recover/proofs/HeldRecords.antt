@@ -1,9 +1,9 @@
 -- The records of streams, as a walk takes them and as they are held, and those that the slots of a map spell.
 use Rattle.std.proofs.Common.{◌≡◌, ◌∙◌, ℕ, ◌<◌, false, List, [], ◌∷◌, ◌++◌, map, filter, flat_map, Option, None, refl, ap, ap₂, arith, append-nil, true, ◌||◌}
 use Rattle.std.proofs.Common.{append_assoc, length, replicate, sym, subst, inl, inr, IsPermutation, Some}
-use Rattle.std.specs.Prelude.{◌==◌, is_none, zip}
+use Rattle.std.specs.Prelude.{is_none, zip}
 use Rattle.std.specs.List.{AllByRecursion, filter_map, cons_option, list_any, range_with_len}
-use Rattle.std.proofs.lemmas.Bool.{eq-eqb, ne_eqb, cases_Bool}
+use Rattle.std.proofs.lemmas.Bool.{eq-eqb, cases_Bool}
 use Rattle.std.proofs.lemmas.List.Concat.{flat_map-append}
 use Rattle.std.proofs.lemmas.List.Elements.{filter-append, filter_map-append}
 use Rattle.ss_codec.specs.declared.record.Record.{Record}

@@ -24,7 +24,7 @@ use Rattle.ss_recover.specs.Marked.{Marked, are_marks, has_said, is_closed_befor
 use Rattle.ss_recover.specs.Marked.{landmarks_made, marked_on, nothing_marked}
 use Rattle.ss_recover.specs.Order.{place_of}
 use Rattle.ss_recover.proofs.InOrder.{Rise, in_order-IsPermutation}
-use Rattle.ss_recover.proofs.Lists.{all_append, all_push, all_weaker, filter-all, filter-none, list_all-each}
+use Rattle.ss_recover.proofs.Lists.{all_append, all_push, all_weaker, filter-all, list_all-each}
 
 -- the records of landmarks numbered from here on, each followed by those of its values
 abbrev pub marks_of : ℕ → ℕ → List Landmark → List Record

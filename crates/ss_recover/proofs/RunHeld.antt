@@ -1,12 +1,11 @@
 -- The streams of runs that are done: what is held agrees with streams that their records are of.
 use Rattle.std.proofs.Common.{◌≡◌, ◌∙◌, ℕ, ◌+◌, ◌<◌, Bool, true, List, [], ◌∷◌, ◌++◌, flat_map, map, filter, Option, Some, refl, sym, ap, ap₂, subst, inl, inr}
-use Rattle.std.proofs.Common.{false, cond, arith}
+use Rattle.std.proofs.Common.{false, cond}
 use Rattle.std.proofs.Common.{append-nil, append_assoc, IsPermutation}
 use Rattle.std.specs.Prelude.{zip}
 use Rattle.std.specs.List.{AllByRecursion, filter_map}
 use Rattle.std.proofs.lemmas.Bool.{cases_Bool, cond-true, cond-false}
 use Rattle.std.proofs.lemmas.List.{map-append}
-use Rattle.std.proofs.lemmas.List.Concat.{flat_map-append}
 use Rattle.std.proofs.lemmas.List.Elements.{filter-append}
 use Rattle.std.proofs.lemmas.List.Sorted.{IsPermutation-cons, IsPermutation-middle}
 use Rattle.std.proofs.lemmas.List.Sorted.{IsPermutation-map, IsPermutation-refl, IsPermutation-trans}
@@ -14,11 +13,10 @@ use Rattle.ss_codec.specs.declared.record.Record.{Record}
 use Rattle.ss_codec.specs.declared.record.Record.TheVariants as records
 use Rattle.ss_landmarks.specs.Landmark.{Landmark, LandmarkValue}
 use Rattle.ss_model.specs.Marks.{later, latest_of}
-use Rattle.ss_model.specs.Standing.{IsStream}
-use Rattle.ss_model.specs.State.{Created, Stream, names_of}
+use Rattle.ss_model.specs.State.{Stream, names_of}
 use Rattle.ss_model.specs.Windows.{newest_time}
 use Rattle.ss_model.specs.declared.types.Window.{Window}
-use Rattle.ss_recover.specs.Carried.{created_by, is_mark_of, streams_created, window_of}
+use Rattle.ss_recover.specs.Carried.{created_by, is_mark_of, window_of}
 use Rattle.ss_recover.specs.Held.{Agrees, AllAgree, all_value_records, in_slots, landmark_record, landmark_records, records_held, stream_record}
 use Rattle.ss_recover.specs.Held.{value_records, window_record, windows_held}
 use Rattle.ss_recover.specs.Marked.{landmarks_made}
@@ -28,14 +26,10 @@ use Rattle.ss_recover.specs.Shown.{IsHeldOf, found_by, head_found, is_landmark, 
 use Rattle.ss_recover.specs.Usable.{IsUsable, in_slot, slots_of, without_slots}
 use Rattle.ss_recover.specs.declared.found.Found.{Found}
 use Rattle.ss_recover.specs.declared.parts.StreamParts.{StreamParts}
-use Rattle.ss_recover.proofs.HeldRecords.{all_walked, walked}
-use Rattle.ss_recover.proofs.InOrder.{Rise}
-use Rattle.ss_recover.proofs.Lists.{all-kept, all-passing, all_push, all_weaker, filter-none, map-all}
+use Rattle.ss_recover.proofs.Lists.{all_weaker, filter-none, map-all}
 use Rattle.ss_recover.proofs.Marks.{each-mark_of, marks_of}
-use Rattle.ss_recover.proofs.MarksSoFar.{AreOf, AreOf-are_marks}
 use Rattle.ss_recover.proofs.Permutations.{IsPermutation-append_both}
 use Rattle.ss_recover.proofs.RunStream.{AreWalked, AreWalked-none, AreWalked-run, meets, rest-order, stream_made}
-use Rattle.ss_recover.proofs.ValidRecords.{IsFine, all-window_of}
 
 -- of the records of landmarks, those of the landmarks and the others
 landmarks-values : (number n index : ℕ) (values : List LandmarkValue) → filter is_landmark (value_records number n index values) ≡ []

@@ -169,9 +169,9 @@ module _ (s : Open) (q : Run) (own : List Found) (shows : Shows s q own) where
       go (tiling ls next newest) marks = absurd marks
 
   -- windows may come once the last landmark has closed
-  pub turned : (last : Option Last) (marks : Marks) → s.stage ≡ stages.Marks last → has_said_last last ≡ true → HasClosed (finish_of last) s.marks marks →
+  pub ended : (last : Option Last) (marks : Marks) → s.stage ≡ stages.Marks last → has_said_last last ≡ true → HasClosed (finish_of last) s.marks marks →
       MatchOption (windows_from q) ⊥ (λ next. Shows (with_marks s marks (stages.Windows 1 None)) next own)
-  turned last marks is said closed = go q (in-marks last is) shows.of
+  ended last marks is said closed = go q (in-marks last is) shows.of
     where
       go : (r : Run) → ShowsRun (stages.Marks last) s.marks.landmarks.landmarks s.marks.latest r → IsRunOf s.id.0 r (without_slots own) →
           MatchOption (windows_from r) ⊥ (λ next. Shows (with_marks s marks (stages.Windows 1 None)) next own)
@@ -385,8 +385,8 @@ room-ready s ready =
     let room = room-kept s.line s.marks.landmarks.slots s.marks.landmarks.value_slots s.id.0 ready.own ready.shows.kept ready.room in
     (room.1, room.2)
 
-pub room-turned : (s : Open) (o : Option Run) (own : List Found) → MatchOption o ⊥ (λ q. Shows s q own) → length own < MOST_RECORDS →
+pub room-window : (s : Open) (o : Option Run) (own : List Found) → MatchOption o ⊥ (λ q. Shows s q own) → length own < MOST_RECORDS →
     length s.line.entries + 1 ≤ MOST_PLACES
-room-turned s None own shows room = absurd shows
-room-turned s (Some q) own shows room =
+room-window s None own shows room = absurd shows
+room-window s (Some q) own shows room =
     (room-kept s.line s.marks.landmarks.slots s.marks.landmarks.value_slots s.id.0 own shows.kept room).0

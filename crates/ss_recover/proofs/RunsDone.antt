@@ -2,24 +2,17 @@
 use Rattle.std.proofs.Common.{◌≡◌, ◌∙◌, ℕ, ◌+◌, ◌<◌, ◌≤◌, true, false, List, [], ◌∷◌, ◌++◌, map, length, refl, sym, ap, ap₂, subst, arith, All, take, drop, get_or, Ok, Err}
 use Rattle.std.proofs.Common.{append_assoc}
 use Rattle.std.specs.Prelude.{◌==◌}
-use Rattle.std.specs.List.{AllByRecursion, IsDistinct, list_any}
+use Rattle.std.specs.List.{AllByRecursion, list_any}
 use Rattle.std.proofs.lemmas.Bool.{eq-eqb, or_left, or_right}
 use Rattle.std.proofs.Math.Seq.{take-add}
-use Rattle.std.proofs.lemmas.List.{drop-drop, length-append, length-drop, length-map, map-append, take-append-drop}
+use Rattle.std.proofs.lemmas.List.{drop-drop, length-drop, length-map, map-append, take-append-drop}
 use Rattle.std.proofs.lemmas.List.Elements.{All-from_recursion, recursion_from_All}
 use Rattle.std.proofs.lemmas.List.Folds.{list_any-append}
-use Rattle.std.proofs.lemmas.List.Sums.{sum_by-cons}
-use Rattle.ss_catalog.specs.Catalog.{HasDistinctNames}
-use Rattle.ss_catalog.specs.Names.{same_name}
-use Rattle.ss_catalog.specs.declared.TheConstants.{MOST_STREAMS}
 use Rattle.ss_catalog.specs.declared.stream_id.StreamId.{StreamId}
 use Rattle.ss_codec.specs.declared.record.Record.{Record}
-use Rattle.ss_model.specs.Standing.{IsStream}
-use Rattle.ss_model.specs.State as Streams
-use Rattle.ss_model.specs.State.{Created, Stream, live, names_of}
+use Rattle.ss_model.specs.State.{Created, Stream, names_of}
 use Rattle.ss_model.specs.declared.types.TheConstants.{MOST_RECORDS}
 use Rattle.ss_recover.specs.Carried.{streams_created}
-use Rattle.ss_recover.specs.Held.{window_record}
 use Rattle.ss_recover.specs.Order.{Rises, found_key, place_of, stream_of}
 use Rattle.ss_recover.specs.Runs.{AreBuilt, IsLowestUnsound, WalksAs, is_run, is_sound_in_order}
 use Rattle.ss_recover.specs.Shown.{IsHeldOf, RunsAs, names_in}
@@ -28,10 +21,7 @@ use Rattle.ss_recover.specs.declared.found.Found.{Found}
 use Rattle.ss_recover.specs.declared.parts.StreamParts.{StreamParts}
 use Rattle.ss_recover.specs.declared.recover_error.RecoverError.{RecoverError}
 use Rattle.ss_recover.specs.declared.recover_error.RecoverError.TheVariants.{BadSlot, BadStream, Disk, OutOfMemory}
-use Rattle.ss_recover.proofs.HeldRecords.{all_walked, created, created-all_walked, walked}
-use Rattle.ss_recover.proofs.InOrder.{increasing-Rise}
-use Rattle.ss_recover.proofs.Lists.{all_append, all_behind, all_front, all_weaker, map-all, map-map}
-use Rattle.ss_recover.proofs.Marks.{length-marks_of, marks_of}
+use Rattle.ss_recover.proofs.Lists.{all_append, all_behind, all_front, all_weaker, map-all}
 use Rattle.ss_recover.proofs.RunHeld.{AreHeldSoFar, AreHeldSoFar-none, done-push, done_stream}
 use Rattle.ss_recover.proofs.RunSound.{is_run-sound}
 use Rattle.ss_recover.proofs.RunStream.{AreBefore, AreBefore-run, IsState-walked, names-front}

@@ -1,7 +1,7 @@
 -- The streams of a state meet the conditions that records have to meet.
 use Rattle.std.proofs.Common.{◌≡◌, ℕ, ◌+◌, ◌<◌, ◌≤◌, true, false, not, ◌&&◌, ◌||◌, cond, List, [], ◌∷◌, ◌++◌, length, map, refl, sym, ap, ap₂, subst, ◌∙◌}
 use Rattle.std.proofs.Common.{append_assoc, arith, length-append, IsPermutation, Bool}
-use Rattle.std.specs.Prelude.{◌==◌, count_by, nat_le, nat_lt, sum_by}
+use Rattle.std.specs.Prelude.{◌==◌, count_by, nat_le, nat_lt}
 use Rattle.std.specs.List.{AllByRecursion, IsDistinct, list_any}
 use Rattle.std.proofs.lemmas.Bool.{and_from, and_left, and_parts, eq-eqb, eqb-true, le-ltb, leb-true, ltb-true, lt-ltb, ne_eqb, or_from}
 use Rattle.std.proofs.lemmas.Bool.Decides.{nat_tests}

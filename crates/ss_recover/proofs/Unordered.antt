@@ -1,27 +1,24 @@
 -- Which numbers are sound doesn't hang on the order of the records.
-use Rattle.std.proofs.Common.{◌≡◌, ◌⊎◌, ◌∙◌, ℕ, ◌+◌, ◌*◌, ◌^◌, ◌<◌, ◌≤◌, Bool, true, false, not, ◌&&◌, cond, leb, List, [], ◌∷◌, filter, fold, min}
+use Rattle.std.proofs.Common.{◌≡◌, ◌⊎◌, ◌∙◌, ℕ, ◌+◌, ◌*◌, ◌^◌, ◌<◌, ◌≤◌, Bool, true, false, not, ◌&&◌, leb, List, [], ◌∷◌, filter, fold, min}
 use Rattle.std.proofs.Common.{Option, Some, None, refl, sym, ap, ap₂, inl, inr, arith, IsPermutation}
-use Rattle.std.specs.Prelude.{◌==◌, nat_lt}
+use Rattle.std.specs.Prelude.{◌==◌}
 use Rattle.std.specs.List.{AllByRecursion, cons_option, filter_map, list_all, list_any}
 use Rattle.std.proofs.lemmas.Bool.{cases_Bool, cases_lt, cond-true, cond-false, cond_both, eq-eqb, eqb-true, leb-true, leb-false, le-leb, lt-leb}
 use Rattle.std.proofs.lemmas.Bool.{or_cases, or_left, or_right, true≢false}
 use Rattle.std.proofs.lemmas.List.Elements.{All-from_recursion, recursion_from_All}
-use Rattle.std.proofs.lemmas.List.Sorted.{All-permutation, IsPermutation-sym, list_any-IsPermutation, sum_by-IsPermutation}
-use Rattle.ss_catalog.specs.Names.{same_name}
+use Rattle.std.proofs.lemmas.List.Sorted.{All-permutation, IsPermutation-sym, list_any-IsPermutation}
 use Rattle.ss_codec.specs.declared.record.Record.{Record}
 use Rattle.ss_codec.specs.declared.record.Record.TheVariants as records
 use Rattle.ss_model.specs.Marks.{lies_free}
-use Rattle.ss_model.specs.State.{Created}
 use Rattle.ss_model.specs.declared.types.Window.{Window}
 use Rattle.ss_recover.specs.Carried.{created_by, in_order, is_mark_of, marks_carried, stream_number, put_in_order, streams_created, window_of, windows_carried}
-use Rattle.ss_recover.specs.Conditions.{has_new_name, has_one_record, has_place, is_named_before, is_sound, tile, times_rise}
+use Rattle.ss_recover.specs.Conditions.{is_sound, tile, times_rise}
 use Rattle.ss_recover.specs.Marked.{are_marks, landmarks_made}
 use Rattle.ss_recover.specs.Order.{Rises, key_of, place_of, stream_of}
 use Rattle.ss_recover.specs.Parts.{lowest_in, lowest_bad_stream}
 use Rattle.ss_recover.specs.Runs.{IsLowestUnsound, is_sound_in_order}
 use Rattle.ss_recover.specs.Usable.{IsUsable}
 use Rattle.ss_recover.proofs.InOrder.{IsPermutation-in_order, Rises-in_order}
-use Rattle.ss_catalog.specs.declared.TheConstants.{MOST_STREAMS}
 use Rattle.ss_recover.proofs.Lists.{all_weaker, filter_map-kept, kept}
 use Rattle.ss_recover.proofs.Permutations.{IsPermutation-filter_map}
 use Rattle.ss_recover.proofs.SoundStreams.{stands_alone-moved}

@@ -1,26 +1,18 @@
 -- What valid records have, and what is made of the records of a map: streams of different numbers need no more of them than there are.
-use Rattle.std.proofs.Common.{◌≡◌, ℕ, ◌+◌, ◌<◌, ◌≤◌, cond, List, [], ◌∷◌, filter, length, refl, arith, inl, inr, ◌^◌, IsTrue, MatchOption, Option, Some, None}
+use Rattle.std.proofs.Common.{◌≡◌, ℕ, ◌<◌, ◌≤◌, List, [], ◌∷◌, length, refl, arith, inl, inr, ◌^◌, IsTrue, MatchOption, Option, Some, None}
 use Rattle.std.proofs.Common.{map}
-use Rattle.std.specs.Prelude.{◌==◌, sum_by, IsTrue}
+use Rattle.std.specs.Prelude.{◌==◌, IsTrue}
 use Rattle.std.specs.List.{AllByRecursion, filter_map, cons_option, range_with_len}
-use Rattle.std.proofs.lemmas.Bool.{cases_Bool, cond-false, cond-true, eqb-true}
-use Rattle.std.proofs.lemmas.Bool.Decides.{nat_tests}
-use Rattle.std.proofs.lemmas.List.Sums.{sum_by-cons}
-use Rattle.ss_summary.specs.Figures.{Figures, IsPossible}
+use Rattle.std.proofs.lemmas.Bool.{cases_Bool}
+use Rattle.ss_summary.specs.Figures.{IsPossible}
 use Rattle.ss_codec.specs.declared.record.Record.{Record}
 use Rattle.ss_codec.specs.declared.record.Record.TheVariants.{Free, Stream, Window, Landmark, Value}
-use Rattle.ss_model.specs.State.{Created}
-use Rattle.ss_recover.specs.Carried.{created_by, is_mark_of, window_of, stream_number, spelled}
-use Rattle.ss_recover.proofs.InOrder.{Rise}
-use Rattle.ss_recover.proofs.Lists.{all_weaker}
-use Rattle.ss_recover.specs.Order.{stream_of}
+use Rattle.ss_recover.specs.Carried.{window_of, spelled}
 use Rattle.ss_codec.specs.Record.{is_valid}
 use Rattle.ss_codec.proofs.RecordLemmas.{IsLandmark-is_valid, IsStream-is_valid, IsValue-is_valid, IsWindow-is_valid, Spells-decoded}
 use Rattle.ss_landmarks.specs.declared.landmarks.TheConstants.{LATEST_TIME}
 use Rattle.ss_recover.specs.Usable.{IsTimed, IsUsable}
 use Rattle.std.proofs.lemmas.List.FromFn.{length-map-range_with_len}
-use Rattle.ss_catalog.specs.declared.TheConstants.{LAST_STREAM}
-use Rattle.ss_target.specs.Lengths.{has_target}
 use Rattle.ss_journal.specs.Redo.{SlotMap}
 use Rattle.ss_codec.specs.Decoded.{decoded}
 use Rattle.ss_recover.specs.Parts.{records_in}

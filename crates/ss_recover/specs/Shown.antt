@@ -198,9 +198,9 @@ StepsAs (Ok false) run P = run ≡ None
 StepsAs (Err error) run P = error ≡ OutOfMemory
 
 -- windows may come from here on, or they may not
-abbrev pub TurnsAs : Bool → Option Run → (Run → Type 0) → Type 0
-TurnsAs true run P = MatchOption run ⊥ P
-TurnsAs false run P = run ≡ None
+abbrev pub EndsMarks : Bool → Option Run → (Run → Type 0) → Type 0
+EndsMarks true run P = MatchOption run ⊥ P
+EndsMarks false run P = run ≡ None
 
 -- a landmark opens, the last one takes a value, and a line has one more window
 pub record Opens (old new : Marks) (slot start : ℕ) : Type 0 where

@@ -10,7 +10,7 @@ ghost use Rattle.ss_target.specs.Lengths.{has_target};
 ghost use Rattle.ss_model.specs.Marks.{later};
 ghost use Rattle.ss_recover.specs.Order.{stream_of};
 ghost use Rattle.ss_recover.specs.Runs.{Run, is_after, is_next_window, run_with, windows_from};
-ghost use Rattle.ss_recover.specs.Shown.{Adds, EndsAs, Grows, HasBegun, HasClosed, IsAll, IsReady, IsSame, MayClose, Opens, Shows, StepsAs, TurnsAs};
+ghost use Rattle.ss_recover.specs.Shown.{Adds, EndsAs, Grows, HasBegun, HasClosed, IsAll, IsReady, IsSame, MayClose, Opens, Shows, StepsAs, EndsMarks};
 ghost use Rattle.ss_recover.specs.Shown.{can_add, can_open, finish_of, has_said_last};
 ghost use Rattle.ss_recover.specs.Usable.{IsUsable};
 ghost use Rattle.ss_recover.specs.declared.found.Found.{Found};
@@ -235,11 +235,11 @@ impl Open {
     }
 
     // Windows may come from here on: the last landmark has closed, if it is to. False says that it lacks values.
-    fn turn(&mut self) -> bool
+    fn end_marks(&mut self) -> bool
         requires { IsReady self.old }
         ensures same { IsSame self.old self.new }
         ensures runs { (run : Run) (own : List Found) → Shows self.old run own →
-            TurnsAs result (windows_from run) (λ next. Shows self.new next own) }
+            EndsMarks result (windows_from run) (λ next. Shows self.new next own) }
     {
         let _ = self.marks.landmarks.count();
         let Stage::Marks { last } = self.stage else {
@@ -323,7 +323,7 @@ impl Open {
                 Ok(true)
             }
             Record::Window { first, summary, .. } => {
-                if !self.turn() {
+                if !self.end_marks() {
                     return Ok(false);
                 }
                 let Stage::Windows { next, newest } = self.stage else {
@@ -348,7 +348,7 @@ impl Open {
         requires { IsReady self }
         ensures { (run : Run) (own : List Found) → Shows self run own → EndsAs result run (IsAll self own) }
     {
-        if !self.turn() {
+        if !self.end_marks() {
             return None;
         }
         let Stage::Windows { newest, .. } = self.stage else {

@@ -11,7 +11,7 @@ use Rattle.ss_recover.specs.Runs.{run_with, windows_from}
 use Rattle.ss_recover.specs.Shown.{Adds, HasClosed, MayClose, Shows, can_add, can_open}
 use Rattle.ss_recover.specs.Usable.{IsUsable}
 use Rattle.ss_recover.specs.declared.run.Stage.TheVariants as stages
-use Rattle.ss_recover.proofs.RunSteps.{added, began, close-ready, grown, not-added, open-ready, room-ready, room-turned, take-ready, with_line, with_marks}
+use Rattle.ss_recover.proofs.RunSteps.{added, began, close-ready, grown, not-added, open-ready, room-ready, room-window, take-ready, with_line, with_marks}
 use Rattle.ss_recover.proofs.run.Open.take.Goals as goal
 
 pub close-requires : goal.close-requires
@@ -91,11 +91,11 @@ returns-in_ok-add-in-Value-clause-runs g c run own shows =
 pub put_window-requires-clause-room : goal.put_window-requires-clause-room
 put_window-requires-clause-room g c =
     let ready = c.requires.ready in
-    room-turned c.turn.new.self _ ready.own (c.if-not-turn.ensures.runs ready.run ready.own ready.shows) ready.room
+    room-window c.end_marks.new.self _ ready.own (c.if-not-end_marks.ensures.runs ready.run ready.own ready.shows) ready.room
 
 pub returns-in_ok-put_window-in-Window-clause-runs : goal.returns-in_ok-put_window-in-Window-clause-runs
 returns-in_ok-put_window-in-Window-clause-runs g c run own shows =
-    let s = c.turn.new.self in
+    let s = c.end_marks.new.self in
     let r = c.in-Window in
     let at = c.in-Windows in
     let slot = c.args.found.now.slot in
@@ -105,6 +105,6 @@ returns-in_ok-put_window-in-Window-clause-runs g c run own shows =
     (subst (λ (f : Figures). MatchOption (run_with run (records.Window r.id r.first r.summary)) ⊥
     (λ next. Shows (with_line s c.put_window.new.line (stages.Windows (at.next + f.count) (Some f.t_last))) next
     (own ++ record { slot = slot; holds = records.Window r.id r.first r.summary } ∷ []))) (sym c.summary.view_is)
-    (grown s (windows_from run) own c.put_window.new.line slot r.id at.next r.first at.newest r.summary (c.if-not-turn.ensures.runs run own shows) at.is
+    (grown s (windows_from run) own c.put_window.new.line slot r.id at.next r.first at.newest r.summary (c.if-not-end_marks.ensures.runs run own shows) at.is
     (sym c.is_next.ensures ∙ c.if-not-is_next.false) c.in_ok-put_window-in-Window.ensures.ok
-    (ap stream_of (sym r.is) ∙ c.requires.own ∙ sym (ap (λ (i : StreamId). i.0) c.if-not-turn.ensures.same.id))))
+    (ap stream_of (sym r.is) ∙ c.requires.own ∙ sym (ap (λ (i : StreamId). i.0) c.if-not-end_marks.ensures.same.id))))
