@@ -184,3 +184,30 @@ holds-sure_none holds = holds
 
 holds-nothing : Holds Nothing (Some (pos 1)) → ⊥
 holds-nothing holds = holds
+
+-- with times between them, but without a value to spare, a window of two values can't hold one there
+abbrev ends_outside : SplitFigures
+ends_outside = record { count = 2; sum = pos 11; min = pos 2; max = pos 9; ends = 0; inside = 5; outside = 4 }
+
+min-ends_outside : min_interval None (ends_outside ∷ []) ≡ Nothing
+min-ends_outside = refl
+
+max-ends_outside : max_interval None (ends_outside ∷ []) ≡ Nothing
+max-ends_outside = refl
+
+-- a window that must hold a value in the range bounds the least value above one that is known, and the greatest below one
+min-known_and_two : min_interval (Some (pos 100)) (two ∷ []) ≡ Sure (pos 2) (pos 9)
+min-known_and_two = refl
+
+max-known_and_two : max_interval (Some (pos 1)) (two ∷ []) ≡ Sure (pos 2) (pos 9)
+max-known_and_two = refl
+
+-- times may follow one another without a gap
+RiseFree-crowded : RiseFree (λ t. true) (pos 4) (pos 6) 0 ((10, pos 4) ∷ (11, pos 6) ∷ [])
+RiseFree-crowded = (
+  lit≤ tt,
+  refl,
+  omega (arith, ints),
+  omega (arith, ints),
+  (lit≤ tt, refl, omega (arith, ints), omega (arith, ints), tt),
+)
