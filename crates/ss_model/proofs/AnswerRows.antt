@@ -17,7 +17,7 @@ use Rattle.ss_catalog.specs.declared.refusal.Refusal.TheVariants.{Unknown, Range
 use Rattle.ss_bounds.specs.declared.extreme.Extreme.TheVariants.{Nothing, Sure, Maybe}
 use Rattle.ss_bounds.specs.Split.{SplitFigures, sum_interval}
 use Rattle.ss_landmarks.specs.Free.{is_free}
-use Rattle.ss_model.specs.Answers.{HoldsTruth, outcome_of, query_refusals, refuses_query}
+use Rattle.ss_model.specs.Answers.{HoldsTruth, IsExactOutcome, IsOfKind, outcome_of, query_refusals, refuses_query}
 use Rattle.ss_model.specs.Interval.{IsExact, split_windows}
 use Rattle.ss_model.specs.Refusals.{refusals}
 use Rattle.ss_model.specs.State.{Stream, state}
@@ -180,3 +180,36 @@ module _ (streams : List Stream) (name : List ℕ) (t : ℕ) where
 
 order-query : (streams : List Stream) (q : Query) → map (λ r. r.1) (query_refusals streams q) ≡ refusal.Unknown ∷ refusal.Range ∷ []
 order-query streams q = refl
+
+exact-count : (lo hi : ℕ) → IsExactOutcome (Count lo hi) → lo ≡ hi
+exact-count lo hi exact = exact
+
+exact-sum : IsExactOutcome (Sum (pos 1) (pos 2)) → pos 1 ≡ pos 2
+exact-sum exact = exact
+
+exact-min : IsExactOutcome (Min (Maybe (pos 1) (pos 1))) → ⊥
+exact-min exact = exact
+
+exact-max : IsExactOutcome (Max (Maybe (pos 1) (pos 1))) → ⊥
+exact-max exact = exact
+
+-- a least or a greatest value is told wrong by one at either end
+truth-min_above : holds_of_one kinds.Min (Min (Sure (pos 0) (pos 0))) → ⊥
+truth-min_above holds = omega (arith, ints, holds.1)
+
+truth-max_below : holds_of_one kinds.Max (Max (Sure (pos 2) (pos 3))) → ⊥
+truth-max_below holds = omega (arith, ints, holds.0)
+
+-- each answer is to one kind of query alone
+module _ (kind : Kind) where
+  kind-count : IsOfKind kind (Count 1 2) → kind ≡ kinds.Count
+  kind-count is = is
+
+  kind-sum : IsOfKind kind (Sum (pos 1) (pos 2)) → kind ≡ kinds.Sum
+  kind-sum is = is
+
+  kind-min : IsOfKind kind (Min Nothing) → kind ≡ kinds.Min
+  kind-min is = is
+
+  kind-max : IsOfKind kind (Max Nothing) → kind ≡ kinds.Max
+  kind-max is = is

@@ -1,6 +1,6 @@
 -- Worked rows of histories, their states and refusals, each computed.
 use Rattle.std.proofs.Common.{◌≡◌, ℕ, ◌+◌, ◌-◌, ◌^◌, true, false, List, [], ◌∷◌, ◌++◌, map, take, refl, Some, None, codes, pos, negsuc}
-use Rattle.std.specs.Prelude.{replicate, Option}
+use Rattle.std.specs.Prelude.{◌≤◌, length, nat_le, replicate, Option}
 use Rattle.ss_windowing.specs.Windowing.{index_of}
 use Rattle.ss_catalog.specs.declared.event.Event.{Event}
 use Rattle.ss_catalog.specs.declared.event.Event.TheVariants.{Create, Value}
@@ -9,7 +9,8 @@ use Rattle.ss_catalog.specs.declared.refusal.Refusal.{Refusal}
 use Rattle.ss_catalog.specs.declared.refusal.Refusal.TheVariants.{Param, Exists, Unknown, Time, StreamFull}
 use Rattle.ss_model.specs.History.{values_of}
 use Rattle.ss_model.specs.State.{Stream, state, next_number, live, last_time}
-use Rattle.ss_model.specs.Refusals.{refuses, refuses_reading, has_all_streams}
+use Rattle.ss_model.specs.Refusals.{refuses, refuses_reading, has_all_records, has_all_streams}
+use Rattle.ss_model.specs.Standing.{IsState}
 use Rattle.ss_model.specs.Steps.{ack_of, stepped}
 use Rattle.ss_model.specs.Shown.{row_of, placed_of}
 use Rattle.ss_model.specs.declared.types.Window.{Window}
@@ -133,3 +134,35 @@ refusals-full_stream : map (refuses full_stream) (Value a (2 ^ 40) (pos 0) ∷ V
     Some Time ∷ Some StreamFull ∷ None ∷ []
 unfolding refuses full_stream a
 refusals-full_stream = refl
+
+-- one value less, and it takes one more
+almost_full : List Stream
+almost_full = record {
+  number = 0;
+  name = a;
+  params = Exp 2 1 1;
+  windows =
+      record { first = 1; summary = record { count = 2 ^ 40 - 1; sum = pos 0; min = pos 0; max = pos 0; t_first = 1; t_last = 2 ^ 40 } } ∷ [];
+  landmarks = [];
+} ∷ []
+
+refusals-almost_full : refuses almost_full (Value a (2 ^ 40 + 1) (pos 0)) ≡ None
+unfolding refuses almost_full a
+refusals-almost_full = refl
+
+-- no further record has a place where 2^20 stand
+records-limit : (streams : List Stream) → has_all_records streams ≡ nat_le (2 ^ 20) (live streams)
+records-limit streams = refl
+
+-- a row says the number of its stream, and not its place
+shown-number : map (λ s. (row_of s).id.0) (bare 7 ∷ []) ≡ 7 ∷ []
+unfolding bare a
+shown-number = refl
+
+-- the limits that each state keeps
+module _ (streams : List Stream) (state : IsState streams) where
+  limits-streams : length streams ≤ 4096
+  limits-streams = state.few
+
+  limits-records : live streams ≤ 2 ^ 20
+  limits-records = state.room

@@ -8,7 +8,8 @@ use Rattle.ss_model.specs.Boundaries.{boundaries}
 use Rattle.ss_model.specs.Windows.{stretches, windows}
 use Rattle.ss_model.specs.Closed.{closed}
 use Rattle.ss_model.specs.Joins.{JoinsDue}
-use Rattle.ss_model.specs.Decay.{cover, IsWithinTarget}
+use Rattle.ss_model.specs.Decay.{cover, IsReadWithinTarget, IsWithinTarget}
+use Rattle.ss_model.specs.Shown.{placed_of}
 use Rattle.ss_model.specs.declared.types.Window.{Window}
 use Rattle.ss_summary.specs.declared.summary.TheConstants.{GREATEST_COUNT}
 
@@ -153,3 +154,12 @@ JoinsDue-newer_first = (
     ),
   ),
 )
+
+-- the same of a window as it is read
+IsReadWithinTarget-older : IsReadWithinTarget (exp_length 2 1 1) 3 (placed_of (pair_from 1))
+unfolding index_of pair_from
+IsReadWithinTarget-older = lit≤ tt
+
+IsReadWithinTarget-newest : IsReadWithinTarget (exp_length 2 1 1) 3 (placed_of (pair_from 2)) → ⊥
+unfolding index_of pair_from
+IsReadWithinTarget-newest within = omega (arith, within)
