@@ -1,17 +1,22 @@
 -- Worked rows: the verdicts of reading, which window may come next, and what is answered from what is known.
 use Rattle.std.proofs.Common.{◌≡◌, ℕ, [], ◌∷◌, map, refl, arith, None, Some, Err, Ok, pos}
-use Rattle.std.specs.Prelude.{◌-◌, ◌^◌}
+use Rattle.std.specs.Prelude.{◌+◌, ◌-◌, ◌^◌}
+use Rattle.ss_outside.specs.Disk.{Told}
 use Rattle.ss_outside.specs.Verdict.{changed, failed, fine}
 use Rattle.ss_catalog.specs.declared.query.Kind.TheVariants as kinds
+use Rattle.ss_catalog.specs.declared.query.Query.{Query}
 use Rattle.ss_landmarks.specs.declared.tally.Tally.{Tally}
+use Rattle.ss_line.specs.declared.entry.Entry.{Entry}
 use Rattle.ss_model.specs.declared.outcome.Outcome.{Outcome}
 use Rattle.ss_model.specs.declared.outcome.Outcome.TheVariants.{Count, Sum}
 use Rattle.ss_model.specs.declared.types.Window.{Window}
-use Rattle.ss_records.specs.Kept.{RecordsState}
+use Rattle.ss_records.specs.Kept.{AreKept, RecordsState}
+use Rattle.ss_recover.specs.Held.{entries_of}
+use Rattle.ss_recover.specs.declared.parts.StreamParts.{StreamParts}
 use Rattle.ss_summary.specs.Figures.{Figures}
-use Rattle.ss_query.specs.Answered.{IsAnswered}
+use Rattle.ss_query.specs.Answered.{AnswersStream, IsAnswered, window_slots_of}
 use Rattle.ss_query.specs.Asked.{Follows, marks_seen, outcome_seen, seen_with}
-use Rattle.ss_query.specs.Reading.{IsRead, KeepsRecords, verdict_of_read}
+use Rattle.ss_query.specs.Reading.{IsRead, IsWindowOf, KeepsRecords, ReadsWindow, verdict_of_read}
 use Rattle.ss_query.specs.declared.asking.Seen.{Seen}
 use Rattle.ss_query.specs.declared.read_error.ReadError.TheVariants as error
 
@@ -93,3 +98,29 @@ apart-count = refl
 split-count : outcome_seen kinds.Count (known 20) ≡ Count 3 4
 unfolding known window marked
 split-count = refl
+
+-- which position and time come next
+next-taken : (known 10).taken ≡ 3
+unfolding known window marked
+next-taken = refl
+
+next-time : (known 10).next_time ≡ 31
+unfolding known window marked
+next-time = refl
+
+-- the slots of a stream's windows are those of its entries, and its own isn't one of them
+window_slots-entries : (part : StreamParts) → window_slots_of part ≡ map (λ (e : Entry). e.slot) (entries_of part)
+window_slots-entries part = refl
+
+-- a window that was read has as many values as its positions say
+window-count : (part : StreamParts) (entry : Entry) (summary : Figures) → IsWindowOf part entry summary →
+    entry.first + summary.count ≡ entry.last + 1
+window-count part entry summary is = is.count
+
+-- the records are kept also where one has changed
+module _ (part : StreamParts) (records : RecordsState) (slot : ℕ) (old new : Told) where
+  reads-changed : (entry : Entry) → ReadsWindow part entry records (Err (error.Changed slot)) old new → AreKept records new.content
+  reads-changed entry reads = reads.kept
+
+  answers-changed : (query : Query) → AnswersStream part query records (Err (error.Changed slot)) old new → AreKept records new.content
+  answers-changed query answers = answers.kept
