@@ -1,6 +1,6 @@
 -- Worked maps of a few slots, and what each carries or where it is damaged.
 use Rattle.std.specs.Prelude.{◌≡◌, ℕ, ◌+◌, ◌-◌, ◌*◌, ◌^◌, true, false, pos, negsuc, List, [], ◌∷◌, length, replicate, slice_index_or, slice_set, map, Ok, Err}
-use Rattle.std.specs.Prelude.{Option, Some, None}
+use Rattle.std.specs.Prelude.{◌≤◌, Bool, Option, Some, None}
 use Rattle.std.proofs.Common.{refl}
 use Rattle.ss_fields.specs.Fields as Numbers
 use Rattle.ss_summary.specs.Figures.{Figures}
@@ -21,8 +21,12 @@ use Rattle.ss_model.specs.declared.types.Window.{Window}
 use Rattle.ss_recover.specs.Carried.{spelled}
 use Rattle.ss_recover.specs.Conditions.{is_sound, has_place, tile}
 use Rattle.ss_recover.specs.Parts.{Carried, bad_slot, bad_stream, carries, carried}
+use Rattle.ss_outside.specs.Disk.{Told}
 use Rattle.ss_outside.specs.Verdict.{fine, refused, failed, no_memory}
-use Rattle.ss_recover.specs.Rebuilt.{verdict_of_rebuild}
+use Rattle.ss_records.specs.Kept.{AreKept, RecordsState}
+use Rattle.ss_recover.specs.Held.{AreWhole}
+use Rattle.ss_recover.specs.Rebuilt.{Rebuilds, verdict_of_rebuild}
+use Rattle.ss_recover.specs.declared.parts.StreamParts.{StreamParts}
 use Rattle.ss_recover.specs.declared.recover_error.RecoverError.TheVariants.{BadSlot, BadStream, Disk, OutOfMemory}
 
 -- a map of these slots, and none after them
@@ -268,3 +272,15 @@ verdicts-rebuild = refl
 
 verdict-Ok : verdict_of_rebuild {T = ℕ} (Ok 7) ≡ fine
 verdict-Ok = refl
+
+-- the records are kept also where a slot or a stream is damaged
+module _ (records : RecordsState) (n : ℕ) (old new : Told) where
+  rebuilds-bad_slot : Rebuilds records (Err (BadSlot n)) old new → AreKept records new.content
+  rebuilds-bad_slot rebuilds = rebuilds.kept
+
+  rebuilds-bad_stream : Rebuilds records (Err (BadStream n)) old new → AreKept records new.content
+  rebuilds-bad_stream rebuilds = rebuilds.kept
+
+-- no more streams are held than may stand
+whole-few : (parts : List StreamParts) (live : List Bool) → AreWhole parts live → length parts ≤ 4096
+whole-few parts live whole = whole.few
