@@ -140,3 +140,17 @@ printed-landmarks = refl
 printed-query : printed (commands.Ask (record { name = codes "a"; kind = kinds.Max; from = 45; to = 65 })) ≡ codes "query a max 45 65"
 unfolding printed digits
 printed-query = refl
+
+-- no byte but a space and a tab stands between words
+words-other : map words ((97 ∷ 11 ∷ 98 ∷ []) ∷ (97 ∷ 12 ∷ 98 ∷ []) ∷ (97 ∷ 13 ∷ 98 ∷ []) ∷ (97 ∷ 0 ∷ 98 ∷ []) ∷ [])
+    ≡ ((97 ∷ 11 ∷ 98 ∷ []) ∷ []) ∷ ((97 ∷ 12 ∷ 98 ∷ []) ∷ [])
+    ∷ ((97 ∷ 13 ∷ 98 ∷ []) ∷ []) ∷ ((97 ∷ 0 ∷ 98 ∷ []) ∷ []) ∷ []
+unfolding words
+words-other = refl
+
+-- no form takes a word more
+means-one_more :
+    map meaning (codes "list a" ∷ codes "windows a b" ∷ codes "append a 1 2 3" ∷ codes "create a exp 2 1 1 1" ∷ codes "create a power 1 0 1 4 1" ∷ [])
+    ≡ map refused (refusals.Syntax ∷ refusals.Syntax ∷ refusals.Syntax ∷ refusals.Syntax ∷ refusals.Syntax ∷ [])
+unfolding meaning words is_number number_of number_up_to signed_of is_name
+means-one_more = refl
