@@ -47,3 +47,13 @@ replies-streams :
     ≡ map ended (codes "list 1" ∷ codes "a exp 2 1 1 7 3 0 0" ∷ [])
 unfolding digits
 replies-streams = refl
+
+-- each number in its own place
+replies-places :
+    map reply_line
+    (Window (record { first = 5; last = 6; summary = record { count = 2; sum = pos 11; min = pos 3; max = pos 8; t_first = 50; t_last = 60 } })
+    ∷ Stream (record { id = record { 0 = 9 }; name = codes "a"; params = Exp 2 1 1; n = 7; k = 3; landmarks = 4; values = 5 })
+    ∷ [])
+    ≡ map ended (codes "5 6 2 11 3 8 50 60" ∷ codes "a exp 2 1 1 7 3 4 5" ∷ [])
+unfolding digits
+replies-places = refl
