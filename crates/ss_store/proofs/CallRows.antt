@@ -1,16 +1,40 @@
 -- What some definitions come to at one answer each, where nothing else would tell if they said less.
-use Rattle.std.proofs.Common.{◌≡◌, ℕ, Bool, true, List, [], ◌∷◌, Err, None, Ok, Some, pos, refl}
+use Rattle.std.proofs.Common.{◌≡◌, ℕ, ◌+◌, ◌*◌, ◌≤◌, Bool, true, false, List, [], ◌∷◌, map, length, Err, None, Ok, Some, pos, refl}
+use Rattle.std.specs.Prelude.{Contains, IfSome, flat_map, max}
+use Rattle.ss_outside.specs.Disk.{DiskView, Told}
 use Rattle.ss_outside.specs.Verdict as verdicts
+use Rattle.ss_outside.specs.Verdict.{Verdict}
+use Rattle.ss_catalog.specs.Events.{event_name}
+use Rattle.ss_catalog.specs.declared.event.Event.{Event}
 use Rattle.ss_catalog.specs.declared.event.Event.TheVariants as events
+use Rattle.ss_catalog.specs.declared.params.Params.TheVariants.{Exp}
+use Rattle.ss_catalog.specs.declared.query.Query.{Query}
 use Rattle.ss_catalog.specs.declared.refusal.Refusal.{Refusal}
 use Rattle.ss_catalog.specs.declared.refusal.Refusal.TheVariants as refusal
+use Rattle.ss_line.specs.declared.entry.At.{At}
+use Rattle.ss_model.specs.Answers.{IsExactOutcome, split_by}
+use Rattle.ss_model.specs.Decay.{IsReadWithinTarget, cover}
 use Rattle.ss_model.specs.Refusals.{refuses}
-use Rattle.ss_model.specs.State.{state}
+use Rattle.ss_model.specs.State.{Stream, state, stream_numbered, values_in}
+use Rattle.ss_model.specs.declared.outcome.Outcome.{Outcome}
+use Rattle.ss_model.specs.declared.types.Ack.{Ack}
+use Rattle.ss_model.specs.declared.types.Placed.{Placed}
+use Rattle.ss_query.specs.Answered.{window_slots_of}
+use Rattle.ss_recover.specs.Held.{slots_held}
+use Rattle.ss_recover.specs.declared.parts.StreamParts.{StreamParts}
+use Rattle.ss_target.specs.Lengths.{lengths_of}
+use Rattle.ss_target.specs.Targets.{params_of}
+use Rattle.ss_store.specs.Applied.{Answers, Applies, IsFew, Looks, ShowsWindow, is_creation, is_plain_value}
 use Rattle.ss_store.specs.Errors.{stopped_after, verdict_of_apply, verdict_of_opening}
-use Rattle.ss_store.specs.Kept.{SameButSpare, StoreState}
-use Rattle.ss_store.specs.Recover.{Stands}
+use Rattle.ss_store.specs.Kept.{SameButSpare, StoreState, is_of_landmark, part_named, without_spare}
+use Rattle.ss_store.specs.Recover.{Recovers, Stands}
+use Rattle.ss_store.specs.Surveyed.{survey_of}
 use Rattle.ss_store.specs.declared.error.ApplyError.TheVariants as apply
 use Rattle.ss_store.specs.declared.error.OpenError.TheVariants as opening
+
+-- the name `a`
+abbrev a : List ℕ
+a = 97 ∷ []
 
 -- the verdict of each answer of an event
 apply-verdicts : (r : Refusal) (slot : ℕ) →
@@ -56,3 +80,75 @@ Stands-no_close : (image : List ℕ) → Stands (events.Close (97 ∷ []) 10 ∷
 unfolding refuses state
 Stands-no_close image stands =
     let accepted : Some refusal.Unknown ≡ None = stands.is_history.accepted [] [] (events.Close (97 ∷ []) 10) refl in cc
+
+-- which events are values outside landmarks, and which create a stream
+abbrev events_of : List Event
+events_of = events.Create a (Exp 2 1 1) ∷ events.Value a 10 (pos 5) ∷ events.Open a 10 ∷ events.Close a 10 ∷ []
+
+kinds-plain_value : map (λ event. is_plain_value [] event) events_of ≡ false ∷ true ∷ false ∷ false ∷ []
+kinds-plain_value = refl
+
+kinds-creation : map is_creation events_of ≡ true ∷ false ∷ false ∷ false ∷ []
+kinds-creation = refl
+
+-- at most 2K - 1 windows
+few-windows : (parts : List StreamParts) (event : Event) (ack : Ack) → IsFew parts event ack →
+    IfSome (part_named (event_name event) parts) (λ part. ack.k + 1 ≤ 2 * cover (lengths_of (params_of part.target)) ack.n)
+few-windows parts event ack few = few
+
+-- what an event says, by its answer
+module _ (event : Event) (old new : StoreState) (before after : DiskView) where
+  applies-extent : (ack : Ack) → Applies event old new before after (Ok ack) →
+      new.records.journal.extent ≤ max old.records.journal.extent (length (flat_map slots_held old.streams) + 1)
+  applies-extent ack applies = applies.extent
+
+  applies-created : (ack : Ack) → is_creation event ≡ true → Applies event old new before after (Ok ack) → ack ≡ record { n = 0; k = 0 }
+  applies-created ack is applies = applies.created is
+
+  applies-decay : (ack : Ack) → is_plain_value old.streams event ≡ true → Applies event old new before after (Ok ack) → IsFew new.streams event ack
+  applies-decay ack is applies = applies.decay is
+
+  applies-failed : is_of_landmark old.streams event ≡ true → Applies event old new before after (Err apply.Disk) →
+      map without_spare new.streams ≡ map without_spare old.streams
+  applies-failed is applies = applies.failed is
+
+  applies-changed : (slot : ℕ) → Applies event old new before after (Err (apply.Changed slot)) →
+      IfSome (part_named (event_name event) new.streams) (λ part. Contains (window_slots_of part) slot)
+  applies-changed slot applies = applies.changed
+
+  looks-streams : (v : Verdict) → Looks v old new before after → new.streams ≡ old.streams
+  looks-streams v looks = looks.streams
+
+  looks-live : (v : Verdict) → Looks v old new before after → new.records.live ≡ old.records.live
+  looks-live v looks = looks.live
+
+  looks-journal : Looks verdicts.fine old new before after → new.records.journal ≡ old.records.journal
+  looks-journal looks = looks.journal
+
+-- what an answer and a window that is shown say
+module _ (old new : Told) where
+  answers-exact : (query : Query) (outcome : Outcome) → Answers query (Ok outcome) old new →
+      (streams : List Stream) → Recovers streams old.content → split_by streams query ≡ [] → IsExactOutcome outcome
+  answers-exact query outcome answers = answers.exact
+
+  shows-within : (number : ℕ) (at : At) (parts : List StreamParts) (placed : Placed) → ShowsWindow number at parts (Ok placed) old new →
+      (history : List Event) → Stands history old.content →
+      IfSome (stream_numbered number (state history)) (λ s. IsReadWithinTarget (lengths_of s.params) (values_in s) placed)
+  shows-within number at parts placed shows = shows.within
+
+-- a survey counts streams, windows, landmarks and the values of these
+surveyed : Stream
+surveyed = record {
+  number = 7;
+  name = a;
+  params = Exp 2 1 1;
+  windows =
+      record { first = 1; summary = record { count = 1; sum = pos 1; min = pos 1; max = pos 1; t_first = 5; t_last = 5 } }
+      ∷ record { first = 2; summary = record { count = 1; sum = pos 1; min = pos 1; max = pos 1; t_first = 6; t_last = 6 } } ∷ [];
+  landmarks =
+      record { start = 10; finish = Some 20; values = map (λ t. record { t = t; v = pos 1 }) (10 ∷ 11 ∷ 12 ∷ []) } ∷ [];
+}
+
+survey-one : survey_of (surveyed ∷ []) ≡ record { streams = 1; windows = 2; landmarks = 1; values = 3 }
+unfolding surveyed
+survey-one = refl
