@@ -1,12 +1,12 @@
 -- Runs that are done, one after another, and what the next one makes of them.
-use Rattle.std.proofs.Common.{◌≡◌, ◌∙◌, ℕ, ◌+◌, ◌<◌, ◌≤◌, true, false, List, [], ◌∷◌, ◌++◌, map, length, refl, sym, ap, ap₂, subst, arith, All, take, drop, get_or, Ok, Err}
+use Rattle.std.proofs.Common.{◌≡◌, ◌∙◌, ℕ, ◌+◌, ◌<◌, ◌≤◌, true, false, List, [], ◌∷◌, ◌++◌, map, length, refl, sym, ap, ap₂, subst, arith, All, take, drop, Ok, Err}
 use Rattle.std.proofs.Common.{append_assoc}
 use Rattle.std.specs.Prelude.{◌==◌}
 use Rattle.std.specs.List.{AllByRecursion, list_any}
 use Rattle.std.proofs.lemmas.Bool.{eq-eqb, or_left, or_right}
 use Rattle.std.proofs.Math.Seq.{drop-append_seam, take-add, take-append_seam}
-use Rattle.std.proofs.lemmas.List.{drop-drop, length-drop, length-map, map-append, take-append-drop}
-use Rattle.std.proofs.lemmas.List.Elements.{All-from_recursion, recursion_from_All}
+use Rattle.std.proofs.lemmas.List.{drop-drop, length-map, map-append, take-append-drop}
+use Rattle.std.proofs.lemmas.List.Elements.{recursion_from_All}
 use Rattle.std.proofs.lemmas.List.Folds.{list_any-append}
 use Rattle.ss_catalog.specs.declared.stream_id.StreamId.{StreamId}
 use Rattle.ss_codec.specs.declared.record.Record.{Record}
@@ -21,7 +21,7 @@ use Rattle.ss_recover.specs.declared.found.Found.{Found}
 use Rattle.ss_recover.specs.declared.parts.StreamParts.{StreamParts}
 use Rattle.ss_recover.specs.declared.recover_error.RecoverError.{RecoverError}
 use Rattle.ss_recover.specs.declared.recover_error.RecoverError.TheVariants.{BadSlot, BadStream, Disk, OutOfMemory}
-use Rattle.ss_recover.proofs.Lists.{all_append, all_behind, all_front, all_weaker, map-all}
+use Rattle.ss_recover.proofs.Lists.{all_append, all_behind, all_weaker, map-all}
 use Rattle.ss_recover.proofs.RunHeld.{AreHeldSoFar, AreHeldSoFar-none, done-push, done_stream}
 use Rattle.ss_recover.proofs.RunSound.{is_run-sound}
 use Rattle.ss_recover.proofs.RunStream.{AreBefore, AreBefore-run, IsState-walked, names-front}
