@@ -1,5 +1,6 @@
 -- Records in the order of their keys: those of one stream after another, and where those of one end.
-use Rattle.std.proofs.Common.{All, ◌≡◌, ◌∙◌, ℕ, zero, suc, ◌+◌, ◌*◌, ◌^◌, ◌<◌, ◌≤◌, List, [], ◌∷◌, ◌++◌, length, map, take, drop, get_or, refl, sym, ap, subst, arith}
+use Rattle.std.proofs.Common.{All, ◌≡◌, ◌∙◌, ℕ, zero, suc, ◌+◌, ◌*◌, ◌^◌, ◌<◌, ◌≤◌, List, [], ◌∷◌, ◌++◌, length, map, take, drop, get_or, refl, sym, ap}
+use Rattle.std.proofs.Common.{subst, arith}
 use Rattle.std.specs.List.{AllByRecursion}
 use Rattle.std.specs.List.Sorted.{IsNonDecreasingBy}
 use Rattle.std.proofs.lemmas.List.{length-drop, length-take, take-append-drop}
@@ -102,7 +103,8 @@ sliced-rises all sliced at same order usable =
     (subst (AllByRecursion (λ (f : Found). IsUsable f.holds)) parted (recursion_from_All (λ (f : Found). IsUsable f.holds) all usable)))
 
 -- the next run, as the code finds it
-pub IsNextRun-from : (all sliced : List Found) (at len n : ℕ) (x : Found) → at < length all → sliced ≡ drop at all → len ≤ length sliced → x ≡ get_or sliced 0 x →
+pub IsNextRun-from : (all sliced : List Found) (at len n : ℕ) (x : Found) → at < length all → sliced ≡ drop at all → len ≤ length sliced →
+    x ≡ get_or sliced 0 x →
     Rises found_key all → All (λ (f : Found). IsUsable f.holds) all → n ≡ stream_of x.holds →
     AllByRecursion (λ (f : Found). stream_of f.holds ≤ n) (take len sliced) → AllByRecursion (λ (f : Found). n < stream_of f.holds) (drop len sliced) →
     IsNextRun all at n (take len sliced)

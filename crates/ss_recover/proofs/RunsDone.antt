@@ -1,5 +1,6 @@
 -- Runs that are done, one after another, and what the next one makes of them.
-use Rattle.std.proofs.Common.{◌≡◌, ◌∙◌, ℕ, ◌+◌, ◌<◌, ◌≤◌, true, false, List, [], ◌∷◌, ◌++◌, map, length, refl, sym, ap, ap₂, subst, arith, All, take, drop, Ok, Err}
+use Rattle.std.proofs.Common.{◌≡◌, ◌∙◌, ℕ, ◌+◌, ◌<◌, ◌≤◌, true, false, List, [], ◌∷◌, ◌++◌, map, length, refl, sym, ap, ap₂, subst, arith}
+use Rattle.std.proofs.Common.{All, take, drop, Ok, Err}
 use Rattle.std.proofs.Common.{append_assoc}
 use Rattle.std.specs.Prelude.{◌==◌}
 use Rattle.std.specs.List.{AllByRecursion, list_any}
@@ -71,7 +72,8 @@ module _ (names : List (List ℕ × StreamId)) (parts : List StreamParts) (front
       (all_weaker (λ q. n < stream_of q) (λ q. AllByRecursion (λ r. stream_of r < stream_of q) fs)
       (λ q more. all_weaker (λ r. stream_of r < n) (λ r. stream_of r < stream_of q) (λ r lt. omega (arith, lt, more)) fs lower) rest above)
 
-  pub AreDone-more : (new : List (List ℕ × StreamId)) (part : StreamParts) → is_run (names_in names) rs ≡ true → names_in new ≡ names_in names ++ part.name ∷ [] →
+  pub AreDone-more : (new : List (List ℕ × StreamId)) (part : StreamParts) → is_run (names_in names) rs ≡ true →
+      names_in new ≡ names_in names ++ part.name ∷ [] →
       IsHeldOf part (first ∷ run) → AreDone new (parts ++ part ∷ []) (front ++ first ∷ run)
   AreDone-more new part sound more held =
       let run_is : is_run (names_of done.streams) rs ≡ true = ap (λ ns. is_run ns rs) (sym done.names_are) ∙ sound in
@@ -159,7 +161,8 @@ module _ (all : List Found) (at n : ℕ) (run : List Found) (names : List (List 
 
   above : AllByRecursion (λ r. stream_of x.holds < stream_of r) (without_slots next.back)
   above = map-all (λ r. stream_of x.holds < stream_of r) (λ (f : Found). f.holds) next.back
-      (all_weaker (λ (f : Found). n < stream_of f.holds) (λ f. stream_of x.holds < stream_of f.holds) (λ f lt. omega (arith, lt, of-first)) next.back next.above)
+      (all_weaker (λ (f : Found). n < stream_of f.holds) (λ f. stream_of x.holds < stream_of f.holds) (λ f lt. omega (arith, lt, of-first)) next.back
+      next.above)
 
   pub IsDoneTo-more : (new : List (List ℕ × StreamId)) (part : StreamParts) → RunsAs names new n run (Ok part) →
       IsDoneTo all (at + length run) new (parts ++ part ∷ [])
