@@ -1,10 +1,12 @@
 -- What each field of the records of a run says, in fixed form, and bounds that are false just past them.
 use Rattle.std.proofs.Common.{◌≡◌, ◌⊎◌, ℕ, ◌+◌, ◌<◌, ◌≤◌, ◌++◌, List, [], ◌∷◌, length, take, drop, Option, Some, IsSome, refl, arith}
 use Rattle.std.specs.Prelude.{IsTrue}
+use Rattle.ss_arguments.specs.declared.mode.Mode.{Mode}
+use Rattle.ss_arguments.specs.declared.mode.Mode.TheVariants.{Run}
 use Rattle.ss_command.specs.Lines.{lines}
 use Rattle.ss_model.specs.State.{Stream}
 use Rattle.ss_outside.specs.Crash.{LeavesOnly, OnlyReads}
-use Rattle.ss_outside.specs.Disk.{Told}
+use Rattle.ss_outside.specs.Disk.{DiskView, NothingPending, Told}
 use Rattle.ss_outside.specs.Verdict.{Rose}
 use Rattle.ss_store.specs.Recover.{Stands, recover}
 use Rattle.ss_store.specs.Surveyed.{survey_of}
@@ -15,9 +17,11 @@ use Rattle.ss_program.specs.Generated.{Generates, StandsForAll, StandsForGenerat
 use Rattle.ss_program.specs.Held.{HoldsAcked, StandsForFirst, acks}
 use Rattle.ss_program.specs.Line.{History}
 use Rattle.ss_program.specs.Outcome.{Moved, NotBegun, Reads, Reports, Serves, Stopped, Took}
+use Rattle.ss_program.specs.Promises.{BeginsOver}
 use Rattle.ss_program.specs.Refused.{RefusesStore, refusal_line}
 use Rattle.ss_program.specs.Sent.{appended, AppendsFront, SaysLine}
 use Rattle.ss_program.specs.Session.{accepted, report, report_so_far}
+use Rattle.ss_program.specs.Words.{usage}
 use Rattle.ss_program.specs.declared.running.TheConstants.{LONGEST_INPUT}
 use Rattle.ss_program.specs.declared.status.Status.{Status}
 use Rattle.ss_program.specs.declared.status.Status.TheVariants.{
@@ -239,3 +243,16 @@ module _ (before after : Option (List ℕ)) where
 
   unfed-changed : IsUnfed before after RecordChanged → after ≡ before
   unfed-changed u = u
+
+rejects-usage : (old new : Devices) → Rejects old new Usage → SaysLine usage old.held new.held old.faults new.faults
+rejects-usage old new r = r
+
+-- a promise begins wherever a run over a source does
+begins-run : (mode : Option Mode) (disk : DiskView) (left : Option (List ℕ)) (history : History) (input : List ℕ) → mode ≡ Some Run →
+    IsTrue disk.tells → NothingPending disk.told → Stands history disk.told.content → left ≡ Some input → BeginsOver mode disk left history input
+begins-run mode disk left history input plain tells durable stands source =
+    record { plain = plain; tells = tells; durable = durable; stands = stands; source = source }
+
+-- no more was read than there is
+reads-within : (input : List ℕ) (left : Option (List ℕ)) (status : Status) (r : Reads input left status) → r.few.count ≤ length input
+reads-within input left status r = r.few.within

@@ -1,11 +1,12 @@
 -- Worked rows of the session, and the numbers of its rules.
 use Rattle.std.proofs.Common.{◌≡◌, ◌^◌, ◌++◌, [], ◌∷◌, refl}
-use Rattle.std.specs.Prelude.{ℕ, List, Some, None, codes, pos, negsuc, flat_map}
+use Rattle.std.specs.Prelude.{ℕ, List, Some, None, codes, map, pos, negsuc, flat_map}
 use Rattle.std.specs.Fmt.{digits}
 use Rattle.ss_catalog.specs.Names.{is_name}
 use Rattle.ss_catalog.specs.declared.event.Event.{Event}
 use Rattle.ss_catalog.specs.declared.event.Event.TheVariants.{Create, Value}
 use Rattle.ss_catalog.specs.declared.params.Params.TheVariants.{Exp}
+use Rattle.ss_catalog.specs.declared.refusal.Refusal.TheVariants as refusal
 use Rattle.ss_command.specs.Grammar.{meaning}
 use Rattle.ss_command.specs.Lines.{ended_lines, lines, unended}
 use Rattle.ss_command.specs.Words.{words}
@@ -17,11 +18,27 @@ use Rattle.ss_model.specs.State.{state}
 use Rattle.ss_power.specs.Power.{power_length}
 use Rattle.ss_windowing.specs.Windowing.{index_of}
 use Rattle.ss_store.specs.Recover.{no_store, damaged_entry, damaged_slot, damaged_stream, recovers}
+use Rattle.ss_report.specs.declared.reply.Reply.TheVariants.{Done as AckLine, Refused, ListHead}
+use Rattle.ss_store.specs.declared.error.OpenError.TheVariants as opening
+use Rattle.ss_program.specs.Checked.{survey_line}
+use Rattle.ss_program.specs.Generated.{summary_of}
 use Rattle.ss_program.specs.Held.{acks}
 use Rattle.ss_program.specs.Outcome.{lines_within}
-use Rattle.ss_program.specs.Refused.{refusal_line}
+use Rattle.ss_program.specs.Refused.{refusal_line, status_of_open}
 use Rattle.ss_program.specs.Session.{accepted, after_lines, report}
+use Rattle.ss_program.specs.Status.{exit_number}
 use Rattle.ss_program.specs.declared.running.TheConstants.{BUFFER, LONGEST_INPUT}
+use Rattle.ss_program.specs.declared.status.Status.TheVariants.{
+  Done,
+  Usage,
+  RefusedStore,
+  DiskFault,
+  SourceFault,
+  SinkFault,
+  OutOfMemory,
+  InputLimit,
+  RecordChanged,
+}
 
 longest_input : LONGEST_INPUT ≡ 2 ^ 36
 longest_input = refl
@@ -154,3 +171,29 @@ refusal_line-stream = refl
 
 refusal_line-recovers : refusal_line (recovers []) ≡ None
 refusal_line-recovers = refl
+
+-- the number of each status
+numbers-statuses : map exit_number
+    (Done ∷ Usage ∷ RefusedStore ∷ DiskFault ∷ SourceFault ∷ SinkFault ∷ OutOfMemory ∷ InputLimit ∷ RecordChanged ∷ [])
+    ≡ 0 ∷ 2 ∷ 3 ∷ 4 ∷ 5 ∷ 6 ∷ 7 ∷ 8 ∷ 9 ∷ []
+numbers-statuses = refl
+
+-- the status of each answer of opening
+statuses-open : map status_of_open
+    (opening.Disk ∷ opening.NotAStore ∷ opening.BadEntry 1 ∷ opening.BadSlot 1 ∷ opening.BadStream 1
+    ∷ opening.OutOfMemory ∷ opening.Changed 1 ∷ [])
+    ≡ DiskFault ∷ RefusedStore ∷ RefusedStore ∷ RefusedStore ∷ RefusedStore ∷ OutOfMemory ∷ RecordChanged ∷ []
+statuses-open = refl
+
+-- what a check says, and a run over a generated file
+survey-line : survey_line (record { streams = 1; windows = 2; landmarks = 3; values = 4 })
+    ≡ text (codes "sound streams 1 windows 2 landmarks 3 values 4" ∷ [])
+unfolding digits
+survey-line = refl
+
+summary-replies : summary_of 1 2 3
+    (Refused refusal.Time ∷ map ListHead (1 ∷ 2 ∷ 3 ∷ 4 ∷ []) ++ AckLine (record { n = 7; k = 3 }) ∷ Refused refusal.Time ∷ [])
+    ≡ text (codes "gen 1 2" ∷ codes "lines 3" ∷ codes "ok 1" ∷ codes "refused 2" ∷ codes "list 1" ∷ codes "list 2"
+    ∷ codes "list 3" ∷ codes "list 4" ∷ codes "ok 7 3" ∷ codes "refused TIME" ∷ [])
+unfolding digits
+summary-replies = refl

@@ -14,6 +14,7 @@ ghost use Rattle.ss_program.specs.Answer.{AppliesEvent, AsksQuery, IsOpen, IsRow
 ghost use Rattle.ss_program.specs.Devices.{over};
 ghost use Rattle.ss_program.specs.Line.{History, command_brings, kept_brings, stream_rows, text_brought, window_rows};
 ghost use Rattle.ss_program.specs.Sent.{Puts, Sends};
+ghost use Rattle.ss_program.specs.declared.status.Status.{Status};
 ghost use Rattle.ss_program.specs.Status.{disk_verdict, ended, IsApplyStop, IsDiskStop};
 ghost use Rattle.ss_command.specs.declared.command.Command.TheVariants.{Do, Ask, Windows, List as ListAll};
 
@@ -167,6 +168,8 @@ pub fn apply<D: Disk>(store: &mut Store, event: &Event, disk: &mut D) -> Result<
     ensures applies { Step (disk_verdict (ended result)) (D.seen disk.old) (D.seen disk.new) (AppliesEvent event.now result) }
     ensures open { OnOk result (IsOpen (D.seen disk.new) store.new) }
     ensures status { IfErr result (IsApplyStop (D.seen disk.old).tells) }
+    // Want of memory is told over every disk where no call of it was made.
+    ensures starved { IfErr result (λ status. status ≡ Status.OutOfMemory → disk.new ≡ disk.old) }
 {
     match store.apply(disk, event) {
         Ok(ack) => Ok(Reply::Done(ack)),

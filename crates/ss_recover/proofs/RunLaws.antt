@@ -117,6 +117,13 @@ module _ (n : ℕ) where
   meets-whole false b true false v is = refl
   meets-whole false b false u v is = refl
 
+  -- after a record of a landmark or of a value
+  fold-mark : (rs : List Record) (o : Option Marked) →
+      ((m : Marked) → ends (fold run_on (Some (marking m)) rs) ≡ meets (fold marked_on (Some m) (marks rs)) (windows rs)) →
+      ends (fold run_on (option_and_then (λ m. Some (marking m)) o) rs) ≡ meets (fold marked_on o (marks rs)) (windows rs)
+  fold-mark rs None rest = ap ends (fold-none rs) ∙ meets-none (windows rs) ∙ ap (λ o. meets o (windows rs)) (sym (marked_on-none (marks rs)))
+  fold-mark rs (Some m) rest = rest m
+
   -- the records of a stream after its own may come one after another where they meet the conditions
   pub fold-run : (rs : List Record) → AllByRecursion IsOwn rs → AllByRecursion IsUsable rs → Rises place_of rs → filter_map created_by rs ≡ [] →
       (m : Marked) → ends (fold run_on (Some (marking m)) rs) ≡ meets (fold marked_on (Some m) (marks rs)) (windows rs)
@@ -128,17 +135,9 @@ module _ (n : ℕ) where
   fold-run (records.Free ∷ rs) own usable rises none m = absurd usable.0
   fold-run (records.Stream id name params ∷ rs) own usable rises none m = cc
   fold-run (records.Landmark id number values start finish ∷ rs) own usable rises none m =
-      rw (eq-eqb id n own.0) (go (fold-run rs own.1 usable.1 rises.1 none) (marked_with m (records.Landmark id number values start finish)))
-    where
-      go : ((k : Marked) → ends (fold run_on (Some (marking k)) rs) ≡ meets (fold marked_on (Some k) (marks rs)) (windows rs)) → (o : Option Marked) → ends (fold run_on (option_and_then (λ k. Some (marking k)) o) rs) ≡ meets (fold marked_on o (marks rs)) (windows rs)
-      go rest None = ap ends (fold-none rs) ∙ meets-none (windows rs) ∙ ap (λ o. meets o (windows rs)) (sym (marked_on-none (marks rs)))
-      go rest (Some k) = rest k
+      rw (eq-eqb id n own.0) (fold-mark rs (marked_with m (records.Landmark id number values start finish)) (fold-run rs own.1 usable.1 rises.1 none))
   fold-run (records.Value id number index t v ∷ rs) own usable rises none m =
-      rw (eq-eqb id n own.0) (go (fold-run rs own.1 usable.1 rises.1 none) (marked_with m (records.Value id number index t v)))
-    where
-      go : ((k : Marked) → ends (fold run_on (Some (marking k)) rs) ≡ meets (fold marked_on (Some k) (marks rs)) (windows rs)) → (o : Option Marked) → ends (fold run_on (option_and_then (λ k. Some (marking k)) o) rs) ≡ meets (fold marked_on o (marks rs)) (windows rs)
-      go rest None = ap ends (fold-none rs) ∙ meets-none (windows rs) ∙ ap (λ o. meets o (windows rs)) (sym (marked_on-none (marks rs)))
-      go rest (Some k) = rest k
+      rw (eq-eqb id n own.0) (fold-mark rs (marked_with m (records.Value id number index t v)) (fold-run rs own.1 usable.1 rises.1 none))
   fold-run (records.Window id first summary ∷ rs) own usable rises none m =
       let r = records.Window id first summary in
       let behind : AllByRecursion IsBehind (r ∷ rs) = (

@@ -1,15 +1,17 @@
 -- Records in the order of their keys: those of one stream after another, and where those of one end.
-use Rattle.std.proofs.Common.{◌≡◌, ◌∙◌, ℕ, zero, suc, ◌+◌, ◌*◌, ◌^◌, ◌<◌, ◌≤◌, List, [], ◌∷◌, ◌++◌, length, map, take, drop, get_or, refl, sym, ap, subst, arith}
+use Rattle.std.proofs.Common.{All, ◌≡◌, ◌∙◌, ℕ, zero, suc, ◌+◌, ◌*◌, ◌^◌, ◌<◌, ◌≤◌, List, [], ◌∷◌, ◌++◌, length, map, take, drop, get_or, refl, sym, ap}
+use Rattle.std.proofs.Common.{subst, arith}
 use Rattle.std.specs.List.{AllByRecursion}
 use Rattle.std.specs.List.Sorted.{IsNonDecreasingBy}
-use Rattle.std.proofs.lemmas.List.{take-append-drop}
-use Rattle.std.proofs.lemmas.List.Elements.{All-from_recursion}
+use Rattle.std.proofs.lemmas.List.{length-drop, length-take, take-append-drop}
+use Rattle.std.proofs.lemmas.List.Elements.{All-drop, All-from_recursion, All-take, recursion_from_All}
 use Rattle.ss_codec.specs.declared.record.Record.{Record}
 use Rattle.ss_codec.specs.declared.record.Record.TheVariants as records
-use Rattle.ss_recover.specs.Order.{Rises, key_of, place_of, stream_of}
+use Rattle.ss_recover.specs.Order.{Rises, found_key, key_of, place_of, stream_of}
+use Rattle.ss_recover.specs.Shown.{IsNextRun}
 use Rattle.ss_recover.specs.Usable.{IsUsable}
 use Rattle.ss_recover.specs.declared.found.Found.{Found}
-use Rattle.ss_recover.proofs.Lists.{all_both, all_front, map-all}
+use Rattle.ss_recover.proofs.Lists.{all_behind, all_both, all_front, all_weaker, map-all}
 
 -- places have 65 bits
 place-below : (r : Record) → IsUsable r → place_of r < 2 ^ 65
@@ -71,30 +73,59 @@ module _ {X : Type 0} where
       (each 0 x (omega arith) (omega arith), all-dropped P xs zero (λ k d le lt. each (suc k) d (omega arith) (omega (arith, lt))))
   all-dropped P (x ∷ xs) (suc n) each = all-dropped P xs n (λ k d le lt. each (suc k) d (omega (arith, le)) (omega (arith, lt)))
 
--- The first records of a list in the order of their streams are those of its first stream.
-pub record IsNextRun (rest : List Found) (len : ℕ) (x : Found) : Type 0 where
-  pub run : List Found
-  pub split : take len rest ≡ x ∷ run
-  pub own : AllByRecursion (λ (f : Found). stream_of f.holds ≡ stream_of x.holds) (x ∷ run)
-  pub some : 1 ≤ len
-
-pub IsNextRun-from : (rest : List Found) (len : ℕ) (x : Found) → 0 < length rest → x ≡ get_or rest 0 x → Rises (λ (f : Found). stream_of f.holds) rest →
+-- the first records of a list in the order of their streams are those of its first stream
+own-front : (rest : List Found) (len : ℕ) (x : Found) → 0 < length rest → x ≡ get_or rest 0 x → Rises (λ (f : Found). stream_of f.holds) rest →
     AllByRecursion (λ (f : Found). stream_of f.holds ≤ stream_of x.holds) (take len rest) →
-    AllByRecursion (λ (f : Found). stream_of x.holds < stream_of f.holds) (drop len rest) → IsNextRun rest len x
-IsNextRun-from [] len x some is rises front back = absurd (omega (arith, some))
-IsNextRun-from (y ∷ ys) zero x some is rises front back =
+    AllByRecursion (λ (f : Found). stream_of x.holds < stream_of f.holds) (drop len rest) →
+    (run : List Found) × (take len rest ≡ x ∷ run) × AllByRecursion (λ (f : Found). stream_of f.holds ≡ stream_of x.holds) (x ∷ run)
+own-front [] len x some is rises front back = absurd (omega (arith, some))
+own-front (y ∷ ys) zero x some is rises front back =
     absurd (let lt = back.0 in let same = ap (λ (f : Found). stream_of f.holds) is in omega (arith, lt, same))
-IsNextRun-from (y ∷ ys) (suc len) x some is rises front back =
+own-front (y ∷ ys) (suc len) x some is rises front back =
     let same : stream_of x.holds ≡ stream_of y.holds = ap (λ (f : Found). stream_of f.holds) is in
     let least = all_front (λ (f : Found). stream_of y.holds ≤ stream_of f.holds) (take len ys) (drop len ys)
-    (subst (AllByRecursion (λ (f : Found). stream_of y.holds ≤ stream_of f.holds)) (sym (take-append-drop len ys)) rises.0) in
-    record {
-      run = take len ys;
-      split = ap (λ f. f ∷ take len ys) (sym is);
-      own = (
+    (subst (AllByRecursion (λ (f : Found). stream_of y.holds ≤ stream_of f.holds)) (sym (take-append-drop len ys)) rises.0) in (
+      take len ys,
+      ap (λ f. f ∷ take len ys) (sym is),
+      (
         refl,
         all_both (λ (f : Found). stream_of f.holds ≤ stream_of x.holds) (λ f. stream_of y.holds ≤ stream_of f.holds)
             (λ f. stream_of f.holds ≡ stream_of x.holds) (λ f most low. omega (arith, most, low, same)) (take len ys) front.1 least,
-      );
-      some = omega arith;
+      ),
+    )
+
+pub sliced-rises : (all sliced : List Found) (at : ℕ) → sliced ≡ drop at all → Rises found_key all → All (λ (f : Found). IsUsable f.holds) all →
+    Rises (λ (f : Found). stream_of f.holds) sliced
+sliced-rises all sliced at same order usable =
+    let parted : all ≡ take at all ++ sliced = sym (take-append-drop at all) ∙ ap (λ l. take at all ++ l) (sym same) in
+    streams-rise (λ (f : Found). f.holds) sliced (Rises-parts found_key (take at all) sliced (subst (Rises found_key) parted order)).1
+    (all_behind (λ (f : Found). IsUsable f.holds) (take at all) sliced
+    (subst (AllByRecursion (λ (f : Found). IsUsable f.holds)) parted (recursion_from_All (λ (f : Found). IsUsable f.holds) all usable)))
+
+-- the next run, as the code finds it
+pub IsNextRun-from : (all sliced : List Found) (at len n : ℕ) (x : Found) → at < length all → sliced ≡ drop at all → len ≤ length sliced →
+    x ≡ get_or sliced 0 x →
+    Rises found_key all → All (λ (f : Found). IsUsable f.holds) all → n ≡ stream_of x.holds →
+    AllByRecursion (λ (f : Found). stream_of f.holds ≤ n) (take len sliced) → AllByRecursion (λ (f : Found). n < stream_of f.holds) (drop len sliced) →
+    IsNextRun all at n (take len sliced)
+IsNextRun-from all sliced at len n x within same few is order usable of front back =
+    let long = ap (λ (l : List Found). length l) same in
+    let own = own-front sliced len x (omega (arith, within, length-drop at all, long)) is (sliced-rises all sliced at same order usable)
+    (subst (λ (k : ℕ). AllByRecursion (λ (f : Found). stream_of f.holds ≤ k) (take len sliced)) of front)
+    (subst (λ (k : ℕ). AllByRecursion (λ (f : Found). k < stream_of f.holds) (drop len sliced)) of back) in
+    let size = ap (λ (l : List Found). length l) own.1 in
+    record {
+      first = x;
+      rest = own.0;
+      is = own.1;
+      back = drop len sliced;
+      split = sym same ∙ sym (take-append-drop len sliced);
+      within = omega (arith, within, few, length-take len sliced, length-drop at all, long);
+      some = omega (arith, size);
+      usable = All-take (λ (f : Found). IsUsable f.holds) len sliced
+          (subst (All (λ (f : Found). IsUsable f.holds)) (sym same) (All-drop (λ (f : Found). IsUsable f.holds) at all usable));
+      own = subst (All (λ (f : Found). stream_of f.holds ≡ n)) (sym own.1)
+          (All-from_recursion (λ (f : Found). stream_of f.holds ≡ n) (x ∷ own.0)
+          (all_weaker (λ (f : Found). stream_of f.holds ≡ stream_of x.holds) (λ f. stream_of f.holds ≡ n) (λ f e. e ∙ sym of) (x ∷ own.0) own.2));
+      above = back;
     }

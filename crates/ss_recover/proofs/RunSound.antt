@@ -100,7 +100,8 @@ tile-run n rs usable =
     elim (cases_Bool (tile_from 1 (windows n rs))) [
       | inl tiles ↦
           let few = tile-windows n 1 rs usable (omega arith) tiles in
-          tiles ∙ sym (and_from (tile_from 1 (windows n rs)) (nat_le (taken (windows n rs)) MOST_VALUES) tiles (le-leb (taken (windows n rs)) MOST_VALUES (omega (arith, few))))
+          tiles ∙ sym (and_from (tile_from 1 (windows n rs)) (nat_le (taken (windows n rs)) MOST_VALUES) tiles
+          (le-leb (taken (windows n rs)) MOST_VALUES (omega (arith, few))))
       | inr fails ↦ fails ∙ sym (and_left (tile_from 1 (windows n rs)) (nat_le (taken (windows n rs)) MOST_VALUES) fails)
     ]
 

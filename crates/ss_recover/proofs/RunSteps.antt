@@ -46,7 +46,8 @@ use Rattle.ss_recover.proofs.RunMarks.{open-shown, said-shown}
 
 -- ---- what is kept in slots
 
-found-push : (p : Record → Bool) (own : List Found) (x : Found) → slots_of (found_by p (own ++ x ∷ [])) ≡ slots_of (found_by p own) ++ slots_of (found_by p (x ∷ []))
+found-push : (p : Record → Bool) (own : List Found) (x : Found) →
+    slots_of (found_by p (own ++ x ∷ [])) ≡ slots_of (found_by p own) ++ slots_of (found_by p (x ∷ []))
 found-push p own x =
     ap slots_of (filter-append (λ (f : Found). p f.holds) own (x ∷ []))
     ∙ map-append (λ (f : Found). f.slot) (found_by p own) (found_by p (x ∷ []))
@@ -151,7 +152,8 @@ module _ (s : Open) (q : Run) (own : List Found) (shows : Shows s q own) where
       go (tiling ls next newest) marks = absurd marks
 
   pub open-ready : (last : Option Last) (marks : Marks) (number start : ℕ) → s.stage ≡ stages.Marks last → AreLandmarks s.marks.landmarks.landmarks →
-      can_open (length s.marks.landmarks.landmarks) last number start ≡ true → HasClosed (finish_of last) s.marks marks → CanOpen marks.landmarks.landmarks start
+      can_open (length s.marks.landmarks.landmarks) last number start ≡ true → HasClosed (finish_of last) s.marks marks →
+      CanOpen marks.landmarks.landmarks start
   open-ready last marks number start is order can closed = go q (in-marks last is)
     where
       go : (r : Run) → ShowsRun (stages.Marks last) s.marks.landmarks.landmarks s.marks.latest r → CanOpen marks.landmarks.landmarks start

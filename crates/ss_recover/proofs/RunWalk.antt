@@ -78,11 +78,6 @@ module _ (first old : Open) (own : List Found) (so_far : IsSoFar first old own) 
 -- at its end
 module _ (old new : List (List ℕ × StreamId)) (found : Found) (first stream : Open) (rest : List Found) (taken : HasTaken old new found first)
     (so_far : IsSoFar first stream rest) where
-  pub ends-not : is_ended so_far.run ≡ false → is_run (names_in old) (without_slots (found ∷ rest)) ≡ false
-  ends-not none =
-      ap (λ r. is_run (names_in old) (r ∷ without_slots rest)) taken.holds
-      ∙ and_right (may_stand (names_in old) taken.head.name) _ (ap (λ o. option_map_or is_ended o false) so_far.is ∙ none)
-
   pub ends-run : is_ended so_far.run ≡ true → is_run (names_in old) (without_slots (found ∷ rest)) ≡ true
   ends-run ends =
       ap (λ r. is_run (names_in old) (r ∷ without_slots rest)) taken.holds

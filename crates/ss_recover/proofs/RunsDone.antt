@@ -1,12 +1,13 @@
 -- Runs that are done, one after another, and what the next one makes of them.
-use Rattle.std.proofs.Common.{◌≡◌, ◌∙◌, ℕ, ◌+◌, ◌<◌, ◌≤◌, true, false, List, [], ◌∷◌, ◌++◌, map, length, refl, sym, ap, ap₂, subst, arith, All, take, drop, get_or, Ok, Err}
+use Rattle.std.proofs.Common.{◌≡◌, ◌∙◌, ℕ, ◌+◌, ◌<◌, ◌≤◌, true, false, List, [], ◌∷◌, ◌++◌, map, length, refl, sym, ap, ap₂, subst, arith}
+use Rattle.std.proofs.Common.{All, take, drop, Ok, Err}
 use Rattle.std.proofs.Common.{append_assoc}
 use Rattle.std.specs.Prelude.{◌==◌}
 use Rattle.std.specs.List.{AllByRecursion, list_any}
 use Rattle.std.proofs.lemmas.Bool.{eq-eqb, or_left, or_right}
-use Rattle.std.proofs.Math.Seq.{take-add}
-use Rattle.std.proofs.lemmas.List.{drop-drop, length-drop, length-map, map-append, take-append-drop}
-use Rattle.std.proofs.lemmas.List.Elements.{All-from_recursion, recursion_from_All}
+use Rattle.std.proofs.Math.Seq.{drop-append_seam, take-add, take-append_seam}
+use Rattle.std.proofs.lemmas.List.{drop-drop, length-map, map-append, take-append-drop}
+use Rattle.std.proofs.lemmas.List.Elements.{recursion_from_All}
 use Rattle.std.proofs.lemmas.List.Folds.{list_any-append}
 use Rattle.ss_catalog.specs.declared.stream_id.StreamId.{StreamId}
 use Rattle.ss_codec.specs.declared.record.Record.{Record}
@@ -15,17 +16,17 @@ use Rattle.ss_model.specs.declared.types.TheConstants.{MOST_RECORDS}
 use Rattle.ss_recover.specs.Carried.{streams_created}
 use Rattle.ss_recover.specs.Order.{Rises, found_key, place_of, stream_of}
 use Rattle.ss_recover.specs.Runs.{AreBuilt, IsLowestUnsound, WalksAs, is_run, is_sound_in_order}
-use Rattle.ss_recover.specs.Shown.{IsHeldOf, RunsAs, names_in}
+use Rattle.ss_recover.specs.Shown.{IsHeldOf, IsNextRun, RunsAs, names_in}
 use Rattle.ss_recover.specs.Usable.{IsUsable, without_slots}
 use Rattle.ss_recover.specs.declared.found.Found.{Found}
 use Rattle.ss_recover.specs.declared.parts.StreamParts.{StreamParts}
 use Rattle.ss_recover.specs.declared.recover_error.RecoverError.{RecoverError}
 use Rattle.ss_recover.specs.declared.recover_error.RecoverError.TheVariants.{BadSlot, BadStream, Disk, OutOfMemory}
-use Rattle.ss_recover.proofs.Lists.{all_append, all_behind, all_front, all_weaker, map-all}
+use Rattle.ss_recover.proofs.Lists.{all_append, all_behind, all_weaker, map-all}
 use Rattle.ss_recover.proofs.RunHeld.{AreHeldSoFar, AreHeldSoFar-none, done-push, done_stream}
 use Rattle.ss_recover.proofs.RunSound.{is_run-sound}
 use Rattle.ss_recover.proofs.RunStream.{AreBefore, AreBefore-run, IsState-walked, names-front}
-use Rattle.ss_recover.proofs.RunOrder.{IsNextRun, IsNextRun-from, Rises-parts, places-rise, streams-rise}
+use Rattle.ss_recover.proofs.RunOrder.{Rises-parts, places-rise}
 
 -- Parts are held of streams with these names that the records so far are of, and they are sound whatever comes after them.
 pub record AreDone (names : List (List ℕ × StreamId)) (parts : List StreamParts) (front : List Found) : Type 0 where
@@ -71,7 +72,8 @@ module _ (names : List (List ℕ × StreamId)) (parts : List StreamParts) (front
       (all_weaker (λ q. n < stream_of q) (λ q. AllByRecursion (λ r. stream_of r < stream_of q) fs)
       (λ q more. all_weaker (λ r. stream_of r < n) (λ r. stream_of r < stream_of q) (λ r lt. omega (arith, lt, more)) fs lower) rest above)
 
-  pub AreDone-more : (new : List (List ℕ × StreamId)) (part : StreamParts) → is_run (names_in names) rs ≡ true → names_in new ≡ names_in names ++ part.name ∷ [] →
+  pub AreDone-more : (new : List (List ℕ × StreamId)) (part : StreamParts) → is_run (names_in names) rs ≡ true →
+      names_in new ≡ names_in names ++ part.name ∷ [] →
       IsHeldOf part (first ∷ run) → AreDone new (parts ++ part ∷ []) (front ++ first ∷ run)
   AreDone-more new part sound more held =
       let run_is : is_run (names_of done.streams) rs ≡ true = ap (λ ns. is_run ns rs) (sym done.names_are) ∙ sound in
@@ -124,123 +126,74 @@ pub record IsDoneTo (all : List Found) (at : ℕ) (names : List (List ℕ × Str
   pub done : AreDone names parts (take at all)
   pub below : AreBefore (without_slots (take at all)) (without_slots (drop at all))
 
--- The next run begins at a place, as the code finds it.
-pub record IsAtRun (all : List Found) (at len : ℕ) (names : List (List ℕ × StreamId)) (parts : List StreamParts) (x : Found) : Type 0 where
-  pub to : IsDoneTo all at names parts
-  pub within : at < length all
-  pub few : len ≤ length (drop at all)
-  pub is : x ≡ get_or (drop at all) 0 x
-  pub order : Rises found_key all
-  pub usable : All (λ (f : Found). IsUsable f.holds) all
-  pub front : AllByRecursion (λ (f : Found). stream_of f.holds ≤ stream_of x.holds) (take len (drop at all))
-  pub back : AllByRecursion (λ (f : Found). stream_of x.holds < stream_of f.holds) (drop len (drop at all))
+module _ (all : List Found) (at n : ℕ) (run : List Found) (names : List (List ℕ × StreamId)) (parts : List StreamParts) (to : IsDoneTo all at names parts)
+    (next : IsNextRun all at n run) (order : Rises found_key all) where
+  abbrev x : Found
+  x = next.first
 
-pub order-from : (all : List Found) (at : ℕ) → Rises found_key all → All (λ (f : Found). IsUsable f.holds) all →
-    Rises (λ (f : Found). stream_of f.holds) (drop at all)
-order-from all at order usable =
-    let parted : all ≡ take at all ++ drop at all = sym (take-append-drop at all) in
-    streams-rise (λ (f : Found). f.holds) (drop at all) (Rises-parts found_key (take at all) (drop at all) (subst (Rises found_key) parted order)).1
-    (all_behind (λ (f : Found). IsUsable f.holds) (take at all) (drop at all)
-    (subst (AllByRecursion (λ (f : Found). IsUsable f.holds)) parted (recursion_from_All (λ (f : Found). IsUsable f.holds) all usable)))
+  abbrev here : List Found
+  here = x ∷ next.rest
 
-pub at-run : (all sliced : List Found) (at len id : ℕ) (names : List (List ℕ × StreamId)) (parts : List StreamParts) (x : Found) → IsDoneTo all at names parts →
-    at < length all → sliced ≡ drop at all → len ≤ length sliced → x ≡ get_or sliced 0 x → Rises found_key all →
-    All (λ (f : Found). IsUsable f.holds) all → id ≡ stream_of x.holds → AllByRecursion (λ (f : Found). stream_of f.holds ≤ id) (take len sliced) →
-    AllByRecursion (λ (f : Found). id < stream_of f.holds) (drop len sliced) → IsAtRun all at len names parts x
-at-run all sliced at len id names parts x to within same few is order usable of front back = record {
-  to = to;
-  within = within;
-  few = subst (λ (l : List Found). len ≤ length l) same few;
-  is = is ∙ ap (λ l. get_or l 0 x) same;
-  order = order;
-  usable = usable;
-  front = subst (λ l. AllByRecursion (λ (f : Found). stream_of f.holds ≤ stream_of x.holds) (take len l)) same
-      (subst (λ (n : ℕ). AllByRecursion (λ (f : Found). stream_of f.holds ≤ n) (take len sliced)) of front);
-  back = subst (λ l. AllByRecursion (λ (f : Found). stream_of x.holds < stream_of f.holds) (drop len l)) same
-      (subst (λ (n : ℕ). AllByRecursion (λ (f : Found). n < stream_of f.holds) (drop len sliced)) of back);
-}
+  of-first : stream_of x.holds ≡ n
+  of-first = (recursion_from_All (λ (f : Found). stream_of f.holds ≡ n) here (subst (All (λ (f : Found). stream_of f.holds ≡ n)) next.is next.own)).0
 
-module _ (all : List Found) (at len : ℕ) (names : List (List ℕ × StreamId)) (parts : List StreamParts) (x : Found)
-    (run : IsAtRun all at len names parts x) where
-  abbrev rest : List Found
-  rest = drop at all
+  parted : all ≡ take at all ++ (here ++ next.back)
+  parted = sym (take-append-drop at all) ∙ ap (λ l. take at all ++ l) (next.split ∙ ap (λ l. l ++ next.back) next.is)
 
-  abbrev others : List Found
-  others = drop len rest
+  run-usable : AllByRecursion (λ (f : Found). IsUsable f.holds) here
+  run-usable = recursion_from_All (λ (f : Found). IsUsable f.holds) here (subst (All (λ (f : Found). IsUsable f.holds)) next.is next.usable)
 
-  parted : all ≡ take at all ++ rest
-  parted = sym (take-append-drop at all)
+  own-found : AllByRecursion (λ (f : Found). stream_of f.holds ≡ stream_of x.holds) here
+  own-found =
+      all_weaker (λ (f : Found). stream_of f.holds ≡ n) (λ f. stream_of f.holds ≡ stream_of x.holds) (λ f is. is ∙ sym of-first) here
+      (recursion_from_All (λ (f : Found). stream_of f.holds ≡ n) here (subst (All (λ (f : Found). stream_of f.holds ≡ n)) next.is next.own))
 
-  usable-rest : AllByRecursion (λ (f : Found). IsUsable f.holds) rest
-  usable-rest = all_behind (λ (f : Found). IsUsable f.holds) (take at all) rest
-      (subst (AllByRecursion (λ (f : Found). IsUsable f.holds)) parted (recursion_from_All (λ (f : Found). IsUsable f.holds) all run.usable))
+  run-own : AllByRecursion (λ r. stream_of r ≡ stream_of x.holds) (without_slots here)
+  run-own = map-all (λ r. stream_of r ≡ stream_of x.holds) (λ (f : Found). f.holds) here own-found
 
-  order-rest : Rises found_key rest
-  order-rest = (Rises-parts found_key (take at all) rest (subst (Rises found_key) parted run.order)).1
-
-  next : IsNextRun rest len x
-  next = IsNextRun-from rest len x (let lt = run.within in omega (arith, lt, length-drop at all)) run.is (streams-rise (λ (f : Found). f.holds) rest order-rest usable-rest) run.front run.back
-
-  run-usable : AllByRecursion (λ (f : Found). IsUsable f.holds) (x ∷ next.run)
-  run-usable = subst (AllByRecursion (λ (f : Found). IsUsable f.holds)) next.split
-      (all_front (λ (f : Found). IsUsable f.holds) (take len rest) others
-      (subst (AllByRecursion (λ (f : Found). IsUsable f.holds)) (sym (take-append-drop len rest)) usable-rest))
-
-  run-rises : Rises place_of (without_slots (x ∷ next.run))
-  run-rises = places-rise (λ (f : Found). f.holds) (stream_of x.holds) (x ∷ next.run)
-      (subst (Rises found_key) next.split (Rises-parts found_key (take len rest) others (subst (Rises found_key) (sym (take-append-drop len rest)) order-rest)).0)
-      next.own
-
-  run-own : AllByRecursion (λ r. stream_of r ≡ stream_of x.holds) (without_slots (x ∷ next.run))
-  run-own = map-all (λ r. stream_of r ≡ stream_of x.holds) (λ (f : Found). f.holds) (x ∷ next.run) next.own
-
-  split-rest : rest ≡ x ∷ (next.run ++ others)
-  split-rest = sym (take-append-drop len rest) ∙ ap (λ l. l ++ others) next.split
+  run-rises : Rises place_of (without_slots here)
+  run-rises =
+      places-rise (λ (f : Found). f.holds) (stream_of x.holds) here
+      (Rises-parts found_key here next.back (Rises-parts found_key (take at all) (here ++ next.back) (subst (Rises found_key) parted order)).1).0 own-found
 
   lower : AllByRecursion (λ r. stream_of r < stream_of x.holds) (without_slots (take at all))
-  lower = (subst (λ fs. AreBefore (without_slots (take at all)) (without_slots fs)) split-rest run.to.below).0
+  lower = (subst (λ fs. AreBefore (without_slots (take at all)) (without_slots fs)) (next.split ∙ ap (λ l. l ++ next.back) next.is) to.below).0
 
-  above : AllByRecursion (λ r. stream_of x.holds < stream_of r) (without_slots others)
-  above = map-all (λ r. stream_of x.holds < stream_of r) (λ (f : Found). f.holds) others run.back
+  above : AllByRecursion (λ r. stream_of x.holds < stream_of r) (without_slots next.back)
+  above = map-all (λ r. stream_of x.holds < stream_of r) (λ (f : Found). f.holds) next.back
+      (all_weaker (λ (f : Found). n < stream_of f.holds) (λ f. stream_of x.holds < stream_of f.holds) (λ f lt. omega (arith, lt, of-first)) next.back
+      next.above)
 
-  -- each is of the number of the first
-  pub run-numbers : All (λ (f : Found). stream_of f.holds ≡ stream_of x.holds) (take len rest)
-  run-numbers =
-      subst (All (λ (f : Found). stream_of f.holds ≡ stream_of x.holds)) (sym next.split)
-      (All-from_recursion (λ (f : Found). stream_of f.holds ≡ stream_of x.holds) (x ∷ next.run) next.own)
-
-  pub some-run : 1 ≤ len
-  some-run = next.some
-
-  whole : take (at + len) all ≡ take at all ++ x ∷ next.run
-  whole = take-add at len all ∙ ap (λ l. take at all ++ l) next.split
-
-  pub IsDoneTo-more : (new : List (List ℕ × StreamId)) (part : StreamParts) → RunsAs names new (stream_of x.holds) (take len rest) (Ok part) →
-      IsDoneTo all (at + len) new (parts ++ part ∷ [])
-  IsDoneTo-more new part runs = record {
-    within = let few = run.few in let lt = run.within in omega (arith, few, length-drop at all, lt);
-    done =
-        subst (AreDone new (parts ++ part ∷ [])) (sym whole)
-        (AreDone-more names parts (take at all) run.to.done x next.run lower run-own run-usable run-rises new part
-        (subst (λ fs. is_run (names_in names) (without_slots fs) ≡ true) next.split runs.0) runs.1 (subst (IsHeldOf part) next.split runs.2));
-    below =
-        subst (λ rs. AreBefore rs (without_slots (drop (at + len) all)))
-        (sym (ap without_slots whole ∙ map-append (λ (f : Found). f.holds) (take at all) (x ∷ next.run)))
-        (subst (λ fs. AreBefore (without_slots (take at all) ++ without_slots (x ∷ next.run)) (without_slots fs)) (drop-drop len at all)
-        (AreBefore-run (without_slots (take at all)) (without_slots (x ∷ next.run)) (without_slots others) (stream_of x.holds) lower run-own above));
-  }
+  pub IsDoneTo-more : (new : List (List ℕ × StreamId)) (part : StreamParts) → RunsAs names new n run (Ok part) →
+      IsDoneTo all (at + length run) new (parts ++ part ∷ [])
+  IsDoneTo-more new part runs =
+      let whole : take (at + length run) all ≡ take at all ++ here =
+      take-add at (length run) all ∙ ap (λ l. take at all ++ l) (ap (take (length run)) next.split ∙ take-append_seam run next.back ∙ next.is) in
+      let others : drop (at + length run) all ≡ next.back =
+      sym (drop-drop (length run) at all) ∙ ap (drop (length run)) next.split ∙ drop-append_seam run next.back in
+      record {
+        within = next.within;
+        done =
+            subst (AreDone new (parts ++ part ∷ [])) (sym whole)
+            (AreDone-more names parts (take at all) to.done x next.rest lower run-own run-usable run-rises new part
+            (subst (λ fs. is_run (names_in names) (without_slots fs) ≡ true) next.is runs.0) runs.1 (subst (IsHeldOf part) next.is runs.2));
+        below =
+            subst (λ rs. AreBefore rs (without_slots (drop (at + length run) all)))
+            (sym (ap without_slots whole ∙ map-append (λ (f : Found). f.holds) (take at all) here))
+            (subst (λ fs. AreBefore (without_slots (take at all) ++ without_slots here) (without_slots fs)) (sym others)
+            (AreBefore-run (without_slots (take at all)) (without_slots here) (without_slots next.back) (stream_of x.holds) lower run-own above));
+      }
 
   -- what is answered where the run isn't sound
-  pub walk-refused : (new : List (List ℕ × StreamId)) (e : RecoverError) → RunsAs names new (stream_of x.holds) (take len rest) (Err e) → WalksAs all (Err e)
-  walk-refused new (BadStream n) runs =
-      subst (λ (k : ℕ). IsLowestUnsound k (without_slots all)) (sym runs.0)
-      (subst (IsLowestUnsound (stream_of x.holds)) (sym (ap without_slots (parted ∙ ap (λ l. take at all ++ l) split-rest)
-      ∙ map-append (λ (f : Found). f.holds) (take at all) (x ∷ (next.run ++ others))
-      ∙ ap (λ l. without_slots (take at all) ++ l) (map-append (λ (f : Found). f.holds) (x ∷ next.run) others)))
-      (lowest names parts (take at all) run.to.done x next.run lower run-own run-usable run-rises (without_slots others) above
-      (subst (λ fs. is_run (names_in names) (without_slots fs) ≡ false) next.split runs.1)))
+  pub walk-refused : (new : List (List ℕ × StreamId)) (e : RecoverError) → RunsAs names new n run (Err e) → WalksAs all (Err e)
+  walk-refused new (BadStream k) runs =
+      subst (λ (m : ℕ). IsLowestUnsound m (without_slots all)) (of-first ∙ sym runs.0)
+      (subst (IsLowestUnsound (stream_of x.holds)) (sym (ap without_slots parted ∙ map-append (λ (f : Found). f.holds) (take at all) (here ++ next.back)
+      ∙ ap (λ l. without_slots (take at all) ++ l) (map-append (λ (f : Found). f.holds) here next.back)))
+      (lowest names parts (take at all) to.done x next.rest lower run-own run-usable run-rises (without_slots next.back) above
+      (subst (λ fs. is_run (names_in names) (without_slots fs) ≡ false) next.is runs.1)))
   walk-refused new OutOfMemory runs = tt
-  walk-refused new (BadSlot n) runs = absurd runs
+  walk-refused new (BadSlot k) runs = absurd runs
   walk-refused new Disk runs = absurd runs
 
 -- at the end all streams are held

@@ -67,7 +67,8 @@ module _ (cs here later : List Created) (n : ℕ) (cs-below : AllByRecursion (λ
       omega (
         arith,
         count-parts (is_at n),
-        count-none (is_at n) cs (all_weaker (λ c. c.number < n) (λ c. is_at n c ≡ false) (λ c lt. ne_eqb c.number n (λ e. absurd (omega (arith, e, lt)))) cs cs-below),
+        count-none (is_at n) cs
+            (all_weaker (λ c. c.number < n) (λ c. is_at n c ≡ false) (λ c lt. ne_eqb c.number n (λ e. absurd (omega (arith, e, lt)))) cs cs-below),
         count-all (is_at n) here (all_weaker (λ c. c.number ≡ n) (λ c. is_at n c ≡ true) (λ c is. eq-eqb c.number n is) here here-own),
         count-none (is_at n) later
             (all_weaker (λ c. n < c.number) (λ c. is_at n c ≡ false) (λ c lt. ne_eqb c.number n (λ e. absurd (omega (arith, e, lt)))) later later-above),
@@ -80,7 +81,8 @@ module _ (cs here later : List Created) (n : ℕ) (cs-below : AllByRecursion (λ
         count-parts (is_below n),
         count-all (is_below n) cs (all_weaker (λ c. c.number < n) (λ c. is_below n c ≡ true) (λ c lt. lt-ltb c.number n lt) cs cs-below),
         count-none (is_below n) here (all_weaker (λ c. c.number ≡ n) (λ c. is_below n c ≡ false) (λ c is. le-ltb c.number n (omega (arith, is))) here here-own),
-        count-none (is_below n) later (all_weaker (λ c. n < c.number) (λ c. is_below n c ≡ false) (λ c lt. le-ltb c.number n (omega (arith, lt))) later later-above),
+        count-none (is_below n) later
+            (all_weaker (λ c. n < c.number) (λ c. is_below n c ≡ false) (λ c lt. le-ltb c.number n (omega (arith, lt))) later later-above),
       )
 
   -- a name is new where no stream before has it
@@ -153,8 +155,10 @@ stands_alone-each ss rise distinct few = alone-each [] ss rise distinct few
 -- in any order too
 pub stands_alone-moved : (n : ℕ) (us vs : List Created) → IsPermutation us vs → stands_alone n us ≡ stands_alone n vs
 stands_alone-moved n us vs moved =
-    let one : has_one_record n us ≡ has_one_record n vs = ap (λ (k : ℕ). k == 1) (sym (sum_by-IsPermutation (λ (c : Created). digit (is_at n c)) us vs moved)) in
-    let place : has_place n us ≡ has_place n vs = ap (λ (k : ℕ). nat_lt k MOST_STREAMS) (sym (sum_by-IsPermutation (λ (c : Created). digit (is_below n c)) us vs moved)) in
+    let one : has_one_record n us ≡ has_one_record n vs =
+    ap (λ (k : ℕ). k == 1) (sym (sum_by-IsPermutation (λ (c : Created). digit (is_at n c)) us vs moved)) in
+    let place : has_place n us ≡ has_place n vs =
+    ap (λ (k : ℕ). nat_lt k MOST_STREAMS) (sym (sum_by-IsPermutation (λ (c : Created). digit (is_below n c)) us vs moved)) in
     let before_same : (c : Created) → is_named_before us c ≡ is_named_before vs c = λ c. list_any-IsPermutation (before c) us vs moved in
     let new : has_new_name n us ≡ has_new_name n vs =
     ap not ((λ i. list_any (λ (c : Created). c.number == n && before_same c i) us) ∙ list_any-IsPermutation (named n vs) us vs moved) in

@@ -1,8 +1,10 @@
 -- What is held of the stream whose records come shows what they are, and what a walk over the records of one stream answers.
-use Rattle.std.specs.Prelude.{◌≡◌, ℕ, ℤ, ◌+◌, ◌-◌, ◌<◌, ◌≤◌, Bool, true, false, ◌==◌, ◌&&◌, ◌||◌, nat_le, nat_lt, is_none, List, [], ◌∷◌, ◌++◌, length, map, filter}
+use Rattle.std.specs.Prelude.{◌≡◌, ℕ, ℤ, ◌+◌, ◌-◌, ◌<◌, ◌≤◌, Bool, true, false, ◌==◌, ◌&&◌, ◌||◌, nat_le, nat_lt, is_none, List, [], ◌∷◌, ◌++◌}
+use Rattle.std.specs.Prelude.{length, map, filter}
+use Rattle.std.specs.Prelude.{All, drop}
 use Rattle.std.specs.Prelude.{IfSome, MatchOption, Option, Some, None, Result, Ok, Err, ⊤}
 use Rattle.std.specs.Option.{option_map_or}
-use Rattle.std.specs.List.{filter_map, list_all}
+use Rattle.std.specs.List.{AllByRecursion, filter_map, list_all}
 use Rattle.ss_catalog.specs.declared.stream_id.StreamId.{StreamId}
 use Rattle.ss_catalog.specs.declared.params.Params.{Params}
 use Rattle.ss_codec.specs.declared.record.Record.{Record}
@@ -24,8 +26,9 @@ use Rattle.ss_model.specs.declared.types.TheConstants.{MOST_RECORDS}
 use Rattle.ss_recover.specs.Carried.{is_mark_of, window_of}
 use Rattle.ss_recover.specs.Held.{span_held, span_of}
 use Rattle.ss_recover.specs.Marked.{Marked, landmarks_made, marked_by, nothing_marked}
+use Rattle.ss_recover.specs.Order.{stream_of}
 use Rattle.ss_recover.specs.Runs.{Run, is_ended, is_run, marking, may_stand, tiling}
-use Rattle.ss_recover.specs.Usable.{slots_of, without_slots}
+use Rattle.ss_recover.specs.Usable.{IsUsable, slots_of, without_slots}
 use Rattle.ss_recover.specs.declared.found.Found.{Found}
 use Rattle.ss_recover.specs.declared.parts.StreamParts.{StreamParts}
 use Rattle.ss_recover.specs.declared.run.Last.{Last}
@@ -280,3 +283,16 @@ RunsAs old new id all (Err (BadStream n)) = (n ≡ id) × (is_run (names_in old)
 RunsAs old new id all (Err OutOfMemory) = ⊤
 RunsAs old new id all (Err (BadSlot n)) = ⊥
 RunsAs old new id all (Err Disk) = ⊥
+
+-- The records from a place on that are of one number, with the first of them. Those behind them are of greater ones.
+pub record IsNextRun (all : List Found) (at n : ℕ) (run : List Found) : Type 0 where
+  pub first : Found
+  pub rest : List Found
+  pub is : run ≡ first ∷ rest
+  pub back : List Found
+  pub split : drop at all ≡ run ++ back
+  pub within : at + length run ≤ length all
+  pub some : 1 ≤ length run
+  pub usable : All (λ (f : Found). IsUsable f.holds) run
+  pub own : All (λ (f : Found). stream_of f.holds ≡ n) run
+  pub above : AllByRecursion (λ (f : Found). n < stream_of f.holds) back

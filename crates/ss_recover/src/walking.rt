@@ -1,11 +1,10 @@
 // One walk over records in the order of their streams.
-ghost use Rattle.std.specs.Prelude.{◌≡◌, ◌≤◌, ◌<◌, length, take, drop, All};
-ghost use Rattle.std.specs.List.{AllByRecursion};
+ghost use Rattle.std.specs.Prelude.{◌≡◌, ◌≤◌, ◌<◌, length, All};
 ghost use Rattle.ss_steps.specs.Steps.{IsFresh};
 ghost use Rattle.ss_model.specs.declared.types.TheConstants.{MOST_RECORDS};
 ghost use Rattle.ss_recover.specs.Order.{Rises, found_key, stream_of};
 ghost use Rattle.ss_recover.specs.Runs.{WalksAs, may_stand};
-ghost use Rattle.ss_recover.specs.Shown.{BeginsAs, RunsAs, names_in};
+ghost use Rattle.ss_recover.specs.Shown.{BeginsAs, IsNextRun, RunsAs, names_in};
 ghost use Rattle.ss_recover.specs.Usable.{IsUsable};
 
 use crate::found::Found;
@@ -87,14 +86,17 @@ fn stream_of_run<L: Ledger>(
     }
 }
 
-// How many records at the front are of streams up to this number.
-fn run_len(all: &[Found], id: u32) -> usize
-    requires { Rises (λ f. stream_of f.holds) all.now }
-    ensures within { result ≤ length all.now }
-    ensures front { AllByRecursion (λ f. stream_of f.holds ≤ id) (take result all.now) }
-    ensures back { AllByRecursion (λ f. id < stream_of f.holds) (drop result all.now) }
+// The records from a place on that are of one stream, with its number.
+fn next_run(all: &[Found], at: usize) -> (u32, &[Found])
+    requires within { at < length all.now }
+    requires usable { All (λ f. IsUsable f.holds) all.now }
+    requires order { Rises found_key all.now }
+    ensures { IsNextRun all.now at result.0 result.1.now }
 {
-    all.partition_point(|found| stream_of(&found.holds) <= id)
+    let rest = &all[at..];
+    let id = stream_of(&rest[0].holds);
+    let len = rest.partition_point(|found| stream_of(&found.holds) <= id);
+    (id, &rest[..len])
 }
 
 // The streams that some records carry, which come in the order of their streams.
@@ -114,14 +116,12 @@ pub fn streams_of<L: Ledger>(
     let mut done = Vec::new(alloc);
     let mut at = 0;
     while at < all.len() {
-        let rest = &all[at..];
-        let id = stream_of(&rest[0].holds);
-        let len = run_len(rest, id);
-        let part = stream_of_run(alloc, &mut names, id, &rest[..len], &mut steps)?;
+        let (id, run) = next_run(all, at);
+        let part = stream_of_run(alloc, &mut names, id, run, &mut steps)?;
         if done.push(part).is_err() {
             return Err(RecoverError::OutOfMemory);
         }
-        at += len;
+        at += run.len();
     }
     Ok(Parts { streams: done })
 }

@@ -12,9 +12,9 @@ use Rattle.ss_windowing.specs.declared.decay.TheConstants.{MOST_VALUES}
 use Rattle.ss_windowing.proofs.WindowingLemmas.{fits-one_window}
 use Rattle.ss_schedule.specs.Held.{fit_of}
 use Rattle.ss_schedule.specs.Keyed.{FollowFrom, FollowUpTo, IsFirstKey, IsKeyOf, IsKeyed, NeverFit, PutsKey, ScheduleState, key_at, lengths}
-use Rattle.ss_schedule.specs.Pairs.{AreSideBySide, IsPairIn, IsSpan, NoPairFits, joined_entry, pair_at, pair_behind, pair_of}
+use Rattle.ss_schedule.specs.Pairs.{AreSideBySide, IsPairIn, IsSpan, NoPairFits, joined_entry, pair_at, pair_among, pair_of}
 use Rattle.ss_schedule.specs.declared.pair.Pair.{Pair}
-use Rattle.ss_schedule.proofs.PairLemmas.{pair_at-within, pair_behind-absent, pair_behind-here, some-same}
+use Rattle.ss_schedule.proofs.PairLemmas.{pair_at-within, pair_among-absent, pair_among-here, some-same}
 use Rattle.ss_schedule.proofs.JoinLemmas.{entry-left, entry-right, stands-left, stands-right}
 use Rattle.ss_schedule.proofs.Places.{AreApart, AreApart-seam, AreApart-tail, IsAt, IsAt-stands, apart-before, apart-behind}
 use Rattle.ss_schedule.proofs.Places.{index-once, list_any-cons_false, same_place}
@@ -23,7 +23,7 @@ use Rattle.ss_schedule.proofs.Places.{take-seam}
 -- the positions of a pair in a line whose positions follow one another
 IsSpan-behind : (n first : ℕ) (e : At × Entry) (entries : List (At × Entry)) (at : At) (pair : Pair) → FollowFrom n first (e ∷ entries) →
     1 ≤ first →
-    pair_behind e entries at ≡ Some pair → IsSpan n pair
+    pair_among e entries at ≡ Some pair → IsSpan n pair
 IsSpan-behind n first e [] at pair follow some is = absurd (cc)
 IsSpan-behind n first e (x ∷ xs) at pair follow some is =
     let start = follow.0 in
@@ -36,7 +36,7 @@ IsSpan-behind n first e (x ∷ xs) at pair follow some is =
           let one : pair_of e x ≡ pair = cc in
           subst (λ p. IsSpan n p) one (record { begins = omega arith; order = omega arith; taken = follow.3.2 }))
       | inr later ↦ (
-          let rest : pair_behind x xs at ≡ Some pair = rw later at is in
+          let rest : pair_among x xs at ≡ Some pair = rw later at is in
           IsSpan-behind n (e.1.last + 1) x xs at pair follow.3 (omega arith) rest)
     ]
 
@@ -115,15 +115,15 @@ unfit-false len l r n full order unfit =
     elim (cases_Bool (fits len l r n)) [ inl is ↦ absurd (unfit ((fits-one_window len l r n full order).0 is)) | inr is ↦ is ]
 
 NoPairFits-behind : (len : ℕ → ℕ) (n : ℕ) (e : At × Entry) (entries : List (At × Entry)) → AreApart (e ∷ entries) →
-    ((at : At) (pair : Pair) → pair_behind e entries at ≡ Some pair → fits len pair.first pair.last n ≡ false) → NoPairFits len n (e ∷ entries)
+    ((at : At) (pair : Pair) → pair_among e entries at ≡ Some pair → fits len pair.first pair.last n ≡ false) → NoPairFits len n (e ∷ entries)
 NoPairFits-behind len n e [] apart none = tt
 NoPairFits-behind len n e (x ∷ xs) apart none = (
-  none x.0 (pair_of e x) (pair_behind-here e x.0 x.1 xs),
+  none x.0 (pair_of e x) (pair_among-here e x.0 x.1 xs),
   NoPairFits-behind len n x xs (AreApart-tail e (x ∷ xs) apart) (λ at pair is. elim (cases_Bool (is_at at x)) [
     | inl here ↦ (
         let same = same_place at x here in
         let tail = AreApart-tail e (x ∷ xs) apart in
-        let gone : pair_behind x xs at ≡ None = ap (pair_behind x xs) (sym same) ∙ pair_behind-absent x xs x.0 (apart-behind [] x.0 x.1 xs tail) in
+        let gone : pair_among x xs at ≡ None = ap (pair_among x xs) (sym same) ∙ pair_among-absent x xs x.0 (apart-behind [] x.0 x.1 xs tail) in
         absurd (cc))
     | inr later ↦ none at pair (rw later is)
   ]),
@@ -148,7 +148,7 @@ NoPairFits-keyed n entries schedule full apart keyed past =
 -- the next count
 NoPairFits-at_behind : (len : ℕ → ℕ) (n : ℕ) (e : At × Entry) (entries : List (At × Entry)) (at : At) (pair : Pair) →
     NoPairFits len n (e ∷ entries) →
-    pair_behind e entries at ≡ Some pair → fits len pair.first pair.last n ≡ false
+    pair_among e entries at ≡ Some pair → fits len pair.first pair.last n ≡ false
 NoPairFits-at_behind len n e [] at pair none is = absurd (cc)
 NoPairFits-at_behind len n e (x ∷ xs) at pair none is =
     elim (cases_Bool (is_at at x)) [
@@ -156,7 +156,7 @@ NoPairFits-at_behind len n e (x ∷ xs) at pair none is =
           let same : Some (pair_of e x) ≡ Some pair = rw here at is in
           let one : pair_of e x ≡ pair = cc in
           subst (λ (p : Pair). fits len p.first p.last n ≡ false) one none.0)
-      | inr later ↦ (let rest : pair_behind x xs at ≡ Some pair = rw later at is in NoPairFits-at_behind len n x xs at pair none.1 rest)
+      | inr later ↦ (let rest : pair_among x xs at ≡ Some pair = rw later at is in NoPairFits-at_behind len n x xs at pair none.1 rest)
     ]
 
 NoPairFits-at : (len : ℕ → ℕ) (n : ℕ) (entries : List (At × Entry)) (at : At) (pair : Pair) → NoPairFits len n entries →
@@ -244,7 +244,7 @@ pub record IsSplit (entries : List (At × Entry)) (at : At) (pair : Pair) : Type
   pub is : entries ≡ before ++ left ∷ (at, entry) ∷ rest
   pub pair_is : pair ≡ pair_of left (at, entry)
 
-IsSplit-behind : (e : At × Entry) (entries : List (At × Entry)) (at : At) (pair : Pair) → pair_behind e entries at ≡ Some pair →
+IsSplit-behind : (e : At × Entry) (entries : List (At × Entry)) (at : At) (pair : Pair) → pair_among e entries at ≡ Some pair →
     IsSplit (e ∷ entries) at pair
 IsSplit-behind e [] at pair is = absurd (cc)
 IsSplit-behind e (x ∷ xs) at pair is =

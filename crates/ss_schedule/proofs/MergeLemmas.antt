@@ -9,10 +9,10 @@ use Rattle.ss_line.specs.Line.{index_of, is_at, place_at}
 use Rattle.ss_line.specs.declared.entry.At.{At}
 use Rattle.ss_line.specs.declared.entry.Entry.{Entry}
 use Rattle.ss_schedule.specs.Keyed.{FollowUpTo, IsKeyOf, IsKeyed, NeverFit, PutsKey, ScheduleState, key_at, lengths}
-use Rattle.ss_schedule.specs.Pairs.{AreSideBySide, IsSpan, joined_entry, pair_at, pair_behind, pair_of}
+use Rattle.ss_schedule.specs.Pairs.{AreSideBySide, IsSpan, joined_entry, pair_at, pair_among, pair_of}
 use Rattle.ss_schedule.specs.declared.pair.Pair.{Pair}
 use Rattle.ss_schedule.proofs.KeyedLemmas.{FollowUpTo-joined, FollowUpTo-seam, IsSpan-pair, NeverFit-among, len-kept, put-here, put-other, spans}
-use Rattle.ss_schedule.proofs.PairLemmas.{pair_at-neighbours, pair_at-past, pair_at-seam, pair_at-within, pair_behind-absent, some-same}
+use Rattle.ss_schedule.proofs.PairLemmas.{pair_at-neighbours, pair_at-past, pair_at-seam, pair_at-within, pair_among-absent, some-same}
 use Rattle.ss_schedule.proofs.Places.{AreApart, AreApart-seam, Ends, apart-behind, apart-parts, ends, with_last, without_last}
 use Rattle.ss_schedule.proofs.Places.{index-once, list_any-cons_false, none-first, place_at-behind, same_place, some-first}
 
@@ -22,10 +22,10 @@ is_first at [] = false
 is_first at (x ∷ xs) = is_at at x
 
 -- behind the first one it doesn't matter what is before it
-pair_behind-same : (e f : At × Entry) (entries : List (At × Entry)) (at : At) → is_first at entries ≡ false →
-    pair_behind e entries at ≡ pair_behind f entries at
-pair_behind-same e f [] at other = refl
-pair_behind-same e f (x ∷ xs) at other = rw other refl
+pair_among-same : (e f : At × Entry) (entries : List (At × Entry)) (at : At) → is_first at entries ≡ false →
+    pair_among e entries at ≡ pair_among f entries at
+pair_among-same e f [] at other = refl
+pair_among-same e f (x ∷ xs) at other = rw other refl
 
 none_in_both : (xs ys : List (At × Entry)) (at : At) → list_any (is_at at) xs ≡ false → list_any (is_at at) ys ≡ false →
     list_any (is_at at) (xs ++ ys) ≡ false
@@ -72,10 +72,10 @@ module _ (n : ℕ) (entries : List (At × Entry)) (left right : At) (it : AreSid
             ∙ sym (pair_at-within it.before ((left, it.window) ∷ (right, it.next) ∷ it.rest) at none)
             ∙ sym (ap (λ es. pair_at es at) it.is))
         | inr none ↦ (
-            let past : pair_behind (left, it.window) ((right, it.next) ∷ it.rest) at ≡ pair_behind (right, it.next) it.rest at = rw not_right refl in
+            let past : pair_among (left, it.window) ((right, it.next) ∷ it.rest) at ≡ pair_among (right, it.next) it.rest at = rw not_right refl in
             pair_at-past it.before (left, joined_entry it.window it.next) it.rest at
             (none_in_both it.before ((left, joined_entry it.window it.next) ∷ []) at none (list_any-cons_false (is_at at) (left, it.window) [] not_left refl))
-            ∙ pair_behind-same (left, joined_entry it.window it.next) (right, it.next) it.rest at not_next
+            ∙ pair_among-same (left, joined_entry it.window it.next) (right, it.next) it.rest at not_next
             ∙ sym past
             ∙ sym (pair_at-past it.before (left, it.window) ((right, it.next) ∷ it.rest) at
             (none_in_both it.before ((left, it.window) ∷ []) at none (list_any-cons_false (is_at at) (left, it.window) [] not_left refl)))
@@ -151,8 +151,8 @@ module _ (n : ℕ) (entries : List (At × Entry)) (left right : At) (it : AreSid
       let rest = (or_parts (is_at left (right, it.next)) _ alone).1 in
       pair-none rest
     where
-      pair-none : list_any (is_at left) it.rest ≡ false → IsKeyOf (lengths old) n (pair_behind (left, joined_entry it.window it.next) it.rest left) None
-      pair-none rest = rw (pair_behind-absent (left, joined_entry it.window it.next) it.rest left rest) refl
+      pair-none : list_any (is_at left) it.rest ≡ false → IsKeyOf (lengths old) n (pair_among (left, joined_entry it.window it.next) it.rest left) None
+      pair-none rest = rw (pair_among-absent (left, joined_entry it.window it.next) it.rest left rest) refl
   never-left _ (with_last front x) is none =
       let once : list_any (is_at left) (front ++ x ∷ []) ≡ false = ap (list_any (is_at left)) is ∙ it.left_once in
       let was : pair_at entries left ≡ Some (pair_of x (left, it.window)) = ap (λ es. pair_at es left) it.is

@@ -6,55 +6,55 @@ use Rattle.std.proofs.lemmas.Bool.{cases_Bool, cond-true, or_parts}
 use Rattle.ss_line.specs.Line.{StandsIn, entry_at, index_of, is_at, place_at, place_before}
 use Rattle.ss_line.specs.declared.entry.At.{At}
 use Rattle.ss_line.specs.declared.entry.Entry.{Entry}
-use Rattle.ss_schedule.specs.Pairs.{pair_at, pair_behind, pair_of}
+use Rattle.ss_schedule.specs.Pairs.{pair_at, pair_among, pair_of}
 use Rattle.ss_schedule.proofs.Places.{AreApart, AreApart-seam, Ends, IsAt-stands, apart-before, apart-behind, ends, with_last, without_last}
 use Rattle.ss_schedule.proofs.Places.{entry-once, index-once}
 use Rattle.ss_schedule.proofs.Places.{is_at-same, place_at-behind, place_at-seam}
 
-pub pair_behind-absent : (e : At × Entry) (entries : List (At × Entry)) (at : At) → list_any (is_at at) entries ≡ false →
-    pair_behind e entries at ≡ None
-pair_behind-absent e [] at none = refl
-pair_behind-absent e (x ∷ xs) at none =
-    let parts = or_parts (is_at at x) (list_any (is_at at) xs) none in rw parts.0 (pair_behind-absent x xs at parts.1)
+pub pair_among-absent : (e : At × Entry) (entries : List (At × Entry)) (at : At) → list_any (is_at at) entries ≡ false →
+    pair_among e entries at ≡ None
+pair_among-absent e [] at none = refl
+pair_among-absent e (x ∷ xs) at none =
+    let parts = or_parts (is_at at x) (list_any (is_at at) xs) none in rw parts.0 (pair_among-absent x xs at parts.1)
 
 -- the pair at a place that doesn't stand in the front is behind it
-pair_behind-past : (e : At × Entry) (front : List (At × Entry)) (x : At × Entry) (tail : List (At × Entry)) (at : At) →
-    list_any (is_at at) (front ++ x ∷ []) ≡ false → pair_behind e (front ++ x ∷ tail) at ≡ pair_behind x tail at
-pair_behind-past e [] x tail at none = let parts = or_parts (is_at at x) false none in rw parts.0 refl
-pair_behind-past e (y ∷ ys) x tail at none =
-    let parts = or_parts (is_at at y) (list_any (is_at at) (ys ++ x ∷ [])) none in rw parts.0 (pair_behind-past y ys x tail at parts.1)
+pair_among-past : (e : At × Entry) (front : List (At × Entry)) (x : At × Entry) (tail : List (At × Entry)) (at : At) →
+    list_any (is_at at) (front ++ x ∷ []) ≡ false → pair_among e (front ++ x ∷ tail) at ≡ pair_among x tail at
+pair_among-past e [] x tail at none = let parts = or_parts (is_at at x) false none in rw parts.0 refl
+pair_among-past e (y ∷ ys) x tail at none =
+    let parts = or_parts (is_at at y) (list_any (is_at at) (ys ++ x ∷ [])) none in rw parts.0 (pair_among-past y ys x tail at parts.1)
 
 pub pair_at-past : (front : List (At × Entry)) (x : At × Entry) (tail : List (At × Entry)) (at : At) →
     list_any (is_at at) (front ++ x ∷ []) ≡ false →
-    pair_at (front ++ x ∷ tail) at ≡ pair_behind x tail at
+    pair_at (front ++ x ∷ tail) at ≡ pair_among x tail at
 pair_at-past [] x tail at none = refl
 pair_at-past (y ∷ ys) x tail at none =
-    let parts = or_parts (is_at at y) (list_any (is_at at) (ys ++ x ∷ [])) none in pair_behind-past y ys x tail at parts.1
+    let parts = or_parts (is_at at y) (list_any (is_at at) (ys ++ x ∷ [])) none in pair_among-past y ys x tail at parts.1
 
 -- the pair at a place that doesn't stand in the tail is before it
-pair_behind-within : (e : At × Entry) (front tail : List (At × Entry)) (at : At) → list_any (is_at at) tail ≡ false →
-    pair_behind e (front ++ tail) at ≡ pair_behind e front at
-pair_behind-within e [] tail at none = pair_behind-absent e tail at none
-pair_behind-within e (x ∷ xs) tail at none =
-    elim (cases_Bool (is_at at x)) [ inl here ↦ rw here refl | inr later ↦ rw later (pair_behind-within x xs tail at none) ]
+pair_among-within : (e : At × Entry) (front tail : List (At × Entry)) (at : At) → list_any (is_at at) tail ≡ false →
+    pair_among e (front ++ tail) at ≡ pair_among e front at
+pair_among-within e [] tail at none = pair_among-absent e tail at none
+pair_among-within e (x ∷ xs) tail at none =
+    elim (cases_Bool (is_at at x)) [ inl here ↦ rw here refl | inr later ↦ rw later (pair_among-within x xs tail at none) ]
 
 pub pair_at-within : (front tail : List (At × Entry)) (at : At) → list_any (is_at at) tail ≡ false → pair_at (front ++ tail) at ≡ pair_at front at
 pair_at-within [] [] at none = refl
-pair_at-within [] (x ∷ xs) at none = let parts = or_parts (is_at at x) (list_any (is_at at) xs) none in pair_behind-absent x xs at parts.1
-pair_at-within (e ∷ es) tail at none = pair_behind-within e es tail at none
+pair_at-within [] (x ∷ xs) at none = let parts = or_parts (is_at at x) (list_any (is_at at) xs) none in pair_among-absent x xs at parts.1
+pair_at-within (e ∷ es) tail at none = pair_among-within e es tail at none
 
-pub pair_behind-here : (e : At × Entry) (at : At) (entry : Entry) (tail : List (At × Entry)) →
-    pair_behind e ((at, entry) ∷ tail) at ≡ Some (pair_of e (at, entry))
-pair_behind-here e at entry tail = cond-true (is_at at (at, entry)) _ _ (is_at-same at entry)
+pub pair_among-here : (e : At × Entry) (at : At) (entry : Entry) (tail : List (At × Entry)) →
+    pair_among e ((at, entry) ∷ tail) at ≡ Some (pair_of e (at, entry))
+pair_among-here e at entry tail = cond-true (is_at at (at, entry)) _ _ (is_at-same at entry)
 
 -- the pair of two neighbours in a line
 pub pair_at-seam : (before : List (At × Entry)) (x : At × Entry) (at : At) (entry : Entry) (rest : List (At × Entry)) →
     list_any (is_at at) (before ++ x ∷ []) ≡ false → pair_at (before ++ x ∷ (at, entry) ∷ rest) at ≡ Some (pair_of x (at, entry))
-pair_at-seam before x at entry rest once = pair_at-past before x ((at, entry) ∷ rest) at once ∙ pair_behind-here x at entry rest
+pair_at-seam before x at entry rest once = pair_at-past before x ((at, entry) ∷ rest) at once ∙ pair_among-here x at entry rest
 
 -- the first place has none
 pub pair_at-first : (at : At) (entry : Entry) (rest : List (At × Entry)) → AreApart ((at, entry) ∷ rest) → pair_at ((at, entry) ∷ rest) at ≡ None
-pair_at-first at entry rest apart = pair_behind-absent (at, entry) rest at (apart-behind [] at entry rest apart)
+pair_at-first at entry rest apart = pair_among-absent (at, entry) rest at (apart-behind [] at entry rest apart)
 
 pub some-same : {X : Type 0} (x y : X) → Some x ≡ Some y → x ≡ y
 some-same x y same = cc

@@ -1,5 +1,5 @@
 -- Worked rows: a line of three, at the places 2, 0 and 1.
-use Rattle.std.proofs.Common.{◌≡◌, ℕ, List, [], ◌∷◌, Option, Some, None, arith, refl, lit≤}
+use Rattle.std.proofs.Common.{◌≡◌, ◌-◌, ◌^◌, ℕ, List, [], ◌∷◌, Option, Some, None, arith, refl, lit≤}
 use Rattle.ss_catalog.specs.declared.params.Params.TheVariants.{Exp}
 use Rattle.ss_line.specs.declared.entry.At.{At}
 use Rattle.ss_line.specs.declared.entry.Entry.{Entry}
@@ -7,6 +7,7 @@ use Rattle.ss_target.specs.Lengths.{lengths_of}
 use Rattle.ss_windowing.specs.Windowing.{index_of}
 use Rattle.std.proofs.lemmas.Bool.{both_ways}
 use Rattle.ss_schedule.specs.Keyed.{FollowUpTo, key_at}
+use Rattle.ss_schedule.specs.declared.sifting.TheConstants.{NEVER}
 use Rattle.ss_schedule.specs.Pairs.{NoPairFits, joined_entry, pair_at}
 
 abbrev place : ℕ → At
@@ -81,3 +82,7 @@ fits-second h = both_ways _ h.0 refl
 pub fits-last : ¬ NoPairFits (lengths_of (Exp 2 1 1)) 9 ((place 0, window 1 6 9) ∷ (place 1, window 7 7 9) ∷ (place 2, window 8 8 9) ∷ [])
 unfolding index_of
 fits-last h = both_ways _ h.1.0 refl
+
+-- the count that stands for none is past every count
+pub NEVER-is : NEVER ≡ 2 ^ 64 - 1
+NEVER-is = refl

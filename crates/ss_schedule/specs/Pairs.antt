@@ -12,14 +12,14 @@ abbrev pub pair_of : At × Entry → At × Entry → Pair
 pair_of left right = record { left = left.0; right = right.0; first = left.1.first; last = right.1.last }
 
 -- the pair of neighbours whose right one stands at this place, among entries behind this one; none if none of them stands there
-abbrev pub pair_behind : At × Entry → List (At × Entry) → At → Option Pair
-pair_behind left [] at = None
-pair_behind left (right ∷ entries) at = if is_at at right then Some (pair_of left right) else pair_behind right entries at
+abbrev pub pair_among : At × Entry → List (At × Entry) → At → Option Pair
+pair_among left [] at = None
+pair_among left (right ∷ entries) at = if is_at at right then Some (pair_of left right) else pair_among right entries at
 
 -- the same in a whole line: none for the first place
 abbrev pub pair_at : List (At × Entry) → At → Option Pair
 pair_at [] at = None
-pair_at (entry ∷ entries) at = pair_behind entry entries at
+pair_at (entry ∷ entries) at = pair_among entry entries at
 
 -- the positions of a pair, of which n are taken
 pub record IsSpan (n : ℕ) (pair : Pair) : Type 0 where

@@ -1,11 +1,10 @@
 -- What a schedule says of the windows of a stream, as a store holds them.
-use Rattle.std.proofs.Common.{◌≡◌, ◌∙◌, ℕ, zero, suc, ◌+◌, ◌<◌, ◌≤◌, true, false, List, [], ◌∷◌, ◌++◌, map, length, take, refl, sym, ap, subst, arith, All, get_or, Option, Some, None}
+use Rattle.std.proofs.Common.{◌≡◌, ◌∙◌, ℕ, zero, suc, ◌+◌, ◌<◌, ◌≤◌, List, [], ◌∷◌, map, length, take, refl, sym, ap, subst, arith, All, get_or, None}
 use Rattle.std.proofs.lemmas.Bool.{eqb-true}
 use Rattle.std.proofs.lemmas.List.Elements.{All-get_or}
 use Rattle.std.proofs.lemmas.List.Sums.{passes_at_first}
-use Rattle.ss_windowing.specs.Windowing.{fits}
 use Rattle.ss_windowing.specs.declared.decay.TheConstants.{MOST_VALUES}
-use Rattle.ss_line.specs.Line.{IsLine, LineState, StandsIn, index_of, is_at, place_at}
+use Rattle.ss_line.specs.Line.{StandsIn, index_of, is_at, place_at}
 use Rattle.ss_line.specs.declared.entry.At.{At}
 use Rattle.ss_line.specs.declared.entry.Entry.{Entry}
 use Rattle.ss_target.specs.Lengths.{lengths_of}
@@ -17,7 +16,7 @@ use Rattle.ss_recover.specs.declared.parts.StreamParts.{StreamParts}
 use Rattle.ss_query.proofs.Places.{entries_in}
 use Rattle.ss_store.specs.Held.{values_held}
 use Rattle.ss_store.specs.Joining.{AreDue, NoSpansAreDue}
-use Rattle.ss_store.specs.Scheduled.{HasPlaces, IsDuePair, IsKeyedAt, IsKeyedFor, IsScheduled}
+use Rattle.ss_store.specs.Scheduled.{HasPlaces, IsDuePair, IsScheduled}
 use Rattle.ss_store.proofs.Spans.{last-held}
 
 -- no pair of a line fits, by its entries and by their positions

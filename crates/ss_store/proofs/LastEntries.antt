@@ -1,5 +1,5 @@
 -- The last entry of a line.
-use Rattle.std.proofs.Common.{◌≡◌, ◌∙◌, ℕ, ◌≤◌, List, [], ◌∷◌, ◌++◌, length, sym, ap, count_by, Some}
+use Rattle.std.proofs.Common.{◌≡◌, ◌∙◌, ◌≤◌, List, [], ◌∷◌, ◌++◌, length, sym, ap, count_by, Some}
 use Rattle.std.proofs.lemmas.List.{map-append}
 use Rattle.ss_line.specs.Line.{entry_at, is_at, place_at, place_before}
 use Rattle.ss_line.specs.declared.entry.At.{At}

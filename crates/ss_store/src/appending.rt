@@ -1,5 +1,5 @@
 // One more value of a stream.
-ghost use Rattle.std.specs.Prelude.{◌≡◌, ◌+◌, ◌<◌, ◌≤◌, ℕ, List, length, Some, OnOk, OnErr};
+ghost use Rattle.std.specs.Prelude.{◌≡◌, ◌+◌, ◌<◌, ◌≤◌, ℕ, List, length, max, Some, OnOk, OnErr};
 ghost use Rattle.ss_outside.specs.Disk.{OfContent};
 ghost use Rattle.ss_outside.specs.Step.{Step};
 ghost use Rattle.ss_outside.specs.Verdict.{IsFirm};
@@ -39,6 +39,7 @@ pub fn make_room(line: &mut Line, schedule: &mut Schedule) -> Result<(), AllocEr
     ensures room { OnOk result (HasPlaces line.new schedule.new) }
     ensures entries { line.new.entries ≡ line.old.entries }
     ensures grows { line.old.spare ≤ line.new.spare }
+    ensures few { line.new.spare ≤ max line.old.spare 1 }
     ensures target { schedule.new.target ≡ schedule.old.target }
     ensures keyed { (n : ℕ) (entries : List (At × Entry)) → IsKeyed n entries schedule.old → IsKeyed n entries schedule.new }
 {

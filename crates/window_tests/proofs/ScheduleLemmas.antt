@@ -1,14 +1,13 @@
 -- Positions of a line that goes on where it ended.
-use Rattle.std.proofs.Common.{◌≡◌, ◌∙◌, ℕ, suc, ◌+◌, ◌≤◌, List, [], ◌∷◌, ◌++◌, length, take, refl}
+use Rattle.std.proofs.Common.{◌≡◌, ◌∙◌, ℕ, suc, ◌+◌, ◌≤◌, List, [], ◌∷◌, ◌++◌, length, refl}
 use Rattle.std.proofs.Common.{sym, ap, arith, length-append, Option, Some, None, IfSome}
 use Rattle.std.specs.Option.{SomeIff}
-use Rattle.std.proofs.lemmas.List.{take_all}
-use Rattle.ss_line.specs.Line.{StandsIn, entry_at, index_of, place_before}
+use Rattle.ss_line.specs.Line.{entry_at, place_before}
 use Rattle.ss_line.specs.declared.entry.At.{At}
 use Rattle.ss_line.specs.declared.entry.Entry.{Entry}
 use Rattle.ss_schedule.specs.Keyed.{FollowFrom, FollowUpTo}
 use Rattle.ss_schedule.proofs.PairLemmas.{entry-apart, some-same}
-use Rattle.ss_schedule.proofs.Places.{AreApart, Ends, ends, place_at-seam, take-seam, with_last, without_last}
+use Rattle.ss_schedule.proofs.Places.{AreApart, Ends, ends, place_at-seam, with_last, without_last}
 
 FollowFrom-more : (n first : ℕ) (front : List (At × Entry)) (last new : At × Entry) → FollowFrom n first (front ++ last ∷ []) →
     new.1.first ≡ last.1.last + 1 →

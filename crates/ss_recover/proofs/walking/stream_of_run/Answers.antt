@@ -67,7 +67,8 @@ returns-in-Some-end g c =
     let part = c.in-Some-end.part in
     let taken : HasTaken c.args.names.now c.begin.new.names first c.in-Some-2.stream =
     subst (λ o. BeginsAs c.args.names.now c.begin.new.names first (Ok o)) c.in-Some-2.is c.in_ok-stream.ensures in
-    let so_far = subst (IsSoFar c.in-Some-2.stream c.loop-found.stream) (take_all c.loop-found.found-index rest c.loop-found-test.false) c.loop-found.invariant in
+    let so_far = subst (IsSoFar c.in-Some-2.stream c.loop-found.stream)
+    (take_all c.loop-found.found-index rest c.loop-found-test.false) c.loop-found.invariant in
     let ends = c.in-Some-end.ensures so_far.run rest so_far.shows in
     let held = IsHeldOf-end c.args.names.now c.begin.new.names first c.in-Some-2.stream c.loop-found.stream rest taken so_far part ends.1 in
     let split = sym c.in-Some.ensures.cases.0 in (

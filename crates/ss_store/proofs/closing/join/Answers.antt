@@ -1,10 +1,6 @@
-use Rattle.std.proofs.Common.{◌≡◌, ◌∙◌, List, [], ◌∷◌, refl, sym, ap, subst, arith, Err}
+use Rattle.std.proofs.Common.{◌∙◌, [], ◌∷◌, refl, sym, ap, subst, arith, Err}
 use Rattle.std.proofs.lemmas.Result.{err_from_is_err_and}
 use Rattle.ss_codec.proofs.RecordLemmas.{is_valid-IsWindow}
-use Rattle.std.specs.List.{remove}
-use Rattle.ss_line.specs.Line.{StandsIn, index_of}
-use Rattle.ss_line.specs.declared.entry.At.{At}
-use Rattle.ss_line.specs.declared.entry.Entry.{Entry}
 use Rattle.ss_summary.specs.Summaries.{joined}
 use Rattle.ss_schedule.specs.Keyed.{IsKeyed}
 use Rattle.ss_target.specs.Lengths.{lengths_of}

@@ -1,6 +1,6 @@
-use Rattle.std.proofs.Common.{◌≡◌, ◌∙◌, ◌+◌, ◌≤◌, arith, ap, length, refl, subst, sym, take, [], None, Some}
-use Rattle.ss_line.specs.Line.{StandsIn, index_of, place_at}
-use Rattle.ss_schedule.specs.Keyed.{FollowUpTo, IsKeyed}
+use Rattle.std.proofs.Common.{◌∙◌, ◌+◌, arith, subst, sym, Some}
+use Rattle.ss_line.specs.Line.{StandsIn, index_of}
+use Rattle.ss_schedule.specs.Keyed.{IsKeyed}
 use Rattle.ss_query.proofs.Places.{index_of-first, index_of-next, none-first}
 use Rattle.ss_store.proofs.KeyedWindows.{FollowUpTo-take, FollowUpTo-tiles, StandsIn-below, none_past, take-all, take-none}
 use Rattle.ss_store.proofs.scheduling.key_windows.Goals as goal

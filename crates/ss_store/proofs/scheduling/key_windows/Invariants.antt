@@ -1,4 +1,4 @@
-use Rattle.std.proofs.Common.{◌-◌, ◌+◌, length, take}
+use Rattle.std.proofs.Common.{◌-◌, length}
 use Rattle.ss_line.specs.Line.{index_of}
 use Rattle.ss_store.proofs.KeyedWindows.{IsKeyedUpTo}
 use Rattle.ss_store.proofs.scheduling.key_windows.Given as goal

@@ -1,7 +1,6 @@
-use Rattle.std.proofs.Common.{◌∙◌, ◌≤◌, arith, sym, subst, []}
+use Rattle.std.proofs.Common.{◌≤◌, sym, subst, []}
 use Rattle.ss_windowing.specs.declared.decay.TheConstants.{MOST_VALUES}
 use Rattle.ss_recover.specs.Held.{entries_of}
-use Rattle.ss_schedule.specs.Keyed.{IsKeyed}
 use Rattle.ss_store.specs.Scheduled.{IsKeyedAt}
 use Rattle.ss_store.proofs.KeyedWindows.{held-few}
 use Rattle.ss_store.proofs.scheduling.schedule_of.Goals as goal

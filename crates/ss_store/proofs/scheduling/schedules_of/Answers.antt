@@ -1,5 +1,4 @@
-use Rattle.std.proofs.Common.{get_or, subst, sym, take}
-use Rattle.std.specs.List.{AllZip}
+use Rattle.std.proofs.Common.{take}
 use Rattle.std.proofs.lemmas.List.{take_more}
 use Rattle.ss_store.specs.Scheduled.{IsKeyedFor}
 use Rattle.ss_store.proofs.ScheduledStreams.{AllZip-more}

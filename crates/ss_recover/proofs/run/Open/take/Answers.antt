@@ -70,7 +70,8 @@ add-requires-clause-after g c =
     let r = c.in-Value in
     let last = c.in-Some.last in
     let ready = c.requires.ready in
-    take-ready c.args.self.now ready.run ready.own ready.shows last r.number r.index r.t (c.in-Marks-stage.is ∙ ap stages.Marks c.in-Some.is) c.count-in-Value.ensures.state.order
+    take-ready c.args.self.now ready.run ready.own ready.shows last r.number r.index r.t (c.in-Marks-stage.is ∙ ap stages.Marks c.in-Some.is)
+    c.count-in-Value.ensures.state.order
     (ap (λ (k : ℕ). can_add k last r.number r.index r.t) (sym c.count-in-Value.ensures.value) ∙ sym c.can_add.ensures ∙ c.if-not-can_add.false)
 
 pub returns-in_ok-add-in-Value-clause-runs : goal.returns-in_ok-add-in-Value-clause-runs

@@ -36,8 +36,7 @@ invariant_of-self-in-Ok-add_record g c =
     let is = creating {store = record { streams = c.self.inside.streams.items; records = c.self.inside.records; stopped = c.self.inside.stopped }} {part = part}
     (g.D.Disk.seen c.args.disk.now) c.self.view_is c.requires.one_disk c.self.invariant.0 c.requires.runs c.in-Ok.ensures.accepted
     (IsFreshPart-made part c.args.params c.in-Ok.ensures.target refl (ap (λ (l : LineState). l.entries) c.new.ensures) c.new-2.ensures) c.in-Ok.ensures.new in
-    let done = c.in-Ok-add_record.ensures in
-    (
+    let done = c.in-Ok-add_record.ensures in (
       rw (c.in-Ok-grow.ensures.streams, c.in-Ok-grow.ensures.catalog) (sound-created is c.add_record.new.records done.settled done.live),
       λ run. rw (c.in-Ok-grow.ensures.streams, c.in-Ok-grow.ensures.schedules)
           (AllZip-more IsScheduled c.self.inside.streams.items c.self.inside.schedules.items part c.new-3.result (c.self.invariant.1 run)
@@ -57,8 +56,7 @@ invariant_of-self-in-Err-add_record g c =
     } in
     let is = creating {store = record { streams = c.self.inside.streams.items; records = c.self.inside.records; stopped = c.self.inside.stopped }} {part = part}
     (g.D.Disk.seen c.args.disk.now) c.self.view_is c.requires.one_disk c.self.invariant.0 c.requires.runs c.in-Ok.ensures.accepted
-    (IsFreshPart-made part c.args.params c.in-Ok.ensures.target refl (ap (λ (l : LineState). l.entries) c.new.ensures) c.new-2.ensures) c.in-Ok.ensures.new in
-    (
+    (IsFreshPart-made part c.args.params c.in-Ok.ensures.target refl (ap (λ (l : LineState). l.entries) c.new.ensures) c.new-2.ensures) c.in-Ok.ensures.new in (
       rw (c.in-Ok-grow.ensures.streams, c.in-Ok-grow.ensures.catalog) (sound-unwritten is c.add_record.new.records),
       λ run. let wrong : true ≡ false = run in absurd (cc),
     )

@@ -17,8 +17,7 @@ invariant_of-self g c =
     let is = taking-mark {store = record { streams = c.self.inside.streams.items; records = c.self.inside.records; stopped = c.self.inside.stopped }}
     (g.D.Disk.seen c.args.disk.now) c.self.view_is c.requires.one_disk c.self.invariant.0 c.requires.runs c.in-Ok.ensures.marker
     c.in-Ok.ensures.accepted c.requires.in_time
-    c.requires.marked c.index_mut-stream.ensures.value c.reserve.ensures.grown in
-    (
+    c.requires.marked c.index_mut-stream.ensures.value c.reserve.ensures.grown in (
       sound-spared is,
       λ run. AreScheduled-other c.self.inside.streams.items c.self.inside.schedules.items c.in-Ok.marker.0 c.index_mut-stream.result.now
           (record c.index_mut-stream.result.now { landmarks = c.reserve.new.landmarks }) (c.self.invariant.1 run) c.index_mut-stream.ensures.value refl refl,
@@ -56,8 +55,7 @@ invariant_of-self-in-Ok-put_mark g c =
     (g.D.Disk.seen c.args.disk.now) c.self.view_is c.requires.one_disk c.self.invariant.0 c.requires.runs c.in-Ok.ensures.marker
     c.in-Ok.ensures.accepted c.requires.in_time
     c.requires.marked c.index_mut-stream.ensures.value c.reserve.ensures.grown in
-    let done = c.in-Ok-put_mark.ensures in
-    (
+    let done = c.in-Ok-put_mark.ensures in (
       sound-taken is c.put_mark.new.part c.put_mark.new.records c.put_mark.ensures.same c.put_mark.ensures.fits done.whole done.taken,
       λ run. AreScheduled-other c.self.inside.streams.items c.self.inside.schedules.items c.in-Ok.marker.0 c.index_mut-stream.result.now
           c.put_mark.new.part (c.self.invariant.1 run) c.index_mut-stream.ensures.value c.put_mark.ensures.same.target
@@ -69,8 +67,7 @@ invariant_of-self-in-Err-put_mark g c =
     let is = taking-mark {store = record { streams = c.self.inside.streams.items; records = c.self.inside.records; stopped = c.self.inside.stopped }}
     (g.D.Disk.seen c.args.disk.now) c.self.view_is c.requires.one_disk c.self.invariant.0 c.requires.runs c.in-Ok.ensures.marker
     c.in-Ok.ensures.accepted c.requires.in_time
-    c.requires.marked c.index_mut-stream.ensures.value c.reserve.ensures.grown in
-    (
+    c.requires.marked c.index_mut-stream.ensures.value c.reserve.ensures.grown in (
       sound-stopped is c.put_mark.new.part c.put_mark.new.records c.put_mark.ensures.same c.put_mark.ensures.fits,
       λ run. let wrong : true ≡ false = run in absurd (cc),
     )

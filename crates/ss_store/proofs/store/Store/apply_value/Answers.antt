@@ -21,8 +21,7 @@ invariant_of-self g c =
     let is = taking {store = record { streams = c.self.inside.streams.items; records = c.self.inside.records; stopped = c.self.inside.stopped }}
     (g.D.Disk.seen c.args.disk.now) c.self.view_is c.requires.one_disk c.self.invariant.0 c.requires.runs c.in-Ok.ensures.taker
     (c.in-Ok.ensures.accepted c.args.v) (c.requires.in_time, c.ranges.v)
-    c.index_mut-stream.ensures.value c.make_room.ensures.entries c.make_room.ensures.grows in
-    (
+    c.index_mut-stream.ensures.value c.make_room.ensures.entries c.make_room.ensures.grows in (
       sound-spared is,
       λ run. AllZip-set IsScheduled c.self.inside.streams.items c.self.inside.schedules.items c.in-Ok.taker.0
           (record c.index_mut-stream.result.now { line = c.make_room.new.line }) c.make_room.new.schedule (c.self.invariant.1 run)
@@ -63,8 +62,7 @@ invariant_of-self-in-Ok-append_value g c =
     (g.D.Disk.seen c.args.disk.now) c.self.view_is c.requires.one_disk c.self.invariant.0 c.requires.runs c.in-Ok.ensures.taker
     (c.in-Ok.ensures.accepted c.args.v) (c.requires.in_time, c.ranges.v)
     c.index_mut-stream.ensures.value c.make_room.ensures.entries c.make_room.ensures.grows in
-    let done = c.in-Ok-append_value.ensures in
-    (
+    let done = c.in-Ok-append_value.ensures in (
       sound-taken is c.append_value.new.part c.append_value.new.records c.append_value.ensures.same done.whole done.holds,
       λ run. AllZip-set IsScheduled c.self.inside.streams.items c.self.inside.schedules.items c.in-Ok.taker.0 c.append_value.new.part
           c.append_value.new.schedule (c.self.invariant.1 run) done.scheduled,

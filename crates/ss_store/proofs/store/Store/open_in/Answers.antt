@@ -43,12 +43,13 @@ invariant_of-result g c =
     let now = c.settle_all.new.streams in
     let entries = c.in_ok-settle_all.ensures.entries in
     let listed = c.in_ok-catalog.ensures ∙ ap (map entry_of) (c.deref.ensures.value ∙ sym c.deref_mut.ensures.value) ∙ sym entries in
-    let whole = c.in_ok-settle_all.ensures.whole in
-    (subst (λ (streams : List StreamParts). IsSound (record { streams = streams; records = c.settle_all.new.records; stopped = false }) c.in_ok-catalog.catalog)
-    (sym (items_are c.in_ok-records.streams now c.deref_mut.result.now entries c.deref_mut.ensures.len))
-    (record { listed = listed; numbers = whole.numbers; settled = λ runs. c.in_ok-settle_all.ensures.settled; whole = λ runs. whole }),
-    λ run. scheduled_are c.in_ok-records.streams c.in_ok-schedules.schedules now c.deref_mut.result.now c.settle_all.new.schedules
-        c.in_ok-settle_all.ensures.scheduled entries c.deref_mut.ensures.len (keyed_long g c))
+    let whole = c.in_ok-settle_all.ensures.whole in (
+      subst (λ (streams : List StreamParts). IsSound (record { streams = streams; records = c.settle_all.new.records; stopped = false }) c.in_ok-catalog.catalog)
+          (sym (items_are c.in_ok-records.streams now c.deref_mut.result.now entries c.deref_mut.ensures.len))
+          (record { listed = listed; numbers = whole.numbers; settled = λ runs. c.in_ok-settle_all.ensures.settled; whole = λ runs. whole }),
+      λ run. scheduled_are c.in_ok-records.streams c.in_ok-schedules.schedules now c.deref_mut.result.now c.settle_all.new.schedules
+          c.in_ok-settle_all.ensures.scheduled entries c.deref_mut.ensures.len (keyed_long g c),
+    )
 
 pub returns-in_err-records-clause-opens : goal.returns-in_err-records-clause-opens
 returns-in_err-records-clause-opens g c =

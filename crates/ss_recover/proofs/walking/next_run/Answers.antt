@@ -1,0 +1,24 @@
+use Rattle.std.proofs.Common.{◌∙◌, ℕ, ◌-◌, ◌≤◌, ◌<◌, length, take, drop, leb, leb-true, rules, sym, ap}
+use Rattle.std.proofs.lemmas.Bool.{leb-false}
+use Rattle.std.proofs.lemmas.List.{take_rest}
+use Rattle.std.proofs.lemmas.List.Sorted.{IsPartitionPoint-from_clause, IsPartitionedBy-leb}
+use Rattle.ss_recover.specs.Order.{stream_of}
+use Rattle.ss_recover.specs.declared.found.Found.{Found}
+use Rattle.ss_recover.proofs.RunOrder.{IsNextRun-from, Rises-pairs, all-dropped, all-taken, sliced-rises}
+use Rattle.ss_recover.proofs.walking.next_run.Goals as goal
+
+pub returns : goal.returns
+returns c =
+    let all = c.args.all.now in
+    let at = c.args.at in
+    let x = c.index-rest-0.result in
+    let id = c.stream_of-id.result in
+    let rest = take (length all - at) (drop at all) in
+    let of : Found → ℕ = λ f. stream_of f.holds in
+    let point = IsPartitionPoint-from_clause (λ (f : Found). leb (of f) id) rest _ c.partition_point-len.ensures.partitioned
+    (IsPartitionedBy-leb of rest id (Rises-pairs of rest (sliced-rises all rest at (take_rest all at) c.requires.order c.requires.usable)))
+    (λ x r q k. search rules) in
+    IsNextRun-from all rest at c.partition_point-len.result id x c.requires.within (take_rest all at) c.partition_point-len.ensures.bound
+    c.index-rest-0.is c.requires.order c.requires.usable (c.stream_of-id.ensures ∙ ap of (sym c.index-rest-0.is))
+    (all-taken (λ f. of f ≤ id) rest c.partition_point-len.result c.partition_point-len.ensures.bound (λ k d low lt. leb-true _ _ (point.0 k d low lt)))
+    (all-dropped (λ f. id < of f) rest c.partition_point-len.result (λ k d le lt. leb-false _ _ (point.1 k d le lt)))
