@@ -33,6 +33,7 @@ bench: ## times the programs that were built last: bench/README.md
 	@test -x $(PROGRAM) || $(MAKE) build
 	@test -x $(BENCH) || tools/build calls_bench all
 	@bench/durable $(PROGRAM)
+	@bench/appends $(PROGRAM)
 	@bench/queries $(PROGRAM)
 	@bench/commits $(BENCH)
 	@bench/records $(BENCH)
