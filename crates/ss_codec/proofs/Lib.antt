@@ -1,3 +1,4 @@
 mod FieldLemmas
+mod FieldOrder
 pub mod RecordLemmas
 mod Rows

@@ -1,15 +1,15 @@
 -- Each valid record is what its spelling is read as.
-use Rattle.std.specs.Prelude.{◌≡◌, ◌↔◌, ℕ, ◌+◌, ◌-◌, ◌^◌, ◌<◌, ◌≤◌, ℤ, pos, negsuc, Bool, true, false, cond, IsTrue, FitsSigned, List, [], ◌∷◌}
+use Rattle.std.specs.Prelude.{◌≡◌, ◌↔◌, ℕ, ◌+◌, ◌-◌, ◌^◌, ◌<◌, ◌≤◌, ℤ, pos, negsuc, Bool, true, false, cond, IsTrue, FitsSigned, List}
 use Rattle.std.specs.Prelude.{length, replicate, slice_index, take, drop, Option, Some, None, IsSome, IfSome, IfNone, MatchOption}
-use Rattle.std.specs.Int.{cast_unsigned, w64, w128}
+use Rattle.std.specs.Int.{w64, w128}
 use Rattle.std.specs.Str.{bytes_eq}
-use Rattle.std.proofs.Common.{arith, refl, sym, ap, ◌∙◌, lit≤, lit<}
+use Rattle.std.proofs.Common.{arith, refl, sym, ap, ◌∙◌, lit<}
 use Rattle.std.proofs.lemmas.List.{length-drop, length-replicate, length-take}
 use Rattle.std.proofs.lemmas.Int.{ints}
 use Rattle.std.proofs.lemmas.Bool.Decides.{nat_tests}
 use Rattle.std.proofs.lemmas.Slice.Eq.{bytes_eq-Decides}
-use Rattle.ss_fields.specs.Fields.{number_at, number_bytes}
-use Rattle.ss_fields.proofs.FieldLemmas.{length-number_bytes, number_at-take, i64_at-take, i128_at-take}
+use Rattle.ss_fields.specs.Fields.{number_at}
+use Rattle.ss_fields.proofs.FieldLemmas.{number_at-take, i64_at-take, i128_at-take}
 use Rattle.ss_summary.specs.Figures.{Figures, IsPossible}
 use Rattle.ss_summary.specs.Possible.{is_possible, fits_i64}
 use Rattle.ss_summary.specs.declared.summary.TheConstants.{GREATEST_COUNT}
@@ -24,7 +24,8 @@ use Rattle.ss_codec.specs.declared.record.Record.{Record}
 use Rattle.ss_codec.specs.declared.record.Record.TheVariants.{Free, Stream, Window, Landmark, Value}
 use Rattle.ss_codec.specs.Record.{is_interval, is_valid, family, parameters, state, closing, fields, spelling, Spells}
 use Rattle.ss_codec.specs.Decoded.{checked, decoded, finish_in, landmark_in, params_in, record_in, stream_in, value_in, window_in}
-use Rattle.ss_codec.proofs.FieldLemmas.{IsWithin, AreInOrder, HasFields, HasFields-with_fields, slice_index-part}
+use Rattle.ss_codec.proofs.FieldLemmas.{AreInOrder, HasFields, HasFields-with_fields, slice_index-part}
+use Rattle.ss_codec.proofs.FieldOrder.{landmark-in_order, stream-in_order, value-in_order, window-in_order}
 
 not_true : (b : Bool) → (b ≡ true → ⊥) → b ≡ false
 not_true true never = absurd (never refl)
@@ -157,150 +158,6 @@ unfolding is_valid
 is_valid-IsValue id number index t v stream low high index_low index_high early fits =
     let test = true-fits v fits in
     grind (arith, nat_tests)
-
--- a field of a number lies within a slot
-number-within : (n place value : ℕ) → place + n ≤ 128 → IsWithin 128 (record { place = place; size = n; bytes = number_bytes n value })
-number-within n place value inside = record { whole = length-number_bytes n value; inside = inside }
-
-byte-within : (place value : ℕ) → place + 1 ≤ 128 → IsWithin 128 (record { place = place; size = 1; bytes = value ∷ [] })
-byte-within place value inside = record { whole = refl; inside = inside }
-
-stream-in_order : (id : ℕ) (name : List ℕ) (params : Params) → length name ≤ 32 → AreInOrder 128 0 (fields (Stream id name params))
-stream-in_order id name params short =
-    let numbers = parameters params in (
-      lit≤ tt,
-      byte-within 0 1 (lit≤ tt),
-      (
-        lit≤ tt,
-        byte-within 1 (family params) (lit≤ tt),
-        (
-          lit≤ tt,
-          byte-within 2 (length name) (lit≤ tt),
-          (
-            lit≤ tt,
-            number-within 4 4 id (lit≤ tt),
-            (
-              lit≤ tt,
-              number-within 4 8 numbers.0 (lit≤ tt),
-              (
-                lit≤ tt,
-                number-within 4 12 numbers.1 (lit≤ tt),
-                (
-                  lit≤ tt,
-                  number-within 4 16 numbers.2 (lit≤ tt),
-                  (
-                    lit≤ tt,
-                    number-within 4 20 numbers.3 (lit≤ tt),
-                    (
-                      lit≤ tt,
-                      record { whole = refl; inside = omega arith },
-                      tt,
-                    ),
-                  ),
-                ),
-              ),
-            ),
-          ),
-        ),
-      ),
-    )
-
-window-in_order : (id first : ℕ) (f : Figures) → AreInOrder 128 0 (fields (Window id first f))
-window-in_order id first f = (
-  lit≤ tt,
-  byte-within 0 2 (lit≤ tt),
-  (
-    lit≤ tt,
-    number-within 4 4 id (lit≤ tt),
-    (
-      lit≤ tt,
-      number-within 8 8 first (lit≤ tt),
-      (
-        lit≤ tt,
-        number-within 8 16 f.count (lit≤ tt),
-        (
-          lit≤ tt,
-          number-within 16 24 (cast_unsigned w128 f.sum) (lit≤ tt),
-          (
-            lit≤ tt,
-            number-within 8 40 (cast_unsigned w64 f.min) (lit≤ tt),
-            (
-              lit≤ tt,
-              number-within 8 48 (cast_unsigned w64 f.max) (lit≤ tt),
-              (
-                lit≤ tt,
-                number-within 8 56 f.t_first (lit≤ tt),
-                (
-                  lit≤ tt,
-                  number-within 8 64 f.t_last (lit≤ tt),
-                  tt,
-                ),
-              ),
-            ),
-          ),
-        ),
-      ),
-    ),
-  ),
-)
-
-landmark-in_order : (id number values start : ℕ) (finish : Option ℕ) → AreInOrder 128 0 (fields (Landmark id number values start finish))
-landmark-in_order id number values start finish = (
-  lit≤ tt,
-  byte-within 0 3 (lit≤ tt),
-  (
-    lit≤ tt,
-    byte-within 1 (state finish) (lit≤ tt),
-    (
-      lit≤ tt,
-      number-within 4 4 id (lit≤ tt),
-      (
-        lit≤ tt,
-        number-within 4 8 number (lit≤ tt),
-        (
-          lit≤ tt,
-          number-within 4 12 values (lit≤ tt),
-          (
-            lit≤ tt,
-            number-within 8 16 start (lit≤ tt),
-            (
-              lit≤ tt,
-              number-within 8 24 (closing finish) (lit≤ tt),
-              tt,
-            ),
-          ),
-        ),
-      ),
-    ),
-  ),
-)
-
-value-in_order : (id number index t : ℕ) (v : ℤ) → AreInOrder 128 0 (fields (Value id number index t v))
-value-in_order id number index t v = (
-  lit≤ tt,
-  byte-within 0 4 (lit≤ tt),
-  (
-    lit≤ tt,
-    number-within 4 4 id (lit≤ tt),
-    (
-      lit≤ tt,
-      number-within 4 8 number (lit≤ tt),
-      (
-        lit≤ tt,
-        number-within 4 12 index (lit≤ tt),
-        (
-          lit≤ tt,
-          number-within 8 16 t (lit≤ tt),
-          (
-            lit≤ tt,
-            number-within 8 24 (cast_unsigned w64 v) (lit≤ tt),
-            tt,
-          ),
-        ),
-      ),
-    ),
-  ),
-)
 
 -- parameters in range fit their fields
 record AreSmall (params : Params) : Type 0 where

@@ -128,7 +128,8 @@ brings-accepted history event is = ap (λ r. unless_refused r (accepted_event hi
 
 -- which of the two it is, by what the store answers
 pub not_refused : (result : Result Ack ApplyError) (refusal : Option Refusal) →
-    ((r : Refusal) → (result ≡ Err (errors.Refused r)) ↔ (refusal ≡ Some r)) → ((r : Refusal) → result ≡ Err (errors.Refused r) → ⊥) → refusal ≡ None
+    ((r : Refusal) → (result ≡ Err (errors.Refused r)) ↔ (refusal ≡ Some r)) → ((r : Refusal) → result ≡ Err (errors.Refused r) → ⊥) →
+    refusal ≡ None
 not_refused result None why other = refl
 not_refused result (Some r) why other = absurd (other r ((why r).1 refl))
 
@@ -159,14 +160,15 @@ brings-answered history query outcome none is =
     ap (λ r. unless_refused r (shown (answered (outcome_of (state history) query)))) none ∙ ap (λ o. shown (answered o)) is
 
 -- what is refused by what the store holds
-pub refuses_query-kept : (store : StoreState) (content : List ℕ) (history : History) (query : Query) → StoreIsKept store content → Stands history content →
-    refuses_query (state history) query ≡ refuses_query_held store.streams query
+pub refuses_query-kept : (store : StoreState) (content : List ℕ) (history : History) (query : Query) → StoreIsKept store content →
+    Stands history content → refuses_query (state history) query ≡ refuses_query_held store.streams query
 refuses_query-kept store content history query kept stands =
     sym (refuses_query_held-is store.streams (state history) query (AllAgree-recovered store content (state history) kept stands.state).0)
 
 -- which of the two it is, by what the store answers
 pub not_unanswered : (result : Result Outcome AskError) (refusal : Option Refusal) →
-    ((r : Refusal) → (result ≡ Err (asking.Refused r)) ↔ (refusal ≡ Some r)) → ((r : Refusal) → result ≡ Err (asking.Refused r) → ⊥) → refusal ≡ None
+    ((r : Refusal) → (result ≡ Err (asking.Refused r)) ↔ (refusal ≡ Some r)) → ((r : Refusal) → result ≡ Err (asking.Refused r) → ⊥) →
+    refusal ≡ None
 not_unanswered result None why other = refl
 not_unanswered result (Some r) why other = absurd (other r ((why r).1 refl))
 
@@ -369,5 +371,6 @@ AppendsLess-after before held after a b c is less = (
   length a + less.0,
   omega (arith, less.1, length-append a (b ++ c), length-append b c),
   less.2 ∙ ap (λ o. appended o (take less.0 b)) is ∙ appended-appended before a (take less.0 b)
-      ∙ ap (λ bs. appended before bs) (ap (λ bs. a ++ bs) (sym (take-append-le less.0 b c (omega (arith, less.1)))) ∙ sym (take-append-add a (b ++ c) less.0)),
+      ∙ ap (λ bs. appended before bs) (ap (λ bs. a ++ bs) (sym (take-append-le less.0 b c (omega (arith, less.1))))
+      ∙ sym (take-append-add a (b ++ c) less.0)),
 )

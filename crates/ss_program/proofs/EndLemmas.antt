@@ -1,5 +1,6 @@
 -- How a run ends.
-use Rattle.std.proofs.Common.{◌≡◌, ◌⊎◌, inl, inr, ℕ, List, Option, Some, None, Ok, Err, Result, Bool, IsSome, cond, nat_eq, refl, sym, ap, ◌∙◌, subst}
+use Rattle.std.proofs.Common.{◌≡◌, ◌⊎◌, inl, inr, ℕ, List, Option, Some, None, Ok, Err, Result, Bool, IsSome, cond}
+use Rattle.std.proofs.Common.{nat_eq, refl, sym, ap, ◌∙◌, subst}
 use Rattle.std.specs.Prelude.{IsTrue}
 use Rattle.ss_arguments.specs.Modes.{mode_of}
 use Rattle.ss_arguments.specs.declared.mode.Mode.{Mode}
@@ -46,8 +47,8 @@ pub judged-refused : (content : List ℕ) → IsRefusedContent content → (stre
 judged-refused content some streams is = not-refused content streams is some
 
 -- Opening, or surveying, answered an error, of which nothing or a line was said.
-open-refuses : (error : OpenError) (old new : Told) (before after : Option (List ℕ)) (had has : ℕ) → OpensAs old.content (Err error) → OnlyReads old new →
-    AsRefused error before after had has → Refuses before after (status_of_open error) old new
+open-refuses : (error : OpenError) (old new : Told) (before after : Option (List ℕ)) (had has : ℕ) → OpensAs old.content (Err error) →
+    OnlyReads old new → AsRefused error before after had has → Refuses before after (status_of_open error) old new
 open-refuses opening.Disk old new before after had has opens reads said = record { how = inr (inl refl); unwritten = reads; silent = λ _. said.0 }
 open-refuses opening.OutOfMemory old new before after had has opens reads said = record { how = inr (inr refl); unwritten = reads; silent = λ _. said.0 }
 open-refuses opening.NotAStore old new before after had has opens reads said = record {
@@ -79,8 +80,8 @@ open-refuses (opening.Changed slot) old new before after had has opens reads sai
 Ends-refused : (error : OpenError) (line : List ℕ) (old new : DiskView) (before after : Option (List ℕ)) (had has : ℕ) → new.tells ≡ old.tells →
     new.faults ≡ old.faults → (IsTrue old.tells → OpensAs old.told.content (Err error)) →
     (IsTrue old.tells → IsRefusedContent old.told.content → OnlyReads old.told new.told) → AsRefused error before after had has →
-    (IsTrue old.tells → refusal_line (recover old.told.content) ≡ Some line) → SaysLine line before after had has → status_of_open error ≡ RefusedStore →
-    Ends (over old before had) (over new after has) RefusedStore
+    (IsTrue old.tells → refusal_line (recover old.told.content) ≡ Some line) → SaysLine line before after had has →
+    status_of_open error ≡ RefusedStore → Ends (over old before had) (over new after has) RefusedStore
 Ends-refused error line old new before after had has tells counted opens reads said is_line says status =
     let refused = λ (told : IsTrue old.tells). subst (λ o. IsSome o) (sym (is_line told)) refl in
     record {
@@ -140,7 +141,8 @@ Ends-unopened T (opening.BadEntry n) old new before after had has tells counted 
 Ends-unopened T (opening.BadSlot n) old new before after had has tells counted opens reads said =
     Ends-refused (opening.BadSlot n) _ old new before after had has tells counted opens reads said (λ told. ap (λ f. refusal_line f) (opens told)) said refl
 Ends-unopened T (opening.BadStream id) old new before after had has tells counted opens reads said =
-    Ends-refused (opening.BadStream id) _ old new before after had has tells counted opens reads said (λ told. ap (λ f. refusal_line f) (opens told)) said refl
+    Ends-refused (opening.BadStream id) _ old new before after had has tells counted opens reads said
+    (λ told. ap (λ f. refusal_line f) (opens told)) said refl
 
 -- how a run ends whose store was opened
 serving-other : (tells : Bool) (status : Status) → EndsServing tells status →
@@ -237,7 +239,8 @@ status_at-number RecordChanged = refl
 pub one-status : (number : ℕ) (a b : Status) → EndsAs number a → EndsAs number b → a ≡ b
 one-status number a b is_a is_b = sym (status_at-number a) ∙ ap (λ n. status_at n) (sym is_a ∙ is_b) ∙ status_at-number b
 
-pub by-number : (P : Status → Type 0) (number : ℕ) (actual : Status) → EndsAs number actual → P actual → (status : Status) → EndsAs number status → P status
+pub by-number : (P : Status → Type 0) (number : ℕ) (actual : Status) → EndsAs number actual → P actual → (status : Status) →
+    EndsAs number status → P status
 by-number P number actual is has status other = subst P (one-status number actual status is other) has
 
 -- what a survey answers where it is refused

@@ -58,7 +58,7 @@ use Rattle.ss_program.specs.declared.generate.Tally.{Tally}
 use Rattle.ss_program.specs.declared.status.Status.{Status}
 use Rattle.ss_program.specs.declared.status.Status.TheVariants.{Done, SinkFault}
 use Rattle.ss_outside.specs.declared.source.Failed.{Failed}
-use Rattle.ss_program.proofs.RunLemmas.{unopened}
+use Rattle.ss_program.proofs.OpeningLemmas.{unopened}
 use Rattle.ss_program.proofs.HeldLemmas.{StandsForFirst-within}
 use Rattle.ss_program.proofs.SendLemmas.{AppendsFront-all, appended-appended, appended-nil}
 use Rattle.ss_program.proofs.SessionLemmas.{StandsWithin-all, after_lines-accepted, after_lines-push, replies-append}
@@ -140,16 +140,18 @@ pub record IsAt (history : History) (seed count : ℕ) (left : List Command) (ol
   pub all : commands seed count ≡ done ++ left
   pub ran : HasRun history (map printed done) old new tally
 
-pub IsAt-start : (history : History) (seed count : ℕ) (left : List Command) (disk : Told) (tally : Tally) → left ≡ commands seed count → KnowsNow disk →
-    NothingPending disk → Stands history disk.content → Tallies 0 [] tally → IsAt history seed count left disk disk tally
+pub IsAt-start : (history : History) (seed count : ℕ) (left : List Command) (disk : Told) (tally : Tally) → left ≡ commands seed count →
+    KnowsNow disk → NothingPending disk → Stands history disk.content → Tallies 0 [] tally → IsAt history seed count left disk disk tally
 IsAt-start history seed count left disk tally all knows none stands tallies =
     record { done = []; all = sym all; ran = HasRun-start history disk tally knows none stands tallies }
 
-pub IsAt-more : (history : History) (seed count : ℕ) (left rest : List Command) (command : Command) (old mid new : Told) (reply : Reply) (before after : Tally)
+pub IsAt-more : (history : History) (seed count : ℕ) (left rest : List Command) (command : Command) (old mid new : Told) (reply : Reply)
+    (before after : Tally)
     (at : IsAt history seed count left old mid before) → left ≡ command ∷ rest → IsSayable command →
     Adds (after_lines history (map printed at.done)) (command_brings (after_lines history (map printed at.done)) command) mid new (Ok reply) →
     (command_brings (after_lines history (map printed at.done)) command).replies ≡ reply ∷ [] →
-    ((lines : ℕ) (all : List Reply) → Tallies lines all before → Tallies (lines + 1) (all ++ reply ∷ []) after) → IsAt history seed count rest old new after
+    ((lines : ℕ) (all : List Reply) → Tallies lines all before → Tallies (lines + 1) (all ++ reply ∷ []) after) →
+    IsAt history seed count rest old new after
 IsAt-more history seed count left rest command old mid new reply before after at next sayable adds one tallies =
     let ls = map printed at.done in
     record {
@@ -182,8 +184,8 @@ IsAt-end history seed count left old new tally at none =
     subst (λ cs. HasRun history (map printed cs) old new tally) (sym (at.all ∙ ap (λ cs. at.done ++ cs) none ∙ append-nil at.done)) at.ran
 
 -- a text was sent, and then another, or less than it
-pub Sends-then : (before held after : Option (List ℕ)) (a b : List ℕ) (sent : Result (Unit {0}) Failed) → held ≡ appended before a → Sends held after b sent →
-    Sends before after (a ++ b) sent
+pub Sends-then : (before held after : Option (List ℕ)) (a b : List ℕ) (sent : Result (Unit {0}) Failed) → held ≡ appended before a →
+    Sends held after b sent → Sends before after (a ++ b) sent
 Sends-then before held after a b (Ok u) is sends = sends ∙ ap (λ o. appended o b) is ∙ appended-appended before a b
 Sends-then before held after a b (Err e) is less = (
   length a + less.0,
@@ -210,8 +212,8 @@ counts-tallied seed count lines all tally tallies =
 
 -- the counts were sent, and then the last replies, or less than these
 pub Sends-summary : (before held after : Option (List ℕ)) (seed count lines : ℕ) (all : List Reply) (tally : Tally) (sent : Result (Unit {0}) Failed) →
-    Tallies lines all tally → held ≡ appended before (counts_of seed count tally.lines tally.done tally.refused) → SendsRows held after tally.last.items sent →
-    Sends before after (summary_of seed count lines all) sent
+    Tallies lines all tally → held ≡ appended before (counts_of seed count tally.lines tally.done tally.refused) →
+    SendsRows held after tally.last.items sent → Sends before after (summary_of seed count lines all) sent
 Sends-summary before held after seed count lines all tally sent tallies is rows =
     Sends-then before held after (counts_of seed count lines (count_by is_done all) (count_by is_refused all)) (flat_map reply_line (last_six all)) sent
     (is ∙ ap (λ bs. appended before bs) (counts-tallied seed count lines all tally tallies))
@@ -230,7 +232,8 @@ pub StandsForGenerated-within : (history : History) (seed count : ℕ) (image : 
 StandsForGenerated-within history seed count image within = StandsForFirst-within history (generated seed count) image within
 
 -- the run stopped at a command, or before the first, or the sink failed at the summary
-pub Generates-stop : (history : History) (seed count : ℕ) (before after : Option (List ℕ)) (old new : Told) (status : Status) → (status ≡ Done → ⊥) →
+pub Generates-stop : (history : History) (seed count : ℕ) (before after : Option (List ℕ)) (old new : Told) (status : Status) →
+    (status ≡ Done → ⊥) →
     ((status ≡ SinkFault → ⊥) → after ≡ before) → KnowsNow new → AppendsFront before after (summary history seed count) →
     LeavesOnly old new (StandsWithin history (generated seed count)) → Generates history seed count before after old new status
 Generates-stop history seed count before after old new status going silent knows front run =
@@ -283,8 +286,8 @@ Generates-opened history seed count before after old mid new status opened run =
 
 -- the store wasn't opened
 pub Generates-unopened : (history : History) (seed count : ℕ) (before after : Option (List ℕ)) (had has : ℕ) (old new : Told) (error : OpenError) →
-    OpensAs old.content (Err error) → Stands history old.content → AsRefused error before after had has → KnowsNow new → LeavesOnly old new (Stands history) →
-    Generates history seed count before after old new (status_of_open error)
+    OpensAs old.content (Err error) → Stands history old.content → AsRefused error before after had has → KnowsNow new →
+    LeavesOnly old new (Stands history) → Generates history seed count before after old new (status_of_open error)
 Generates-unopened history seed count before after had has old new error opens stands said knows opened =
     let un = unopened old.content (state history) before after had has error stands.state opens said in
     Generates-stop history seed count before after old new (status_of_open error) un.1 (λ _. un.0) knows (0, un.0 ∙ sym (appended-nil before))

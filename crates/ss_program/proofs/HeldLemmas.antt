@@ -155,13 +155,15 @@ acks-done history (line ∷ done) others k bytes cuts is =
     ∙ sym (length-append event (accepted rest done))
 
 -- how many bytes are new
-new_bytes : (had has a b : List ℕ) (k : ℕ) → Some has ≡ appended (appended (Some had) a) (take k b) → k ≤ length b → length has - length had ≡ length a + k
+new_bytes : (had has a b : List ℕ) (k : ℕ) → Some has ≡ appended (appended (Some had) a) (take k b) → k ≤ length b →
+    length has - length had ≡ length a + k
 new_bytes had has a b k is within =
     let same : has ≡ (had ++ a) ++ take k b = cc in
     omega (arith, ap (λ (bs : List ℕ). length bs) same, length-append (had ++ a) (take k b), length-append had a, length-take-le k b within)
 
 -- all lines before some others were answered
-pub HoldsReported-done : (history : History) (input : List ℕ) (before after : Option (List ℕ)) (disk : Told) (status : Status) (done others : List (List ℕ)) →
+pub HoldsReported-done : (history : History) (input : List ℕ) (before after : Option (List ℕ)) (disk : Told) (status : Status)
+    (done others : List (List ℕ)) →
     lines input ≡ done ++ others → after ≡ appended before (text_of history done) →
     ((image : List ℕ) → disk.may_leave image → Stands (after_lines history done) image) → (status ≡ Done → others ≡ []) →
     HoldsReported history input before after disk status
@@ -183,7 +185,8 @@ HoldsReported-done history input before after disk status done others are sent e
 
 -- what a stop leaves of what a line brings is so many bytes of its text
 stop-bytes : (brought : Brought) (before after : Option (List ℕ)) (status : Status) → StopsWith brought before after status →
-    (k : ℕ) × (k ≤ length (text_brought brought)) × ((k ≡ 0) ⊎ (k < length (text_brought brought))) × (after ≡ appended before (take k (text_brought brought)))
+    (k : ℕ) × (k ≤ length (text_brought brought)) × ((k ≡ 0) ⊎ (k < length (text_brought brought)))
+    × (after ≡ appended before (take k (text_brought brought)))
 stop-bytes brought before after SinkFault stop = (stop.0, omega (arith, stop.1), inr stop.1, stop.2)
 stop-bytes brought before after DiskFault stop = (stop.0, omega (arith, stop.1), inr stop.1, stop.2)
 stop-bytes brought before after RecordChanged stop = (stop.0, omega (arith, stop.1), inr stop.1, stop.2)
@@ -199,8 +202,8 @@ one-event : (event : Option Event) → length (the_event event) ≤ 1
 one-event None = omega arith
 one-event (Some event) = omega arith
 
-awake : (history : History) (brought : Brought) (status : Status) (image : List ℕ) → (status ≡ OutOfMemory → ⊥) → StandsAround history brought image →
-    Stands history image ⊎ (Stands (history_after history brought) image × (status ≡ OutOfMemory → ⊥))
+awake : (history : History) (brought : Brought) (status : Status) (image : List ℕ) → (status ≡ OutOfMemory → ⊥) →
+    StandsAround history brought image → Stands history image ⊎ (Stands (history_after history brought) image × (status ≡ OutOfMemory → ⊥))
 awake history brought status image other (inl is) = inl is
 awake history brought status image other (inr is) = inr (is, other)
 
@@ -260,8 +263,10 @@ HoldsAcked-around history done others line k bytes status image cuts is going (i
       starved = λ memory. absurd (more_stands.1 memory);
     }
 
-pub HoldsReported-stop : (history : History) (input : List ℕ) (before after : Option (List ℕ)) (disk : Told) (status : Status) (ls others : List (List ℕ)) →
-    lines input ≡ ls ++ others → StopsAt history ls before after disk status → (status ≡ Done → ⊥) → HoldsReported history input before after disk status
+pub HoldsReported-stop : (history : History) (input : List ℕ) (before after : Option (List ℕ)) (disk : Told) (status : Status)
+    (ls others : List (List ℕ)) →
+    lines input ≡ ls ++ others → StopsAt history ls before after disk status → (status ≡ Done → ⊥) →
+    HoldsReported history input before after disk status
 HoldsReported-stop history input before after disk status ls others are at going had has is_had is_has image left =
     let here = text_of history at.done in
     let brought = brings (after_lines history at.done) at.line in

@@ -7,6 +7,7 @@ pub mod TakesLemmas
 pub mod RowLemmas
 pub mod HeldLemmas
 pub mod RunLemmas
+pub mod OpeningLemmas
 pub mod EndLemmas
 pub mod GenerateLemmas
 pub mod LawLemmas

@@ -60,14 +60,15 @@ pub Sends-one : (before after : Option (List ℕ)) {E : Type 0} (reply : Reply) 
     Sends before after (flat_map reply_line (reply ∷ [])) sent
 Sends-one before after reply sent sends = subst (λ bs. Sends before after bs sent) (sym (append-nil (reply_line reply))) sends
 
-pub Sends-only : (before after : Option (List ℕ)) (brought : Brought) {E : Type 0} (reply : Reply) (sent : Result (Unit {0}) E) → brought.replies ≡ reply ∷ [] →
-    Sends before after (reply_line reply) sent → Sends before after (text_brought brought) sent
+pub Sends-only : (before after : Option (List ℕ)) (brought : Brought) {E : Type 0} (reply : Reply) (sent : Result (Unit {0}) E) →
+    brought.replies ≡ reply ∷ [] → Sends before after (reply_line reply) sent → Sends before after (text_brought brought) sent
 Sends-only before after brought reply sent one sends =
     subst (λ rs. Sends before after (flat_map reply_line rs) sent) (sym one) (Sends-one before after reply sent sends)
 
 -- a head was sent, and then its rows
 pub Sends-head : (before held after : Option (List ℕ)) (head : Reply) (rows : List Reply) {E : Type 0} (sent : Result (Unit {0}) E) →
-    held ≡ appended before (reply_line head) → Sends held after (flat_map reply_line rows) sent → Sends before after (flat_map reply_line (head ∷ rows)) sent
+    held ≡ appended before (reply_line head) → Sends held after (flat_map reply_line rows) sent →
+    Sends before after (flat_map reply_line (head ∷ rows)) sent
 Sends-head before held after head rows (Ok u) is sends =
     sends ∙ ap (λ o. appended o (flat_map reply_line rows)) is ∙ appended-appended before (reply_line head) (flat_map reply_line rows)
 Sends-head before held after head rows (Err e) is sends =
@@ -257,8 +258,8 @@ pub rows-cut-sent : {P : Type 0} (part : Option P) (entries_of : P → List (At 
     (before held after : Option (List ℕ)) (window : Placed) → o ≡ Some s → IsSome part →
     IfSome part (λ p. held ≡ appended before (flat_map reply_line (take (index_of (entries_of p) at) (window_rows s)))) →
     IfSome part (λ p. IfSome o (λ x. slice_get (map placed_of x.windows) (index_of (entries_of p) at) ≡ Some window)) →
-    (sent : Result Unit Failed) → IsErr sent → Sends held after (reply_line (Window window)) sent → Sends before after (flat_map reply_line (window_rows s))
-    sent
+    (sent : Result Unit Failed) → IsErr sent → Sends held after (reply_line (Window window)) sent →
+    Sends before after (flat_map reply_line (window_rows s)) sent
 rows-cut-sent part entries_of at s o before held after window is some so_far row (Ok u) failed less = cc
 rows-cut-sent part entries_of at s o before held after window is some so_far row (Err e) failed less =
     rows-cut part entries_of at s o before held after window is some so_far row less
@@ -271,8 +272,8 @@ unread before held rows index inside so_far = elim (slice_get_cases rows index).
   | inr past ↦ absurd (omega (arith, past.0, inside))
 ]
 
-pub rows-unread : {P : Type 0} (part : Option P) (entries_of : P → List (At × Entry)) (at : At) (s : Stream) (before held : Option (List ℕ)) → IsSome part →
-    IfSome part (λ p. StandsIn (entries_of p) at) → IfSome part (λ p. length (entries_of p) ≡ length s.windows) →
+pub rows-unread : {P : Type 0} (part : Option P) (entries_of : P → List (At × Entry)) (at : At) (s : Stream) (before held : Option (List ℕ)) →
+    IsSome part → IfSome part (λ p. StandsIn (entries_of p) at) → IfSome part (λ p. length (entries_of p) ≡ length s.windows) →
     IfSome part (λ p. held ≡ appended before (flat_map reply_line (take (index_of (entries_of p) at) (window_rows s)))) →
     AppendsLess before held (flat_map reply_line (window_rows s))
 rows-unread None entries_of at s before held some stands all so_far = cc
@@ -280,8 +281,8 @@ rows-unread (Some p) entries_of at s before held some stands all so_far =
     unread before held (window_rows s) (index_of (entries_of p) at) (omega (arith, stands, all, length-map s.windows (λ w. Window (placed_of w)))) so_far
 
 -- all were sent where none is next
-pub rows-end : {P : Type 0} (part : Option P) (entries_of : P → List (At × Entry)) (next : Option At) (s : Stream) (before held : Option (List ℕ)) → IsSome
-    part →
+pub rows-end : {P : Type 0} (part : Option P) (entries_of : P → List (At × Entry)) (next : Option At) (s : Stream) (before held : Option (List ℕ)) →
+    IsSome part →
     next ≡ None → IfSome part (λ p. length (entries_of p) ≡ length s.windows) →
     IfSome part (λ p. held ≡ appended before (flat_map reply_line (take (rows_done (entries_of p) next) (window_rows s)))) →
     held ≡ appended before (flat_map reply_line (window_rows s))

@@ -57,7 +57,8 @@ readings =
     ∷ codes "append a 50 9" ∷ codes "append a 60 2" ∷ codes "append a 70 7" ∷ codes "windows a" ∷ codes "list" ∷ [])
 
 report-readings : report [] readings
-    ≡ text (codes "ok 0 0" ∷ codes "ok 1 1" ∷ codes "ok 2 2" ∷ codes "ok 3 2" ∷ codes "ok 4 3" ∷ codes "ok 5 3" ∷ codes "ok 6 4" ∷ codes "ok 7 3"
+    ≡ text (codes "ok 0 0" ∷ codes "ok 1 1" ∷ codes "ok 2 2" ∷ codes "ok 3 2" ∷ codes "ok 4 3" ∷ codes "ok 5 3" ∷ codes "ok 6 4"
+    ∷ codes "ok 7 3"
     ∷ codes "windows 3" ∷ codes "1 4 4 11 -3 8 10 40" ∷ codes "5 6 2 11 2 9 50 60" ∷ codes "7 7 1 7 7 7 70 70"
     ∷ codes "list 1" ∷ codes "a exp 2 1 1 7 3 0 0" ∷ [])
 unfolding ended_lines unended meaning words is_number number_of number_up_to signed_of is_name state refuses refuses_reading index_of digits
@@ -77,7 +78,8 @@ accepted-readings = refl
 abbrev mistakes : List ℕ
 mistakes =
     text (codes "create a exp 2 1 1" ∷ codes "create a exp 1 1 1" ∷ codes "append x 1 1" ∷ codes "append x y 1" ∷ codes "append x! 1 1"
-    ∷ codes "append a 70 1" ∷ codes "windows" ∷ codes "windows x" ∷ [] ∷ codes "# note" ∷ codes "create b exp 2 1 4" ∷ []) ++ codes "append a 80 -1"
+    ∷ codes "append a 70 1" ∷ codes "windows" ∷ codes "windows x" ∷ [] ∷ codes "# note" ∷ codes "create b exp 2 1 4" ∷ [])
+    ++ codes "append a 80 -1"
 
 report-mistakes : report history mistakes
     ≡ text (codes "refused EXISTS" ∷ codes "refused PARAM" ∷ codes "refused UNKNOWN" ∷ codes "refused NUMBER" ∷ codes "refused NAME"

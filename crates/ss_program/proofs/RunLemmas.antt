@@ -37,22 +37,15 @@ use Rattle.std.proofs.Math.Seq.{take-add}
 use Rattle.std.proofs.lemmas.List.{append-nil, drop-drop, drop_all, length-take-le, take-append-drop}
 use Rattle.ss_command.specs.Lines.{lines, lines_so_far, unended, unless_empty, without_return}
 use Rattle.ss_command.proofs.LineLemmas.{lines-front}
-use Rattle.ss_outside.proofs.CrashLemmas.{joined, now, of_content, weaker}
+use Rattle.ss_outside.proofs.CrashLemmas.{joined, of_content}
 use Rattle.ss_outside.specs.Crash.{KnowsNow, LeavesOnly}
 use Rattle.ss_outside.specs.Disk.{Told}
 use Rattle.ss_outside.specs.Source.{Moves}
 use Rattle.ss_outside.specs.declared.source.Failed.{Failed}
-use Rattle.ss_model.specs.State.{Stream, state}
-use Rattle.ss_store.specs.Causes.{OpensAs}
-use Rattle.ss_store.specs.Recover.{Recovers, Stands, no_store, damaged_entry, damaged_slot, damaged_stream, recovers}
-use Rattle.ss_store.specs.Surveyed.{SurveysAs, survey_of}
-use Rattle.ss_store.specs.declared.error.OpenError.{OpenError}
-use Rattle.ss_store.specs.declared.error.OpenError.TheVariants as opening
-use Rattle.ss_store.specs.declared.surveying.Survey.{Survey}
+use Rattle.ss_store.specs.Recover.{Stands}
 use Rattle.ss_program.specs.Line.{History}
 use Rattle.ss_program.specs.Outcome.{Moved, Reports, Reads, Serves, Stopped, Took, lines_within}
 use Rattle.ss_program.specs.Progress.{EndsWell, GoesOn, HasReplied, HasTaken, SessionState, StandsWithin, StopsIn}
-use Rattle.ss_program.specs.Refused.{AsRefused, status_of_open}
 use Rattle.ss_program.specs.Sent.{appended, AppendsFront}
 use Rattle.ss_program.specs.Session.{after_lines, report, report_so_far, text_of}
 use Rattle.ss_program.specs.Status.{IsStop}
@@ -70,7 +63,7 @@ use Rattle.ss_program.specs.declared.status.Status.TheVariants.{
   RecordChanged,
 }
 use Rattle.ss_program.proofs.HeldLemmas.{HoldsReported-done, HoldsReported-stop}
-use Rattle.ss_program.proofs.SendLemmas.{AppendsFront-all, appended-nil}
+use Rattle.ss_program.proofs.SendLemmas.{AppendsFront-all}
 use Rattle.ss_program.proofs.SessionLemmas.{after_lines-accepted, front-report, StopsAt-more, StopsAt-front}
 use Rattle.ss_program.proofs.TakeLemmas.{GoesOn-start, GoesOn-then, StopsIn-more, StopsIn-then, any_moment-more}
 
@@ -83,12 +76,14 @@ moved (Some bytes) after count into left moves is =
     subst (λ bs. (count ≤ length bs) × (take count into ≡ take count bs) × (after ≡ Some (drop count bs))) same (moves.0, moves.2, moves.3)
 
 -- and what one that failed left
-pub unmoved : (before after : Option (List ℕ)) (e : Failed) (into left : List ℕ) → Moves before after (Err e) into → before ≡ Some left → after ≡ Some left
+pub unmoved : (before after : Option (List ℕ)) (e : Failed) (into left : List ℕ) → Moves before after (Err e) into → before ≡ Some left →
+    after ≡ Some left
 unmoved None after e into left moves is = cc
 unmoved (Some bytes) after e into left moves is = moves ∙ is
 
 -- so many bytes of the input were taken since a moment, and the lines that end in them are answered
-pub record IsThrough (history : History) (start now : Told) (session : SessionState) (before held left : Option (List ℕ)) (input : List ℕ) (n : ℕ) : Type 0
+pub record IsThrough (history : History) (start now : Told) (session : SessionState) (before held left : Option (List ℕ)) (input : List ℕ)
+    (n : ℕ) : Type 0
   where
     pub within : n ≤ length input
     pub source : left ≡ Some (drop n input)
@@ -96,7 +91,8 @@ pub record IsThrough (history : History) (start now : Told) (session : SessionSt
 
 -- none were
 pub IsThrough-start : (history : History) (disk : Told) (session : SessionState) (before left : Option (List ℕ)) (input : List ℕ) → KnowsNow disk →
-    HasTaken history disk session [] → HasReplied history before before [] → left ≡ Some input → IsThrough history disk disk session before before left input 0
+    HasTaken history disk session [] → HasReplied history before before [] → left ≡ Some input →
+    IsThrough history disk disk session before before left input 0
 IsThrough-start history disk session before left input knows at replied source = record {
   within = omega arith;
   source = source;
@@ -126,8 +122,8 @@ pub record IsLeft (left : Option (List ℕ)) (input : List ℕ) (n : ℕ) : Type
   pub within : n ≤ length input
   pub source : left ≡ Some (drop n input)
 
-pub IsLeft-more : (left : Option (List ℕ)) (input : List ℕ) (n k : ℕ) → n ≤ length input → k ≤ length (drop n input) → left ≡ Some (drop k (drop n input)) →
-    IsLeft left input (n + k)
+pub IsLeft-more : (left : Option (List ℕ)) (input : List ℕ) (n k : ℕ) → n ≤ length input → k ≤ length (drop n input) →
+    left ≡ Some (drop k (drop n input)) → IsLeft left input (n + k)
 IsLeft-more left input n k within more source = record {
   within = omega (arith, within, more, length-drop n input);
   source = source ∙ ap (λ bs. Some bs) (drop-drop k n input);
@@ -141,8 +137,8 @@ pub left-none : (left : Option (List ℕ)) (rest : List ℕ) (k : ℕ) → rest 
 left-none left rest k none is = let short = ap (λ (bs : List ℕ). length bs) none in is ∙ ap (λ bs. Some bs) (drop_all k rest (omega (arith, short)))
 
 pub IsThrough-end : {history : History} {start now : Told} {session : SessionState} {before held left : Option (List ℕ)} {input : List ℕ} {n : ℕ}
-    (after_left : Option (List ℕ)) → IsThrough history start now session before held left input n → length input ≤ n → length input ≤ LONGEST_INPUT →
-    after_left ≡ Some [] → IsAtEnd history start now session before held after_left input
+    (after_left : Option (List ℕ)) → IsThrough history start now session before held left input n → length input ≤ n →
+    length input ≤ LONGEST_INPUT → after_left ≡ Some [] → IsAtEnd history start now session before held after_left input
 IsThrough-end {history = history} {start = start} {now = now} {session = session} {before = before} {held = held} {input = input} {n = n} after_left through
     all fits none = record {
       fits = fits;
@@ -266,7 +262,8 @@ Reports-stop history input left before after old new SourceFault front has stop 
 Reports-stop history input left before after old new InputLimit front has stop = absurd stop
 
 -- its status isn't that of a run that is done, nor that of an input that is too long
-pub stop-other : (tells : Bool) (status : Status) → IsStop tells status → (status ≡ Done → ⊥) × (status ≡ InputLimit → ⊥) × (status ≡ SourceFault → ⊥)
+pub stop-other : (tells : Bool) (status : Status) → IsStop tells status →
+    (status ≡ Done → ⊥) × (status ≡ InputLimit → ⊥) × (status ≡ SourceFault → ⊥)
 stop-other tells DiskFault stop = (λ is. cc, λ is. cc, λ is. cc)
 stop-other tells SinkFault stop = (λ is. cc, λ is. cc, λ is. cc)
 stop-other tells OutOfMemory stop = (λ is. cc, λ is. cc, λ is. cc)
@@ -278,12 +275,13 @@ stop-other tells SourceFault stop = absurd stop
 stop-other tells InputLimit stop = absurd stop
 
 -- and neither is it where the source failed
-pub end-other : (tells : Bool) (status : Status) → (status ≡ SourceFault) ⊎ IsStop tells status → (status ≡ Done → ⊥) × (status ≡ InputLimit → ⊥)
+pub end-other : (tells : Bool) (status : Status) → (status ≡ SourceFault) ⊎ IsStop tells status →
+    (status ≡ Done → ⊥) × (status ≡ InputLimit → ⊥)
 end-other tells status (inl fault) = (λ is. cc, λ is. cc)
 end-other tells status (inr stop) = let other = stop-other tells status stop in (other.0, other.1)
 
-pub Serves-stop : (history : History) (input : List ℕ) (left before after : Option (List ℕ)) (old new : Told) (tells : Bool) (status : Status) → IsTrue tells →
-    IsStop tells status → HasStopped history input left before after old new status → Serves history input left before after old new status
+pub Serves-stop : (history : History) (input : List ℕ) (left before after : Option (List ℕ)) (old new : Told) (tells : Bool) (status : Status) →
+    IsTrue tells → IsStop tells status → HasStopped history input left before after old new status → Serves history input left before after old new status
 Serves-stop history input left before after old new tells status told stop has =
     let all = lines-all input has.taken has.rest has.took.all in
     let ls = lines_within has.taken has.rest in
@@ -320,9 +318,10 @@ Serves-done {history = history} {start = start} {mid = mid} {before = before} {i
 -- the session was finished
 pub Serves-finish : {history : History} {start mid : Told} {session : SessionState} {before held left : Option (List ℕ)} {input : List ℕ} (new : Told)
     (after : Option (List ℕ))
-    (tells : Bool) (status : Status) → IsTrue tells → IsAtEnd history start mid session before held left input → (status ≡ Done) ⊎ IsStop tells status →
-    (status ≡ Done → EndsWell history (lines input) mid new before after) → (IsStop tells status → StopsIn history (lines input) mid new before after status) →
-    Serves history input left before after start new status
+    (tells : Bool) (status : Status) → IsTrue tells → IsAtEnd history start mid session before held left input →
+    (status ≡ Done) ⊎ IsStop tells status →
+    (status ≡ Done → EndsWell history (lines input) mid new before after) →
+    (IsStop tells status → StopsIn history (lines input) mid new before after status) → Serves history input left before after start new status
 Serves-finish {history = history} {start = start} {before = before} {left = left} {input = input} new after tells status told end (inl is) done stops =
     subst (λ s. Serves history input left before after start new s) (sym is) (Serves-done new after end (done is))
 Serves-finish {history = history} {start = start} {before = before} {left = left} {input = input} new after tells status told end (inr stop) done stops =
@@ -332,7 +331,8 @@ Serves-finish {history = history} {start = start} {before = before} {left = left
 abbrev Partly : Status → Type 0 → Type 0 → Type 0
 Partly status A B = (status ≡ SourceFault) × A ⊎ (status ≡ InputLimit) × B
 
-part-other : {A B C : Type 0} {status : Status} (other : Status) → (SourceFault ≡ other → ⊥) → (InputLimit ≡ other → ⊥) → Partly status A B → status ≡ other → C
+part-other : {A B C : Type 0} {status : Status} (other : Status) → (SourceFault ≡ other → ⊥) → (InputLimit ≡ other → ⊥) →
+    Partly status A B → status ≡ other → C
 part-other other one two (inl how) is = absurd (one (sym how.0 ∙ is))
 part-other other one two (inr how) is = absurd (two (sym how.0 ∙ is))
 
@@ -348,7 +348,8 @@ part-limit (inr how) is = how.1
 pub Serves-part : {history : History} {start now : Told} {session : SessionState} {before held left : Option (List ℕ)} {input : List ℕ} {n : ℕ}
     (status : Status)
     (after_left : Option (List ℕ)) → IsThrough history start now session before held left input n → n ≤ LONGEST_INPUT →
-    (status ≡ SourceFault) × (after_left ≡ left) ⊎ (status ≡ InputLimit) × (n ≡ LONGEST_INPUT) → Serves history input after_left before held start now status
+    (status ≡ SourceFault) × (after_left ≡ left) ⊎ (status ≡ InputLimit) × (n ≡ LONGEST_INPUT) →
+    Serves history input after_left before held start now status
 Serves-part {history = history} {start = start} {now = now} {before = before} {held = held} {input = input} {n = n} status after_left through few how =
     let more = lines-front (take n input) (drop n input) in
     let all : lines input ≡ lines_so_far (take n input) ++ more.0 = ap (λ bs. lines bs) (sym (take-append-drop n input)) ∙ more.1 in
@@ -376,8 +377,8 @@ pub Moved-at : (input : List ℕ) (left : Option (List ℕ)) (n : ℕ) → IsLef
 Moved-at input left n at few = record { count = n; few = omega (arith, few); within = at.within; others = at.source }
 
 -- and some of a piece more
-pub Moved-piece : (input : List ℕ) (left : Option (List ℕ)) (n room : ℕ) → n ≤ length input → n + room ≤ LONGEST_INPUT + 1 → Moved room (drop n input) left →
-    Moved (LONGEST_INPUT + 1) input left
+pub Moved-piece : (input : List ℕ) (left : Option (List ℕ)) (n room : ℕ) → n ≤ length input → n + room ≤ LONGEST_INPUT + 1 →
+    Moved room (drop n input) left → Moved (LONGEST_INPUT + 1) input left
 Moved-piece input left n room within fits piece = record {
   count = n + piece.count;
   few = omega (arith, fits, piece.few);
@@ -409,8 +410,8 @@ Reads-end tells input left status fits source how = record {
   limit = λ wrong. end-limit tells status how wrong;
 }
 
-pub Reads-limit : (input : List ℕ) (left : Option (List ℕ)) (n : ℕ) → n ≡ LONGEST_INPUT → 0 < length (drop n input) → left ≡ Some (drop 1 (drop n input)) →
-    Reads input left InputLimit
+pub Reads-limit : (input : List ℕ) (left : Option (List ℕ)) (n : ℕ) → n ≡ LONGEST_INPUT → 0 < length (drop n input) →
+    left ≡ Some (drop 1 (drop n input)) → Reads input left InputLimit
 Reads-limit input left n last some is =
     let all = is ∙ ap (λ bs. Some bs) (drop-drop 1 n input ∙ ap (λ m. drop (m + 1) input) last) in
     let longer : LONGEST_INPUT < length input = omega (arith, last, some, length-drop n input) in
@@ -419,93 +420,3 @@ Reads-limit input left n last some is =
       whole = λ wrong. cc;
       limit = λ _. (longer, all);
     }
-
--- What opening the store left comes before what serving leaves.
-pub Serves-opened : (history : History) (input : List ℕ) (left before after : Option (List ℕ)) (old mid new : Told) (status : Status) →
-    LeavesOnly old mid (Stands history) → Serves history input left before after mid new status → Serves history input left before after old new status
-Serves-opened history input left before after old mid new status opened serves = record {
-  report = serves.report;
-  kept = serves.kept;
-  any_moment = joined old mid new (StandsWithin history (lines input))
-      (weaker old mid (Stands history) (StandsWithin history (lines input)) (λ image is. ([], lines input, refl, is)) opened) serves.any_moment;
-  whole = serves.whole;
-}
-
-unopened-other : {A : Type 0} {status : Status} (other : Status) → (DiskFault ≡ other → ⊥) → (OutOfMemory ≡ other → ⊥) →
-    ((status ≡ DiskFault) ⊎ (status ≡ OutOfMemory)) → status ≡ other → A
-unopened-other other one two (inl how) is = absurd (one (sym how ∙ is))
-unopened-other other one two (inr how) is = absurd (two (sym how ∙ is))
-
--- the store wasn't opened, and nothing was said of it
-pub Serves-unopened : (history : History) (input : List ℕ) (left before after : Option (List ℕ)) (old new : Told) (status : Status) →
-    ((status ≡ DiskFault) ⊎ (status ≡ OutOfMemory)) →
-    left ≡ Some input → after ≡ before → KnowsNow new → LeavesOnly old new (Stands history) → Serves history input left before after old new status
-Serves-unopened history input left before after old new status how still same knows opened =
-    let held = same ∙ sym (appended-nil before) in
-    record {
-      report = record {
-        front = (0, held);
-        whole = λ is. unopened-other Done (λ w. cc) (λ w. cc) how is;
-        broken = λ _. inl (still, same);
-        faulted = λ is. unopened-other SourceFault (λ w. cc) (λ w. cc) how is;
-        cut = λ is. unopened-other SinkFault (λ w. cc) (λ w. cc) how is;
-        starved = λ _. inl (still, same);
-        limited = λ is. unopened-other InputLimit (λ w. cc) (λ w. cc) how is;
-      };
-      kept = HoldsReported-done history input before after new status [] (lines input) refl held (now old new (Stands history) knows opened)
-          (λ is. unopened-other Done (λ w. cc) (λ w. cc) how is);
-      any_moment = weaker old new (Stands history) (StandsWithin history (lines input)) (λ image is. ([], lines input, refl, is)) opened;
-      whole = λ is. unopened-other Done (λ w. cc) (λ w. cc) how is;
-    }
-
--- a content that stands for a history isn't refused
-pub Serves-refused : (history : History) (input : List ℕ) (left before after : Option (List ℕ)) (had has : ℕ) (old new : Told) (error : OpenError) →
-    OpensAs old.content (Err error) → Stands history old.content → AsRefused error before after had has → left ≡ Some input → KnowsNow new →
-    LeavesOnly old new (Stands history) → Serves history input left before after old new (status_of_open error)
-Serves-refused history input left before after had has old new opening.Disk opens stands said still knows opened =
-    Serves-unopened history input left before after old new DiskFault (inl refl) still said.0 knows opened
-Serves-refused history input left before after had has old new opening.OutOfMemory opens stands said still knows opened =
-    Serves-unopened history input left before after old new OutOfMemory (inr refl) still said.0 knows opened
-Serves-refused history input left before after had has old new opening.NotAStore opens stands said still knows opened =
-    let wrong : no_store ≡ recovers (state history) = sym opens ∙ stands.state in cc
-Serves-refused history input left before after had has old new (opening.BadEntry n) opens stands said still knows opened =
-    let wrong : damaged_entry n ≡ recovers (state history) = sym opens ∙ stands.state in cc
-Serves-refused history input left before after had has old new (opening.BadSlot n) opens stands said still knows opened =
-    let wrong : damaged_slot n ≡ recovers (state history) = sym opens ∙ stands.state in cc
-Serves-refused history input left before after had has old new (opening.BadStream id) opens stands said still knows opened =
-    let wrong : damaged_stream id ≡ recovers (state history) = sym opens ∙ stands.state in cc
-Serves-refused history input left before after had has old new (opening.Changed slot) opens stands said still knows opened = absurd opens
-
--- and what was read then: nothing
-unopened-status : (error : OpenError) → (status_of_open error ≡ Done → ⊥) × (status_of_open error ≡ InputLimit → ⊥)
-unopened-status opening.Disk = (λ is. cc, λ is. cc)
-unopened-status opening.OutOfMemory = (λ is. cc, λ is. cc)
-unopened-status opening.NotAStore = (λ is. cc, λ is. cc)
-unopened-status (opening.BadEntry n) = (λ is. cc, λ is. cc)
-unopened-status (opening.BadSlot n) = (λ is. cc, λ is. cc)
-unopened-status (opening.BadStream id) = (λ is. cc, λ is. cc)
-unopened-status (opening.Changed slot) = (λ is. cc, λ is. cc)
-
-pub Reads-refused : (input : List ℕ) (left : Option (List ℕ)) (error : OpenError) → left ≡ Some input → Reads input left (status_of_open error)
-Reads-refused input left error is =
-    let other = unopened-status error in
-    Reads-stop input left (status_of_open error) other.0 other.1 (record { count = 0; few = omega arith; within = omega arith; others = is })
-
--- Nothing was said of a store that isn't refused, and the run isn't done nor blames the sink, where it wasn't opened.
-pub unopened : (content : List ℕ) (streams : List Stream) (before after : Option (List ℕ)) (k l : ℕ) (error : OpenError) → Recovers streams content →
-    OpensAs content (Err error) → AsRefused error before after k l → (after ≡ before) × (status_of_open error ≡ Done → ⊥)
-unopened content streams before after k l opening.Disk is opens said = (said.0, λ w. cc)
-unopened content streams before after k l opening.OutOfMemory is opens said = (said.0, λ w. cc)
-unopened content streams before after k l opening.NotAStore is opens said = let wrong : no_store ≡ recovers streams = sym opens ∙ is in cc
-unopened content streams before after k l (opening.BadEntry n) is opens said = let wrong : damaged_entry n ≡ recovers streams = sym opens ∙ is in cc
-unopened content streams before after k l (opening.BadSlot n) is opens said = let wrong : damaged_slot n ≡ recovers streams = sym opens ∙ is in cc
-unopened content streams before after k l (opening.BadStream id) is opens said = let wrong : damaged_stream id ≡ recovers streams = sym opens ∙ is in cc
-unopened content streams before after k l (opening.Changed slot) is opens said = absurd opens
-
--- what is said of the streams to which the content recovers
-pub surveyed : (content : List ℕ) (streams : List Stream) (survey : Survey) → SurveysAs content (Ok survey) → Recovers streams content →
-    survey ≡ survey_of streams
-surveyed content streams survey surveys is =
-    let same : recovers surveys.0 ≡ recovers streams = sym surveys.1 ∙ is in
-    let one : surveys.0 ≡ streams = cc in
-    surveys.2 ∙ ap (λ ss. survey_of ss) one

@@ -63,7 +63,8 @@ appended_more before held after text sent k is more =
     ∙ ap (λ s. appended before s) (sym (take-add sent k text))
 
 -- and it is no longer than the rest
-pub fits_more : (text : List ℕ) (sent k : ℕ) → sent ≤ length text → k ≤ length (take (length text - sent) (drop sent text)) → sent + k ≤ length text
+pub fits_more : (text : List ℕ) (sent k : ℕ) → sent ≤ length text → k ≤ length (take (length text - sent) (drop sent text)) →
+    sent + k ≤ length text
 fits_more text sent k within part = let short = ap (λ (s : List ℕ). length s) (rest-slice text sent) in omega (arith, length-drop sent text)
 
 -- taking more than there is takes all

@@ -130,7 +130,8 @@ after_lines-push history ls line = after_lines-append history ls (line ∷ [])
 pub StandsWithin-all : (history : History) (ls : List (List ℕ)) (image : List ℕ) → Stands (after_lines history ls) image → StandsWithin history ls image
 StandsWithin-all history ls image stands = (ls, [], sym (append-nil ls), stands)
 
-pub StandsWithin-more : (history : History) (ls ms : List (List ℕ)) (image : List ℕ) → StandsWithin history ls image → StandsWithin history (ls ++ ms) image
+pub StandsWithin-more : (history : History) (ls ms : List (List ℕ)) (image : List ℕ) → StandsWithin history ls image →
+    StandsWithin history (ls ++ ms) image
 StandsWithin-more history ls ms image some =
     (some.0, some.1 ++ ms, ap (λ l. l ++ ms) some.2 ∙ append_assoc some.0 some.1 ms, some.3)
 

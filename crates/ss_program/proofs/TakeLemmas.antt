@@ -145,7 +145,8 @@ GoesOn-ends history old new store before after under_way ls more same going ends
 }
 
 -- what a crash leaves after the line at which a run stopped: where memory ran out nothing was done
-left-stopped : (history : History) (brought : Brought) (old new : Told) (status : Status) → KnowsNow new → Stands history old.content → NothingPending old →
+left-stopped : (history : History) (brought : Brought) (old new : Told) (status : Status) → KnowsNow new → Stands history old.content →
+    NothingPending old →
     LeavesOnly old new (StandsAround history brought) → (status ≡ OutOfMemory → OnlyReads old new) → (image : List ℕ) → new.may_leave image →
     StandsStopped history brought status image
 left-stopped history brought old new OutOfMemory knows stands durable run untouched image left =
@@ -205,7 +206,8 @@ any_moment-input : (history : History) (old new : Told) (taken more : List ℕ) 
 any_moment-input history old new taken more run =
     let front = ended_lines-append taken more in
     let are = ap (λ ls. map without_return ls) front.1 ∙ map-append without_return _ front.0 in
-    subst (λ ls. LeavesOnly old new (StandsWithin history ls)) (sym are) (any_moment-more history old new (lines_so_far taken) (map without_return front.0) run)
+    subst (λ ls. LeavesOnly old new (StandsWithin history ls)) (sym are)
+    (any_moment-more history old new (lines_so_far taken) (map without_return front.0) run)
 
 -- a session that took no more bytes yet
 pub GoesOn-start : (history : History) (disk : Told) (session : SessionState) (before held : Option (List ℕ)) (input : List ℕ) → KnowsNow disk →

@@ -44,7 +44,8 @@ use Rattle.ss_program.proofs.AnswerLemmas.{Adds-reads, IsShowStop-disk, IsStop-a
 -- the disk was only read, and then a text was sent
 pub Shows-sent : (text : History → List ℕ → Type 0) (old new : DiskView) (store : StoreState) (before after : Option (List ℕ)) (had has : ℕ)
     (sent : Result Unit Failed) → Step fine old new OnlyReads → IsOpen new store → Counted (verdict sent) had has →
-    OfContent old (λ content. (history : History) → Stands history content → (bytes : List ℕ) → text history bytes → Sends before after bytes sent) →
+    OfContent old (λ content. (history : History) → Stands history content → (bytes : List ℕ) → text history bytes →
+    Sends before after bytes sent) →
     Shows text (over old before had) (over new after has) store (at_sink sent)
 Shows-sent text old new store before after had has (Ok u) reads opens counted sends =
     record { reads = reads; sends = sends; counted = counted; opens = opens; status = tt }
@@ -67,13 +68,13 @@ failed-err (Ok u) status is = cc
 failed-err (Err e) status is = refl
 
 -- what was sent then is less than the text
-pub less-sent : (before after : Option (List ℕ)) (text : List ℕ) (sent : Result Unit Failed) → IsErr sent → Sends before after text sent → AppendsLess before
-    after text
+pub less-sent : (before after : Option (List ℕ)) (text : List ℕ) (sent : Result Unit Failed) → IsErr sent → Sends before after text sent →
+    AppendsLess before after text
 less-sent before after text (Ok u) failed sends = cc
 less-sent before after text (Err e) failed less = less
 
-pub sends-less : (before after : Option (List ℕ)) (text : List ℕ) (sent : Result Unit Failed) → IsErr sent → AppendsLess before after text → Sends before
-    after text sent
+pub sends-less : (before after : Option (List ℕ)) (text : List ℕ) (sent : Result Unit Failed) → IsErr sent → AppendsLess before after text →
+    Sends before after text sent
 sends-less before after text (Ok u) failed less = cc
 sends-less before after text (Err e) failed less = less
 
@@ -89,7 +90,8 @@ Shows-reply text old new store before after had has reply sent reads opens puts 
 -- the run stopped at a call that reads
 pub Shows-stopped : (text : History → List ℕ → Type 0) (old new : DiskView) (store : StoreState) (before held : Option (List ℕ)) (had has : ℕ)
     (status : Status) → IsDiskStop old.tells status → Step (disk_verdict status) old new OnlyReads → has ≡ had →
-    OfContent old (λ content. (history : History) → Stands history content → (bytes : List ℕ) → text history bytes → AppendsLess before held bytes) →
+    OfContent old (λ content. (history : History) → Stands history content → (bytes : List ℕ) → text history bytes →
+    AppendsLess before held bytes) →
     Shows text (over old before had) (over new held has) store (Err status)
 Shows-stopped text old new store before held had has DiskFault stop reads same less =
     record { reads = reads; sends = less; counted = same; opens = tt; status = tt }
@@ -121,7 +123,8 @@ show-stop tells (Ok u) stop = tt
 show-stop tells (Err status) stop = IsStop-show tells status stop
 
 -- a line that brings no event: what it brings was shown
-pub TakesLine-shown : (brought : History → Brought) (text : History → List ℕ → Type 0) (old new : Devices) (store : StoreState) (result : Result Unit Status) →
+pub TakesLine-shown : (brought : History → Brought) (text : History → List ℕ → Type 0) (old new : Devices) (store : StoreState)
+    (result : Result Unit Status) →
     WhereTold old.disk KnowsNow → ((history : History) → (brought history).event ≡ None) →
     ((history : History) → text history (text_brought (brought history))) → Shows text old new store result → TakesLine brought old new store result
 TakesLine-shown brought text old new store result knows none is shows = record {
@@ -140,7 +143,8 @@ TakesLine-shown brought text old new store result knows none is shows = record {
 
 -- an event was applied, and its reply sent
 pub TakesLine-applied : (event : Event) (old new : DiskView) (store : StoreState) (before after : Option (List ℕ)) (had has : ℕ) (reply : Reply)
-    (sent : Result Unit Failed) → Step fine old new (AppliesEvent event (Ok reply)) → IsOpen new store → Puts (reply_line reply) before had after has sent →
+    (sent : Result Unit Failed) → Step fine old new (AppliesEvent event (Ok reply)) → IsOpen new store →
+    Puts (reply_line reply) before had after has sent →
     TakesLine (λ history. command_brings history (Do event)) (over old before had) (over new after has) store (at_sink sent)
 TakesLine-applied event old new store before after had has reply (Ok u) applies opens puts = record {
   adds = record {
@@ -230,8 +234,8 @@ TakesLine-refused refusal disk store before after had has sent knows opens puts 
     (Shows-reply text disk disk store before after had has (Refused refusal) sent (still disk) opens puts
     (λ told history stands bytes is. is ∙ append-nil (reply_line (Refused refusal))))
 
-pub TakesLine-nothing : (disk : DiskView) (store : StoreState) (held : Option (List ℕ)) (n : ℕ) (u : Unit {0}) → WhereTold disk KnowsNow → IsOpen disk store →
-    TakesLine (λ history. nothing) (over disk held n) (over disk held n) store (Ok u)
+pub TakesLine-nothing : (disk : DiskView) (store : StoreState) (held : Option (List ℕ)) (n : ℕ) (u : Unit {0}) → WhereTold disk KnowsNow →
+    IsOpen disk store → TakesLine (λ history. nothing) (over disk held n) (over disk held n) store (Ok u)
 TakesLine-nothing disk store held n u knows opens =
     let text : History → List ℕ → Type 0 = λ history bytes. bytes ≡ [] in
     TakesLine-shown (λ history. nothing) text (over disk held n) (over disk held n) store (Ok u) knows (λ history. refl) (λ history. refl)

@@ -1,5 +1,6 @@
 -- What a run over an input leaves, by its status.
-use Rattle.std.specs.Prelude.{◌≡◌, ◌⊎◌, ℕ, ◌+◌, ◌-◌, ◌<◌, ◌≤◌, ◌++◌, ◌∷◌, List, [], take, drop, length, IfOk, IfErr, Option, Some, Result}
+use Rattle.std.specs.Prelude.{◌≡◌, ◌⊎◌, ℕ, ◌+◌, ◌-◌, ◌<◌, ◌≤◌, ◌++◌, ◌∷◌, List, [], take, drop}
+use Rattle.std.specs.Prelude.{length, IfOk, IfErr, Option, Some, Result}
 use Rattle.ss_command.specs.Lines.{lines, lines_so_far}
 use Rattle.ss_outside.specs.Crash.{LeavesOnly}
 use Rattle.ss_outside.specs.Disk.{NothingPending, Told}

@@ -1,5 +1,6 @@
 // A run over a generated command file.
-ghost use Rattle.std.specs.Prelude.{◌≡◌, ◌⊎◌, ◌+◌, ◌-◌, ◌^◌, ◌<◌, ◌≤◌, ◌++◌, ℕ, List, [], ◌∷◌, flat_map, length, IfErr, OnOk};
+ghost use Rattle.std.specs.Prelude.{◌≡◌, ◌⊎◌, ◌+◌, ◌-◌, ◌^◌, ◌<◌, ◌≤◌, ◌++◌, ℕ, List, []};
+ghost use Rattle.std.specs.Prelude.{◌∷◌, flat_map, length, IfErr, OnOk};
 ghost use Rattle.ss_command.specs.Printed.{IsCommandInTime};
 ghost use Rattle.ss_generator.specs.declared.TheConstants.{MOST_COUNT};
 ghost use Rattle.ss_outside.specs.Disk.{Between};

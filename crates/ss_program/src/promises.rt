@@ -51,7 +51,8 @@ pub fn run_store<D: Disk, S: Source, K: Sink>(
     // Where memory ran out it holds no more than those.
     ensures starved { (history : History) (input : List ℕ) →
         BeginsOver (mode_of (words_of words.now)) (D.seen disk.old) (S.left source.old) history input → EndsAs result Status.OutOfMemory →
-        (had has : List ℕ) → K.held sink.old ≡ Some had → K.held sink.new ≡ Some has → (image : List ℕ) → (D.seen disk.new).told.may_leave image →
+        (had has : List ℕ) → K.held sink.old ≡ Some had → K.held sink.new ≡ Some has → (image : List ℕ) →
+        (D.seen disk.new).told.may_leave image →
         Stands (history ++ take (acks history (lines input) (length has - length had)) (accepted history (lines input))) image }
     // A check writes nothing, whatever the disk holds. Where it ends with 0, it has said what the store has.
     ensures check_unwritten { mode_of (words_of words.now) ≡ Some Mode.Check → Between (D.seen disk.old) (D.seen disk.new) OnlyReads }
@@ -60,7 +61,8 @@ pub fn run_store<D: Disk, S: Source, K: Sink>(
         K.held sink.new ≡ appended (K.held sink.old) (survey_line (survey_of streams)) }
     // A run over a generated file that ends with 0 has said the whole summary.
     ensures generated { (seed count : ℕ) → mode_of (words_of words.now) ≡ Some (Mode.Gen seed count) → EndsAs result Status.Done →
-        WhereTold (D.seen disk.old) NothingPending → IsTrue (D.seen disk.old).tells → (history : History) → Stands history (D.seen disk.old).told.content →
+        WhereTold (D.seen disk.old) NothingPending → IsTrue (D.seen disk.old).tells → (history : History) →
+        Stands history (D.seen disk.old).told.content →
         K.held sink.new ≡ appended (K.held sink.old) (summary history seed count) }
     // A store that is no store or is damaged is never written, and no reply is made of it; 3 comes only of such a store.
     ensures refused { IsSome (mode_of (words_of words.now)) → EndsAs result Status.RefusedStore → IsTrue (D.seen disk.old).tells →

@@ -1,5 +1,5 @@
 -- Worked rows of the definitions.
-use Rattle.std.proofs.Common.{◌≡◌, ◌∙◌, ◌⊎◌, ℕ, true, false, List, [], ◌∷◌, ◌++◌, Some, None}
+use Rattle.std.proofs.Common.{◌≡◌, ◌∙◌, ◌⊎◌, ℕ, true, false, List, [], ◌∷◌, ◌++◌, Option, Some, None}
 use Rattle.std.proofs.Common.{length, get_or, map, inl, inr, refl, sym, arith}
 use Rattle.std.proofs.lemmas.List.{get_or_past, get_or-append_right, length-append}
 use Rattle.std.specs.IoError.{error_kind}
@@ -7,11 +7,12 @@ use Rattle.std.specs.Prelude.{IsFalse, IsTrue, codes}
 use Rattle.std.specs.declared.io.Error.{Error}
 use Rattle.std.specs.declared.io.ErrorKind.TheVariants.{InvalidInput, Other, ReadOnlyFilesystem}
 use Rattle.ss_journal.specs.Format.{is_unborn}
-use Rattle.summarystore.specs.FileDisk.{untold}
+use Rattle.summarystore.specs.FileDisk.{KeepsFile, untold}
 use Rattle.summarystore.specs.Opening.{IsBlank, IsHeldAs, IsLockedAs, IsNative, IsSettledAs, MayHold, StaysHeld, StaysUnmade, access_for, is_writable}
 use Rattle.summarystore.specs.Opening.{missing_for}
 use Rattle.summarystore.specs.System.{Durable, Fact, IsUnsyncable, Keeps, KeepsAll, LockedBy, OpenFor, RegularFile, Synced, Unmade, Unsyncable, Unwritten}
 use Rattle.summarystore.specs.System.{lasts_lock, lasts_open, lasts_write}
+use Rattle.summarystore.specs.declared.opening.Missing.{Missing}
 use Rattle.summarystore.specs.declared.opening.Missing.TheVariants as missing
 use Rattle.summarystore.specs.declared.opening.Opened.{Opened}
 use Rattle.summarystore.specs.declared.opening.Opened.TheVariants.{Made, Nothing, ReadOnly, Writable}
@@ -106,6 +107,19 @@ settled-Made holds is = is
 -- where no file is to be made
 unmade-ReadEmpty : (old new : Fact → Type 0) → StaysUnmade missing.ReadEmpty old new → old Unmade → new Unmade
 unmade-ReadEmpty old new stays was = stays refl was
+
+-- what each call leaves of the file
+keeps-missing : (was is : Missing) (opened opened_now : Option Opened) (holds holds_now : Fact → Type 0) →
+    KeepsFile was opened holds is opened_now holds_now → is ≡ was
+keeps-missing was is opened opened_now holds holds_now keeps = keeps.missing
+
+keeps-held : (was is : Missing) (opened opened_now : Option Opened) (holds holds_now : Fact → Type 0) →
+    KeepsFile was opened holds is opened_now holds_now → StaysHeld was opened holds → StaysHeld is opened_now holds_now
+keeps-held was is opened opened_now holds holds_now keeps held = keeps.held held
+
+keeps-unmade : (is : Missing) (opened opened_now : Option Opened) (holds holds_now : Fact → Type 0) →
+    KeepsFile missing.ReadEmpty opened holds is opened_now holds_now → holds Unmade → holds_now Unmade
+keeps-unmade is opened opened_now holds holds_now keeps was = keeps.unmade refl was
 
 writable-each :
     map is_writable (None ∷ Some Nothing ∷ Some ReadOnly ∷ Some Writable ∷ Some Made ∷ [])

@@ -1,6 +1,10 @@
--- What a file tells as a disk.
-use Rattle.std.specs.Prelude.{ℕ, [], false}
+-- What a file tells as a disk, and what each call of the disk leaves of it.
+use Rattle.std.specs.Prelude.{◌≡◌, ℕ, Option, [], false}
 use Rattle.ss_outside.specs.Disk.{DiskView}
+use Rattle.summarystore.specs.Opening.{StaysHeld, StaysUnmade}
+use Rattle.summarystore.specs.System.{Fact}
+use Rattle.summarystore.specs.declared.opening.Missing.{Missing}
+use Rattle.summarystore.specs.declared.opening.Opened.{Opened}
 
 -- nothing but how many calls have failed
 abbrev pub untold : ℕ → DiskView
@@ -9,3 +13,11 @@ untold faults = record {
   told = record { content = []; may_leave = λ _. ⊥; moment = 0; left_since = λ _ _. ⊥ };
   faults = faults;
 }
+
+-- What a call leaves of a file: what is done where there is none stays the same, what stands open stays open and locked, and
+-- where no file is to be made, none is.
+pub record KeepsFile (was : Missing) (opened : Option Opened) (holds : Fact → Type 0) (is : Missing) (opened_now : Option Opened)
+    (holds_now : Fact → Type 0) : Type 0 where
+  pub missing : is ≡ was
+  pub held : StaysHeld was opened holds → StaysHeld is opened_now holds_now
+  pub unmade : StaysUnmade was holds holds_now

@@ -1,7 +1,8 @@
 // The real disk: a file. It tells nothing of its bytes.
 ghost use Rattle.std.specs.Prelude.{◌≡◌, ◌+◌, ◌<◌, ◌^◌, ℕ, List, length, None, Some, IsErr, IsFalse, IfOk, OnOk};
 ghost use Rattle.ss_outside.specs.Disk.{IsReadFrom};
-ghost use Rattle.summarystore.specs.Opening.{IsNative, IsSettledAs, MayHold, StaysHeld, StaysUnmade, is_writable};
+ghost use Rattle.summarystore.specs.FileDisk.{KeepsFile};
+ghost use Rattle.summarystore.specs.Opening.{IsNative, IsSettledAs, MayHold, StaysHeld, is_writable};
 ghost use Rattle.summarystore.specs.System.{Synced, Unwritten};
 
 #[cfg(test)]
@@ -84,10 +85,8 @@ impl<S: System> FileDisk<S> {
             IfOk result (λ opened. IsSettledAs opened (S.holds self.new.system)) }
         ensures native { self.old.opened ≡ None → OnOk result ((image : List ℕ) →
             MayHold self.new.opened (S.fits self.new.system) image → IsNative image) }
-        ensures missing { self.new.missing ≡ self.old.missing }
-        ensures held { StaysHeld self.old.missing self.old.opened (S.holds self.old.system) →
-            StaysHeld self.new.missing self.new.opened (S.holds self.new.system) }
-        ensures unmade { StaysUnmade self.old.missing (S.holds self.old.system) (S.holds self.new.system) }
+        ensures keeps { KeepsFile self.old.missing self.old.opened (S.holds self.old.system)
+            self.new.missing self.new.opened (S.holds self.new.system) }
         ensures unwritten { S.holds self.old.system Unwritten → S.holds self.new.system Unwritten }
     {
         if self.faults > 0 {
@@ -106,10 +105,8 @@ impl<S: System> FileDisk<S> {
         ensures ends { 0 < self.old.faults → IsErr result × (self.new ≡ self.old) }
         ensures measures { IfOk result (λ answer. (image : List ℕ) →
             MayHold self.new.opened (S.fits self.new.system) image → answer ≡ length image) }
-        ensures missing { self.new.missing ≡ self.old.missing }
-        ensures held { StaysHeld self.old.missing self.old.opened (S.holds self.old.system) →
-            StaysHeld self.new.missing self.new.opened (S.holds self.new.system) }
-        ensures unmade { StaysUnmade self.old.missing (S.holds self.old.system) (S.holds self.new.system) }
+        ensures keeps { KeepsFile self.old.missing self.old.opened (S.holds self.old.system)
+            self.new.missing self.new.opened (S.holds self.new.system) }
         ensures unwritten { S.holds self.old.system Unwritten → S.holds self.new.system Unwritten }
     {
         if self.ready()? == Opened::Nothing {
@@ -126,10 +123,8 @@ impl<S: System> FileDisk<S> {
         ensures ends { 0 < self.old.faults → IsErr result × (self.new ≡ self.old) }
         ensures reads { at + length into.old < 2 ^ 64 → OnOk result ((image : List ℕ) →
             MayHold self.new.opened (S.fits self.new.system) image → IsReadFrom image at into.new) }
-        ensures missing { self.new.missing ≡ self.old.missing }
-        ensures held { StaysHeld self.old.missing self.old.opened (S.holds self.old.system) →
-            StaysHeld self.new.missing self.new.opened (S.holds self.new.system) }
-        ensures unmade { StaysUnmade self.old.missing (S.holds self.old.system) (S.holds self.new.system) }
+        ensures keeps { KeepsFile self.old.missing self.old.opened (S.holds self.old.system)
+            self.new.missing self.new.opened (S.holds self.new.system) }
         ensures unwritten { S.holds self.old.system Unwritten → S.holds self.new.system Unwritten }
     {
         if self.ready()? == Opened::Nothing {
@@ -149,10 +144,8 @@ impl<S: System> FileDisk<S> {
             OnOk result (S.has_written self.new.system at bytes.now) }
         ensures refused { IsFalse (is_writable self.new.opened) →
             IsErr result × (S.holds self.old.system Unwritten → S.holds self.new.system Unwritten) }
-        ensures missing { self.new.missing ≡ self.old.missing }
-        ensures held { StaysHeld self.old.missing self.old.opened (S.holds self.old.system) →
-            StaysHeld self.new.missing self.new.opened (S.holds self.new.system) }
-        ensures unmade { StaysUnmade self.old.missing (S.holds self.old.system) (S.holds self.new.system) }
+        ensures keeps { KeepsFile self.old.missing self.old.opened (S.holds self.old.system)
+            self.new.missing self.new.opened (S.holds self.new.system) }
     {
         match self.ready()? {
             Opened::Nothing => return Err(Reason::own(Trouble::NoFile)),
@@ -169,10 +162,8 @@ impl<S: System> FileDisk<S> {
         ensures faults { self.new.faults ≡ self.old.faults }
         ensures ends { 0 < self.old.faults → IsErr result × (self.new ≡ self.old) }
         ensures synced { OnOk result (S.holds self.new.system Synced) }
-        ensures missing { self.new.missing ≡ self.old.missing }
-        ensures held { StaysHeld self.old.missing self.old.opened (S.holds self.old.system) →
-            StaysHeld self.new.missing self.new.opened (S.holds self.new.system) }
-        ensures unmade { StaysUnmade self.old.missing (S.holds self.old.system) (S.holds self.new.system) }
+        ensures keeps { KeepsFile self.old.missing self.old.opened (S.holds self.old.system)
+            self.new.missing self.new.opened (S.holds self.new.system) }
         ensures unwritten { S.holds self.old.system Unwritten → S.holds self.new.system Unwritten }
     {
         self.ready()?;
@@ -197,10 +188,8 @@ impl<S: System> Disk for FileDisk<S> {
         ensures step { Step (verdict result) (untold self.old.faults) (untold self.new.faults) (Measures result) }
         ensures measures { IfOk result (λ answer. (image : List ℕ) →
             MayHold self.new.opened (S.fits self.new.system) image → answer ≡ length image) }
-        ensures missing { self.new.missing ≡ self.old.missing }
-        ensures held { StaysHeld self.old.missing self.old.opened (S.holds self.old.system) →
-            StaysHeld self.new.missing self.new.opened (S.holds self.new.system) }
-        ensures unmade { StaysUnmade self.old.missing (S.holds self.old.system) (S.holds self.new.system) }
+        ensures keeps { KeepsFile self.old.missing self.old.opened (S.holds self.old.system)
+            self.new.missing self.new.opened (S.holds self.new.system) }
         ensures unwritten { S.holds self.old.system Unwritten → S.holds self.new.system Unwritten }
     {
         let answer = self.try_len();
@@ -211,10 +200,8 @@ impl<S: System> Disk for FileDisk<S> {
         ensures step { Step (verdict result) (untold self.old.faults) (untold self.new.faults) (ReadsAt at into.new result) }
         ensures reads { at + length into.old < 2 ^ 64 → OnOk result ((image : List ℕ) →
             MayHold self.new.opened (S.fits self.new.system) image → IsReadFrom image at into.new) }
-        ensures missing { self.new.missing ≡ self.old.missing }
-        ensures held { StaysHeld self.old.missing self.old.opened (S.holds self.old.system) →
-            StaysHeld self.new.missing self.new.opened (S.holds self.new.system) }
-        ensures unmade { StaysUnmade self.old.missing (S.holds self.old.system) (S.holds self.new.system) }
+        ensures keeps { KeepsFile self.old.missing self.old.opened (S.holds self.old.system)
+            self.new.missing self.new.opened (S.holds self.new.system) }
         ensures unwritten { S.holds self.old.system Unwritten → S.holds self.new.system Unwritten }
     {
         let answer = self.try_read(at, into);
@@ -227,10 +214,8 @@ impl<S: System> Disk for FileDisk<S> {
             OnOk result (S.has_written self.new.system at bytes.now) }
         ensures refused { IsFalse (is_writable self.new.opened) →
             IsErr result × (S.holds self.old.system Unwritten → S.holds self.new.system Unwritten) }
-        ensures missing { self.new.missing ≡ self.old.missing }
-        ensures held { StaysHeld self.old.missing self.old.opened (S.holds self.old.system) →
-            StaysHeld self.new.missing self.new.opened (S.holds self.new.system) }
-        ensures unmade { StaysUnmade self.old.missing (S.holds self.old.system) (S.holds self.new.system) }
+        ensures keeps { KeepsFile self.old.missing self.old.opened (S.holds self.old.system)
+            self.new.missing self.new.opened (S.holds self.new.system) }
     {
         let answer = self.try_write(at, bytes);
         judge(answer, &mut self.faults, &mut self.why)
@@ -239,10 +224,8 @@ impl<S: System> Disk for FileDisk<S> {
     fn sync(&mut self) -> Result<(), Failed>
         ensures step { Step (verdict result) (untold self.old.faults) (untold self.new.faults) (Syncs result) }
         ensures synced { OnOk result (S.holds self.new.system Synced) }
-        ensures missing { self.new.missing ≡ self.old.missing }
-        ensures held { StaysHeld self.old.missing self.old.opened (S.holds self.old.system) →
-            StaysHeld self.new.missing self.new.opened (S.holds self.new.system) }
-        ensures unmade { StaysUnmade self.old.missing (S.holds self.old.system) (S.holds self.new.system) }
+        ensures keeps { KeepsFile self.old.missing self.old.opened (S.holds self.old.system)
+            self.new.missing self.new.opened (S.holds self.new.system) }
         ensures unwritten { S.holds self.old.system Unwritten → S.holds self.new.system Unwritten }
     {
         let answer = self.try_sync();

@@ -41,7 +41,8 @@ returns-in-Ok-None g c =
     let held = g.K.Sink.held c.args.sink.now in
     let n = g.K.Sink.faults c.args.sink.now in
     let meaning = rw c.in-Ok-None.field-0-is at c.in-Ok-None.ensures.meaning in
-    subst (λ o. TakesLine (λ history. kept_brings history (option_copied o)) (over disk held n) (over disk held n) c.args.store.now (Ok tt)) (sym c.in-Some.is)
+    subst (λ o. TakesLine (λ history. kept_brings history (option_copied o)) (over disk held n) (over disk held n) c.args.store.now (Ok tt))
+    (sym c.in-Some.is)
     (subst (λ m. TakesLine (λ history. meaning_brings history m) (over disk held n) (over disk held n) c.args.store.now (Ok tt)) meaning
     (TakesLine-nothing disk c.args.store.now held n tt (g.met.D.Disk.knows_now c.args.disk.now) c.requires.open))
 

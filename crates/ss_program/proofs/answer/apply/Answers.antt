@@ -53,11 +53,13 @@ returns-in-Ok-clause-applies g c =
       told = λ told. record {
         does = record {
           adds = λ history. Adds-applied history event old new result (fits told history)
-              (Turns-answers (Stands history) (StandsForEither history event) (Stands (history ++ event ∷ [])) old new c.in-Ok.ack result (turns told history));
+              (Turns-answers (Stands history) (StandsForEither history event) (Stands (history ++ event ∷ [])) old new c.in-Ok.ack result
+              (turns told history));
           reply = λ history stands.
               let said = said-kept c.apply.new.self new.content (history ++ event ∷ []) (event_name event)
               (applies.stands (applies.stops ∙ runs) (applies.step.tells ∙ told)) ((turns told history).content stands) in
-              ap (λ (b : Brought). b.replies) (brings-accepted history event (fits told history stands)) ∙ ap (λ ack. Done ack ∷ []) (sym (applies.ack ∙ said));
+              ap (λ (b : Brought). b.replies) (brings-accepted history event (fits told history stands))
+              ∙ ap (λ ack. Done ack ∷ []) (sym (applies.ack ∙ said));
           untouched = λ memory. cc;
         };
         accepted = λ history stands. tt;
@@ -71,7 +73,8 @@ returns-in-Err-Refused-clause-applies g c =
     let r = c.in-Err-Refused.refusal in
     let still : c.apply.new.disk ≡ c.args.disk.now = rw c.in-Err-Refused.field-0-is at c.in-Err-Refused.ensures.uncalled in
     let result : Result Reply Status = Ok (Refused r) in
-    let refused : IsTrue disk.tells → (history : History) → Stands history disk.told.content → refuses (state history) event ≡ Some r = λ told history stands.
+    let refused : IsTrue disk.tells → (history : History) → Stands history disk.told.content → refuses (state history) event ≡ Some r =
+    λ told history stands.
     refuses-kept c.args.store.now disk.told.content history event (c.requires.open.kept told) stands
     ∙ ((c.in-Err-Refused.ensures.applies c.requires.open.runs).refused r).0 (ap (λ e. Err e) c.in-Err-Refused.field-0-is) in
     subst (λ d. Step fine disk (g.D.Disk.seen d) (AppliesEvent event result)) (sym still)

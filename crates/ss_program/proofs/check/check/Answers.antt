@@ -5,7 +5,7 @@ use Rattle.ss_program.specs.Checked.{survey_line}
 use Rattle.ss_program.specs.Sent.{appended, AppendsLess}
 use Rattle.ss_program.specs.declared.status.Status.TheVariants.{Done, SinkFault}
 use Rattle.ss_program.proofs.EndLemmas.{Ends-opened, Ends-unopened, surveys-opens, unfed-unopened}
-use Rattle.ss_program.proofs.RunLemmas.{surveyed, unopened}
+use Rattle.ss_program.proofs.OpeningLemmas.{surveyed, unopened}
 use Rattle.ss_program.proofs.SendLemmas.{AppendsFront-all, appended-nil}
 use Rattle.ss_program.proofs.TakesLemmas.{still}
 use Rattle.ss_program.proofs.check.check.Goals as goal

@@ -14,7 +14,7 @@ use Rattle.ss_program.specs.Outcome.{Reads, Serves, ServesInput}
 use Rattle.ss_program.specs.Status.{source_verdict}
 use Rattle.ss_program.specs.declared.status.Status.TheVariants.{OutOfMemory}
 use Rattle.ss_program.proofs.EndLemmas.{Completes-calm, by-number, has-numbers, source-calm}
-use Rattle.ss_program.proofs.RunLemmas.{Serves-unopened}
+use Rattle.ss_program.proofs.OpeningLemmas.{Serves-unopened}
 use Rattle.ss_program.proofs.running.run.Goals as goal
 
 -- the arguments ask for one mode

@@ -2,7 +2,7 @@ use Rattle.std.proofs.Common.{◌∙◌, subst}
 use Rattle.ss_store.specs.Kept.{StoreState}
 use Rattle.ss_program.specs.Status.{EndsServing}
 use Rattle.ss_program.proofs.EndLemmas.{Ends-opened, Ends-unopened, judged-refused}
-use Rattle.ss_program.proofs.RunLemmas.{Reads-refused, Serves-opened, Serves-refused}
+use Rattle.ss_program.proofs.OpeningLemmas.{Reads-refused, Serves-opened, Serves-refused}
 use Rattle.ss_program.proofs.running.run_source.Goals as goal
 
 pub returns-in-Ok-clause-ends : goal.returns-in-Ok-clause-ends

@@ -43,8 +43,8 @@ loop-done-init g c =
       fits = omega arith;
       is_open = c.requires.open;
       left = λ input is. record { within = omega arith; source = is };
-      through = step-none disk (λ old now. (input : List ℕ) → left ≡ Some input → NothingPending old → (history : History) → Stands history old.content →
-          IsThrough history old now c.args.session.now before before left input 0)
+      through = step-none disk (λ old now. (input : List ℕ) → left ≡ Some input → NothingPending old → (history : History) →
+          Stands history old.content → IsThrough history old now c.args.session.now before before left input 0)
           (λ told input is none history stands.
           IsThrough-start history disk.told c.args.session.now before left input (g.met.D.Disk.knows_now c.args.disk.now told)
           (record { stands = stands; durable = none; line = c.requires.front }) (sym (appended-nil before)) is);
@@ -100,8 +100,8 @@ returns-in-Ok-eq0-clause-serves g c =
     let k = c.in-Ok-eq0.field-0 in
     let left = g.S.Source.left c.read_piece.new.source in
     let inv = c.loop-done.invariant in
-    let read = step-then {S = λ a b. (input : List ℕ) → g.S.Source.left c.args.source.now ≡ Some input → NothingPending a → (history : History) → Stands
-    history a.content →
+    let read = step-then {S = λ a b. (input : List ℕ) → g.S.Source.left c.args.source.now ≡ Some input → NothingPending a →
+    (history : History) → Stands history a.content →
     IsThrough history a b c.read_piece.new.session before (g.K.Sink.held c.read_piece.new.sink) left input (n + k)}
     inv.through c.in-Ok-eq0.ensures.reads (λ first second input is none history stands.
     let one = first input is none history stands in
