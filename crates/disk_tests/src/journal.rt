@@ -1,5 +1,6 @@
 mod commits;
 pub mod files;
 mod opening;
+mod pages;
 mod runs;
 mod stops;

@@ -1,12 +1,13 @@
 -- Rows that pin what the calls of a journal leave, field by field.
-use Rattle.std.proofs.Common.{◌≡◌, ◌⊎◌, ℕ, List, Result, Ok, Err, IsTrue, refl, lit≤}
+use Rattle.std.proofs.Common.{◌≡◌, ◌⊎◌, ◌+◌, ◌*◌, ◌<◌, ℕ, List, Result, Ok, Err, IsTrue, refl, lit≤}
 use Rattle.ss_outside.specs.Crash.{LeavesOnly, OnlyReads}
 use Rattle.ss_outside.specs.Disk.{NothingPending, Told}
 use Rattle.ss_outside.specs.declared.source.Failed.{Failed}
 use Rattle.ss_journal.specs.declared.journal_error.JournalError.{JournalError}
 use Rattle.ss_journal.specs.declared.journal_error.JournalError.TheVariants.{NotAStore, BadEntry}
 use Rattle.ss_journal.specs.declared.put.Put.{Put}
-use Rattle.ss_journal.specs.Calls.{ChangesMap, Commits, HasCommitted, HasSettled, KeepsMap, MakesDurable, Opens, ReadsSlot, Settles, entries_after}
+use Rattle.ss_journal.specs.Calls.{ChangesMap, Commits, HasCommitted, HasSettled, KeepsMap, MakesDurable, Opens, ReadsPage, ReadsSlot, Settles}
+use Rattle.ss_journal.specs.Calls.{entries_after, slot_in_page}
 use Rattle.ss_journal.specs.Format.{is_born, is_unborn, magic}
 use Rattle.ss_journal.specs.Kept.{IsKept, IsSettled, JournalState}
 use Rattle.ss_journal.specs.Puts.{extent_after}
@@ -52,6 +53,17 @@ module _ (old new : Told) (found : SlotMap) where
 
   ReadsSlot-reads : (slot : ℕ) (result : Result (List ℕ) Failed) → ReadsSlot slot result old new → OnlyReads old new
   ReadsSlot-reads slot result read = read.reads
+
+  ReadsPage-Ok : (page k : ℕ) (bytes : List ℕ) → ReadsPage page (Ok bytes) old new → StandsFor old.content found → k < 32 →
+      slot_in_page bytes k ≡ found.bytes (32 * page + k)
+  ReadsPage-Ok page k bytes read is lt = read.bytes found is k lt
+
+  -- the last slot of the last page is the last slot
+  ReadsPage-last : (bytes : List ℕ) → ReadsPage 32767 (Ok bytes) old new → StandsFor old.content found → slot_in_page bytes 31 ≡ found.bytes 1048575
+  ReadsPage-last bytes read is = read.bytes found is 31 (lit≤ tt)
+
+  ReadsPage-reads : (page : ℕ) (result : Result (List ℕ) Failed) → ReadsPage page result old new → OnlyReads old new
+  ReadsPage-reads page result read = read.reads
 
 module _ (old new : Told) (journal : JournalState) where
   Opens-reads : (result : Result JournalState JournalError) → Opens result old new → OnlyReads old new

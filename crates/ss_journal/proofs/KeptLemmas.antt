@@ -1,12 +1,14 @@
 -- A journal and the content of its disk: opened, settled, read and committed.
 use Rattle.std.proofs.Common.{◌++◌, ◌+◌, Ok, Result, IsTrue, List, [], ap, arith, inl, inr, length, nat_lt, refl, subst, sym, ℕ, ⊎_elim, ◌<◌, ◌^◌, ◌∙◌, ◌≡◌}
-use Rattle.std.proofs.Common.{◌≢◌, ◌≤◌, ◌⊎◌}
-use Rattle.std.proofs.lemmas.Bool.{both_ways, cond-false, cond-true, le-ltb, lt-ltb}
+use Rattle.std.proofs.Common.{false, ◌≢◌, ◌≤◌, ◌⊎◌}
+use denote.Enum.Bare.{sameb}
+use Rattle.std.proofs.lemmas.Bool.{both_ways, cases_Bool, cases_lt, cond-false, cond-true, le-ltb, lt-ltb}
 use Rattle.std.proofs.lemmas.List.{length-append}
 use Rattle.ss_journal.specs.Commit.{AddsEntry, IsReadyFor}
 use Rattle.std.specs.Prelude.{IsErr, OnOk, flat_map}
 use Rattle.ss_outside.specs.Disk.{NothingPending, Told}
 use Rattle.ss_outside.specs.declared.source.Failed.{Failed}
+use Rattle.ss_journal.specs.contracts.phase.Phase.{the_type}
 use Rattle.ss_journal.specs.Birth.{Leads}
 use Rattle.ss_journal.specs.Calls.{MakesDurable, Settles}
 use Rattle.ss_journal.specs.Entries.{puts_of}
@@ -14,7 +16,7 @@ use Rattle.ss_journal.specs.Format.{IsCleared, is_born, is_unborn, slot_at, slot
 use Rattle.ss_journal.specs.Gates.{ClosedFrom}
 use Rattle.ss_journal.specs.Kept.{IsBounded, IsInPhase, IsKept, JournalState}
 use Rattle.ss_journal.specs.Opening.{AreEntries}
-use Rattle.ss_journal.specs.Puts.{IsTxn, extent_after, slots_fit, with_puts}
+use Rattle.ss_journal.specs.Puts.{IsTxn, extent_after, is_put, slots_fit, with_puts}
 use Rattle.ss_journal.specs.Redo.{Gives, Redone, SameMap, SlotMap, StandsFor, blank_map, changed, file_map, zeros}
 use Rattle.ss_journal.specs.Steps.{Clears, Durably, Reaches}
 use Rattle.ss_journal.specs.declared.phase.Phase.TheVariants.{Born, Settled, Stopped, Unborn}
@@ -23,7 +25,7 @@ use Rattle.ss_journal.specs.declared.put.Put.{Put}
 use Rattle.ss_journal.proofs.GateLemmas.{file_map-first_closed}
 use Rattle.ss_journal.proofs.HeaderLemmas.{is_born-unborn}
 use Rattle.ss_journal.proofs.MapLemmas.{SameMap-refl}
-use Rattle.ss_journal.proofs.PutLemmas.{below_extent, extent_after-most, is_put-none, past_extent, waiting-below, with_puts-beside}
+use Rattle.ss_journal.proofs.PutLemmas.{below_extent, extent_after-most, is_put-none, past_extent, waiting-below, with_puts-beside, with_puts-put}
 use Rattle.ss_journal.proofs.TearLemmas.{keeps-err, on_err}
 use Rattle.ss_journal.proofs.RedoLemmas.{StandsFor-from, StandsFor-parts, entries_in_use-unborn, redo-born, redo-first_closed, redo-unborn}
 
@@ -39,6 +41,10 @@ born_phase Unborn in_use content other is = absurd (other refl)
 born_phase Born in_use content other is = is
 born_phase Settled in_use content other is = is.0
 born_phase Stopped in_use content other is = absurd is
+
+-- a journal whose phase isn't the first
+pub not_first : (phase : Phase) → sameb the_type phase Unborn ≡ false → phase ≢ Unborn
+not_first phase not same = both_ways _ not (ap (λ (p : Phase). sameb the_type p Unborn) same)
 
 -- a birth makes what was pending durable; of a formatted file it says nothing
 pub durable-unborn : {T E : Type 0} (old new : Told) (result : Result T E) → IsTrue (is_unborn old.content) → OnOk result (NothingPending new)
@@ -178,6 +184,22 @@ module _ (journal : JournalState) (content : List ℕ) (found : SlotMap) (slot :
       slot_bytes =
           sym (leaves (file_map content).bytes ∙ cond-true (nat_lt slot (slots_in (length content))) _ _ (lt-ltb slot (slots_in (length content)) slot_lies))
           ∙ born_bytes
+
+    -- a slot of a page: what was read of the file, zeros from the extent on, and the puts in use over it
+    pub page_bytes : (read laid got : List ℕ) → (slot < slots_in (length content) → read ≡ slot_at content slot)
+        → (slot < journal.extent → laid ≡ read) → (journal.extent ≤ slot → laid ≡ zeros) → got ≡ with_puts journal.waiting (λ _. laid) slot
+        → got ≡ found.bytes slot
+    page_bytes read laid got lies used unused puts = elim (cases_lt slot journal.extent) [
+      | inr past ↦
+          let out = past_extent journal.waiting (slots_in (length content)) slot fit (omega (arith, extent_is, past)) in
+          puts ∙ with_puts-beside journal.waiting (λ _. laid) slot out.0 ∙ unused past ∙ past_bytes past
+      | inl below ↦ elim (cases_Bool (is_put journal.waiting slot)) [
+        | inl put ↦ puts ∙ with_puts-put journal.waiting slot (λ _. laid) (file_map content).bytes put ∙ born_bytes
+        | inr none ↦
+            let leaves = λ (map : ℕ → List ℕ). with_puts-beside journal.waiting map slot none in
+            puts ∙ leaves (λ _. laid) ∙ used below ∙ lies (slot_lies below leaves) ∙ slot_bytes below leaves
+      ]
+    ]
 
   -- a slot of an unformatted file, or from the extent on
   pub unused_bytes : IsTrue (is_unborn content) ⊎ (journal.extent ≤ slot) → zeros ≡ found.bytes slot

@@ -8,6 +8,7 @@ pub mod InUseLemmas
 pub mod KeptLemmas
 pub mod MapLemmas
 pub mod OpenLemmas
+pub mod PageLemmas
 pub mod PrefixLemmas
 pub mod PutLemmas
 pub mod RangeLemmas

@@ -60,7 +60,7 @@ with_puts-beside (put ∷ puts) map slot beside =
     with_puts-beside puts (with_put put map) slot apart.1 ∙ cond-false (nat_eq slot put.slot) put.bytes (map slot) apart.0
 
 -- a put for the slot makes the map before count for nothing
-with_puts-put : (puts : List Put) (slot : ℕ) (first second : ℕ → List ℕ) → IsTrue (is_put puts slot)
+pub with_puts-put : (puts : List Put) (slot : ℕ) (first second : ℕ → List ℕ) → IsTrue (is_put puts slot)
     → with_puts puts first slot ≡ with_puts puts second slot
 with_puts-put [] slot first second none = absurd (both_ways false refl none)
 with_puts-put (put ∷ puts) slot first second is =

@@ -4,8 +4,8 @@ use Rattle.std.specs.List.{range_with_len}
 use Rattle.ss_fields.specs.Fields as Fields
 use Rattle.ss_outside.specs.Verdict.{fine, refused, no_memory, failed}
 use Rattle.ss_journal.specs.declared.format.TheConstants.{GATE_OPEN, MAGIC_END, ENTRIES, ENTRY_SIZE, FIRST_ENTRY, MOST_PUTS, PUT_SIZE, MOST_WAITING, SLOT_SIZE}
-use Rattle.ss_journal.specs.declared.format.TheConstants.{MOST_SLOTS, FIRST_SLOT, FILE_END}
-use Rattle.ss_journal.specs.Calls.{entries_after, verdict_of_open}
+use Rattle.ss_journal.specs.declared.format.TheConstants.{MOST_SLOTS, FIRST_SLOT, FILE_END, PAGE_SLOTS, PAGE_SIZE, MOST_PAGES}
+use Rattle.ss_journal.specs.Calls.{entries_after, slot_in_page, verdict_of_open}
 use Rattle.ss_journal.specs.declared.journal_error.JournalError.{JournalError}
 use Rattle.ss_journal.specs.declared.journal_error.JournalError.TheVariants.{Disk, NotAStore, BadEntry, OutOfMemory}
 use Rattle.ss_journal.specs.Format.{magic, is_unborn, is_born, slots_in}
@@ -175,6 +175,23 @@ the_most_slots = refl
 
 pub the_first_slot : FIRST_SLOT ≡ 36864
 the_first_slot = refl
+
+-- the pages are whole, and have all slots
+pub the_page_slots : PAGE_SLOTS ≡ 32
+the_page_slots = refl
+
+pub the_page_size : PAGE_SIZE ≡ SLOT_SIZE * PAGE_SLOTS
+the_page_size = refl
+
+pub the_most_pages : PAGE_SLOTS * MOST_PAGES ≡ MOST_SLOTS
+the_most_pages = refl
+
+-- the slots of a page stand one after the other
+pub slot_in_page-first : slot_in_page (replicate 128 1 ++ replicate 128 2 ++ replicate 128 3) 0 ≡ replicate 128 1
+slot_in_page-first = refl
+
+pub slot_in_page-second : slot_in_page (replicate 128 1 ++ replicate 128 2 ++ replicate 128 3) 1 ≡ replicate 128 2
+slot_in_page-second = refl
 
 pub the_file_end : FILE_END ≡ 134254592
 the_file_end = refl

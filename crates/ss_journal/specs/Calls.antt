@@ -1,5 +1,6 @@
 -- What the calls of a journal leave of the map, also in a crash, and what they make of the journal.
-use Rattle.std.specs.Prelude.{◌≡◌, ◌⊎◌, ℕ, ◌+◌, ◌<◌, nat_lt, if◌then◌else◌, List, Result, Ok, Err, IfOk, OnOk, IsTrue}
+use Rattle.std.specs.Prelude.{◌≡◌, ◌⊎◌, ℕ, ◌+◌, ◌*◌, ◌<◌, nat_lt, if◌then◌else◌, List, take, drop}
+use Rattle.std.specs.Prelude.{Result, Ok, Err, IfOk, OnOk, IsTrue}
 use Rattle.ss_outside.specs.Crash.{LeavesOnly, OnlyReads}
 use Rattle.ss_outside.specs.Verdict.{Verdict, fine, refused, no_memory, failed}
 use Rattle.ss_outside.specs.declared.source.Failed.{Failed}
@@ -7,7 +8,7 @@ use Rattle.ss_outside.specs.Disk.{Told, NothingPending}
 use Rattle.ss_journal.specs.declared.put.Put.{Put}
 use Rattle.ss_journal.specs.declared.journal_error.JournalError.{JournalError}
 use Rattle.ss_journal.specs.declared.journal_error.JournalError.TheVariants.{Disk, NotAStore, BadEntry, OutOfMemory}
-use Rattle.ss_journal.specs.declared.format.TheConstants.{ENTRIES}
+use Rattle.ss_journal.specs.declared.format.TheConstants.{ENTRIES, PAGE_SLOTS, SLOT_SIZE}
 use Rattle.ss_journal.specs.Format.{is_unborn, is_born}
 use Rattle.ss_journal.specs.Kept.{JournalState, IsKept, IsSettled, OpensAs}
 use Rattle.ss_journal.specs.Puts.{extent_after}
@@ -71,6 +72,16 @@ pub record Commits (journal : JournalState) (puts : List Put) (result : Result U
 -- A slot is read: its bytes are those of the map. Content and images stay.
 pub record ReadsSlot (slot : ℕ) (result : Result (List ℕ) Failed) (old new : Told) : Type 0 where
   pub bytes : (found : SlotMap) → StandsFor old.content found → IfOk result (λ bytes. bytes ≡ found.bytes slot)
+  pub reads : OnlyReads old new
+
+-- the bytes of a slot within those of its page, of which it is number k
+abbrev pub slot_in_page : List ℕ → ℕ → List ℕ
+slot_in_page bytes k = take SLOT_SIZE (drop (SLOT_SIZE * k) bytes)
+
+-- A page is read: its bytes are those of its slots in the map. Content and images stay.
+pub record ReadsPage (page : ℕ) (result : Result (List ℕ) Failed) (old new : Told) : Type 0 where
+  pub bytes : (found : SlotMap) → StandsFor old.content found →
+      IfOk result (λ bytes. (k : ℕ) → k < PAGE_SLOTS → slot_in_page bytes k ≡ found.bytes (PAGE_SLOTS * page + k))
   pub reads : OnlyReads old new
 
 -- What a settling makes of a journal, over every disk: no entry is in use.

@@ -35,6 +35,15 @@ pub const SLOT_SIZE: usize = 128;
 /// How many slots a file has at most. They are numbered from 0.
 pub const MOST_SLOTS: u32 = 1 << 20;
 
+/// How many slots a page has: it is read at once.
+pub const PAGE_SLOTS: u32 = 32;
+
+/// How many bytes a page has.
+pub const PAGE_SIZE: usize = 4096;
+
+/// How many pages a file has at most. They are numbered from 0.
+pub const MOST_PAGES: u32 = 1 << 15;
+
 /// Where the first slot begins.
 pub const FIRST_SLOT: u64 = 36864;
 

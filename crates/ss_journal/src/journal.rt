@@ -3,8 +3,9 @@ use crate::JournalError;
 use crate::birth::give_birth;
 use crate::committing::add_entry;
 use crate::entry::extent_after;
-use crate::format::{ENTRIES, MOST_SLOTS, SLOT_SIZE, slots_in};
+use crate::format::{ENTRIES, MOST_PAGES, MOST_SLOTS, PAGE_SIZE, SLOT_SIZE, slots_in};
 use crate::opening::{read_entries, read_head};
+use crate::paging::{clear_unused, lay_puts, read_slots};
 use crate::phase::Phase;
 use crate::put::Txn;
 use crate::reading::read_slot;
@@ -44,7 +45,7 @@ impl Journal {
     ghost use Rattle.ss_journal.specs.Puts.{slots_fit, IsTxn};
     ghost use Rattle.ss_journal.specs.Redo.{zeros};
     ghost use Rattle.ss_journal.specs.Kept.{IsKept, IsRunning, IsSettled, HasStopped};
-    ghost use Rattle.ss_journal.specs.Calls.{Commits, HasCommitted, HasMadeRoom, HasSettled, Opens, ReadsSlot, Settles, verdict_of_open};
+    ghost use Rattle.ss_journal.specs.Calls.{Commits, HasCommitted, HasMadeRoom, HasSettled, Opens, ReadsPage, ReadsSlot, Settles, verdict_of_open};
     ghost use Rattle.ss_journal.specs.Steps.{Reaches};
 
     /// Opens a disk, formatted or not. It reads the entries in use and writes nothing.
@@ -126,6 +127,33 @@ impl Journal {
         }
         match read_slot(disk, slot) {
             Ok(bytes) => Ok(bytes),
+            Err(failed) => {
+                self.phase = Phase::Stopped;
+                Err(failed)
+            }
+        }
+    }
+
+    /// The bytes of a page, which are those of its 32 slots one after the other: zeros where none were put. It makes at most
+    /// one call of the disk.
+    pub fn read_page<D: Disk>(&mut self, disk: &mut D, page: u32) -> Result<[u8; PAGE_SIZE], Failed>
+        requires running { IsRunning self.old }
+        requires page { page < MOST_PAGES }
+        requires one_disk { OfContent (D.seen disk.old) (IsKept self.old) }
+        ensures reads { Step (verdict result) (D.seen disk.old) (D.seen disk.new) (ReadsPage page result) }
+        ensures journal { OnOk result (self.new ≡ self.old) }
+        ensures stopped { OnErr result (HasStopped self.new) }
+    {
+        if self.phase == Phase::Unborn {
+            return Ok([0; PAGE_SIZE]);
+        }
+        let mut bytes = [0; PAGE_SIZE];
+        match read_slots(disk, page, &mut bytes) {
+            Ok(()) => {
+                clear_unused(&mut bytes, page, self.extent);
+                lay_puts(&mut bytes, page, self.waiting.as_slice());
+                Ok(bytes)
+            }
             Err(failed) => {
                 self.phase = Phase::Stopped;
                 Err(failed)

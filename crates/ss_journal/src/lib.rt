@@ -9,6 +9,7 @@ mod journal;
 mod journal_error;
 mod laws;
 mod opening;
+mod paging;
 mod phase;
 mod put;
 mod reading;
@@ -16,7 +17,10 @@ mod settling;
 mod waiting;
 mod writing;
 
-pub use format::{ENTRY_SIZE, FIRST_ENTRY, FIRST_SLOT, MOST_PUTS, MOST_SLOTS, SLOT_SIZE};
+pub use format::{
+    ENTRY_SIZE, FIRST_ENTRY, FIRST_SLOT, MOST_PAGES, MOST_PUTS, MOST_SLOTS, PAGE_SIZE, PAGE_SLOTS,
+    SLOT_SIZE,
+};
 pub use journal::Journal;
 pub use journal_error::JournalError;
 pub use laws::redo_is_idempotent;

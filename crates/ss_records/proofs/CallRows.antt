@@ -1,5 +1,7 @@
 -- Rows that pin what the calls of records leave, field by field.
-use Rattle.std.proofs.Common.{◌≡◌, ℕ, ◌<◌, Bool, true, List, length, Result, Ok, not, lit≤}
+use Rattle.std.proofs.Common.{◌≡◌, refl, ℕ, ◌+◌, ◌*◌, ◌<◌, ◌≤◌, ◌⊎◌, inl, inr, Bool, true, not, lit≤}
+use Rattle.std.proofs.Common.{List, [], ◌∷◌, length, map, take, drop, Result, Ok}
+use Rattle.std.specs.List.{range_with_len}
 use Rattle.ss_outside.specs.Crash.{OnlyReads}
 use Rattle.ss_outside.specs.Disk.{Told}
 use Rattle.ss_outside.specs.declared.source.Failed.{Failed}
@@ -12,6 +14,7 @@ use Rattle.ss_journal.specs.declared.put.Put.{Put}
 use Rattle.ss_records.specs.Calls.{AppliesPuts, OpensRecords, ReadsRecord, SettlesRecords}
 use Rattle.ss_records.specs.Kept.{AreKept, AreSound, RecordsState, journal_of}
 use Rattle.ss_records.specs.Live.{AreLiveIn, are_zeros, is_live}
+use Rattle.ss_records.specs.Pages.{ArePages, IsPage, Recalls}
 
 module _ (records : RecordsState) (old new : Told) where
   OpensRecords-Ok : OpensRecords (Ok records) old new → AreKept records new.content
@@ -55,11 +58,57 @@ module _ (records : RecordsState) where
   AreKept-free : (content : List ℕ) (found : SlotMap) → AreKept records content → StandsFor content found → AreLiveIn records.live found.bytes
   AreKept-free content found kept is = kept.free found is
 
+  AreKept-cached : (content : List ℕ) (found : SlotMap) → AreKept records content → StandsFor content found → ArePages records.cached found.bytes
+  AreKept-cached content found kept is = kept.cached found is
+
   AreSound-slots : AreSound records → length records.live ≡ MOST_SLOTS
   AreSound-slots sound = sound.slots
 
   AreSound-below : AreSound records → IsRunning records.journal → (slot : ℕ) → is_live records.live slot ≡ true → slot < records.journal.extent
   AreSound-below sound = sound.below
+
+  -- 64 pages are cached at most
+  AreSound-few : AreSound records → length records.cached ≤ 64
+  AreSound-few sound = sound.few
+
+-- a first page and the last one that a file can have, whose last slot is the last of the map
+ArePages-first : (bytes : List ℕ) (map : ℕ → List ℕ) → ArePages ((0, bytes) ∷ []) map → take 128 bytes ≡ map 0
+ArePages-first bytes map are = are 0 bytes (0, lit≤ tt, refl) (lit≤ tt) 0 (lit≤ tt)
+
+ArePages-last : (bytes : List ℕ) (map : ℕ → List ℕ) → ArePages ((32767, bytes) ∷ []) map → take 128 (drop 3968 bytes) ≡ map 1048575
+ArePages-last bytes map are = are 32767 bytes (0, lit≤ tt, refl) (lit≤ tt) 31 (lit≤ tt)
+
+-- a page is that of a map if each of its slots is
+IsPage-slots : (map : ℕ → List ℕ) (bytes : List ℕ) → ((k : ℕ) → k < 32 → take 128 (drop (128 * k) bytes) ≡ map (64 + k))
+    → IsPage map 2 bytes
+IsPage-slots map bytes each = each
+
+-- the second of three pages is read: it comes first, and the others stay in their order
+module _ (first second third now : List ℕ) where
+  Recalls-second : Recalls 63 ((5, first) ∷ (1, second) ∷ (9, third) ∷ []) ((1, second) ∷ (5, first) ∷ (9, third) ∷ [])
+  Recalls-second = inl refl
+
+  -- and nothing else may be left
+  Recalls-only : (left : List (ℕ × List ℕ)) → Recalls 63 ((5, first) ∷ (1, second) ∷ (9, third) ∷ []) left
+      → left ≡ (1, second) ∷ (5, first) ∷ (9, third) ∷ []
+  Recalls-only left (inl is) = is
+  Recalls-only left (inr put) = absurd (cc)
+
+  -- another page comes before them, or all stays
+  Recalls-other : Recalls 64 ((5, first) ∷ (1, second) ∷ []) ((2, now) ∷ (5, first) ∷ (1, second) ∷ [])
+  Recalls-other = inr (now, refl, refl)
+
+  Recalls-starved : Recalls 64 ((5, first) ∷ (1, second) ∷ []) ((5, first) ∷ (1, second) ∷ [])
+  Recalls-starved = inl refl
+
+  Recalls-new : (left : List (ℕ × List ℕ)) → Recalls 64 ((5, first) ∷ (1, second) ∷ []) left
+      → (left ≡ (5, first) ∷ (1, second) ∷ []) ⊎ ((bytes : List ℕ) × (left ≡ (2, bytes) ∷ (5, first) ∷ (1, second) ∷ []))
+  Recalls-new left (inl is) = inl is
+  Recalls-new left (inr put) = inr (put.0, put.2)
+
+-- of 64 pages the last goes
+Recalls-most : (now : List ℕ) → Recalls 64 (map (λ n. (n + 5, [])) (range_with_len 0 64)) ((2, now) ∷ map (λ n. (n + 5, [])) (range_with_len 0 63))
+Recalls-most now = inr (now, refl, refl)
 
 -- the last slot that a file can have is live where it isn't zeros
 AreLiveIn-last : (live : List Bool) (map : ℕ → List ℕ) → AreLiveIn live map → is_live live 1048575 ≡ not (are_zeros (map 1048575))

@@ -1,7 +1,10 @@
--- Worked rows: four slots, of which the first and the third are live.
-use Rattle.std.proofs.Common.{◌≡◌, true, false, Bool, List, [], ◌∷◌, replicate, Some, None, refl}
+-- Worked rows: four slots, of which the first and the third are live; and cached pages.
+use Rattle.std.proofs.Common.{◌≡◌, ℕ, ◌*◌, true, false, Bool, List, [], ◌∷◌, ◌++◌, replicate, Some, None, refl}
+use Rattle.ss_journal.specs.declared.format.TheConstants.{PAGE_SIZE}
 use Rattle.ss_records.specs.Bits.{is_set, is_full}
 use Rattle.ss_records.specs.Live.{are_zeros, is_live, live_count, lowest_free, live_after}
+use Rattle.ss_records.specs.Pages.{cached_slot}
+use Rattle.ss_records.specs.declared.pages.TheConstants.{MOST_CACHED}
 
 abbrev live : List Bool
 live = true ∷ false ∷ true ∷ false ∷ []
@@ -41,3 +44,19 @@ is_set-second = refl
 
 pub is_full-all : is_full 0xffff_ffff_ffff_ffff ≡ true
 is_full-all = refl
+
+-- of page 2 the second slot, which is slot 65, holds sevens
+abbrev cached : List (ℕ × List ℕ)
+cached = (0, []) ∷ (2, replicate 128 5 ++ replicate 128 7) ∷ []
+
+pub cached_slot-second : cached_slot cached 65 ≡ Some (replicate 128 7)
+cached_slot-second = refl
+
+pub cached_slot-next : cached_slot cached 96 ≡ None
+cached_slot-next = refl
+
+pub cached_slot-before : cached_slot cached 63 ≡ None
+cached_slot-before = refl
+
+pub most_cached-size : MOST_CACHED * PAGE_SIZE ≡ 262144
+most_cached-size = refl

@@ -1,26 +1,31 @@
 -- Records and the content of their disk.
-use Rattle.std.specs.Prelude.{◌≡◌, ℕ, ◌<◌, Bool, true, List, length, Result, Ok, Err}
+use Rattle.std.specs.Prelude.{◌≡◌, ℕ, ◌<◌, ◌≤◌, Bool, true, List, length, Result, Ok, Err}
 use Rattle.ss_journal.specs.declared.format.TheConstants.{MOST_SLOTS}
 use Rattle.ss_journal.specs.declared.journal_error.JournalError.{JournalError}
 use Rattle.ss_journal.specs.Kept.{JournalState, IsKept, IsRunning}
 use Rattle.ss_journal.specs.Redo.{SlotMap, StandsFor}
 use Rattle.ss_records.specs.Live.{is_live, AreLiveIn}
+use Rattle.ss_records.specs.Pages.{ArePages}
+use Rattle.ss_records.specs.declared.pages.TheConstants.{MOST_CACHED}
 
--- records: their journal, and of each slot whether it is live
+-- records: their journal, of each slot whether it is live, and the pages that are cached, the most recently used first
 pub record RecordsState : Type 0 where
   pub journal : JournalState
   pub live : List Bool
+  pub cached : List (ℕ × List ℕ)
 
--- One disk: what is said of a journal; and the free slots are those of the map.
+-- One disk: what is said of a journal; and the free slots and every cached page are those of the map.
 pub record AreKept (records : RecordsState) (content : List ℕ) : Type 0 where
   pub journal : IsKept records.journal content
   pub free : (found : SlotMap) → StandsFor content found → AreLiveIn records.live found.bytes
+  pub cached : (found : SlotMap) → StandsFor content found → ArePages records.cached found.bytes
 
 -- What is true of records over every disk, whatever it tells.
 pub record AreSound (records : RecordsState) : Type 0 where
   pub slots : length records.live ≡ MOST_SLOTS
   -- while no call has failed, each live slot lies below the extent
   pub below : IsRunning records.journal → (slot : ℕ) → is_live records.live slot ≡ true → slot < records.journal.extent
+  pub few : length records.cached ≤ MOST_CACHED
 
 -- the journal of what opening answers
 abbrev pub journal_of : Result RecordsState JournalError → Result JournalState JournalError

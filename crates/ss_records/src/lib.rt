@@ -4,6 +4,7 @@
 mod bits;
 mod laws;
 mod live;
+mod pages;
 mod records;
 mod slot_set;
 

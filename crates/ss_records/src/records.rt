@@ -1,7 +1,8 @@
 // The records.
 use crate::live::{note_puts, read_live};
+use crate::pages::{Pages, slot_of};
 use crate::slot_set::SlotSet;
-use ss_journal::{Journal, JournalError, MOST_SLOTS, SLOT_SIZE, Txn};
+use ss_journal::{Journal, JournalError, MOST_SLOTS, PAGE_SLOTS, SLOT_SIZE, Txn};
 use ss_outside::{Disk, Failed};
 use std::alloc::Global;
 use std::marker::Model;
@@ -9,11 +10,14 @@ use std::marker::Model;
 /// A map from 2^20 slots to 128 bytes each, which knows the slots that aren't zeros. It lies on a disk that it doesn't
 /// hold: each call takes the disk, as the last such call left it. After a call that answers `Failed` no further call may
 /// take the disk. Open it again.
+///
+/// It keeps at most 64 pages of 32 slots in memory, so that a slot of such a page is read without a call of the disk.
 #[derive(Drop)]
 pub struct Records {
     journal: Journal,
     // The slots that aren't zeros.
     live: SlotSet,
+    pages: Pages,
 }
 
 impl Model for Records {
@@ -21,13 +25,13 @@ impl Model for Records {
 
     ghost Value = { RecordsState };
 
-    ghost view = { λ s. record { journal = s.journal; live = s.live } };
+    ghost view = { λ s. record { journal = s.journal; live = s.live; cached = s.pages } };
 
-    ghost invariant = { λ s. AreSound (record { journal = s.journal; live = s.live }) };
+    ghost invariant = { λ s. AreSound (record { journal = s.journal; live = s.live; cached = s.pages }) };
 }
 
 impl Records {
-    ghost use Rattle.std.specs.Prelude.{◌≡◌, ◌≤◌, ◌<◌, ◌↔◌, IsTrue, IsNone, IfSome, IfOk, OnOk, OnErr};
+    ghost use Rattle.std.specs.Prelude.{◌≡◌, ◌≤◌, ◌<◌, ◌↔◌, [], IsTrue, IsNone, IsSome, IfSome, IfOk, OnOk, OnErr};
     ghost use Rattle.ss_outside.specs.Disk.{OfContent};
     ghost use Rattle.ss_outside.specs.Step.{Step};
     ghost use Rattle.ss_outside.specs.Verdict.{verdict};
@@ -37,6 +41,7 @@ impl Records {
     ghost use Rattle.ss_journal.specs.Kept.{IsRunning, IsSettled, HasStopped};
     ghost use Rattle.ss_records.specs.Calls.{AppliesPuts, OpensRecords, ReadsRecord, SettlesRecords};
     ghost use Rattle.ss_records.specs.Live.{is_live, live_count, lowest_free, live_after};
+    ghost use Rattle.ss_records.specs.Pages.{cached_slot, Recalls};
     ghost use Rattle.ss_records.specs.Kept.{AreKept, AreSound};
 
     /// Opens a disk, formatted or not. It reads the entries in use, and each slot below the extent once, and writes nothing.
@@ -48,7 +53,12 @@ impl Records {
     {
         let mut journal = Journal::open(alloc, disk)?;
         let live = read_live(alloc, &mut journal, disk)?;
-        Ok(Records { journal, live })
+        let pages = Pages::new(alloc)?;
+        Ok(Records {
+            journal,
+            live,
+            pages,
+        })
     }
 
     /// How many slots were used: those of the file, and one more for each put into the slot that was next.
@@ -96,12 +106,15 @@ impl Records {
         ensures settles { Step (verdict result) (D.seen disk.old) (D.seen disk.new) (SettlesRecords self.new result) }
         ensures settled { OnOk result (HasSettled self.old.journal self.new.journal) }
         ensures live { self.new.live ≡ self.old.live }
+        ensures cached { self.new.cached ≡ self.old.cached }
         ensures stopped { OnErr result (HasStopped self.new.journal) }
     {
         self.journal.settle(disk)
     }
 
-    /// The bytes of a slot: zeros where none were put.
+    /// The bytes of a slot: zeros where none were put. Where its page isn't cached the whole page is read, by one call of the
+    /// disk, and is cached then if there is memory for it, in place of the least recently used one where 64 are. A read that
+    /// fails caches nothing.
     pub fn read<D: Disk>(&mut self, disk: &mut D, slot: u32) -> Result<[u8; SLOT_SIZE], Failed>
         requires running { IsRunning self.old.journal }
         requires slot { slot < MOST_SLOTS }
@@ -110,9 +123,21 @@ impl Records {
         ensures unused { self.old.journal.extent ≤ slot → IfOk result (λ bytes. bytes ≡ zeros) }
         ensures journal { OnOk result (self.new.journal ≡ self.old.journal) }
         ensures live { self.new.live ≡ self.old.live }
+        // A slot below the extent whose page is cached is read without the disk.
+        ensures uncalled { slot < self.old.journal.extent → IsSome (cached_slot self.old.cached slot) → disk.new ≡ disk.old }
+        ensures recalls { slot < self.old.journal.extent → Recalls slot self.old.cached self.new.cached }
+        ensures uncached { OnErr result (self.new.cached ≡ self.old.cached) }
         ensures stopped { OnErr result (HasStopped self.new.journal) }
     {
-        self.journal.read(disk, slot)
+        if slot >= self.journal.extent() {
+            return self.journal.read(disk, slot);
+        }
+        if let Some(bytes) = self.pages.find(slot) {
+            return Ok(bytes);
+        }
+        let page = self.journal.read_page(disk, slot / PAGE_SLOTS)?;
+        self.pages.keep(slot / PAGE_SLOTS, &page);
+        Ok(slot_of(&page, slot % PAGE_SLOTS))
     }
 
     /// Puts all of the transaction's bytes into their slots. A slot is live then where its bytes aren't all 0. A crash at
@@ -129,10 +154,16 @@ impl Records {
         ensures committed { OnOk result (HasCommitted txn.now.items self.old.journal self.new.journal) }
         ensures live { OnOk result (self.new.live ≡ live_after txn.now.items self.old.live) }
         ensures err { OnErr result (self.new.live ≡ self.old.live) }
+        // No page is left that may differ from the map.
+        ensures uncached { OnErr result (self.new.cached ≡ []) }
         ensures stopped { OnErr result (HasStopped self.new.journal) }
     {
-        self.journal.commit(disk, txn)?;
+        if let Err(failed) = self.journal.commit(disk, txn) {
+            self.pages.clear();
+            return Err(failed);
+        }
         note_puts(&mut self.live, txn);
+        self.pages.put_all(txn);
         Ok(())
     }
 }

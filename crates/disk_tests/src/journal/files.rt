@@ -84,7 +84,7 @@ pub fn is_file(disk: &MemDisk, length: usize, in_use: usize) -> bool {
     bytes.len() == length
 }
 
-fn byte_at(map: Map<'_>, slot: usize) -> u8 {
+pub fn byte_at(map: Map<'_>, slot: usize) -> u8 {
     if slot < map.len() { map[slot] } else { 0 }
 }
 

@@ -1,6 +1,5 @@
-use Rattle.std.proofs.Common.{◌≡◌, ◌≢◌, false, inl, inr, sym, ◌∙◌, ap, subst, rules}
-use denote.Enum.Bare.{same_true, sameb}
-use Rattle.std.proofs.lemmas.Bool.{both_ways}
+use Rattle.std.proofs.Common.{◌≡◌, inl, inr, sym, ◌∙◌, subst, rules}
+use denote.Enum.Bare.{same_true}
 use Rattle.ss_outside.proofs.CrashLemmas.{reads-none}
 use Rattle.ss_outside.proofs.StepLemmas.{step-none}
 use Rattle.ss_journal.specs.contracts.phase.Phase.{the_type}
@@ -8,7 +7,7 @@ use Rattle.ss_journal.specs.declared.phase.Phase.{Phase}
 use Rattle.ss_journal.specs.declared.phase.Phase.TheVariants.{Unborn}
 use Rattle.ss_journal.specs.Kept.{IsInPhase, IsKept, JournalState}
 use Rattle.ss_journal.specs.Redo.{file_map}
-use Rattle.ss_journal.proofs.KeptLemmas.{unused_bytes, born_phase, born_bytes, slot_lies, slot_bytes}
+use Rattle.ss_journal.proofs.KeptLemmas.{unused_bytes, born_phase, born_bytes, not_first, slot_lies, slot_bytes}
 use Rattle.ss_journal.proofs.StepLemmas.{step-from}
 use Rattle.ss_journal.proofs.journal.Journal.read.Goals as goal
 use Rattle.ss_journal.proofs.journal.Journal.read.Goals.{then-eq-via-then-eq, then-eq-via-else-eq+then-slot-self}
@@ -28,10 +27,6 @@ returns-then-eq-clause-reads g c =
       ];
       reads = reads-none _;
     })
-
--- a journal whose phase isn't the first is over a formatted file
-not_first : (phase : Phase) → sameb the_type phase Unborn ≡ false → phase ≢ Unborn
-not_first phase not same = both_ways _ not (ap (λ (p : Phase). sameb the_type p Unborn) same)
 
 pub returns-in-Some-clause-reads : goal.returns-in-Some-clause-reads
 returns-in-Some-clause-reads g c =

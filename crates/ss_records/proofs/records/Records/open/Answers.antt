@@ -2,7 +2,7 @@ use Rattle.std.proofs.Common.{subst, sym}
 use Rattle.std.proofs.lemmas.Result.{err_from_is_err_and}
 use Rattle.ss_journal.specs.Kept.{IsKept}
 use Rattle.ss_journal.proofs.StepLemmas.{after-step, step-next}
-use Rattle.ss_records.proofs.RecordLemmas.{opens-failed, opens-read}
+use Rattle.ss_records.proofs.RecordLemmas.{opens-failed, opens-read, opens-starved, step-starved}
 use Rattle.ss_records.proofs.records.Records.open.Goals as goal
 
 pub read_live-requires-clause-one_disk : goal.read_live-requires-clause-one_disk
@@ -17,5 +17,11 @@ returns-in_err-live-clause-opens g c =
 
 pub returns-clause-opens : goal.returns-clause-opens
 returns-clause-opens g c =
-    step-next c.in_ok-journal.ensures.opens c.in_ok-live.ensures.live
-    (λ told then opened read. opens-read c.in_ok-journal.journal c.read_live.new.journal c.in_ok-live.live _ _ _ c.in_ok-live.ensures.journal opened read)
+    rw c.in_ok-pages.ensures (step-next c.in_ok-journal.ensures.opens c.in_ok-live.ensures.live
+    (λ told then opened read. opens-read c.in_ok-journal.journal c.read_live.new.journal c.in_ok-live.live _ _ _ c.in_ok-live.ensures.journal opened read))
+
+pub returns-in_err-pages-clause-opens : goal.returns-in_err-pages-clause-opens
+returns-in_err-pages-clause-opens g c =
+    let error = err_from_is_err_and c.from_residual-in_err-pages.result c.from_residual-in_err-pages.ensures.1 in
+    rw (error.1, error.2) (step-starved (step-next c.in_ok-journal.ensures.opens c.in_ok-live.ensures.live
+    (λ told then opened read. opens-starved c.in_ok-journal.journal c.in_ok-live.live _ _ _ opened read)))

@@ -13,6 +13,6 @@ settle-requires-clause-one_disk g c told =
 pub returns-clause-settles : goal.returns-clause-settles
 returns-clause-settles g c =
     step-from c.settle.ensures.settles (λ told settles.
-    settles-records c.self.inside.journal c.self.inside.live _
+    settles-records c.self.inside.journal c.self.inside.live c.self.inside.pages _
     (subst (λ (records : RecordsState). AreKept records (g.D.Disk.seen c.args.disk.now).told.content) (sym c.self.view_is) (c.requires.one_disk told))
     _ c.settle.new.self c.settle.result settles)

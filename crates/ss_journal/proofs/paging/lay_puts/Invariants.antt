@@ -1,0 +1,8 @@
+use Rattle.std.proofs.Common.{◌≡◌, ◌+◌, ◌*◌, ◌<◌, ℕ, take}
+use Rattle.ss_journal.specs.Calls.{slot_in_page}
+use Rattle.ss_journal.specs.Puts.{with_puts}
+use Rattle.ss_journal.proofs.paging.lay_puts.Given as goal
+
+abbrev pub invariant-loop-put : goal.invariant-loop-put
+invariant-loop-put l = (k : ℕ) → k < 32
+    → slot_in_page l.bytes k ≡ with_puts (take l.put-index l.puts) (λ _. slot_in_page l.initial.bytes k) (32 * l.page + k)
