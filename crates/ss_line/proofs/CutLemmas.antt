@@ -15,7 +15,7 @@ use Rattle.ss_line.specs.Line.{LineState, StandsIn, is_at, index_of, place_at, p
 use Rattle.ss_line.specs.Chain.{entry_in, behind_in, before_in, Joins, GivesBack, WritesEntry}
 use Rattle.ss_line.specs.Held.{IsHeld}
 use Rattle.ss_line.proofs.IndexLemmas.{counted, entry_there, place_at-index, not_placed, not_before, one_index, place_at-differ, place_before-differ}
-use Rattle.ss_line.proofs.IndexLemmas.{place_at-set, place_before-set}
+use Rattle.ss_line.proofs.IndexLemmas.{nothing, place_at-set, place_before-set}
 use Rattle.ss_line.proofs.IndexLemmas.{slice_get-remove_below, slice_get-remove_above, place_at-remove_below, place_at-remove_above}
 use Rattle.ss_line.proofs.IndexLemmas.{place_before-remove_below, place_before-remove_above, slice_get-set_same, slice_get-set_other}
 use Rattle.ss_line.proofs.HeldLemmas.{one, one-le, is_place, apart}
@@ -107,8 +107,8 @@ module _ (line : LineState) (old : Chain) (len : ℕ) (held : IsHeld line old le
           once = λ other. omega (
             arith,
             held.once other,
-            sum_by-remove (λ e. one (is_at other e)) line.entries index (at, record { first = 0; last = 0; slot = 0 }) stands,
-            counts-index other (at, record { first = 0; last = 0; slot = 0 }),
+            sum_by-remove (λ e. one (is_at other e)) line.entries index (at, nothing) stands,
+            counts-index other (at, nothing),
             sum_by-cons (λ f. one (is_place other f)) at held.frees,
             ap (λ n. one (nat_lt other.0 n)) nodes,
           );

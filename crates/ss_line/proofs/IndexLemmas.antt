@@ -83,6 +83,10 @@ module _ {X : Type 0} where
 abbrev pub place_of : At × Entry → At
 place_of entry = entry.0
 
+-- an entry to name where none is read
+abbrev pub nothing : Entry
+nothing = record { first = 0; last = 0; t_first = 0; t_last = 0; slot = 0 }
+
 module _ (entries : List (At × Entry)) where
   -- there is a place at each index, and none past the end
   pub place_at-some : (k : ℕ) (entry : At × Entry) → slice_get entries k ≡ Some entry → place_at entries k ≡ Some entry.0
@@ -94,11 +98,11 @@ module _ (entries : List (At × Entry)) where
   -- the entry that stands at a place
   pub entry_there : (at : At) → StandsIn entries at → (entry : Entry) × (slice_get entries (index_of entries at) ≡ Some (at, entry))
   entry_there at stands =
-      let found = get_or entries (index_of entries at) (at, record { first = 0; last = 0; slot = 0 }) in
-      let number : found.0.0 ≡ at.0 = eqb-true _ _ (passes_at_first (is_at at) entries (at, record { first = 0; last = 0; slot = 0 }) stands) in
+      let found = get_or entries (index_of entries at) (at, nothing) in
+      let number : found.0.0 ≡ at.0 = eqb-true _ _ (passes_at_first (is_at at) entries (at, nothing) stands) in
       let place : found.0 ≡ at = ap (λ (n : ℕ). let place : At = record { 0 = n } in place) number in (
         found.1,
-        slice_get-get_or entries (index_of entries at) (at, record { first = 0; last = 0; slot = 0 }) stands ∙
+        slice_get-get_or entries (index_of entries at) (at, nothing) stands ∙
             ap (λ (place : At). Some (place, found.1)) place,
       )
 

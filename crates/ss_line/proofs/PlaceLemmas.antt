@@ -12,6 +12,7 @@ use Rattle.std.specs.Option.{option_map}
 use Rattle.ss_line.specs.declared.entry.At.{At}
 use Rattle.ss_line.specs.declared.entry.Entry.{Entry}
 use Rattle.ss_line.specs.Line.{StandsIn, is_at, index_of, entry_at, place_at, place_before}
+use Rattle.ss_line.proofs.IndexLemmas.{nothing}
 
 -- what is read at the index of a place
 pub entry_at-read : (entries : List (At × Entry)) (at : At) (found : At × Entry) → StandsIn entries at →
@@ -93,23 +94,22 @@ module _ (entries : List (At × Entry)) (at : At) where
 
   pub entry_at-remove_other : (other : At) → at.0 ≢ other.0 → entry_at (remove entries (index_of entries other)) at ≡ entry_at entries at
   entry_at-remove_other other differ =
-      let nothing : Entry = record { first = 0; last = 0; slot = 0 } in
       ap (option_map (λ e. e.1)) (find-remove_other (is_at at) entries (index_of entries other) (other, nothing) (not_at-other other nothing differ))
 
   -- a place that stood once is gone
   pub gone-remove : StandsIn entries at → count_by (is_at at) entries ≤ 1 → ¬ StandsIn (remove entries (index_of entries at)) at
   gone-remove stood once stands =
-      let nothing : At × Entry = (at, record { first = 0; last = 0; slot = 0 }) in
+      let here : At × Entry = (at, nothing) in
       let left = remove entries (index_of entries at) in
-      let was = cond-true {A = ℕ} _ 1 0 (passes_at_first (is_at at) entries nothing stood) in
-      let is = cond-true {A = ℕ} _ 1 0 (passes_at_first (is_at at) left nothing stands) in
+      let was = cond-true {A = ℕ} _ 1 0 (passes_at_first (is_at at) entries here stood) in
+      let is = cond-true {A = ℕ} _ 1 0 (passes_at_first (is_at at) left here stands) in
       omega (
         arith,
         was,
         is,
-        sum_by-remove (λ e. cond (is_at at e) 1 0) entries (index_of entries at) nothing stood,
+        sum_by-remove (λ e. cond (is_at at e) 1 0) entries (index_of entries at) here stood,
         get_or-le-sum_by
-            (λ e. cond (is_at at e) 1 0) left (index_of left at) nothing stands,
+            (λ e. cond (is_at at e) 1 0) left (index_of left at) here stands,
         once,
       )
 
@@ -123,5 +123,5 @@ module _ (entries : List (At × Entry)) (at : At) where
               (sym (ap is_some (found ∙ ap (option_map (λ (e : At × Entry). e.1)) (slice_get_past entries index past))) ∙ is))
         ],
         λ stands. ap is_some (found ∙
-            ap (option_map (λ (e : At × Entry). e.1)) (slice_get-get_or entries index (at, record { first = 0; last = 0; slot = 0 }) stands)),
+            ap (option_map (λ (e : At × Entry). e.1)) (slice_get-get_or entries index (at, nothing) stands)),
       )

@@ -1,5 +1,5 @@
 -- Worked rows: a line of three, at the places 2, 0 and 1, and the nodes that hold it, of which that of place 3 is free.
-use Rattle.std.proofs.Common.{◌≡◌, ℕ, ◌^◌, List, [], ◌∷◌, remove, Option, Some, None, slice_get, ap, refl}
+use Rattle.std.proofs.Common.{◌≡◌, ℕ, ◌*◌, ◌^◌, List, [], ◌∷◌, remove, Option, Some, None, slice_get, ap, refl}
 use Rattle.std.specs.Option.{option_and_then}
 use Rattle.ss_line.specs.declared.entry.At.{At}
 use Rattle.ss_line.specs.declared.entry.Entry.{Entry}
@@ -14,7 +14,7 @@ abbrev place : ℕ → At
 place n = record { 0 = n }
 
 abbrev window : ℕ → ℕ → Entry
-window first last = record { first = first; last = last; slot = 9 }
+window first last = record { first = first; last = last; t_first = 10 * first; t_last = 10 * last; slot = 9 }
 
 abbrev line : List (At × Entry)
 line = (place 2, window 1 4) ∷ (place 0, window 5 6) ∷ (place 1, window 7 7) ∷ []

@@ -142,9 +142,10 @@ impl Line {
         self.chain.write(at, entry);
     }
 
-    /// Takes the entry out of the line. Its place is free again, and one more is to spare.
-    pub fn cut_out<L: Ledger>(&mut self, at: At, steps: &mut Steps<L>)
+    /// Takes the entry out of the line, and gives it. Its place is free again, and one more is to spare.
+    pub fn cut_out<L: Ledger>(&mut self, at: At, steps: &mut Steps<L>) -> Entry
         requires { StandsIn self.old.entries at }
+        ensures entry { entry_at self.old.entries at ≡ Some result }
         ensures entries { self.new.entries ≡ remove self.old.entries (index_of self.old.entries at) }
         ensures spare { self.new.spare ≡ self.old.spare + 1 }
         ensures look { steps.new ≡ steps.old + 1 }
@@ -155,6 +156,7 @@ impl Line {
         self.chain.give_back(at);
         self.len -= 1;
         self.spare += 1;
+        cut.entry
     }
 
     /// The places before and after a place.

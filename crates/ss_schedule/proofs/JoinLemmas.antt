@@ -51,26 +51,13 @@ module _ (entries : List (At × Entry)) (left right : At) (it : AreSideBySide en
   pub entry-joined : (line : List (At × Entry)) (e : Entry) → line ≡ it.before ++ (left, e) ∷ it.rest → entry_at line left ≡ Some e
   entry-joined line e is = ap (λ es. entry_at es left) is ∙ entry-once it.before left e it.rest it.left_once
 
-  -- the entry that two neighbours make, whichever way the line is split
-  pub joined-is : (other : AreSideBySide entries left right) (first last : ℕ) (e : Entry) → first ≡ other.window.first → last ≡ other.next.last →
-      entry_at (remove entries (index_of entries right)) left ≡ Some e →
-      let one : Entry = record { first = first; last = last; slot = e.slot } in one ≡ joined_entry it.window it.next
-  joined-is other first last e is_first is_last read =
-      let same_left = some-same other.window it.window (sym other-left ∙ entry-left) in
-      let same_right = some-same other.next it.next (sym other-right ∙ entry-right) in
-      let same_slot = some-same e it.window (sym read ∙ entry-joined (remove entries (index_of entries right)) it.window cut-is) in
-      let one = is_first ∙ ap (λ (x : Entry). x.first) same_left in
-      let two = is_last ∙ ap (λ (x : Entry). x.last) same_right in
-      let three = ap (λ (x : Entry). x.slot) same_slot in
-      cc
-    where
-      other-left : entry_at entries left ≡ Some other.window
-      other-left = ap (λ es. entry_at es left) other.is ∙ entry-once other.before left other.window ((right, other.next) ∷ other.rest) other.left_once
-
-      other-right : entry_at entries right ≡ Some other.next
-      other-right =
-          let there = other.is ∙ sym (append_assoc other.before ((left, other.window) ∷ []) ((right, other.next) ∷ other.rest)) in
-          ap (λ es. entry_at es right) there ∙ entry-once (other.before ++ (left, other.window) ∷ []) right other.next other.rest other.right_once
+  -- the entry that the two make, as they are read
+  pub joined-is : (window next : Entry) → entry_at (remove entries (index_of entries right)) left ≡ Some window → entry_at entries right ≡ Some next →
+      joined_entry window next ≡ joined_entry it.window it.next
+  joined-is window next read_left read_right =
+      ap₂ joined_entry
+      (some-same window it.window (sym read_left ∙ entry-joined (remove entries (index_of entries right)) it.window cut-is))
+      (some-same next it.next (sym read_right ∙ entry-right))
 
   pub length-joined : (line : List (At × Entry)) (e : Entry) → line ≡ it.before ++ (left, e) ∷ it.rest → length line + 1 ≡ length entries
   length-joined line e is =

@@ -1,5 +1,5 @@
 -- Worked rows: a line of three, at the places 2, 0 and 1.
-use Rattle.std.proofs.Common.{◌≡◌, ◌-◌, ◌^◌, ℕ, List, [], ◌∷◌, Option, Some, None, arith, refl, lit≤}
+use Rattle.std.proofs.Common.{◌≡◌, ◌-◌, ◌*◌, ◌^◌, ℕ, List, [], ◌∷◌, Option, Some, None, arith, refl, lit≤}
 use Rattle.ss_catalog.specs.declared.params.Params.TheVariants.{Exp}
 use Rattle.ss_line.specs.declared.entry.At.{At}
 use Rattle.ss_line.specs.declared.entry.Entry.{Entry}
@@ -14,7 +14,7 @@ abbrev place : ℕ → At
 place n = record { 0 = n }
 
 abbrev window : ℕ → ℕ → ℕ → Entry
-window first last slot = record { first = first; last = last; slot = slot }
+window first last slot = record { first = first; last = last; t_first = 10 * first; t_last = 10 * last; slot = slot }
 
 abbrev line : List (At × Entry)
 line = (place 2, window 1 4 9) ∷ (place 0, window 5 6 3) ∷ (place 1, window 7 7 8) ∷ []
@@ -31,7 +31,7 @@ pair_at-last = refl
 pub pair_at-none : pair_at line (place 3) ≡ None
 pair_at-none = refl
 
--- the slot is that of the left one
+-- the slot and the first time are those of the left one, and the last time is that of the right one
 pub joined_entry-first : joined_entry (window 1 4 9) (window 5 6 3) ≡ window 1 6 9
 joined_entry-first = refl
 

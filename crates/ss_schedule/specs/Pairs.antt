@@ -51,4 +51,10 @@ pub record IsPairIn (entries : List (At × Entry)) (pair : Pair) : Type 0 where
 
 -- two entries as one, in the slot of the first
 abbrev pub joined_entry : Entry → Entry → Entry
-joined_entry window next = record { first = window.first; last = next.last; slot = window.slot }
+joined_entry window next = record {
+  first = window.first;
+  last = next.last;
+  t_first = window.t_first;
+  t_last = next.t_last;
+  slot = window.slot;
+}

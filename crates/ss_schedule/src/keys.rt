@@ -31,7 +31,7 @@ impl Model for Keys {
 }
 
 impl Keys {
-    ghost use Rattle.std.specs.Prelude.{◌≡◌, ◌+◌, ◌<◌, ◌≤◌, ℕ, [], ◌∷◌, ◌++◌, length, slice_set, Some, None, IfSome};
+    ghost use Rattle.std.specs.Prelude.{◌≡◌, ◌+◌, ◌<◌, ◌≤◌, ℕ, max, [], ◌∷◌, ◌++◌, length, slice_set, Some, None, IfSome};
     ghost use Rattle.std.specs.Prelude.{IfNone, OnOk, OnErr};
     ghost use Rattle.ss_line.specs.declared.entry.At.{At};
     ghost use Rattle.ss_schedule.specs.Held.{fit_of};
@@ -71,11 +71,13 @@ impl Keys {
         Ok(())
     }
 
-    /// Makes room for that many places, if there is less. An error leaves the keys, and the room never falls.
+    /// Makes room for that many places, if there is less, and for no more. An error leaves the keys, and the room never
+    /// falls.
     pub fn reserve(&mut self, places: u32) -> Result<(), AllocError>
         requires { places ≤ MOST_PLACES }
         ensures ok { OnOk result (places ≤ length self.new) }
         ensures grows { length self.old ≤ length self.new }
+        ensures least { length self.new ≤ max (length self.old) places }
         ensures keys { (at : At) → key_at self.new at ≡ key_at self.old at }
     {
         while self.keys.len() < places as usize {

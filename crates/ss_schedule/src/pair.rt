@@ -82,12 +82,12 @@ pub fn join<L: Ledger>(line: &mut Line, pair: Pair, steps: &mut Steps<L>) -> Ent
     ensures spare { line.new.spare ≡ line.old.spare + 1 }
     ensures look { steps.new ≡ steps.old + 3 }
 {
-    line.cut_out(pair.right, steps);
-    let slot = line.get(pair.left, steps).slot;
+    let next = line.cut_out(pair.right, steps);
+    let window = line.get(pair.left, steps);
     let joined = Entry {
-        first: pair.first,
-        last: pair.last,
-        slot,
+        last: next.last,
+        t_last: next.t_last,
+        ..window
     };
     line.set(pair.left, joined, steps);
     let _len = line.len();

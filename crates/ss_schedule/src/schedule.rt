@@ -29,7 +29,7 @@ impl Model for Schedule {
 }
 
 impl Schedule {
-    ghost use Rattle.std.specs.Prelude.{◌≡◌, ◌+◌, ◌≤◌, ◌<◌, ℕ, true, List, [], ◌∷◌, ◌++◌, length, take, Some, None};
+    ghost use Rattle.std.specs.Prelude.{◌≡◌, ◌+◌, ◌≤◌, ◌<◌, ℕ, max, true, List, [], ◌∷◌, ◌++◌, length, take, Some, None};
     ghost use Rattle.std.specs.Prelude.{IfSome, IfNone, MatchOption, OnOk};
     ghost use Rattle.ss_line.specs.declared.entry.At.{At};
     ghost use Rattle.ss_line.specs.declared.entry.Entry.{Entry};
@@ -52,11 +52,13 @@ impl Schedule {
         }
     }
 
-    /// Makes room for that many places of a line, if there is less. An error leaves the keys, and the room never falls.
+    /// Makes room for that many places of a line, if there is less, and for no more. An error leaves the keys, and the room
+    /// never falls.
     pub fn reserve(&mut self, places: u32) -> Result<(), AllocError>
         requires { places ≤ MOST_PLACES }
         ensures ok { OnOk result (places ≤ length self.new.keys) }
         ensures grows { length self.old.keys ≤ length self.new.keys }
+        ensures least { length self.new.keys ≤ max (length self.old.keys) places }
         ensures target { self.new.target ≡ self.old.target }
         ensures keys { (at : At) → key_at self.new.keys at ≡ key_at self.old.keys at }
         ensures keyed { (n : ℕ) (entries : List (At × Entry)) → IsKeyed n entries self.old → IsKeyed n entries self.new }

@@ -1,5 +1,5 @@
-//! Tests of windows, their targets, lines, summaries and intervals, and of landmarks. A crate with tests is proved twice, so they
-//! stand here, and call the crates below as one above them does.
+//! Tests of windows, their targets, lines, times, summaries and intervals, and of landmarks. A crate with tests is proved twice,
+//! so they stand here, and call the crates below as one above them does.
 #![tactic(auto)]
 
 #[cfg(test)]
@@ -18,5 +18,7 @@ mod steps;
 mod summary;
 #[cfg(test)]
 mod target;
+#[cfg(test)]
+mod times;
 #[cfg(test)]
 mod windowing;

@@ -24,6 +24,8 @@ fn window(first: u64) -> Entry {
     Entry {
         first,
         last: first,
+        t_first: first,
+        t_last: first,
         slot: 7,
     }
 }

@@ -33,6 +33,11 @@ fn next_first<L: Ledger>(line: &Line, steps: &mut Steps<L>) -> Option<u64>
     line.get(at, steps).last.checked_add(1)
 }
 
+// The time of the value at a position.
+fn time_of(position: u64) -> u64 {
+    position.wrapping_mul(10)
+}
+
 // Puts a window of that many values at the end of a line, and makes room for it. None if they don't end at or below n.
 fn put_last<L: Ledger>(
     line: &mut Line,
@@ -61,9 +66,12 @@ fn put_last<L: Ledger>(
     if len == 0 || first > n || n - first < len - 1 {
         return Ok(None);
     }
+    let last = first + (len - 1);
     let entry = Entry {
         first,
-        last: first + (len - 1),
+        last,
+        t_first: time_of(first),
+        t_last: time_of(last),
         slot: 7,
     };
     the_last_one_pushed();
@@ -131,6 +139,12 @@ fn close(target: Target, windows: &mut Vec<(u64, u64)>, n: u64) {
     }
 }
 
+// Whether an entry has these positions, and their times.
+fn spans(entry: Entry, window: (u64, u64)) -> bool {
+    let positions = entry.first == window.0 && entry.last == window.1;
+    positions && entry.t_first == time_of(window.0) && entry.t_last == time_of(window.1)
+}
+
 // Whether a line has these windows, in order, and no others.
 fn has<L: Ledger>(line: &Line, windows: &[(u64, u64)], steps: &mut Steps<L>) -> bool {
     let mut place = line.first();
@@ -138,8 +152,7 @@ fn has<L: Ledger>(line: &Line, windows: &[(u64, u64)], steps: &mut Steps<L>) -> 
         let Some(at) = place else {
             return false;
         };
-        let entry = line.get(at, steps);
-        if entry.first != window.0 || entry.last != window.1 {
+        if !spans(line.get(at, steps), *window) {
             return false;
         }
         place = line.neighbours(at, steps).1;

@@ -1,7 +1,8 @@
 use Rattle.std.proofs.Common.{subst, sym, ap, arith, ◌+◌, ◌-◌, ℕ}
 use Rattle.ss_line.specs.Line.{LineState}
 use Rattle.ss_line.specs.Held.{IsHeld, line_of}
-use Rattle.ss_line.proofs.HeldLemmas.{Joins-same, within-stands, within-place_before, within-place_at, node-before, node-behind, line_of-held, IsHeld-line_of}
+use Rattle.ss_line.proofs.HeldLemmas.{Joins-same, within-stands, within-place_before, within-place_at, node-entry, node-before, node-behind}
+use Rattle.ss_line.proofs.HeldLemmas.{line_of-held, IsHeld-line_of}
 use Rattle.ss_line.proofs.CutLemmas.{IsHeld-cut}
 use Rattle.ss_line.proofs.line.Line.cut_out.Goals as goal
 
@@ -47,3 +48,8 @@ returns-clause-entries g c =
     ap (λ (line : LineState). line.entries)
     (line_of-held _ _ _ (IsHeld-cut _ _ _ held c.args.at c.requires _ _ joins c.give_back.ensures (c.self.inside.len - 1)
     (omega (arith, c.requires, held.whole))))
+
+pub returns-clause-entry : goal.returns-clause-entry
+returns-clause-entry g c =
+    let held = subst (λ (line : LineState). IsHeld line c.self.inside.chain c.self.inside.len) c.self.view_is c.self.invariant in
+    node-entry _ _ _ held c.args.at c.requires c.index-cut.result.now c.index-cut.ensures
