@@ -2,8 +2,10 @@ pub mod Places
 pub mod Records
 pub mod NearSums
 pub mod MarkedTallies
+pub mod Rooms
 pub mod Seeing
 pub mod SplitLemmas
+pub mod SeenEntries
 pub mod NextWindow
 pub mod AskedWindows
 mod Rows

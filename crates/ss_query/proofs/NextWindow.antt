@@ -1,15 +1,17 @@
--- The next window of a stream whose windows are read one after the other, oldest first.
-use Rattle.std.proofs.Common.{◌≡◌, ◌∙◌, ℕ, ◌+◌, ◌-◌, ◌<◌, ◌≤◌, Bool, true, false, List, [], ◌∷◌, ◌++◌, map, length, refl, sym, ap}
-use Rattle.std.proofs.Common.{ap₂, subst, arith, append_assoc, length-append, drop, get_or, Option, Some, None, IsTrue}
-use Rattle.std.specs.Prelude.{All, IfSome, if◌then◌else◌, option_map, slice_get, zip}
-use Rattle.std.specs.List.{Contains, list_all}
-use Rattle.std.proofs.lemmas.Bool.{and_parts}
+-- The next window of a stream whose windows are looked at one after the other, oldest first.
+use Rattle.std.proofs.Common.{◌≡◌, ◌∙◌, ℕ, ◌+◌, ◌-◌, ◌<◌, ◌≤◌, Bool, true, false, List, [], ◌∷◌, ◌++◌, map, length, refl, sym, ap, inl, inr}
+use Rattle.std.proofs.Common.{ap₂, subst, arith, append_assoc, append-nil, length-append, drop, get_or, Option, Some, None, IsTrue}
+use Rattle.std.specs.Prelude.{All, option_map, slice_get, zip}
+use Rattle.std.specs.List.{AllByRecursion, Contains, list_all}
+use Rattle.std.proofs.lemmas.Bool.{and_parts, cases_Bool, cond-false, cond-true}
 use Rattle.std.proofs.lemmas.List.{map-append}
 use Rattle.std.proofs.lemmas.List.Elements.{All-get_or}
 use Rattle.std.proofs.lemmas.List.Folds.{list_all-append}
 use Rattle.std.proofs.lemmas.List.Sorted.{IsPermutation-middle}
 use Rattle.std.proofs.lemmas.Option.{get_or_from_slice_get, slice_get-map, slice_get_within}
 use Rattle.ss_codec.specs.declared.record.Record.{Record}
+use Rattle.ss_landmarks.specs.Landmark.{Landmark}
+use Rattle.ss_landmarks.specs.ValuesIn.{tally_of, values_in}
 use Rattle.ss_line.specs.Line.{IsLine, StandsIn, entry_at, index_of, place_at}
 use Rattle.ss_line.specs.declared.entry.At.{At}
 use Rattle.ss_line.specs.declared.entry.Entry.{Entry}
@@ -19,20 +21,19 @@ use Rattle.ss_model.proofs.Stretches.{taken-cons}
 use Rattle.ss_model.specs.Tiling.{StandFrom}
 use Rattle.ss_model.specs.State.{Stream}
 use Rattle.ss_model.specs.declared.types.Window.{Window}
-use Rattle.ss_model.specs.Interval.{is_whole}
+use Rattle.ss_model.specs.Interval.{is_apart}
 use Rattle.ss_model.specs.Marks.{lies_free}
-use Rattle.ss_recover.specs.Held.{entries_of, marks_held, records_held, span_held, span_of, stream_record, window_record}
+use Rattle.ss_recover.specs.Held.{entries_of, marks_held, records_held, span_held, span_of, stream_record, times_held, times_of, window_record}
 use Rattle.ss_recover.specs.declared.parts.StreamParts.{StreamParts}
-use Rattle.ss_summary.specs.Figures.{Figures}
 use Rattle.ss_summary.specs.declared.summary.TheConstants.{GREATEST_COUNT}
 use Rattle.ss_query.specs.Answered.{window_slots_of}
-use Rattle.ss_query.specs.Asked.{Follows, joined_with, seen_with}
+use Rattle.ss_query.specs.Asked.{Follows, HasRoom, seen_after, seen_with}
 use Rattle.ss_query.specs.Held.{IsHeldIn}
 use Rattle.ss_query.specs.Slots.{HasRecords}
 use Rattle.ss_query.specs.declared.asking.Seen.{Seen}
 use Rattle.ss_query.proofs.Places.{IsAt-first, entries_in, index_of-next, place_at-seam, read-once, slice_get-entry}
 use Rattle.ss_query.proofs.Records.{HasRecords-permutation, zip-held}
-use Rattle.ss_query.proofs.Seeing.{IsSeen, IsSeen-more}
+use Rattle.ss_query.proofs.Seeing.{IsSeen, IsSeen-late, IsSeen-more, IsSeen-skip, apart-early, apart-late}
 
 -- what each of some passes, one among them passes
 pub list_all-middle : {X : Type 0} (test : X → Bool) (xs : List X) (x : X) (ys : List X) → list_all test (xs ++ x ∷ ys) ≡ true → test x ≡ true
@@ -44,25 +45,31 @@ abbrev pub left_from : List (At × Entry) → Option At → ℕ
 left_from entries None = 0
 left_from entries (Some at) = length entries - index_of entries at
 
--- the windows that are left to be read, after those that were, which have so many values and end before a time
-pub record AreLeft (s : Stream) (read : List Window) (rest : List Entry) (values time : ℕ) : Type 0 where
+-- the windows of a stream, those before a place in its line and those from it on, which have so many values and end before a
+-- time at most; what is known of a range is that of the ones before
+pub record AreLeft (s : Stream) (landmarks : List Landmark) (from to : ℕ) (before rest : List Entry) (seen : Seen) : Type 0 where
+  pub gone : List Window
   pub windows : List Window
-  pub is : s.windows ≡ read ++ windows
+  pub is : s.windows ≡ gone ++ windows
+  pub spans_gone : map span_held before ≡ map span_of gone
   pub spans : map span_held rest ≡ map span_of windows
-  pub stand : StandFrom (values + 1) time windows
-  pub few : values + taken windows ≤ GREATEST_COUNT
+  pub times : map times_held rest ≡ map times_of windows
+  pub seen_is : IsSeen landmarks from to seen gone
+  pub position : ℕ
+  pub time : ℕ
+  pub stand : StandFrom (position + 1) time windows
+  pub taken_so_far : seen.taken ≤ position
+  pub time_so_far : seen.next_time ≤ time
+  pub few : position + taken windows ≤ GREATEST_COUNT
 
--- what was read of a line up to a place
-pub record IsReadTo (part : StreamParts) (from to : ℕ) (seen : Seen) (next : Option At) : Type 0 where
+-- how far a line was walked
+pub record IsWalkedTo (part : StreamParts) (from to : ℕ) (seen : Seen) (next : Option At) : Type 0 where
   pub before : List (At × Entry)
   pub rest : List (At × Entry)
   pub is : part.line.entries ≡ before ++ rest
   pub place : next ≡ place_at rest 0
-  pub read : List Window
-  pub spans : map span_held (entries_in before) ≡ map span_of read
-  pub seen_is : IsSeen part.landmarks.landmarks from to seen read
-  pub few : seen.taken ≤ GREATEST_COUNT
-  pub whole : IfSome seen.whole (λ f. f.count ≤ seen.taken)
+  pub marked : seen.marked ≡ tally_of (values_in part.landmarks.landmarks from to)
+  pub room : HasRoom seen
 
 first-window : (e : Entry) (es : List Entry) (ws : List Window) → map span_held (e ∷ es) ≡ map span_of ws →
     (w : Window) × (vs : List Window) × (ws ≡ w ∷ vs) × (span_held e ≡ span_of w) × (map span_held es ≡ map span_of vs)
@@ -70,49 +77,128 @@ first-window e es [] same = absurd (cc)
 first-window e es (w ∷ vs) same = (w, vs, refl, ap (λ (l : List (ℕ × ℕ)). get_or l 0 (0, 0)) same, ap (λ (l : List (ℕ × ℕ)). drop 1 l) same)
 
 -- the next window of a stream, whose entry is this one
-pub record IsNext (s : Stream) (read : List Window) (entry : Entry) (after : List Entry) (values time : ℕ) : Type 0 where
+pub record IsNext (s : Stream) (landmarks : List Landmark) (from to : ℕ) (before : List Entry) (entry : Entry) (after : List Entry) (seen : Seen) :
+    Type 0 where
+  pub gone : List Window
   pub window : Window
   pub behind : List Window
-  pub is : s.windows ≡ read ++ window ∷ behind
+  pub is : s.windows ≡ gone ++ window ∷ behind
+  pub spans_gone : map span_held before ≡ map span_of gone
   pub span : span_held entry ≡ span_of window
+  pub time : times_held entry ≡ times_of window
   pub spans : map span_held after ≡ map span_of behind
-  pub first : window.first ≡ values + 1
-  pub later : time ≤ window.summary.t_first
-  pub few : values + window.summary.count + taken behind ≤ GREATEST_COUNT
-  pub stand : StandFrom (values + window.summary.count + 1) (window.summary.t_last + 1) behind
+  pub times : map times_held after ≡ map times_of behind
+  pub seen_is : IsSeen landmarks from to seen gone
+  pub position : ℕ
+  pub taken_so_far : seen.taken ≤ position
+  pub later : seen.next_time ≤ window.summary.t_first
+  pub rises : window.summary.t_first ≤ window.summary.t_last
+  pub few : position + window.summary.count + taken behind ≤ GREATEST_COUNT
+  pub stand : StandFrom (position + window.summary.count + 1) (window.summary.t_last + 1) behind
 
-IsNext-left : (s : Stream) (read : List Window) (entry : Entry) (after : List Entry) (values time : ℕ) → AreLeft s read (entry ∷ after) values time →
-    IsNext s read entry after values time
-IsNext-left s read entry after values time left =
-    let cut = first-window entry after left.windows left.spans in
-    let stand : StandFrom (values + 1) time (cut.0 ∷ cut.1) = subst (λ ws. StandFrom (values + 1) time ws) cut.2 left.stand in
-    let all : taken left.windows ≡ cut.0.summary.count + taken cut.1 = ap (λ ws. taken ws) cut.2 ∙ taken-cons cut.0 cut.1 in
-    let next : (values + 1) + cut.0.summary.count ≡ values + cut.0.summary.count + 1 = omega arith in
-    record {
-      window = cut.0;
-      behind = cut.1;
-      is = left.is ∙ ap (λ ws. read ++ ws) cut.2;
-      span = cut.3;
-      spans = cut.4;
-      first = stand.0;
-      later = stand.2;
-      few = omega (arith, all, left.few);
-      stand = subst (λ n. StandFrom n (cut.0.summary.t_last + 1) cut.1) next stand.3;
+module _ {s : Stream} {landmarks : List Landmark} {from to : ℕ} {before : List Entry} {entry : Entry} {after : List Entry} {seen : Seen} where
+  pub IsNext-left : AreLeft s landmarks from to before (entry ∷ after) seen → IsNext s landmarks from to before entry after seen
+  IsNext-left left =
+      let cut = first-window entry after left.windows left.spans in
+      let times : map times_held (entry ∷ after) ≡ map times_of (cut.0 ∷ cut.1) = left.times ∙ ap (map times_of) cut.2 in
+      let stand : StandFrom (left.position + 1) left.time (cut.0 ∷ cut.1) = subst (λ ws. StandFrom (left.position + 1) left.time ws) cut.2 left.stand in
+      let all : taken left.windows ≡ cut.0.summary.count + taken cut.1 = ap (λ ws. taken ws) cut.2 ∙ taken-cons cut.0 cut.1 in
+      let next : (left.position + 1) + cut.0.summary.count ≡ left.position + cut.0.summary.count + 1 = omega arith in
+      let possible = stand.1 in
+      let some = possible.count_low in
+      let long = possible.times in
+      let late = stand.2 in
+      let soon = left.time_so_far in
+      record {
+        gone = left.gone;
+        window = cut.0;
+        behind = cut.1;
+        is = left.is ∙ ap (λ ws. left.gone ++ ws) cut.2;
+        spans_gone = left.spans_gone;
+        span = cut.3;
+        time = ap (λ (l : List (ℕ × ℕ)). get_or l 0 (0, 0)) times;
+        spans = cut.4;
+        times = ap (λ (l : List (ℕ × ℕ)). drop 1 l) times;
+        seen_is = left.seen_is;
+        position = left.position;
+        taken_so_far = left.taken_so_far;
+        later = omega (arith, late, soon);
+        rises = omega (arith, some, long);
+        few = omega (arith, all, left.few);
+        stand = subst (λ n. StandFrom n (cut.0.summary.t_last + 1) cut.1) next stand.3;
+      }
+
+  module _ (next : IsNext s landmarks from to before entry after seen) where
+    abbrev w : Window
+    w = next.window
+
+    pub Follows-next : Follows seen w
+    Follows-next = (let few = next.few in let low = next.taken_so_far in omega (arith, few, low), next.later)
+
+    gone-next : map span_held (before ++ entry ∷ []) ≡ map span_of (next.gone ++ w ∷ [])
+    gone-next =
+        map-append span_held before (entry ∷ []) ∙ ap₂ (λ xs x. xs ++ x ∷ []) next.spans_gone next.span ∙ sym (map-append span_of next.gone (w ∷ []))
+
+    -- the windows that are left, once this one was looked at
+    left-with : (now : Seen) → now.taken ≤ seen.taken + w.summary.count → now.next_time ≤ w.summary.t_last + 1 →
+        IsSeen landmarks from to now (next.gone ++ w ∷ []) → AreLeft s landmarks from to (before ++ entry ∷ []) after now
+    left-with now few soon is = record {
+      gone = next.gone ++ w ∷ [];
+      windows = next.behind;
+      is = next.is ∙ sym (append_assoc next.gone (w ∷ []) next.behind);
+      spans_gone = gone-next;
+      spans = next.spans;
+      times = next.times;
+      seen_is = is;
+      position = next.position + w.summary.count;
+      time = w.summary.t_last + 1;
+      stand = next.stand;
+      taken_so_far = (let low = next.taken_so_far in omega (arith, low, few));
+      time_so_far = soon;
+      few = next.few;
     }
 
-whole-fits : (whole : Option Figures) (f : Figures) (time values : ℕ) → IfSome whole (λ g. g.t_last < time) → IfSome whole (λ g. g.count ≤ values) →
-    time ≤ f.t_first → values + f.count ≤ GREATEST_COUNT → IfSome whole (λ g. (g.t_last < f.t_first) × (g.count + f.count ≤ GREATEST_COUNT))
-whole-fits None f time values behind few later fits = tt
-whole-fits (Some g) f time values behind few later fits = (omega (arith, behind), omega (arith, few))
+    pub left-apart : is_apart from to w ≡ true → AreLeft s landmarks from to (before ++ entry ∷ []) after seen
+    left-apart apart =
+        let later = next.later in
+        let rises = next.rises in
+        left-with seen (omega arith) (omega (arith, later, rises)) (IsSeen-skip landmarks from to seen next.gone w apart next.rises next.seen_is)
 
-pub whole-few : (whole : Option Figures) (w : Window) (values : ℕ) (b : Bool) → IfSome whole (λ g. g.count ≤ values) →
-    IfSome (if b then joined_with whole w.summary else whole) (λ g. g.count ≤ values + w.summary.count)
-whole-few None w values true few = omega arith
-whole-few None w values false few = tt
-whole-few (Some g) w values true few = omega (arith, few)
-whole-few (Some g) w values false few = omega (arith, few)
+    pub AreLeft-after : AreLeft s landmarks from to (before ++ entry ∷ []) after (seen_after landmarks from to seen w)
+    AreLeft-after = elim (cases_Bool (is_apart from to w)) [
+      | inl apart ↦
+          subst (AreLeft s landmarks from to (before ++ entry ∷ []) after) (sym (cond-true (is_apart from to w) seen _ apart)) (left-apart apart)
+      | inr meets ↦
+          subst (AreLeft s landmarks from to (before ++ entry ∷ []) after) (sym (cond-false (is_apart from to w) seen _ meets))
+          (left-with (seen_with landmarks from to seen w) (omega arith) (omega arith)
+          (IsSeen-more landmarks from to seen next.gone w next.seen_is next.later next.rises))
+    ]
 
-module _ {part : StreamParts} {from to : ℕ} {seen : Seen} {at : At} (line : IsLine part.line) (to_here : IsReadTo part from to seen (Some at)) where
+    -- where it begins after the range, nothing more is in it
+    pub late-next : to < entry.t_first → IsSeen landmarks from to seen s.windows
+    late-next late =
+        let begins : entry.t_first ≡ w.summary.t_first = ap (λ (p : ℕ × ℕ). p.0) next.time in
+        let rises = next.rises in
+        let first = IsSeen-skip landmarks from to seen next.gone w (apart-late from to w.summary.t_first w.summary.t_last (omega (arith, begins, late)))
+        next.rises next.seen_is in
+        subst (λ ws. IsSeen landmarks from to seen ws) (append_assoc next.gone (w ∷ []) next.behind ∙ sym next.is)
+        (IsSeen-late landmarks from to seen (next.gone ++ w ∷ []) _ _ next.behind next.stand (omega (arith, begins, late, rises)) first)
+
+-- windows that end before the range are passed over
+pub AreLeft-early : (s : Stream) (landmarks : List Landmark) (from to : ℕ) (before : List Entry) (early : List (At × Entry)) (rest : List Entry) (seen : Seen) →
+    AllByRecursion (λ (e : At × Entry). e.1.t_last < from) early → AreLeft s landmarks from to before (entries_in early ++ rest) seen →
+    AreLeft s landmarks from to (before ++ entries_in early) rest seen
+AreLeft-early s landmarks from to before [] rest seen all left =
+    subst (λ es. AreLeft s landmarks from to es rest seen) (sym (append-nil before)) left
+AreLeft-early s landmarks from to before (e ∷ es) rest seen all left =
+    let next = IsNext-left left in
+    let ends : e.1.t_last ≡ next.window.summary.t_last = ap (λ (p : ℕ × ℕ). p.1) next.time in
+    let early = all.0 in
+    let apart = apart-early from to next.window.summary.t_first next.window.summary.t_last (omega (arith, ends, early)) in
+    subst (λ l. AreLeft s landmarks from to l rest seen) (append_assoc before (e.1 ∷ []) (entries_in es))
+    (AreLeft-early s landmarks from to (before ++ e.1 ∷ []) es rest seen all.1 (left-apart next apart))
+
+module _ {part : StreamParts} {from to : ℕ} {seen : Seen} {at : At} (line : IsLine part.line) (to_here : IsWalkedTo part from to seen (Some at)) where
   index-here : index_of part.line.entries at ≡ length to_here.before
   index-here =
       index_of-next part.line (length to_here.before) (Some at) line
@@ -155,11 +241,10 @@ module _ {part : StreamParts} {from to : ℕ} {seen : Seen} {at : At} (line : Is
         (All-get_or (λ slot. slot < MOST_SLOTS) (window_slots_of part) i entry.slot (slice_get_within (window_slots_of part) i entry.slot here) below)
 
     -- the next window, on a disk that tells
-    pub IsNext-here : (s : Stream) → AreLeft s to_here.read (entries_in to_here.rest) seen.taken seen.next_time →
-        IsNext s to_here.read entry (entries_in after) seen.taken seen.next_time
+    pub IsNext-here : (s : Stream) → AreLeft s part.landmarks.landmarks from to (entries_in to_here.before) (entries_in to_here.rest) seen →
+        IsNext s part.landmarks.landmarks from to (entries_in to_here.before) entry (entries_in after) seen
     IsNext-here s left =
-        IsNext-left s to_here.read entry (entries_in after) seen.taken seen.next_time
-        (subst (λ es. AreLeft s to_here.read es seen.taken seen.next_time) rest-entries left)
+        IsNext-left (subst (λ es. AreLeft s part.landmarks.landmarks from to (entries_in to_here.before) es seen) rest-entries left)
 
     -- its record lies beside others, and it lies free among the landmarks
     pub record IsBeside (w : Window) (image : List ℕ) : Type 0 where
@@ -168,17 +253,17 @@ module _ {part : StreamParts} {from to : ℕ} {seen : Seen} {at : At} (line : Is
       pub free : IsTrue (lies_free part.landmarks.landmarks w)
 
     pub IsBeside-here : (others : List (ℕ × Option Record)) (s : Stream) (image : List ℕ) → IsHeldIn others part s image →
-        (next : IsNext s to_here.read entry (entries_in after) seen.taken seen.next_time) → IsBeside next.window image
+        (next : IsNext s part.landmarks.landmarks from to (entries_in to_here.before) entry (entries_in after) seen) → IsBeside next.window image
     IsBeside-here others s image held next =
         let spelled : List Window → List (Option Record) = λ l. map (λ x. Some (window_record s.number x)) l in
         let slots : List Entry → List ℕ = λ es. map (λ (e : Entry). e.slot) es in
         let head : ℕ × Option Record = (part.slot, Some (stream_record s)) in
-        let front : List (ℕ × Option Record) = zip (slots (entries_in to_here.before)) (spelled to_here.read) in
+        let front : List (ℕ × Option Record) = zip (slots (entries_in to_here.before)) (spelled next.gone) in
         let back : List (ℕ × Option Record) = zip (slots (entries_in after)) (spelled next.behind) in
         let one : ℕ × Option Record = (entry.slot, Some (window_record s.number next.window)) in
         let theirs : zip (slots (entries_of part)) (spelled s.windows) ≡ front ++ one ∷ back =
         ap₂ (λ es ws. zip (slots es) (spelled ws)) entries-here next.is
-        ∙ zip-held s.number (entries_in to_here.before) (entry ∷ entries_in after) to_here.read (next.window ∷ next.behind) to_here.spans in
+        ∙ zip-held s.number (entries_in to_here.before) (entry ∷ entries_in after) next.gone (next.window ∷ next.behind) next.spans_gone in
         let behind : List (ℕ × Option Record) = back ++ (marks_held (part, s) ++ others) in
         let all : records_held (part, s) ++ others ≡ (head ∷ front) ++ one ∷ behind =
         ap (λ l. ((head ∷ l) ++ marks_held (part, s)) ++ others) theirs ∙ append_assoc ((head ∷ front) ++ one ∷ back) (marks_held (part, s)) others
@@ -191,78 +276,47 @@ module _ {part : StreamParts} {from to : ℕ} {seen : Seen} {at : At} (line : Is
           others = beside;
           has = subst (λ n. HasRecords ((entry.slot, Some (window_record n next.window)) ∷ beside) image) (sym held.agrees.number) has;
           free = subst (λ ls. lies_free ls next.window ≡ true) (sym held.agrees.landmarks)
-              (list_all-middle (lies_free s.landmarks) to_here.read next.window next.behind
+              (list_all-middle (lies_free s.landmarks) next.gone next.window next.behind
               (subst (λ ws. list_all (lies_free s.landmarks) ws ≡ true) next.is held.stream.free));
         }
 
-    module _ (f : Figures) (count : entry.first + f.count ≡ entry.last + 1) where
-      pub whole-here : Follows seen (record { first = entry.first; summary = f }) →
-          IfSome seen.whole (λ g. (g.t_last < f.t_first) × (g.count + f.count ≤ GREATEST_COUNT))
-      whole-here follows = whole-fits seen.whole f seen.next_time seen.taken to_here.seen_is.whole_behind to_here.whole follows.2 follows.1
+    pub moved-here : part.line.entries ≡ (to_here.before ++ (at, entry) ∷ []) ++ after
+    moved-here =
+        to_here.is ∙ ap (λ es. to_here.before ++ es) rest-here ∙ sym (append_assoc to_here.before ((at, entry) ∷ []) after)
 
-      pub moved-here : part.line.entries ≡ (to_here.before ++ (at, entry) ∷ []) ++ after
-      moved-here =
-          to_here.is ∙ ap (λ es. to_here.before ++ es) rest-here ∙ sym (append_assoc to_here.before ((at, entry) ∷ []) after)
+    pub next-here : (next : Option At) → next ≡ place_at part.line.entries (index_of part.line.entries at + 1) → next ≡ place_at after 0
+    next-here next place =
+        let index : index_of part.line.entries at + 1 ≡ length (to_here.before ++ (at, entry) ∷ []) =
+        omega (arith, index-here, length-append to_here.before ((at, entry) ∷ [])) in
+        place ∙ ap₂ (λ es n. place_at es n) moved-here index ∙ place_at-seam (to_here.before ++ (at, entry) ∷ []) after
 
-      pub span-here : span_held entry ≡ span_of (record { first = entry.first; summary = f })
-      span-here =
-          let last : entry.last ≡ entry.first + f.count - 1 = omega (arith, count) in
-          ap (λ n. (entry.first, n)) last
+    pub left_from-less : (next : Option At) → next ≡ place_at part.line.entries (index_of part.line.entries at + 1) →
+        left_from part.line.entries next < left_from part.line.entries (Some at)
+    left_from-less None place = let stands = StandsIn-here in omega (arith, stands)
+    left_from-less (Some right) place =
+        let index = index_of-next part.line (index_of part.line.entries at + 1) (Some right) line place in
+        let stands = StandsIn-here in
+        omega (arith, index, stands)
 
-      pub next-here : (next : Option At) → next ≡ place_at part.line.entries (index_of part.line.entries at + 1) → next ≡ place_at after 0
-      next-here next place =
-          let index : index_of part.line.entries at + 1 ≡ length (to_here.before ++ (at, entry) ∷ []) =
-          omega (arith, index-here, length-append to_here.before ((at, entry) ∷ [])) in
-          place ∙ ap₂ (λ es n. place_at es n) moved-here index ∙ place_at-seam (to_here.before ++ (at, entry) ∷ []) after
+    unfoldable pub IsWalkedTo-more : (next : Option At) (now : Seen) → next ≡ place_at part.line.entries (index_of part.line.entries at + 1) →
+        HasRoom now → now.marked ≡ seen.marked → IsWalkedTo part from to now next
+    IsWalkedTo-more next now place room marked = record {
+      before = to_here.before ++ (at, entry) ∷ [];
+      rest = after;
+      is = moved-here;
+      place = next-here next place;
+      marked = marked ∙ to_here.marked;
+      room = room;
+    }
 
-      pub left_from-less : (next : Option At) → next ≡ place_at part.line.entries (index_of part.line.entries at + 1) →
-          left_from part.line.entries next < left_from part.line.entries (Some at)
-      left_from-less None place = let stands = StandsIn-here in omega (arith, stands)
-      left_from-less (Some right) place =
-          let index = index_of-next part.line (index_of part.line.entries at + 1) (Some right) line place in
-          let stands = StandsIn-here in
-          omega (arith, index, stands)
-
-      unfoldable pub IsReadTo-more : (next : Option At) (now : Seen) → next ≡ place_at part.line.entries (index_of part.line.entries at + 1) →
-          now ≡ seen_with part.landmarks.landmarks from to seen (record { first = entry.first; summary = f }) →
-          Follows seen (record { first = entry.first; summary = f }) → f.t_first ≤ f.t_last → IsReadTo part from to now next
-      IsReadTo-more next now place is follows rises =
-          let w : Window = record { first = entry.first; summary = f } in
-          let values : now.taken ≡ seen.taken + f.count = ap (λ (x : Seen). x.taken) is in
-          record {
-            before = to_here.before ++ (at, entry) ∷ [];
-            rest = after;
-            is = moved-here;
-            place = next-here next place;
-            read = to_here.read ++ w ∷ [];
-            spans = ap (λ es. map span_held es) (map-append (λ (e : At × Entry). e.1) to_here.before ((at, entry) ∷ []))
-                ∙ map-append span_held (entries_in to_here.before) (entry ∷ []) ∙ ap₂ (λ xs x. xs ++ x ∷ []) to_here.spans span-here
-                ∙ sym (map-append span_of to_here.read (w ∷ []));
-            seen_is = subst (λ x. IsSeen part.landmarks.landmarks from to x (to_here.read ++ w ∷ [])) (sym is)
-                (IsSeen-more part.landmarks.landmarks from to seen to_here.read w to_here.seen_is follows.2 rises);
-            few = omega (arith, values, follows.1);
-            whole = subst (λ (x : Seen). IfSome x.whole (λ g. g.count ≤ x.taken)) (sym is)
-                (whole-few seen.whole w seen.taken (is_whole from to w) to_here.whole);
-          }
-
-      -- the windows that are left then
-      pub AreLeft-more : (s : Stream) (now : Seen) (next : IsNext s to_here.read entry (entries_in after) seen.taken seen.next_time) →
-          f ≡ next.window.summary → now ≡ seen_with part.landmarks.landmarks from to seen (record { first = entry.first; summary = f }) →
-          AreLeft s (to_here.read ++ record { first = entry.first; summary = f } ∷ []) (entries_in after) now.taken now.next_time
-      AreLeft-more s now next same is =
-          let first : entry.first ≡ next.window.first = ap (λ (p : ℕ × ℕ). p.0) next.span in
-          let here : ◌≡◌ {A = Window} (record { first = entry.first; summary = f }) next.window = λ i. record { first = first i; summary = same i } in
-          let values : now.taken ≡ seen.taken + f.count = ap (λ (x : Seen). x.taken) is in
-          let count : f.count ≡ next.window.summary.count = ap (λ (x : Figures). x.count) same in
-          record {
-            windows = next.behind;
-            is = next.is ∙ ap (λ (w : Window). to_here.read ++ w ∷ next.behind) (sym here)
-                ∙ sym (append_assoc to_here.read (record { first = entry.first; summary = f } ∷ []) next.behind);
-            spans = next.spans;
-            stand = subst (λ (x : Seen). StandFrom (x.taken + 1) x.next_time next.behind) (sym is)
-                (subst (λ (x : Figures). StandFrom (seen.taken + x.count + 1) (x.t_last + 1) next.behind) (sym same) next.stand);
-            few = omega (arith, values, count, next.few);
-          }
+    -- the windows that are left then
+    pub AreLeft-more : (s : Stream) (now : Seen) (next : IsNext s part.landmarks.landmarks from to (entries_in to_here.before) entry (entries_in after) seen) →
+        now ≡ seen_after part.landmarks.landmarks from to seen next.window →
+        AreLeft s part.landmarks.landmarks from to (entries_in (to_here.before ++ (at, entry) ∷ [])) (entries_in after) now
+    AreLeft-more s now next is =
+        subst (AreLeft s part.landmarks.landmarks from to (entries_in (to_here.before ++ (at, entry) ∷ [])) (entries_in after)) (sym is)
+        (subst (λ es. AreLeft s part.landmarks.landmarks from to es (entries_in after) (seen_after part.landmarks.landmarks from to seen next.window))
+        (sym (map-append (λ (e : At × Entry). e.1) to_here.before ((at, entry) ∷ []))) (AreLeft-after next))
 
 -- the slot of a window is one of those of the windows
 pub Contains-slot : (part : StreamParts) (at : At) (entry : Entry) → entry_at part.line.entries at ≡ Some entry → Contains (window_slots_of part) entry.slot

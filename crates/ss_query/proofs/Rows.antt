@@ -1,11 +1,13 @@
 -- Worked rows: the verdicts of reading, which window may come next, and what is answered from what is known.
-use Rattle.std.proofs.Common.{◌≡◌, ℕ, [], ◌∷◌, map, refl, arith, None, Some, Err, Ok, pos}
-use Rattle.std.specs.Prelude.{◌+◌, ◌-◌, ◌^◌}
+use Rattle.std.proofs.Common.{◌≡◌, ℕ, ◌<◌, ◌≤◌, All, List, [], ◌∷◌, ◌++◌, map, ap, refl, arith, Option, None, Some, Err, Ok, pos}
+use Rattle.std.specs.Prelude.{◌+◌, ◌-◌, ◌^◌, IfSome}
 use Rattle.ss_outside.specs.Disk.{Told}
 use Rattle.ss_outside.specs.Verdict.{changed, failed, fine}
 use Rattle.ss_catalog.specs.declared.query.Kind.TheVariants as kinds
 use Rattle.ss_catalog.specs.declared.query.Query.{Query}
 use Rattle.ss_landmarks.specs.declared.tally.Tally.{Tally}
+use Rattle.ss_line.specs.Line.{place_at}
+use Rattle.ss_line.specs.declared.entry.At.{At}
 use Rattle.ss_line.specs.declared.entry.Entry.{Entry}
 use Rattle.ss_model.specs.declared.outcome.Outcome.{Outcome}
 use Rattle.ss_model.specs.declared.outcome.Outcome.TheVariants.{Count, Sum}
@@ -14,8 +16,8 @@ use Rattle.ss_records.specs.Kept.{AreKept, RecordsState}
 use Rattle.ss_recover.specs.Held.{entries_of}
 use Rattle.ss_recover.specs.declared.parts.StreamParts.{StreamParts}
 use Rattle.ss_summary.specs.Figures.{Figures}
-use Rattle.ss_query.specs.Answered.{AnswersStream, IsAnswered, window_slots_of}
-use Rattle.ss_query.specs.Asked.{Follows, marks_seen, outcome_seen, seen_with}
+use Rattle.ss_query.specs.Answered.{AnswersStream, BeginsAt, IsAnswered, IsSeenAs, window_slots_of}
+use Rattle.ss_query.specs.Asked.{Follows, HasRoom, marks_seen, outcome_seen, seen_after, seen_with}
 use Rattle.ss_query.specs.Reading.{IsRead, IsWindowOf, KeepsRecords, ReadsWindow, verdict_of_read}
 use Rattle.ss_query.specs.declared.asking.Seen.{Seen}
 use Rattle.ss_query.specs.declared.read_error.ReadError.TheVariants as error
@@ -54,29 +56,58 @@ window first count = record {
   summary = record { count = count; sum = pos 9; min = pos 2; max = pos 4; t_first = 10; t_last = 30 };
 }
 
--- a window follows what was read where its positions and times do, up to 2^40 values
+-- a window follows what was read where its times do, up to 2^40 values
 seen_to : ℕ → ℕ → Seen
 seen_to taken next_time = record { marked = marked; whole = None; left = None; right = None; taken = taken; next_time = next_time }
 
 follows-first : Follows (seen_to 0 0) (window 1 3)
 unfolding seen_to window
-follows-first = (refl, omega arith, omega arith)
+follows-first = (omega arith, omega arith)
 
 follows-last : Follows (seen_to (2 ^ 40 - 3) 10) (window (2 ^ 40 - 2) 3)
 unfolding seen_to window
-follows-last = (refl, omega arith, omega arith)
+follows-last = (omega arith, omega arith)
 
 follows-too_many : Follows (seen_to (2 ^ 40 - 3) 10) (window (2 ^ 40 - 2) 4) → ⊥
 unfolding seen_to window
-follows-too_many follows = absurd (omega (arith, follows.1))
-
-follows-gap : Follows (seen_to 4 10) (window 6 3) → ⊥
-unfolding seen_to window
-follows-gap follows = absurd (omega (arith, follows.0))
+follows-too_many follows = absurd (omega (arith, follows.0))
 
 follows-early : Follows (seen_to 4 11) (window 5 3) → ⊥
 unfolding seen_to window
-follows-early follows = absurd (omega (arith, follows.2))
+follows-early follows = absurd (omega (arith, follows.1))
+
+-- its times are 10 to 30: it is looked at in a range that has one of them, and passed over in another
+window-met : map (λ (r : ℕ × ℕ). (seen_after [] r.0 r.1 (seen_to 0 0) (window 1 3)).taken) ((30, 40) ∷ (0, 10) ∷ (11, 29) ∷ (0, 40) ∷ [])
+    ≡ 3 ∷ 3 ∷ 3 ∷ 3 ∷ []
+unfolding seen_to window
+window-met = refl
+
+window-passed : map (λ (r : ℕ × ℕ). seen_after [] r.0 r.1 (seen_to 0 0) (window 1 3)) ((31, 40) ∷ (0, 9) ∷ []) ≡ seen_to 0 0 ∷ seen_to 0 0 ∷ []
+unfolding seen_to window
+window-passed = refl
+
+-- what is seen has room for no more than a stream has, and its whole windows lie before the next one
+HasRoom-few : (seen : Seen) → HasRoom seen → seen.taken ≤ 2 ^ 40
+HasRoom-few seen room = room.few
+
+HasRoom-whole : (seen : Seen) → HasRoom seen → IfSome seen.whole (λ f. (f.t_last < seen.next_time) × (f.count ≤ seen.taken))
+HasRoom-whole seen room = room.whole
+
+-- a window that is read has the positions and the times of its entry
+IsWindowOf-times : (part : StreamParts) (entry : Entry) (f : Figures) → IsWindowOf part entry f → (entry.t_first ≡ f.t_first) × (entry.t_last ≡ f.t_last)
+IsWindowOf-times part entry f is = (ap (λ (p : ℕ × ℕ). p.0) is.times, ap (λ (p : ℕ × ℕ). p.1) is.times)
+
+-- on a disk that tells no slot has changed for a look either, and what is seen is what is there
+IsSeenAs-Changed : (seen : Seen) (slot : ℕ) → IsSeenAs seen (Err (error.Changed slot)) → ⊥
+IsSeenAs-Changed seen slot fact = fact
+
+IsSeenAs-Ok : (seen now : Seen) → IsSeenAs seen (Ok now) → now ≡ seen
+IsSeenAs-Ok seen now fact = fact
+
+-- a walk begins at a place before which each window ends before the range
+BeginsAt-early : (entries : List (At × Entry)) (from : ℕ) (start : Option At) (begins : BeginsAt entries from start) →
+    (entries ≡ begins.before ++ begins.rest) × All (λ (e : At × Entry). e.1.t_last < from) begins.before × (start ≡ place_at begins.rest 0)
+BeginsAt-early entries from start begins = (begins.is, begins.early, begins.place)
 
 -- a window that lies whole in the range counts with the landmarks; one that lies apart of it doesn't
 known : ℕ → Seen

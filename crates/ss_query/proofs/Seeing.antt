@@ -1,6 +1,6 @@
 -- What is known of a range of times once the windows are read is what their answer is made of.
 use Rattle.std.proofs.Common.{◌≡◌, ◌∙◌, ℕ, ◌+◌, ◌<◌, ◌≤◌, Bool, true, false, List, [], ◌∷◌, ◌++◌, map, refl, sym, ap, ap₂, subst}
-use Rattle.std.proofs.Common.{arith, Option, Some, None, inl, inr, append-nil}
+use Rattle.std.proofs.Common.{arith, Option, Some, None, inl, inr, append-nil, append_assoc}
 use Rattle.std.specs.Prelude.{◌&&◌, ◌||◌, not, nat_le, nat_lt, if◌then◌else◌, ℤ, pos, ◌+ℤ◌, sum_by, option_map, IfSome}
 use Rattle.std.specs.List.{filter}
 use Rattle.std.specs.Option.{option_map_or}
@@ -23,8 +23,9 @@ use Rattle.ss_landmarks.specs.Landmark.{Landmark}
 use Rattle.ss_landmarks.specs.ValuesIn.{tally_of, values_in}
 use Rattle.ss_landmarks.specs.declared.tally.Tally.{Tally}
 use Rattle.ss_model.specs.Answers.{IsOfKind, answer_of_kind}
-use Rattle.ss_model.specs.Interval.{is_split, is_whole, known_maxs, known_mins, split_figures, split_windows, whole_windows}
+use Rattle.ss_model.specs.Interval.{is_apart, is_split, is_whole, known_maxs, known_mins, split_figures, split_windows, whole_windows}
 use Rattle.ss_model.specs.Marks.{marked_values}
+use Rattle.ss_model.specs.Tiling.{StandFrom}
 use Rattle.ss_model.specs.declared.outcome.Outcome.TheVariants.{Count, Max, Min, Sum}
 use Rattle.ss_model.specs.declared.types.Window.{Window}
 use Rattle.ss_summary.specs.Figures.{Figures}
@@ -67,6 +68,52 @@ IsSeen-none landmarks from to marked is = record {
   whole_behind = tt;
 }
 
+-- one more element passes a test, or doesn't
+filter-push : {X : Type 0} (p : X → Bool) (xs : List X) (x : X) → p x ≡ true → filter p (xs ++ x ∷ []) ≡ filter p xs ++ x ∷ []
+filter-push p xs x passes = filter-append p xs (x ∷ []) ∙ rw passes refl
+
+filter-same : {X : Type 0} (p : X → Bool) (xs : List X) (x : X) → p x ≡ false → filter p (xs ++ x ∷ []) ≡ filter p xs
+filter-same p xs x fails = filter-append p xs (x ∷ []) ∙ rw fails (append-nil (filter p xs))
+
+-- a window that has no time in the range changes nothing
+apart-whole : (from to first last : ℕ) → (nat_lt last from || nat_lt to first) ≡ true → first ≤ last → (nat_le from first && nat_le last to) ≡ false
+apart-whole from to first last apart order = grind (arith, nat_tests)
+
+pub IsSeen-skip : (landmarks : List Landmark) (from to : ℕ) (seen : Seen) (ws : List Window) (w : Window) → is_apart from to w ≡ true →
+    w.summary.t_first ≤ w.summary.t_last → IsSeen landmarks from to seen ws → IsSeen landmarks from to seen (ws ++ w ∷ [])
+IsSeen-skip landmarks from to seen ws w apart order is =
+    let not_whole : is_whole from to w ≡ false = apart-whole from to w.summary.t_first w.summary.t_last apart order in
+    let not_split : is_split from to w ≡ false = rw (not_whole, apart) refl in
+    record {
+      marked = is.marked;
+      known = subst (λ (vs : List Window). AreKnown seen.whole vs) (sym (filter-same (is_whole from to) ws w not_whole)) is.known;
+      splits = is.splits ∙ sym (ap (map (split_figures (is_free landmarks) from to)) (filter-same (is_split from to) ws w not_split));
+      left_behind = is.left_behind;
+      right_behind = is.right_behind;
+      whole_behind = is.whole_behind;
+    }
+
+-- where a window has no time in the range
+pub apart-early : (from to first last : ℕ) → last < from → (nat_lt last from || nat_lt to first) ≡ true
+apart-early from to first last early = grind (arith, nat_tests)
+
+pub apart-late : (from to first last : ℕ) → to < first → (nat_lt last from || nat_lt to first) ≡ true
+apart-late from to first last late = grind (arith, nat_tests)
+
+-- windows that begin after the range change nothing
+pub IsSeen-late : (landmarks : List Landmark) (from to : ℕ) (seen : Seen) (gone : List Window) (first time : ℕ) (ws : List Window) → StandFrom first time ws →
+    to < time → IsSeen landmarks from to seen gone → IsSeen landmarks from to seen (gone ++ ws)
+IsSeen-late landmarks from to seen gone first time [] stand late is = subst (λ ws. IsSeen landmarks from to seen ws) (sym (append-nil gone)) is
+IsSeen-late landmarks from to seen gone first time (w ∷ ws) stand late is =
+    let possible = stand.1 in
+    let some = possible.count_low in
+    let long = possible.times in
+    let begins = stand.2 in
+    let apart = apart-late from to w.summary.t_first w.summary.t_last (omega (arith, begins, late)) in
+    let one = IsSeen-skip landmarks from to seen gone w apart (omega (arith, some, long)) is in
+    subst (λ vs. IsSeen landmarks from to seen vs) (append_assoc gone (w ∷ []) ws)
+    (IsSeen-late landmarks from to seen (gone ++ w ∷ []) (first + w.summary.count) (w.summary.t_last + 1) ws stand.3 (omega (arith, begins, late, some, long)) one)
+
 total-push : (vs : List ℤ) (v : ℤ) → total (vs ++ v ∷ []) ≡ (total vs +ℤ v)
 total-push [] v = omega (arith, ints)
 total-push (x ∷ xs) v = let rest = total-push xs v in omega (arith, ints)
@@ -101,13 +148,6 @@ AreKnown-more whole ws w known = record {
       ∙ sym (ap (λ vs. greatest_in vs) (map-append (λ (v : Window). v.summary.max) ws (w ∷ []))
       ∙ choice_in-append IsChoice-max (map (λ (v : Window). v.summary.max) ws) (w.summary.max ∷ []));
 }
-
--- one more element passes a test, or doesn't
-filter-push : {X : Type 0} (p : X → Bool) (xs : List X) (x : X) → p x ≡ true → filter p (xs ++ x ∷ []) ≡ filter p xs ++ x ∷ []
-filter-push p xs x passes = filter-append p xs (x ∷ []) ∙ rw passes refl
-
-filter-same : {X : Type 0} (p : X → Bool) (xs : List X) (x : X) → p x ≡ false → filter p (xs ++ x ∷ []) ≡ filter p xs
-filter-same p xs x fails = filter-append p xs (x ∷ []) ∙ rw fails (append-nil (filter p xs))
 
 known-with : (from to : ℕ) (whole : Option Figures) (ws : List Window) (w : Window) → AreKnown whole (whole_windows from to ws) →
     AreKnown (whole_with from to whole w) (whole_windows from to (ws ++ w ∷ []))

@@ -1,18 +1,25 @@
 -- What a stream answers to a query.
-use Rattle.std.specs.Prelude.{◌≡◌, ℕ, List, map, Option, Result, Ok, Err, ⊤}
+use Rattle.std.specs.Prelude.{◌≡◌, ℕ, ◌<◌, List, ◌∷◌, ◌++◌, map, All, IsTrue, Option, Some, Result, Ok, Err, ⊤}
 use Rattle.ss_outside.specs.Crash.{OnlyReads}
 use Rattle.ss_outside.specs.Disk.{Told}
 use Rattle.ss_outside.specs.Verdict.{UnlessFailed}
 use Rattle.ss_records.specs.Kept.{AreKept, RecordsState}
 use Rattle.ss_catalog.specs.declared.query.Query.{Query}
 use Rattle.ss_codec.specs.declared.record.Record.{Record}
+use Rattle.ss_line.specs.Line.{place_at}
+use Rattle.ss_line.specs.declared.entry.At.{At}
 use Rattle.ss_line.specs.declared.entry.Entry.{Entry}
 use Rattle.ss_model.specs.Answers.{answer_of}
+use Rattle.ss_model.specs.Marks.{lies_free}
 use Rattle.ss_model.specs.State.{Stream}
 use Rattle.ss_model.specs.declared.outcome.Outcome.{Outcome}
-use Rattle.ss_recover.specs.Held.{entries_of}
+use Rattle.ss_model.specs.declared.types.Window.{Window}
+use Rattle.ss_recover.specs.Held.{entries_of, span_held, span_of, times_held, times_of, window_record}
 use Rattle.ss_recover.specs.declared.parts.StreamParts.{StreamParts}
+use Rattle.ss_query.specs.Asked.{Follows, seen_after}
 use Rattle.ss_query.specs.Held.{IsHeldIn}
+use Rattle.ss_query.specs.Slots.{HasRecords}
+use Rattle.ss_query.specs.declared.asking.Seen.{Seen}
 use Rattle.ss_query.specs.Reading.{verdict_of_read}
 use Rattle.ss_query.specs.declared.read_error.ReadError.{ReadError}
 use Rattle.ss_query.specs.declared.read_error.ReadError.TheVariants.{Disk, Changed}
@@ -26,6 +33,32 @@ abbrev pub IsAnswered : Outcome → Result Outcome ReadError → Type 0
 IsAnswered outcome (Ok answered) = answered ≡ outcome
 IsAnswered outcome (Err Disk) = ⊤
 IsAnswered outcome (Err (Changed slot)) = ⊥
+
+-- A walk over entries may begin at a place: each entry before it ends before a time.
+pub record BeginsAt (entries : List (At × Entry)) (from : ℕ) (start : Option At) : Type 0 where
+  pub before : List (At × Entry)
+  pub rest : List (At × Entry)
+  pub is : entries ≡ before ++ rest
+  pub early : All (λ (e : At × Entry). e.1.t_last < from) before
+  pub place : start ≡ place_at rest 0
+
+-- what looking at an entry tells, on a disk that tells: what is known with its window, unless the disk fails
+abbrev pub IsSeenAs : Seen → Result Seen ReadError → Type 0
+IsSeenAs seen (Ok now) = now ≡ seen
+IsSeenAs seen (Err Disk) = ⊤
+IsSeenAs seen (Err (Changed slot)) = ⊥
+
+-- An entry is looked at, by records that are these then: its record is read where it has times in the range. Content and
+-- images stay.
+pub record SeesEntry (part : StreamParts) (from to : ℕ) (entry : Entry) (seen : Seen) (records : RecordsState) (result : Result Seen ReadError)
+    (old new : Told) : Type 0 where
+  -- what is known with the window whose record lies in the slot of the entry, where it comes next, as for reading it
+  pub window : (others : List (ℕ × Option Record)) (w : Window) →
+      HasRecords ((entry.slot, Some (window_record part.id.0 w)) ∷ others) old.content →
+      span_held entry ≡ span_of w → times_held entry ≡ times_of w → IsTrue (lies_free part.landmarks.landmarks w) → Follows seen w →
+      IsSeenAs (seen_after part.landmarks.landmarks from to seen w) result
+  pub kept : UnlessFailed (verdict_of_read result) (AreKept records new.content)
+  pub reads : OnlyReads old new
 
 -- A query is answered, by records that are these then. Content and images stay.
 pub record AnswersStream (part : StreamParts) (query : Query) (records : RecordsState) (result : Result Outcome ReadError) (old new : Told) :

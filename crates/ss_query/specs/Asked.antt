@@ -1,5 +1,5 @@
 -- What a query makes of the landmarks of a stream, and of its windows, read one after the other.
-use Rattle.std.specs.Prelude.{◌≡◌, ℕ, ◌+◌, ◌^◌, ◌<◌, ◌≤◌, ◌&&◌, nat_le, nat_lt, if◌then◌else◌, ℤ, pos, ◌+ℤ◌, unsigned_abs, List, Option, None, Some}
+use Rattle.std.specs.Prelude.{◌≡◌, ℕ, ◌+◌, ◌^◌, ◌<◌, ◌≤◌, ◌&&◌, nat_le, nat_lt, if◌then◌else◌, ℤ, pos, ◌+ℤ◌, unsigned_abs, List, IfSome, Option, None, Some}
 use Rattle.std.specs.Option.{option_map, option_map_or}
 use Rattle.ss_bounds.specs.Either.{greater, lesser}
 use Rattle.ss_bounds.specs.Extremes.{listed, max_interval, min_interval}
@@ -9,7 +9,7 @@ use Rattle.ss_landmarks.specs.Landmark.{Landmark}
 use Rattle.ss_landmarks.specs.declared.tally.Tally.{Tally}
 use Rattle.ss_catalog.specs.declared.query.Kind.{Kind}
 use Rattle.ss_catalog.specs.declared.query.Kind.TheVariants as kinds
-use Rattle.ss_model.specs.Interval.{is_split, is_whole, split_figures}
+use Rattle.ss_model.specs.Interval.{is_apart, is_split, is_whole, split_figures}
 use Rattle.ss_model.specs.declared.outcome.Outcome.{Outcome}
 use Rattle.ss_model.specs.declared.outcome.Outcome.TheVariants.{Count, Sum, Min, Max}
 use Rattle.ss_model.specs.declared.types.Window.{Window}
@@ -46,10 +46,9 @@ abbrev pub right_with : List Landmark → ℕ → ℕ → Option SplitFigures �
 right_with landmarks from to right w =
     if is_split from to w && nat_le from w.summary.t_first then Some (split_figures (is_free landmarks) from to w) else right
 
--- a window may come next: its positions are behind those so far, as far as one can have them, and so are its times
+-- a window may come next: it has no more values than a stream can have besides those so far, and its times are behind theirs
 abbrev pub Follows : Seen → Window → Type 0
-Follows seen w =
-    (w.first ≡ seen.taken + 1) × (seen.taken + w.summary.count ≤ GREATEST_COUNT) × (seen.next_time ≤ w.summary.t_first)
+Follows seen w = (seen.taken + w.summary.count ≤ GREATEST_COUNT) × (seen.next_time ≤ w.summary.t_first)
 
 -- what is known with one more window
 abbrev pub seen_with : List Landmark → ℕ → ℕ → Seen → Window → Seen
@@ -61,6 +60,15 @@ seen_with landmarks from to seen w = record {
   taken = seen.taken + w.summary.count;
   next_time = w.summary.t_last + 1;
 }
+
+-- the same of a window of the stream, whose record is read only where it has times in the range
+abbrev pub seen_after : List Landmark → ℕ → ℕ → Seen → Window → Seen
+seen_after landmarks from to seen w = if is_apart from to w then seen else seen_with landmarks from to seen w
+
+-- the values so far are no more than a stream can have, and the whole windows among them lie before the time of the next one
+pub record HasRoom (seen : Seen) : Type 0 where
+  pub few : seen.taken ≤ GREATEST_COUNT
+  pub whole : IfSome seen.whole (λ f. (f.t_last < seen.next_time) × (f.count ≤ seen.taken))
 
 -- from how many to how many values of a split window lie in the range, and from which to which sum; zeros where there is none
 abbrev pub counts_of : Option SplitFigures → ℕ × ℕ

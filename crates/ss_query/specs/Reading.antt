@@ -11,7 +11,7 @@ use Rattle.ss_line.specs.declared.entry.Entry.{Entry}
 use Rattle.ss_summary.specs.Figures.{Figures}
 use Rattle.ss_model.specs.Marks.{lies_free}
 use Rattle.ss_model.specs.declared.types.Window.{Window}
-use Rattle.ss_recover.specs.Held.{span_held, span_of, window_record}
+use Rattle.ss_recover.specs.Held.{span_held, span_of, times_held, times_of, window_record}
 use Rattle.ss_recover.specs.declared.parts.StreamParts.{StreamParts}
 use Rattle.ss_query.specs.Slots.{HasRecords}
 use Rattle.ss_query.specs.declared.read_error.ReadError.{ReadError}
@@ -29,18 +29,20 @@ IsRead summary (Ok read) = read ≡ summary
 IsRead summary (Err Disk) = ⊤
 IsRead summary (Err (Changed slot)) = ⊥
 
--- a summary is one of a window with the positions of an entry, which lies among the landmarks as a window has to
+-- a summary is one of a window with the positions and the times of an entry, which lies among the landmarks as a window has to
 pub record IsWindowOf (part : StreamParts) (entry : Entry) (summary : Figures) : Type 0 where
   pub count : entry.first + summary.count ≡ entry.last + 1
+  pub times : times_held entry ≡ (summary.t_first, summary.t_last)
   pub free : IsTrue (lies_free part.landmarks.landmarks (record { first = entry.first; summary = summary }))
 
 -- A window is read, by records that are these then. Content and images stay.
 pub record ReadsWindow (part : StreamParts) (entry : Entry) (records : RecordsState) (result : Result Figures ReadError) (old new : Told) :
     Type 0 where
-  -- that of the stream whose record lies in the slot of the entry, where it has the positions of the entry and lies free
+  -- that of the stream whose record lies in the slot of the entry, where it has the positions and the times of the entry and
+  -- lies free
   pub window : (others : List (ℕ × Option Record)) (w : Window) →
       HasRecords ((entry.slot, Some (window_record part.id.0 w)) ∷ others) old.content →
-      span_held entry ≡ span_of w → IsTrue (lies_free part.landmarks.landmarks w) → IsRead w.summary result
+      span_held entry ≡ span_of w → times_held entry ≡ times_of w → IsTrue (lies_free part.landmarks.landmarks w) → IsRead w.summary result
   pub kept : UnlessFailed (verdict_of_read result) (AreKept records new.content)
   pub reads : OnlyReads old new
 

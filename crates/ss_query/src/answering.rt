@@ -9,12 +9,14 @@ ghost use Rattle.ss_journal.specs.declared.format.TheConstants.{MOST_SLOTS};
 ghost use Rattle.ss_records.specs.Kept.{AreKept};
 ghost use Rattle.ss_model.specs.Answers.{IsOfKind};
 ghost use Rattle.ss_steps.specs.Steps.{IsFresh};
-ghost use Rattle.ss_query.specs.Answered.{AnswersStream, window_slots_of};
+ghost use Rattle.ss_query.specs.Answered.{AnswersStream, BeginsAt, SeesEntry, window_slots_of};
+ghost use Rattle.ss_query.specs.Asked.{HasRoom};
 ghost use Rattle.ss_query.specs.Reading.{KeepsRecords, verdict_of_read};
 
-use crate::asking::{Seen, follows, outcome_seen, with_window};
+use crate::asking::{Seen, follows, nothing_seen, outcome_seen, with_window};
 use crate::{Outcome, ReadError, read_window};
 use ss_catalog::Query;
+use ss_line::{At, Entry};
 use ss_model::Window;
 use ss_outside::Disk;
 use ss_records::Records;
@@ -23,8 +25,42 @@ use ss_steps::Steps;
 use std::marker::Brand;
 use std::sync::ledger::{Blank, Ledger};
 
-/// What a stream answers to a query: it tallies the values of landmarks in the range, and reads the records of all windows, oldest
-/// first. It writes nothing, and takes no memory.
+// What is known with the window of an entry. Its record is read only where it has times in the range.
+fn see_entry<D: Disk>(
+    records: &mut Records,
+    disk: &mut D,
+    part: &StreamParts,
+    query: &Query,
+    entry: Entry,
+    seen: Seen,
+) -> Result<Seen, ReadError>
+    requires order { query.now.from ≤ query.now.to }
+    requires room { HasRoom seen }
+    requires running { IsRunning records.old.journal }
+    requires slot { entry.slot < MOST_SLOTS }
+    requires one_disk { OfContent (D.seen disk.old) (AreKept records.old) }
+    ensures sees { Step (verdict_of_read result) (D.seen disk.old) (D.seen disk.new)
+        (SeesEntry part.now query.now.from query.now.to entry seen records.new result) }
+    ensures room { IfOk result (λ now. HasRoom now × (now.marked ≡ seen.marked)) }
+    ensures changed { IfChanged (verdict_of_read result) (λ slot. slot ≡ entry.slot) }
+    ensures records { KeepsRecords (verdict_of_read result) records.old records.new }
+{
+    if entry.t_last < query.from || query.to < entry.t_first {
+        return Ok(seen);
+    }
+    let window = Window {
+        first: entry.first,
+        summary: read_window(records, disk, part, entry)?,
+    };
+    if !follows(seen, &window) {
+        return Err(ReadError::Changed { slot: entry.slot });
+    }
+    Ok(with_window(seen, query, &part.landmarks, &window))
+}
+
+/// What a stream answers to a query: it tallies the values of landmarks in the range, and reads the records of those windows,
+/// oldest first, that have times in the range. It looks at all of them from the first on. It writes nothing, and takes no
+/// memory.
 pub fn answer<D: Disk>(
     part: &StreamParts,
     records: &mut Records,
@@ -44,18 +80,42 @@ pub fn answer<D: Disk>(
     ensures changed { IfChanged (verdict_of_read result) (Contains (window_slots_of part.now)) }
     ensures records { KeepsRecords (verdict_of_read result) records.old records.new }
 {
-    answer_in::<D, Brand>(part, records, disk, query, Blank::new(1))
+    answer_from(part, part.line.first(), records, disk, query)
+}
+
+/// The same from a place on, before which each window ends before the range. It ends with the first one that begins after it.
+pub fn answer_from<D: Disk>(
+    part: &StreamParts,
+    start: Option<At>,
+    records: &mut Records,
+    disk: &mut D,
+    query: &Query,
+) -> Result<Outcome, ReadError>
+    requires begins { BeginsAt part.now.line.entries query.now.from start }
+    requires order { query.now.from ≤ query.now.to }
+    requires running { IsRunning records.old.journal }
+    requires slots { All (λ slot. slot < MOST_SLOTS) (window_slots_of part.now) }
+    requires one_disk { OfContent (D.seen disk.old) (AreKept records.old) }
+    ensures answers { Step (verdict_of_read result) (D.seen disk.old) (D.seen disk.new)
+        (AnswersStream part.now query.now records.new result) }
+    ensures kind { IfOk result (IsOfKind query.now.kind) }
+    ensures changed { IfChanged (verdict_of_read result) (Contains (window_slots_of part.now)) }
+    ensures records { KeepsRecords (verdict_of_read result) records.old records.new }
+{
+    answer_in::<D, Brand>(part, start, records, disk, query, Blank::new(1))
 }
 
 // The same, with a counter.
 fn answer_in<D: Disk, L: Ledger>(
     part: &StreamParts,
+    start: Option<At>,
     records: &mut Records,
     disk: &mut D,
     query: &Query,
     blank: Blank,
 ) -> Result<Outcome, ReadError>
     requires fresh { IsFresh L.name L.parts blank }
+    requires begins { BeginsAt part.now.line.entries query.now.from start }
     requires order { query.now.from ≤ query.now.to }
     requires running { IsRunning records.old.journal }
     requires slots { All (λ slot. slot < MOST_SLOTS) (window_slots_of part.now) }
@@ -69,25 +129,14 @@ fn answer_in<D: Disk, L: Ledger>(
     let mut steps = Steps::<L>::new(blank);
     let _len = part.line.len();
     let _known = part.landmarks.count();
-    let mut seen = Seen {
-        marked: part.landmarks.values_in(query.from, query.to),
-        whole: None,
-        left: None,
-        right: None,
-        taken: 0,
-        next_time: 0,
-    };
-    let mut next = part.line.first();
+    let mut seen = nothing_seen(part.landmarks.values_in(query.from, query.to));
+    let mut next = start;
     while let Some(at) = next {
         let entry = part.line.get(at, &mut steps);
-        let window = Window {
-            first: entry.first,
-            summary: read_window(records, disk, part, entry)?,
-        };
-        if !follows(seen, &window) {
-            return Err(ReadError::Changed { slot: entry.slot });
+        if query.to < entry.t_first {
+            return Ok(outcome_seen(seen, query.kind));
         }
-        seen = with_window(seen, query, &part.landmarks, &window);
+        seen = see_entry(records, disk, part, query, entry, seen)?;
         next = part.line.neighbours(at, &mut steps).1;
     }
     Ok(outcome_seen(seen, query.kind))

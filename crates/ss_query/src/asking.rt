@@ -5,7 +5,7 @@ ghost use Rattle.ss_landmarks.specs.Free.{is_free};
 ghost use Rattle.ss_model.specs.Interval.{is_apart, is_split, is_whole, split_figures};
 ghost use Rattle.ss_model.specs.Marks.{lies_free};
 ghost use Rattle.ss_summary.specs.declared.summary.TheConstants.{GREATEST_COUNT};
-ghost use Rattle.ss_query.specs.Asked.{Follows, IsFewMarked, IsNear, counts_of, joined_with, known_count, known_sum, left_with};
+ghost use Rattle.ss_query.specs.Asked.{Follows, IsFewMarked, IsNear, counts_of, joined_with, known_count, known_sum, left_with, marks_seen};
 ghost use Rattle.ss_query.specs.Asked.{outcome_seen, right_with, seen_with, sums_of, whole_with};
 
 use ss_bounds::{Split, count_bounds, greater, lesser, max_bounds, min_bounds, sum_bounds};
@@ -29,16 +29,28 @@ pub struct Seen {
     pub next_time: u64,
 }
 
-// Whether a window may come next: its positions and its times are after those so far.
+// Before any window was read.
+pub fn nothing_seen(marked: Tally) -> Seen
+    ensures { result ≡ marks_seen marked }
+{
+    Seen {
+        marked,
+        whole: None,
+        left: None,
+        right: None,
+        taken: 0,
+        next_time: 0,
+    }
+}
+
+// Whether a window may come next: a stream can have its values besides those so far, and its times are after theirs.
 pub fn follows(seen: Seen, window: &Window) -> bool
     requires { seen.taken ≤ GREATEST_COUNT }
     ensures after { IsTrue result ↔ Follows seen window.now }
     ensures rises { window.now.summary.t_first ≤ window.now.summary.t_last }
 {
     let summary = window.summary;
-    window.first == seen.taken + 1
-        && summary.count <= GREATEST_COUNT - seen.taken
-        && seen.next_time <= summary.t_first
+    summary.count <= GREATEST_COUNT - seen.taken && seen.next_time <= summary.t_first
 }
 
 // Whether all times of a window lie in the range.

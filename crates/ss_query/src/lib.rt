@@ -6,7 +6,7 @@ mod asking;
 mod read_error;
 mod reading;
 
-pub use answering::answer;
+pub use answering::{answer, answer_from};
 pub use read_error::ReadError;
 pub use reading::read_window;
 pub use ss_model::Outcome;

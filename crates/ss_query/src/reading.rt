@@ -9,7 +9,7 @@ ghost use Rattle.ss_records.specs.Kept.{AreKept};
 ghost use Rattle.ss_codec.specs.declared.record.Record.{Record};
 ghost use Rattle.ss_model.specs.Marks.{lies_free};
 ghost use Rattle.ss_model.specs.declared.types.Window.{Window};
-ghost use Rattle.ss_recover.specs.Held.{span_held, span_of, window_record};
+ghost use Rattle.ss_recover.specs.Held.{span_held, span_of, times_held, times_of, window_record};
 ghost use Rattle.ss_query.specs.Reading.{IsWindowOf, KeepsRecords, ReadsWindow, verdict_of_read};
 
 use crate::ReadError;
@@ -22,8 +22,8 @@ use ss_records::Records;
 use ss_recover::{StreamParts, lies_free};
 use ss_summary::Summary;
 
-// Whether a window with this first position and this summary is that of the entry.
-fn is_window_of(first: u64, summary: Summary, entry: Entry) -> bool
+// Whether a window with this first position and this summary has the positions of the entry.
+fn is_placed_as(first: u64, summary: Summary, entry: Entry) -> bool
     ensures same { IsTrue result ↔ ((first ≡ entry.first) × (first + summary.count ≡ entry.last + 1)) }
     ensures some { 1 ≤ summary.count }
 {
@@ -31,18 +31,27 @@ fn is_window_of(first: u64, summary: Summary, entry: Entry) -> bool
     first == entry.first && first <= entry.last && entry.last - first == more
 }
 
+// Whether it has the times of the entry.
+fn is_timed_as(summary: Summary, entry: Entry) -> bool
+    ensures { IsTrue result ↔ ((summary.t_first ≡ entry.t_first) × (summary.t_last ≡ entry.t_last)) }
+{
+    summary.t_first == entry.t_first && summary.t_last == entry.t_last
+}
+
 // The summary of what a slot spells, if that is the window of this entry.
 fn summary_of(spelled: Option<Record>, id: StreamId, entry: Entry) -> Option<Summary>
     ensures some { IfSome result (λ summary. (spelled ≡ Some (Record.Window id.0 entry.first summary))
-        × (entry.first + summary.count ≡ entry.last + 1)) }
-    ensures none { IfNone result ((w : Window) → spelled ≡ Some (window_record id.0 w) → ¬ (span_held entry ≡ span_of w)) }
+        × (entry.first + summary.count ≡ entry.last + 1) × (times_held entry ≡ (summary.t_first, summary.t_last))) }
+    ensures none { IfNone result ((w : Window) → spelled ≡ Some (window_record id.0 w) → span_held entry ≡ span_of w
+        → ¬ (times_held entry ≡ times_of w)) }
 {
     match spelled? {
         Record::Window {
             id: number,
             first,
             summary,
-        } if number == id.0 && is_window_of(first, summary, entry) => Some(summary),
+        } if number == id.0 && is_placed_as(first, summary, entry) && is_timed_as(summary, entry) =>
+            { Some(summary) }
         _ => None,
     }
 }
@@ -69,7 +78,8 @@ pub fn read_window<D: Disk>(
     // The window of the record that lies in the slot of the entry.
     ensures reads { Step (verdict_of_read result) (D.seen disk.old) (D.seen disk.new)
         (ReadsWindow part.now entry records.new result) }
-    // Over every disk it has as many values as its positions say, and lies among the landmarks as a window has to.
+    // Over every disk it has as many values as its positions say and the times that are held, and lies among the landmarks as a
+    // window has to.
     ensures window { IfOk result (IsWindowOf part.now entry) }
     ensures changed { IfChanged (verdict_of_read result) (λ slot. slot ≡ entry.slot) }
     ensures records { KeepsRecords (verdict_of_read result) records.old records.new }

@@ -11,6 +11,7 @@ pub mod HeldRecords
 pub mod SoundStreams
 pub mod GatherLemmas
 pub mod Unordered
+pub mod HeldTimes
 pub mod RebuiltParts
 pub mod HeldLemmas
 pub mod ValidRecords
@@ -26,3 +27,4 @@ pub mod RunStream
 pub mod RunHeld
 pub mod RunsDone
 mod Rows
+mod TimeRows

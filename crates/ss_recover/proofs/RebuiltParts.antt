@@ -30,7 +30,7 @@ use Rattle.ss_model.specs.declared.types.Window.{Window}
 use Rattle.ss_recover.specs.Carried.{created_by, in_order, is_mark_of, marks_carried, stream_number, spelled, streams_created, window_of, windows_carried}
 use Rattle.ss_recover.specs.Conditions.{has_new_name, has_one_record, has_place, is_sound, tile, times_rise}
 use Rattle.ss_recover.specs.Gathered.{AreFound, GathersAs}
-use Rattle.ss_recover.specs.Held.{Agrees, AllAgree, AreHeld, AreWhole, EndByLast, HasWholeSlots, TileFrom, entries_of}
+use Rattle.ss_recover.specs.Held.{Agrees, AllAgree, AreHeld, AreWhole, EndByLast, HasWholeSlots, RiseToLast, TileFrom, entries_of}
 use Rattle.ss_recover.specs.Held.{occupied, records_held, slots_held, span_held, span_of}
 use Rattle.ss_recover.specs.Marked.{are_marks, landmarks_made}
 use Rattle.ss_recover.specs.Order.{found_key, key_of, place_of}
@@ -45,6 +45,7 @@ use Rattle.ss_recover.specs.declared.parts.StreamParts.{StreamParts}
 use Rattle.ss_recover.specs.declared.recover_error.RecoverError.{RecoverError}
 use Rattle.ss_recover.specs.declared.recover_error.RecoverError.TheVariants.{BadSlot, BadStream, Disk, OutOfMemory}
 use Rattle.ss_recover.proofs.HeldLemmas.{carried-AreHeld}
+use Rattle.ss_recover.proofs.HeldTimes.{times-agree}
 use Rattle.ss_recover.proofs.HeldRecords.{filter_map-filled, zeros_are_free, held-long, held-zip, records_of_stream}
 use Rattle.ss_recover.proofs.Latest.{AllEndBy-latest, none-latest}
 use Rattle.ss_recover.proofs.Lists.{filter_map-kept, kept, position-none, map-all}
@@ -241,6 +242,7 @@ whole-from_walk live all sorted (Ok parts) slots moved walks =
       names = subst (IsDistinct same_name) (sym (names-agree ps ss built.each)) built.state.names;
       tiles = All-from_recursion (λ (part : StreamParts). TileFrom 1 (entries_of part)) ps
           (tiles-agree ps ss built.each (recursion_from_All IsStream ss built.state.each));
+      times = All-from_recursion RiseToLast ps (times-agree ps ss built.each (recursion_from_All IsStream ss built.state.each));
       landmarks =
           All-from_recursion (λ (part : StreamParts). AreKnown part.landmarks × EndByLast part) ps (landmarks-agree ps ss built.each);
       slots =

@@ -197,6 +197,7 @@ module _ (front : List Record) (streams : List Stream) (done : AreWalked front s
     name = held.name;
     params = held.params;
     positions = held.kept.positions;
+    times = held.kept.times;
     landmarks = held.landmarks;
     known = held.known;
     last_time = held.last_time ∙ ap (λ ls. later (newest_time ws) (latest_of ls)) held.landmarks;

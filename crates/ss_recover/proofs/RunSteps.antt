@@ -1,8 +1,8 @@
 -- What is held of a stream shows its run, one record after another.
 use Rattle.std.proofs.Common.{◌≡◌, ◌∙◌, ℕ, ℤ, ◌+◌, ◌<◌, ◌≤◌, Bool, true, false, List, [], ◌∷◌, ◌++◌, length, map, filter, Option, Some, None}
 use Rattle.std.proofs.Common.{IfSome}
-use Rattle.std.proofs.Common.{MatchOption, refl, sym, ap, subst, arith, append-nil, length-append}
-use Rattle.std.specs.Prelude.{◌==◌, ◌&&◌, nat_le, nat_lt, option_and_then}
+use Rattle.std.proofs.Common.{MatchOption, refl, sym, ap, ap₂, subst, arith, append-nil, length-append}
+use Rattle.std.specs.Prelude.{◌==◌, ◌&&◌, is_some, nat_le, nat_lt, option_and_then}
 use Rattle.std.specs.Option.{option_map_or}
 use Rattle.std.specs.List.{filter_map, list_all}
 use Rattle.std.proofs.lemmas.Bool.{and_parts, cond-true, cond-false, eq-eqb, eqb-true, leb-true}
@@ -11,10 +11,12 @@ use Rattle.std.proofs.lemmas.List.{length-map, map-append}
 use Rattle.std.proofs.lemmas.List.Elements.{filter-append, filter_map-append}
 use Rattle.std.proofs.lemmas.List.Folds.{list_all-append}
 use Rattle.std.proofs.lemmas.List.Sums.{count_by-le-length, length-filter}
+use Rattle.ss_catalog.specs.declared.stream_id.StreamId.{StreamId}
 use Rattle.ss_codec.specs.declared.record.Record.{Record}
 use Rattle.ss_codec.specs.declared.record.Record.TheVariants as records
 use Rattle.ss_landmarks.specs.Free.{is_up_to}
 use Rattle.ss_landmarks.specs.Landmark.{Landmark, LandmarkValue, change_last, opened_at, with_value}
+use Rattle.ss_landmarks.specs.Landmarks.{IsState as AreKnown}
 use Rattle.ss_landmarks.specs.Order.{AreLandmarks, CanOpen, CanTake}
 use Rattle.ss_landmarks.specs.declared.landmarks.TheConstants.{LATEST_TIME, MOST_LANDMARK_SLOTS}
 use Rattle.ss_line.specs.Line.{LineState}
@@ -22,18 +24,19 @@ use Rattle.ss_line.specs.declared.entry.At.{At}
 use Rattle.ss_line.specs.declared.entry.Entry.{Entry}
 use Rattle.ss_line.specs.declared.line.TheConstants.{MOST_PLACES}
 use Rattle.ss_summary.specs.Figures.{Figures}
-use Rattle.ss_model.specs.Marks.{latest_of}
+use Rattle.ss_model.specs.Marks.{later, latest_of}
 use Rattle.ss_model.specs.Windows.{newest_time}
 use Rattle.ss_model.specs.declared.types.TheConstants.{MOST_RECORDS}
 use Rattle.ss_model.specs.declared.types.Window.{Window}
 use Rattle.ss_recover.specs.Carried.{is_mark_of, window_of}
-use Rattle.ss_recover.specs.Held.{span_held, span_of}
+use Rattle.ss_recover.specs.Held.{span_held, span_of, times_held, times_of}
 use Rattle.ss_recover.specs.Marked.{Marked, has_all_values, is_next_landmark, is_next_value, landmarks_in, landmarks_made, marked_by, marked_with}
 use Rattle.ss_recover.specs.Runs.{Run, is_next_window, marking, run_with, tiled_with, tiling, windows_from}
-use Rattle.ss_recover.specs.Shown.{Adds, AreKept, Grows, HasClosed, IsReady, IsRunOf, MayClose, Opens, Shows, ShowsRun, can_add, can_open, finish_of}
+use Rattle.ss_recover.specs.Shown.{Adds, AreKept, Grows, HasClosed, IsAll, IsReady, IsRunOf, IsSame, MayClose, Opens, Shows, ShowsRun, can_add, can_open, finish_of}
 use Rattle.ss_recover.specs.Shown.{found_by, has_said_last, is_landmark, is_value, is_window, still_open}
 use Rattle.ss_recover.specs.Usable.{IsTimed, slots_of, without_slots}
 use Rattle.ss_recover.specs.declared.found.Found.{Found}
+use Rattle.ss_recover.specs.declared.parts.StreamParts.{StreamParts}
 use Rattle.ss_recover.specs.declared.run.Last.{Last}
 use Rattle.ss_recover.specs.declared.run.Marks.{Marks}
 use Rattle.ss_recover.specs.declared.run.Open.{Open}
@@ -93,6 +96,7 @@ module _ (line : LineState) (landmarks values : List ℕ) (number : ℕ) (own : 
   kept-landmark slot id n said start finish more is =
       let x : Found = record { slot = slot; holds = records.Landmark id n said start finish } in record {
         positions = kept.positions ∙ ap (map span_of) (sym (windows-push number own x ∙ append-nil _));
+        times = kept.times ∙ ap (map times_of) (sym (windows-push number own x ∙ append-nil _));
         entries = kept.entries ∙ sym (found-push is_window own x ∙ append-nil _);
         slots = is ∙ ap (λ l. l ++ slot ∷ []) kept.slots ∙ sym (found-push is_landmark own x);
         value_slots = kept.value_slots ∙ sym (found-push is_value own x ∙ append-nil _);
@@ -103,6 +107,7 @@ module _ (line : LineState) (landmarks values : List ℕ) (number : ℕ) (own : 
   kept-value slot id n index t v more is =
       let x : Found = record { slot = slot; holds = records.Value id n index t v } in record {
         positions = kept.positions ∙ ap (map span_of) (sym (windows-push number own x ∙ append-nil _));
+        times = kept.times ∙ ap (map times_of) (sym (windows-push number own x ∙ append-nil _));
         entries = kept.entries ∙ sym (found-push is_window own x ∙ append-nil _);
         slots = kept.slots ∙ sym (found-push is_landmark own x ∙ append-nil _);
         value_slots = is ∙ ap (λ l. l ++ slot ∷ []) kept.value_slots ∙ sym (found-push is_value own x);
@@ -122,6 +127,11 @@ module _ (line : LineState) (landmarks values : List ℕ) (number : ℕ) (own : 
             ∙ (λ i. kept.positions i ++ (grows.from i, grows.to i) ∷ [])
             ∙ sym (ap (map span_of) (windows-push number own x ∙ ap (λ l. filter_map (window_of number) (without_slots own) ++ l) one)
             ∙ map-append span_of (filter_map (window_of number) (without_slots own)) (w ∷ []));
+        times =
+            ap (map times_held) more ∙ map-append times_held (map (λ (e : At × Entry). e.1) line.entries) (grows.entry ∷ [])
+            ∙ (λ i. kept.times i ++ grows.times i ∷ [])
+            ∙ sym (ap (map times_of) (windows-push number own x ∙ ap (λ l. filter_map (window_of number) (without_slots own) ++ l) one)
+            ∙ map-append times_of (filter_map (window_of number) (without_slots own)) (w ∷ []));
         entries =
             ap (map (λ (e : Entry). e.slot)) more ∙ map-append (λ (e : Entry). e.slot) (map (λ (e : At × Entry). e.1) line.entries) (grows.entry ∷ [])
             ∙ (λ i. kept.entries i ++ grows.in_slot i ∷ []) ∙ sym (found-push is_window own x);
@@ -379,6 +389,42 @@ grown s (Some (tiling ls at after)) own line slot id next first newest f shows i
     newest_time-push [] w = refl
     newest_time-push (v ∷ []) w = refl
     newest_time-push (v ∷ u ∷ us) w = newest_time-push (u ∷ us) w
+
+-- all records came
+abbrev ended_part : Open → Option ℕ → StreamParts
+ended_part s last = record {
+  id = s.id;
+  name = s.name;
+  target = s.target;
+  slot = s.slot;
+  last_time = last;
+  line = s.line;
+  landmarks = s.marks.landmarks;
+}
+
+pub all-came : (old s : Open) (o : Option Run) (own : List Found) (next : ℕ) (newest last : Option ℕ) → IsSame old s →
+    MatchOption o ⊥ (λ q. Shows s q own) → s.stage ≡ stages.Windows next newest → AreKnown s.marks.landmarks → last ≡ later newest s.marks.latest →
+    (is_some o ≡ true) × IsAll old own (ended_part s last)
+all-came old s None own next newest last same shows is known later_is = absurd shows
+all-came old s (Some (marking m)) own next newest last same shows is known later_is =
+    absurd (subst (λ stage. ShowsRun stage s.marks.landmarks.landmarks s.marks.latest (marking m)) is shows.run)
+all-came old s (Some (tiling ls at after)) own next newest last same shows is known later_is =
+    let in_run = subst (λ stage. ShowsRun stage s.marks.landmarks.landmarks s.marks.latest (tiling ls at after)) is shows.run in
+    let number : s.id.0 ≡ old.id.0 = ap (λ (i : StreamId). i.0) same.id in
+    let times : newest_time (filter_map (window_of old.id.0) (without_slots own)) ≡ newest =
+    ap (λ n. newest_time (filter_map (window_of n) (without_slots own))) (sym number) ∙ shows.of.1 ∙ in_run.2 in (
+      refl,
+      record {
+        id = same.id;
+        name = same.name;
+        target = same.target;
+        slot = same.slot;
+        last_time = later_is ∙ ap₂ later (sym times) shows.latest;
+        landmarks = sym in_run.0 ∙ sym shows.of.0 ∙ ap (λ n. landmarks_made (filter (is_mark_of n) (without_slots own))) number;
+        known = known;
+        kept = subst (λ n. AreKept s.line s.marks.landmarks.slots s.marks.landmarks.value_slots n own) number shows.kept;
+      },
+    )
 
 -- there is room for one more of each, and for one more window
 pub room-ready : (s : Open) → IsReady s →

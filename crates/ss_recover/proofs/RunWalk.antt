@@ -23,7 +23,7 @@ use Rattle.ss_target.specs.Targets.{params_of}
 use Rattle.ss_model.specs.Marks.{later, latest_of}
 use Rattle.ss_model.specs.Windows.{newest_time}
 use Rattle.ss_recover.specs.Carried.{is_mark_of, window_of}
-use Rattle.ss_recover.specs.Held.{span_held}
+use Rattle.ss_recover.specs.Held.{span_held, times_held}
 use Rattle.ss_recover.specs.Runs.{Run, is_ended, is_run, marking, may_stand, run_of, run_on, run_with}
 use Rattle.ss_recover.specs.Marked.{landmarks_made, nothing_marked}
 use Rattle.ss_recover.specs.Shown.{AreKept, HasTaken, IsAll, IsHeldOf, IsSame, Shows, ShowsRun, names_in}
@@ -116,6 +116,7 @@ IsSoFar-none old new found stream taken =
         of = (refl, refl);
         kept = record {
           positions = ap (λ (es : List (At × Entry)). map span_held (map (λ e. e.1) es)) b.entries;
+          times = ap (λ (es : List (At × Entry)). map times_held (map (λ e. e.1) es)) b.entries;
           entries = ap (λ (es : List (At × Entry)). map (λ (e : Entry). e.slot) (map (λ e. e.1) es)) b.entries;
           slots = b.slots;
           value_slots = b.value_slots;

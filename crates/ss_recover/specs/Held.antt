@@ -36,13 +36,21 @@ span_held e = (e.first, e.last)
 abbrev pub span_of : Window → ℕ × ℕ
 span_of w = (w.first, last_position w)
 
--- What is held agrees with a stream: its number, name and parameters, the positions of each of its windows, its landmarks with their
--- values, and its last time. The other figures of the windows are in their records alone.
+-- and their times
+abbrev pub times_held : Entry → ℕ × ℕ
+times_held e = (e.t_first, e.t_last)
+
+abbrev pub times_of : Window → ℕ × ℕ
+times_of w = (w.summary.t_first, w.summary.t_last)
+
+-- What is held agrees with a stream: its number, name and parameters, the positions and the times of each of its windows, its
+-- landmarks with their values, and its last time. The other figures of the windows are in their records alone.
 pub record Agrees (part : StreamParts) (s : Stream) : Type 0 where
   pub number : part.id.0 ≡ s.number
   pub name : part.name ≡ s.name
   pub params : params_of part.target ≡ s.params
   pub positions : map span_held (entries_of part) ≡ map span_of s.windows
+  pub times : map times_held (entries_of part) ≡ map times_of s.windows
   pub landmarks : part.landmarks.landmarks ≡ s.landmarks
   pub known : AreKnown part.landmarks
   pub last_time : part.last_time ≡ last_time s
@@ -131,6 +139,15 @@ abbrev pub TileFrom : ℕ → List Entry → Type 0
 TileFrom first [] = ⊤
 TileFrom first (e ∷ es) = (e.first ≡ first) × (e.first ≤ e.last) × (e.last ≤ MOST_VALUES) × TileFrom (e.last + 1) es
 
+-- times of entries rise, each within its window too, from this one to the last
+abbrev pub TimesRise : ℕ → ℕ → List Entry → Type 0
+TimesRise from last [] = ⊤
+TimesRise from last (e ∷ es) = (from ≤ e.t_first) × (e.t_first ≤ e.t_last) × (e.t_last ≤ last) × TimesRise (e.t_last + 1) last es
+
+-- the times of a stream's windows rise up to the last time of their stream
+abbrev pub RiseToLast : StreamParts → Type 0
+RiseToLast part = MatchOption part.last_time (entries_of part ≡ []) (λ last. TimesRise 0 last (entries_of part))
+
 -- the slots of a stream's records: of its own and those of its windows; of its landmarks and their values; and all of them
 abbrev pub window_slots : StreamParts → List ℕ
 window_slots part = part.slot ∷ map (λ (e : Entry). e.slot) (entries_of part)
@@ -146,11 +163,13 @@ abbrev pub EndByLast : StreamParts → Type 0
 EndByLast part = MatchOption part.last_time (part.landmarks.landmarks ≡ []) (λ last. AllEndBy last part.landmarks.landmarks)
 
 -- What is true of what is held over every disk, whatever it tells: numbers rise, names differ, the windows of each stream
--- hold its positions, its landmarks end by its last time, and the slots are those that are live, each once.
+-- hold its positions, their times rise to its last time, its landmarks end by it, and the slots are those that are live, each
+-- once.
 pub record AreWhole (parts : List StreamParts) (live : List Bool) : Type 0 where
   pub few : length parts ≤ MOST_STREAMS
   pub numbers : IsStrictlyIncreasing (map (λ (part : StreamParts). part.id.0) parts)
   pub names : IsDistinct same_name (map (λ (part : StreamParts). part.name) parts)
   pub tiles : All (λ part. TileFrom 1 (entries_of part)) parts
+  pub times : All RiseToLast parts
   pub landmarks : All (λ part. AreKnown part.landmarks × EndByLast part) parts
   pub slots : IsPermutation (flat_map slots_held parts) (filter (is_live live) (range_with_len 0 (length live)))

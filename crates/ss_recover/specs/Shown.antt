@@ -24,7 +24,7 @@ use Rattle.ss_model.specs.State.{Created}
 use Rattle.ss_model.specs.Windows.{newest_time}
 use Rattle.ss_model.specs.declared.types.TheConstants.{MOST_RECORDS}
 use Rattle.ss_recover.specs.Carried.{is_mark_of, window_of}
-use Rattle.ss_recover.specs.Held.{span_held, span_of}
+use Rattle.ss_recover.specs.Held.{span_held, span_of, times_held, times_of}
 use Rattle.ss_recover.specs.Marked.{Marked, landmarks_made, marked_by, nothing_marked}
 use Rattle.ss_recover.specs.Order.{stream_of}
 use Rattle.ss_recover.specs.Runs.{Run, is_ended, is_run, marking, may_stand, tiling}
@@ -154,6 +154,7 @@ found_by p all = filter (λ (f : Found). p f.holds) all
 -- Windows and landmarks are held in the slots of their records.
 pub record AreKept (line : LineState) (landmarks values : List ℕ) (number : ℕ) (own : List Found) : Type 0 where
   pub positions : map span_held (map (λ (e : At × Entry). e.1) line.entries) ≡ map span_of (filter_map (window_of number) (without_slots own))
+  pub times : map times_held (map (λ (e : At × Entry). e.1) line.entries) ≡ map times_of (filter_map (window_of number) (without_slots own))
   pub entries : map (λ (e : Entry). e.slot) (map (λ (e : At × Entry). e.1) line.entries) ≡ slots_of (found_by is_window own)
   pub slots : landmarks ≡ slots_of (found_by is_landmark own)
   pub value_slots : values ≡ slots_of (found_by is_value own)
@@ -224,6 +225,7 @@ pub record Grows (old new : LineState) (slot first : ℕ) (summary : Figures) : 
   pub entries : new.entries ≡ old.entries ++ (at, entry) ∷ []
   pub from : entry.first ≡ first
   pub to : entry.last ≡ first + summary.count - 1
+  pub times : times_held entry ≡ (summary.t_first, summary.t_last)
   pub in_slot : entry.slot ≡ slot
 
 -- What is held of a stream, once all its records came.

@@ -155,7 +155,14 @@ fn put_window<L: Ledger>(
 {
     line.reserve(1)?;
     let last = first + (summary.count - 1);
-    let _ = line.push(Entry { first, last, slot }, steps);
+    let entry = Entry {
+        first,
+        last,
+        t_first: summary.t_first,
+        t_last: summary.t_last,
+        slot,
+    };
+    let _ = line.push(entry, steps);
     Ok(())
 }
 

@@ -27,11 +27,11 @@ use Rattle.ss_model.specs.declared.types.Window.{Window}
 use Rattle.ss_model.proofs.Closes.{newest_time_push}
 use Rattle.ss_model.proofs.StreamLemmas.{IsStream-single}
 use Rattle.ss_model.proofs.Tiles.{taken-append}
-use Rattle.ss_recover.specs.Held.{Agrees, TileFrom, entries_of, mark_slots, records_held, slots_held, span_held, span_of, stream_record}
-use Rattle.ss_recover.specs.Held.{window_record, window_slots, windows_held}
+use Rattle.ss_recover.specs.Held.{Agrees, TileFrom, TimesRise, entries_of, mark_slots, records_held, slots_held, span_held, span_of, stream_record}
+use Rattle.ss_recover.specs.Held.{times_held, times_of, window_record, window_slots, windows_held}
 use Rattle.ss_recover.specs.declared.parts.StreamParts.{StreamParts}
 use Rattle.ss_store.specs.Calls.{Turns}
-use Rattle.ss_store.specs.Held.{IsHalfway, values_held, with_single, with_windows}
+use Rattle.ss_store.specs.Held.{IsHalfway, IsOrdered, values_held, with_single, with_windows}
 use Rattle.ss_query.specs.Held.{IsHeldIn}
 use Rattle.ss_store.specs.Slots.{AddsRecord, Either, LiveSlotsGo}
 use Rattle.ss_query.specs.Slots.{HasRecords}
@@ -40,6 +40,7 @@ use Rattle.ss_store.proofs.Joinings.{IsPartlyJoined-none}
 use Rattle.ss_store.proofs.LiveSlots.{LiveSlotsGo-beside, LiveSlotsGo-permutation}
 use Rattle.ss_store.proofs.Pairs.{records_held-apart, records_held-changed}
 use Rattle.ss_query.proofs.Records.{HasRecords-permutation, zip-held}
+use Rattle.ss_store.proofs.Rising.{rise-added}
 use Rattle.ss_store.proofs.Spans.{TileFrom-push, values_held-seam, values_held-windows}
 use Rattle.ss_recover.proofs.Permutations.{IsPermutation-same}
 
@@ -49,9 +50,9 @@ later-past o None t past = refl
 later-past None (Some u) t past = let above : u < t = grind (arith, nat_tests) in ap Some (omega (arith, above))
 later-past (Some old) (Some u) t past = let above : max old u < t = grind (arith, nat_tests) in ap Some (omega (arith, above))
 
--- an entry of one value
-abbrev pub single_entry : ℕ → ℕ → Entry
-single_entry position slot = record { first = position; last = position; slot = slot }
+-- an entry of one value at a time
+abbrev pub single_entry : ℕ → ℕ → ℕ → Entry
+single_entry position t slot = record { first = position; last = position; t_first = t; t_last = t; slot = slot }
 
 -- a stream with one more entry, which is of a value at a time
 pub record IsAdded (part new : StreamParts) (slot t : ℕ) : Type 0 where
@@ -61,16 +62,23 @@ pub record IsAdded (part new : StreamParts) (slot t : ℕ) : Type 0 where
   pub own_slot : new.slot ≡ part.slot
   pub landmarks : new.landmarks ≡ part.landmarks
   pub last_time : new.last_time ≡ Some t
-  pub entries : entries_of new ≡ entries_of part ++ single_entry (values_held (entries_of part) + 1) slot ∷ []
+  pub entries : entries_of new ≡ entries_of part ++ single_entry (values_held (entries_of part) + 1) t slot ∷ []
 
 module _ (part new : StreamParts) (slot t : ℕ) (added : IsAdded part new slot t) where
   pub values_held-added : values_held (entries_of new) ≡ values_held (entries_of part) + 1
-  values_held-added = ap (λ es. values_held es) added.entries ∙ values_held-seam (entries_of part) (single_entry (values_held (entries_of part) + 1) slot) []
+  values_held-added = ap (λ es. values_held es) added.entries ∙ values_held-seam (entries_of part) (single_entry (values_held (entries_of part) + 1) t slot) []
 
   pub TileFrom-added : TileFrom 1 (entries_of part) → values_held (entries_of part) < MOST_VALUES → TileFrom 1 (entries_of new)
   TileFrom-added tiles room =
       subst (λ es. TileFrom 1 es) (sym added.entries)
-      (TileFrom-push (entries_of part) (single_entry (values_held (entries_of part) + 1) slot) tiles refl refl (omega arith))
+      (TileFrom-push (entries_of part) (single_entry (values_held (entries_of part) + 1) t slot) tiles refl refl (omega arith))
+
+  pub IsOrdered-added : IsOrdered part → values_held (entries_of part) < MOST_VALUES → is_past part.last_time t ≡ false → IsOrdered new
+  IsOrdered-added ordered room later = record {
+    tiles = TileFrom-added ordered.tiles room;
+    times = rw added.last_time (subst (λ es. TimesRise 0 t es) (sym added.entries)
+        (rise-added part.last_time t (entries_of part) (single_entry (values_held (entries_of part) + 1) t slot) later refl refl ordered.times));
+  }
 
   pub LiveSlotsGo-added : (live live_now : List Bool) → LiveSlotsGo [] (slot ∷ []) live live_now → LiveSlotsGo (slots_held part) (slots_held new) live live_now
   LiveSlotsGo-added live live_now go =
@@ -78,7 +86,7 @@ module _ (part new : StreamParts) (slot t : ℕ) (added : IsAdded part new slot 
       let stay : mark_slots new ≡ marks = ap (λ (l : LandmarksState). l.slots ++ l.value_slots) added.landmarks in
       let now : window_slots new ≡ window_slots part ++ slot ∷ [] =
       ap₂ (λ (s : ℕ) (es : List Entry). s ∷ map (λ (e : Entry). e.slot) es) added.own_slot added.entries
-      ∙ ap (λ l. part.slot ∷ l) (map-append (λ (e : Entry). e.slot) (entries_of part) (single_entry (values_held (entries_of part) + 1) slot ∷ [])) in
+      ∙ ap (λ l. part.slot ∷ l) (map-append (λ (e : Entry). e.slot) (entries_of part) (single_entry (values_held (entries_of part) + 1) t slot ∷ [])) in
       LiveSlotsGo-permutation (slots_held part) (slots_held part) (slot ∷ slots_held part) (slots_held new) live live_now
       (IsPermutation-same (slots_held part) (slots_held part) refl)
       (subst (λ m. IsPermutation (slot ∷ slots_held part) (window_slots new ++ m)) (sym stay)
@@ -114,11 +122,14 @@ module _ (part new : StreamParts) (slot t : ℕ) (added : IsAdded part new slot 
       positions =
           let position : values_held (entries_of part) + 1 ≡ values_in s + 1 = ap (λ n. n + 1) held in
           let last : values_held (entries_of part) + 1 ≡ values_in s + 1 + 1 - 1 = omega (arith, held) in
-          let one : span_held (single_entry (values_held (entries_of part) + 1) slot) ≡ span_of (single_window (values_in s + 1) t v) =
+          let one : span_held (single_entry (values_held (entries_of part) + 1) t slot) ≡ span_of (single_window (values_in s + 1) t v) =
           λ i. (position i, last i) in
-          ap (λ es. map span_held es) added.entries ∙ map-append span_held (entries_of part) (single_entry (values_held (entries_of part) + 1) slot ∷ [])
+          ap (λ es. map span_held es) added.entries ∙ map-append span_held (entries_of part) (single_entry (values_held (entries_of part) + 1) t slot ∷ [])
           ∙ ap₂ (λ (xs : List (ℕ × ℕ)) (p : ℕ × ℕ). xs ++ p ∷ []) agrees.positions one
           ∙ sym (map-append span_of s.windows (single_window (values_in s + 1) t v ∷ []));
+      times = ap (λ es. map times_held es) added.entries
+          ∙ map-append times_held (entries_of part) (single_entry (values_held (entries_of part) + 1) t slot ∷ [])
+          ∙ ap (λ (xs : List (ℕ × ℕ)). xs ++ (t, t) ∷ []) agrees.times ∙ sym (map-append times_of s.windows (single_window (values_in s + 1) t v ∷ []));
       landmarks = ap (λ (l : LandmarksState). l.landmarks) added.landmarks ∙ agrees.landmarks;
       known = subst AreKnown (sym added.landmarks) agrees.known;
       last_time =
@@ -137,7 +148,7 @@ module _ (part new : StreamParts) (slot t : ℕ) (added : IsAdded part new slot 
         (map (λ x. Some (window_record s.number x)) (s.windows ++ one ∷ [])))
         added.own_slot added.entries
         ∙ ap (λ l. (part.slot, Some (stream_record s)) ∷ l)
-        (zip-held s.number (entries_of part) (single_entry (values_held (entries_of part) + 1) slot ∷ []) s.windows (one ∷ []) agrees.positions)
+        (zip-held s.number (entries_of part) (single_entry (values_held (entries_of part) + 1) t slot ∷ []) s.windows (one ∷ []) agrees.positions)
         ∙ ap (λ (r : Option Record). windows_held (part, s) ++ (slot, r) ∷ []) spelled
 
     IsHeldIn-single : (others : List (ℕ × Option Record)) (image : List ℕ) →

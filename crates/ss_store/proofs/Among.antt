@@ -20,12 +20,12 @@ use Rattle.ss_model.specs.Refusals.{is_past}
 use Rattle.ss_model.specs.Standing.{IsState, IsStream}
 use Rattle.ss_model.specs.State.{Stream, values_in}
 use Rattle.ss_model.proofs.StreamLemmas.{IsStream-joined}
-use Rattle.ss_recover.specs.Held.{AllAgree, AreHeld, AreWhole, Agrees, EndByLast, TileFrom, entries_of, records_held, slots_held}
+use Rattle.ss_recover.specs.Held.{AllAgree, AreHeld, AreWhole, Agrees, EndByLast, RiseToLast, TileFrom, entries_of, records_held, slots_held}
 use Rattle.ss_recover.specs.declared.parts.StreamParts.{StreamParts}
 use Rattle.ss_recover.specs.Parts.{carried}
 use Rattle.ss_recover.proofs.HeldLemmas.{carried-AreHeld}
 use Rattle.ss_recover.proofs.WholeSlots.{HasWholeSlots-StandsFor, carried-same}
-use Rattle.ss_store.specs.Held.{IsPartlyJoined, IsSameStream, with_windows}
+use Rattle.ss_store.specs.Held.{IsOrdered, IsPartlyJoined, IsSameStream, with_windows}
 use Rattle.ss_query.specs.Held.{IsHeldIn}
 use Rattle.ss_store.specs.Recover.{Recovers, recover, recovered_from, recovered_of}
 use Rattle.ss_store.specs.Slots.{AreSomeLive, LiveSlotsGo, live_slots}
@@ -167,11 +167,13 @@ slots-parted parts live place part whole at =
     (IsPermutation-parted slots_held parts place part at) whole.slots
 
 pub AreWhole-at : (parts : List StreamParts) (live : List Bool) (place : ℕ) (part : StreamParts) → AreWhole parts live →
-    slice_get parts place ≡ Some part → TileFrom 1 (entries_of part) × AreSomeLive (slots_held part) live
+    slice_get parts place ≡ Some part → IsOrdered part × AreSomeLive (slots_held part) live
 AreWhole-at parts live place part whole at =
     let tiles = subst (λ (p : StreamParts). TileFrom 1 (entries_of p)) (get_or_from_slice_get parts place part part at)
     (All-get_or (λ (p : StreamParts). TileFrom 1 (entries_of p)) parts place part (slice_get_within parts place part at) whole.tiles) in
-    (tiles, (flat_map slots_held (remove parts place), slots-parted parts live place part whole at))
+    let times = subst RiseToLast (get_or_from_slice_get parts place part part at)
+    (All-get_or RiseToLast parts place part (slice_get_within parts place part at) whole.times) in
+    (record { tiles = tiles; times = times }, (flat_map slots_held (remove parts place), slots-parted parts live place part whole at))
 
 -- the landmarks of one part are in order, and end by its last time
 pub Marks-at : (parts : List StreamParts) (live : List Bool) (place : ℕ) (part : StreamParts) → AreWhole parts live →
@@ -182,10 +184,10 @@ Marks-at parts live place part whole at =
 
 -- the same stream in its place, however its windows and landmarks have changed
 pub AreWhole-changed : (parts : List StreamParts) (live live_now : List Bool) (place : ℕ) (part now : StreamParts) → AreWhole parts live →
-    slice_get parts place ≡ Some part → now.id ≡ part.id → now.name ≡ part.name → TileFrom 1 (entries_of now) →
+    slice_get parts place ≡ Some part → now.id ≡ part.id → now.name ≡ part.name → IsOrdered now →
     AreKnown now.landmarks × EndByLast now → LiveSlotsGo (slots_held part) (slots_held now) live live_now →
     AreWhole (slice_set parts place now) live_now
-AreWhole-changed parts live live_now place part now whole at same_id same_name tiles marks go =
+AreWhole-changed parts live live_now place part now whole at same_id same_name ordered marks go =
     let inside = slice_get_within parts place part at in
     let others = flat_map slots_held (remove parts place) in
     let parted = slots-parted parts live place part whole at in
@@ -197,7 +199,8 @@ AreWhole-changed parts live live_now place part now whole at same_id same_name t
       few = omega (arith, whole.few, length-set parts place now);
       numbers = rw (map-set_same (λ (p : StreamParts). p.id.0) parts place part now at (ap (λ i. i.0) same_id)) whole.numbers;
       names = rw (map-set_same (λ (p : StreamParts). p.name) parts place part now at same_name) whole.names;
-      tiles = All-set (λ (p : StreamParts). TileFrom 1 (entries_of p)) parts place now tiles whole.tiles;
+      tiles = All-set (λ (p : StreamParts). TileFrom 1 (entries_of p)) parts place now ordered.tiles whole.tiles;
+      times = All-set RiseToLast parts place now ordered.times whole.times;
       landmarks = All-set (λ (p : StreamParts). AreKnown p.landmarks × EndByLast p) parts place now marks whole.landmarks;
       slots = IsPermutation-trans (flat_map slots_held changed) (slots_held now ++ others) (live_slots live_now)
           (IsPermutation-sym (slots_held now ++ others) (flat_map slots_held changed) moved) (go others parted);
@@ -237,9 +240,9 @@ EndByLast-later part now same later end =
 
 -- with the same landmarks
 pub AreWhole-set : (parts : List StreamParts) (live live_now : List Bool) (place : ℕ) (part now : StreamParts) → AreWhole parts live →
-    slice_get parts place ≡ Some part → IsSameStream part now → IsNoEarlier part.last_time now.last_time → TileFrom 1 (entries_of now) →
+    slice_get parts place ≡ Some part → IsSameStream part now → IsNoEarlier part.last_time now.last_time → IsOrdered now →
     LiveSlotsGo (slots_held part) (slots_held now) live live_now → AreWhole (slice_set parts place now) live_now
-AreWhole-set parts live live_now place part now whole at same later tiles go =
+AreWhole-set parts live live_now place part now whole at same later ordered go =
     let marks = Marks-at parts live place part whole at in
-    AreWhole-changed parts live live_now place part now whole at same.id same.name tiles
+    AreWhole-changed parts live live_now place part now whole at same.id same.name ordered
     (subst AreKnown (sym same.landmarks) marks.0, EndByLast-later part now same.landmarks later marks.1) go

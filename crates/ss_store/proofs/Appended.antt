@@ -23,14 +23,14 @@ use Rattle.ss_line.specs.Line.{LineState}
 use Rattle.ss_model.specs.Standing.{IsState}
 use Rattle.ss_model.proofs.StandLemmas.{IsState-stepped}
 use Rattle.ss_target.specs.Targets.{params_of}
-use Rattle.ss_recover.specs.Held.{AllAgree, AreWhole, Agrees, EndByLast, TileFrom, entries_of, records_held, slots_held, span_held}
+use Rattle.ss_recover.specs.Held.{AllAgree, AreWhole, Agrees, EndByLast, RiseToLast, TileFrom, entries_of, records_held, slots_held, span_held, times_held}
 use Rattle.ss_recover.specs.declared.parts.StreamParts.{StreamParts}
 use Rattle.ss_records.specs.Kept.{RecordsState, AreKept}
 use Rattle.ss_journal.specs.Kept.{IsSettled}
 use Rattle.ss_store.specs.Admitted.{IsMarker, IsTaker}
 use Rattle.ss_store.specs.Calls.{StepsState, Turns}
 use Rattle.ss_store.specs.Causes.{said_of_held}
-use Rattle.ss_store.specs.Held.{IsHalfway, IsPartlyJoined, IsSameStream, values_held, with_single}
+use Rattle.ss_store.specs.Held.{IsHalfway, IsOrdered, IsPartlyJoined, IsSameStream, values_held, with_single}
 use Rattle.ss_query.specs.Held.{IsHeldIn}
 use Rattle.ss_store.specs.Kept.{IsSound, KeepsSpare, SameButSpare, StoreIsKept, StoreState, entry_of, numbers_held, part_named, refuses_held, without_spare}
 use Rattle.ss_store.specs.Marking.{IsInOpen, IsMarkedIn, IsMarkedOrNot, event_of, with_mark}
@@ -88,6 +88,7 @@ Agrees-IsSpared was now s spared agrees = record {
   name = ap (λ (p : StreamParts). p.name) spared.same ∙ agrees.name;
   params = ap (λ (p : StreamParts). params_of p.target) spared.same ∙ agrees.params;
   positions = ap (λ (p : StreamParts). map span_held (entries_of p)) spared.same ∙ agrees.positions;
+  times = ap (λ (p : StreamParts). map times_held (entries_of p)) spared.same ∙ agrees.times;
   landmarks = ap (λ (p : StreamParts). p.landmarks.landmarks) spared.same ∙ agrees.landmarks;
   known = spared.known;
   last_time = ap (λ (p : StreamParts). p.last_time) spared.same ∙ agrees.last_time;
@@ -167,9 +168,13 @@ KeepsSpare-set (part ∷ parts) (suc place) was now at keeps = (KeepsSpare-one p
 
 -- a stream that was given room for more
 module _ (store : StoreState) (place : ℕ) (was now : StreamParts) (at : slice_get store.streams place ≡ Some was) (spared : IsSpared was now) where
-  pub tiles-IsSpared : AreWhole store.streams store.records.live → TileFrom 1 (entries_of now)
-  tiles-IsSpared whole =
-      subst (λ es. TileFrom 1 es) (sym (ap entries_of spared.same)) (AreWhole-at store.streams store.records.live place was whole at).0
+  pub ordered-IsSpared : AreWhole store.streams store.records.live → IsOrdered now
+  ordered-IsSpared whole =
+      let ordered = (AreWhole-at store.streams store.records.live place was whole at).0 in
+      record {
+        tiles = subst (λ (p : StreamParts). TileFrom 1 (entries_of p)) (sym spared.same) ordered.tiles;
+        times = subst (λ (p : StreamParts). RiseToLast p) (sym spared.same) ordered.times;
+      }
 
   pub ends-IsSpared : AreWhole store.streams store.records.live → EndByLast now
   ends-IsSpared whole = subst (λ p. EndByLast p) (sym spared.same) (Marks-at store.streams store.records.live place was whole at).1
@@ -181,7 +186,7 @@ module _ (store : StoreState) (place : ℕ) (was now : StreamParts) (at : slice_
   pub AreWhole-IsSpared : AreWhole store.streams store.records.live → AreWhole (slice_set store.streams place now) store.records.live
   AreWhole-IsSpared whole =
       AreWhole-changed store.streams store.records.live store.records.live place was now whole at (ap (λ (p : StreamParts). p.id) spared.same)
-      (ap (λ (p : StreamParts). p.name) spared.same) (tiles-IsSpared whole) (spared.known, ends-IsSpared whole)
+      (ap (λ (p : StreamParts). p.name) spared.same) (ordered-IsSpared whole) (spared.known, ends-IsSpared whole)
       (subst (λ l. LiveSlotsGo (slots_held was) l store.records.live store.records.live) (sym (slots-IsSpared was now spared))
       (LiveSlotsGo-none (slots_held was) store.records.live))
 
@@ -218,21 +223,21 @@ part-read parts place part read at is = sym (get_or_from_slice_get parts place p
 
 -- over every disk: what stands in the place of the stream that was given room
 pub whole-changed : (store : StoreState) (place : ℕ) (was spared now : StreamParts) (records_now : RecordsState) → slice_get store.streams place ≡ Some was →
-    IsSpared was spared → AreWhole store.streams store.records.live → now.id ≡ spared.id → now.name ≡ spared.name → TileFrom 1 (entries_of now) →
+    IsSpared was spared → AreWhole store.streams store.records.live → now.id ≡ spared.id → now.name ≡ spared.name → IsOrdered now →
     AreKnown now.landmarks × EndByLast now → LiveSlotsGo (slots_held spared) (slots_held now) store.records.live records_now.live →
     AreWhole (slice_set store.streams place now) records_now.live
-whole-changed store place was spared now records_now at room whole same_id same tiles marks go =
+whole-changed store place was spared now records_now at room whole same_id same ordered marks go =
     AreWhole-changed store.streams store.records.live records_now.live place was now whole at (same_id ∙ ap (λ (p : StreamParts). p.id) room.same)
-    (same ∙ ap (λ (p : StreamParts). p.name) room.same) tiles marks
+    (same ∙ ap (λ (p : StreamParts). p.name) room.same) ordered marks
     (subst (λ l. LiveSlotsGo l (slots_held now) store.records.live records_now.live) (slots-IsSpared was spared room) go)
 
 -- with the same landmarks
 pub whole-appended : (store : StoreState) (place : ℕ) (was spared now : StreamParts) (records_now : RecordsState) → slice_get store.streams place ≡ Some was →
     IsSpared was spared → AreWhole store.streams store.records.live → IsSameStream spared now → IsNoEarlier spared.last_time now.last_time →
-    TileFrom 1 (entries_of now) → LiveSlotsGo (slots_held spared) (slots_held now) store.records.live records_now.live →
+    IsOrdered now → LiveSlotsGo (slots_held spared) (slots_held now) store.records.live records_now.live →
     AreWhole (slice_set store.streams place now) records_now.live
-whole-appended store place was spared now records_now at room whole same later tiles go =
-    whole-changed store place was spared now records_now at room whole same.id same.name tiles (
+whole-appended store place was spared now records_now at room whole same later ordered go =
+    whole-changed store place was spared now records_now at room whole same.id same.name ordered (
       subst AreKnown (sym same.landmarks) room.known,
       EndByLast-later spared now same.landmarks later (ends-IsSpared store place was spared at room whole),
     ) go

@@ -32,7 +32,7 @@ use Rattle.ss_model.specs.declared.types.Ack.{Ack}
 use Rattle.ss_model.proofs.FoundLemmas.{below_next, IsStrictlyIncreasing_push}
 use Rattle.ss_model.proofs.NameLemmas.{same_name-Decides, same_name-same, same_name-swap}
 use Rattle.ss_model.proofs.StandLemmas.{IsState-stepped}
-use Rattle.ss_recover.specs.Held.{AllAgree, AreWhole, Agrees, EndByLast, TileFrom, entries_of, records_held, slots_held}
+use Rattle.ss_recover.specs.Held.{AllAgree, AreWhole, Agrees, EndByLast, RiseToLast, TileFrom, entries_of, records_held, slots_held}
 use Rattle.ss_recover.specs.declared.parts.StreamParts.{StreamParts}
 use Rattle.ss_records.specs.Kept.{RecordsState, AreKept}
 use Rattle.ss_journal.specs.Kept.{IsSettled}
@@ -89,6 +89,7 @@ Agrees-created part streams name params fresh number = record {
   name = fresh.name_is;
   params = fresh.params_are;
   positions = rw fresh.entries refl;
+  times = rw fresh.entries refl;
   landmarks = ap (λ (l : LandmarksState). l.landmarks) fresh.landmarks;
   known = subst AreKnown (sym fresh.landmarks) AreKnown-none;
   last_time = fresh.last_time;
@@ -226,6 +227,7 @@ AreWhole-created parts live live_now part name params whole fresh number room no
       names = rw (map-append (λ (p : StreamParts). p.name) parts (part ∷ []))
           (IsDistinct-push same_name-laws (map (λ (p : StreamParts). p.name) parts) part.name whole.names apart);
       tiles = All-push (λ (p : StreamParts). TileFrom 1 (entries_of p)) parts part whole.tiles (rw fresh.entries tt);
+      times = All-push RiseToLast parts part whole.times (rw (fresh.last_time, fresh.entries) refl);
       landmarks = All-push (λ (p : StreamParts). AreKnown p.landmarks × EndByLast p) parts part whole.landmarks (known, ends);
       slots = subst (λ l. IsPermutation l (live_slots live_now)) (sym is)
           (IsPermutation-trans (all ++ part.slot ∷ []) (part.slot ∷ all) (live_slots live_now) (IsPermutation-append_comm all (part.slot ∷ []))

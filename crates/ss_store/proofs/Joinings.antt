@@ -21,6 +21,7 @@ use Rattle.ss_model.specs.Marks.{lies_free}
 use Rattle.ss_model.specs.State.{Stream}
 use Rattle.ss_model.specs.declared.types.Window.{Window}
 use Rattle.ss_recover.specs.Held.{entries_of, records_held, slots_held, span_held, span_of, window_record}
+use Rattle.ss_recover.specs.Held.{times_held, times_of}
 use Rattle.ss_recover.specs.declared.parts.StreamParts.{StreamParts}
 use Rattle.ss_store.specs.Calls.{Turns}
 use Rattle.ss_query.specs.Reading.{IsRead, verdict_of_read}
@@ -62,7 +63,8 @@ abbrev pub ReadsBoth : ℕ → List Landmark → Entry → Entry → List ℕ �
 ReadsBoth number landmarks w v content Reads =
     (others : List (ℕ × Option Record)) (one two : Window) →
     HasRecords ((w.slot, Some (window_record number one)) ∷ (v.slot, Some (window_record number two)) ∷ others) content →
-    span_held w ≡ span_of one → span_held v ≡ span_of two → IsTrue (lies_free landmarks one) → IsTrue (lies_free landmarks two) →
+    span_held w ≡ span_of one → span_held v ≡ span_of two → times_held w ≡ times_of one → times_held v ≡ times_of two →
+    IsTrue (lies_free landmarks one) → IsTrue (lies_free landmarks two) →
     one.summary.t_last < two.summary.t_first → Reads (joined one.summary two.summary)
 
 module _ (others : List (ℕ × Option Record)) (part new : StreamParts) (s : Stream) (w v : Entry) (same : SameButLine part new)
@@ -77,7 +79,7 @@ module _ (others : List (ℕ × Option Record)) (part new : StreamParts) (s : St
       (HasRecords-permutation (records_held (part, s) ++ others)
       ((w.slot, Some (window_record part.id.0 j.one)) ∷ (v.slot, Some (window_record part.id.0 j.two)) ∷ j.beside)
       content j.was held.records)
-      j.first j.second j.first_free j.second_free j.later
+      j.first j.second j.first_times j.second_times j.first_free j.second_free j.later
 
   module _ {T E : Type 0} (old mid after : Told) (summary : Figures) (result : Result T E) (knows : KnowsNow old) (reads : OnlyReads old mid)
       (read : ReadsBoth part.id.0 part.landmarks.landmarks w v old.content (λ is. summary ≡ is))

@@ -1,5 +1,5 @@
--- What a schedule says of the windows of a stream, as a store holds them.
-use Rattle.std.proofs.Common.{◌≡◌, ◌∙◌, ℕ, zero, suc, ◌+◌, ◌<◌, ◌≤◌, List, [], ◌∷◌, map, length, take, refl, sym, ap, subst, arith, All, get_or, None}
+-- What a index says of the windows of a stream, as a store holds them.
+use Rattle.std.proofs.Common.{◌≡◌, ◌∙◌, ℕ, zero, suc, ◌+◌, ◌<◌, ◌≤◌, List, [], ◌∷◌, ◌++◌, map, length, take, refl, sym, ap, subst, arith, All, get_or, None}
 use Rattle.std.proofs.lemmas.Bool.{eqb-true}
 use Rattle.std.proofs.lemmas.List.Elements.{All-get_or}
 use Rattle.std.proofs.lemmas.List.Sums.{passes_at_first}
@@ -11,12 +11,14 @@ use Rattle.ss_target.specs.Lengths.{lengths_of}
 use Rattle.ss_target.specs.Targets.{params_of}
 use Rattle.ss_schedule.specs.Keyed.{FollowFrom, FollowUpTo, IsKeyed, ScheduleState}
 use Rattle.ss_schedule.specs.Pairs.{NoPairFits}
+use Rattle.ss_schedule.specs.declared.pair.Pair.{Pair}
 use Rattle.ss_recover.specs.Held.{TileFrom, entries_of, span_held}
 use Rattle.ss_recover.specs.declared.parts.StreamParts.{StreamParts}
 use Rattle.ss_query.proofs.Places.{entries_in}
+use Rattle.ss_store.specs.Changing.{NoneAreDue}
 use Rattle.ss_store.specs.Held.{values_held}
 use Rattle.ss_store.specs.Joining.{AreDue, NoSpansAreDue}
-use Rattle.ss_store.specs.Scheduled.{HasPlaces, IsDuePair, IsScheduled}
+use Rattle.ss_store.specs.Indexed.{HasPlaces, IndexState, IsDuePair, IsReservedFor, IsScheduled, IsTimed, begun_at}
 use Rattle.ss_store.proofs.Spans.{last-held}
 
 -- no pair of a line fits, by its entries and by their positions
@@ -61,9 +63,9 @@ FollowUpTo-take n (suc k) [] follow = tt
 FollowUpTo-take n (suc k) (e ∷ es) follow = (follow.0, FollowFrom-take n e.1.first (suc k) (e ∷ es) follow.1)
 
 -- a pair that is due, by its places
-pub AreDue-pair : (part : StreamParts) (pair : _) (is : IsDuePair part pair) →
+pub AreDue-pair : (part : StreamParts) (index : IndexState) (pair : Pair) (is : IsDuePair part index pair) →
     AreDue (lengths_of (params_of part.target)) (values_held (entries_of part)) part.line.entries pair.left pair.right
-AreDue-pair part pair is = record {
+AreDue-pair part index pair is = record {
   pair = is.stands.neighbours;
   due = rw (← is.stands.first, ← is.stands.last) is.fits;
 }
@@ -79,17 +81,18 @@ pub take-none : {X : Type 0} (xs : List X) → take 0 xs ≡ []
 take-none [] = refl
 take-none (x ∷ xs) = refl
 
--- the entries up to a place are keyed
-pub record IsKeyedUpTo (n : ℕ) (part : StreamParts) (schedule : ScheduleState) (at : At) : Type 0 where
-  pub target : schedule.target ≡ part.target
+-- the windows up to a place are taken up
+pub record IsKeyedUpTo (n : ℕ) (part : StreamParts) (index : IndexState) (at : At) : Type 0 where
+  pub target : index.schedule.target ≡ part.target
   pub stands : StandsIn part.line.entries at
-  pub keyed : IsKeyed n (take (index_of part.line.entries at + 1) part.line.entries) schedule
-  pub room : HasPlaces part.line schedule
+  pub keyed : IsKeyed n (take (index_of part.line.entries at + 1) part.line.entries) index.schedule
+  pub timed : IsTimed (take (index_of part.line.entries at + 1) part.line.entries) index.times
+  pub room : HasPlaces part.line index.schedule
 
 -- a place that stands lies below a bound of all places
 pub StandsIn-below : (entries : List (At × Entry)) (n : ℕ) (at : At) → All (λ entry. entry.0.0 < n) entries → StandsIn entries at → at.0 < n
 StandsIn-below entries n at below stands =
-    let d : At × Entry = (at, record { first = 0; last = 0; slot = 0 }) in
+    let d : At × Entry = (at, record { first = 0; last = 0; t_first = 0; t_last = 0; slot = 0 }) in
     let e : At × Entry = get_or entries (index_of entries at) d in
     let there : e.0.0 < n = All-get_or (λ (x : At × Entry). x.0.0 < n) entries (index_of entries at) d stands below in
     let same : e.0.0 ≡ at.0 = eqb-true e.0.0 at.0 (passes_at_first (is_at at) entries d stands) in
@@ -106,23 +109,53 @@ pub held-few : (entries : List Entry) → TileFrom 1 entries → values_held ent
 held-few [] tiles = omega arith
 held-few (e ∷ es) tiles = (last-held 1 e es tiles).1
 
--- a stream with other room, and a schedule that says the same
-pub IsScheduled-same : (was now : StreamParts) (old new : ScheduleState) → now.target ≡ was.target → now.line.entries ≡ was.line.entries →
-    new.target ≡ old.target → ((n : ℕ) (entries : List (At × Entry)) → IsKeyed n entries old → IsKeyed n entries new) → IsScheduled was old →
-    IsScheduled now new
-IsScheduled-same was now old new target entries kept keep is = (
+-- windows that were joined as far as they are due have no pair that fits
+none_due-same : (was now : StreamParts) → now.target ≡ was.target → now.line.entries ≡ was.line.entries → NoneAreDue was → NoneAreDue now
+none_due-same was now target entries none =
+    subst (λ t. NoSpansAreDue (lengths_of (params_of t)) (values_held (entries_of now)) (map span_held (entries_of now))) (sym target)
+    (subst (λ es. NoSpansAreDue (lengths_of (params_of was.target)) (values_held (entries_in es)) (map span_held (entries_in es))) (sym entries) none)
+
+keyed-same : (was now : StreamParts) (old new : ScheduleState) → now.line.entries ≡ was.line.entries →
+    ((n : ℕ) (entries : List (At × Entry)) → IsKeyed n entries old → IsKeyed n entries new) → IsKeyed (values_held (entries_of was)) was.line.entries old →
+    IsKeyed (values_held (entries_of now)) now.line.entries new
+keyed-same was now old new entries keep keyed =
+    keep (values_held (entries_of now)) now.line.entries (subst (λ es. IsKeyed (values_held (entries_in es)) es old) (sym entries) keyed)
+
+-- a stream with other room, and an index that says the same
+pub IsScheduled-same : (was now : StreamParts) (old new : IndexState) → now.target ≡ was.target → now.line.entries ≡ was.line.entries →
+    new.schedule.target ≡ old.schedule.target →
+    ((n : ℕ) (entries : List (At × Entry)) → IsKeyed n entries old.schedule → IsKeyed n entries new.schedule) → new.times ≡ old.times →
+    IsScheduled was old → IsScheduled now new
+IsScheduled-same was now old new target entries kept keep times is = (
   record {
     target = kept ∙ is.0.target ∙ sym target;
-    keyed = keep (values_held (entries_of now)) now.line.entries (subst (λ es. IsKeyed (values_held (entries_in es)) es old) (sym entries) is.0.keyed);
+    keyed = keyed-same was now old.schedule new.schedule entries keep is.0.keyed;
+    timed = times ∙ is.0.timed ∙ ap (λ es. map begun_at es) (sym entries);
   },
-  subst (λ t. NoSpansAreDue (lengths_of (params_of t)) (values_held (entries_of now)) (map span_held (entries_of now))) (sym target)
-      (subst (λ es. NoSpansAreDue (lengths_of (params_of was.target)) (values_held (entries_in es)) (map span_held (entries_in es))) (sym entries) is.1),
+  none_due-same was now target entries is.1,
 )
 
+-- and one that was made ready for one more window
+pub IsReservedFor-scheduled : (was now : StreamParts) (old new : IndexState) (t : ℕ) → now.target ≡ was.target → now.line.entries ≡ was.line.entries →
+    new.schedule.target ≡ old.schedule.target →
+    ((n : ℕ) (entries : List (At × Entry)) → IsKeyed n entries old.schedule → IsKeyed n entries new.schedule) →
+    new.times ≡ old.times ++ (t, record { 0 = 0 }) ∷ [] → HasPlaces now.line new.schedule → IsScheduled was old → IsReservedFor t now new
+IsReservedFor-scheduled was now old new t target entries kept keep noted places is = record {
+  target = kept ∙ is.0.target ∙ sym target;
+  keyed = keyed-same was now old.schedule new.schedule entries keep is.0.keyed;
+  none_due = none_due-same was now target entries is.1;
+  places = places;
+  noted = noted ∙ ap (λ (ts : List (ℕ × At)). ts ++ (t, record { 0 = 0 }) ∷ []) (is.0.timed ∙ ap (λ es. map begun_at es) (sym entries));
+}
+
 -- a stream without windows
-pub IsScheduled-none : (part : StreamParts) (schedule : ScheduleState) → schedule.target ≡ part.target → part.line.entries ≡ [] → IsKeyed 0 [] schedule →
-    IsScheduled part schedule
-IsScheduled-none part schedule target none keyed = (
-  record { target = target; keyed = subst (λ es. IsKeyed (values_held (entries_in es)) es schedule) (sym none) keyed },
+pub IsScheduled-none : (part : StreamParts) (index : IndexState) → index.schedule.target ≡ part.target → part.line.entries ≡ [] →
+    IsKeyed 0 [] index.schedule → index.times ≡ [] → IsScheduled part index
+IsScheduled-none part index target none keyed timed = (
+  record {
+    target = target;
+    keyed = subst (λ es. IsKeyed (values_held (entries_in es)) es index.schedule) (sym none) keyed;
+    timed = timed ∙ ap (λ es. map begun_at es) (sym none);
+  },
   subst (λ es. NoSpansAreDue (lengths_of (params_of part.target)) (values_held (entries_in es)) (map span_held (entries_in es))) (sym none) tt,
 )

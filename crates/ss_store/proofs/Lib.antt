@@ -49,4 +49,5 @@ pub mod Taking
 pub mod MarkTaking
 pub mod Creating
 pub mod KeyedWindows
-pub mod ScheduledStreams
+pub mod Rising
+pub mod IndexedStreams

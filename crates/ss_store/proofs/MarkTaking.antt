@@ -14,12 +14,12 @@ use Rattle.ss_model.specs.History.{CanBeSaid}
 use Rattle.ss_landmarks.specs.Landmarks.{LandmarksState}
 use Rattle.ss_model.specs.Marks.{has_open}
 use Rattle.ss_records.specs.Kept.{RecordsState}
-use Rattle.ss_recover.specs.Held.{TileFrom, entries_of, mark_slots, slots_held}
+use Rattle.ss_recover.specs.Held.{entries_of, mark_slots, slots_held}
 use Rattle.ss_recover.specs.declared.parts.StreamParts.{StreamParts}
 use Rattle.ss_store.specs.Admitted.{IsMarker}
 use Rattle.ss_store.specs.Applied.{Applies, StandsOn, is_creation, is_plain_value}
 use Rattle.ss_store.specs.Changing.{CanTakeMark, HasRoomFor, HasSameWindows, HasTakenMark, KeepsWhole, TakesMark}
-use Rattle.ss_store.specs.Held.{values_held}
+use Rattle.ss_store.specs.Held.{IsOrdered, values_held}
 use Rattle.ss_store.specs.Kept.{IsSound, SameButSpare, StoreIsKept, StoreState, of_part, refuses_held, without_spare}
 use Rattle.ss_store.specs.Marking.{CanMark, FitsMark, IsInOpen, IsItsSlot, event_of, slots_used}
 use Rattle.ss_store.specs.Slots.{AreSomeLive}
@@ -30,7 +30,7 @@ use Rattle.ss_query.specs.declared.read_error.ReadError.TheVariants as fault
 use Rattle.ss_store.proofs.Among.{others_of}
 use Rattle.ss_store.proofs.Appended.{AreWhole-IsSpared, IsSound-set, IsSpared, IsSpared-marks, SameButSpare-IsSpared, StepsState-marked}
 use Rattle.ss_store.proofs.Appended.{StoreIsKept-IsSpared, StoreIsKept-marked, held-marker, live-IsSpared, marking, part-read, said_of_set}
-use Rattle.ss_store.proofs.Appended.{tiles-IsSpared, whole-changed}
+use Rattle.ss_store.proofs.Appended.{ordered-IsSpared, whole-changed}
 use Rattle.ss_store.proofs.Applying.{Applies-done, Applies-failed}
 use Rattle.ss_store.proofs.MarkedCalls.{CanBeSaid-mark, mark_refusal-same}
 use Rattle.ss_store.proofs.Refusals.{of_part-named}
@@ -128,8 +128,8 @@ module _ {store : StoreState} {catalog : List (List ℕ × StreamId)} {name : Li
   pub live-spared : AreSomeLive (slots_held (record was { landmarks = marks })) store.records.live
   live-spared = live-IsSpared store place is.marker.part (record was { landmarks = marks }) is.marker.at room (is.sound.whole is.runs)
 
-  tiles-spared : TileFrom 1 (entries_of (record was { landmarks = marks }))
-  tiles-spared = tiles-IsSpared store place is.marker.part (record was { landmarks = marks }) is.marker.at room (is.sound.whole is.runs)
+  ordered-spared : IsOrdered (record was { landmarks = marks })
+  ordered-spared = ordered-IsSpared store place is.marker.part (record was { landmarks = marks }) is.marker.at room (is.sound.whole is.runs)
 
   pub can-mark : 1 ≤ marks.room → 1 ≤ marks.value_room → CanTakeMark store.records (record was { landmarks = marks }) slot t mark
   can-mark some some_values =
@@ -141,7 +141,7 @@ module _ {store : StoreState} {catalog : List (List ℕ × StreamId)} {name : Li
         few = subst (λ (p : StreamParts). length (mark_slots p) < MOST_SLOTS) (sym room.same) is.marker.few;
         room = some;
         value_room = some_values;
-        tiles = tiles-spared;
+        ordered = ordered-spared;
       }
 
   module _ (now : StreamParts) (records : RecordsState) (same : HasSameWindows (record was { landmarks = marks }) now) (fits : FitsMark mark) where
@@ -170,7 +170,7 @@ module _ {store : StoreState} {catalog : List (List ℕ × StreamId)} {name : Li
           (λ run. (
             whole.settled,
             whole-changed store place is.marker.part (record was { landmarks = marks }) now records is.marker.at room (is.sound.whole is.runs) same.id same.name
-                whole.tiles (taken.known, taken.last) whole.live,
+                whole.ordered (taken.known, taken.last) whole.live,
           ))
 
       -- the event is applied

@@ -1,7 +1,8 @@
 -- A stream whose landmarks take an event: what it is afterwards, and which records and slots it has.
-use Rattle.std.proofs.Common.{◌≡◌, ◌∙◌, ℕ, zero, suc, ℤ, ◌+◌, ◌≤◌, true, not, ◌&&◌, is_some, List, [], ◌∷◌, ◌++◌, length, map, zip, refl, ap, ap₂}
+use Rattle.std.proofs.Common.{◌≡◌, ◌∙◌, ℕ, zero, suc, ℤ, ◌+◌, ◌≤◌, true, not, ◌&&◌, is_some, List, [], ◌∷◌, ◌++◌, length, map, max, zip, refl, ap, ap₂}
 use Rattle.std.proofs.Common.{sym, subst, arith, append-nil, append_assoc, length-append, IsPermutation, Option, None, Some, IsTrue}
 use Rattle.std.specs.Prelude.{⊤, slice_index}
+use Rattle.std.proofs.lemmas.List.Elements.{All-cons, All-head, All-nil, All-tail}
 use Rattle.std.proofs.lemmas.List.Sorted.{IsPermutation-append_left, IsPermutation-append_right, IsPermutation-middle, IsPermutation-sym}
 use Rattle.std.proofs.lemmas.List.Sorted.{IsPermutation-to_front, IsPermutation-trans}
 use Rattle.ss_catalog.specs.declared.TheConstants.{LAST_TIME}
@@ -12,24 +13,26 @@ use Rattle.ss_codec.specs.declared.record.Record.TheVariants as records
 use Rattle.ss_codec.proofs.RecordLemmas.{IsValue-is_valid}
 use Rattle.ss_landmarks.specs.Landmark.{Landmark, LandmarkValue, all_values, change_last, opened_at, with_value}
 use Rattle.ss_landmarks.specs.Landmarks.{IsState as AreKnown}
+use Rattle.ss_landmarks.specs.Order.{AllEndBy, EndsBy}
 use Rattle.ss_line.specs.declared.entry.Entry.{Entry}
 use Rattle.ss_target.specs.Targets.{params_of}
-use Rattle.ss_model.specs.Marks.{has_open, latest_of, with_marked, with_opened}
+use Rattle.ss_model.specs.Marks.{has_open, later, latest_in, latest_of, with_marked, with_opened}
 use Rattle.ss_model.specs.Refusals.{is_before, is_early, is_opening, is_past}
 use Rattle.ss_model.specs.Standing.{IsStream}
 use Rattle.ss_model.specs.State.{Stream}
 use Rattle.ss_model.specs.Windows.{newest_time}
 use Rattle.ss_model.proofs.StreamLemmas.{IsStream-closed, IsStream-marked, IsStream-opened, newest-past}
 use Rattle.ss_recover.specs.Held.{Agrees, all_value_records, entries_of, in_slots, landmark_record, landmark_records, marks_held, span_held}
-use Rattle.ss_recover.specs.Held.{stream_record, value_records, values_said, window_record, window_slots, windows_held}
+use Rattle.ss_recover.specs.Held.{stream_record, times_held, value_records, values_said, window_record, window_slots, windows_held}
 use Rattle.ss_recover.specs.declared.parts.StreamParts.{StreamParts}
+use Rattle.ss_recover.proofs.MarksSoFar.{latest_of-last}
 use Rattle.ss_recover.proofs.Marks.{all_value_records-append, landmark_records-append, length-all_value_records, length-landmark_records, value_records-append}
 use Rattle.ss_recover.proofs.Permutations.{IsPermutation-same}
 use Rattle.ss_store.specs.Kept.{is_early_held}
 use Rattle.ss_store.specs.Marking.{CanMark, landmarks_after, mark_record, mark_refusal, slots_after, value_slots_after, values_open, with_mark}
 use Rattle.ss_store.specs.declared.marking.Mark.{Mark}
 use Rattle.ss_store.specs.declared.marking.Mark.TheVariants.{Open, Value, Close}
-use Rattle.ss_store.proofs.OpenMarks.{HasOpen, HasOpen-can, change-has, closes, count-has, later-last, latest_of-after, newest-open, one-passed}
+use Rattle.ss_store.proofs.OpenMarks.{AllEndBy-can, HasOpen, HasOpen-can, change-has, closes, count-has, later-last, latest_of-after, newest-open, one-passed}
 use Rattle.ss_store.proofs.OpenMarks.{open-has, takes, two-passed, values-has}
 
 pub length-change_last : (change : Landmark → Landmark) (ls : List Landmark) → length (change_last change ls) ≡ length ls
@@ -189,7 +192,7 @@ pub record IsMarked (part new : StreamParts) (slot t : ℕ) (mark : Mark) : Type
   pub target : new.target ≡ part.target
   pub own_slot : new.slot ≡ part.slot
   pub entries : entries_of new ≡ entries_of part
-  pub last_time : new.last_time ≡ Some t
+  pub last_time : new.last_time ≡ later part.last_time (Some t)
   pub landmarks : new.landmarks.landmarks ≡ landmarks_after part.landmarks.landmarks t mark
   pub slots : new.landmarks.slots ≡ slots_after part.landmarks.slots slot mark
   pub value_slots : new.landmarks.value_slots ≡ value_slots_after part.landmarks.value_slots slot mark
@@ -278,6 +281,31 @@ newest-by part t Close s can accepted agrees stream u is =
     let at = open-has (closes t) 0 s.landmarks has can_stream in
     omega (arith, newest-open s.landmarks has s.windows u stream.free is, at.0)
 
+later-one : (a t : ℕ) (o : Option ℕ) → max a t ≡ t → later o (Some t) ≡ Some t → later (later (Some a) o) (Some t) ≡ Some t
+later-one a t None first rest = ap Some first
+later-one a t (Some u) first rest = let second : max u t ≡ t = cc in ap Some (omega (arith, first, second))
+
+later-two : (o p : Option ℕ) (t : ℕ) → ((u : ℕ) → o ≡ Some u → u ≤ t) → later p (Some t) ≡ Some t → later (later o p) (Some t) ≡ Some t
+later-two None p t by rest = rest
+later-two (Some u) p t by rest = let low = by u refl in later-one u t p (omega (arith, low)) rest
+
+-- landmarks that end by a time have no later one
+latest-stays : (ls : List Landmark) (t : ℕ) → AllEndBy t ls → later (latest_of ls) (Some t) ≡ Some t
+latest-stays [] t ends = refl
+latest-stays (l ∷ ls) t ends =
+    let one : AllEndBy t (l ∷ []) = All-cons (EndsBy t) l [] (All-head (EndsBy t) l ls ends) (All-nil (EndsBy t)) in
+    let most : Some (max (latest_in l) t) ≡ Some t = latest_of-last (l ∷ []) (opened_at t) one in
+    let first : max (latest_in l) t ≡ t = cc in
+    later-one (latest_in l) t (latest_of ls) first (latest-stays ls t (All-tail (EndsBy t) l ls ends))
+
+-- where the stream is held its last time is not after it
+last-stays : (part : StreamParts) (t : ℕ) (mark : Mark) (s : Stream) → CanMark part.landmarks.landmarks t mark → mark_refusal part t mark ≡ None →
+    Agrees part s → IsStream s → later part.last_time (Some t) ≡ Some t
+last-stays part t mark s can accepted agrees stream =
+    ap (λ (o : Option ℕ). later o (Some t)) agrees.last_time
+    ∙ later-two (newest_time s.windows) (latest_of s.landmarks) t (newest-by part t mark s can accepted agrees stream)
+    (latest-stays s.landmarks t (AllEndBy-can s.landmarks t mark stream.landmarks (can-agrees part t mark s agrees can)))
+
 -- what is held agrees with it
 pub Agrees-mark : (part new : StreamParts) (slot t : ℕ) (mark : Mark) (s : Stream) → IsMarked part new slot t mark → CanMark part.landmarks.landmarks t mark →
     mark_refusal part t mark ≡ None → Agrees part s → IsStream s → Agrees new (with_mark s t mark)
@@ -286,9 +314,10 @@ Agrees-mark part new slot t mark s marked can accepted agrees stream = record {
   name = marked.name ∙ agrees.name;
   params = ap (λ target. params_of target) marked.target ∙ agrees.params;
   positions = ap (λ es. map span_held es) marked.entries ∙ agrees.positions;
+  times = ap (λ es. map times_held es) marked.entries ∙ agrees.times;
   landmarks = marked.landmarks ∙ ap (λ ls. landmarks_after ls t mark) agrees.landmarks;
   known = marked.known;
-  last_time = marked.last_time
+  last_time = marked.last_time ∙ last-stays part t mark s can accepted agrees stream
       ∙ sym (later-last (newest_time s.windows) (latest_of (landmarks_after s.landmarks t mark)) t
       (latest_of-after s.landmarks t mark stream.landmarks (can-agrees part t mark s agrees can)) (newest-by part t mark s can accepted agrees stream));
 }

@@ -15,7 +15,7 @@ use Rattle.ss_landmarks.specs.Order.{CanClose}
 use Rattle.ss_landmarks.proofs.OrderLemmas.{AreLandmarks-close, AreLandmarks-take, FollowFrom-open}
 use Rattle.ss_landmarks.proofs.TimeLemmas.{all_values-close, all_values-open, all_values-take}
 use Rattle.ss_model.specs.History.{CanBeSaid}
-use Rattle.ss_model.specs.Marks.{with_closed}
+use Rattle.ss_model.specs.Marks.{later, with_closed}
 use Rattle.ss_model.specs.Standing.{IsStream}
 use Rattle.ss_model.specs.State.{Stream}
 use Rattle.ss_recover.specs.Held.{Agrees, all_value_records, in_slots, landmark_record, landmark_records, mark_slots, marks_held, records_held}
@@ -196,7 +196,7 @@ AreSomeLive-last part slot live last some =
 abbrev pub marked_part : StreamParts → ℕ → ℕ → Mark → StreamParts
 marked_part part slot t mark =
     record part {
-      last_time = Some t;
+      last_time = later part.last_time (Some t);
       landmarks = record {
         landmarks = landmarks_after part.landmarks.landmarks t mark;
         slots = slots_after part.landmarks.slots slot mark;

@@ -30,7 +30,7 @@ use Rattle.ss_model.proofs.StreamLemmas.{IsStream-joined}
 use Rattle.ss_model.proofs.Tiles.{AreNeighbours-from_AreWindows}
 use Rattle.ss_recover.specs.Held.{Agrees, TileFrom, all_value_records, entries_of, in_slots, landmark_records, mark_slots}
 use Rattle.ss_recover.specs.Held.{marks_held, records_held, slots_held, span_held, span_of, stream_record, window_record}
-use Rattle.ss_recover.specs.Held.{window_slots, windows_held}
+use Rattle.ss_recover.specs.Held.{times_held, times_of, window_slots, windows_held}
 use Rattle.ss_recover.specs.declared.parts.StreamParts.{StreamParts}
 use Rattle.ss_store.specs.Held.{values_held, with_windows}
 use Rattle.ss_store.specs.Joining.{AreDue}
@@ -73,8 +73,8 @@ module _ (len : ℕ → ℕ) (n : ℕ) (entries : List (At × Entry)) (left righ
     first_is : due.pair.window ≡ w
     first_is = find-read entries due.pair.before left due.pair.window ((right, due.pair.next) ∷ due.pair.rest) w due.pair.is due.pair.left_once read_left
 
-    second_is : due.pair.next ≡ v
-    second_is = find-read entries (due.pair.before ++ (left, due.pair.window) ∷ []) right due.pair.next due.pair.rest v moved due.pair.right_once read_right
+    pub next_is : due.pair.next ≡ v
+    next_is = find-read entries (due.pair.before ++ (left, due.pair.window) ∷ []) right due.pair.next due.pair.rest v moved due.pair.right_once read_right
 
     pub AreJoined-due : AreJoined len n entries (joined_line due) w v
     AreJoined-due =
@@ -86,11 +86,11 @@ module _ (len : ℕ → ℕ) (n : ℕ) (entries : List (At × Entry)) (left righ
           front = entries_in due.pair.before;
           rest = entries_in due.pair.rest;
           was = ap (λ l. entries_in l) due.pair.is ∙ map-append second due.pair.before ((left, due.pair.window) ∷ (right, due.pair.next) ∷ due.pair.rest)
-              ∙ ap₂ (λ (x y : Entry). entries_in due.pair.before ++ x ∷ y ∷ entries_in due.pair.rest) first_is second_is;
+              ∙ ap₂ (λ (x y : Entry). entries_in due.pair.before ++ x ∷ y ∷ entries_in due.pair.rest) first_is next_is;
           is = map-append second due.pair.before ((left, joined_entry due.pair.window due.pair.next) ∷ due.pair.rest)
-              ∙ ap₂ (λ (x y : Entry). entries_in due.pair.before ++ joined_entry x y ∷ entries_in due.pair.rest) first_is second_is;
+              ∙ ap₂ (λ (x y : Entry). entries_in due.pair.before ++ joined_entry x y ∷ entries_in due.pair.rest) first_is next_is;
           fewer = omega (arith, all, long, short);
-          due = ap₂ (λ (x y : Entry). fits len x.first y.last n) (sym first_is) (sym second_is) ∙ due.due;
+          due = ap₂ (λ (x y : Entry). fits len x.first y.last n) (sym first_is) (sym next_is) ∙ due.due;
         }
 
 -- two out of the middle of a list
@@ -110,12 +110,16 @@ pub record AreTheirs (front : List Entry) (w v : Entry) (rest : List Entry) (ws 
   pub first : span_held w ≡ span_of one
   pub second : span_held v ≡ span_of two
   pub rests : map span_held rest ≡ map span_of behind
+  pub front_times : map times_held front ≡ map times_of before
+  pub first_times : times_held w ≡ times_of one
+  pub second_times : times_held v ≡ times_of two
+  pub rest_times : map times_held rest ≡ map times_of behind
 
-pub AreTheirs-positions : (front : List Entry) (w v : Entry) (rest : List Entry) (ws : List Window) → map span_held (front ++ w ∷ v ∷ rest) ≡ map span_of ws →
-    AreTheirs front w v rest ws
-AreTheirs-positions [] w v rest [] same = absurd (cc)
-AreTheirs-positions [] w v rest (x ∷ []) same = absurd (cc)
-AreTheirs-positions [] w v rest (x ∷ y ∷ ys) same = record {
+pub AreTheirs-agree : (front : List Entry) (w v : Entry) (rest : List Entry) (ws : List Window) → map span_held (front ++ w ∷ v ∷ rest) ≡ map span_of ws →
+    map times_held (front ++ w ∷ v ∷ rest) ≡ map times_of ws → AreTheirs front w v rest ws
+AreTheirs-agree [] w v rest [] same times = absurd (cc)
+AreTheirs-agree [] w v rest (x ∷ []) same times = absurd (cc)
+AreTheirs-agree [] w v rest (x ∷ y ∷ ys) same times = record {
   before = [];
   one = x;
   two = y;
@@ -125,12 +129,18 @@ AreTheirs-positions [] w v rest (x ∷ y ∷ ys) same = record {
   first = cc;
   second = cc;
   rests = cc;
+  front_times = refl;
+  first_times = cc;
+  second_times = cc;
+  rest_times = cc;
 }
-AreTheirs-positions (f ∷ fs) w v rest [] same = absurd (cc)
-AreTheirs-positions (f ∷ fs) w v rest (x ∷ xs) same =
+AreTheirs-agree (f ∷ fs) w v rest [] same times = absurd (cc)
+AreTheirs-agree (f ∷ fs) w v rest (x ∷ xs) same times =
     let head : span_held f ≡ span_of x = cc in
     let tail : map span_held (fs ++ w ∷ v ∷ rest) ≡ map span_of xs = cc in
-    let later = AreTheirs-positions fs w v rest xs tail in
+    let head_times : times_held f ≡ times_of x = cc in
+    let tail_times : map times_held (fs ++ w ∷ v ∷ rest) ≡ map times_of xs = cc in
+    let later = AreTheirs-agree fs w v rest xs tail tail_times in
     record {
       before = x ∷ later.before;
       one = later.one;
@@ -141,6 +151,10 @@ AreTheirs-positions (f ∷ fs) w v rest (x ∷ xs) same =
       first = later.first;
       second = later.second;
       rests = later.rests;
+      front_times = ap₂ (λ (p : ℕ × ℕ) (l : List (ℕ × ℕ)). p ∷ l) head_times later.front_times;
+      first_times = later.first_times;
+      second_times = later.second_times;
+      rest_times = later.rest_times;
     }
 
 slot_of : Entry → ℕ
@@ -204,6 +218,8 @@ pub record JoinsHeld (others : List (ℕ × Option Record)) (part new : StreamPa
   pub two : Window
   pub first : span_held w ≡ span_of one
   pub second : span_held v ≡ span_of two
+  pub first_times : times_held w ≡ times_of one
+  pub second_times : times_held v ≡ times_of two
   pub later : one.summary.t_last < two.summary.t_first
   pub first_free : IsTrue (lies_free part.landmarks.landmarks one)
   pub second_free : IsTrue (lies_free part.landmarks.landmarks two)
@@ -233,6 +249,13 @@ span-joined w v one two next some first second =
     let end : v.last ≡ two.first + two.summary.count - 1 = ap (λ (p : ℕ × ℕ). p.1) second in
     let last : v.last ≡ one.first + (one.summary.count + two.summary.count) - 1 = omega arith in
     λ i. (start i, last i)
+
+times-joined : (w v : Entry) (one two : Window) → times_held w ≡ times_of one → times_held v ≡ times_of two →
+    times_held (joined_entry w v) ≡ times_of (joined_window one two)
+times-joined w v one two first second =
+    let start : w.t_first ≡ one.summary.t_first = ap (λ (p : ℕ × ℕ). p.0) first in
+    let end : v.t_last ≡ two.summary.t_last = ap (λ (p : ℕ × ℕ). p.1) second in
+    λ i. (start i, end i)
 
 pub one_part-same : (part : StreamParts) (entries : List (At × Entry)) → SameButLine part (one_part part entries)
 one_part-same part entries = record { id = refl; name = refl; target = refl; slot = refl; last_time = refl; landmarks = refl }
@@ -274,7 +297,9 @@ module _ (others : List (ℕ × Option Record)) (part new : StreamParts) (s : St
     (pair : AreJoined (lengths_of (params_of part.target)) (values_held (entries_of part)) part.line.entries new.line.entries w v)
     (agrees : Agrees part s) (stream : IsStream s) where
   theirs : AreTheirs pair.front w v pair.rest s.windows
-  theirs = AreTheirs-positions pair.front w v pair.rest s.windows (ap (λ es. map span_held es) (sym pair.was) ∙ agrees.positions)
+  theirs =
+      AreTheirs-agree pair.front w v pair.rest s.windows (ap (λ es. map span_held es) (sym pair.was) ∙ agrees.positions)
+      (ap (λ es. map times_held es) (sym pair.was) ∙ agrees.times)
 
   stand : AreWindows (theirs.before ++ theirs.one ∷ theirs.two ∷ theirs.behind)
   stand = subst (λ ws. AreWindows ws) theirs.is stream.windows
@@ -337,6 +362,15 @@ module _ (others : List (ℕ × Option Record)) (part new : StreamParts) (s : St
       ∙ ap₂ (λ (xs ys : List (ℕ × ℕ)). xs ++ ys) theirs.fronts (ap₂ (λ (p : ℕ × ℕ) (l : List (ℕ × ℕ)). p ∷ l) one theirs.rests)
       ∙ sym (map-append span_of theirs.before (joined_window theirs.one theirs.two ∷ theirs.behind))
 
+  times : map times_held (entries_of new) ≡ map times_of ws
+  unfolding ws
+  times =
+      let one : times_held (joined_entry w v) ≡ times_of (joined_window theirs.one theirs.two) = times-joined w v theirs.one theirs.two theirs.first_times
+      theirs.second_times in
+      ap (λ es. map times_held es) pair.is ∙ map-append times_held pair.front (joined_entry w v ∷ pair.rest)
+      ∙ ap₂ (λ (xs ys : List (ℕ × ℕ)). xs ++ ys) theirs.front_times (ap₂ (λ (p : ℕ × ℕ) (l : List (ℕ × ℕ)). p ∷ l) one theirs.rest_times)
+      ∙ sym (map-append times_of theirs.before (joined_window theirs.one theirs.two ∷ theirs.behind))
+
   pub JoinsHeld-pair : JoinsHeld others part new s w v
   JoinsHeld-pair =
       let number : part.id.0 ≡ s.number = agrees.number in
@@ -362,6 +396,8 @@ module _ (others : List (ℕ × Option Record)) (part new : StreamParts) (s : St
         two = theirs.two;
         first = theirs.first;
         second = theirs.second;
+        first_times = theirs.first_times;
+        second_times = theirs.second_times;
         later = (AreNeighbours-from_AreWindows theirs.before theirs.behind theirs.one theirs.two stand).times;
         first_free = subst (λ ls. IsTrue (lies_free ls theirs.one)) (sym agrees.landmarks) free.0;
         second_free = subst (λ ls. IsTrue (lies_free ls theirs.two)) (sym agrees.landmarks) free.1;
@@ -375,6 +411,7 @@ module _ (others : List (ℕ × Option Record)) (part new : StreamParts) (s : St
           name = same.name ∙ agrees.name;
           params = ap (λ t. params_of t) same.target ∙ agrees.params;
           positions = positions;
+          times = times;
           landmarks = ap (λ (l : LandmarksState). l.landmarks) same.landmarks ∙ agrees.landmarks;
           known = subst AreKnown (sym same.landmarks) agrees.known;
           last_time = same.last_time ∙ agrees.last_time

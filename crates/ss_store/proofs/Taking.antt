@@ -16,17 +16,19 @@ use Rattle.ss_recover.specs.Held.{entries_of, slots_held}
 use Rattle.ss_recover.specs.declared.parts.StreamParts.{StreamParts}
 use Rattle.ss_store.specs.Admitted.{IsTaker}
 use Rattle.ss_store.specs.Applied.{Applies, StandsOn}
-use Rattle.ss_store.specs.Changing.{CanAppend, ChangedIsHeld, HoldsUntil, KeepsWhole, NoneAreDue, TakesValue}
+use Rattle.ss_store.specs.Changing.{ChangedIsHeld, HoldsUntil, KeepsWhole, NoneAreDue, TakesValue}
 use Rattle.ss_store.specs.Errors.{apply_of_fault}
 use Rattle.ss_query.specs.Reading.{verdict_of_read}
-use Rattle.ss_store.specs.Held.{IsSameStream, values_held}
+use Rattle.ss_store.specs.Held.{IsOrdered, IsSameStream, values_held}
+use Rattle.ss_store.specs.Indexed.{CanAppend, IndexState, IsReservedFor}
+use Rattle.ss_model.specs.Refusals.{is_past}
 use Rattle.ss_store.specs.Kept.{IsSound, SameButSpare, StoreIsKept, StoreState, is_of_landmark, refuses_held}
 use Rattle.ss_store.specs.Slots.{AreSomeLive}
 use Rattle.ss_query.specs.declared.read_error.ReadError.{ReadError}
 use Rattle.ss_store.proofs.Among.{IsNoEarlier-past}
 use Rattle.ss_store.proofs.Appended.{AreWhole-IsSpared, IsSound-set, IsSpared, IsSpared-line, SameButSpare-IsSpared, StepsState-appended}
 use Rattle.ss_store.proofs.Appended.{StoreIsKept-IsSpared, StoreIsKept-appended, held-taker, live-IsSpared, others, pair, part-read, part_named-set}
-use Rattle.ss_store.proofs.Appended.{said_of_set, tiles-IsSpared, whole-appended}
+use Rattle.ss_store.proofs.Appended.{said_of_set, ordered-IsSpared, whole-appended}
 use Rattle.ss_store.proofs.Applying.{Applies-done, Applies-failed, held_by_named}
 use Rattle.ss_store.proofs.Decays.{KeepsToTarget-taken}
 use Rattle.ss_store.proofs.Refusals.{of_part-named}
@@ -100,13 +102,20 @@ module _ {store : StoreState} {catalog : List (List ℕ × StreamId)} {name : Li
   pub live-spared : AreSomeLive (slots_held (record was { line = line })) store.records.live
   live-spared = live-IsSpared store place is.taker.part (record was { line = line }) is.taker.at room (is.sound.whole is.runs)
 
-  pub can-append : 1 ≤ line.spare → CanAppend (record was { line = line }) t
-  can-append spare = record {
+  pub ordered-spared : IsOrdered (record was { line = line })
+  ordered-spared = ordered-IsSpared store place is.taker.part (record was { line = line }) is.taker.at room (is.sound.whole is.runs)
+
+  pub later-taker : is_past was.last_time t ≡ false
+  later-taker = rw (← same-part) is.taker.later
+
+  pub can-append : (index : IndexState) → 1 ≤ line.spare → IsReservedFor t (record was { line = line }) index → CanAppend (record was { line = line }) index t
+  can-append index spare reserved = record {
     spare = spare;
+    reserved = reserved;
     room = rw (is.entries, ← same-part) is.taker.room;
     plain = rw (← same-part) is.taker.plain;
-    later = rw (← same-part) is.taker.later;
-    tiles = tiles-IsSpared store place is.taker.part (record was { line = line }) is.taker.at room (is.sound.whole is.runs);
+    later = later-taker;
+    ordered = ordered-spared;
   }
 
   -- it is no event of landmarks
@@ -133,7 +142,7 @@ module _ {store : StoreState} {catalog : List (List ℕ × StreamId)} {name : Li
           (λ run. (
             whole.settled,
             whole-appended store place is.taker.part (record was { line = line }) now records is.taker.at room (is.sound.whole is.runs) same
-                (IsNoEarlier-past was.last_time now.last_time t holds.last_time (rw (← same-part) is.taker.later)) whole.tiles whole.live,
+                (IsNoEarlier-past was.last_time now.last_time t holds.last_time later-taker) whole.ordered whole.live,
           ))
 
       -- the event is applied
@@ -162,7 +171,7 @@ module _ {store : StoreState} {catalog : List (List ℕ × StreamId)} {name : Li
           )))
           (λ made. let wrong : false ≡ true = made in absurd (cc))
           (said_of_set name store.streams place is.taker.part now n k is.sound.numbers is.taker.named is.taker.at same_name values windows)
-          (λ plain. KeepsToTarget-taken store catalog name t place slot now n k is.sound is.taker same_name values windows whole.tiles none_due some)
+          (λ plain. KeepsToTarget-taken store catalog name t place slot now n k is.sound is.taker same_name values windows whole.ordered.tiles none_due some)
           refl (omega (arith, extent, low))
 
     -- the call failed

@@ -6,18 +6,18 @@ use Rattle.ss_outside.specs.Step.{Step}
 use Rattle.ss_outside.specs.Verdict.{fine}
 use Rattle.ss_journal.specs.Kept.{IsSettled}
 use Rattle.ss_records.specs.Kept.{AreKept, RecordsState}
-use Rattle.ss_recover.specs.Held.{TileFrom, entries_of, slots_held}
+use Rattle.ss_recover.specs.Held.{entries_of, slots_held}
 use Rattle.ss_recover.specs.declared.parts.StreamParts.{StreamParts}
 use Rattle.ss_store.specs.Changing.{HoldsUntil, JoinsWindows, KeepsWhole}
-use Rattle.ss_store.specs.Held.{IsSameStream, values_held, with_windows}
+use Rattle.ss_store.specs.Held.{IsOrdered, IsSameStream, values_held, with_windows}
 use Rattle.ss_query.specs.declared.read_error.ReadError.{ReadError}
 use Rattle.ss_store.proofs.Closings.{JoinsEach-more, JoinsEach-none}
 use Rattle.ss_store.proofs.LiveSlots.{LiveSlotsGo-none, LiveSlotsGo-then}
 
-pub KeepsWhole-none : (part : StreamParts) (records : RecordsState) → TileFrom 1 (entries_of part) → IsSettled records.journal →
+pub KeepsWhole-none : (part : StreamParts) (records : RecordsState) → IsOrdered part → IsSettled records.journal →
     KeepsWhole part part records records 0
-KeepsWhole-none part records tiles settled = record {
-  tiles = tiles;
+KeepsWhole-none part records ordered settled = record {
+  ordered = ordered;
   live = LiveSlotsGo-none (slots_held part) records.live;
   settled = settled;
   extent = omega arith;
@@ -26,7 +26,7 @@ KeepsWhole-none part records tiles settled = record {
 pub KeepsWhole-then : {part mid now : StreamParts} {was between is : RecordsState} {used : ℕ} → KeepsWhole part mid was between used →
     KeepsWhole mid now between is 0 → KeepsWhole part now was is used
 KeepsWhole-then {part} {mid} {now} {was} {between} {is} {used} first second = record {
-  tiles = second.tiles;
+  ordered = second.ordered;
   live = LiveSlotsGo-then (slots_held part) (slots_held mid) (slots_held now) was.live between.live is.live first.live second.live;
   settled = second.settled;
   extent = omega (arith, first.extent, second.extent);

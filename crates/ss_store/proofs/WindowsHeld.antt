@@ -68,7 +68,7 @@ IsEntry-at parts live place part at e whole all here is =
     let both = AreWhole-at parts live place part whole here in
     let i = index_of part.line.entries at in
     let read = slice_get-entry part.line.entries at e is in
-    let tile = TileFrom-at 1 (entries_of part) i e both.0 read in
+    let tile = TileFrom-at 1 (entries_of part) i e both.0.tiles read in
     let slot : slice_get (window_slots_of part) i ≡ Some e.slot =
     slice_get-map (λ (x : Entry). x.slot) (entries_of part) i ∙ ap (option_map (λ (x : Entry). x.slot)) read in
     record {

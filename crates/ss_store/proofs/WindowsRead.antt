@@ -20,7 +20,7 @@ use Rattle.ss_model.specs.State.{Stream, state, stream_numbered, values_in}
 use Rattle.ss_model.specs.declared.types.Placed.{Placed}
 use Rattle.ss_model.specs.declared.types.Window.{Window}
 use Rattle.ss_model.proofs.WithinLemmas.{IsReadWithinTarget-read}
-use Rattle.ss_recover.specs.Held.{Agrees, entries_of, marks_held, records_held, span_held, span_of, window_record, windows_held}
+use Rattle.ss_recover.specs.Held.{Agrees, entries_of, marks_held, records_held, span_held, span_of, times_held, times_of, window_record, windows_held}
 use Rattle.ss_recover.specs.declared.parts.StreamParts.{StreamParts}
 use Rattle.ss_outside.specs.Disk.{DiskView, OfContent, Told}
 use Rattle.ss_outside.specs.Step.{Step}
@@ -48,21 +48,29 @@ pub record IsKeptWindow (content : List ℕ) (streams : List Stream) (number pla
   pub window : Window
   pub at : slice_get stream.windows place ≡ Some window
   pub span : span_held e ≡ span_of window
+  pub times : times_held e ≡ times_of window
   pub others : List (ℕ × Option Record)
   pub has : HasRecords ((e.slot, Some (window_record part.id.0 window)) ∷ others) content
   pub free : IsTrue (lies_free part.landmarks.landmarks window)
 
--- the window whose span an entry has
-some_window : (e : Entry) (o : Option Window) → Some (span_held e) ≡ option_map span_of o → (w : Window) × (o ≡ Some w) × (span_held e ≡ span_of w)
-some_window e None same = absurd (none-some (span_held e) (sym same))
-some_window e (Some w) same = (w, refl, same_Some (span_held e) (span_of w) same)
+-- the window of which an entry has this
+some_window : (P : Entry → ℕ × ℕ) (Q : Window → ℕ × ℕ) (e : Entry) (o : Option Window) → Some (P e) ≡ option_map Q o → (w : Window) × (o ≡ Some w) × (P e ≡ Q w)
+some_window P Q e None same = absurd (none-some (P e) (sym same))
+some_window P Q e (Some w) same = (w, refl, same_Some (P e) (Q w) same)
+
+window-with : (P : Entry → ℕ × ℕ) (Q : Window → ℕ × ℕ) (part : StreamParts) (s : Stream) (i : ℕ) (e : Entry) → map P (entries_of part) ≡ map Q s.windows →
+    slice_get (entries_of part) i ≡ Some e → (w : Window) × (slice_get s.windows i ≡ Some w) × (P e ≡ Q w)
+window-with P Q part s i e same at =
+    some_window P Q e (slice_get s.windows i)
+    (sym (ap (option_map P) at) ∙ sym (slice_get-map P (entries_of part) i) ∙ ap (λ l. slice_get l i) same ∙ slice_get-map Q s.windows i)
 
 window-at : (part : StreamParts) (s : Stream) (i : ℕ) (e : Entry) → Agrees part s → slice_get (entries_of part) i ≡ Some e →
-    (w : Window) × (slice_get s.windows i ≡ Some w) × (span_held e ≡ span_of w)
+    (w : Window) × (slice_get s.windows i ≡ Some w) × (span_held e ≡ span_of w) × (times_held e ≡ times_of w)
 window-at part s i e agrees at =
-    some_window e (slice_get s.windows i)
-    (sym (ap (option_map span_held) at) ∙ sym (slice_get-map span_held (entries_of part) i) ∙ ap (λ l. slice_get l i) agrees.positions
-    ∙ slice_get-map span_of s.windows i)
+    let span = window-with span_held span_of part s i e agrees.positions at in
+    let times = window-with times_held times_of part s i e agrees.times at in
+    let same : times.0 ≡ span.0 = same_Some times.0 span.0 (sym times.1 ∙ span.1) in
+    (span.0, span.1, span.2, times.2 ∙ ap times_of same)
 
 record-at : (part : StreamParts) (s : Stream) (i : ℕ) (e : Entry) (w : Window) → slice_get (entries_of part) i ≡ Some e → slice_get s.windows i ≡ Some w →
     slice_get (records_held (part, s)) (suc i) ≡ Some (e.slot, Some (window_record s.number w))
@@ -106,6 +114,7 @@ IsKeptWindow-at store content kept number part at e numbered is =
       window = window.0;
       at = window.1;
       span = window.2;
+      times = window.3;
       others = remove all (suc i);
       has = subst (λ n. HasRecords ((e.slot, Some (window_record n window.0)) ∷ remove all (suc i)) content) (sym held.agrees.number)
           (has-first all (suc i) (e.slot, Some (window_record s.number window.0)) content here held.records);
@@ -138,7 +147,7 @@ module _ {part : StreamParts} {entry : Entry} (records : RecordsState) (store : 
       let window = IsKeptWindow-at store old.content kept number part at entry numbered read in
       let same = Recovers-same kept.streams streams old.content (Recovers-StoreIsKept store old.content kept) recovers in
       let found : stream_numbered number streams ≡ Some window.stream = ap (λ l. stream_numbered number l) (sym same) ∙ window.found in
-      let summary_is = reads.window window.others window.window window.has window.span window.free in
+      let summary_is = reads.window window.others window.window window.has window.span window.times window.free in
       let is : slice_get (map placed_of window.stream.windows) (index_of part.line.entries at) ≡ Some (placed entry summary) =
       slice_get-map placed_of window.stream.windows (index_of part.line.entries at) ∙ ap (option_map placed_of) window.at
       ∙ ap (λ (p : Placed). Some p) (placed-is entry window.window summary window.span summary_is) in
@@ -173,7 +182,7 @@ module _ {part : StreamParts} {entry : Entry} (records : RecordsState) (store : 
         IsTrue before.tells → IsFirm (verdict_of_read {T = Placed} (Err why))
     IsFirm-read why step told =
         let window = IsKeptWindow-at store before.told.content (kept told) number part at entry numbered read in
-        IsFirm-error window.window.summary why ((step.told told).window window.others window.window window.has window.span window.free)
+        IsFirm-error window.window.summary why ((step.told told).window window.others window.window window.has window.span window.times window.free)
 
 -- the entry at a place, in the part that was read
 pub entry-read : {o : Option StreamParts} {read : StreamParts} {e : Entry} (at : At) → o ≡ Some read →

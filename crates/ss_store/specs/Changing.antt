@@ -1,6 +1,6 @@
 -- What a call that changes records, or one stream, does to its disk, and what it keeps over every disk.
 use Rattle.std.specs.Prelude.{◌≡◌, ℕ, ℤ, ◌+◌, ◌<◌, ◌≤◌, max, IsTrue, List, ◌∷◌, Option, Some, None, Contains, flat_map, length, map, Result}
-use Rattle.std.specs.Prelude.{OnOk, false}
+use Rattle.std.specs.Prelude.{OnOk}
 use Rattle.ss_outside.specs.Crash.{OnlyReads}
 use Rattle.ss_outside.specs.Disk.{Told}
 use Rattle.ss_outside.specs.Verdict.{Verdict, IfChanged, IsFirm, verdict}
@@ -17,17 +17,16 @@ use Rattle.ss_target.specs.Lengths.{lengths_of}
 use Rattle.ss_target.specs.Targets.{params_of}
 use Rattle.ss_windowing.specs.declared.decay.TheConstants.{MOST_VALUES}
 use Rattle.ss_model.specs.ClosedState.{closed_state, closed_stream}
-use Rattle.ss_model.specs.Marks.{has_open, lies_free}
-use Rattle.ss_model.specs.Refusals.{is_past}
+use Rattle.ss_model.specs.Marks.{lies_free}
 use Rattle.ss_model.specs.Standing.{IsState}
 use Rattle.ss_model.specs.State.{Stream}
 use Rattle.ss_model.specs.Steps.{with_value}
 use Rattle.ss_model.specs.declared.types.Window.{Window}
-use Rattle.ss_recover.specs.Held.{AllAgree, EndByLast, TileFrom, entries_of, mark_slots, slots_held, span_held, span_of, window_record}
+use Rattle.ss_recover.specs.Held.{AllAgree, EndByLast, entries_of, mark_slots, slots_held, span_held, span_of, times_held, times_of, window_record}
 use Rattle.ss_recover.specs.declared.parts.StreamParts.{StreamParts}
 use Rattle.ss_store.specs.Calls.{Turns}
 use Rattle.ss_query.specs.Reading.{IsRead, verdict_of_read}
-use Rattle.ss_store.specs.Held.{IsHalfway, IsPartlyJoined, values_held, with_single}
+use Rattle.ss_store.specs.Held.{IsHalfway, IsOrdered, IsPartlyJoined, values_held, with_single}
 use Rattle.ss_query.specs.Held.{IsHeldIn}
 use Rattle.ss_store.specs.Joining.{IsJoinedIn, NoSpansAreDue}
 use Rattle.ss_store.specs.Marking.{CanMark, IsItsSlot, IsMarkedOrNot, landmarks_after, mark_refusal, with_mark}
@@ -84,7 +83,7 @@ TakesMark part now t mark records result =
 pub record ReadsJoined (part : StreamParts) (window next : Entry) (records : RecordsState) (result : Result Figures ReadError) (old new : Told) : Type 0 where
   pub joined : (others : List (ℕ × Option Record)) (w v : Window) →
       HasRecords ((window.slot, Some (window_record part.id.0 w)) ∷ (next.slot, Some (window_record part.id.0 v)) ∷ others) old.content →
-      span_held window ≡ span_of w → span_held next ≡ span_of v →
+      span_held window ≡ span_of w → span_held next ≡ span_of v → times_held window ≡ times_of w → times_held next ≡ times_of v →
       IsTrue (lies_free part.landmarks.landmarks w) → IsTrue (lies_free part.landmarks.landmarks v) →
       w.summary.t_last < v.summary.t_first → IsRead (joined w.summary v.summary) result
   pub kept : OnOk result (AreKept records new.content)
@@ -96,10 +95,10 @@ pub record AreNeighbours (window next : Entry) : Type 0 where
   pub side_by_side : next.first ≡ window.last + 1
   pub few : next.last ≤ MOST_VALUES
 
--- What the change of a stream keeps over every disk: its windows tile, its slots are live, and the journal is settled and uses
--- no more slots than before and these.
+-- What the change of a stream keeps over every disk: the order of its windows, that its slots are live, and that the journal is
+-- settled and uses no more slots than before and these.
 pub record KeepsWhole (part now : StreamParts) (was is : RecordsState) (used : ℕ) : Type 0 where
-  pub tiles : TileFrom 1 (entries_of now)
+  pub ordered : IsOrdered now
   pub live : LiveSlotsGo (slots_held part) (slots_held now) was.live is.live
   pub settled : IsSettled is.journal
   pub extent : is.journal.extent ≤ max was.journal.extent used
@@ -122,14 +121,6 @@ ChangedIsHeld v part = IfChanged v (λ slot. Contains (window_slots_of part) slo
 abbrev pub SomeChangedIsHeld : Verdict → List StreamParts → Type 0
 SomeChangedIsHeld v parts = IfChanged v (λ slot. Contains (flat_map window_slots_of parts) slot)
 
--- a stream takes a value outside landmarks at a time, and its line has a place for one more window
-pub record CanAppend (part : StreamParts) (t : ℕ) : Type 0 where
-  pub spare : 1 ≤ part.line.spare
-  pub room : values_held (entries_of part) < MOST_VALUES
-  pub plain : has_open part.landmarks.landmarks ≡ false
-  pub later : is_past part.last_time t ≡ false
-  pub tiles : TileFrom 1 (entries_of part)
-
 -- the landmarks of a stream take a mark at a time, with this slot for its record, and have room for it
 pub record CanTakeMark (records : RecordsState) (part : StreamParts) (slot t : ℕ) (mark : Mark) : Type 0 where
   pub can : CanMark part.landmarks.landmarks t mark
@@ -138,7 +129,7 @@ pub record CanTakeMark (records : RecordsState) (part : StreamParts) (slot t : �
   pub few : length (mark_slots part) < MOST_SLOTS
   pub room : 1 ≤ part.landmarks.room
   pub value_room : 1 ≤ part.landmarks.value_room
-  pub tiles : TileFrom 1 (entries_of part)
+  pub ordered : IsOrdered part
 
 -- the same stream with the same windows, perhaps with other landmarks
 pub record HasSameWindows (part now : StreamParts) : Type 0 where

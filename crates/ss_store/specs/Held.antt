@@ -7,6 +7,7 @@ use Rattle.ss_model.specs.Joins.{JoinsDue}
 use Rattle.ss_model.specs.State.{Stream, values_in}
 use Rattle.ss_model.specs.Steps.{single_window}
 use Rattle.ss_model.specs.declared.types.Window.{Window}
+use Rattle.ss_recover.specs.Held.{RiseToLast, TileFrom, entries_of}
 use Rattle.ss_recover.specs.declared.parts.StreamParts.{StreamParts}
 use Rattle.ss_query.specs.Held.{IsHeldIn}
 
@@ -42,3 +43,8 @@ pub record IsSameStream (old new : StreamParts) : Type 0 where
   pub target : new.target ≡ old.target
   pub slot : new.slot ≡ old.slot
   pub landmarks : new.landmarks ≡ old.landmarks
+
+-- the windows of a stream hold its positions in order, and their times rise up to its last time
+pub record IsOrdered (part : StreamParts) : Type 0 where
+  pub tiles : TileFrom 1 (entries_of part)
+  pub times : RiseToLast part

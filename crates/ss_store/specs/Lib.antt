@@ -12,5 +12,5 @@ pub mod Asked
 pub mod Surveyed
 pub mod Rebuilt
 pub mod Changing
-pub mod Scheduled
+pub mod Indexed
 pub mod Applied

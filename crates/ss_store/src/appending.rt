@@ -1,58 +1,38 @@
 // One more value of a stream.
-ghost use Rattle.std.specs.Prelude.{◌≡◌, ◌+◌, ◌<◌, ◌≤◌, ℕ, List, length, max, Some, OnOk, OnErr};
+ghost use Rattle.std.specs.Prelude.{◌≡◌, ◌+◌, ◌≤◌, Some, OnOk, OnErr};
 ghost use Rattle.ss_outside.specs.Disk.{OfContent};
 ghost use Rattle.ss_outside.specs.Step.{Step};
 ghost use Rattle.ss_outside.specs.Verdict.{IsFirm};
 ghost use Rattle.ss_journal.specs.Kept.{IsSettled};
-ghost use Rattle.ss_line.specs.declared.entry.At.{At};
-ghost use Rattle.ss_line.specs.declared.entry.Entry.{Entry};
-ghost use Rattle.ss_line.specs.declared.line.TheConstants.{MOST_PLACES};
-ghost use Rattle.ss_schedule.specs.Keyed.{IsKeyed};
 ghost use Rattle.ss_records.specs.Kept.{AreKept};
 ghost use Rattle.ss_records.specs.Live.{lowest_free};
 ghost use Rattle.ss_recover.specs.Held.{entries_of, slots_held};
-ghost use Rattle.ss_store.specs.Changing.{CanAppend, ChangedIsHeld, HoldsUntil, KeepsWhole, PutsValue, TakesValue};
+ghost use Rattle.ss_store.specs.Changing.{ChangedIsHeld, HoldsUntil, KeepsWhole, PutsValue, TakesValue};
 ghost use Rattle.ss_query.specs.Reading.{verdict_of_read};
 ghost use Rattle.ss_store.specs.Held.{IsSameStream, values_held};
-ghost use Rattle.ss_store.specs.Scheduled.{HasPlaces, IsKeyedFor, IsScheduled};
+ghost use Rattle.ss_store.specs.Indexed.{CanAppend, IsKeyedFor, IsScheduled};
 ghost use Rattle.ss_store.specs.Slots.{AreSomeLive};
 
 use crate::closing::{close_windows, values_held};
+use crate::index::Index;
 use crate::place::number_of;
 use crate::writing::add_record;
 use ss_codec::Record;
-use ss_line::{Entry, Line};
+use ss_line::Entry;
 use ss_outside::Disk;
 use ss_query::ReadError;
 use ss_records::Records;
 use ss_recover::StreamParts;
-use ss_schedule::Schedule;
 use ss_steps::Steps;
 use ss_summary::{LATEST_TIME, Summary};
-use std::alloc::AllocError;
 use std::sync::ledger::Ledger;
-
-// Makes room for one more window in a line, and for all its places in its schedule. An error leaves what both hold.
-pub fn make_room(line: &mut Line, schedule: &mut Schedule) -> Result<(), AllocError>
-    requires few { length line.old.entries < MOST_PLACES }
-    ensures spare { OnOk result (1 ≤ line.new.spare) }
-    ensures room { OnOk result (HasPlaces line.new schedule.new) }
-    ensures entries { line.new.entries ≡ line.old.entries }
-    ensures grows { line.old.spare ≤ line.new.spare }
-    ensures few { line.new.spare ≤ max line.old.spare 1 }
-    ensures target { schedule.new.target ≡ schedule.old.target }
-    ensures keyed { (n : ℕ) (entries : List (At × Entry)) → IsKeyed n entries schedule.old → IsKeyed n entries schedule.new }
-{
-    line.reserve(1)?;
-    schedule.reserve(line.places())
-}
 
 // Puts a value outside landmarks after the windows, as a window of its own in a free slot.
 fn put_value<D: Disk, L: Ledger>(
     records: &mut Records,
     disk: &mut D,
     part: &mut StreamParts,
-    schedule: &mut Schedule,
+    index: &mut Index,
     slot: u32,
     t: u64,
     v: i64,
@@ -60,9 +40,7 @@ fn put_value<D: Disk, L: Ledger>(
 ) -> Result<(), ReadError>
     requires settled { IsSettled records.old.journal }
     requires free { lowest_free records.old.live ≡ Some slot }
-    requires can { CanAppend part.old t }
-    requires scheduled { IsScheduled part.old schedule.old }
-    requires room { HasPlaces part.old.line schedule.old }
+    requires can { CanAppend part.old index.old t }
     requires time { t ≤ LATEST_TIME }
     requires one_disk { OfContent (D.seen disk.old) (AreKept records.old) }
     ensures puts { Step (verdict_of_read result) (D.seen disk.old) (D.seen disk.new)
@@ -71,7 +49,7 @@ fn put_value<D: Disk, L: Ledger>(
     ensures same { IsSameStream part.old part.new }
     ensures whole { OnOk result (KeepsWhole part.old part.new records.old records.new (slot + 1)) }
     ensures holds { OnOk result (HoldsUntil part.new (values_held (entries_of part.old) + 1) (Some t)) }
-    ensures keyed { OnOk result (IsKeyedFor part.new schedule.new) }
+    ensures keyed { OnOk result (IsKeyedFor part.new index.new) }
     ensures err { OnErr result (part.new ≡ part.old) }
 {
     let position = values_held(part, steps) + 1;
@@ -84,20 +62,22 @@ fn put_value<D: Disk, L: Ledger>(
     let entry = Entry {
         first: position,
         last: position,
+        t_first: t,
+        t_last: t,
         slot,
     };
     let at = part.line.push(entry, steps);
-    schedule.add_window(&part.line, at, position, steps);
+    index.add_window(&part.line, at, position, t, steps);
     part.last_time = Some(t);
     Ok(())
 }
 
-/// Puts a value outside landmarks after the windows of a stream, and makes the merges that are due. The line has a place to spare.
+/// Puts a value outside landmarks after the windows of a stream, and makes the merges that are due.
 pub fn append_value<D: Disk, L: Ledger>(
     records: &mut Records,
     disk: &mut D,
     part: &mut StreamParts,
-    schedule: &mut Schedule,
+    index: &mut Index,
     slot: u32,
     t: u64,
     v: i64,
@@ -105,9 +85,7 @@ pub fn append_value<D: Disk, L: Ledger>(
 ) -> Result<(), ReadError>
     requires settled { IsSettled records.old.journal }
     requires free { lowest_free records.old.live ≡ Some slot }
-    requires can { CanAppend part.old t }
-    requires scheduled { IsScheduled part.old schedule.old }
-    requires room { HasPlaces part.old.line schedule.old }
+    requires can { CanAppend part.old index.old t }
     requires time { t ≤ LATEST_TIME }
     requires live { AreSomeLive (slots_held part.old) records.old.live }
     requires one_disk { OfContent (D.seen disk.old) (AreKept records.old) }
@@ -117,9 +95,9 @@ pub fn append_value<D: Disk, L: Ledger>(
     ensures same { IsSameStream part.old part.new }
     ensures whole { OnOk result (KeepsWhole part.old part.new records.old records.new (slot + 1)) }
     ensures holds { OnOk result (HoldsUntil part.new (values_held (entries_of part.old) + 1) (Some t)) }
-    ensures scheduled { OnOk result (IsScheduled part.new schedule.new) }
+    ensures scheduled { OnOk result (IsScheduled part.new index.new) }
     ensures changed { ChangedIsHeld (verdict_of_read result) part.new }
 {
-    put_value(records, disk, part, schedule, slot, t, v, steps)?;
-    close_windows(records, disk, part, schedule, steps)
+    put_value(records, disk, part, index, slot, t, v, steps)?;
+    close_windows(records, disk, part, index, steps)
 }

@@ -6,13 +6,14 @@ ghost use Rattle.ss_outside.specs.Verdict.{IfChanged};
 ghost use Rattle.ss_journal.specs.Kept.{IsRunning, IsSettled};
 ghost use Rattle.ss_records.specs.Kept.{AreKept};
 ghost use Rattle.ss_summary.specs.Figures.{IsPossible};
-ghost use Rattle.ss_recover.specs.Held.{TileFrom, entries_of, slots_held};
+ghost use Rattle.ss_recover.specs.Held.{entries_of, slots_held};
 ghost use Rattle.ss_store.specs.Changing.{AreNeighbours, ChangedIsHeld, ClosesStream, HoldsUntil, JoinsWindows, KeepsWhole, ReadsJoined};
 ghost use Rattle.ss_query.specs.Reading.{verdict_of_read};
-ghost use Rattle.ss_store.specs.Held.{IsSameStream, values_held};
-ghost use Rattle.ss_store.specs.Scheduled.{IsDuePair, IsKeyedFor, IsScheduled};
+ghost use Rattle.ss_store.specs.Held.{IsOrdered, IsSameStream, values_held};
+ghost use Rattle.ss_store.specs.Indexed.{IsDuePair, IsKeyedFor, IsScheduled};
 ghost use Rattle.ss_store.specs.Slots.{AreSomeLive};
 
+use crate::index::Index;
 use crate::writing::replace_two;
 use ss_codec::Record;
 use ss_line::Entry;
@@ -20,7 +21,7 @@ use ss_outside::Disk;
 use ss_query::{ReadError, read_window};
 use ss_records::Records;
 use ss_recover::StreamParts;
-use ss_schedule::{Pair, Schedule};
+use ss_schedule::Pair;
 use ss_steps::Steps;
 use ss_summary::Summary;
 use std::sync::ledger::Ledger;
@@ -73,14 +74,12 @@ fn join<D: Disk, L: Ledger>(
     records: &mut Records,
     disk: &mut D,
     part: &mut StreamParts,
-    schedule: &mut Schedule,
+    index: &mut Index,
     pair: Pair,
     steps: &mut Steps<L>,
 ) -> Result<(), ReadError>
-    requires keyed { IsKeyedFor part.old schedule.old }
-    requires due { IsDuePair part.old pair }
+    requires due { IsDuePair part.old index.old pair }
     requires settled { IsSettled records.old.journal }
-    requires tiles { TileFrom 1 (entries_of part.old) }
     requires live { AreSomeLive (slots_held part.old) records.old.live }
     requires one_disk { OfContent (D.seen disk.old) (AreKept records.old) }
     ensures joins { Step (verdict_of_read result) (D.seen disk.old) (D.seen disk.new)
@@ -89,7 +88,7 @@ fn join<D: Disk, L: Ledger>(
     ensures whole { OnOk result (KeepsWhole part.old part.new records.old records.new 0) }
     ensures holds { OnOk result (HoldsUntil part.new (values_held (entries_of part.old)) part.old.last_time) }
     ensures fewer { OnOk result (length part.new.line.entries < length part.old.line.entries) }
-    ensures keyed { OnOk result (IsKeyedFor part.new schedule.new) }
+    ensures keyed { OnOk result (IsKeyedFor part.new index.new) }
     ensures err { OnErr result (part.new ≡ part.old) }
     ensures changed { ChangedIsHeld (verdict_of_read result) part.old }
 {
@@ -103,7 +102,7 @@ fn join<D: Disk, L: Ledger>(
     };
     replace_two(records, disk, window.slot, next.slot, &joined)?;
     let n = values_held(part, steps);
-    schedule.merged(&mut part.line, pair, n, steps);
+    index.merged(&mut part.line, pair, next.t_first, n, steps);
     Ok(())
 }
 
@@ -112,12 +111,12 @@ pub fn close_windows<D: Disk, L: Ledger>(
     records: &mut Records,
     disk: &mut D,
     part: &mut StreamParts,
-    schedule: &mut Schedule,
+    index: &mut Index,
     steps: &mut Steps<L>,
 ) -> Result<(), ReadError>
-    requires keyed { IsKeyedFor part.old schedule.old }
+    requires keyed { IsKeyedFor part.old index.old }
     requires settled { IsSettled records.old.journal }
-    requires tiles { TileFrom 1 (entries_of part.old) }
+    requires ordered { IsOrdered part.old }
     requires live { AreSomeLive (slots_held part.old) records.old.live }
     requires one_disk { OfContent (D.seen disk.old) (AreKept records.old) }
     ensures closes { Step (verdict_of_read result) (D.seen disk.old) (D.seen disk.new)
@@ -125,12 +124,12 @@ pub fn close_windows<D: Disk, L: Ledger>(
     ensures same { IsSameStream part.old part.new }
     ensures whole { OnOk result (KeepsWhole part.old part.new records.old records.new 0) }
     ensures holds { OnOk result (HoldsUntil part.new (values_held (entries_of part.old)) part.old.last_time) }
-    ensures scheduled { OnOk result (IsScheduled part.new schedule.new) }
+    ensures scheduled { OnOk result (IsScheduled part.new index.new) }
     ensures changed { ChangedIsHeld (verdict_of_read result) part.new }
 {
     let n = values_held(part, steps);
-    while let Some(pair) = schedule.due(&part.line, n, steps) {
-        join(records, disk, part, schedule, pair, steps)?;
+    while let Some(pair) = index.due(&part.line, n, steps) {
+        join(records, disk, part, index, pair, steps)?;
     }
     Ok(())
 }

@@ -4,11 +4,12 @@
 mod appending;
 mod closing;
 mod error;
+mod index;
+mod indexing;
 mod laws;
 mod marking;
 mod opening;
 mod place;
-mod scheduling;
 mod store;
 mod surveying;
 mod writing;

@@ -1,5 +1,5 @@
 // What the landmarks of one stream take.
-ghost use Rattle.std.specs.Prelude.{◌≡◌, ◌≢◌, ◌+◌, ◌<◌, ◌≤◌, length, IsTrue, OnOk, OnErr};
+ghost use Rattle.std.specs.Prelude.{◌≡◌, ◌≢◌, ◌+◌, ◌<◌, ◌≤◌, length, Some, IsTrue, OnOk, OnErr};
 ghost use Rattle.ss_outside.specs.Disk.{OfContent};
 ghost use Rattle.ss_outside.specs.Step.{Step};
 ghost use Rattle.ss_outside.specs.Verdict.{verdict};
@@ -10,6 +10,7 @@ ghost use Rattle.ss_codec.specs.Record.{is_valid};
 ghost use Rattle.ss_codec.specs.declared.record.Record.TheVariants.{Free};
 ghost use Rattle.ss_landmarks.specs.Landmark.{all_values};
 ghost use Rattle.ss_landmarks.specs.Landmarks.{IsState as AreKnown};
+ghost use Rattle.ss_model.specs.Marks.{later};
 ghost use Rattle.ss_recover.specs.Held.{mark_slots, slots_held};
 ghost use Rattle.ss_store.specs.Changing.{CanTakeMark, HasSameWindows, HasRoomFor, HasTakenMark, KeepsWhole, TakesMark};
 ghost use Rattle.ss_store.specs.Marking.{CanMark, FitsMark, landmarks_after, mark_record, slots_after, slots_used, start_open, value_slots_after, values_open};
@@ -114,6 +115,16 @@ fn take_mark(landmarks: &mut Landmarks, slot: u32, t: u64, mark: Mark)
     let _count = landmarks.count();
 }
 
+// The later of a last time, where there is one, and another.
+fn later(last_time: Option<u64>, t: u64) -> u64
+    ensures { Some result ≡ later last_time (Some t) }
+{
+    match last_time {
+        Some(last) => last.max(t),
+        None => t,
+    }
+}
+
 /// Opens a landmark of a stream, adds a value to the open one, or closes it, as one transaction. There is room for what is
 /// kept of it.
 pub fn put_mark<D: Disk>(
@@ -144,6 +155,6 @@ pub fn put_mark<D: Disk>(
         Mark::Close => replace_record(records, disk, slot, &written)?,
     }
     take_mark(&mut part.landmarks, slot, t, mark);
-    part.last_time = Some(t);
+    part.last_time = Some(later(part.last_time, t));
     Ok(())
 }

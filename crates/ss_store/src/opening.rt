@@ -16,16 +16,16 @@ ghost use Rattle.ss_store.specs.Errors.{verdict_of_opening};
 ghost use Rattle.ss_query.specs.Reading.{verdict_of_read};
 ghost use Rattle.ss_store.specs.Kept.{entry_of};
 ghost use Rattle.ss_store.specs.Rebuilt.{ReadsAll};
-ghost use Rattle.ss_store.specs.Scheduled.{IsKeyedFor, IsScheduled};
+ghost use Rattle.ss_store.specs.Indexed.{IsKeyedFor, IsScheduled};
 
 use crate::OpenError;
 use crate::closing::close_windows;
+use crate::index::Index;
 use ss_catalog::Catalog;
 use ss_outside::Disk;
 use ss_query::ReadError;
 use ss_records::Records;
 use ss_recover::{Parts, StreamParts, rebuild};
-use ss_schedule::Schedule;
 use ss_steps::Steps;
 use std::alloc::{AllocError, Global};
 use std::sync::ledger::Ledger;
@@ -67,19 +67,19 @@ pub fn close_all<D: Disk, L: Ledger>(
     records: &mut Records,
     disk: &mut D,
     streams: &mut [StreamParts],
-    schedules: &mut [Schedule],
+    indexes: &mut [Index],
     steps: &mut Steps<L>,
 ) -> Result<(), ReadError>
     requires settled { IsSettled records.old.journal }
     requires whole { AreWhole streams.old records.old.live }
-    requires keyed { AllZip IsKeyedFor streams.old schedules.old }
+    requires keyed { AllZip IsKeyedFor streams.old indexes.old }
     requires one_disk { OfContent (D.seen disk.old) (AreKept records.old) }
     ensures closes { Step (verdict_of_read result) (D.seen disk.old) (D.seen disk.new)
         (ClosesAll streams.old streams.new records.new result) }
     ensures entries { map entry_of streams.new ≡ map entry_of streams.old }
     ensures whole { OnOk result (AreWhole streams.new records.new.live) }
     ensures settled { OnOk result (IsSettled records.new.journal) }
-    ensures scheduled { OnOk result (AllZip IsScheduled streams.new schedules.new) }
+    ensures scheduled { OnOk result (AllZip IsScheduled streams.new indexes.new) }
     ensures changed { SomeChangedIsHeld (verdict_of_read result) streams.new }
 {
     for place in 0..streams.len() {
@@ -87,7 +87,7 @@ pub fn close_all<D: Disk, L: Ledger>(
             records,
             disk,
             &mut streams[place],
-            &mut schedules[place],
+            &mut indexes[place],
             steps,
         )?;
     }
@@ -99,21 +99,21 @@ pub fn settle_all<D: Disk, L: Ledger>(
     records: &mut Records,
     disk: &mut D,
     streams: &mut [StreamParts],
-    schedules: &mut [Schedule],
+    indexes: &mut [Index],
     steps: &mut Steps<L>,
 ) -> Result<(), ReadError>
     requires running { IsRunning records.old.journal }
     requires whole { AreWhole streams.old records.old.live }
-    requires keyed { AllZip IsKeyedFor streams.old schedules.old }
+    requires keyed { AllZip IsKeyedFor streams.old indexes.old }
     requires one_disk { OfContent (D.seen disk.old) (AreKept records.old) }
     ensures closes { Step (verdict_of_read result) (D.seen disk.old) (D.seen disk.new)
         (ClosesAll streams.old streams.new records.new result) }
     ensures entries { map entry_of streams.new ≡ map entry_of streams.old }
     ensures whole { OnOk result (AreWhole streams.new records.new.live) }
     ensures settled { OnOk result (IsSettled records.new.journal) }
-    ensures scheduled { OnOk result (AllZip IsScheduled streams.new schedules.new) }
+    ensures scheduled { OnOk result (AllZip IsScheduled streams.new indexes.new) }
     ensures changed { SomeChangedIsHeld (verdict_of_read result) streams.new }
 {
     records.settle(disk)?;
-    close_all(records, disk, streams, schedules, steps)
+    close_all(records, disk, streams, indexes, steps)
 }

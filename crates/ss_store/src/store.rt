@@ -9,22 +9,22 @@ mod open;
 mod read;
 mod times;
 
+use crate::index::Index;
 use crate::place::place_of;
 use ss_catalog::{Catalog, StreamId};
 use ss_records::Records;
 use ss_recover::StreamParts;
-use ss_schedule::Schedule;
 use std::marker::Model;
 
 /// Named streams on a disk that the store doesn't hold: each call takes the disk, as the last such call left it. In memory it
-/// keeps of each stream what its record says, of each window the positions and the slot, and of each two neighbouring windows
-/// when they first lie together in one target window. docs/DEFINITIONS.md has what a
-/// content stands for, and which events are refused. After a call that answers `Disk` or `Changed` the store has stopped.
+/// keeps of each stream what its record says, of each window the positions, the times and the slot, and of each two neighbouring
+/// windows when they first lie together in one target window. docs/DEFINITIONS.md has what a content stands for, and which
+/// events are refused. After a call that answers `Disk` or `Changed` the store has stopped.
 #[derive(Drop)]
 pub struct Store {
     streams: Vec<StreamParts>,
-    // The schedule of each stream, at its place.
-    schedules: Vec<Schedule>,
+    // The index of each stream, at its place.
+    indexes: Vec<Index>,
     catalog: Catalog,
     records: Records,
     stopped: bool,
@@ -34,7 +34,7 @@ impl Model for Store {
     ghost use Rattle.std.specs.Prelude.{◌≡◌, false};
     ghost use Rattle.std.specs.List.{AllZip};
     ghost use Rattle.ss_store.specs.Kept.{IsSound, StoreState};
-    ghost use Rattle.ss_store.specs.Scheduled.{IsScheduled};
+    ghost use Rattle.ss_store.specs.Indexed.{IsScheduled};
 
     ghost Value = { StoreState };
 
@@ -42,7 +42,7 @@ impl Model for Store {
 
     ghost invariant = { λ s.
         IsSound (record { streams = s.streams.items; records = s.records; stopped = s.stopped }) s.catalog
-        × (s.stopped ≡ false → AllZip IsScheduled s.streams.items s.schedules.items) };
+        × (s.stopped ≡ false → AllZip IsScheduled s.streams.items s.indexes.items) };
 }
 
 impl Store {

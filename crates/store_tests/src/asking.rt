@@ -3,7 +3,7 @@ use crate::applying::READINGS;
 use crate::passing::pass;
 use crate::running::Asked::{Close, Create, Open, Value};
 use crate::running::{DOUBLING, IN_TWOS, Question, Row};
-use crate::steps::Step::{self, Play, Reopen, Stop, Tell, Untold};
+use crate::steps::Step::{self, Crowd, Play, Reopen, Stop, Tell, Untold};
 use crate::steps::first_wrong;
 use ss_bounds::Extreme::{Maybe, Nothing, Sure};
 use ss_catalog::{Kind, Params, Refusal};
@@ -129,11 +129,11 @@ const UNANSWERED: [(Question, AskError); 5] = [
     ((b'x', Kind::Sum, 4, 5), Refused(Refusal::Unknown)),
     ((b'x', Kind::Sum, 5, 4), Refused(Refusal::Unknown)),
     ((b'a', Kind::Sum, 5, 4), Refused(Refusal::Range)),
-    ((b'a', Kind::Count, 0, 9), Disk),
-    ((b'a', Kind::Count, 0, 9), Stopped),
+    ((b'a', Kind::Count, 0, 10), Disk),
+    ((b'a', Kind::Count, 0, 10), Stopped),
 ];
 
-const FAILING: [Step; 4] = [Play(&READINGS), Reopen, Stop(0), Untold(&UNANSWERED)];
+const FAILING: [Step; 5] = [Play(&READINGS), Crowd, Reopen, Stop(0), Untold(&UNANSWERED)];
 
 #[test]
 fn queries_fail(rt: HostRuntime) -> Result<(), Fail> {

@@ -21,17 +21,19 @@ type Marks = (u32, u32, Option<(u64, u32, u32)>, u64);
 
 const NO_MARKS: Marks = (0, 0, None, 101);
 
-// A stream as it is read: its number, the slot of its record, its last time, the first and the last position of each window
-// with its slot, and its landmarks.
-type Read = (u32, u32, Option<u64>, &'static [(u64, u64, u32)], Marks);
+// A window as it is held: the positions and the times of its first and its last value, and its slot.
+type HeldWindow = (u64, u64, u64, u64, u32);
+
+// A stream as it is read: its number, the slot of its record, its last time, its windows and its landmarks.
+type Read = (u32, u32, Option<u64>, &'static [HeldWindow], Marks);
 
 // Whether the entries of a line are these.
-fn has_entries<L: Ledger>(line: &Line, want: &[(u64, u64, u32)], blank: Blank) -> bool
+fn has_entries<L: Ledger>(line: &Line, want: &[HeldWindow], blank: Blank) -> bool
     requires { IsFresh L.name L.parts blank }
 {
     let mut steps = Steps::<L>::new(blank);
     let mut place = line.first();
-    for (first, last, slot) in want {
+    for (first, last, t_first, t_last, slot) in want {
         let at = match place {
             Some(at) => at,
             None => return false,
@@ -39,6 +41,8 @@ fn has_entries<L: Ledger>(line: &Line, want: &[(u64, u64, u32)], blank: Blank) -
         let entry = Entry {
             first: *first,
             last: *last,
+            t_first: *t_first,
+            t_last: *t_last,
             slot: *slot,
         };
         if line.get(at, &mut steps) != entry {
@@ -114,7 +118,13 @@ const WHOLE: [(&[Slot], &[Read]); 10] = [
             Window(0, 5, 2, 50, 60),
             Window(0, 7, 1, 70, 70),
         ],
-        &[(0, 0, Some(70), &[(1, 4, 1), (5, 6, 4), (7, 7, 5)], NO_MARKS)],
+        &[(
+            0,
+            0,
+            Some(70),
+            &[(1, 4, 10, 40, 1), (5, 6, 50, 60, 4), (7, 7, 70, 70, 5)],
+            NO_MARKS,
+        )],
     ),
     // the records stand in any order, and numbers may be left out
     (
@@ -128,8 +138,8 @@ const WHOLE: [(&[Slot], &[Read]); 10] = [
         ],
         &[
             (2, 5, None, &[], NO_MARKS),
-            (7, 4, Some(9), &[(1, 2, 3), (3, 3, 0)], NO_MARKS),
-            (9, 1, Some(5), &[(1, 1, 2)], NO_MARKS),
+            (7, 4, Some(9), &[(1, 2, 2, 8, 3), (3, 3, 9, 9, 0)], NO_MARKS),
+            (9, 1, Some(5), &[(1, 1, 5, 5, 2)], NO_MARKS),
         ],
     ),
     // two windows that wait for a merge
@@ -140,7 +150,13 @@ const WHOLE: [(&[Slot], &[Read]); 10] = [
             Window(0, 2, 1, 2, 2),
             Window(0, 3, 1, 3, 3),
         ],
-        &[(0, 0, Some(3), &[(1, 1, 1), (2, 2, 2), (3, 3, 3)], NO_MARKS)],
+        &[(
+            0,
+            0,
+            Some(3),
+            &[(1, 1, 1, 1, 1), (2, 2, 2, 2, 2), (3, 3, 3, 3, 3)],
+            NO_MARKS,
+        )],
     ),
     // a landmark with two values and one that is open, in any order, and windows before and between them
     (
@@ -158,7 +174,7 @@ const WHOLE: [(&[Slot], &[Read]); 10] = [
             0,
             3,
             Some(40),
-            &[(1, 1, 7), (2, 2, 4), (3, 3, 0)],
+            &[(1, 1, 5, 5, 7), (2, 2, 25, 25, 4), (3, 3, 30, 30, 0)],
             (2, 2, Some((40, 2, 0)), 29),
         )],
     ),
@@ -187,7 +203,13 @@ const WHOLE: [(&[Slot], &[Read]); 10] = [
             Value(0, 1, 1, 15, 3),
             Stream(0, b'a'),
         ],
-        &[(0, 5, Some(40), &[(1, 4, 1), (5, 5, 0)], (2, 1, None, 89))],
+        &[(
+            0,
+            5,
+            Some(40),
+            &[(1, 4, 8, 22, 1), (5, 5, 40, 40, 0)],
+            (2, 1, None, 89),
+        )],
     ),
     // more than nine landmarks, and of one more than nine values
     (
@@ -230,8 +252,8 @@ const WHOLE: [(&[Slot], &[Read]); 10] = [
             Window(4, 1, 1, 4, 4),
         ],
         &[
-            (3, 4, Some(8), &[(1, 1, 6)], (1, 1, None, 98)),
-            (4, 5, Some(6), &[(1, 1, 7)], (1, 1, None, 99)),
+            (3, 4, Some(8), &[(1, 1, 8, 8, 6)], (1, 1, None, 98)),
+            (4, 5, Some(6), &[(1, 1, 4, 4, 7)], (1, 1, None, 99)),
         ],
     ),
 ];

@@ -118,6 +118,29 @@ pub fn play(running: &mut Running, rows: &[Row]) -> usize {
     rows.len()
 }
 
+/// Whether another stream, `z`, takes so many values in a landmark that the first pages of slots aren't among those that are
+/// cached once the store is opened again.
+pub fn crowd(running: &mut Running) -> bool {
+    let begun = play(
+        running,
+        &[
+            (b'z', Create(DOUBLING), Ok((0, 0))),
+            (b'z', Open(1), Ok((0, 0))),
+        ],
+    );
+    begun == 2 && fill(running, b'z', 1, 2081)
+}
+
+/// Whether the open landmark of a stream without windows takes a value at each time from the first one to before the end.
+pub fn fill(running: &mut Running, letter: u8, first: u64, end: u64) -> bool {
+    for t in first..end {
+        if answered(running, letter, Value(t, 0)) != Some(Ok((0, 0))) {
+            return false;
+        }
+    }
+    true
+}
+
 /// What a query is answered. `None` is for what is no query, and for a call of the disk where it is refused or the store has
 /// stopped.
 pub fn told(running: &mut Running, question: Question) -> Option<Result<Outcome, AskError>> {

@@ -2,8 +2,8 @@
 use crate::changed::{Taken, take};
 use crate::images::{FORMATTED, Slot, image};
 use crate::running::{
-    Answer, Asked, Question, Row, Running, Said, answered, fresh, held, only, opened, play, reopen,
-    surveyed, told, window_read,
+    Answer, Asked, Question, Row, Running, Said, answered, crowd, fresh, held, only, opened, play,
+    reopen, surveyed, told, window_read,
 };
 use crate::silent::Silent;
 use ss_catalog::{Kind, LAST_TIME};
@@ -19,14 +19,19 @@ pub enum Step {
     Fresh,
     /// From here on it is another store, on a file that has these slots.
     Made(&'static [Slot]),
-    /// From here on it is another store, which has taken these and was opened again, so that it reads each record in its slot.
+    /// From here on it is another store, which has taken these and was opened again, so that it reads each record in its slot,
+    /// of which none is cached.
     Settled(Taken),
+    /// Another stream takes so much that no record of the first slots is cached once the store is opened again.
+    Crowd,
     /// An event of the stream whose name is a letter is answered so.
     Apply(u8, Asked, Answer),
     /// These events are answered so.
     Play(&'static [Row]),
     /// These queries are answered so.
     Tell(&'static [(Question, Outcome)]),
+    /// These queries are answered so, each by at most so many calls of the disk.
+    Within(&'static [(Question, Outcome, u64)]),
     /// These queries are not answered, and why.
     Untold(&'static [(Question, AskError)]),
     /// `a` has so many values, or why they are not counted.
@@ -54,13 +59,27 @@ pub enum Step {
 }
 
 use Step::{
-    Apply, Clear, Counts, Crash, EndAt, Fresh, Holds, Lists, Made, MoveTo, Play, Reads, Reopen,
-    Settled, Stop, Surveys, Tell, Untold,
+    Apply, Clear, Counts, Crash, Crowd, EndAt, Fresh, Holds, Lists, Made, MoveTo, Play, Reads,
+    Reopen, Settled, Stop, Surveys, Tell, Untold, Within,
 };
 
 fn are_told(running: &mut Running, rows: &[(Question, Outcome)]) -> bool {
     for (question, outcome) in rows {
         if told(running, *question) != Some(Ok(*outcome)) {
+            return false;
+        }
+    }
+    true
+}
+
+fn are_told_within(running: &mut Running, rows: &[(Question, Outcome, u64)]) -> bool {
+    for (question, outcome, most) in rows {
+        let (before, _) = running.disk.calls();
+        if told(running, *question) != Some(Ok(*outcome)) {
+            return false;
+        }
+        let (after, _) = running.disk.calls();
+        if after.saturating_sub(before) > *most {
             return false;
         }
     }
@@ -114,7 +133,7 @@ fn make(alloc: Global, running: &mut Running, slots: &[Slot]) -> Result<bool, Op
 
 fn settle(alloc: Global, running: &mut Running, taken: Taken) -> Result<bool, OpenError> {
     renew(alloc, running)?;
-    Ok(take(running, taken) && reopen(alloc, running).is_ok())
+    Ok(take(running, taken) && crowd(running) && reopen(alloc, running).is_ok())
 }
 
 fn crash(alloc: Global, running: &mut Running, choice: Choice) -> Result<bool, OpenError> {
@@ -133,9 +152,11 @@ fn comes(alloc: Global, running: &mut Running, step: Step) -> Result<bool, OpenE
         Fresh => renew(alloc, running),
         Made(slots) => make(alloc, running, slots),
         Settled(taken) => settle(alloc, running, taken),
+        Crowd => Ok(crowd(running)),
         Apply(letter, asked, answer) => Ok(answered(running, letter, asked) == Some(answer)),
         Play(rows) => Ok(play(running, rows) == rows.len()),
         Tell(rows) => Ok(are_told(running, rows)),
+        Within(rows) => Ok(are_told_within(running, rows)),
         Untold(rows) => Ok(are_untold(running, rows)),
         Counts(want) => Ok(is_counted(running, want)),
         Reads(is_second, want) => Ok(window_read(running, is_second) == Some(want)),

@@ -2,7 +2,7 @@
 use super::Store;
 use super::times::is_past;
 use crate::ApplyError;
-use crate::appending::{append_value, make_room};
+use crate::appending::append_value;
 use crate::closing::values_held;
 use crate::place::place_of;
 use ss_catalog::{LAST_TIME, Name, Refusal};
@@ -78,8 +78,8 @@ impl Store {
             Err(refusal) => return Err(ApplyError::Refused(refusal)),
         };
         let stream = &mut self.streams[place];
-        let schedule = &mut self.schedules[place];
-        match make_room(&mut stream.line, schedule) {
+        let index = &mut self.indexes[place];
+        match index.reserve_window(&mut stream.line, t) {
             Ok(()) => {}
             Err(_) => return Err(ApplyError::OutOfMemory),
         }
@@ -87,7 +87,7 @@ impl Store {
             &mut self.records,
             disk,
             stream,
-            schedule,
+            index,
             slot,
             t,
             v,

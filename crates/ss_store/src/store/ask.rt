@@ -5,7 +5,7 @@ use crate::place::place_of;
 use ss_catalog::{Query, Refusal, StreamId};
 use ss_model::Outcome;
 use ss_outside::Disk;
-use ss_query::answer;
+use ss_query::answer_from;
 
 impl Store {
     ghost use Rattle.std.specs.Prelude.{◌≡◌, ◌≢◌, ◌≤◌, ◌↔◌, true, false, Some, IsSome, IfOk, IfSome, OnOk, IfErr, Err, None};
@@ -21,8 +21,8 @@ impl Store {
     ghost use Rattle.ss_store.specs.Errors.{verdict_of_ask};
     ghost use Rattle.ss_store.specs.Kept.{StoreIsKept, part_named, part_numbered};
 
-    /// Answers a query, by what the windows of its stream say. It writes nothing, and takes no memory. A refusal is the first
-    /// that applies, and makes no call of the disk.
+    /// Answers a query, by what the windows of its stream say that have times in the range. It writes nothing, and takes no
+    /// memory. A refusal is the first that applies, and makes no call of the disk.
     pub fn ask<D: Disk>(&mut self, disk: &mut D, query: &Query) -> Result<Outcome, AskError>
         requires one_disk { StandsOn self.old (D.seen disk.old) }
         // The answer of the state that the content recovers to. It holds the truth over all values of the stream.
@@ -88,8 +88,10 @@ impl Store {
         ensures unrefused { (r : Refusal) → result ≢ Err (AskError.Refused r) }
     {
         let _live = self.records.live();
-        let stream = &self.streams[place_of(&self.streams, id)];
-        match answer(stream, &mut self.records, disk, query) {
+        let place = place_of(&self.streams, id);
+        let stream = &self.streams[place];
+        let start = self.indexes[place].start(stream, query.from);
+        match answer_from(stream, start, &mut self.records, disk, query) {
             Ok(outcome) => Ok(outcome),
             Err(error) => {
                 self.stopped = true;

@@ -6,6 +6,7 @@ ghost use Rattle.ss_target.specs.Lengths.{has_target};
 
 use super::Store;
 use crate::ApplyError;
+use crate::index::Index;
 use crate::place::next_id;
 use crate::writing::add_record;
 use ss_catalog::{Catalog, Name, Params, Refusal, StreamId};
@@ -15,36 +16,35 @@ use ss_line::Line;
 use ss_model::Ack;
 use ss_outside::{Disk, Failed};
 use ss_recover::StreamParts;
-use ss_schedule::Schedule;
 use ss_target::Target;
 use std::alloc::AllocError;
 
-// Puts a stream and its schedule last, and its name into the catalog, which is the last to grow. An error leaves all as they
+// Puts a stream and its index last, and its name into the catalog, which is the last to grow. An error leaves all as they
 // were.
 fn grow(
     streams: &mut Vec<StreamParts>,
-    schedules: &mut Vec<Schedule>,
+    indexes: &mut Vec<Index>,
     catalog: &mut Catalog,
     stream: StreamParts,
-    schedule: Schedule,
+    index: Index,
     name: Name,
     id: StreamId,
 ) -> Result<(), AllocError>
     ensures streams { OnOk result (streams.new.items ≡ streams.old.items ++ stream ∷ []) }
-    ensures schedules { OnOk result (schedules.new.items ≡ schedules.old.items ++ schedule ∷ []) }
+    ensures indexes { OnOk result (indexes.new.items ≡ indexes.old.items ++ index ∷ []) }
     ensures catalog { OnOk result (catalog.new ≡ catalog.old ++ (name, id) ∷ []) }
     ensures err_streams { OnErr result (streams.new.items ≡ streams.old.items) }
-    ensures err_schedules { OnErr result (schedules.new.items ≡ schedules.old.items) }
+    ensures err_indexes { OnErr result (indexes.new.items ≡ indexes.old.items) }
     ensures err_catalog { OnErr result (catalog.new ≡ catalog.old) }
 {
     streams.reserve(1)?;
-    schedules.reserve(1)?;
+    indexes.reserve(1)?;
     match catalog.add(name, id) {
         Ok(()) => {}
         Err(_) => return Err(AllocError),
     }
     streams.push(stream).unwrap();
-    schedules.push(schedule).unwrap();
+    indexes.push(index).unwrap();
     Ok(())
 }
 
@@ -125,10 +125,10 @@ impl Store {
         };
         match grow(
             &mut self.streams,
-            &mut self.schedules,
+            &mut self.indexes,
             &mut self.catalog,
             stream,
-            Schedule::new(alloc, target),
+            Index::new(alloc, target),
             name,
             id,
         ) {

@@ -1,8 +1,8 @@
 // Opening a store.
 use super::Store;
 use crate::OpenError;
+use crate::indexing::indexes_of;
 use crate::opening::{catalog_of, read_all, settle_all};
-use crate::scheduling::schedules_of;
 use ss_outside::Disk;
 use ss_steps::Steps;
 use std::alloc::Global;
@@ -41,11 +41,11 @@ impl Store {
         let (mut records, mut streams) = read_all(alloc, disk)?;
         let catalog = catalog_of(alloc, &streams)?;
         let mut steps = Steps::<L>::new(blank);
-        let mut schedules = schedules_of(alloc, &streams, &mut steps)?;
-        settle_all(&mut records, disk, &mut streams, &mut schedules, &mut steps)?;
+        let mut indexes = indexes_of(alloc, &streams, &mut steps)?;
+        settle_all(&mut records, disk, &mut streams, &mut indexes, &mut steps)?;
         Ok(Store {
             streams,
-            schedules,
+            indexes,
             catalog,
             records,
             stopped: false,

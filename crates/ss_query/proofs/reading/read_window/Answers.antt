@@ -9,7 +9,7 @@ use Rattle.ss_query.proofs.reading.read_window.Goals as goal
 pub returns-in-Some-clause-reads : goal.returns-in-Some-clause-reads
 returns-in-Some-clause-reads g c =
     step-as c.in_ok-bytes.ensures.reads (λ read. record {
-      window = λ others w has same free.
+      window = λ others w has same times free.
           let spelled : c.decode.result ≡ Some (window_record c.args.part.now.id.0 w) =
           c.decode.ensures.exact ∙ ap decoded (read.bytes has.found has.map)
           ∙ HasRecords-spelled c.args.entry.slot (window_record c.args.part.now.id.0 w) others _ has in
@@ -26,7 +26,7 @@ returns-in_default-clause-reads g c = record {
   told = λ told.
       let read = c.in_ok-bytes.ensures.reads.told told in
       record {
-        window = λ others w has same free.
+        window = λ others w has same times free.
             let spelled : c.decode.result ≡ Some (window_record c.args.part.now.id.0 w) =
             c.decode.ensures.exact ∙ ap decoded (read.bytes has.found has.map)
             ∙ HasRecords-spelled c.args.entry.slot (window_record c.args.part.now.id.0 w) others _ has in
@@ -36,7 +36,7 @@ returns-in_default-clause-reads g c = record {
                   c.decode.result spelled b.in-Some.ensures.some.0 free in
                   let wrong : false ≡ true = sym b.if-is_free.false ∙ b.is_free.ensures ∙ lies in
                   cc)
-              | in_default-via-in_default b ↦ b.in_default.ensures.none w spelled same
+              | in_default-via-in_default b ↦ b.in_default.ensures.none w spelled same times
             ];
         kept = read.kept;
         reads = read.reads;

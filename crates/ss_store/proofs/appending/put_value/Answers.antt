@@ -18,8 +18,10 @@ use Rattle.ss_recover.specs.Held.{entries_of}
 use Rattle.ss_recover.specs.declared.parts.StreamParts.{StreamParts}
 use Rattle.ss_store.specs.Held.{IsHalfway, values_held, with_single}
 use Rattle.ss_query.specs.Held.{IsHeldIn}
-use Rattle.ss_store.proofs.Additions.{IsAdded, LiveSlotsGo-added, TileFrom-added, Turns-added, single_entry, values_held-added}
+use Rattle.ss_store.specs.Indexed.{begun_at}
+use Rattle.ss_store.proofs.Additions.{IsAdded, IsOrdered-added, LiveSlotsGo-added, TileFrom-added, Turns-added, single_entry, values_held-added}
 use Rattle.ss_store.proofs.KeyedWindows.{FollowUpTo-take, FollowUpTo-tiles, NoPairFits-spans, take-all}
+use Rattle.ss_store.proofs.Rising.{IsTimed-added}
 use Rattle.ss_store.proofs.Calls.{Turns-answers, Turns-failed}
 use Rattle.ss_store.proofs.appending.put_value.Goals as goal
 
@@ -34,7 +36,7 @@ abbrev added_part : StreamParts → ℕ → ℕ → StreamParts
 added_part part slot t =
     record part {
       last_time = Some t;
-      line = record { entries = part.line.entries ++ (record { 0 = 0 }, single_entry (values_held (entries_of part) + 1) slot) ∷ []; spare = 0 };
+      line = record { entries = part.line.entries ++ (record { 0 = 0 }, single_entry (values_held (entries_of part) + 1) t slot) ∷ []; spare = 0 };
     }
 
 added_part-added : (part : StreamParts) (slot t : ℕ) → IsAdded part (added_part part slot t) slot t
@@ -45,7 +47,7 @@ added_part-added part slot t = record {
   own_slot = refl;
   landmarks = refl;
   last_time = refl;
-  entries = map-append (λ (e : At × Entry). e.1) part.line.entries ((record { 0 = 0 }, single_entry (values_held (entries_of part) + 1) slot) ∷ []);
+  entries = map-append (λ (e : At × Entry). e.1) part.line.entries ((record { 0 = 0 }, single_entry (values_held (entries_of part) + 1) t slot) ∷ []);
 }
 
 pub returns-in_err-add_record-clause-puts : goal.returns-in_err-add_record-clause-puts
@@ -69,7 +71,7 @@ returns-in_err-add_record-clause-puts g c =
     }))
 
 added : (part : StreamParts) (line : LineState) (at : At) (before slot t : ℕ) →
-    line.entries ≡ part.line.entries ++ (at, single_entry (before + 1) slot) ∷ [] → before ≡ values_held (entries_of part) →
+    line.entries ≡ part.line.entries ++ (at, single_entry (before + 1) t slot) ∷ [] → before ≡ values_held (entries_of part) →
     IsAdded part (record part { last_time = Some t; line = line }) slot t
 added part line at before slot t pushed all = record {
   id = refl;
@@ -79,8 +81,8 @@ added part line at before slot t pushed all = record {
   landmarks = refl;
   last_time = refl;
   entries = ap (λ (es : List (At × Entry)). map (λ (e : At × Entry). e.1) es) pushed
-      ∙ map-append (λ (e : At × Entry). e.1) part.line.entries ((at, single_entry (before + 1) slot) ∷ [])
-      ∙ ap (λ n. entries_of part ++ single_entry (n + 1) slot ∷ []) all;
+      ∙ map-append (λ (e : At × Entry). e.1) part.line.entries ((at, single_entry (before + 1) t slot) ∷ [])
+      ∙ ap (λ n. entries_of part ++ single_entry (n + 1) t slot ∷ []) all;
 }
 
 pub returns-clause-puts : goal.returns-clause-puts
@@ -118,9 +120,9 @@ returns-clause-whole g c =
     let new = record part { last_time = Some c.args.t; line = c.push-at.new.self } in
     let done = c.in_ok-add_record.ensures in
     record {
-      tiles = TileFrom-added part new c.args.slot c.args.t
+      ordered = IsOrdered-added part new c.args.slot c.args.t
           (added part c.push-at.new.self c.push-at.result c.values_held-position.result c.args.slot c.args.t c.push-at.ensures.pushed
-          c.values_held-position.ensures) c.requires.can.tiles c.requires.can.room;
+          c.values_held-position.ensures) c.requires.can.ordered c.requires.can.room c.requires.can.later;
       live = LiveSlotsGo-added part new c.args.slot c.args.t
           (added part c.push-at.new.self c.push-at.result c.values_held-position.result c.args.slot c.args.t c.push-at.ensures.pushed
           c.values_held-position.ensures) c.args.records.now.live c.add_record.new.records.live done.live;
@@ -128,22 +130,26 @@ returns-clause-whole g c =
       extent = done.extent;
     }
 
+pub add_window-requires-clause-room : goal.add_window-requires-clause-room
+add_window-requires-clause-room g c = omega (arith, c.push-at.ensures.below, c.requires.can.reserved.places)
+
 pub add_window-requires-clause-keyed : goal.add_window-requires-clause-keyed
 add_window-requires-clause-keyed g c =
     let part = c.args.part.now in
-    let keyed = c.requires.scheduled.0 in
-    let entry : Entry = single_entry (c.values_held-position.result + 1) c.args.slot in
+    let ready = c.requires.can.reserved in
+    let entry : Entry = single_entry (c.values_held-position.result + 1) c.args.t c.args.slot in
     let index = index-once part.line.entries c.push-at.result entry [] (fresh-none part.line.entries c.push-at.result c.push-at.ensures.fresh) in
-    let none : NoPairFits (lengths c.args.schedule.now) (values_held (entries_of part)) part.line.entries =
-    rw keyed.target (NoPairFits-spans (lengths_of (params_of part.target)) (values_held (entries_of part)) part.line.entries c.requires.scheduled.1) in
-    let later : IsKeyed (values_held (entries_of part) + 1) part.line.entries c.args.schedule.now =
-    IsKeyed-next (values_held (entries_of part)) part.line.entries c.args.schedule.now (lengths-positive c.args.schedule.now.target) c.requires.can.room keyed.keyed none in
+    let none : NoPairFits (lengths c.args.index.now.schedule) (values_held (entries_of part)) part.line.entries =
+    rw ready.target (NoPairFits-spans (lengths_of (params_of part.target)) (values_held (entries_of part)) part.line.entries ready.none_due) in
+    let later : IsKeyed (values_held (entries_of part) + 1) part.line.entries c.args.index.now.schedule =
+    IsKeyed-next (values_held (entries_of part)) part.line.entries c.args.index.now.schedule (lengths-positive c.args.index.now.schedule.target)
+    c.requires.can.room ready.keyed none in
     let front : take (index_of c.push-at.new.self.entries c.push-at.result) c.push-at.new.self.entries ≡ part.line.entries =
     ap (λ es. take (index_of es c.push-at.result) es) c.push-at.ensures.pushed
     ∙ ap (λ k. take k (part.line.entries ++ (c.push-at.result, entry) ∷ [])) index ∙ take-seam part.line.entries ((c.push-at.result, entry) ∷ []) in
-    subst (λ n. IsKeyed (n + 1) (take (index_of c.push-at.new.self.entries c.push-at.result) c.push-at.new.self.entries) c.args.schedule.now)
+    subst (λ n. IsKeyed (n + 1) (take (index_of c.push-at.new.self.entries c.push-at.result) c.push-at.new.self.entries) c.args.index.now.schedule)
     (sym c.values_held-position.ensures)
-    (subst (λ es. IsKeyed (values_held (entries_of part) + 1) es c.args.schedule.now) (sym front) later)
+    (subst (λ es. IsKeyed (values_held (entries_of part) + 1) es c.args.index.now.schedule) (sym front) later)
 
 pub add_window-requires-clause-follow : goal.add_window-requires-clause-follow
 add_window-requires-clause-follow g c =
@@ -154,13 +160,13 @@ add_window-requires-clause-follow g c =
     let all = values_held-added part new c.args.slot c.args.t is in
     FollowUpTo-take (c.values_held-position.result + 1) _ c.push-at.new.self.entries
     (FollowUpTo-tiles (c.values_held-position.result + 1) c.push-at.new.self.entries
-    (TileFrom-added part new c.args.slot c.args.t is c.requires.can.tiles c.requires.can.room) (omega (arith, all, c.values_held-position.ensures)))
+    (TileFrom-added part new c.args.slot c.args.t is c.requires.can.ordered.tiles c.requires.can.room) (omega (arith, all, c.values_held-position.ensures)))
 
 pub returns-clause-keyed : goal.returns-clause-keyed
 returns-clause-keyed g c =
     let part = c.args.part.now in
     let new = c.push-at.new.self in
-    let entry : Entry = single_entry (c.values_held-position.result + 1) c.args.slot in
+    let entry : Entry = single_entry (c.values_held-position.result + 1) c.args.t c.args.slot in
     let index : index_of new.entries c.push-at.result ≡ length part.line.entries =
     ap (λ es. index_of es c.push-at.result) c.push-at.ensures.pushed
     ∙ index-once part.line.entries c.push-at.result entry [] (fresh-none part.line.entries c.push-at.result c.push-at.ensures.fresh) in
@@ -170,7 +176,9 @@ returns-clause-keyed g c =
     let whole : take (index_of new.entries c.push-at.result + 1) new.entries ≡ new.entries =
     take-all new.entries (index_of new.entries c.push-at.result + 1) (omega (arith, long, index)) in
     record {
-      target = c.add_window.ensures.target ∙ c.requires.scheduled.0.target;
-      keyed = subst (λ n. IsKeyed n new.entries c.add_window.new.self) (omega (arith, all, c.values_held-position.ensures))
-          (subst (λ es. IsKeyed (c.values_held-position.result + 1) es c.add_window.new.self) whole c.add_window.ensures.keyed);
+      target = c.add_window.ensures.target ∙ c.requires.can.reserved.target;
+      keyed = subst (λ n. IsKeyed n new.entries c.add_window.new.self.schedule) (omega (arith, all, c.values_held-position.ensures))
+          (subst (λ es. IsKeyed (c.values_held-position.result + 1) es c.add_window.new.self.schedule) whole c.add_window.ensures.keyed);
+      timed = IsTimed-added part.line.entries new.entries c.add_window.new.self.times c.push-at.result entry c.args.t c.push-at.ensures.pushed refl
+          (c.add_window.ensures.placed (map begun_at part.line.entries) (record { 0 = 0 }) c.requires.can.reserved.noted);
     }

@@ -22,7 +22,7 @@ loop-pair-init g c = (
     step = step-none (g.D.Disk.seen c.args.disk.now) _ (λ told.
         JoinsWindows-none c.args.part.now c.args.records.now _ (g.met.D.Disk.knows_now c.args.disk.now told) (c.requires.one_disk told));
     same = record { id = refl; name = refl; target = refl; slot = refl; landmarks = refl };
-    whole = KeepsWhole-none c.args.part.now c.args.records.now c.requires.tiles c.requires.settled;
+    whole = KeepsWhole-none c.args.part.now c.args.records.now c.requires.ordered c.requires.settled;
     holds = record { values = refl; last_time = refl };
   },
   c.requires.keyed,
@@ -30,20 +30,19 @@ loop-pair-init g c = (
 
 pub due-requires : goal.due-requires
 due-requires g c =
-    subst (λ n. IsKeyed n c.loop-pair.part.line.entries c.loop-pair.schedule)
+    subst (λ n. IsKeyed n c.loop-pair.part.line.entries c.loop-pair.index.schedule)
     (c.loop-pair.invariant.0.holds.values ∙ sym c.values_held-n.ensures) c.loop-pair.invariant.1.keyed
 
 pub join-requires-clause-due : goal.join-requires-clause-due
 join-requires-clause-due g c = record {
+  ordered = c.loop-pair.invariant.0.whole.ordered;
+  keyed = c.loop-pair.invariant.1;
   stands = c.in-Some.ensures.pair;
   fits = rw (c.loop-pair.invariant.0.holds.values, ← c.values_held-n.ensures, ← c.loop-pair.invariant.1.target) c.in-Some.ensures.fits;
 }
 
 pub join-requires-clause-settled : goal.join-requires-clause-settled
 join-requires-clause-settled g c = c.loop-pair.invariant.0.whole.settled
-
-pub join-requires-clause-tiles : goal.join-requires-clause-tiles
-join-requires-clause-tiles g c = c.loop-pair.invariant.0.whole.tiles
 
 pub join-requires-clause-live : goal.join-requires-clause-live
 join-requires-clause-live g c =

@@ -1,11 +1,11 @@
 use Rattle.std.proofs.Common.{length}
-use Rattle.ss_store.specs.Scheduled.{IsKeyedFor}
+use Rattle.ss_store.specs.Indexed.{IsKeyedFor}
 use Rattle.ss_store.proofs.Wholes.{IsClosing}
 use Rattle.ss_store.proofs.closing.close_windows.Given as goal
 
 abbrev pub invariant-loop-pair : goal.invariant-loop-pair
 invariant-loop-pair g l =
-    IsClosing (g.D.Disk.seen l.fn.disk) (g.D.Disk.seen l.disk) l.fn.records l.records l.fn.part l.part × IsKeyedFor l.part l.schedule
+    IsClosing (g.D.Disk.seen l.fn.disk) (g.D.Disk.seen l.disk) l.fn.records l.records l.fn.part l.part × IsKeyedFor l.part l.index
 
 abbrev pub decreases-loop-pair : goal.decreases-loop-pair
 decreases-loop-pair g l = length l.part.line.entries

@@ -1,11 +1,13 @@
-use Rattle.std.proofs.Common.{◌∙◌, [], ◌∷◌, refl, sym, ap, subst, arith, Err}
+use Rattle.std.proofs.Common.{◌≡◌, ◌∙◌, ℕ, List, [], ◌∷◌, ◌++◌, map, refl, sym, ap, subst, arith, Err, MatchOption}
+use Rattle.ss_line.specs.declared.entry.At.{At}
+use Rattle.ss_line.specs.declared.entry.Entry.{Entry}
 use Rattle.std.proofs.lemmas.Result.{err_from_is_err_and}
 use Rattle.ss_codec.proofs.RecordLemmas.{is_valid-IsWindow}
 use Rattle.ss_summary.specs.Summaries.{joined}
 use Rattle.ss_schedule.specs.Keyed.{IsKeyed}
 use Rattle.ss_target.specs.Lengths.{lengths_of}
 use Rattle.ss_target.specs.Targets.{params_of}
-use Rattle.ss_recover.specs.Held.{TileFrom, entries_of}
+use Rattle.ss_recover.specs.Held.{TileFrom, TimesRise, entries_of}
 use Rattle.ss_query.specs.Reading.{IsRead}
 use Rattle.ss_journal.proofs.StepLemmas.{step-from, step-next}
 use Rattle.ss_store.specs.Held.{IsPartlyJoined, values_held}
@@ -14,31 +16,37 @@ use Rattle.ss_store.specs.Joining.{IsJoinedIn}
 use Rattle.ss_store.specs.Slots.{AreSomeLive, LiveSlotsGo}
 use Rattle.ss_store.proofs.Calls.{Turns-answers, Turns-failed}
 use Rattle.ss_store.proofs.Joinings.{AreSomeLive-two, IfChanged-window, IsFirm-read, LiveSlotsGo-two, Turns-join, Turns-not_read, read-held}
-use Rattle.ss_store.proofs.Pairs.{AreJoined, ArePair-read, AreSlots-joined, JoinsHeld-pair, StandsIn-left, StandsIn-right, joined_line, one_part, one_part-same}
+use Rattle.ss_store.proofs.Pairs.{AreJoined, ArePair-read, AreSlots-joined, JoinsHeld-pair, StandsIn-left}
+use Rattle.ss_store.proofs.Pairs.{StandsIn-right, joined_line, next_is, one_part, one_part-same}
 use Rattle.ss_store.proofs.KeyedWindows.{AreDue-pair}
+use Rattle.ss_store.specs.Indexed.{IsTimed, begun_at}
+use Rattle.ss_store.proofs.Rising.{IsTimed-joined, IsTimed-seam, rise-joined}
 use Rattle.ss_store.proofs.Spans.{TileFrom-joined, values_held-joined}
 use Rattle.ss_store.proofs.closing.join.Goals as goal
 
 pub get-window-requires : goal.get-window-requires
 get-window-requires g c =
     StandsIn-left (lengths_of (params_of c.args.part.now.target)) (values_held (entries_of c.args.part.now)) c.args.part.now.line.entries c.args.pair.left
-    c.args.pair.right (AreDue-pair c.args.part.now c.args.pair c.requires.due)
+    c.args.pair.right (AreDue-pair c.args.part.now c.args.index.now c.args.pair c.requires.due)
 
 pub get-next-requires : goal.get-next-requires
 get-next-requires g c =
     StandsIn-right (lengths_of (params_of c.args.part.now.target)) (values_held (entries_of c.args.part.now)) c.args.part.now.line.entries c.args.pair.left
-    c.args.pair.right (AreDue-pair c.args.part.now c.args.pair c.requires.due)
+    c.args.pair.right (AreDue-pair c.args.part.now c.args.index.now c.args.pair c.requires.due)
 
 pub read_joined-requires-clause-live : goal.read_joined-requires-clause-live
 read_joined-requires-clause-live g c =
-    let pair = ArePair-read c.args.part.now c.args.pair.left c.args.pair.right c.get-window.result c.get-next.result (AreDue-pair c.args.part.now c.args.pair c.requires.due) c.requires.tiles
+    let pair = ArePair-read c.args.part.now c.args.pair.left c.args.pair.right c.get-window.result c.get-next.result (AreDue-pair c.args.part.now
+    c.args.index.now c.args.pair c.requires.due) c.requires.due.ordered.tiles
     c.get-window.ensures.entry c.get-next.ensures.entry in
-    AreSomeLive-two c.args.part.now (one_part c.args.part.now (joined_line (AreDue-pair c.args.part.now c.args.pair c.requires.due))) c.get-window.result
+    AreSomeLive-two c.args.part.now (one_part c.args.part.now (joined_line (AreDue-pair c.args.part.now c.args.index.now c.args.pair c.requires.due)))
+    c.get-window.result
     c.get-next.result c.args.records.now.live pair.slots c.requires.live
 
 pub read_joined-requires-clause-neighbours : goal.read_joined-requires-clause-neighbours
 read_joined-requires-clause-neighbours g c =
-    let tiled = (ArePair-read c.args.part.now c.args.pair.left c.args.pair.right c.get-window.result c.get-next.result (AreDue-pair c.args.part.now c.args.pair c.requires.due) c.requires.tiles
+    let tiled = (ArePair-read c.args.part.now c.args.pair.left c.args.pair.right c.get-window.result c.get-next.result (AreDue-pair c.args.part.now
+    c.args.index.now c.args.pair c.requires.due) c.requires.due.ordered.tiles
     c.get-window.ensures.entry c.get-next.ensures.entry).tiled in
     record { first = tiled.first; side_by_side = tiled.next; few = omega (arith, tiled.last, tiled.few) }
 
@@ -47,9 +55,10 @@ returns-in_err-read_joined-clause-joins g c =
     let part = c.args.part.now in
     let w = c.get-window.result in
     let v = c.get-next.result in
-    let new = one_part part (joined_line (AreDue-pair c.args.part.now c.args.pair c.requires.due)) in
-    let same = one_part-same part (joined_line (AreDue-pair c.args.part.now c.args.pair c.requires.due)) in
-    let pair = ArePair-read part c.args.pair.left c.args.pair.right w v (AreDue-pair c.args.part.now c.args.pair c.requires.due) c.requires.tiles c.get-window.ensures.entry c.get-next.ensures.entry in
+    let new = one_part part (joined_line (AreDue-pair c.args.part.now c.args.index.now c.args.pair c.requires.due)) in
+    let same = one_part-same part (joined_line (AreDue-pair c.args.part.now c.args.index.now c.args.pair c.requires.due)) in
+    let pair = ArePair-read part c.args.pair.left c.args.pair.right w v (AreDue-pair c.args.part.now c.args.index.now c.args.pair c.requires.due)
+    c.requires.due.ordered.tiles c.get-window.ensures.entry c.get-next.ensures.entry in
     let failure = c.in_err-read_joined.field-0.0 in
     let p = err_from_is_err_and c.from_residual.result c.from_residual.ensures.1 in
     rw (p.1, p.2)
@@ -64,7 +73,8 @@ returns-in_err-read_joined-clause-joins g c =
 
 pub replace_two-requires-clause-valid : goal.replace_two-requires-clause-valid
 replace_two-requires-clause-valid g c =
-    let tiled = (ArePair-read c.args.part.now c.args.pair.left c.args.pair.right c.get-window.result c.get-next.result (AreDue-pair c.args.part.now c.args.pair c.requires.due) c.requires.tiles
+    let tiled = (ArePair-read c.args.part.now c.args.pair.left c.args.pair.right c.get-window.result c.get-next.result (AreDue-pair c.args.part.now
+    c.args.index.now c.args.pair c.requires.due) c.requires.due.ordered.tiles
     c.get-window.ensures.entry c.get-next.ensures.entry).tiled in
     let count = c.in_ok-read_joined.ensures.count in
     is_valid-IsWindow c.args.part.now.id.0 c.get-window.result.first c.in_ok-read_joined.field-0 (omega arith) tiled.first
@@ -73,10 +83,12 @@ replace_two-requires-clause-valid g c =
 
 pub replace_two-requires-clause-live : goal.replace_two-requires-clause-live
 replace_two-requires-clause-live g c =
-    let pair = ArePair-read c.args.part.now c.args.pair.left c.args.pair.right c.get-window.result c.get-next.result (AreDue-pair c.args.part.now c.args.pair c.requires.due) c.requires.tiles
+    let pair = ArePair-read c.args.part.now c.args.pair.left c.args.pair.right c.get-window.result c.get-next.result (AreDue-pair c.args.part.now
+    c.args.index.now c.args.pair c.requires.due) c.requires.due.ordered.tiles
     c.get-window.ensures.entry c.get-next.ensures.entry in
     subst (λ live. AreSomeLive (c.get-window.result.slot ∷ c.get-next.result.slot ∷ []) live) (sym c.read_joined.ensures.live)
-    (AreSomeLive-two c.args.part.now (one_part c.args.part.now (joined_line (AreDue-pair c.args.part.now c.args.pair c.requires.due))) c.get-window.result
+    (AreSomeLive-two c.args.part.now (one_part c.args.part.now (joined_line (AreDue-pair c.args.part.now c.args.index.now c.args.pair c.requires.due)))
+    c.get-window.result
     c.get-next.result c.args.records.now.live pair.slots c.requires.live)
 
 pub returns-in_err-replace_two-clause-joins : goal.returns-in_err-replace_two-clause-joins
@@ -84,9 +96,10 @@ returns-in_err-replace_two-clause-joins g c =
     let part = c.args.part.now in
     let w = c.get-window.result in
     let v = c.get-next.result in
-    let new = one_part part (joined_line (AreDue-pair c.args.part.now c.args.pair c.requires.due)) in
-    let same = one_part-same part (joined_line (AreDue-pair c.args.part.now c.args.pair c.requires.due)) in
-    let pair = ArePair-read part c.args.pair.left c.args.pair.right w v (AreDue-pair c.args.part.now c.args.pair c.requires.due) c.requires.tiles c.get-window.ensures.entry c.get-next.ensures.entry in
+    let new = one_part part (joined_line (AreDue-pair c.args.part.now c.args.index.now c.args.pair c.requires.due)) in
+    let same = one_part-same part (joined_line (AreDue-pair c.args.part.now c.args.index.now c.args.pair c.requires.due)) in
+    let pair = ArePair-read part c.args.pair.left c.args.pair.right w v (AreDue-pair c.args.part.now c.args.index.now c.args.pair c.requires.due)
+    c.requires.due.ordered.tiles c.get-window.ensures.entry c.get-next.ensures.entry in
     let p = err_from_is_err_and c.from_residual-in_err-replace_two.result c.from_residual-in_err-replace_two.ensures.1 in
     rw (p.1, p.2)
     (step-next c.in_ok-read_joined.ensures.joined c.in_err-replace_two.ensures.replaces (λ told told_read read replaced. record {
@@ -103,7 +116,8 @@ returns-in_err-read_joined-clause-changed g c =
     let part = c.args.part.now in
     let w = c.get-window.result in
     let v = c.get-next.result in
-    let pair = ArePair-read part c.args.pair.left c.args.pair.right w v (AreDue-pair c.args.part.now c.args.pair c.requires.due) c.requires.tiles c.get-window.ensures.entry c.get-next.ensures.entry in
+    let pair = ArePair-read part c.args.pair.left c.args.pair.right w v (AreDue-pair c.args.part.now c.args.index.now c.args.pair c.requires.due)
+    c.requires.due.ordered.tiles c.get-window.ensures.entry c.get-next.ensures.entry in
     let p = err_from_is_err_and c.from_residual.result c.from_residual.ensures.1 in
     rw (p.1, p.2) (IfChanged-window (Unit {0}) part w v pair.joined c.in_err-read_joined.field-0.0 c.in_err-read_joined.ensures.changed)
 
@@ -112,8 +126,8 @@ line : (g : _) (c : goal.After-merged g) →
     AreJoined (lengths_of (params_of c.args.part.now.target)) (values_held (entries_of c.args.part.now)) c.args.part.now.line.entries c.merged.new.line.entries
     c.get-window.result c.get-next.result
 line g c =
-    let due = AreDue-pair c.args.part.now c.args.pair c.requires.due in
-    let pair = ArePair-read c.args.part.now c.args.pair.left c.args.pair.right c.get-window.result c.get-next.result due c.requires.tiles
+    let due = AreDue-pair c.args.part.now c.args.index.now c.args.pair c.requires.due in
+    let pair = ArePair-read c.args.part.now c.args.pair.left c.args.pair.right c.get-window.result c.get-next.result due c.requires.due.ordered.tiles
     c.get-window.ensures.entry c.get-next.ensures.entry in
     subst (λ es. AreJoined (lengths_of (params_of c.args.part.now.target)) (values_held (entries_of c.args.part.now)) c.args.part.now.line.entries es
     c.get-window.result c.get-next.result)
@@ -155,26 +169,48 @@ returns-clause-whole g c =
     let slots = AreSlots-joined (lengths_of (params_of part.target)) (values_held (entries_of part)) part new w v refl refl pair in
     let done = c.in_ok-replace_two.ensures in
     record {
-      tiles = subst (λ es. TileFrom 1 es) (sym pair.is)
-          (TileFrom-joined 1 pair.front w v pair.rest (subst (λ es. TileFrom 1 es) pair.was c.requires.tiles));
+      ordered = record {
+        tiles = subst (λ es. TileFrom 1 es) (sym pair.is)
+            (TileFrom-joined 1 pair.front w v pair.rest (subst (λ es. TileFrom 1 es) pair.was c.requires.due.ordered.tiles));
+        times = subst (λ (es : List Entry). MatchOption part.last_time (es ≡ []) (λ last. TimesRise 0 last es)) (sym pair.is)
+            (rise-joined part.last_time pair.front w v pair.rest
+            (subst (λ (es : List Entry). MatchOption part.last_time (es ≡ []) (λ last. TimesRise 0 last es)) pair.was c.requires.due.ordered.times));
+      };
       live = LiveSlotsGo-two part new w v c.args.records.now.live c.replace_two.new.records.live slots
           (subst (λ live. LiveSlotsGo (w.slot ∷ v.slot ∷ []) (w.slot ∷ []) live c.replace_two.new.records.live) c.read_joined.ensures.live done.live);
       settled = done.settled;
       extent = rw (done.extent, c.in_ok-read_joined.ensures.journal) (omega arith);
     }
 
+-- the times that are left
+timed_joined : (g : _) (c : goal.After-merged g) → IsTimed c.merged.new.line.entries c.merged.new.self.times
+timed_joined g c =
+    let part = c.args.part.now in
+    let due = AreDue-pair part c.args.index.now c.args.pair c.requires.due in
+    let it = due.pair in
+    let front : List (ℕ × At) = map begun_at it.before ++ (it.window.t_first, c.args.pair.left) ∷ [] in
+    let next = next_is (lengths_of (params_of part.target)) (values_held (entries_of part)) part.line.entries c.args.pair.left c.args.pair.right due
+    c.get-window.result c.get-next.result c.get-window.ensures.entry c.get-next.ensures.entry in
+    let was = IsTimed-seam c.args.index.now.times it.before c.args.pair.left c.args.pair.right it.window it.next it.rest
+    (subst (λ es. IsTimed es c.args.index.now.times) it.is c.requires.due.keyed.timed) in
+    IsTimed-joined c.merged.new.self.times c.merged.new.line.entries it.before c.args.pair.left it.window it.next it.rest (c.merged.ensures.joined it)
+    (c.merged.ensures.times front (map begun_at it.rest) c.args.pair.right
+    (was ∙ ap (λ (e : Entry). front ++ (e.t_first, c.args.pair.right) ∷ map begun_at it.rest) next))
+
 pub returns-clause-keyed : goal.returns-clause-keyed
 returns-clause-keyed g c = record {
-  target = c.merged.ensures.target ∙ c.requires.keyed.target;
-  keyed = subst (λ n. IsKeyed n c.merged.new.line.entries c.merged.new.self) (c.values_held-n.ensures ∙ sym (returns-clause-holds g c).values)
+  target = c.merged.ensures.target ∙ c.requires.due.keyed.target;
+  keyed = subst (λ n. IsKeyed n c.merged.new.line.entries c.merged.new.self.schedule) (c.values_held-n.ensures ∙ sym (returns-clause-holds g c).values)
       c.merged.ensures.keyed;
+  timed = timed_joined g c;
 }
 
 pub merged-requires-clause-neighbours : goal.merged-requires-clause-neighbours
 merged-requires-clause-neighbours g c = c.requires.due.stands
 
 pub merged-requires-clause-fits : goal.merged-requires-clause-fits
-merged-requires-clause-fits g c = rw (c.requires.keyed.target, c.values_held-n.ensures) c.requires.due.fits
+merged-requires-clause-fits g c = rw (c.requires.due.keyed.target, c.values_held-n.ensures) c.requires.due.fits
 
 pub merged-requires-clause-keyed : goal.merged-requires-clause-keyed
-merged-requires-clause-keyed g c = subst (λ n. IsKeyed n c.args.part.now.line.entries c.args.schedule.now) (sym c.values_held-n.ensures) c.requires.keyed.keyed
+merged-requires-clause-keyed g c =
+    subst (λ n. IsKeyed n c.args.part.now.line.entries c.args.index.now.schedule) (sym c.values_held-n.ensures) c.requires.due.keyed.keyed

@@ -25,9 +25,9 @@ returns-in_err-older-clause-joined g c =
     let number = c.args.part.now.id.0 in
     rw (p.1, p.2)
     (step-as c.in_err-older.ensures.reads (λ first. record {
-      joined = λ others w v has same second free second_free later.
+      joined = λ others w v has same second times second_times free second_free later.
           IsRead-err w.summary (joined w.summary v.summary) c.in_err-older.field-0.0
-          (first.window ((c.args.next.slot, Some (window_record number v)) ∷ others) w has same free);
+          (first.window ((c.args.next.slot, Some (window_record number v)) ∷ others) w has same times free);
       kept = tt;
       reads = first.reads;
     }))
@@ -38,11 +38,11 @@ returns-in_err-newer-clause-joined g c =
     let number = c.args.part.now.id.0 in
     rw (p.1, p.2)
     (step-then c.in_ok-older.ensures.reads c.in_err-newer.ensures.reads (λ first then. record {
-      joined = λ others w v has same second free second_free later.
+      joined = λ others w v has same second times second_times free second_free later.
           let one : ℕ × Option Record = (c.args.window.slot, Some (window_record number w)) in
           IsRead-err v.summary (joined w.summary v.summary) c.in_err-newer.field-0.0
           (then.window (one ∷ others) v
-          (HasRecords-second one (c.args.next.slot, Some (window_record number v)) others _ _ first.reads.same.content has) second second_free);
+          (HasRecords-second one (c.args.next.slot, Some (window_record number v)) others _ _ first.reads.same.content has) second second_times second_free);
       kept = tt;
       reads = reads-joined _ _ _ first.reads then.reads;
     }))
@@ -59,12 +59,12 @@ returns-then-newer-older-clause-joined g c =
           let one_read = read.told told in
           let two_read = then.told (read.tells ∙ told) in
           record {
-            joined = λ others w v has same second free second_free later.
+            joined = λ others w v has same second times second_times free second_free later.
                 let one : ℕ × Option Record = (c.args.window.slot, Some (window_record number w)) in
                 let two : ℕ × Option Record = (c.args.next.slot, Some (window_record number v)) in
-                let older : c.in_ok-older.older ≡ w.summary = one_read.window (two ∷ others) w has same free in
+                let older : c.in_ok-older.older ≡ w.summary = one_read.window (two ∷ others) w has same times free in
                 let newer : c.in_ok-newer.newer ≡ v.summary =
-                two_read.window (one ∷ others) v (HasRecords-second one two others _ _ one_read.reads.same.content has) second second_free in
+                two_read.window (one ∷ others) v (HasRecords-second one two others _ _ one_read.reads.same.content has) second second_times second_free in
                 let last = ap (λ (f : Figures). f.t_last) (c.older.view_is ∙ older) in
                 let first = ap (λ (f : Figures). f.t_first) (c.newer.view_is ∙ newer) in
                 omega (arith, c.if-newer-older.true, later, last, first);
@@ -77,12 +77,12 @@ pub returns-clause-joined : goal.returns-clause-joined
 returns-clause-joined g c =
     let number = c.args.part.now.id.0 in
     step-then c.in_ok-older.ensures.reads c.in_ok-newer.ensures.reads (λ first then. record {
-      joined = λ others w v has same second free second_free later.
+      joined = λ others w v has same second times second_times free second_free later.
           let one : ℕ × Option Record = (c.args.window.slot, Some (window_record number w)) in
-          let older : c.in_ok-older.older ≡ w.summary = first.window ((c.args.next.slot, Some (window_record number v)) ∷ others) w has same free in
+          let older : c.in_ok-older.older ≡ w.summary = first.window ((c.args.next.slot, Some (window_record number v)) ∷ others) w has same times free in
           let newer : c.in_ok-newer.newer ≡ v.summary =
           then.window (one ∷ others) v
-          (HasRecords-second one (c.args.next.slot, Some (window_record number v)) others _ _ first.reads.same.content has) second second_free in
+          (HasRecords-second one (c.args.next.slot, Some (window_record number v)) others _ _ first.reads.same.content has) second second_times second_free in
           c.join.ensures.exact ∙ ap₂ joined older newer;
       kept = then.kept;
       reads = reads-joined _ _ _ first.reads then.reads;

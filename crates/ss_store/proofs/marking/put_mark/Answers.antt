@@ -3,15 +3,19 @@ use Rattle.std.proofs.lemmas.Result.{err_from_is_err_and}
 use Rattle.ss_outside.proofs.StepLemmas.{step-as}
 use Rattle.ss_outside.specs.Disk.{DiskView}
 use Rattle.ss_records.specs.Kept.{RecordsState}
+use Rattle.ss_landmarks.proofs.TimeLemmas.{AllEndBy-later}
+use Rattle.ss_recover.specs.Held.{entries_of}
 use Rattle.ss_recover.specs.declared.parts.StreamParts.{StreamParts}
+use Rattle.ss_store.specs.Held.{IsOrdered}
 use Rattle.ss_store.specs.Changing.{KeepsWhole}
 use Rattle.ss_query.specs.Held.{IsHeldIn}
-use Rattle.ss_store.specs.Marking.{IsMarkedOrNot, slots_used, with_mark}
+use Rattle.ss_store.specs.Marking.{IsMarkedOrNot, landmarks_after, slots_used, with_mark}
 use Rattle.ss_store.proofs.Calls.{Turns-answers, Turns-failed}
 use Rattle.ss_store.proofs.Marked.{IsMarked}
 use Rattle.ss_store.proofs.MarkedCalls.{AreSomeLive-last, FitsMark-valid, IsAdding-is, IsLastSlot-is, IsMarked-marked_part, LiveSlotsGo-mark_added}
 use Rattle.ss_store.proofs.MarkedCalls.{LiveSlotsGo-mark_closed, Turns-added, Turns-closed, marked_part, slots_used-adding}
 use Rattle.ss_store.proofs.OpenMarks.{AllEndBy-after}
+use Rattle.ss_store.proofs.Rising.{no-earlier, rise-later}
 use Rattle.ss_store.proofs.marking.put_mark.Goals as goal
 use Rattle.ss_store.proofs.marking.put_mark.Goals.{in-Open+in_ok-add_record-in-Open, in-Close+in_ok-replace_record-in-Close}
 
@@ -68,14 +72,15 @@ returns-in_err-replace_record-in-Close-clause-takes g c =
 
 -- the stream as it is held then
 marked : (g : _) (c : goal.After-part-1 g) →
-    IsMarked c.args.part.now (record c.args.part.now { last_time = Some c.args.t; landmarks = c.take_mark.new.landmarks }) c.args.slot c.args.t c.args.mark
+    IsMarked c.args.part.now (record c.args.part.now { last_time = Some c.later.result; landmarks = c.take_mark.new.landmarks }) c.args.slot c.args.t
+    c.args.mark
 marked g c = record {
   id = refl;
   name = refl;
   target = refl;
   own_slot = refl;
   entries = refl;
-  last_time = refl;
+  last_time = c.later.ensures;
   landmarks = c.take_mark.ensures.landmarks;
   slots = c.take_mark.ensures.slots;
   value_slots = c.take_mark.ensures.value_slots;
@@ -87,8 +92,21 @@ returns-clause-taken g c = record {
   landmarks = c.take_mark.ensures.landmarks;
   known = c.take_mark.ensures.known;
   last = rw c.take_mark.ensures.landmarks
-      (AllEndBy-after c.args.part.now.landmarks.landmarks c.args.t c.args.mark c.record_of-written.ensures.known.order c.requires.can.can);
+      (AllEndBy-later (landmarks_after c.args.part.now.landmarks.landmarks c.args.t c.args.mark) c.args.t c.later.result
+      (no-earlier c.args.part.now.last_time c.args.t c.later.result c.later.ensures).1
+      (AllEndBy-after c.args.part.now.landmarks.landmarks c.args.t c.args.mark c.record_of-written.ensures.known.order c.requires.can.can));
 }
+
+ordered_marked : (g : _) (c : goal.After-part-1 g) →
+    IsOrdered (record c.args.part.now { last_time = Some c.later.result; landmarks = c.take_mark.new.landmarks })
+ordered_marked g c =
+    let part = c.args.part.now in
+    let can = c.requires.can in
+    record {
+      tiles = can.ordered.tiles;
+      times = rise-later part.last_time (Some c.later.result) (entries_of part) (no-earlier part.last_time c.args.t c.later.result c.later.ensures).0
+          can.ordered.times;
+    }
 
 pub returns-clause-whole : goal.returns-clause-whole
 returns-clause-whole g c =
@@ -97,13 +115,13 @@ returns-clause-whole g c =
     let t = c.args.t in
     let mark = c.args.mark in
     let was = c.args.records.now in
-    let new : StreamParts = record part { last_time = Some t; landmarks = c.take_mark.new.landmarks } in
+    let new : StreamParts = record part { last_time = Some c.later.result; landmarks = c.take_mark.new.landmarks } in
     elim c.match-mark.branch [
       | in-Open+in_ok-add_record-in-Open w ↦
           (let done = w.in_ok-add_record-in-Open.ensures in
           subst (λ (r : RecordsState). KeepsWhole part new was r (slots_used mark slot)) (sym w.records-is)
           (record {
-            tiles = c.requires.can.tiles;
+            ordered = ordered_marked g c;
             live = LiveSlotsGo-mark_added part new slot t mark (marked g c) (IsAdding-is mark w.in-Open.is) was.live w.add_record.new.records.live done.live;
             settled = done.settled;
             extent = rw (slots_used-adding mark slot (IsAdding-is mark w.in-Open.is)) done.extent;
@@ -112,7 +130,7 @@ returns-clause-whole g c =
           (let done = w.in_ok-replace_record-in-Close.ensures in
           subst (λ (r : RecordsState). KeepsWhole part new was r (slots_used mark slot)) (sym w.records-is)
           (record {
-            tiles = c.requires.can.tiles;
+            ordered = ordered_marked g c;
             live = LiveSlotsGo-mark_closed part new slot t mark w.in-Close.is (marked g c) was.live w.replace_record.new.records.live
                 w.replace_record.ensures.live;
             settled = done.settled;
@@ -129,7 +147,7 @@ returns-clause-takes g c =
     let can = c.requires.can in
     let written = c.record_of-written.ensures in
     let valid = rw written.value at written.valid in
-    let new : StreamParts = record part { last_time = Some t; landmarks = c.take_mark.new.landmarks } in
+    let new : StreamParts = record part { last_time = Some c.later.result; landmarks = c.take_mark.new.landmarks } in
     let old : DiskView = g.D.Disk.seen c.args.disk.now in
     elim c.match-mark.branch [
       | in-Open+in_ok-add_record-in-Open w ↦

@@ -12,7 +12,7 @@ use Rattle.ss_store.proofs.Calls.{Turns-failed}
 use Rattle.ss_store.proofs.ClosingAll.{AreHeldIn, ClosesFirst-more, ClosesFirst-none, SomeChangedIsHeld-set, Turns-all, Turns-open, closed_until}
 use Rattle.ss_store.proofs.ClosingAll.{firm-ClosesFirst}
 use Rattle.ss_store.proofs.OneOfMany.{map-set_same}
-use Rattle.ss_store.proofs.ScheduledStreams.{AreClosedTo-all, AreClosedTo-at, AreClosedTo-long, AreClosedTo-more, AreClosedTo-none}
+use Rattle.ss_store.proofs.IndexedStreams.{AreClosedTo-all, AreClosedTo-at, AreClosedTo-long, AreClosedTo-more, AreClosedTo-none}
 use Rattle.ss_store.proofs.opening.close_all.Goals as goal
 
 pub loop-place-init : goal.loop-place-init
@@ -24,7 +24,7 @@ loop-place-init g c = record {
   settled = c.requires.settled;
   whole = c.requires.whole;
   entries = refl;
-  closed = AreClosedTo-none c.args.streams.now c.args.schedules.now c.requires.keyed;
+  closed = AreClosedTo-none c.args.streams.now c.args.indexes.now c.requires.keyed;
 }
 
 pub close_windows-requires-clause-live : goal.close_windows-requires-clause-live
@@ -98,10 +98,10 @@ loop-place-preserved g c =
       });
       settled = after.whole.settled;
       whole = AreWhole-set now c.loop-place.records.live c.close_windows.new.records.live place part new before.whole at same
-          (IsNoEarlier-same part.last_time new.last_time after.holds.last_time) after.whole.tiles after.whole.live;
+          (IsNoEarlier-same part.last_time new.last_time after.holds.last_time) after.whole.ordered after.whole.live;
       entries = map-set_same entry_of now place part new at (λ i. (same.name i, same.id i)) ∙ before.entries;
       closed = rw add-one
-          (AreClosedTo-more place now c.loop-place.schedules new c.close_windows.new.schedule before.closed after.scheduled);
+          (AreClosedTo-more place now c.loop-place.indexes new c.close_windows.new.index before.closed after.scheduled);
     }
 
 pub returns-clause-closes : goal.returns-clause-closes
@@ -119,20 +119,20 @@ returns-clause-closes g c =
 
 pub returns-clause-scheduled : goal.returns-clause-scheduled
 returns-clause-scheduled g c =
-    AreClosedTo-all c.loop-place.place c.loop-place.streams c.loop-place.schedules (omega arith) c.loop-place.invariant.closed
+    AreClosedTo-all c.loop-place.place c.loop-place.streams c.loop-place.indexes (omega arith) c.loop-place.invariant.closed
 
 pub close_windows-requires-clause-keyed : goal.close_windows-requires-clause-keyed
 close_windows-requires-clause-keyed g c =
     let streams = c.loop-place.streams in
-    let schedules = c.loop-place.schedules in
+    let indexes = c.loop-place.indexes in
     let place = c.loop-place.place in
     let closed = c.loop-place.invariant.closed in
-    let long = AreClosedTo-long place streams schedules closed in
-    AreClosedTo-at place streams schedules (slice_index_or streams place c.index-streams-place.result)
-    (slice_index_or schedules place c.index-schedules-place.result) closed
+    let long = AreClosedTo-long place streams indexes closed in
+    AreClosedTo-at place streams indexes (slice_index_or streams place c.index-streams-place.result)
+    (slice_index_or indexes place c.index-indexes-place.result) closed
     (slice_get-get_or streams place c.index-streams-place.result (omega arith))
-    (slice_get-get_or schedules place c.index-schedules-place.result (omega (arith, long)))
+    (slice_get-get_or indexes place c.index-indexes-place.result (omega (arith, long)))
 
-pub bounds-schedules-place : goal.bounds-schedules-place
-bounds-schedules-place g c =
-    let long = AreClosedTo-long c.loop-place.place c.loop-place.streams c.loop-place.schedules c.loop-place.invariant.closed in omega (arith, long)
+pub bounds-indexes-place : goal.bounds-indexes-place
+bounds-indexes-place g c =
+    let long = AreClosedTo-long c.loop-place.place c.loop-place.streams c.loop-place.indexes c.loop-place.invariant.closed in omega (arith, long)

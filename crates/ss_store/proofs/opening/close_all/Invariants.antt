@@ -7,7 +7,7 @@ use Rattle.ss_store.specs.Changing.{Makes}
 use Rattle.ss_store.specs.Kept.{entry_of}
 use Rattle.ss_query.specs.declared.read_error.ReadError.{ReadError}
 use Rattle.ss_store.proofs.ClosingAll.{ClosesFirst}
-use Rattle.ss_store.proofs.ScheduledStreams.{AreClosedTo}
+use Rattle.ss_store.proofs.IndexedStreams.{AreClosedTo}
 use Rattle.ss_store.proofs.opening.close_all.Given as goal
 
 abbrev pub invariant-loop-place : goal.invariant-loop-place
@@ -17,5 +17,5 @@ invariant-loop-place g l = record {
   settled : IsSettled l.records.journal;
   whole : AreWhole l.streams l.records.live;
   entries : map entry_of l.streams ≡ map entry_of l.fn.streams;
-  closed : AreClosedTo l.place l.streams l.schedules;
+  closed : AreClosedTo l.place l.streams l.indexes;
 }

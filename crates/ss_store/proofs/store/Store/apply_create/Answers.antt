@@ -3,9 +3,9 @@ use Rattle.ss_catalog.specs.declared.event.Event.TheVariants.{Create}
 use Rattle.ss_line.specs.Line.{LineState}
 use Rattle.ss_recover.specs.declared.parts.StreamParts.{StreamParts}
 use Rattle.ss_store.proofs.Appended.{SameButSpare-same}
-use Rattle.ss_store.specs.Scheduled.{IsScheduled}
+use Rattle.ss_store.specs.Indexed.{IsScheduled}
 use Rattle.ss_store.proofs.KeyedWindows.{IsScheduled-none}
-use Rattle.ss_store.proofs.ScheduledStreams.{AllZip-more}
+use Rattle.ss_store.proofs.IndexedStreams.{AllZip-more}
 use Rattle.ss_store.proofs.Applying.{Applies-refused, Applies-starved}
 use Rattle.ss_store.proofs.Created.{IsFreshPart-made}
 use Rattle.ss_store.proofs.Creating.{applies-created, applies-unwritten, creating, sound-created, sound-unwritten}
@@ -38,9 +38,10 @@ invariant_of-self-in-Ok-add_record g c =
     (IsFreshPart-made part c.args.params c.in-Ok.ensures.target refl (ap (λ (l : LineState). l.entries) c.new.ensures) c.new-2.ensures) c.in-Ok.ensures.new in
     let done = c.in-Ok-add_record.ensures in (
       rw (c.in-Ok-grow.ensures.streams, c.in-Ok-grow.ensures.catalog) (sound-created is c.add_record.new.records done.settled done.live),
-      λ run. rw (c.in-Ok-grow.ensures.streams, c.in-Ok-grow.ensures.schedules)
-          (AllZip-more IsScheduled c.self.inside.streams.items c.self.inside.schedules.items part c.new-3.result (c.self.invariant.1 run)
-          (IsScheduled-none part c.new-3.result c.new-3.ensures.target (ap (λ (l : LineState). l.entries) c.new.ensures) (c.new-3.ensures.keyed 0 (omega arith)))),
+      λ run. rw (c.in-Ok-grow.ensures.streams, c.in-Ok-grow.ensures.indexes)
+          (AllZip-more IsScheduled c.self.inside.streams.items c.self.inside.indexes.items part c.new-3.result (c.self.invariant.1 run)
+          (IsScheduled-none part c.new-3.result c.new-3.ensures.target (ap (λ (l : LineState). l.entries) c.new.ensures) (c.new-3.ensures.keyed 0 (omega arith))
+          c.new-3.ensures.times)),
     )
 
 pub invariant_of-self-in-Err-add_record : goal.invariant_of-self-in-Err-add_record

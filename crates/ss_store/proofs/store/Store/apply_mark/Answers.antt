@@ -1,6 +1,6 @@
 use Rattle.std.proofs.Common.{◌≡◌, ap, false, refl, true}
 use Rattle.ss_line.specs.Line.{LineState}
-use Rattle.ss_store.proofs.ScheduledStreams.{AreScheduled-other}
+use Rattle.ss_store.proofs.IndexedStreams.{AreScheduled-other}
 use Rattle.ss_store.specs.Marking.{event_of}
 use Rattle.ss_store.proofs.Applying.{Applies-refused, Applies-starved}
 use Rattle.ss_store.proofs.MarkTaking.{applies-taken, applies-untaken, can-mark, live-spared, same-spared, sound-spared, sound-stopped, sound-taken}
@@ -19,7 +19,7 @@ invariant_of-self g c =
     c.in-Ok.ensures.accepted c.requires.in_time
     c.requires.marked c.index_mut-stream.ensures.value c.reserve.ensures.grown in (
       sound-spared is,
-      λ run. AreScheduled-other c.self.inside.streams.items c.self.inside.schedules.items c.in-Ok.marker.0 c.index_mut-stream.result.now
+      λ run. AreScheduled-other c.self.inside.streams.items c.self.inside.indexes.items c.in-Ok.marker.0 c.index_mut-stream.result.now
           (record c.index_mut-stream.result.now { landmarks = c.reserve.new.landmarks }) (c.self.invariant.1 run) c.index_mut-stream.ensures.value refl refl,
     )
 
@@ -57,7 +57,7 @@ invariant_of-self-in-Ok-put_mark g c =
     c.requires.marked c.index_mut-stream.ensures.value c.reserve.ensures.grown in
     let done = c.in-Ok-put_mark.ensures in (
       sound-taken is c.put_mark.new.part c.put_mark.new.records c.put_mark.ensures.same c.put_mark.ensures.fits done.whole done.taken,
-      λ run. AreScheduled-other c.self.inside.streams.items c.self.inside.schedules.items c.in-Ok.marker.0 c.index_mut-stream.result.now
+      λ run. AreScheduled-other c.self.inside.streams.items c.self.inside.indexes.items c.in-Ok.marker.0 c.index_mut-stream.result.now
           c.put_mark.new.part (c.self.invariant.1 run) c.index_mut-stream.ensures.value c.put_mark.ensures.same.target
           (ap (λ (l : LineState). l.entries) c.put_mark.ensures.same.line),
     )

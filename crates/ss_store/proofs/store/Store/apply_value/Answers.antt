@@ -1,13 +1,15 @@
-use Rattle.std.proofs.Common.{◌≡◌, arith, refl, true, false, w64}
+use Rattle.std.proofs.Common.{◌≡◌, ◌<◌, ℕ, List, All, arith, refl, subst, sym, true, false, w64}
+use Rattle.ss_line.specs.declared.entry.At.{At}
 use Rattle.std.proofs.lemmas.Int.{to_z-of_z}
 use Rattle.ss_catalog.specs.declared.event.Event.TheVariants.{Value}
 use Rattle.std.proofs.lemmas.Slice.Zip.{AllZip-long}
-use Rattle.ss_store.specs.Scheduled.{IsScheduled}
-use Rattle.ss_store.proofs.KeyedWindows.{IsScheduled-same}
-use Rattle.ss_store.proofs.ScheduledStreams.{AllZip-set, IsScheduled-at}
+use Rattle.ss_store.specs.Indexed.{IsScheduled}
+use Rattle.ss_store.proofs.KeyedWindows.{IsReservedFor-scheduled, IsScheduled-same}
+use Rattle.ss_store.proofs.Rising.{begin-by_last}
+use Rattle.ss_store.proofs.IndexedStreams.{AllZip-set, IsScheduled-at}
 use Rattle.ss_store.proofs.Applying.{Applies-refused, Applies-starved}
 use Rattle.ss_store.proofs.Taking.{applies-taken, applies-untaken, can-append, live-spared, same-spared, sound-spared, sound-stopped, sound-taken}
-use Rattle.ss_store.proofs.Taking.{few-taker, inside-taker, runs-taker, stands-spared, taking}
+use Rattle.ss_store.proofs.Taking.{few-taker, inside-taker, later-taker, ordered-spared, runs-taker, stands-spared, taking}
 use Rattle.ss_store.proofs.store.Store.apply_value.Goals as goal
 
 pub returns-in-Err-clause-applies : goal.returns-in-Err-clause-applies
@@ -21,22 +23,24 @@ invariant_of-self g c =
     let is = taking {store = record { streams = c.self.inside.streams.items; records = c.self.inside.records; stopped = c.self.inside.stopped }}
     (g.D.Disk.seen c.args.disk.now) c.self.view_is c.requires.one_disk c.self.invariant.0 c.requires.runs c.in-Ok.ensures.taker
     (c.in-Ok.ensures.accepted c.args.v) (c.requires.in_time, c.ranges.v)
-    c.index_mut-stream.ensures.value c.make_room.ensures.entries c.make_room.ensures.grows in (
+    c.index_mut-stream.ensures.value c.reserve_window.ensures.entries c.reserve_window.ensures.grows in (
       sound-spared is,
-      λ run. AllZip-set IsScheduled c.self.inside.streams.items c.self.inside.schedules.items c.in-Ok.taker.0
-          (record c.index_mut-stream.result.now { line = c.make_room.new.line }) c.make_room.new.schedule (c.self.invariant.1 run)
-          (IsScheduled-same c.index_mut-stream.result.now (record c.index_mut-stream.result.now { line = c.make_room.new.line })
-          c.index_mut-schedule.result.now c.make_room.new.schedule refl c.make_room.ensures.entries c.make_room.ensures.target c.make_room.ensures.keyed
-          (IsScheduled-at c.self.inside.streams.items c.self.inside.schedules.items c.in-Ok.taker.0 c.index_mut-stream.result.now
-          c.index_mut-schedule.result.now (c.self.invariant.1 run) (inside-taker is) c.index_mut-stream.ensures.value c.index_mut-schedule.ensures.value)),
+      λ run. AllZip-set IsScheduled c.self.inside.streams.items c.self.inside.indexes.items c.in-Ok.taker.0
+          (record c.index_mut-stream.result.now { line = c.reserve_window.new.line }) c.reserve_window.new.self (c.self.invariant.1 run)
+          (IsScheduled-same c.index_mut-stream.result.now (record c.index_mut-stream.result.now { line = c.reserve_window.new.line })
+          c.index_mut-index.result.now c.reserve_window.new.self refl c.reserve_window.ensures.entries c.reserve_window.ensures.target
+          c.reserve_window.ensures.keyed
+          c.in-Err-reserve_window.ensures.err
+          (IsScheduled-at c.self.inside.streams.items c.self.inside.indexes.items c.in-Ok.taker.0 c.index_mut-stream.result.now
+          c.index_mut-index.result.now (c.self.invariant.1 run) (inside-taker is) c.index_mut-stream.ensures.value c.index_mut-index.ensures.value)),
     )
 
-pub returns-in-Err-make_room-clause-applies : goal.returns-in-Err-make_room-clause-applies
-returns-in-Err-make_room-clause-applies g c =
+pub returns-in-Err-reserve_window-clause-applies : goal.returns-in-Err-reserve_window-clause-applies
+returns-in-Err-reserve_window-clause-applies g c =
     let is = taking {store = record { streams = c.self.inside.streams.items; records = c.self.inside.records; stopped = c.self.inside.stopped }}
     (g.D.Disk.seen c.args.disk.now) c.self.view_is c.requires.one_disk c.self.invariant.0 c.requires.runs c.in-Ok.ensures.taker
     (c.in-Ok.ensures.accepted c.args.v) (c.requires.in_time, c.ranges.v)
-    c.index_mut-stream.ensures.value c.make_room.ensures.entries c.make_room.ensures.grows in
+    c.index_mut-stream.ensures.value c.reserve_window.ensures.entries c.reserve_window.ensures.grows in
     rw (← c.self.view_is)
     (Applies-starved (Value c.args.name.now c.args.t c.args.v) _ _ is.none _ (same-spared is) (stands-spared is) (g.met.D.Disk.knows_now c.args.disk.now))
 
@@ -45,15 +49,21 @@ append_value-requires-clause-can g c =
     let is = taking {store = record { streams = c.self.inside.streams.items; records = c.self.inside.records; stopped = c.self.inside.stopped }}
     (g.D.Disk.seen c.args.disk.now) c.self.view_is c.requires.one_disk c.self.invariant.0 c.requires.runs c.in-Ok.ensures.taker
     (c.in-Ok.ensures.accepted c.args.v) (c.requires.in_time, c.ranges.v)
-    c.index_mut-stream.ensures.value c.make_room.ensures.entries c.make_room.ensures.grows in
-    can-append is c.in-Ok-make_room.ensures.spare
+    c.index_mut-stream.ensures.value c.reserve_window.ensures.entries c.reserve_window.ensures.grows in
+    can-append is c.reserve_window.new.self c.in-Ok-reserve_window.ensures.spare
+    (IsReservedFor-scheduled c.index_mut-stream.result.now (record c.index_mut-stream.result.now { line = c.reserve_window.new.line })
+    c.index_mut-index.result.now c.reserve_window.new.self c.args.t refl c.reserve_window.ensures.entries c.reserve_window.ensures.target
+    c.reserve_window.ensures.keyed c.in-Ok-reserve_window.ensures.noted c.in-Ok-reserve_window.ensures.room
+    (IsScheduled-at c.self.inside.streams.items c.self.inside.indexes.items c.in-Ok.taker.0 c.index_mut-stream.result.now
+    c.index_mut-index.result.now (c.self.invariant.1 (runs-taker is)) (inside-taker is) c.index_mut-stream.ensures.value
+    c.index_mut-index.ensures.value))
 
 pub append_value-requires-clause-live : goal.append_value-requires-clause-live
 append_value-requires-clause-live g c =
     let is = taking {store = record { streams = c.self.inside.streams.items; records = c.self.inside.records; stopped = c.self.inside.stopped }}
     (g.D.Disk.seen c.args.disk.now) c.self.view_is c.requires.one_disk c.self.invariant.0 c.requires.runs c.in-Ok.ensures.taker
     (c.in-Ok.ensures.accepted c.args.v) (c.requires.in_time, c.ranges.v)
-    c.index_mut-stream.ensures.value c.make_room.ensures.entries c.make_room.ensures.grows in
+    c.index_mut-stream.ensures.value c.reserve_window.ensures.entries c.reserve_window.ensures.grows in
     live-spared is
 
 pub invariant_of-self-in-Ok-append_value : goal.invariant_of-self-in-Ok-append_value
@@ -61,11 +71,11 @@ invariant_of-self-in-Ok-append_value g c =
     let is = taking {store = record { streams = c.self.inside.streams.items; records = c.self.inside.records; stopped = c.self.inside.stopped }}
     (g.D.Disk.seen c.args.disk.now) c.self.view_is c.requires.one_disk c.self.invariant.0 c.requires.runs c.in-Ok.ensures.taker
     (c.in-Ok.ensures.accepted c.args.v) (c.requires.in_time, c.ranges.v)
-    c.index_mut-stream.ensures.value c.make_room.ensures.entries c.make_room.ensures.grows in
+    c.index_mut-stream.ensures.value c.reserve_window.ensures.entries c.reserve_window.ensures.grows in
     let done = c.in-Ok-append_value.ensures in (
       sound-taken is c.append_value.new.part c.append_value.new.records c.append_value.ensures.same done.whole done.holds,
-      λ run. AllZip-set IsScheduled c.self.inside.streams.items c.self.inside.schedules.items c.in-Ok.taker.0 c.append_value.new.part
-          c.append_value.new.schedule (c.self.invariant.1 run) done.scheduled,
+      λ run. AllZip-set IsScheduled c.self.inside.streams.items c.self.inside.indexes.items c.in-Ok.taker.0 c.append_value.new.part
+          c.append_value.new.index (c.self.invariant.1 run) done.scheduled,
     )
 
 pub invariant_of-self-in-Err-append_value : goal.invariant_of-self-in-Err-append_value
@@ -73,7 +83,7 @@ invariant_of-self-in-Err-append_value g c =
     let is = taking {store = record { streams = c.self.inside.streams.items; records = c.self.inside.records; stopped = c.self.inside.stopped }}
     (g.D.Disk.seen c.args.disk.now) c.self.view_is c.requires.one_disk c.self.invariant.0 c.requires.runs c.in-Ok.ensures.taker
     (c.in-Ok.ensures.accepted c.args.v) (c.requires.in_time, c.ranges.v)
-    c.index_mut-stream.ensures.value c.make_room.ensures.entries c.make_room.ensures.grows in
+    c.index_mut-stream.ensures.value c.reserve_window.ensures.entries c.reserve_window.ensures.grows in
     (sound-stopped is c.append_value.new.part c.append_value.new.records c.append_value.ensures.same, λ run. let wrong : true ≡ false = run in absurd (cc))
 
 pub returns-in-Ok-append_value-clause-applies : goal.returns-in-Ok-append_value-clause-applies
@@ -81,7 +91,7 @@ returns-in-Ok-append_value-clause-applies g c =
     let is = taking {store = record { streams = c.self.inside.streams.items; records = c.self.inside.records; stopped = c.self.inside.stopped }}
     (g.D.Disk.seen c.args.disk.now) c.self.view_is c.requires.one_disk c.self.invariant.0 c.requires.runs c.in-Ok.ensures.taker
     (c.in-Ok.ensures.accepted c.args.v) (c.requires.in_time, c.ranges.v)
-    c.index_mut-stream.ensures.value c.make_room.ensures.entries c.make_room.ensures.grows in
+    c.index_mut-stream.ensures.value c.reserve_window.ensures.entries c.reserve_window.ensures.grows in
     let done = c.in-Ok-append_value.ensures in
     rw (← c.self.view_is)
     (applies-taken is c.append_value.new.part c.append_value.new.records c.append_value.ensures.same done.whole done.holds _ _ _ _
@@ -92,34 +102,30 @@ returns-clause-applies g c =
     let is = taking {store = record { streams = c.self.inside.streams.items; records = c.self.inside.records; stopped = c.self.inside.stopped }}
     (g.D.Disk.seen c.args.disk.now) c.self.view_is c.requires.one_disk c.self.invariant.0 c.requires.runs c.in-Ok.ensures.taker
     (c.in-Ok.ensures.accepted c.args.v) (c.requires.in_time, c.ranges.v)
-    c.index_mut-stream.ensures.value c.make_room.ensures.entries c.make_room.ensures.grows in
+    c.index_mut-stream.ensures.value c.reserve_window.ensures.entries c.reserve_window.ensures.grows in
     rw (← c.self.view_is, c.from.ensures)
     (applies-untaken is c.append_value.new.part c.append_value.new.records c.append_value.ensures.same _ c.in-Err-append_value.fault
     (rw (to_z-of_z w64 c.args.v c.ranges.v) at c.in-Err-append_value.ensures.takes) c.in-Err-append_value.ensures.changed)
 
-pub append_value-requires-clause-scheduled : goal.append_value-requires-clause-scheduled
-append_value-requires-clause-scheduled g c =
-    let is = taking {store = record { streams = c.self.inside.streams.items; records = c.self.inside.records; stopped = c.self.inside.stopped }}
-    (g.D.Disk.seen c.args.disk.now) c.self.view_is c.requires.one_disk c.self.invariant.0 c.requires.runs c.in-Ok.ensures.taker
-    (c.in-Ok.ensures.accepted c.args.v) (c.requires.in_time, c.ranges.v)
-    c.index_mut-stream.ensures.value c.make_room.ensures.entries c.make_room.ensures.grows in
-    IsScheduled-same c.index_mut-stream.result.now (record c.index_mut-stream.result.now { line = c.make_room.new.line })
-    c.index_mut-schedule.result.now c.make_room.new.schedule refl c.make_room.ensures.entries c.make_room.ensures.target c.make_room.ensures.keyed
-    (IsScheduled-at c.self.inside.streams.items c.self.inside.schedules.items c.in-Ok.taker.0 c.index_mut-stream.result.now
-    c.index_mut-schedule.result.now (c.self.invariant.1 (runs-taker is)) (inside-taker is) c.index_mut-stream.ensures.value
-    c.index_mut-schedule.ensures.value)
-
-pub index_mut-schedule-requires : goal.index_mut-schedule-requires
-index_mut-schedule-requires g c =
+pub index_mut-index-requires : goal.index_mut-index-requires
+index_mut-index-requires g c =
     let is = taking {store = record { streams = c.self.inside.streams.items; records = c.self.inside.records; stopped = c.self.inside.stopped }}
     {line = c.index_mut-stream.result.now.line} (g.D.Disk.seen c.args.disk.now) c.self.view_is c.requires.one_disk c.self.invariant.0 c.requires.runs
     c.in-Ok.ensures.taker (c.in-Ok.ensures.accepted c.args.v) (c.requires.in_time, c.ranges.v) c.index_mut-stream.ensures.value refl (omega arith) in
-    let long = AllZip-long IsScheduled c.self.inside.streams.items c.self.inside.schedules.items (c.self.invariant.1 (runs-taker is)) in
+    let long = AllZip-long IsScheduled c.self.inside.streams.items c.self.inside.indexes.items (c.self.invariant.1 (runs-taker is)) in
     omega (arith, long, inside-taker is)
 
-pub make_room-requires : goal.make_room-requires
-make_room-requires g c =
+pub reserve_window-requires : goal.reserve_window-requires
+reserve_window-requires g c =
     let is = taking {store = record { streams = c.self.inside.streams.items; records = c.self.inside.records; stopped = c.self.inside.stopped }}
     {line = c.index_mut-stream.result.now.line} (g.D.Disk.seen c.args.disk.now) c.self.view_is c.requires.one_disk c.self.invariant.0 c.requires.runs
     c.in-Ok.ensures.taker (c.in-Ok.ensures.accepted c.args.v) (c.requires.in_time, c.ranges.v) c.index_mut-stream.ensures.value refl (omega arith) in
-    record { few = few-taker is }
+    let scheduled = IsScheduled-at c.self.inside.streams.items c.self.inside.indexes.items c.in-Ok.taker.0 c.index_mut-stream.result.now
+    c.index_mut-index.result.now (c.self.invariant.1 (runs-taker is)) (inside-taker is) c.index_mut-stream.ensures.value
+    c.index_mut-index.ensures.value in
+    record {
+      few = few-taker is;
+      later = subst (λ (ts : List (ℕ × At)). All (λ (e : ℕ × At). e.0 < c.args.t) ts) (sym scheduled.0.timed)
+          (begin-by_last c.index_mut-stream.result.now.last_time c.args.t c.index_mut-stream.result.now.line.entries (ordered-spared is).times
+          (later-taker is));
+    }

@@ -1,16 +1,17 @@
-use Rattle.std.proofs.Common.{◌≡◌, ◌∙◌, sym, ap, subst, arith, false, length, map, refl, vec_len, List, Vec}
+use Rattle.std.proofs.Common.{◌≡◌, ◌∙◌, sym, ap, subst, arith, false, length, map, refl, vec_len, All, List, Vec}
 use Rattle.std.specs.Global.{Global}
 use Rattle.std.specs.Vec.{with_items}
 use Rattle.std.proofs.lemmas.List.{length-map, with_items_is}
 use Rattle.std.proofs.lemmas.Result.{err_from_is_err_and}
 use Rattle.ss_journal.proofs.StepLemmas.{after-step, step-from, step-next}
 use Rattle.ss_recover.specs.declared.parts.StreamParts.{StreamParts}
+use Rattle.ss_store.specs.Held.{IsOrdered}
 use Rattle.ss_store.specs.Kept.{IsSound, StoreState, entry_of}
 use Rattle.ss_store.specs.declared.error.OpenError.TheVariants.{OutOfMemory}
 use Rattle.std.specs.List.{AllZip}
 use Rattle.std.proofs.lemmas.Slice.Zip.{AllZip-long}
-use Rattle.ss_schedule.specs.Keyed.{ScheduleState}
-use Rattle.ss_store.specs.Scheduled.{IsKeyedFor, IsScheduled}
+use Rattle.ss_store.specs.Indexed.{IndexState, IsKeyedFor, IsScheduled}
+use Rattle.ss_store.proofs.Rising.{ordered-all}
 use Rattle.ss_store.proofs.Opens.{OpensStore-closed, OpensStore-read, OpensStore-unclosed, verdict-fault}
 use Rattle.ss_store.proofs.Steps.{step-handed}
 use Rattle.ss_store.proofs.store.Store.open_in.Goals as goal
@@ -21,19 +22,19 @@ items_are : (v : Vec StreamParts Global) (now was : List StreamParts) → map en
 items_are v now was entries long =
     with_items_is v now (omega (arith, length-map now entry_of, length-map was entry_of, ap length entries, long))
 
--- the schedules as closing left them, in their place
-scheduled_are : (v : Vec StreamParts Global) (w : Vec ScheduleState Global) (now was : List StreamParts) (schedules : List ScheduleState) →
-    AllZip IsScheduled now schedules → map entry_of now ≡ map entry_of was → length was ≡ vec_len v → vec_len w ≡ length was →
-    AllZip IsScheduled (with_items v now).items (with_items w schedules).items
-scheduled_are v w now was schedules all entries long as_many =
-    let many = AllZip-long IsScheduled now schedules all in
+-- the indexes as closing left them, in their place
+scheduled_are : (v : Vec StreamParts Global) (w : Vec IndexState Global) (now was : List StreamParts) (indexes : List IndexState) →
+    AllZip IsScheduled now indexes → map entry_of now ≡ map entry_of was → length was ≡ vec_len v → vec_len w ≡ length was →
+    AllZip IsScheduled (with_items v now).items (with_items w indexes).items
+scheduled_are v w now was indexes all entries long as_many =
+    let many = AllZip-long IsScheduled now indexes all in
     let same : length now ≡ length was = omega (arith, length-map now entry_of, length-map was entry_of, ap length entries) in
-    subst (λ ss. AllZip IsScheduled (with_items v now).items ss) (sym (with_items_is w schedules (omega (arith, many, same, as_many))))
-    (subst (λ ps. AllZip IsScheduled ps schedules) (sym (items_are v now was entries long)) all)
+    subst (λ ss. AllZip IsScheduled (with_items v now).items ss) (sym (with_items_is w indexes (omega (arith, many, same, as_many))))
+    (subst (λ ps. AllZip IsScheduled ps indexes) (sym (items_are v now was entries long)) all)
 
-keyed_long : (g : _) (c : goal.In_ok-settle_all g) → vec_len c.in_ok-schedules.schedules ≡ length c.deref_mut.result.now
+keyed_long : (g : _) (c : goal.In_ok-settle_all g) → vec_len c.in_ok-indexes.indexes ≡ length c.deref_mut.result.now
 keyed_long g c =
-    let many = AllZip-long IsKeyedFor c.deref-2.result.now c.in_ok-schedules.schedules.items c.in_ok-schedules.ensures in
+    let many = AllZip-long IsKeyedFor c.deref-2.result.now c.in_ok-indexes.indexes.items c.in_ok-indexes.ensures in
     let first = ap length (c.deref-2.ensures.value ∙ sym c.deref_mut.ensures.value) in
     let second = ap length c.deref_mut-2.ensures.value in
     omega (arith, many, first, second, c.deref_mut-2.ensures.len)
@@ -44,10 +45,11 @@ invariant_of-result g c =
     let entries = c.in_ok-settle_all.ensures.entries in
     let listed = c.in_ok-catalog.ensures ∙ ap (map entry_of) (c.deref.ensures.value ∙ sym c.deref_mut.ensures.value) ∙ sym entries in
     let whole = c.in_ok-settle_all.ensures.whole in (
-      subst (λ (streams : List StreamParts). IsSound (record { streams = streams; records = c.settle_all.new.records; stopped = false }) c.in_ok-catalog.catalog)
+      subst (λ (streams : List StreamParts). IsSound (record { streams = streams; records = c.settle_all.new.records; stopped = false })
+          c.in_ok-catalog.catalog)
           (sym (items_are c.in_ok-records.streams now c.deref_mut.result.now entries c.deref_mut.ensures.len))
           (record { listed = listed; numbers = whole.numbers; settled = λ runs. c.in_ok-settle_all.ensures.settled; whole = λ runs. whole }),
-      λ run. scheduled_are c.in_ok-records.streams c.in_ok-schedules.schedules now c.deref_mut.result.now c.settle_all.new.schedules
+      λ run. scheduled_are c.in_ok-records.streams c.in_ok-indexes.indexes now c.deref_mut.result.now c.settle_all.new.indexes
           c.in_ok-settle_all.ensures.scheduled entries c.deref_mut.ensures.len (keyed_long g c),
     )
 
@@ -57,6 +59,11 @@ returns-in_err-records-clause-opens g c =
     rw (p.1, p.2)
     (step-from c.in_err-records.ensures.reads (λ told read.
     OpensStore-read c.in_err-records.field-0.0 _ _ (g.met.D.Disk.knows_now c.args.disk.now told) read.reads read.opens))
+
+pub indexes_of-requires : goal.indexes_of-requires
+indexes_of-requires g c =
+    let whole = c.in_ok-records.ensures.whole in
+    subst (λ (parts : List StreamParts). All IsOrdered parts) (sym c.deref-2.ensures.value) (ordered-all c.in_ok-records.streams.items whole.tiles whole.times)
 
 pub returns-in_err-catalog-clause-opens : goal.returns-in_err-catalog-clause-opens
 returns-in_err-catalog-clause-opens g c =
@@ -92,9 +99,9 @@ returns-clause-opens g c =
     OpensStore-closed parts now _ _ _ (g.met.D.Disk.knows_now c.args.disk.now told) (rw c.deref_mut.ensures.value read.rebuilt) read.reads
     c.settle_all.new.records store closes same refl)
 
-pub returns-in_err-schedules-clause-opens : goal.returns-in_err-schedules-clause-opens
-returns-in_err-schedules-clause-opens g c =
-    let p = err_from_is_err_and c.from_residual-in_err-schedules.result c.from_residual-in_err-schedules.ensures.1 in
+pub returns-in_err-indexes-clause-opens : goal.returns-in_err-indexes-clause-opens
+returns-in_err-indexes-clause-opens g c =
+    let p = err_from_is_err_and c.from_residual-in_err-indexes.result c.from_residual-in_err-indexes.ensures.1 in
     let step = c.in_ok-records.ensures.reads in
     rw (p.1, p.2)
     (record {

@@ -1,36 +1,72 @@
-use Rattle.std.proofs.Common.{◌≡◌, ◌∙◌, Some, ap, refl, subst, sym}
+use Rattle.std.proofs.Common.{◌≡◌, ◌∙◌, ◌<◌, Some, ap, arith, length, refl, subst, sym}
+use Rattle.std.proofs.lemmas.Option.{slice_get_within}
+use Rattle.std.proofs.lemmas.Slice.Zip.{AllZip-long}
 use Rattle.std.specs.Prelude.{slice_get}
 use Rattle.std.specs.List.{Contains}
 use Rattle.std.specs.List.Sorted.{IsStrictlyIncreasing}
 use Rattle.ss_model.specs.declared.outcome.Outcome.{Outcome}
 use Rattle.ss_query.specs.Answered.{window_slots_of}
 use Rattle.ss_store.specs.Kept.{StoreState, numbers_held, part_named}
+use Rattle.ss_store.specs.Indexed.{IsScheduled}
+use Rattle.ss_store.proofs.Among.{AreWhole-at}
+use Rattle.ss_store.proofs.IndexedStreams.{IsScheduled-at}
 use Rattle.ss_store.proofs.AskedStreams.{IsFirm-kept, answers-kept}
 use Rattle.ss_store.proofs.Looking.{IfChanged-ask, IsPartAt-read, Looks-failed}
 use Rattle.ss_store.proofs.WindowsHeld.{window_slots-below}
 use Rattle.ss_store.proofs.store.Store.query_stream.Goals as goal
 
-pub place_of-requires-clause-rising : goal.place_of-requires-clause-rising
-place_of-requires-clause-rising g c = subst (λ l. IsStrictlyIncreasing (numbers_held l)) (sym c.deref.ensures.value) c.self.invariant.0.numbers
+pub place_of-place-requires-clause-rising : goal.place_of-place-requires-clause-rising
+place_of-place-requires-clause-rising g c = subst (λ l. IsStrictlyIncreasing (numbers_held l)) (sym c.deref.ensures.value) c.self.invariant.0.numbers
 
-pub answer-requires-clause-slots : goal.answer-requires-clause-slots
-answer-requires-clause-slots g c =
+-- the stream has its index at its place
+scheduled : (g : _) (c : goal.After-index g) → IsScheduled c.index-stream.result.now c.index.result.now
+scheduled g c =
     let streams = ap (λ (s : StoreState). s.streams) c.self.view_is in
-    let part = IsPartAt-read c.deref.ensures.value streams c.place_of.ensures.at c.requires.stands c.index-stream.ensures in
+    let part = IsPartAt-read c.deref.ensures.value streams c.place_of-place.ensures.at c.requires.stands c.index-stream.ensures in
+    let here = ap (λ l. slice_get l c.place_of-place.result) streams ∙ part.at in
+    IsScheduled-at c.self.inside.streams.items c.self.inside.indexes.items c.place_of-place.result c.index-stream.result.now c.index.result.now
+    (c.self.invariant.1 (ap (λ (s : StoreState). s.stopped) c.self.view_is ∙ c.requires.runs))
+    (slice_get_within c.self.inside.streams.items c.place_of-place.result c.index-stream.result.now here) c.index-stream.ensures c.index.ensures
+
+pub index-requires : goal.index-requires
+index-requires g c =
+    let streams = ap (λ (s : StoreState). s.streams) c.self.view_is in
+    let part = IsPartAt-read c.deref.ensures.value streams c.place_of-place.ensures.at c.requires.stands c.index-stream.ensures in
+    let here = ap (λ l. slice_get l c.place_of-place.result) streams ∙ part.at in
+    let all = c.self.invariant.1 (ap (λ (s : StoreState). s.stopped) c.self.view_is ∙ c.requires.runs) in
+    let long = AllZip-long IsScheduled c.self.inside.streams.items c.self.inside.indexes.items all in
+    let inside = slice_get_within c.self.inside.streams.items c.place_of-place.result c.index-stream.result.now here in
+    omega (arith, long, inside)
+
+pub start-start-requires-clause-timed : goal.start-start-requires-clause-timed
+start-start-requires-clause-timed g c = (scheduled g c).0.timed
+
+pub start-start-requires-clause-times : goal.start-start-requires-clause-times
+start-start-requires-clause-times g c =
+    let streams = ap (λ (s : StoreState). s.streams) c.self.view_is in
+    let part = IsPartAt-read c.deref.ensures.value streams c.place_of-place.ensures.at c.requires.stands c.index-stream.ensures in
     let whole = c.self.invariant.0.whole (ap (λ (s : StoreState). s.stopped) c.self.view_is ∙ c.requires.runs) in
-    window_slots-below c.self.inside.streams.items c.self.inside.records.live c.place_of.result c.index-stream.result.now whole
-    c.live-live.ensures.sound.slots (ap (λ l. slice_get l c.place_of.result) streams ∙ part.at)
+    (AreWhole-at c.self.inside.streams.items c.self.inside.records.live c.place_of-place.result c.index-stream.result.now whole
+    (ap (λ l. slice_get l c.place_of-place.result) streams ∙ part.at)).0.times
+
+pub answer_from-requires-clause-slots : goal.answer_from-requires-clause-slots
+answer_from-requires-clause-slots g c =
+    let streams = ap (λ (s : StoreState). s.streams) c.self.view_is in
+    let part = IsPartAt-read c.deref.ensures.value streams c.place_of-place.ensures.at c.requires.stands c.index-stream.ensures in
+    let whole = c.self.invariant.0.whole (ap (λ (s : StoreState). s.stopped) c.self.view_is ∙ c.requires.runs) in
+    window_slots-below c.self.inside.streams.items c.self.inside.records.live c.place_of-place.result c.index-stream.result.now whole
+    c.live-live.ensures.sound.slots (ap (λ l. slice_get l c.place_of-place.result) streams ∙ part.at)
 
 pub returns-in-Ok-clause-answers : goal.returns-in-Ok-clause-answers
 returns-in-Ok-clause-answers g c =
     let streams = ap (λ (s : StoreState). s.streams) c.self.view_is in
-    let part = IsPartAt-read c.deref.ensures.value streams c.place_of.ensures.at c.requires.stands c.index-stream.ensures in
+    let part = IsPartAt-read c.deref.ensures.value streams c.place_of-place.ensures.at c.requires.stands c.index-stream.ensures in
     answers-kept c.args.self.now (sym c.requires.same ∙ part.numbered) c.requires.one_disk c.in-Ok.outcome c.in-Ok.ensures.answers
 
 pub returns-in-Err-clause-looks : goal.returns-in-Err-clause-looks
 returns-in-Err-clause-looks g c =
     let streams = ap (λ (s : StoreState). s.streams) c.self.view_is in
-    let part = IsPartAt-read c.deref.ensures.value streams c.place_of.ensures.at c.requires.stands c.index-stream.ensures in
+    let part = IsPartAt-read c.deref.ensures.value streams c.place_of-place.ensures.at c.requires.stands c.index-stream.ensures in
     Looks-failed Outcome c.in-Err.error c.from.result c.args.self.now _ c.from.ensures refl streams
     (c.in-Err.ensures.records.live ∙ ap (λ (s : StoreState). s.records.live) c.self.view_is)
     (IsFirm-kept c.args.self.now (sym c.requires.same ∙ part.numbered) c.requires.one_disk c.in-Err.error c.in-Err.ensures.answers)
@@ -38,7 +74,7 @@ returns-in-Err-clause-looks g c =
 pub returns-in-Err-clause-changed : goal.returns-in-Err-clause-changed
 returns-in-Err-clause-changed g c =
     let streams = ap (λ (s : StoreState). s.streams) c.self.view_is in
-    let part = IsPartAt-read c.deref.ensures.value streams c.place_of.ensures.at c.requires.stands c.index-stream.ensures in
+    let part = IsPartAt-read c.deref.ensures.value streams c.place_of-place.ensures.at c.requires.stands c.index-stream.ensures in
     let named : part_named c.args.query.now.name c.args.self.now.streams ≡ Some c.index-stream.result.now = sym c.requires.same ∙ part.numbered in
     rw named
     (IfChanged-ask Outcome Outcome (Contains (window_slots_of c.index-stream.result.now)) c.in-Err.error c.from.result c.from.ensures

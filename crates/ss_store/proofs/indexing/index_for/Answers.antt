@@ -1,0 +1,16 @@
+use Rattle.std.proofs.Common.{◌≤◌, sym, subst, []}
+use Rattle.ss_windowing.specs.declared.decay.TheConstants.{MOST_VALUES}
+use Rattle.ss_recover.specs.Held.{entries_of}
+use Rattle.ss_store.specs.Indexed.{IsKeyedAt}
+use Rattle.ss_store.proofs.KeyedWindows.{held-few}
+use Rattle.ss_store.proofs.indexing.index_for.Goals as goal
+
+pub add_windows-requires-clause-fresh : goal.add_windows-requires-clause-fresh
+add_windows-requires-clause-fresh g c =
+    c.reserve_places.ensures.keyed c.values_held-n.result []
+    (c.new-index.ensures.keyed c.values_held-n.result
+    (subst (λ n. n ≤ MOST_VALUES) (sym c.values_held-n.ensures) (held-few (entries_of c.args.part.now) c.requires.tiles)))
+
+pub returns : goal.returns
+returns g c =
+    subst (λ n. IsKeyedAt n c.args.part.now c.add_windows.new.index) c.values_held-n.ensures c.in_ok-add_windows.ensures

@@ -1,0 +1,75 @@
+-- The index of a stream: when its windows are joined, and where they stand by their times, over every disk.
+use Rattle.std.specs.Prelude.{◌≡◌, ℕ, ◌+◌, ◌<◌, ◌≤◌, true, false, List, [], ◌∷◌, ◌++◌, length, map}
+use Rattle.ss_line.specs.Line.{LineState}
+use Rattle.ss_line.specs.declared.entry.At.{At}
+use Rattle.ss_line.specs.declared.entry.Entry.{Entry}
+use Rattle.ss_target.specs.Lengths.{lengths_of}
+use Rattle.ss_target.specs.Targets.{params_of}
+use Rattle.ss_windowing.specs.Windowing.{fits}
+use Rattle.ss_windowing.specs.declared.decay.TheConstants.{MOST_VALUES}
+use Rattle.ss_schedule.specs.Keyed.{IsKeyed, ScheduleState}
+use Rattle.ss_schedule.specs.Pairs.{IsPairIn}
+use Rattle.ss_schedule.specs.declared.pair.Pair.{Pair}
+use Rattle.ss_model.specs.Marks.{has_open}
+use Rattle.ss_model.specs.Refusals.{is_past}
+use Rattle.ss_recover.specs.Held.{entries_of}
+use Rattle.ss_recover.specs.declared.parts.StreamParts.{StreamParts}
+use Rattle.ss_store.specs.Changing.{NoneAreDue}
+use Rattle.ss_store.specs.Held.{IsOrdered, values_held}
+
+-- the index of a stream: its schedule, and of each window the time of its first value, with its place
+pub record IndexState : Type 0 where
+  pub schedule : ScheduleState
+  pub times : List (ℕ × At)
+
+-- when the first value of a window came, and where the window stands
+abbrev pub begun_at : At × Entry → ℕ × At
+begun_at e = (e.1.t_first, e.0)
+
+-- times are those of the windows in a line, in order
+abbrev pub IsTimed : List (At × Entry) → List (ℕ × At) → Type 0
+IsTimed entries times = times ≡ map begun_at entries
+
+-- an index of the target of a stream says when each two neighbours of its windows first fit, seen after so many values, and
+-- where each window stands
+pub record IsKeyedAt (n : ℕ) (part : StreamParts) (index : IndexState) : Type 0 where
+  pub target : index.schedule.target ≡ part.target
+  pub keyed : IsKeyed n part.line.entries index.schedule
+  pub timed : IsTimed part.line.entries index.times
+
+-- the same, seen after the values that the windows hold
+abbrev pub IsKeyedFor : StreamParts → IndexState → Type 0
+IsKeyedFor part index = IsKeyedAt (values_held (entries_of part)) part index
+
+-- and none of them is due
+abbrev pub IsScheduled : StreamParts → IndexState → Type 0
+IsScheduled part index = IsKeyedFor part index × NoneAreDue part
+
+-- a schedule has room for each place of a line, also for those to spare
+abbrev pub HasPlaces : LineState → ScheduleState → Type 0
+HasPlaces line schedule = length line.entries + line.spare ≤ length schedule.keys
+
+-- the index of a stream in which no two windows are due is ready for one more that begins at a time: it has room for it, and
+-- has noted the time behind those of the windows
+pub record IsReservedFor (t : ℕ) (part : StreamParts) (index : IndexState) : Type 0 where
+  pub target : index.schedule.target ≡ part.target
+  pub keyed : IsKeyed (values_held (entries_of part)) part.line.entries index.schedule
+  pub none_due : NoneAreDue part
+  pub places : HasPlaces part.line index.schedule
+  pub noted : index.times ≡ map begun_at part.line.entries ++ (t, record { 0 = 0 }) ∷ []
+
+-- a stream takes a value outside landmarks at a time: its line has a place for one more window, and its index is ready for it
+pub record CanAppend (part : StreamParts) (index : IndexState) (t : ℕ) : Type 0 where
+  pub spare : 1 ≤ part.line.spare
+  pub reserved : IsReservedFor t part index
+  pub room : values_held (entries_of part) < MOST_VALUES
+  pub plain : has_open part.landmarks.landmarks ≡ false
+  pub later : is_past part.last_time t ≡ false
+  pub ordered : IsOrdered part
+
+-- two neighbours of a stream's windows are due, and its index is that of its windows
+pub record IsDuePair (part : StreamParts) (index : IndexState) (pair : Pair) : Type 0 where
+  pub ordered : IsOrdered part
+  pub keyed : IsKeyedFor part index
+  pub stands : IsPairIn part.line.entries pair
+  pub fits : fits (lengths_of (params_of part.target)) pair.first pair.last (values_held (entries_of part)) ≡ true
