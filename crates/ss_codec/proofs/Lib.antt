@@ -2,3 +2,4 @@ mod FieldLemmas
 mod FieldOrder
 pub mod RecordLemmas
 mod Rows
+pub mod WindowBytes

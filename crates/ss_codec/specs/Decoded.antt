@@ -1,7 +1,8 @@
 -- The record that some bytes spell, computed: each field is read from its place, and what was read counts where it is a
 -- valid record and the bytes are its spelling.
-use Rattle.std.specs.Prelude.{ℕ, ◌==◌, if◌then◌else◌, List, Option, Some, None, take, drop, slice_index}
+use Rattle.std.specs.Prelude.{ℕ, Bool, ◌==◌, ◌&&◌, if◌then◌else◌, List, Option, Some, None, take, drop, slice_index}
 use Rattle.std.specs.Int.{cast_signed, w64, w128}
+use Rattle.std.specs.List.{list_all}
 use Rattle.std.specs.Str.{bytes_eq}
 use Rattle.ss_fields.specs.Fields.{number_at}
 use Rattle.ss_summary.specs.Figures.{Figures}
@@ -60,6 +61,10 @@ record_in bytes =
     else if slice_index bytes 0 == 4
     then value_in bytes
     else Free
+
+-- whether zeros stand wherever a window has no field
+abbrev pub is_blank : List ℕ → Bool
+is_blank bytes = list_all (λ byte. byte == 0) (take 3 (drop 1 bytes)) && list_all (λ byte. byte == 0) (take 56 (drop 72 bytes))
 
 -- the record, if it is valid
 abbrev pub checked : Record → Option Record

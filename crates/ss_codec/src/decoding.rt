@@ -1,8 +1,10 @@
 // Records, read.
-ghost use Rattle.std.specs.Prelude.{◌≡◌, ◌+◌, ◌-◌, ◌&&◌, ◌≤◌, nat_le, IfSome, IfNone, if◌then◌else◌};
+ghost use Rattle.std.specs.Prelude.{◌≡◌, ◌+◌, ◌-◌, ◌&&◌, ◌==◌, ◌≤◌, nat_le, IsTrue, IfSome, IfNone, if◌then◌else◌};
+ghost use Rattle.std.specs.List.{list_all};
+ghost use Rattle.std.specs.Str.{bytes_eq};
 ghost use Rattle.ss_summary.specs.Possible.{is_possible};
-ghost use Rattle.ss_codec.specs.Record.{Spells, counts_from_1, is_interval};
-ghost use Rattle.ss_codec.specs.Decoded.{checked, decoded, figures_in, finish_in, landmark_in, params_in, record_in, stream_in, value_in, window_in};
+ghost use Rattle.ss_codec.specs.Record.{Spells, counts_from_1, is_interval, is_valid, spelling};
+ghost use Rattle.ss_codec.specs.Decoded.{checked, decoded, figures_in, finish_in, is_blank, landmark_in, params_in, record_in, stream_in, value_in, window_in};
 
 use crate::encoding::encode;
 use crate::record::{
@@ -181,6 +183,33 @@ fn record_in(bytes: &[u8; SLOT_SIZE]) -> Option<Record>
     }
 }
 
+// Whether all of the bytes are zeros.
+fn are_zeros(bytes: &[u8]) -> bool
+    ensures { result ≡ list_all (λ byte. byte == 0) bytes.now }
+{
+    bytes.iter().all(|byte| *byte == 0)
+}
+
+// Whether zeros stand wherever a window has no field.
+fn is_blank(bytes: &[u8; SLOT_SIZE]) -> bool
+    ensures { result ≡ is_blank bytes.now }
+{
+    are_zeros(&bytes[1..4]) && are_zeros(&bytes[72..])
+}
+
+// Whether the bytes are the spelling of the valid record that was read from them. The fields of a window are what was read,
+// so the other bytes tell it.
+fn is_spelling(bytes: &[u8; SLOT_SIZE], found: &Record) -> bool
+    requires valid { IsTrue (is_valid found.now) }
+    requires read { found.now ≡ record_in bytes.now }
+    ensures { result ≡ bytes_eq (spelling found.now) bytes.now }
+{
+    match found {
+        Record::Window { .. } => is_blank(bytes),
+        _ => encode(found) == *bytes,
+    }
+}
+
 /// The record that the bytes spell. None says that they are the spelling of no valid record.
 #[tactic(auto, unfolding(crate::specs::Decoded::decoded))]
 pub fn decode(bytes: &[u8; SLOT_SIZE]) -> Option<Record>
@@ -189,7 +218,7 @@ pub fn decode(bytes: &[u8; SLOT_SIZE]) -> Option<Record>
     ensures exact { result ≡ decoded bytes.now }
 {
     let record = record_in(bytes)?;
-    if encode(&record) == *bytes {
+    if is_spelling(bytes, &record) {
         Some(record)
     } else {
         None

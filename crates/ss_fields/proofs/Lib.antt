@@ -1,3 +1,4 @@
 pub mod FieldLemmas
+pub mod ReadNumbers
 pub mod WordLemmas
 mod Rows

@@ -10,8 +10,8 @@ returns-in_err-record-clause-none c =
     let exact : c.from_residual.result ≡ decoded c.args.bytes.now = grind (arith, common_steps) in
     none-decoded c.from_residual.result c.args.bytes.now exact
 
-pub returns-else-eq-clause-none : goal.returns-else-eq-clause-none
+pub returns-else-is_spelling-clause-none : goal.returns-else-is_spelling-clause-none
 unfolding decoded
-returns-else-eq-clause-none c =
+returns-else-is_spelling-clause-none c =
     let exact : None ≡ decoded c.args.bytes.now = grind (arith, common_steps) in
     none-decoded None c.args.bytes.now exact
