@@ -1,15 +1,16 @@
 -- Rows that pin what the calls of a journal leave, field by field.
-use Rattle.std.proofs.Common.{◌≡◌, ◌⊎◌, ◌+◌, ◌*◌, ◌<◌, ℕ, List, Result, Ok, Err, IsTrue, refl, lit≤}
+use Rattle.std.proofs.Common.{◌≡◌, ◌⊎◌, ◌+◌, ◌*◌, ◌<◌, ℕ, List, [], ◌∷◌, Result, Ok, Err, IsTrue, refl, lit≤}
 use Rattle.ss_outside.specs.Crash.{LeavesOnly, OnlyReads}
 use Rattle.ss_outside.specs.Disk.{NothingPending, Told}
 use Rattle.ss_outside.specs.declared.source.Failed.{Failed}
 use Rattle.ss_journal.specs.declared.journal_error.JournalError.{JournalError}
 use Rattle.ss_journal.specs.declared.journal_error.JournalError.TheVariants.{NotAStore, BadEntry}
+use Rattle.ss_journal.specs.declared.phase.Phase.TheVariants.{Settled}
 use Rattle.ss_journal.specs.declared.put.Put.{Put}
-use Rattle.ss_journal.specs.Calls.{ChangesMap, Commits, HasCommitted, HasSettled, KeepsMap, MakesDurable, Opens, ReadsPage, ReadsSlot, Settles}
-use Rattle.ss_journal.specs.Calls.{entries_after, slot_in_page}
+use Rattle.ss_journal.specs.Calls.{ChangesMap, Commits, HasCommitted, HasMadeRoom, HasSealed, HasSettled, HasStaged, KeepsMap, KeepsShown, MakesDurable}
+use Rattle.ss_journal.specs.Calls.{MakesRoom, Opens, ReadsPage, ReadsSlot, Seals, Settles, Stages, entries_after, slot_in_page}
 use Rattle.ss_journal.specs.Format.{is_born, is_unborn, magic}
-use Rattle.ss_journal.specs.Kept.{IsKept, IsSettled, JournalState}
+use Rattle.ss_journal.specs.Kept.{IsKept, IsSealed, IsSettled, JournalState, shown}
 use Rattle.ss_journal.specs.Puts.{extent_after}
 use Rattle.ss_journal.specs.Redo.{SameMap, SlotMap, StandsFor, bad_entry, changed, not_a_store, redo}
 use Rattle.ss_journal.specs.Writes.{SameRest}
@@ -48,22 +49,41 @@ module _ (old new : Told) (found : SlotMap) where
       LeavesOnly old new (λ image. old.may_leave image ⊎ StandsFor image found)
   MakesDurable-any_moment result makes born is = makes.any_moment born found is
 
-  ReadsSlot-Ok : (slot : ℕ) (bytes : List ℕ) → ReadsSlot slot (Ok bytes) old new → StandsFor old.content found → bytes ≡ found.bytes slot
-  ReadsSlot-Ok slot bytes read is = read.bytes found is
+  module _ (journal : JournalState) where
+    ReadsSlot-Ok : (slot : ℕ) (bytes : List ℕ) → ReadsSlot journal slot (Ok bytes) old new → StandsFor (shown journal old.content) found →
+        bytes ≡ found.bytes slot
+    ReadsSlot-Ok slot bytes read is = read.bytes found is
 
-  ReadsSlot-reads : (slot : ℕ) (result : Result (List ℕ) Failed) → ReadsSlot slot result old new → OnlyReads old new
-  ReadsSlot-reads slot result read = read.reads
+    ReadsSlot-reads : (slot : ℕ) (result : Result (List ℕ) Failed) → ReadsSlot journal slot result old new → OnlyReads old new
+    ReadsSlot-reads slot result read = read.reads
 
-  ReadsPage-Ok : (page k : ℕ) (bytes : List ℕ) → ReadsPage page (Ok bytes) old new → StandsFor old.content found → k < 32 →
-      slot_in_page bytes k ≡ found.bytes (32 * page + k)
-  ReadsPage-Ok page k bytes read is lt = read.bytes found is k lt
+    ReadsPage-Ok : (page k : ℕ) (bytes : List ℕ) → ReadsPage journal page (Ok bytes) old new → StandsFor (shown journal old.content) found → k < 32 →
+        slot_in_page bytes k ≡ found.bytes (32 * page + k)
+    ReadsPage-Ok page k bytes read is lt = read.bytes found is k lt
 
-  -- the last slot of the last page is the last slot
-  ReadsPage-last : (bytes : List ℕ) → ReadsPage 32767 (Ok bytes) old new → StandsFor old.content found → slot_in_page bytes 31 ≡ found.bytes 1048575
-  ReadsPage-last bytes read is = read.bytes found is 31 (lit≤ tt)
+    -- the last slot of the last page is the last slot
+    ReadsPage-last : (bytes : List ℕ) → ReadsPage journal 32767 (Ok bytes) old new → StandsFor (shown journal old.content) found →
+        slot_in_page bytes 31 ≡ found.bytes 1048575
+    ReadsPage-last bytes read is = read.bytes found is 31 (lit≤ tt)
 
-  ReadsPage-reads : (page : ℕ) (result : Result (List ℕ) Failed) → ReadsPage page result old new → OnlyReads old new
-  ReadsPage-reads page result read = read.reads
+    ReadsPage-reads : (page : ℕ) (result : Result (List ℕ) Failed) → ReadsPage journal page result old new → OnlyReads old new
+    ReadsPage-reads page result read = read.reads
+
+  module _ (was then : JournalState) where
+    KeepsShown-Ok : KeepsShown {T = Unit {0}} {E = Failed} was then old new (Ok tt) → StandsFor (shown was old.content) found →
+        StandsFor (shown then new.content) found
+    KeepsShown-Ok keeps is = keeps.map found is
+
+    KeepsShown-any_moment : (before : SlotMap) (result : Result Unit Failed) → KeepsShown was then old new result → NothingPending old →
+        StandsFor old.content before → StandsFor (shown was old.content) found → LeavesOnly old new (λ image. StandsFor image before ⊎ StandsFor image found)
+    KeepsShown-any_moment before result keeps nothing stands is = keeps.any_moment nothing before found stands is
+
+    KeepsShown-durable : KeepsShown {T = Unit {0}} {E = Failed} was then old new (Ok tt) → NothingPending old → NothingPending new
+    KeepsShown-durable keeps = keeps.durable
+
+    Stages-map : (puts : List Put) (content : List ℕ) → Stages puts was then content → IsKept was content → StandsFor (shown was content) found →
+        StandsFor (shown then content) (changed found puts)
+    Stages-map puts content stages kept is = stages.map kept found is
 
 module _ (old new : Told) (journal : JournalState) where
   Opens-reads : (result : Result JournalState JournalError) → Opens result old new → OnlyReads old new
@@ -96,6 +116,30 @@ module _ (old new : Told) (journal : JournalState) where
   Commits-changes_map : (puts : List Put) (result : Result Unit Failed) → Commits journal puts result old new → ChangesMap puts old new result
   Commits-changes_map puts result commits = commits.changes_map
 
+-- a journal with something staged
+abbrev one_staged : JournalState
+one_staged = record { phase = Settled; extent = 1; in_use = 1; waiting = []; sealed = 0; staged = 165 ∷ 1 ∷ [] }
+
+module _ (old new : Told) (was then : JournalState) where
+  MakesRoom-kept : MakesRoom was then (Ok tt) old new → IsKept then new.content
+  MakesRoom-kept room = room.kept
+
+  MakesRoom-keeps_shown : (result : Result Unit Failed) → MakesRoom was then result old new → KeepsShown was then old new result
+  MakesRoom-keeps_shown result room = room.keeps_shown
+
+  Seals-kept : Seals was then (Ok tt) old new → IsKept then new.content
+  Seals-kept seals = seals.kept
+
+  Seals-keeps_shown : (result : Result Unit Failed) → Seals was then result old new → KeepsShown was then old new result
+  Seals-keeps_shown result seals = seals.keeps_shown
+
+  -- where something was staged nothing is pending after
+  Seals-durable : Seals one_staged then (Ok tt) old new → NothingPending new
+  Seals-durable seals = seals.durable
+
+  Stages-kept : (puts : List Put) (content : List ℕ) → Stages puts was then content → IsKept was content → IsKept then content
+  Stages-kept puts content stages = stages.kept
+
 module _ (old new : JournalState) where
   HasSettled-settled : HasSettled old new → IsSettled new
   HasSettled-settled has = has.settled
@@ -106,6 +150,48 @@ module _ (old new : JournalState) where
   HasSettled-in_use : HasSettled old new → new.in_use ≡ 0
   HasSettled-in_use has = has.in_use
 
+  HasSettled-sealed : HasSettled old new → IsSealed new
+  HasSettled-sealed has = has.sealed
+
+  HasMadeRoom-settled : HasMadeRoom old new → IsSettled new
+  HasMadeRoom-settled has = has.settled
+
+  HasMadeRoom-extent : HasMadeRoom old new → new.extent ≡ old.extent
+  HasMadeRoom-extent has = has.extent
+
+  HasMadeRoom-room : HasMadeRoom old new → new.in_use < 64
+  HasMadeRoom-room has = has.room
+
+  HasMadeRoom-in_use : HasMadeRoom old new → new.in_use + 1 ≡ entries_after old.in_use
+  HasMadeRoom-in_use has = has.in_use
+
+  HasMadeRoom-sealed : HasMadeRoom old new → IsSealed old → IsSealed new
+  HasMadeRoom-sealed has = has.sealed
+
+  HasSealed-settled : HasSealed old new → IsSettled new
+  HasSealed-settled has = has.settled
+
+  HasSealed-extent : HasSealed old new → new.extent ≡ old.extent
+  HasSealed-extent has = has.extent
+
+  HasSealed-in_use : HasSealed old new → new.in_use ≡ old.in_use
+  HasSealed-in_use has = has.in_use
+
+  HasSealed-waiting : HasSealed old new → new.waiting ≡ old.waiting
+  HasSealed-waiting has = has.waiting
+
+  HasSealed-sealed : HasSealed old new → IsSealed new
+  HasSealed-sealed has = has.sealed
+
+  HasStaged-settled : (puts : List Put) → HasStaged puts old new → IsSettled new
+  HasStaged-settled puts has = has.settled
+
+  HasStaged-extent : (puts : List Put) → HasStaged puts old new → new.extent ≡ extent_after puts old.extent
+  HasStaged-extent puts has = has.extent
+
+  HasStaged-in_use : (puts : List Put) → HasStaged puts old new → new.in_use ≡ old.in_use + 1
+  HasStaged-in_use puts has = has.in_use
+
   HasCommitted-settled : (puts : List Put) → HasCommitted puts old new → IsSettled new
   HasCommitted-settled puts has = has.settled
 
@@ -114,6 +200,9 @@ module _ (old new : JournalState) where
 
   HasCommitted-in_use : (puts : List Put) → HasCommitted puts old new → new.in_use ≡ entries_after old.in_use
   HasCommitted-in_use puts has = has.in_use
+
+  HasCommitted-sealed : (puts : List Put) → HasCommitted puts old new → IsSealed new
+  HasCommitted-sealed puts has = has.sealed
 
 -- the last slot that a file can have is part of a map, and the first byte after it is part of the rest
 SameMap-last : (first second : SlotMap) → SameMap first second → first.bytes 1048575 ≡ second.bytes 1048575

@@ -194,12 +194,6 @@ length-entry_body puts whole few =
     )
 
 -- what stands after the gate of a spelled entry
-pub body-entry : (puts : List Put) (entry : List ℕ) → AreWhole puts → length puts ≤ 4 → entry ≡ 0 ∷ entry_body puts
-    → take 543 (drop 1 entry) ≡ entry_body puts
-body-entry puts entry whole few is =
-    ap (λ (list : List ℕ). take 543 (drop 1 list)) is ∙ take_all 543 (entry_body puts) (omega (arith, length-entry_body puts whole few))
-
--- one put more
 pub entry-more : (puts : List Put) (k : ℕ) (d : Put) (old : List ℕ) → k < length puts → length puts ≤ 4 → AreWhole (take k puts)
     → old ≡ 0 ∷ length puts ∷ flat_map put_bytes (take k puts) ++ replicate (542 - 132 * k) 0
     → take (2 + 132 * k) old ++ put_bytes (get_or puts k d) ++ drop (2 + 132 * (k + 1)) old ≡ 0 ∷ length puts ∷ flat_map put_bytes (take (k + 1) puts) ++

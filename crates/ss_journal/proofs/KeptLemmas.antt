@@ -3,20 +3,19 @@ use Rattle.std.proofs.Common.{◌++◌, ◌+◌, Ok, Result, IsTrue, List, [], a
 use Rattle.std.proofs.Common.{false, ◌≢◌, ◌≤◌, ◌⊎◌}
 use denote.Enum.Bare.{sameb}
 use Rattle.std.proofs.lemmas.Bool.{both_ways, cases_Bool, cases_lt, cond-false, cond-true, le-ltb, lt-ltb}
-use Rattle.std.proofs.lemmas.List.{length-append}
 use Rattle.ss_journal.specs.Commit.{AddsEntry, IsReadyFor}
 use Rattle.std.specs.Prelude.{IsErr, OnOk, flat_map}
 use Rattle.ss_outside.specs.Disk.{NothingPending, Told}
 use Rattle.ss_outside.specs.declared.source.Failed.{Failed}
 use Rattle.ss_journal.specs.contracts.phase.Phase.{the_type}
 use Rattle.ss_journal.specs.Birth.{Leads}
-use Rattle.ss_journal.specs.Calls.{MakesDurable, Settles}
+use Rattle.ss_journal.specs.Calls.{MakesDurable, ReadsPage, ReadsSlot, Settles}
 use Rattle.ss_journal.specs.Entries.{puts_of}
 use Rattle.ss_journal.specs.Format.{IsCleared, is_born, is_unborn, slot_at, slots_in}
 use Rattle.ss_journal.specs.Gates.{ClosedFrom}
-use Rattle.ss_journal.specs.Kept.{IsBounded, IsInPhase, IsKept, JournalState}
+use Rattle.ss_journal.specs.Kept.{IsInPhase, IsKept, IsShown, JournalState}
 use Rattle.ss_journal.specs.Opening.{AreEntries}
-use Rattle.ss_journal.specs.Puts.{IsTxn, extent_after, is_put, slots_fit, with_puts}
+use Rattle.ss_journal.specs.Puts.{extent_after, is_put, slots_fit, with_puts}
 use Rattle.ss_journal.specs.Redo.{Gives, Redone, SameMap, SlotMap, StandsFor, blank_map, changed, file_map, zeros}
 use Rattle.ss_journal.specs.Steps.{Clears, Durably, Reaches}
 use Rattle.ss_journal.specs.declared.phase.Phase.TheVariants.{Born, Settled, Stopped, Unborn}
@@ -25,7 +24,8 @@ use Rattle.ss_journal.specs.declared.put.Put.{Put}
 use Rattle.ss_journal.proofs.GateLemmas.{file_map-first_closed}
 use Rattle.ss_journal.proofs.HeaderLemmas.{is_born-unborn}
 use Rattle.ss_journal.proofs.MapLemmas.{SameMap-refl}
-use Rattle.ss_journal.proofs.PutLemmas.{below_extent, extent_after-most, is_put-none, past_extent, waiting-below, with_puts-beside, with_puts-put}
+use Rattle.ss_journal.proofs.PutLemmas.{below_extent, is_put-none, past_extent, with_puts-beside, with_puts-put}
+use Rattle.ss_journal.proofs.ShownLemmas.{IsKept-sealed}
 use Rattle.ss_journal.proofs.TearLemmas.{keeps-err, on_err}
 use Rattle.ss_journal.proofs.RedoLemmas.{StandsFor-from, StandsFor-parts, entries_in_use-unborn, redo-born, redo-first_closed, redo-unborn}
 
@@ -36,11 +36,27 @@ cases_phase Born in_use content is = inr is
 cases_phase Settled in_use content is = inr is.0
 cases_phase Stopped in_use content is = absurd is
 
-pub born_phase : (phase : Phase) (in_use : ℕ) (content : List ℕ) → phase ≢ Unborn → IsInPhase phase in_use content → IsTrue (is_born content)
+born_phase : (phase : Phase) (in_use : ℕ) (content : List ℕ) → phase ≢ Unborn → IsInPhase phase in_use content → IsTrue (is_born content)
 born_phase Unborn in_use content other is = absurd (other refl)
 born_phase Born in_use content other is = is
 born_phase Settled in_use content other is = is.0
 born_phase Stopped in_use content other is = absurd is
+
+-- the same of what a journal shows
+pub unborn-shown : (journal : JournalState) (content : List ℕ) → journal.phase ≡ Unborn → IsShown journal content → IsTrue (is_unborn content)
+unborn-shown journal content same is = subst (λ (phase : Phase). IsInPhase phase journal.in_use content) same is.phase
+
+pub born-shown : (journal : JournalState) (content : List ℕ) → journal.phase ≢ Unborn → IsShown journal content → IsTrue (is_born content)
+born-shown journal content other is = born_phase journal.phase journal.in_use content other is.phase
+
+-- a read of the same journal
+pub ReadsSlot-as : {was journal : JournalState} {slot : ℕ} {result : Result (List ℕ) Failed} {old new : Told} → was ≡ journal
+    → ReadsSlot was slot result old new → ReadsSlot journal slot result old new
+ReadsSlot-as {was} {journal} {slot} {result} {old} {new} same = subst (λ (j : JournalState). ReadsSlot j slot result old new) same
+
+pub ReadsPage-as : {was journal : JournalState} {page : ℕ} {result : Result (List ℕ) Failed} {old new : Told} → was ≡ journal
+    → ReadsPage was page result old new → ReadsPage journal page result old new
+ReadsPage-as {was} {journal} {page} {result} {old} {new} same = subst (λ (j : JournalState). ReadsPage j page result old new) same
 
 -- a journal whose phase isn't the first
 pub not_first : (phase : Phase) → sameb the_type phase Unborn ≡ false → phase ≢ Unborn
@@ -55,28 +71,30 @@ durable-unborn old new result unborn durable = record {
 }
 
 -- a journal over an unformatted file
-pub IsKept-unborn : (size slots : ℕ) (waiting : List Put) (content : List ℕ) → size ≡ length content → slots ≡ slots_in size → waiting ≡ []
-    → IsTrue (is_unborn content) → IsKept (record { phase = Unborn; extent = slots; in_use = 0; waiting = waiting }) content
-IsKept-unborn size slots waiting content long counted none unborn = record {
+pub IsKept-unborn : (size slots : ℕ) (waiting : List Put) (staged content : List ℕ) → size ≡ length content → slots ≡ slots_in size → waiting ≡ []
+    → IsTrue (is_unborn content) → staged ≡ []
+    → IsKept (record { phase = Unborn; extent = slots; in_use = 0; waiting = waiting; sealed = 0; staged = staged }) content
+IsKept-unborn size slots waiting staged content long counted none unborn sealed = IsKept-sealed _ content sealed (record {
   phase = unborn;
   number = ap length (sym (entries_in_use-unborn content unborn));
   waiting = none ∙ ap (flat_map puts_of) (sym (entries_in_use-unborn content unborn));
   found = blank_map content;
   map = redo-unborn content unborn;
   extent = sym (counted ∙ ap slots_in long);
-}
+})
 
 -- a journal over a formatted file, of which the entries were read
-pub IsKept-born : (content : List ℕ) (in_use : ℕ) (waiting : List Put) (extent : ℕ) → IsTrue (is_born content) → AreEntries content in_use waiting extent
-    → IsKept (record { phase = Born; extent = extent; in_use = in_use; waiting = waiting }) content
-IsKept-born content in_use waiting extent born read = record {
+pub IsKept-born : (content : List ℕ) (in_use : ℕ) (waiting : List Put) (extent : ℕ) (staged : List ℕ) → IsTrue (is_born content)
+    → AreEntries content in_use waiting extent → staged ≡ []
+    → IsKept (record { phase = Born; extent = extent; in_use = in_use; waiting = waiting; sealed = in_use; staged = staged }) content
+IsKept-born content in_use waiting extent staged born read sealed = IsKept-sealed _ content sealed (record {
   phase = born;
   number = read.number;
   waiting = read.in_use.all;
   found = read.in_use.found;
   map = read.in_use.map;
   extent = read.extent;
-}
+})
 
 -- the file of a journal in any phase but the first is formatted, since nothing is kept of a stopped one
 pub born_formed : (phase : Phase) (in_use : ℕ) (content : List ℕ) → (phase ≡ Born) ⊎ ((phase ≡ Settled) ⊎ (phase ≡ Stopped)) → IsInPhase phase in_use content
@@ -86,36 +104,39 @@ born_formed phase in_use content (inr (inl is)) now = (subst (λ p. IsInPhase p 
 born_formed phase in_use content (inr (inr is)) now = absurd (subst (λ p. IsInPhase p in_use content) is now)
 
 -- a settled journal: the file alone gives the map, and no put waits
-pub IsKept-settled : (extent : ℕ) (waiting : List Put) (content : List ℕ) (found : SlotMap) → IsTrue (is_born content) → ClosedFrom 0 content
-    → StandsFor content found → found.extent ≡ extent → waiting ≡ [] → IsKept (record { phase = Settled; extent = extent; in_use = 0; waiting = waiting })
-    content
-IsKept-settled extent waiting content found born closed is same none =
+pub IsKept-settled : (extent : ℕ) (waiting : List Put) (staged content : List ℕ) (found : SlotMap) → IsTrue (is_born content) → ClosedFrom 0 content
+    → StandsFor content found → found.extent ≡ extent → waiting ≡ [] → staged ≡ []
+    → IsKept (record { phase = Settled; extent = extent; in_use = 0; waiting = waiting; sealed = 0; staged = staged }) content
+IsKept-settled extent waiting staged content found born closed is same none sealed =
     let first = closed 0 (omega arith) (omega arith) in
     let alone = redo-first_closed content born first in
-    record {
+    IsKept-sealed _ content sealed (record {
       phase = (born, closed);
       number = ap length (sym alone.2);
       waiting = none ∙ sym alone.1;
       found = file_map content;
       map = alone.0;
       extent = (file_map-first_closed content found born first is).extent ∙ same;
-    }
+    })
 
 -- what a settling leaves of the disk and the map, by what stood in the file
-module _ (journal : JournalState) (old new : Told) (kept : IsKept journal old.content) where
-  settled-kept : (waiting : List Put) → IsTrue (is_born new.content) → ClosedFrom 0 new.content
-      → ((found : SlotMap) → StandsFor old.content found → StandsFor new.content found) → waiting ≡ []
-      → IsKept (record { phase = Settled; extent = journal.extent; in_use = 0; waiting = waiting }) new.content
-  settled-kept waiting born closed map none =
-      IsKept-settled journal.extent waiting new.content kept.found born closed
-      (map kept.found (StandsFor-from old.content kept.found kept.found kept.map (SameMap-refl kept.found))) kept.extent none
+module _ (journal : JournalState) (old new : Told) (kept : IsShown journal old.content) (waiting : List Put) (staged : List ℕ) where
+  -- the journal then
+  abbrev settled : JournalState
+  settled = record { phase = Settled; extent = journal.extent; in_use = 0; waiting = waiting; sealed = 0; staged = staged }
+
+  pub settled-kept : IsTrue (is_born new.content) → ClosedFrom 0 new.content
+      → ((found : SlotMap) → StandsFor old.content found → StandsFor new.content found) → waiting ≡ [] → staged ≡ [] → IsKept settled new.content
+  settled-kept born closed map none sealed =
+      IsKept-settled journal.extent waiting staged new.content kept.found born closed
+      (map kept.found (StandsFor-from old.content kept.found kept.found kept.map (SameMap-refl kept.found))) kept.extent none sealed
 
   -- it was unformatted
   module _ (unborn : IsTrue (is_unborn old.content)) where
-    pub settles-born : (value done : Unit {0}) (waiting : List Put) → waiting ≡ [] → Durably (Reaches (Leads IsCleared)) (Ok value) old new
-        → Settles (record { phase = Settled; extent = journal.extent; in_use = 0; waiting = waiting }) (Ok done) old new
-    settles-born value done waiting none born = record {
-      kept = settled-kept waiting born.step.reached.0.0 born.step.reached.0.1 born.step.keeps_map.map none;
+    pub settles-born : (value done : Unit {0}) → waiting ≡ [] → staged ≡ [] → Durably (Reaches (Leads IsCleared)) (Ok value) old new
+        → Settles settled (Ok done) old new
+    settles-born value done none sealed born = record {
+      kept = settled-kept born.step.reached.0.0 born.step.reached.0.1 born.step.keeps_map.map none sealed;
       keeps_map = born.step.keeps_map;
       makes_durable = durable-unborn old new (Ok done) unborn born.durable;
       rest = λ _. born.step.reached.1;
@@ -131,24 +152,16 @@ module _ (journal : JournalState) (old new : Told) (kept : IsKept journal old.co
     }
 
   -- it was formatted
-  pub settles-formed : (value done : Unit {0}) (waiting : List Put) → waiting ≡ [] → IsTrue (is_born old.content) → Clears (Ok value) old new
-      → Settles (record { phase = Settled; extent = journal.extent; in_use = 0; waiting = waiting }) (Ok done) old new
-  settles-formed value done waiting none formed clears = record {
-    kept = settled-kept waiting clears.cleared.reached.0 clears.cleared.reached.1 clears.cleared.keeps_map.map none;
+  pub settles-formed : (value done : Unit {0}) → waiting ≡ [] → staged ≡ [] → IsTrue (is_born old.content) → Clears (Ok value) old new
+      → Settles settled (Ok done) old new
+  settles-formed value done none sealed formed clears = record {
+    kept = settled-kept clears.cleared.reached.0 clears.cleared.reached.1 clears.cleared.keeps_map.map none sealed;
     keeps_map = clears.cleared.keeps_map;
     makes_durable = clears.makes_durable;
     rest = λ unborn. absurd (both_ways _ (is_born-unborn old.content unborn) formed);
   }
 
-  -- room is made
-  pub settles-room : (value done : Unit {0}) (waiting : List Put) → waiting ≡ [] → Reaches (λ _ content. IsCleared content) (Ok value) old new
-      → Reaches (λ _ content. IsKept (record { phase = Settled; extent = journal.extent; in_use = 0; waiting = waiting }) content) (Ok done) old new
-  settles-room value done waiting none cleared = record {
-    keeps_map = cleared.keeps_map;
-    reached = settled-kept waiting cleared.reached.0 cleared.reached.1 cleared.keeps_map.map none;
-  }
-
-module _ (journal : JournalState) (content : List ℕ) (found : SlotMap) (slot : ℕ) (kept : IsKept journal content) (is : StandsFor content found)
+module _ (journal : JournalState) (content : List ℕ) (found : SlotMap) (slot : ℕ) (kept : IsShown journal content) (is : StandsFor content found)
     (lt : slot < 2 ^ 20) where
   unborn_bytes : IsTrue (is_unborn content) → zeros ≡ found.bytes slot
   unborn_bytes unborn = let same : SameMap (blank_map content) found = subst (λ (r : Redone). Gives r found) (redo-unborn content unborn) is in
@@ -206,7 +219,7 @@ module _ (journal : JournalState) (content : List ℕ) (found : SlotMap) (slot :
   unused_bytes (inl unborn) = unborn_bytes unborn
   unused_bytes (inr past) = ⊎_elim unborn_bytes (λ born. past_bytes born past) (cases_phase journal.phase journal.in_use content kept.phase)
 
-module _ (journal : JournalState) (content : List ℕ) (settled : journal.phase ≡ Settled) (kept : IsKept journal content) where
+module _ (journal : JournalState) (content : List ℕ) (settled : journal.phase ≡ Settled) (kept : IsShown journal content) where
   pub formed-settled : IsTrue (is_born content) × ClosedFrom journal.in_use content
   formed-settled = subst (λ (phase : Phase). IsInPhase phase journal.in_use content) settled kept.phase
 
@@ -225,28 +238,16 @@ module _ (journal : JournalState) (content : List ℕ) (settled : journal.phase 
   StandsFor-kept = StandsFor-from content kept.found kept.found kept.map (SameMap-refl kept.found)
 
   -- with the transaction in the next entry
-  pub IsKept-committed : (puts : List Put) (new : List ℕ) (extent in_use : ℕ) (waiting : List Put) → AddsEntry journal.in_use puts content new
-      → StandsFor new (changed kept.found puts) → extent ≡ extent_after puts journal.extent → in_use ≡ journal.in_use + 1
-      → waiting ≡ journal.waiting ++ puts → IsKept (record { phase = Settled; extent = extent; in_use = in_use; waiting = waiting }) new
-  IsKept-committed puts new extent in_use waiting added is after more joins =
-      let parts = StandsFor-parts new (changed kept.found puts) is in
+  pub IsShown-staged : (puts : List Put) (is : JournalState) (new : List ℕ) → AddsEntry journal.in_use puts content new
+      → StandsFor new (changed kept.found puts) → is.phase ≡ Settled → is.extent ≡ extent_after puts journal.extent → is.in_use ≡ journal.in_use + 1
+      → is.waiting ≡ journal.waiting ++ puts → IsShown is new
+  IsShown-staged puts is new added stands phase after more joins =
+      let parts = StandsFor-parts new (changed kept.found puts) stands in
       record {
-        phase = (added.born, subst (λ (n : ℕ). ClosedFrom n new) (sym more) added.closed);
+        phase = subst (λ (p : Phase). IsInPhase p is.in_use new) (sym phase) (added.born, subst (λ (n : ℕ). ClosedFrom n new) (sym more) added.closed);
         number = more ∙ added.number;
         waiting = joins ∙ ap (λ (p : List Put). p ++ puts) kept.waiting ∙ sym added.all;
         found = parts.0;
         map = parts.1;
         extent = parts.2.extent ∙ ap (extent_after puts) kept.extent ∙ sym after;
       }
-
--- its numbers stay in their bounds
-pub IsBounded-committed : (journal : JournalState) (puts : List Put) (extent in_use : ℕ) (waiting : List Put) → IsBounded journal → IsTxn puts
-    → IsTrue (slots_fit puts journal.extent) → journal.in_use < 64 → extent ≡ extent_after puts journal.extent → in_use ≡ journal.in_use + 1
-    → waiting ≡ journal.waiting ++ puts → IsBounded (record { phase = Settled; extent = extent; in_use = in_use; waiting = waiting })
-IsBounded-committed journal puts extent in_use waiting bounded txn fit free after more joins = record {
-  extent = omega (arith, after, extent_after-most puts journal.extent txn bounded.extent);
-  waiting = rw (joins, after) (waiting-below journal.waiting puts journal.extent fit bounded.waiting);
-  unborn = λ same. absurd (cc);
-  in_use = omega (arith, more, free);
-  few = omega (arith, more, bounded.few, txn.few, ap length joins, length-append journal.waiting puts);
-}

@@ -1,6 +1,6 @@
 pub mod BirthLemmas
 pub mod CommitLemmas
-pub mod CommitSteps
+pub mod EnterSteps
 pub mod EntryLemmas
 pub mod GateLemmas
 pub mod HeaderLemmas
@@ -15,8 +15,11 @@ pub mod RangeLemmas
 pub mod RedoLemmas
 mod CallRows
 pub mod Rows
+pub mod SealSteps
 pub mod SettleSteps
+pub mod ShownLemmas
 pub mod SlotLemmas
+pub mod StageLemmas
 pub mod StepLemmas
 pub mod TearLemmas
 pub mod WriteSteps

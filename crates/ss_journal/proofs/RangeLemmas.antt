@@ -102,7 +102,7 @@ Covers-part at count from part low high = record {
 }
 
 -- two writes, one after the other, are one
-overwrite-overwrite : (content first second : List ℕ) (at mid : ℕ) → at ≤ length content → at + length first ≡ mid
+pub overwrite-overwrite : (content first second : List ℕ) (at mid : ℕ) → at ≤ length content → at + length first ≡ mid
     → overwrite (overwrite content at first) mid second ≡ overwrite content at (first ++ second)
 overwrite-overwrite content first second at mid within there =
     let front : length (take at content ++ first) ≡ mid = omega (arith, there, length-append (take at content) first, length-take-le at content within) in

@@ -10,6 +10,7 @@ use Rattle.ss_journal.specs.declared.journal_error.JournalError.{JournalError}
 use Rattle.ss_journal.specs.declared.journal_error.JournalError.TheVariants.{Disk, NotAStore, BadEntry, OutOfMemory}
 use Rattle.ss_journal.specs.Format.{magic, is_unborn, is_born, slots_in}
 use Rattle.ss_journal.specs.Gates.{entry_place, other_gates}
+use Rattle.ss_journal.specs.Kept.{with_entries}
 use Rattle.ss_journal.specs.Entries.{puts_of, is_good, open_prefix, entries, entry_body}
 use Rattle.ss_journal.specs.Redo.{SlotMap, Redone, stands, bad_entry, not_a_store, redo_entries, redo, changed, zeros, entries_in_use}
 
@@ -49,6 +50,13 @@ slots_in-short = refl
 
 pub slots_in-most : slots_in (134254592 + 1000) ≡ 1048576
 slots_in-most = refl
+
+-- what is staged stands from its entry on, and where nothing is the content stays
+pub with_entries-none : with_entries 1 [] (1 ∷ 2 ∷ []) ≡ 1 ∷ 2 ∷ []
+with_entries-none = refl
+
+pub with_entries-one : with_entries 1 (165 ∷ 7 ∷ []) (replicate 1060 0) ≡ replicate 1056 0 ++ 165 ∷ 7 ∷ 0 ∷ 0 ∷ []
+with_entries-one = refl
 
 -- an entry of one put: 128 times this byte into this slot
 abbrev pub one_put : ℕ → ℕ → List ℕ

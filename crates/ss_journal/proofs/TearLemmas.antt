@@ -5,10 +5,9 @@ use Rattle.std.specs.Prelude.{IsErr, OnOk}
 use Rattle.ss_outside.proofs.CrashLemmas.{after_write, at_start, goes_on, joined, nothing_pending-same, now, of_content, read_leaves, weaker}
 use Rattle.ss_outside.specs.Crash.{Elapses, KnowsNow, LeavesOnly, OnlyReads}
 use Rattle.ss_outside.specs.Disk.{BecomesPending, NothingPending, StaysSame, Told}
-use Rattle.ss_journal.specs.Calls.{ChangesMap, KeepsMap, MakesDurable}
-use Rattle.ss_journal.specs.Redo.{SlotMap, StandsFor, changed}
+use Rattle.ss_journal.specs.Calls.{KeepsMap, MakesDurable}
+use Rattle.ss_journal.specs.Redo.{SlotMap, StandsFor}
 use Rattle.ss_journal.specs.Writes.{DiffersIn, IsTorn, Tears}
-use Rattle.ss_journal.specs.declared.put.Put.{Put}
 use Rattle.ss_journal.proofs.RangeLemmas.{Covers, DiffersAt-torn, DiffersIn-append, DiffersIn-covered, DiffersIn-refl}
 
 IsTorn-none : (ranges : List (ℕ × ℕ)) (disk : Told) (image : List ℕ) → disk.may_leave image → IsTorn ranges disk image
@@ -116,16 +115,6 @@ keeps-err old new step result failed keeps = record {
   durable = λ only. on_err result _ failed;
 }
 
--- a call that changed nothing because it failed early
-pub changes-failed : {T E S : Type 0} (old new : Told) (puts : List Put) (result : Result T E) (step : Result S E) → IsErr result
-    → KeepsMap old new step → ChangesMap puts old new result
-changes-failed old new puts result step failed keeps = record {
-  map = λ found is. on_err result _ failed;
-  any_moment = λ only found is. weaker old new (λ image. StandsFor image found) (λ image. StandsFor image found ⊎ StandsFor image (changed found puts))
-      (λ image stands. inl stands) (keeps.any_moment only found is);
-  durable = on_err result _ failed;
-}
-
 module _ {T E : Type 0} (old mid new : Told) (result : Result T E) {S : Type 0} (value : S) where
   pub keeps-joined : KeepsMap {T = S} {E = E} old mid (Ok value) → KeepsMap mid new result → KeepsMap old new result
   keeps-joined first second = record {
@@ -134,27 +123,6 @@ module _ {T E : Type 0} (old mid new : Told) (result : Result T E) {S : Type 0} 
         (second.any_moment (first.durable only) found (first.map found is));
     durable = λ only. second.durable (first.durable only);
   }
-
--- the same of another result that is an error
-pub changes-err : {T E S : Type 0} (old new : Told) (puts : List Put) (result : Result T E) (step : Result S E) → IsErr result
-    → ChangesMap puts old new step → ChangesMap puts old new result
-changes-err old new puts result step failed changes = record {
-  map = λ found is. on_err result _ failed;
-  any_moment = changes.any_moment;
-  durable = on_err result _ failed;
-}
-
--- a change after calls that keep the map
-pub changes-after : {T E S : Type 0} (old mid new : Told) (puts : List Put) (value : S) (result : Result T E) → KeepsMap {T = S} {E = E} old mid (Ok value)
-    → ChangesMap puts mid new result → ChangesMap puts old new result
-changes-after old mid new puts value result first second = record {
-  map = λ found is. second.map found (first.map found is);
-  any_moment = λ only found is.
-      let P : List ℕ → Type 0 = λ image. StandsFor image found ⊎ StandsFor image (changed found puts) in
-      joined old mid new P (weaker old mid (λ image. StandsFor image found) P (λ image stands. inl stands) (first.any_moment only found is))
-      (second.any_moment (first.durable only) found (first.map found is));
-  durable = second.durable;
-}
 
 -- a sync, and then calls that keep the map
 module _ (old mid : Told) (knows : KnowsNow old) (time : Elapses old mid) (no_other : (image : List ℕ) → mid.may_leave image → old.may_leave image) where

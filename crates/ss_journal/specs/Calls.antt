@@ -10,7 +10,7 @@ use Rattle.ss_journal.specs.declared.journal_error.JournalError.{JournalError}
 use Rattle.ss_journal.specs.declared.journal_error.JournalError.TheVariants.{Disk, NotAStore, BadEntry, OutOfMemory}
 use Rattle.ss_journal.specs.declared.format.TheConstants.{ENTRIES, PAGE_SLOTS, SLOT_SIZE}
 use Rattle.ss_journal.specs.Format.{is_unborn, is_born}
-use Rattle.ss_journal.specs.Kept.{JournalState, IsKept, IsSettled, OpensAs}
+use Rattle.ss_journal.specs.Kept.{IfStaged, JournalState, IsKept, IsSealed, IsSettled, OpensAs, shown}
 use Rattle.ss_journal.specs.Puts.{extent_after}
 use Rattle.ss_journal.specs.Redo.{SlotMap, StandsFor, changed}
 use Rattle.ss_journal.specs.Writes.{SameRest}
@@ -33,6 +33,16 @@ pub record ChangesMap {T E : Type 0} (puts : List Put) (old new : Told) (result 
       → LeavesOnly old new (λ image. StandsFor image found ⊎ StandsFor image (changed found puts))
   -- at Ok nothing is pending
   pub durable : OnOk result (NothingPending new)
+
+-- What a journal shows stays over a call, by which it becomes another: what was staged comes to the disk as a whole, if it does.
+pub record KeepsShown {T E : Type 0} (was is : JournalState) (old new : Told) (result : Result T E) : Type 0 where
+  -- at Ok the journal shows the same map
+  pub map : (found : SlotMap) → StandsFor (shown was old.content) found → OnOk result (StandsFor (shown is new.content) found)
+  -- with nothing pending at the call, a crash at any moment of it leaves the map of the content or the one that the journal shows
+  pub any_moment : NothingPending old → (before found : SlotMap) → StandsFor old.content before → StandsFor (shown was old.content) found
+      → LeavesOnly old new (λ image. StandsFor image before ⊎ StandsFor image found)
+  -- and at Ok nothing is pending
+  pub durable : NothingPending old → OnOk result (NothingPending new)
 
 -- A call makes what was pending durable, and then keeps the map.
 pub record MakesDurable {T E : Type 0} (old new : Told) (result : Result T E) : Type 0 where
@@ -69,18 +79,30 @@ pub record Commits (journal : JournalState) (puts : List Put) (result : Result U
   pub kept : OnOk result (IsKept journal new.content)
   pub changes_map : ChangesMap puts old new result
 
--- A slot is read: its bytes are those of the map. Content and images stay.
-pub record ReadsSlot (slot : ℕ) (result : Result (List ℕ) Failed) (old new : Told) : Type 0 where
-  pub bytes : (found : SlotMap) → StandsFor old.content found → IfOk result (λ bytes. bytes ≡ found.bytes slot)
+-- A journal makes room, and is this then: the map that it shows stays.
+pub record MakesRoom (was is : JournalState) (result : Result Unit Failed) (old new : Told) : Type 0 where
+  pub kept : OnOk result (IsKept is new.content)
+  pub keeps_shown : KeepsShown was is old new result
+
+-- A journal seals what is staged, and is this then: the map that it shows stays, and where something was staged nothing is
+-- pending at Ok.
+pub record Seals (was is : JournalState) (result : Result Unit Failed) (old new : Told) : Type 0 where
+  pub kept : OnOk result (IsKept is new.content)
+  pub keeps_shown : KeepsShown was is old new result
+  pub durable : IfStaged was.staged (OnOk result (NothingPending new))
+
+-- A slot is read: its bytes are those of the map that the journal shows. Content and images stay.
+pub record ReadsSlot (journal : JournalState) (slot : ℕ) (result : Result (List ℕ) Failed) (old new : Told) : Type 0 where
+  pub bytes : (found : SlotMap) → StandsFor (shown journal old.content) found → IfOk result (λ bytes. bytes ≡ found.bytes slot)
   pub reads : OnlyReads old new
 
 -- the bytes of a slot within those of its page, of which it is number k
 abbrev pub slot_in_page : List ℕ → ℕ → List ℕ
 slot_in_page bytes k = take SLOT_SIZE (drop (SLOT_SIZE * k) bytes)
 
--- A page is read: its bytes are those of its slots in the map. Content and images stay.
-pub record ReadsPage (page : ℕ) (result : Result (List ℕ) Failed) (old new : Told) : Type 0 where
-  pub bytes : (found : SlotMap) → StandsFor old.content found →
+-- A page is read: its bytes are those of its slots in the map that the journal shows. Content and images stay.
+pub record ReadsPage (journal : JournalState) (page : ℕ) (result : Result (List ℕ) Failed) (old new : Told) : Type 0 where
+  pub bytes : (found : SlotMap) → StandsFor (shown journal old.content) found →
       IfOk result (λ bytes. (k : ℕ) → k < PAGE_SLOTS → slot_in_page bytes k ≡ found.bytes (PAGE_SLOTS * page + k))
   pub reads : OnlyReads old new
 
@@ -89,20 +111,42 @@ pub record HasSettled (old new : JournalState) : Type 0 where
   pub settled : IsSettled new
   pub extent : new.extent ≡ old.extent
   pub in_use : new.in_use ≡ 0
+  pub sealed : IsSealed new
 
 -- how many entries are in use after one more commit: where all were, they are settled before
 abbrev pub entries_after : ℕ → ℕ
 entries_after in_use = if nat_lt in_use ENTRIES then in_use + 1 else 1
 
--- What a commit makes of a journal before it writes, over every disk: an entry is free.
+-- What making room makes of a journal, over every disk: an entry is free. Where none was, nothing is staged any more.
 pub record HasMadeRoom (old new : JournalState) : Type 0 where
   pub settled : IsSettled new
   pub extent : new.extent ≡ old.extent
   pub room : new.in_use < ENTRIES
   pub in_use : new.in_use + 1 ≡ entries_after old.in_use
+  pub sealed : IsSealed old → IsSealed new
+
+-- What sealing makes of a journal, over every disk: all of its entries stand in the file.
+pub record HasSealed (old new : JournalState) : Type 0 where
+  pub settled : IsSettled new
+  pub extent : new.extent ≡ old.extent
+  pub in_use : new.in_use ≡ old.in_use
+  pub waiting : new.waiting ≡ old.waiting
+  pub sealed : IsSealed new
+
+-- What staging these puts makes of a journal, over every disk: they are in an entry more.
+pub record HasStaged (puts : List Put) (old new : JournalState) : Type 0 where
+  pub settled : IsSettled new
+  pub extent : new.extent ≡ extent_after puts old.extent
+  pub in_use : new.in_use ≡ old.in_use + 1
+
+-- A journal over a content became another by staging these puts: it shows the map with them.
+pub record Stages (puts : List Put) (was is : JournalState) (content : List ℕ) : Type 0 where
+  pub kept : IsKept was content → IsKept is content
+  pub map : IsKept was content → (found : SlotMap) → StandsFor (shown was content) found → StandsFor (shown is content) (changed found puts)
 
 -- What a commit of these puts makes of a journal, over every disk.
 pub record HasCommitted (puts : List Put) (old new : JournalState) : Type 0 where
   pub settled : IsSettled new
   pub extent : new.extent ≡ extent_after puts old.extent
   pub in_use : new.in_use ≡ entries_after old.in_use
+  pub sealed : IsSealed new

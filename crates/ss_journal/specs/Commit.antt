@@ -1,9 +1,7 @@
 -- When a transaction may be committed, and what an entry of it adds.
 use Rattle.std.specs.Prelude.{◌≡◌, ℕ, ◌+◌, List, ◌++◌, length, IsTrue}
-use Rattle.ss_outside.specs.Disk.{overwrite}
 use Rattle.ss_journal.specs.declared.put.Put.{Put}
-use Rattle.ss_journal.specs.Entries.{entry_body}
-use Rattle.ss_journal.specs.Gates.{ClosedFrom, entry_place}
+use Rattle.ss_journal.specs.Gates.{ClosedFrom}
 use Rattle.ss_journal.specs.Format.{is_born}
 use Rattle.ss_journal.specs.Puts.{slots_fit}
 use Rattle.ss_journal.specs.Redo.{SlotMap, stands, redo, entries_in_use, puts_in_use}
@@ -16,10 +14,6 @@ pub record IsReadyFor (n : ℕ) (puts : List Put) (content : List ℕ) : Type 0 
   pub found : SlotMap
   pub map : redo content ≡ stands found
   pub fit : IsTrue (slots_fit puts found.extent)
-
--- an entry of these puts stands in place n, after its gate
-abbrev pub IsSpelled : ℕ → List Put → List ℕ → List ℕ → Type 0
-IsSpelled n puts old new = new ≡ overwrite old (entry_place n + 1) (entry_body puts)
 
 -- entry n, of these puts, is in use after those before it, and each later gate is closed
 pub record AddsEntry (n : ℕ) (puts : List Put) (old new : List ℕ) : Type 0 where

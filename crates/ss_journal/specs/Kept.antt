@@ -1,21 +1,30 @@
 -- A journal and the content of its disk.
-use Rattle.std.specs.Prelude.{◌≡◌, ◌≢◌, ℕ, ◌*◌, ◌<◌, ◌≤◌, List, [], length, IsTrue, All, Result, Ok, Err, ⊤}
+use Rattle.std.specs.Prelude.{◌≡◌, ◌≢◌, ℕ, ◌+◌, ◌*◌, ◌<◌, ◌≤◌, List, [], ◌∷◌, length, IsTrue, All, Result, Ok, Err, ⊤}
+use Rattle.ss_outside.specs.Disk.{overwrite}
 use Rattle.ss_journal.specs.declared.put.Put.{Put}
-use Rattle.ss_journal.specs.declared.format.TheConstants.{ENTRIES, MOST_PUTS, MOST_SLOTS}
+use Rattle.ss_journal.specs.declared.format.TheConstants.{ENTRIES, ENTRY_SIZE, GATE_OPEN, MOST_PUTS, MOST_SLOTS}
 use Rattle.ss_journal.specs.declared.phase.Phase.{Phase}
 use Rattle.ss_journal.specs.declared.phase.Phase.TheVariants.{Unborn, Born, Settled, Stopped}
 use Rattle.ss_journal.specs.declared.journal_error.JournalError.{JournalError}
 use Rattle.ss_journal.specs.declared.journal_error.JournalError.TheVariants.{Disk, NotAStore, BadEntry, OutOfMemory}
-use Rattle.ss_journal.specs.Gates.{ClosedFrom}
+use Rattle.ss_journal.specs.Gates.{ClosedFrom, IsClosed, entry_place}
 use Rattle.ss_journal.specs.Format.{is_unborn, is_born}
 use Rattle.ss_journal.specs.Redo.{SlotMap, not_a_store, bad_entry, stands, redo, entries_in_use, puts_in_use}
 
--- a journal: its phase, its extent, the number of entries in use, and their puts
+-- a journal: its phase, its extent, the number of entries in use, and their puts; how many of the entries stand in the file, and
+-- the bytes of those after them, which are staged
 pub record JournalState : Type 0 where
   pub phase : Phase
   pub extent : ℕ
   pub in_use : ℕ
   pub waiting : List Put
+  pub sealed : ℕ
+  pub staged : List ℕ
+
+-- bytes of entries, if any, begin with an open gate
+abbrev pub BeginsOpen : List ℕ → Type 0
+BeginsOpen [] = ⊤
+BeginsOpen (gate ∷ bytes) = gate ≡ GATE_OPEN
 
 -- what is true of each journal, whatever the disk tells
 pub record IsBounded (journal : JournalState) : Type 0 where
@@ -24,6 +33,9 @@ pub record IsBounded (journal : JournalState) : Type 0 where
   pub unborn : journal.phase ≡ Unborn → journal.waiting ≡ []
   pub in_use : journal.in_use ≤ ENTRIES
   pub few : length journal.waiting ≤ MOST_PUTS * journal.in_use
+  pub staged : ENTRY_SIZE * journal.sealed + length journal.staged ≡ ENTRY_SIZE * journal.in_use
+  -- what is staged begins with an open gate
+  pub gate : BeginsOpen journal.staged
 
 -- no call has failed
 abbrev pub IsRunning : JournalState → Type 0
@@ -44,15 +56,46 @@ IsInPhase Born in_use content = IsTrue (is_born content)
 IsInPhase Settled in_use content = IsTrue (is_born content) × ClosedFrom in_use content
 IsInPhase Stopped in_use content = ⊥
 
--- One disk: the content is as the journal keeps it. Its entries in use are those that the journal keeps, and once settled
--- each gate after them is closed.
-pub record IsKept (journal : JournalState) (content : List ℕ) : Type 0 where
+-- nothing is staged
+abbrev pub IsSealed : JournalState → Type 0
+IsSealed journal = journal.staged ≡ []
+
+-- the content with these bytes from entry n on
+abbrev pub with_entries : ℕ → List ℕ → List ℕ → List ℕ
+with_entries n [] content = content
+with_entries n (gate ∷ bytes) content = overwrite content (entry_place n) (gate ∷ bytes)
+
+-- what a journal shows over a content: the content with the entries that are staged
+abbrev pub shown : JournalState → List ℕ → List ℕ
+shown journal content = with_entries journal.sealed journal.staged content
+
+-- One disk: what the journal shows over the content is as it keeps it. The entries in use are those that the journal keeps, and
+-- once settled each gate after them is closed.
+pub record IsShown (journal : JournalState) (content : List ℕ) : Type 0 where
   pub phase : IsInPhase journal.phase journal.in_use content
   pub number : journal.in_use ≡ length (entries_in_use content)
   pub waiting : journal.waiting ≡ puts_in_use content
   pub found : SlotMap
   pub map : redo content ≡ stands found
   pub extent : found.extent ≡ journal.extent
+
+-- a formatted content that stands for a map, whose entries in use end before entry n, the gate of which is closed
+pub record EndsBefore (n : ℕ) (content : List ℕ) : Type 0 where
+  pub born : IsTrue (is_born content)
+  pub closed : IsClosed n content
+  pub number : n ≡ length (entries_in_use content)
+  pub found : SlotMap
+  pub map : redo content ≡ stands found
+
+-- a fact where something is staged
+abbrev pub IfStaged : List ℕ → Type 0 → Type 0
+IfStaged [] P = ⊤
+IfStaged (gate ∷ bytes) P = P
+
+-- One disk: what the journal shows is as it keeps it, and where entries are staged the content ends before them.
+pub record IsKept (journal : JournalState) (content : List ℕ) : Type 0 where
+  pub shown : IsShown journal (shown journal content)
+  pub before : IfStaged journal.staged (EndsBefore journal.sealed content)
 
 -- what opening a content answers
 abbrev pub OpensAs : List ℕ → Result JournalState JournalError → Type 0

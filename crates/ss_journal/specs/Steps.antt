@@ -1,14 +1,14 @@
 -- What a step of a call leaves of the disk, and of the map.
-use Rattle.std.specs.Prelude.{◌≡◌, ℕ, List, [], ◌∷◌, length, replicate, Bool, Result, OnOk}
-use Rattle.ss_outside.specs.Crash.{OnlyReads}
+use Rattle.std.specs.Prelude.{◌≡◌, ◌⊎◌, ℕ, List, [], ◌∷◌, length, replicate, Bool, Result, OnOk}
+use Rattle.ss_outside.specs.Crash.{LeavesOnly, OnlyReads}
 use Rattle.ss_outside.specs.Disk.{Told, NothingPending, overwrite}
 use Rattle.ss_outside.specs.declared.source.Failed.{Failed}
 use Rattle.ss_journal.specs.declared.put.Put.{Put}
 use Rattle.ss_journal.specs.Birth.{magic_bytes}
-use Rattle.ss_journal.specs.Calls.{ChangesMap, KeepsMap, MakesDurable}
-use Rattle.ss_journal.specs.Commit.{AddsEntry}
+use Rattle.ss_journal.specs.Calls.{KeepsMap, MakesDurable}
 use Rattle.ss_journal.specs.Format.{IsCleared}
 use Rattle.ss_journal.specs.Gates.{ClosesGate, entry_place}
+use Rattle.ss_journal.specs.Redo.{SlotMap, StandsFor}
 use Rattle.ss_journal.specs.Writes.{Tears, slot_ranges, slots_written}
 
 -- The disk is read, and this is so of its content. Content and images stay.
@@ -57,7 +57,10 @@ pub record Clears (result : Result Unit Failed) (old new : Told) : Type 0 where
   pub cleared : Reaches (λ _ content. IsCleared content) result old new
   pub makes_durable : MakesDurable old new result
 
--- A transaction comes into entry n: the map changes by all of its puts, or not at all.
-pub record Enters (n : ℕ) (puts : List Put) (result : Result Unit Failed) (old new : Told) : Type 0 where
-  pub changes_map : ChangesMap puts old new result
-  pub added : OnOk result (AddsEntry n puts old.content new.content)
+-- Entries come into the file from entry n on, all or none: with nothing pending before, a crash at any moment leaves the map from
+-- before or the one with them.
+pub record Enters (n : ℕ) (bytes : List ℕ) (result : Result Unit Failed) (old new : Told) : Type 0 where
+  pub written : OnOk result (new.content ≡ overwrite old.content (entry_place n) bytes)
+  pub any_moment : NothingPending old → (before found : SlotMap) → StandsFor old.content before
+      → StandsFor (overwrite old.content (entry_place n) bytes) found → LeavesOnly old new (λ image. StandsFor image before ⊎ StandsFor image found)
+  pub durable : OnOk result (NothingPending new)

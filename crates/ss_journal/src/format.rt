@@ -29,6 +29,9 @@ pub const PUT_SIZE: usize = 132;
 // How many puts all entries hold at most.
 pub const MOST_WAITING: usize = 256;
 
+// How many bytes all entries have.
+pub const ENTRIES_SIZE: usize = 34_816;
+
 /// How many bytes a slot has.
 pub const SLOT_SIZE: usize = 128;
 

@@ -1,9 +1,11 @@
 // The journal.
 use crate::JournalError;
 use crate::birth::give_birth;
-use crate::committing::add_entry;
-use crate::entry::extent_after;
-use crate::format::{ENTRIES, MOST_PAGES, MOST_SLOTS, PAGE_SIZE, SLOT_SIZE, slots_in};
+use crate::committing::add_entries;
+use crate::entry::{entry_of, extent_after};
+use crate::format::{
+    ENTRIES, ENTRIES_SIZE, GATE_OPEN, MOST_PAGES, MOST_SLOTS, PAGE_SIZE, SLOT_SIZE, slots_in,
+};
 use crate::opening::{read_entries, read_head};
 use crate::paging::{clear_unused, lay_puts, read_slots};
 use crate::phase::Phase;
@@ -11,6 +13,7 @@ use crate::put::Txn;
 use crate::reading::read_slot;
 use crate::settling::{settle_entries, settle_formed};
 use crate::waiting::Waiting;
+use arrayvec::ArrayVec;
 use ss_outside::{Disk, Failed};
 use std::alloc::Global;
 use std::marker::Model;
@@ -25,6 +28,9 @@ pub struct Journal {
     // How many entries are in use, and their puts in order, which may not have come into their slots.
     in_use: u32,
     waiting: Waiting,
+    // How many of these entries stand in the file, and the bytes of those after them, which don't yet.
+    sealed: u32,
+    staged: ArrayVec<u8, ENTRIES_SIZE>,
 }
 
 impl Model for Journal {
@@ -32,27 +38,29 @@ impl Model for Journal {
 
     ghost Value = { JournalState };
 
-    ghost view = { λ s. record { phase = s.phase; extent = s.extent; in_use = s.in_use; waiting = s.waiting } };
+    ghost view = { λ s. record { phase = s.phase; extent = s.extent; in_use = s.in_use; waiting = s.waiting; sealed = s.sealed; staged = s.staged.items } };
 
-    ghost invariant = { λ s. IsBounded (record { phase = s.phase; extent = s.extent; in_use = s.in_use; waiting = s.waiting }) };
+    ghost invariant = { λ s.
+        IsBounded (record { phase = s.phase; extent = s.extent; in_use = s.in_use; waiting = s.waiting; sealed = s.sealed; staged = s.staged.items }) };
 }
 
 impl Journal {
-    ghost use Rattle.std.specs.Prelude.{◌≡◌, ◌≤◌, ◌<◌, IsTrue, IfOk, OnOk, OnErr};
+    ghost use Rattle.std.specs.Prelude.{◌≡◌, ◌≤◌, ◌<◌, ℕ, List, IsTrue, IfOk, OnOk, OnErr};
     ghost use Rattle.ss_outside.specs.Disk.{OfContent};
     ghost use Rattle.ss_outside.specs.Step.{Step};
     ghost use Rattle.ss_outside.specs.Verdict.{verdict};
     ghost use Rattle.ss_journal.specs.Puts.{slots_fit, IsTxn};
     ghost use Rattle.ss_journal.specs.Redo.{zeros};
-    ghost use Rattle.ss_journal.specs.Kept.{IsKept, IsRunning, IsSettled, HasStopped};
-    ghost use Rattle.ss_journal.specs.Calls.{Commits, HasCommitted, HasMadeRoom, HasSettled, Opens, ReadsPage, ReadsSlot, Settles, verdict_of_open};
-    ghost use Rattle.ss_journal.specs.Steps.{Reaches};
+    ghost use Rattle.ss_journal.specs.Kept.{HasStopped, IsKept, IsRunning, IsSealed, IsSettled};
+    ghost use Rattle.ss_journal.specs.Calls.{Commits, HasCommitted, HasMadeRoom, HasSealed, HasSettled, HasStaged, MakesRoom, Opens, ReadsPage};
+    ghost use Rattle.ss_journal.specs.Calls.{ReadsSlot, Seals, Settles, Stages, verdict_of_open};
 
     /// Opens a disk, formatted or not. It reads the entries in use and writes nothing.
     pub fn open<D: Disk>(alloc: Global, disk: &mut D) -> Result<Journal, JournalError>
         // The map of the content, or why it has none. Nothing is written.
         ensures opens { Step (verdict_of_open result) (D.seen disk.old) (D.seen disk.new) (Opens result) }
         ensures running { IfOk result (λ journal. IsRunning journal × (journal.extent ≤ MOST_SLOTS)) }
+        ensures sealed { IfOk result IsSealed }
     {
         let head = read_head(disk)?;
         let slots = slots_in(head.length);
@@ -62,6 +70,8 @@ impl Journal {
                 extent: slots,
                 in_use: 0,
                 waiting: Waiting::new(alloc)?,
+                sealed: 0,
+                staged: ArrayVec::new(),
             });
         }
         if !head.is_born() {
@@ -73,6 +83,8 @@ impl Journal {
             extent: read.extent,
             in_use: read.in_use,
             waiting: read.waiting,
+            sealed: read.in_use,
+            staged: ArrayVec::new(),
         })
     }
 
@@ -88,6 +100,7 @@ impl Journal {
     /// entries in use into their slots and closes their gates. It leaves the map as it is, also in a crash.
     pub fn settle<D: Disk>(&mut self, disk: &mut D) -> Result<(), Failed>
         requires running { IsRunning self.old }
+        requires sealed { IsSealed self.old }
         requires one_disk { OfContent (D.seen disk.old) (IsKept self.old) }
         // The map stays, also in a crash at any moment of the call, and whatever is pending is made durable.
         ensures settles { Step (verdict result) (D.seen disk.old) (D.seen disk.new) (Settles self.new result) }
@@ -105,6 +118,7 @@ impl Journal {
         }
         self.waiting.clear();
         self.in_use = 0;
+        self.sealed = 0;
         self.phase = Phase::Settled;
         Ok(())
     }
@@ -114,7 +128,7 @@ impl Journal {
         requires running { IsRunning self.old }
         requires slot { slot < MOST_SLOTS }
         requires one_disk { OfContent (D.seen disk.old) (IsKept self.old) }
-        ensures reads { Step (verdict result) (D.seen disk.old) (D.seen disk.new) (ReadsSlot slot result) }
+        ensures reads { Step (verdict result) (D.seen disk.old) (D.seen disk.new) (ReadsSlot self.old slot result) }
         ensures unused { self.old.extent ≤ slot → IfOk result (λ bytes. bytes ≡ zeros) }
         ensures journal { OnOk result (self.new ≡ self.old) }
         ensures stopped { OnErr result (HasStopped self.new) }
@@ -140,7 +154,7 @@ impl Journal {
         requires running { IsRunning self.old }
         requires page { page < MOST_PAGES }
         requires one_disk { OfContent (D.seen disk.old) (IsKept self.old) }
-        ensures reads { Step (verdict result) (D.seen disk.old) (D.seen disk.new) (ReadsPage page result) }
+        ensures reads { Step (verdict result) (D.seen disk.old) (D.seen disk.new) (ReadsPage self.old page result) }
         ensures journal { OnOk result (self.new ≡ self.old) }
         ensures stopped { OnErr result (HasStopped self.new) }
     {
@@ -161,21 +175,62 @@ impl Journal {
         }
     }
 
-    // Where every entry is in use, brings them into their slots and closes their gates.
-    fn make_room<D: Disk>(&mut self, disk: &mut D) -> Result<(), Failed>
+    /// Where every entry is in use, seals those that are staged, brings all into their slots and closes their gates. It leaves the
+    /// map that the journal shows as it is; a crash leaves that one or the map from before the staged transactions.
+    pub fn make_room<D: Disk>(&mut self, disk: &mut D) -> Result<(), Failed>
         requires settled { IsSettled self.old }
         requires one_disk { OfContent (D.seen disk.old) (IsKept self.old) }
-        ensures makes_room { Step (verdict result) (D.seen disk.old) (D.seen disk.new) (Reaches (λ _ content. IsKept self.new content) result) }
+        ensures makes_room { Step (verdict result) (D.seen disk.old) (D.seen disk.new) (MakesRoom self.old self.new result) }
         ensures made { OnOk result (HasMadeRoom self.old self.new) }
         ensures stopped { OnErr result (HasStopped self.new) }
     {
         if self.in_use < ENTRIES {
             return Ok(());
         }
+        self.seal(disk)?;
         self.phase = Phase::Stopped;
         settle_entries(disk, self.waiting.as_slice())?;
         self.waiting.clear();
         self.in_use = 0;
+        self.sealed = 0;
+        self.phase = Phase::Settled;
+        Ok(())
+    }
+
+    /// Stages a transaction in memory, for the next `seal`: the journal shows its puts from now on. The disk stays as it is.
+    pub fn stage(&mut self, txn: &Txn)
+        requires settled { IsSettled self.old }
+        requires txn { IsTxn txn.now.items }
+        // Each slot in order is at most the extent so far.
+        requires fit { IsTrue (slots_fit txn.now.items self.old.extent) }
+        requires room { self.old.in_use < ENTRIES }
+        ensures stages { (content : List ℕ) → Stages txn.now.items self.old self.new content }
+        ensures staged { HasStaged txn.now.items self.old self.new }
+    {
+        let mut entry = entry_of(txn);
+        entry[0] = GATE_OPEN;
+        let _ = self.staged.try_extend_from_slice(&entry);
+        self.extent = extent_after(txn, self.extent);
+        self.waiting.add(txn);
+        self.in_use += 1;
+    }
+
+    /// Brings all staged transactions to the disk together, by two syncs. A crash at any moment of the call leaves the map from
+    /// before them or the map with all of them, and after `Ok` the latter. At `Failed` the disk may hold either.
+    pub fn seal<D: Disk>(&mut self, disk: &mut D) -> Result<(), Failed>
+        requires settled { IsSettled self.old }
+        requires one_disk { OfContent (D.seen disk.old) (IsKept self.old) }
+        ensures seals { Step (verdict result) (D.seen disk.old) (D.seen disk.new) (Seals self.old self.new result) }
+        ensures sealed { OnOk result (HasSealed self.old self.new) }
+        ensures stopped { OnErr result (HasStopped self.new) }
+    {
+        if self.staged.is_empty() {
+            return Ok(());
+        }
+        self.phase = Phase::Stopped;
+        add_entries(disk, self.sealed, self.staged.as_slice())?;
+        self.staged.clear();
+        self.sealed = self.in_use;
         self.phase = Phase::Settled;
         Ok(())
     }
@@ -184,6 +239,7 @@ impl Journal {
     /// before it or after it, and after `Ok` the map after it. At `Failed` the disk may hold either.
     pub fn commit<D: Disk>(&mut self, disk: &mut D, txn: &Txn) -> Result<(), Failed>
         requires settled { IsSettled self.old }
+        requires sealed { IsSealed self.old }
         requires txn { IsTxn txn.now.items }
         // Each slot in order is at most the extent so far.
         requires fit { IsTrue (slots_fit txn.now.items self.old.extent) }
@@ -195,12 +251,7 @@ impl Journal {
         ensures stopped { OnErr result (HasStopped self.new) }
     {
         self.make_room(disk)?;
-        self.phase = Phase::Stopped;
-        add_entry(disk, self.in_use, txn)?;
-        self.extent = extent_after(txn, self.extent);
-        self.waiting.add(txn);
-        self.in_use += 1;
-        self.phase = Phase::Settled;
-        Ok(())
+        self.stage(txn);
+        self.seal(disk)
     }
 }

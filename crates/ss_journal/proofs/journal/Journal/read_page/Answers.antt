@@ -3,14 +3,14 @@ use denote.Enum.Bare.{same_true}
 use Rattle.ss_outside.proofs.CrashLemmas.{reads-none}
 use Rattle.ss_outside.proofs.StepLemmas.{step-none}
 use Rattle.ss_journal.specs.contracts.phase.Phase.{the_type}
-use Rattle.ss_journal.specs.declared.phase.Phase.{Phase}
 use Rattle.ss_journal.specs.declared.phase.Phase.TheVariants.{Unborn}
 use Rattle.ss_journal.specs.declared.put.Put.{Put}
 use Rattle.ss_journal.specs.Calls.{slot_in_page}
-use Rattle.ss_journal.specs.Kept.{IsInPhase, IsKept, JournalState}
+use Rattle.ss_journal.specs.Kept.{IsKept, JournalState}
 use Rattle.ss_journal.specs.Puts.{with_puts}
-use Rattle.ss_journal.proofs.KeptLemmas.{born_phase, not_first, page_bytes, unused_bytes}
+use Rattle.ss_journal.proofs.KeptLemmas.{ReadsPage-as, born-shown, not_first, page_bytes, unborn-shown, unused_bytes}
 use Rattle.ss_journal.proofs.PageLemmas.{slot_in_page-zeros}
+use Rattle.ss_journal.proofs.ShownLemmas.{slot_at-shown}
 use Rattle.ss_journal.proofs.StepLemmas.{step-from}
 use Rattle.ss_journal.proofs.journal.Journal.read_page.Goals as goal
 
@@ -20,27 +20,29 @@ returns-then-eq-clause-reads g c =
     step-none _ _ (λ told.
     let kept = subst (λ (journal : JournalState). IsKept journal content) (sym c.self.view_is) (c.requires.one_disk told) in
     let same : c.self.inside.phase ≡ Unborn = same_true the_type (search rules) c.self.inside.phase Unborn (sym c.if-eq.ensures) in
-    let unborn = subst (λ (phase : Phase). IsInPhase phase c.self.inside.in_use content) same kept.phase in
-    record {
+    ReadsPage-as c.self.view_is (record {
       bytes = λ found is k lt.
           let slot : 32 * c.args.page + k < 2 ^ 20 = omega (arith, lt, c.requires.page) in
-          slot_in_page-zeros k lt ∙ unused_bytes _ content found (32 * c.args.page + k) kept is slot (inl unborn);
+          slot_in_page-zeros k lt
+          ∙ unused_bytes _ _ found (32 * c.args.page + k) kept.shown is slot (inl (unborn-shown _ _ same kept.shown));
       reads = reads-none _;
-    })
+    }))
 
 pub returns-in-Ok-clause-reads : goal.returns-in-Ok-clause-reads
 returns-in-Ok-clause-reads g c =
     let content = (g.D.Disk.seen c.args.disk.now).told.content in
     step-from c.in-Ok.ensures (λ told read.
     let kept = subst (λ (journal : JournalState). IsKept journal content) (sym c.self.view_is) (c.requires.one_disk told) in
-    let born = born_phase c.self.inside.phase c.self.inside.in_use content (not_first c.self.inside.phase (sym c.if-eq.ensures)) kept.phase in
-    record {
+    let born = born-shown _ _ (not_first c.self.inside.phase (sym c.if-eq.ensures)) kept.shown in
+    ReadsPage-as c.self.view_is (record {
       bytes = λ found is k lt.
           let slot = 32 * c.args.page + k in
           let below : slot < 2 ^ 20 = omega (arith, lt, c.requires.page) in
-          page_bytes _ content found slot kept is below born (slot_in_page c.read_slots.new.bytes k) (slot_in_page c.clear_unused.new.bytes k)
-          (slot_in_page c.lay_puts.new.bytes k) (read.found k lt) (c.clear_unused.ensures.used k lt) (c.clear_unused.ensures.unused k lt)
+          page_bytes _ _ found slot kept.shown is below born (slot_in_page c.read_slots.new.bytes k) (slot_in_page c.clear_unused.new.bytes k)
+          (slot_in_page c.lay_puts.new.bytes k)
+          (λ lies. let same = slot_at-shown _ content c.self.invariant kept born slot lies in read.found k lt same.0 ∙ same.1)
+          (c.clear_unused.ensures.used k lt) (c.clear_unused.ensures.unused k lt)
           (c.lay_puts.ensures k lt
           ∙ ap (λ (puts : List Put). with_puts puts (λ _. slot_in_page c.clear_unused.new.bytes k) slot) c.as_slice.ensures);
       reads = read.reads;
-    })
+    }))

@@ -2,10 +2,10 @@ use Rattle.std.proofs.Common.{Ok, sym, subst}
 use Rattle.ss_outside.specs.Step.{Step}
 use Rattle.ss_outside.specs.Verdict.{fine}
 use Rattle.ss_journal.specs.declared.phase.Phase.TheVariants.{Settled}
-use Rattle.ss_journal.specs.declared.phase.Phase.{Phase}
 use Rattle.ss_journal.specs.Calls.{Settles}
-use Rattle.ss_journal.specs.Kept.{JournalState, IsInPhase, IsKept}
-use Rattle.ss_journal.proofs.KeptLemmas.{born_formed, settles-born, settles-formed, settles-unborn}
+use Rattle.ss_journal.specs.Kept.{IsKept, IsSealed, JournalState}
+use Rattle.ss_journal.proofs.KeptLemmas.{born_formed, settles-born, settles-formed, settles-unborn, unborn-shown}
+use Rattle.ss_journal.proofs.ShownLemmas.{IsShown-sealed}
 use Rattle.ss_journal.proofs.StepLemmas.{step-failed, step-from}
 use Rattle.ss_journal.proofs.journal.Journal.settle.Goals.{in-Unborn+in_ok-give_birth-in-Unborn, in-Born+in_ok-settle_formed-in-Born}
 use Rattle.ss_journal.proofs.journal.Journal.settle.Goals as goal
@@ -14,24 +14,35 @@ pub returns-in_err-give_birth-in-Unborn-clause-settles : goal.returns-in_err-giv
 returns-in_err-give_birth-in-Unborn-clause-settles g c =
     let failed = c.from_residual in
     let content = (g.D.Disk.seen c.args.disk.now).told.content in
+    let sealed = subst IsSealed (sym c.self.view_is) c.requires.sealed in
     step-failed failed.result failed.ensures.0 c.in_err-give_birth-in-Unborn.ensures (λ told birth.
     let kept = subst (λ (j : JournalState). IsKept j content) (sym c.self.view_is) (c.requires.one_disk told) in
-    settles-unborn _ _ _ kept (subst (λ (phase : Phase). IsInPhase phase c.self.inside.in_use content) c.in-Unborn.is kept.phase) _ failed.result
-    failed.ensures.0 birth)
+    let is = IsShown-sealed _ content sealed kept in
+    settles-unborn _ _ _ is c.self.inside.waiting c.self.inside.staged.items (unborn-shown _ content c.in-Unborn.is is) _ failed.result failed.ensures.0 birth)
 
 pub returns-clause-settles : goal.returns-clause-settles
 returns-clause-settles g c =
     let content = (g.D.Disk.seen c.args.disk.now).told.content in
-    let settled : JournalState = record { phase = Settled; extent = c.self.inside.extent; in_use = 0; waiting = c.clear.new.self } in
+    let staged = c.self.inside.staged.items in
+    let sealed = subst IsSealed (sym c.self.view_is) c.requires.sealed in
+    let settled : JournalState = record {
+      phase = Settled;
+      extent = c.self.inside.extent;
+      in_use = 0;
+      waiting = c.clear.new.self;
+      sealed = 0;
+      staged = staged;
+    } in
     elim c.match-phase.branch [
       | in-Unborn+in_ok-give_birth-in-Unborn w ↦ subst (λ d. Step fine (g.D.Disk.seen c.args.disk.now) (g.D.Disk.seen d) (Settles settled (Ok tt)))
           (sym w.disk-is) (step-from w.in_ok-give_birth-in-Unborn.ensures (λ told birth.
           let kept = subst (λ (j : JournalState). IsKept j content) (sym c.self.view_is) (c.requires.one_disk told) in
-          settles-born _ _ _ kept (subst (λ (phase : Phase). IsInPhase phase c.self.inside.in_use content) w.in-Unborn.is kept.phase) _ _ c.clear.new.self
-          c.clear.ensures birth))
+          let is = IsShown-sealed _ content sealed kept in
+          settles-born _ _ _ is c.clear.new.self staged (unborn-shown _ content w.in-Unborn.is is) _ _ c.clear.ensures sealed birth))
       | in-Born+in_ok-settle_formed-in-Born w ↦ subst (λ d. Step fine (g.D.Disk.seen c.args.disk.now) (g.D.Disk.seen d) (Settles settled (Ok tt)))
           (sym w.disk-is) (step-from w.in_ok-settle_formed-in-Born.ensures (λ told clears.
           let kept = subst (λ (j : JournalState). IsKept j content) (sym c.self.view_is) (c.requires.one_disk told) in
-          settles-formed _ _ _ kept _ _ c.clear.new.self c.clear.ensures (born_formed c.self.inside.phase c.self.inside.in_use content w.in-Born.is kept.phase)
-          clears))
+          let is = IsShown-sealed _ content sealed kept in
+          settles-formed _ _ _ is c.clear.new.self staged _ _ c.clear.ensures sealed
+          (born_formed c.self.inside.phase c.self.inside.in_use content w.in-Born.is is.phase) clears))
     ]

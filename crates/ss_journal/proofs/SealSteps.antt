@@ -1,0 +1,126 @@
+-- The steps of a journal: what is staged is sealed, room is made, and a transaction is committed.
+use Rattle.std.proofs.Common.{Err, List, Ok, Result, [], arith, inl, inr, length, subst, sym, ℕ, ⊎_elim, ◌+◌, ◌<◌, ◌≡◌, ◌⊎◌}
+use Rattle.std.proofs.lemmas.Bool.{cases_lt}
+use Rattle.std.proofs.lemmas.List.{nil_from_length}
+use Rattle.std.proofs.lemmas.Result.{on_ok_weaker}
+use Rattle.std.specs.Prelude.{IsErr, OnOk}
+use Rattle.ss_outside.proofs.CrashLemmas.{joined, weaker}
+use Rattle.ss_outside.specs.Disk.{Told}
+use Rattle.ss_outside.specs.declared.source.Failed.{Failed}
+use Rattle.ss_journal.specs.Calls.{Commits, KeepsMap, KeepsShown, MakesRoom, Seals, Stages}
+use Rattle.ss_journal.specs.Format.{IsCleared}
+use Rattle.ss_journal.specs.Kept.{IsKept, IsSealed, IsShown, JournalState, shown}
+use Rattle.ss_journal.specs.Redo.{SlotMap, StandsFor, changed}
+use Rattle.ss_journal.specs.Steps.{Reaches}
+use Rattle.ss_journal.specs.declared.phase.Phase.TheVariants.{Settled}
+use Rattle.ss_journal.specs.declared.put.Put.{Put}
+use Rattle.ss_journal.proofs.KeptLemmas.{settled-kept}
+use Rattle.ss_journal.proofs.ShownLemmas.{IfStaged-some, IsShown-sealed, shown-sealed}
+use Rattle.ss_journal.proofs.TearLemmas.{on_err}
+
+-- once all is sealed the map of the content is kept
+pub shown-joined : {T E S : Type 0} (was mid then : JournalState) (old between new : Told) (value : S) (result : Result T E) → IsSealed mid → IsSealed then
+    → KeepsShown {T = S} {E = E} was mid old between (Ok value) → KeepsMap between new result → KeepsShown was then old new result
+shown-joined was mid then old between new value result sealed also first second =
+    let stands : (found : SlotMap) → StandsFor (shown was old.content) found → StandsFor between.content found =
+    λ found gives. subst (λ (list : List ℕ). StandsFor list found) (shown-sealed mid between.content sealed) (first.map found gives) in
+    record {
+      map = λ found gives. on_ok_weaker result
+          (λ is. subst (λ (list : List ℕ). StandsFor list found) (sym (shown-sealed then new.content also)) is)
+          (second.map found (stands found gives));
+      any_moment = λ only before found is gives.
+          let P : List ℕ → Type 0 = λ image. StandsFor image before ⊎ StandsFor image found in
+          joined old between new P (first.any_moment only before found is gives)
+          (weaker between new (λ image. StandsFor image found) P (λ image stood. inr stood)
+          (second.any_moment (first.durable only) found (stands found gives)));
+      durable = λ only. second.durable (first.durable only);
+    }
+
+-- the same of a journal that is named otherwise
+pub Seals-as : {was then journal : JournalState} {result : Result (Unit {0}) Failed} {old new : Told} → then ≡ journal → Seals was then result old new
+    → Seals was journal result old new
+Seals-as {was} {then} {journal} {result} {old} {new} same = subst (λ (j : JournalState). Seals was j result old new) same
+
+-- all that is staged is sealed, and then the entries come into their slots
+pub room-made : (was mid : JournalState) (old between new : Told) (value cleared done : Unit {0}) (waiting : List Put) → Seals was mid (Ok value) old between
+    → IsSealed mid → waiting ≡ [] → Reaches (λ _ content. IsCleared content) (Ok cleared) between new
+    → MakesRoom was (record { phase = Settled; extent = mid.extent; in_use = 0; waiting = waiting; sealed = 0; staged = mid.staged }) (Ok done) old new
+room-made was mid old between new value cleared done waiting seals sealed none reaches = record {
+  kept = settled-kept mid between new (IsShown-sealed mid between.content sealed seals.kept) waiting mid.staged reaches.reached.0 reaches.reached.1
+      reaches.keeps_map.map none sealed;
+  keeps_shown = shown-joined was mid _ old between new value (Ok done) sealed sealed seals.keeps_shown
+      (record { map = reaches.keeps_map.map; any_moment = reaches.keeps_map.any_moment; durable = reaches.keeps_map.durable });
+}
+
+-- the same where the entries didn't come there
+pub room-uncleared : {step : Result (Unit {0}) Failed} (was mid left : JournalState) (old between new : Told) (value : Unit {0})
+    (result : Result (Unit {0}) Failed) → IsErr result → Seals was mid (Ok value) old between → IsSealed mid
+    → Reaches (λ _ content. IsCleared content) step between new → MakesRoom was left result old new
+room-uncleared {step} was mid left old between new value result failed seals sealed reaches =
+    let keeps = shown-joined was mid mid old between new value step sealed sealed seals.keeps_shown reaches.keeps_map in
+    record {
+      kept = on_err result _ failed;
+      keeps_shown = record { map = λ found is. on_err result _ failed; any_moment = keeps.any_moment; durable = λ only. on_err result _ failed };
+    }
+
+-- a transaction is staged where nothing was, and sealed
+module _ (puts : List Put) (was : JournalState) (sealed-was : IsSealed was) where
+  gives-was : (content : List ℕ) (found : SlotMap) → StandsFor content found → StandsFor (shown was content) found
+  gives-was content found is = subst (λ (list : List ℕ). StandsFor list found) (sym (shown-sealed was content sealed-was)) is
+
+  pub commits-no_room : {step : Result (Unit {0}) Failed} (mid left : JournalState) (old new : Told) (result : Result (Unit {0}) Failed) → IsErr result
+      → MakesRoom was mid step old new → Commits left puts result old new
+  commits-no_room mid left old new result failed room = record {
+    kept = on_err result _ failed;
+    changes_map = record {
+      map = λ found is. on_err result _ failed;
+      any_moment = λ only found is. weaker old new (λ image. StandsFor image found ⊎ StandsFor image found)
+          (λ image. StandsFor image found ⊎ StandsFor image (changed found puts)) (λ image. ⊎_elim (λ stands. inl stands) (λ stands. inl stands))
+          (room.keeps_shown.any_moment only found found is (gives-was old.content found is));
+      durable = on_err result _ failed;
+    };
+  }
+
+  module _ (free staged left : JournalState) (old between new : Told) (value : Unit {0}) (room : MakesRoom was free (Ok value) old between)
+      (sealed : IsSealed free) (more : staged.in_use ≡ free.in_use + 1) (stages : Stages puts free staged between.content) where
+    is-staged : IsKept staged between.content
+    is-staged = stages.kept room.kept
+
+    -- the entry is one that the content doesn't have
+    some : 0 < length staged.staged
+    some = elim (cases_lt 0 (length staged.staged)) [
+      | inl lt ↦ lt
+      | inr none ↦
+          let empty : IsSealed staged = nil_from_length staged.staged (omega (arith, none)) in
+          let before : IsShown free between.content = IsShown-sealed free between.content sealed room.kept in
+          let after : IsShown staged between.content = IsShown-sealed staged between.content empty is-staged in
+          absurd (omega (arith, before.number, after.number, more))
+    ]
+
+    pub commits-sealed : (result : Result (Unit {0}) Failed) → OnOk result (IsSealed left) → Seals staged left result between new
+        → Commits left puts result old new
+    commits-sealed result then seals =
+        let stood : (found : SlotMap) → StandsFor old.content found → StandsFor (shown free between.content) found =
+        λ found is. room.keeps_shown.map found (gives-was old.content found is) in
+        let gives : (found : SlotMap) → StandsFor old.content found → StandsFor (shown staged between.content) (changed found puts) =
+        λ found is. stages.map room.kept found (stood found is) in
+        record {
+          kept = seals.kept;
+          changes_map = record {
+            map = λ found is. content-left result then (changed found puts) (seals.keeps_shown.map (changed found puts) (gives found is));
+            any_moment = λ only found is.
+                let P : List ℕ → Type 0 = λ image. StandsFor image found ⊎ StandsFor image (changed found puts) in
+                joined old between new P
+                (weaker old between (λ image. StandsFor image found ⊎ StandsFor image found) P
+                (λ image. ⊎_elim (λ stands. inl stands) (λ stands. inl stands))
+                (room.keeps_shown.any_moment only found found is (gives-was old.content found is)))
+                (seals.keeps_shown.any_moment (room.keeps_shown.durable only) found (changed found puts)
+                (subst (λ (list : List ℕ). StandsFor list found) (shown-sealed free between.content sealed) (stood found is)) (gives found is));
+            durable = IfStaged-some staged.staged some seals.durable;
+          };
+        }
+      where
+        content-left : (result : Result (Unit {0}) Failed) → OnOk result (IsSealed left) → (found : SlotMap)
+            → OnOk result (StandsFor (shown left new.content) found) → OnOk result (StandsFor new.content found)
+        content-left (Ok done) then found is = subst (λ (list : List ℕ). StandsFor list found) (shown-sealed left new.content then) is
+        content-left (Err failed) then found is = tt

@@ -1,0 +1,115 @@
+-- What a journal shows: the content with the entries that are staged.
+use Rattle.std.proofs.Common.{IsTrue, List, [], ap, arith, drop, inl, inr, length, refl, subst, sym, ℕ, ◌++◌, ◌+◌, ◌*◌, ◌<◌}
+use Rattle.std.proofs.Common.{◌∷◌, ◌≡◌, ◌≤◌, ◌⊎◌}
+use Rattle.std.specs.Prelude.{slice_index}
+use Rattle.ss_outside.proofs.DiskLemmas.{get_or-overwrite_outside, length-overwrite}
+use Rattle.ss_outside.specs.Disk.{overwrite}
+use Rattle.ss_journal.specs.Format.{is_born, slot_at, slot_place, slots_in}
+use Rattle.ss_journal.specs.Gates.{entry_place}
+use Rattle.ss_journal.specs.Kept.{BeginsOpen, EndsBefore, IfStaged, IsBounded, IsKept, IsSealed, IsShown, JournalState, shown, with_entries}
+use Rattle.ss_journal.proofs.HeaderLemmas.{is_born-parts, piece-same}
+use Rattle.ss_journal.proofs.MapLemmas.{slot_within}
+use Rattle.ss_journal.proofs.RangeLemmas.{overwrite-overwrite}
+
+-- entries come before the slots, and leave the length
+module _ (n : ℕ) where
+  pub length-with_entries : (bytes content : List ℕ) → 36864 ≤ length content → 544 * n + length bytes ≤ 544 * 64
+      → length (with_entries n bytes content) ≡ length content
+  length-with_entries [] content long few = refl
+  length-with_entries (gate ∷ bytes) content long few =
+      omega (arith, long, few, length-overwrite content (gate ∷ bytes) (entry_place n) (omega (arith, long, few)))
+
+  pub beside-with_entries : (bytes content : List ℕ) → 36864 ≤ length content → 544 * n + length bytes ≤ 544 * 64 → (place : ℕ)
+      → (place < entry_place n) ⊎ (36864 ≤ place) → slice_index (with_entries n bytes content) place ≡ slice_index content place
+  beside-with_entries [] content long few place out = refl
+  beside-with_entries (gate ∷ bytes) content long few place (inl below) =
+      get_or-overwrite_outside content (gate ∷ bytes) (entry_place n) (omega (arith, long, few)) place (inl below)
+  beside-with_entries (gate ∷ bytes) content long few place (inr from) =
+      get_or-overwrite_outside content (gate ∷ bytes) (entry_place n) (omega (arith, long, few)) place (inr (omega (arith, from, few)))
+
+  -- a formatted content shows a formatted one
+  pub born-with_entries : (bytes content : List ℕ) → IfStaged bytes (EndsBefore n content) → IsTrue (is_born (with_entries n bytes content))
+      → IsTrue (is_born content)
+  born-with_entries [] content before born = born
+  born-with_entries (gate ∷ bytes) content before born = before.born
+
+  -- one entry more is written after them
+  pub with_entries-more : (next gate : ℕ) (bytes entry content : List ℕ) → entry_place n ≤ length content → 544 * n + length bytes ≡ 544 * next
+      → with_entries n (bytes ++ gate ∷ entry) content ≡ overwrite (with_entries n bytes content) (entry_place next) (gate ∷ entry)
+  with_entries-more next gate [] entry content within there =
+      let same : n ≡ next = omega (arith, there) in
+      ap (λ (k : ℕ). overwrite content (entry_place k) (gate ∷ entry)) same
+  with_entries-more next gate (first ∷ bytes) entry content within there =
+      sym (overwrite-overwrite content (first ∷ bytes) (gate ∷ entry) (entry_place n) (entry_place next) within (omega (arith, there)))
+
+  -- where the next entry is free the content ends before the staged ones
+  pub EndsBefore-staged : (next : ℕ) (bytes content : List ℕ) → 544 * n + length bytes ≡ 544 * next → IfStaged bytes (EndsBefore n content)
+      → EndsBefore next (with_entries n bytes content) → EndsBefore n content
+  EndsBefore-staged next [] content there before ends =
+      let same : next ≡ n = omega (arith, there) in
+      subst (λ (k : ℕ). EndsBefore k content) same ends
+  EndsBefore-staged next (gate ∷ bytes) content there before ends = before
+
+pub IfStaged-from : (staged : List ℕ) {P : Type 0} → P → IfStaged staged P
+IfStaged-from [] is = tt
+IfStaged-from (gate ∷ bytes) is = is
+
+pub IfStaged-some : (staged : List ℕ) {P : Type 0} → 0 < length staged → IfStaged staged P → P
+IfStaged-some [] some is = absurd (omega (arith, some))
+IfStaged-some (gate ∷ bytes) some is = is
+
+-- what is staged is written from its entry on
+pub with_entries-some : (n : ℕ) (bytes content : List ℕ) → 0 < length bytes → with_entries n bytes content ≡ overwrite content (entry_place n) bytes
+with_entries-some n [] content some = absurd (omega (arith, some))
+with_entries-some n (gate ∷ bytes) content some = refl
+
+pub BeginsOpen-more : (staged entry : List ℕ) → BeginsOpen staged → BeginsOpen (staged ++ 165 ∷ entry)
+BeginsOpen-more [] entry opens = refl
+BeginsOpen-more (gate ∷ bytes) entry opens = opens
+
+pub BeginsOpen-first : (staged : List ℕ) → BeginsOpen staged → 0 < length staged → slice_index staged 0 ≡ 165
+BeginsOpen-first [] opens some = absurd (omega (arith, some))
+BeginsOpen-first (gate ∷ bytes) opens some = opens
+
+-- bytes with an open gate
+pub open-bytes : (bytes : List ℕ) → 0 < length bytes → slice_index bytes 0 ≡ 165 → bytes ≡ 165 ∷ drop 1 bytes
+open-bytes [] some gate = absurd (omega (arith, some))
+open-bytes (first ∷ rest) some gate = ap (λ (byte : ℕ). byte ∷ rest) gate
+
+module _ (journal : JournalState) (content : List ℕ) where
+  -- where nothing is staged a journal shows the content
+  pub shown-sealed : IsSealed journal → shown journal content ≡ content
+  shown-sealed sealed = ap (λ (bytes : List ℕ). with_entries journal.sealed bytes content) sealed
+
+  pub IsShown-sealed : IsSealed journal → IsKept journal content → IsShown journal content
+  IsShown-sealed sealed kept = subst (IsShown journal) (shown-sealed sealed) kept.shown
+
+  pub IsKept-sealed : IsSealed journal → IsShown journal content → IsKept journal content
+  IsKept-sealed sealed is = record {
+    shown = subst (IsShown journal) (sym (shown-sealed sealed)) is;
+    before = subst (λ (bytes : List ℕ). IfStaged bytes (EndsBefore journal.sealed content)) (sym sealed) tt;
+  }
+
+  -- the slots of what it shows are those of the content
+  module _ (bounded : IsBounded journal) (kept : IsKept journal content) (born : IsTrue (is_born (shown journal content))) where
+    few : 544 * journal.sealed + length journal.staged ≤ 544 * 64
+    few = omega (arith, bounded.staged, bounded.in_use)
+
+    born-content : IsTrue (is_born content)
+    born-content = born-with_entries journal.sealed journal.staged content kept.before born
+
+    long : 36864 ≤ length content
+    long = (is_born-parts content born-content).0
+
+    pub length-shown : length (shown journal content) ≡ length content
+    length-shown = length-with_entries journal.sealed journal.staged content long few
+
+    pub slot_at-shown : (slot : ℕ) → slot < slots_in (length (shown journal content))
+        → (slot < slots_in (length content)) × (slot_at content slot ≡ slot_at (shown journal content) slot)
+    slot_at-shown slot lt =
+        let lies : slot < slots_in (length content) = subst (λ (size : ℕ). slot < slots_in size) length-shown lt in (
+          lies,
+          sym (piece-same content (shown journal content) (slot_place slot) 128 (slot_within (length content) slot lies)
+              (slot_within (length (shown journal content)) slot lt)
+              (λ place low high. beside-with_entries journal.sealed journal.staged content long few place (inr (omega (arith, low))))),
+        )

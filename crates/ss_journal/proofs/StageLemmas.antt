@@ -1,0 +1,123 @@
+-- A transaction is staged: its entry follows those that are staged, and what the journal shows has its puts.
+use Rattle.std.proofs.Common.{Err, IsTrue, List, Ok, Result, ap, arith, inl, inr, length, subst, sym, ℕ, ◌++◌, ◌+◌, ◌<◌, ◌∙◌, ◌∷◌, ◌≡◌, ◌≤◌, ◌⊎◌}
+use Rattle.std.proofs.lemmas.List.{length-append}
+use Rattle.std.proofs.Math.ListN.{set}
+use Rattle.std.specs.Prelude.{IsOk, OnOk, slice_index}
+use Rattle.ss_outside.proofs.DiskLemmas.{get_or-overwrite_outside, length-overwrite}
+use Rattle.ss_outside.specs.Disk.{overwrite}
+use Rattle.ss_journal.specs.Calls.{Stages}
+use Rattle.ss_journal.specs.Commit.{AddsEntry, IsReadyFor}
+use Rattle.ss_journal.specs.Entries.{entry_body}
+use Rattle.ss_journal.specs.Format.{entry_at}
+use Rattle.ss_journal.specs.Gates.{entry_place}
+use Rattle.ss_journal.specs.Kept.{BeginsOpen, EndsBefore, IsBounded, IsKept, IsSettled, JournalState, shown, with_entries}
+use Rattle.ss_journal.specs.Puts.{AreWhole, IsTxn, extent_after, slots_fit}
+use Rattle.ss_journal.specs.Redo.{SlotMap, StandsFor, changed}
+use Rattle.ss_journal.specs.declared.phase.Phase.TheVariants.{Settled}
+use Rattle.ss_journal.specs.declared.put.Put.{Put}
+use Rattle.ss_journal.proofs.CommitLemmas.{AddsEntry-opened, EndsBefore-ready, StandsFor-opened, entry-overwrite}
+use Rattle.ss_journal.proofs.EntryLemmas.{length-entry_body}
+use Rattle.ss_journal.proofs.HeaderLemmas.{is_born-parts}
+use Rattle.ss_journal.proofs.KeptLemmas.{IsReadyFor-settled, IsShown-staged, StandsFor-kept}
+use Rattle.ss_journal.proofs.PutLemmas.{extent_after-most, waiting-below}
+use Rattle.ss_journal.proofs.ShownLemmas.{BeginsOpen-more, EndsBefore-staged, IfStaged-from, with_entries-more}
+
+-- an entry that is written over a content with room for it
+module _ (n : ℕ) (puts : List Put) (content : List ℕ) (ready : IsReadyFor n puts content) (free : n < 64) (whole : AreWhole puts) (txn : IsTxn puts) where
+  abbrev image : List ℕ
+  image = overwrite content (entry_place n) (165 ∷ entry_body puts)
+
+  long : 36864 ≤ length content
+  long = (is_born-parts content ready.born).0
+
+  within : entry_place n ≤ length content
+  within = omega (arith, long, free)
+
+  size-body : length (entry_body puts) ≡ 543
+  size-body = length-entry_body puts whole txn.few
+
+  size : length image ≡ length content
+  size = omega (arith, long, free, size-body, length-overwrite content (165 ∷ entry_body puts) (entry_place n) within)
+
+  beside : (place : ℕ) → (place < entry_place n) ⊎ (entry_place (n + 1) ≤ place) → slice_index image place ≡ slice_index content place
+  beside place (inl below) = get_or-overwrite_outside content (165 ∷ entry_body puts) (entry_place n) within place (inl below)
+  beside place (inr from) = get_or-overwrite_outside content (165 ∷ entry_body puts) (entry_place n) within place (inr (omega (arith, from, size-body)))
+
+  is_entry : entry_at image n ≡ 165 ∷ entry_body puts
+  is_entry = entry-overwrite n content (165 ∷ entry_body puts) within (omega (arith, size-body))
+
+  pub AddsEntry-written : AddsEntry n puts content image
+  AddsEntry-written = AddsEntry-opened n puts content image ready free size beside whole txn is_entry
+
+  pub StandsFor-written : (found : SlotMap) → StandsFor content found → StandsFor image (changed found puts)
+  StandsFor-written = StandsFor-opened n puts content image ready free size beside whole txn is_entry
+
+-- the entry that entry_of spells, with its gate open, follows what is staged
+pub entry-staged : {T E : Type 0} (result : Result T E) (old new entry : List ℕ) (puts : List Put) → AreWhole puts → IsTxn puts
+    → entry ≡ 0 ∷ entry_body puts → length old + 544 ≤ 34816 → (length old + length (set entry 0 165) ≤ 34816 → IsOk result)
+    → OnOk result (new ≡ old ++ set entry 0 165) → new ≡ old ++ 165 ∷ entry_body puts
+entry-staged (Ok value) old new entry puts whole txn spelled room fits added = added ∙ ap (λ (list : List ℕ). old ++ set list 0 165) spelled
+entry-staged {T} {E} (Err error) old new entry puts whole txn spelled room fits added =
+    let long : length (set entry 0 165) ≡ 544 = omega (arith, ap (λ (list : List ℕ). length (set list 0 165)) spelled, length-entry_body puts whole txn.few) in
+    let fit : IsOk {T = T} {E = E} (Err error) = fits (omega (arith, long, room)) in
+    absurd (cc)
+
+-- what staging makes of a journal
+pub record IsStaged (puts : List Put) (was then : JournalState) : Type 0 where
+  pub phase : then.phase ≡ Settled
+  pub extent : then.extent ≡ extent_after puts was.extent
+  pub in_use : then.in_use ≡ was.in_use + 1
+  pub waiting : then.waiting ≡ was.waiting ++ puts
+  pub sealed : then.sealed ≡ was.sealed
+  pub staged : then.staged ≡ was.staged ++ 165 ∷ entry_body puts
+
+module _ (was then : JournalState) (puts : List Put) (bounded : IsBounded was) (settled : IsSettled was) (whole : AreWhole puts) (txn : IsTxn puts)
+    (fit : IsTrue (slots_fit puts was.extent)) (free : was.in_use < 64) (is : IsStaged puts was then) where
+  size-staged : length then.staged ≡ length was.staged + 544
+  size-staged = omega (arith, ap length is.staged, length-append was.staged (165 ∷ entry_body puts), length-entry_body puts whole txn.few)
+
+  -- its numbers stay in their bounds
+  pub IsBounded-staged : IsBounded then
+  IsBounded-staged = record {
+    extent = omega (arith, is.extent, extent_after-most puts was.extent txn bounded.extent);
+    waiting = rw (is.waiting, is.extent) (waiting-below was.waiting puts was.extent fit bounded.waiting);
+    unborn = λ same. absurd (cc (is.phase, same));
+    in_use = omega (arith, is.in_use, free);
+    few = omega (arith, is.in_use, bounded.few, txn.few, ap length is.waiting, length-append was.waiting puts);
+    staged = omega (arith, is.in_use, is.sealed, size-staged, bounded.staged);
+    gate = subst BeginsOpen (sym is.staged) (BeginsOpen-more was.staged (entry_body puts) bounded.gate);
+  }
+
+  -- over a content that it keeps
+  module _ (content : List ℕ) (kept : IsKept was content) where
+    ready : IsReadyFor was.in_use puts (shown was content)
+    ready = IsReadyFor-settled was (shown was content) settled kept.shown puts fit
+
+    ends : EndsBefore was.sealed content
+    ends = EndsBefore-staged was.sealed was.in_use was.staged content bounded.staged kept.before
+        (EndsBefore-ready was.in_use puts (shown was content) ready free)
+
+    within-sealed : entry_place was.sealed ≤ length content
+    within-sealed = omega (arith, (is_born-parts content ends.born).0, bounded.staged, free)
+
+    written : shown then content ≡ overwrite (shown was content) (entry_place was.in_use) (165 ∷ entry_body puts)
+    written =
+        ap (λ (n : ℕ). with_entries n then.staged content) is.sealed ∙ ap (λ (bytes : List ℕ). with_entries was.sealed bytes content) is.staged
+        ∙ with_entries-more was.sealed was.in_use 165 was.staged (entry_body puts) content within-sealed bounded.staged
+
+    pub StandsFor-staged : (found : SlotMap) → StandsFor (shown was content) found → StandsFor (shown then content) (changed found puts)
+    StandsFor-staged found stands = subst (λ (list : List ℕ). StandsFor list (changed found puts)) (sym written)
+        (StandsFor-written was.in_use puts (shown was content) ready free whole txn found stands)
+
+    pub IsKept-staged : IsKept then content
+    IsKept-staged = record {
+      shown = IsShown-staged was (shown was content) settled kept.shown puts then (shown then content)
+          (subst (AddsEntry was.in_use puts (shown was content)) (sym written)
+          (AddsEntry-written was.in_use puts (shown was content) ready free whole txn))
+          (StandsFor-staged kept.shown.found (StandsFor-kept was (shown was content) settled kept.shown)) is.phase is.extent is.in_use is.waiting;
+      before = IfStaged-from then.staged (subst (λ (n : ℕ). EndsBefore n content) (sym is.sealed) ends);
+    }
+
+  pub stages : (journal : JournalState) (content : List ℕ) → was ≡ journal → Stages puts journal then content
+  stages journal content same = subst (λ (j : JournalState). Stages puts j then content) same
+      (record { kept = IsKept-staged content; map = StandsFor-staged content })
