@@ -1,7 +1,7 @@
 // Commits of the journal, one after another, and reads.
 ghost use Rattle.std.specs.Prelude.{◌≡◌, ◌<◌, ◌≤◌, IsTrue, IfOk, OnOk};
 ghost use Rattle.ss_outside.specs.Disk.{OfContent};
-ghost use Rattle.ss_journal.specs.Kept.{IsKept, IsRunning, IsSettled};
+ghost use Rattle.ss_journal.specs.Kept.{IsKept, IsRunning, IsSealed, IsSettled};
 
 use crate::calls::Calls;
 use crate::counted::Counted;
@@ -30,8 +30,10 @@ const SLOTS: u32 = 1024;
 // Brings the entries in use into their slots.
 fn settle<D: Disk>(journal: &mut Journal, disk: &mut D) -> Result<(), JournalError>
     requires running { IsRunning journal.old }
+    requires sealed { IsSealed journal.old }
     requires one_disk { OfContent (D.seen disk.old) (IsKept journal.old) }
     ensures settled { OnOk result (IsSettled journal.new) }
+    ensures sealed { OnOk result (IsSealed journal.new) }
     ensures one_disk { OfContent (D.seen disk.new) (λ content. OnOk result (IsKept journal.new content)) }
 {
     Ok(journal.settle(disk)?)
@@ -40,6 +42,7 @@ fn settle<D: Disk>(journal: &mut Journal, disk: &mut D) -> Result<(), JournalErr
 // A journal on the disk, ready for commits.
 fn start<D: Disk>(alloc: Global, disk: &mut D) -> Result<Journal, JournalError>
     ensures settled { IfOk result (λ journal. IsSettled journal) }
+    ensures sealed { IfOk result (λ journal. IsSealed journal) }
     ensures one_disk { OfContent (D.seen disk.new) (λ content. IfOk result (λ journal. IsKept journal content)) }
 {
     let mut journal = Journal::open(alloc, disk)?;
@@ -58,8 +61,10 @@ fn commit_many<D: Disk>(
     requires some { 0 < puts }
     requires few { puts ≤ 4 }
     requires settled { IsSettled journal.old }
+    requires sealed { IsSealed journal.old }
     requires one_disk { OfContent (D.seen disk.old) (IsKept journal.old) }
     ensures settled { OnOk result (IsSettled journal.new) }
+    ensures sealed { OnOk result (IsSealed journal.new) }
     ensures one_disk { OfContent (D.seen disk.new) (λ content. OnOk result (IsKept journal.new content)) }
 {
     for k in 0..count {
@@ -111,6 +116,7 @@ fn time_of_commits<R: Clock, D: Disk>(
     commits: u32,
 ) -> f64
     requires settled { IsSettled journal.old }
+    requires sealed { IsSealed journal.old }
     requires one_disk { OfContent (D.seen disk.old) (IsKept journal.old) }
 {
     let begin = now(rt);
@@ -154,8 +160,10 @@ pub fn warm_commit_time<R: AllocGlobal + Clock>(rt: &R, commits: u32) -> Result<
 // Gives the file all slots, and leaves so many entries in use.
 fn fill<D: Disk>(journal: &mut Journal, disk: &mut D, in_use: u32) -> Result<(), JournalError>
     requires settled { IsSettled journal.old }
+    requires sealed { IsSealed journal.old }
     requires one_disk { OfContent (D.seen disk.old) (IsKept journal.old) }
     ensures settled { OnOk result (IsSettled journal.new) }
+    ensures sealed { OnOk result (IsSealed journal.new) }
     ensures one_disk { OfContent (D.seen disk.new) (λ content. OnOk result (IsKept journal.new content)) }
 {
     commit_many(journal, disk, SLOTS, 1)?;
@@ -179,6 +187,7 @@ fn read_many<D: Disk>(journal: &mut Journal, disk: &mut D) -> Result<u64, Journa
 // The microseconds that a read takes of a journal whose file has all slots.
 fn time_of_reads<R: Clock, D: Disk>(rt: &R, journal: &mut Journal, disk: &mut D) -> f64
     requires settled { IsSettled journal.old }
+    requires sealed { IsSealed journal.old }
     requires one_disk { OfContent (D.seen disk.old) (IsKept journal.old) }
 {
     let begin = now(rt);

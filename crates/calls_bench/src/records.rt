@@ -1,8 +1,7 @@
 // Records on a disk in memory.
 ghost use Rattle.std.specs.Prelude.{◌≡◌, ◌<◌, ◌≤◌, IsTrue, IfOk};
 ghost use Rattle.ss_outside.specs.Disk.{OfContent};
-ghost use Rattle.ss_journal.specs.Kept.{IsSettled};
-ghost use Rattle.ss_records.specs.Kept.{AreKept};
+ghost use Rattle.ss_records.specs.Kept.{AreAtRest, AreKept};
 
 use crate::puts::txn_of;
 use crate::timing::{micros_since, now};
@@ -51,7 +50,7 @@ fn image(alloc: Global, count: u32) -> Result<MemDisk, AllocError>
 
 // Records on the disk, ready for transactions.
 fn start<D: Disk>(alloc: Global, disk: &mut D) -> Result<Records, JournalError>
-    ensures settled { IfOk result (λ records. IsSettled records.journal) }
+    ensures at_rest { IfOk result (λ records. AreAtRest records) }
     ensures one_disk { OfContent (D.seen disk.new) (λ content. IfOk result (λ records. AreKept records content)) }
 {
     let mut records = Records::open(alloc, disk)?;
@@ -76,7 +75,7 @@ fn apply_many<D: Disk>(
 ) -> Result<(), JournalError>
     requires some { 0 < slots }
     requires few { slots ≤ MOST_RECORDS }
-    requires settled { IsSettled records.old.journal }
+    requires at_rest { AreAtRest records.old }
     requires one_disk { OfContent (D.seen disk.old) (AreKept records.old) }
 {
     for k in 0..count {
@@ -92,7 +91,7 @@ fn seen_of<D: Disk>(
     disk: &mut D,
     count: u32,
 ) -> Result<(u32, u32, u32), JournalError>
-    requires settled { IsSettled records.old.journal }
+    requires at_rest { AreAtRest records.old }
     requires one_disk { OfContent (D.seen disk.old) (AreKept records.old) }
 {
     apply_many(records, disk, 1000, count)?;
@@ -165,7 +164,7 @@ fn time_of_applies<R: Clock, D: Disk>(
 ) -> f64
     requires some { 0 < count }
     requires few { count ≤ MOST_RECORDS }
-    requires settled { IsSettled records.old.journal }
+    requires at_rest { AreAtRest records.old }
     requires one_disk { OfContent (D.seen disk.old) (AreKept records.old) }
 {
     let begin = now(rt);

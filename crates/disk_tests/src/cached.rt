@@ -4,9 +4,10 @@ ghost use Rattle.ss_outside.specs.Disk.{OfContent};
 ghost use Rattle.ss_outside.specs.MemDisk.{view_of};
 ghost use Rattle.ss_journal.specs.Kept.{IsKept, IsRunning, IsSettled};
 ghost use Rattle.ss_journal.specs.Puts.{slots_fit, IsTxn};
-ghost use Rattle.ss_records.specs.Kept.{AreKept};
+ghost use Rattle.ss_records.specs.Kept.{AreAtRest, AreKept};
 
 mod rows;
+mod staged;
 
 use crate::journal::files::{File, bytes_of, disk_of};
 use crate::passing::pass;
@@ -35,9 +36,9 @@ fn txn_of(fill: Fill, extent: u32) -> Option<Txn>
 }
 
 fn put<D: Disk>(records: &mut Records, disk: &mut D, fill: Fill) -> Result<(), Failed>
-    requires settled { IsSettled records.old.journal }
+    requires settled { AreAtRest records.old }
     requires one_disk { OfContent (D.seen disk.old) (AreKept records.old) }
-    ensures settled { OnOk result (IsSettled records.new.journal) }
+    ensures settled { OnOk result (AreAtRest records.new) }
     ensures one_disk { OfContent (D.seen disk.new) (λ content. OnOk result (AreKept records.new content)) }
 {
     match txn_of(fill, records.extent()) {
@@ -53,13 +54,17 @@ fn commit<D: Disk>(journal: &mut Journal, disk: &mut D, fill: Fill) -> Result<()
     ensures one_disk { OfContent (D.seen disk.new) (λ content. OnOk result (IsKept journal.new content)) }
 {
     match txn_of(fill, journal.extent()) {
-        Some(txn) => journal.commit(disk, &txn),
+        Some(txn) => {
+            journal.make_room(disk)?;
+            journal.stage(&txn);
+            journal.seal(disk)
+        }
         None => Ok(()),
     }
 }
 
 fn settled<D: Disk>(alloc: Global, disk: &mut D) -> Result<Records, JournalError>
-    ensures settled { IfOk result (λ records. IsSettled records.journal) }
+    ensures settled { IfOk result AreAtRest }
     ensures one_disk { OfContent (D.seen disk.new) (λ content. IfOk result (λ records. AreKept records content)) }
 {
     let mut records = Records::open(alloc, disk)?;
@@ -104,10 +109,10 @@ fn is_same<D: Disk>(
     slot: u32,
 ) -> Result<bool, Failed>
     requires slot { slot < MOST_SLOTS }
-    requires settled { IsSettled records.old.journal × IsSettled journal.old }
+    requires settled { AreAtRest records.old × IsSettled journal.old }
     requires one_disk { OfContent (D.seen disk.old) (AreKept records.old) }
     requires other_disk { OfContent (D.seen other.old) (IsKept journal.old) }
-    ensures settled { OnOk result (IsSettled records.new.journal × IsSettled journal.new) }
+    ensures settled { OnOk result (AreAtRest records.new × IsSettled journal.new) }
     ensures one_disk { OfContent (D.seen disk.new) (λ content. OnOk result (AreKept records.new content)) }
     ensures other_disk { OfContent (D.seen other.new) (λ content. OnOk result (IsKept journal.new content)) }
 {
@@ -125,10 +130,10 @@ fn is_same_after<D: Disk>(
     fill: Fill,
 ) -> Result<bool, Failed>
     requires slot { fill.0 < MOST_SLOTS }
-    requires settled { IsSettled records.old.journal × IsSettled journal.old }
+    requires settled { AreAtRest records.old × IsSettled journal.old }
     requires one_disk { OfContent (D.seen disk.old) (AreKept records.old) }
     requires other_disk { OfContent (D.seen other.old) (IsKept journal.old) }
-    ensures settled { OnOk result (IsSettled records.new.journal × IsSettled journal.new) }
+    ensures settled { OnOk result (AreAtRest records.new × IsSettled journal.new) }
     ensures one_disk { OfContent (D.seen disk.new) (λ content. OnOk result (AreKept records.new content)) }
     ensures other_disk { OfContent (D.seen other.new) (λ content. OnOk result (IsKept journal.new content)) }
 {
@@ -146,10 +151,10 @@ fn takes<D: Disk>(
     k: u32,
 ) -> Result<bool, Failed>
     requires step { k < 300 }
-    requires settled { IsSettled records.old.journal × IsSettled journal.old }
+    requires settled { AreAtRest records.old × IsSettled journal.old }
     requires one_disk { OfContent (D.seen disk.old) (AreKept records.old) }
     requires other_disk { OfContent (D.seen other.old) (IsKept journal.old) }
-    ensures settled { OnOk result (IsSettled records.new.journal × IsSettled journal.new) }
+    ensures settled { OnOk result (AreAtRest records.new × IsSettled journal.new) }
     ensures one_disk { OfContent (D.seen disk.new) (λ content. OnOk result (AreKept records.new content)) }
     ensures other_disk { OfContent (D.seen other.new) (λ content. OnOk result (IsKept journal.new content)) }
 {
@@ -168,7 +173,7 @@ fn first_other<D: Disk>(
     journal: &mut Journal,
     other: &mut D,
 ) -> Result<Option<usize>, Failed>
-    requires settled { IsSettled records.old.journal × IsSettled journal.old }
+    requires settled { AreAtRest records.old × IsSettled journal.old }
     requires one_disk { OfContent (D.seen disk.old) (AreKept records.old) }
     requires other_disk { OfContent (D.seen other.old) (IsKept journal.old) }
 {

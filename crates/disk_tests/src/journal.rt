@@ -1,5 +1,6 @@
 mod commits;
 pub mod files;
+mod groups;
 mod opening;
 mod pages;
 mod runs;

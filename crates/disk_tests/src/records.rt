@@ -2,8 +2,8 @@
 ghost use Rattle.std.specs.Prelude.{◌≡◌, IsTrue, IfSome, OnOk};
 ghost use Rattle.ss_outside.specs.Disk.{OfContent};
 ghost use Rattle.ss_journal.specs.Puts.{slots_fit, IsTxn};
-ghost use Rattle.ss_journal.specs.Kept.{IsRunning, IsSettled};
-ghost use Rattle.ss_records.specs.Kept.{AreKept};
+ghost use Rattle.ss_journal.specs.Kept.{IsRunning, IsSealed};
+ghost use Rattle.ss_records.specs.Kept.{AreAtRest, AreKept};
 
 use crate::journal::files::{File, Map, disk_of, disk_with};
 use crate::passing::{pass, pass_if};
@@ -74,9 +74,9 @@ fn txn_of(step: Step, extent: u32) -> Option<Txn>
 }
 
 fn take<D: Disk>(records: &mut Records, disk: &mut D, step: Step) -> Result<(), Failed>
-    requires settled { IsSettled records.old.journal }
+    requires settled { AreAtRest records.old }
     requires one_disk { OfContent (D.seen disk.old) (AreKept records.old) }
-    ensures settled { OnOk result (IsSettled records.new.journal) }
+    ensures settled { OnOk result (AreAtRest records.new) }
     ensures one_disk { OfContent (D.seen disk.new) (λ content. OnOk result (AreKept records.new content)) }
 {
     match txn_of(step, records.extent()) {
@@ -99,6 +99,7 @@ fn first_wrong_step<D: Disk>(
     disk: &mut D,
 ) -> Result<Option<usize>, JournalError>
     requires running { IsRunning records.old.journal }
+    requires sealed { IsSealed records.old.journal }
     requires one_disk { OfContent (D.seen disk.old) (AreKept records.old) }
 {
     records.settle(disk)?;

@@ -1,18 +1,18 @@
 -- Rows that pin what the calls of records leave, field by field.
-use Rattle.std.proofs.Common.{◌≡◌, refl, ℕ, ◌+◌, ◌*◌, ◌<◌, ◌≤◌, ◌⊎◌, inl, inr, Bool, true, not, lit≤}
+use Rattle.std.proofs.Common.{◌≡◌, ap, refl, subst, ℕ, ◌+◌, ◌*◌, ◌<◌, ◌≤◌, ◌⊎◌, inl, inr, Bool, true, not, lit≤}
 use Rattle.std.proofs.Common.{List, [], ◌∷◌, length, map, take, drop, Result, Ok}
 use Rattle.std.specs.List.{range_with_len}
 use Rattle.ss_outside.specs.Crash.{OnlyReads}
-use Rattle.ss_outside.specs.Disk.{Told}
+use Rattle.ss_outside.specs.Disk.{NothingPending, Told}
 use Rattle.ss_outside.specs.declared.source.Failed.{Failed}
-use Rattle.ss_journal.specs.Calls.{ChangesMap, KeepsMap, MakesDurable}
-use Rattle.ss_journal.specs.Kept.{IsKept, IsRunning, OpensAs}
-use Rattle.ss_journal.specs.Redo.{SlotMap, StandsFor}
+use Rattle.ss_journal.specs.Calls.{ChangesMap, KeepsMap, KeepsShown, MakesDurable}
+use Rattle.ss_journal.specs.Kept.{IfStaged, IsKept, IsRunning, IsSettled, OpensAs, shown, with_entries}
+use Rattle.ss_journal.specs.Redo.{SlotMap, StandsFor, changed}
 use Rattle.ss_journal.specs.declared.format.TheConstants.{MOST_SLOTS}
 use Rattle.ss_journal.specs.declared.journal_error.JournalError.{JournalError}
 use Rattle.ss_journal.specs.declared.put.Put.{Put}
-use Rattle.ss_records.specs.Calls.{AppliesPuts, OpensRecords, ReadsRecord, SettlesRecords}
-use Rattle.ss_records.specs.Kept.{AreKept, AreSound, RecordsState, journal_of}
+use Rattle.ss_records.specs.Calls.{AppliesPuts, MakesRoomFor, OpensRecords, ReadsRecord, SealsRecords, SettlesRecords, StagesPuts}
+use Rattle.ss_records.specs.Kept.{AreAtRest, AreKept, AreSound, RecordsState, journal_of, shown_by}
 use Rattle.ss_records.specs.Live.{AreLiveIn, are_zeros, is_live}
 use Rattle.ss_records.specs.Pages.{ArePages, IsPage, Recalls}
 
@@ -41,25 +41,56 @@ module _ (records : RecordsState) (old new : Told) where
   AppliesPuts-changes_map : (puts : List Put) (result : Result Unit Failed) → AppliesPuts records puts result old new → ChangesMap puts old new result
   AppliesPuts-changes_map puts result applies = applies.changes_map
 
-  ReadsRecord-Ok : (slot : ℕ) (bytes : List ℕ) (found : SlotMap) → ReadsRecord records slot (Ok bytes) old new → StandsFor old.content found →
-      bytes ≡ found.bytes slot
-  ReadsRecord-Ok slot bytes found read is = read.bytes found is
+-- a transaction is staged, over whichever content
+module _ (puts : List Put) (was is : RecordsState) (content : List ℕ) (stages : StagesPuts puts was is content) (kept : AreKept was content) where
+  StagesPuts-kept : AreKept is content
+  StagesPuts-kept = stages.kept kept
 
-  ReadsRecord-kept : (slot : ℕ) (bytes : List ℕ) → ReadsRecord records slot (Ok bytes) old new → AreKept records new.content
+  StagesPuts-map : (found : SlotMap) → StandsFor (shown was.journal content) found → StandsFor (shown is.journal content) (changed found puts)
+  StagesPuts-map found stands = stages.map kept found stands
+
+module _ (was is : RecordsState) (old new : Told) where
+  MakesRoomFor-Ok : MakesRoomFor was is (Ok tt) old new → AreKept is new.content
+  MakesRoomFor-Ok makes = makes.kept
+
+  MakesRoomFor-keeps_shown : (result : Result Unit Failed) → MakesRoomFor was is result old new → KeepsShown was.journal is.journal old new result
+  MakesRoomFor-keeps_shown result makes = makes.keeps_shown
+
+  SealsRecords-Ok : SealsRecords was is (Ok tt) old new → AreKept is new.content
+  SealsRecords-Ok seals = seals.kept
+
+  SealsRecords-keeps_shown : (result : Result Unit Failed) → SealsRecords was is result old new → KeepsShown was.journal is.journal old new result
+  SealsRecords-keeps_shown result seals = seals.keeps_shown
+
+  -- where an entry is staged nothing is pending after it
+  SealsRecords-durable : (gate : ℕ) (bytes : List ℕ) → was.journal.staged ≡ gate ∷ bytes → SealsRecords was is (Ok tt) old new → NothingPending new
+  SealsRecords-durable gate bytes staged seals = subst (λ (some : List ℕ). IfStaged some (NothingPending new)) staged seals.durable
+
+  ReadsRecord-Ok : (slot : ℕ) (bytes : List ℕ) (found : SlotMap) → ReadsRecord was is slot (Ok bytes) old new
+      → StandsFor (shown was.journal old.content) found → bytes ≡ found.bytes slot
+  ReadsRecord-Ok slot bytes found read stands = read.bytes found stands
+
+  ReadsRecord-kept : (slot : ℕ) (bytes : List ℕ) → ReadsRecord was is slot (Ok bytes) old new → AreKept is new.content
   ReadsRecord-kept slot bytes read = read.kept
 
-  ReadsRecord-reads : (slot : ℕ) (result : Result (List ℕ) Failed) → ReadsRecord records slot result old new → OnlyReads old new
+  ReadsRecord-reads : (slot : ℕ) (result : Result (List ℕ) Failed) → ReadsRecord was is slot result old new → OnlyReads old new
   ReadsRecord-reads slot result read = read.reads
 
 module _ (records : RecordsState) where
   AreKept-journal : (content : List ℕ) → AreKept records content → IsKept records.journal content
   AreKept-journal content kept = kept.journal
 
-  AreKept-free : (content : List ℕ) (found : SlotMap) → AreKept records content → StandsFor content found → AreLiveIn records.live found.bytes
+  AreKept-free : (content : List ℕ) (found : SlotMap) → AreKept records content → StandsFor (shown records.journal content) found
+      → AreLiveIn records.live found.bytes
   AreKept-free content found kept is = kept.free found is
 
-  AreKept-cached : (content : List ℕ) (found : SlotMap) → AreKept records content → StandsFor content found → ArePages records.cached found.bytes
+  AreKept-cached : (content : List ℕ) (found : SlotMap) → AreKept records content → StandsFor (shown records.journal content) found
+      → ArePages records.cached found.bytes
   AreKept-cached content found kept is = kept.cached found is
+
+  -- at rest nothing is staged, and every slot that is shown is that of the content
+  AreAtRest-shown : AreAtRest records → IsSettled records.journal × ((content : List ℕ) → shown_by records content ≡ content)
+  AreAtRest-shown rest = (rest.0, λ content. ap (λ (staged : List ℕ). with_entries records.journal.sealed staged content) rest.1)
 
   AreSound-slots : AreSound records → length records.live ≡ MOST_SLOTS
   AreSound-slots sound = sound.slots

@@ -1,19 +1,19 @@
 -- What the calls of records leave of their disk.
 use Rattle.std.specs.Prelude.{◌≡◌, ℕ, Bool, List, Result, IfOk, OnOk}
 use Rattle.ss_outside.specs.Crash.{OnlyReads}
-use Rattle.ss_outside.specs.Disk.{Told}
+use Rattle.ss_outside.specs.Disk.{NothingPending, Told}
 use Rattle.ss_outside.specs.declared.source.Failed.{Failed}
-use Rattle.ss_journal.specs.Calls.{ChangesMap, KeepsMap, MakesDurable}
-use Rattle.ss_journal.specs.Kept.{OpensAs}
-use Rattle.ss_journal.specs.Redo.{SlotMap, StandsFor}
+use Rattle.ss_journal.specs.Calls.{ChangesMap, KeepsMap, KeepsShown, MakesDurable}
+use Rattle.ss_journal.specs.Kept.{IfStaged, JournalState, OpensAs, shown}
+use Rattle.ss_journal.specs.Redo.{SlotMap, StandsFor, changed}
 use Rattle.ss_journal.specs.declared.journal_error.JournalError.{JournalError}
 use Rattle.ss_journal.specs.declared.put.Put.{Put}
 use Rattle.ss_records.specs.Live.{AreLiveIn}
-use Rattle.ss_records.specs.Kept.{AreKept, RecordsState, journal_of}
+use Rattle.ss_records.specs.Kept.{AreKept, RecordsState, journal_of, shown_by}
 
--- Each slot is read once: the live ones are those of the map. Content and images stay.
-pub record ReadsLive (result : Result (List Bool) JournalError) (old new : Told) : Type 0 where
-  pub live : (found : SlotMap) → StandsFor old.content found → IfOk result (λ live. AreLiveIn live found.bytes)
+-- Each slot is read once: the live ones are those of the map that the journal shows. Content and images stay.
+pub record ReadsLive (journal : JournalState) (result : Result (List Bool) JournalError) (old new : Told) : Type 0 where
+  pub live : (found : SlotMap) → StandsFor (shown journal old.content) found → IfOk result (λ live. AreLiveIn live found.bytes)
   pub reads : OnlyReads old new
 
 -- A disk is opened: the answer is the map of its content, or why it has none. Content and images stay.
@@ -28,13 +28,31 @@ pub record SettlesRecords (records : RecordsState) (result : Result Unit Failed)
   pub keeps_map : KeepsMap old new result
   pub makes_durable : MakesDurable old new result
 
+-- Puts are staged by records, which are others then: they show the map with them, over whichever content.
+pub record StagesPuts (puts : List Put) (was is : RecordsState) (content : List ℕ) : Type 0 where
+  pub kept : AreKept was content → AreKept is content
+  pub map : AreKept was content → (found : SlotMap) → StandsFor (shown_by was content) found → StandsFor (shown_by is content) (changed found puts)
+
+-- Room is made by records, which are others then: the map that they show stays.
+pub record MakesRoomFor (was is : RecordsState) (result : Result Unit Failed) (old new : Told) : Type 0 where
+  pub kept : OnOk result (AreKept is new.content)
+  pub keeps_shown : KeepsShown was.journal is.journal old new result
+
+-- What is staged is sealed by records, which are others then: the map that they show stays, and where something was staged
+-- nothing is pending at Ok.
+pub record SealsRecords (was is : RecordsState) (result : Result Unit Failed) (old new : Told) : Type 0 where
+  pub kept : OnOk result (AreKept is new.content)
+  pub keeps_shown : KeepsShown was.journal is.journal old new result
+  pub durable : IfStaged was.journal.staged (OnOk result (NothingPending new))
+
 -- The puts of a transaction are applied to records, which are these then: the map changes by all of them, or not at all.
 pub record AppliesPuts (records : RecordsState) (puts : List Put) (result : Result Unit Failed) (old new : Told) : Type 0 where
   pub kept : OnOk result (AreKept records new.content)
   pub changes_map : ChangesMap puts old new result
 
--- The slot of a record is read, by records that are these then: its bytes are those of the map. Content and images stay.
-pub record ReadsRecord (records : RecordsState) (slot : ℕ) (result : Result (List ℕ) Failed) (old new : Told) : Type 0 where
-  pub bytes : (found : SlotMap) → StandsFor old.content found → IfOk result (λ bytes. bytes ≡ found.bytes slot)
-  pub kept : OnOk result (AreKept records new.content)
+-- The slot of a record is read, by records that are others then: its bytes are those of the map that they show. Content and
+-- images stay.
+pub record ReadsRecord (was is : RecordsState) (slot : ℕ) (result : Result (List ℕ) Failed) (old new : Told) : Type 0 where
+  pub bytes : (found : SlotMap) → StandsFor (shown_by was old.content) found → IfOk result (λ bytes. bytes ≡ found.bytes slot)
+  pub kept : OnOk result (AreKept is new.content)
   pub reads : OnlyReads old new

@@ -2,7 +2,7 @@
 use Rattle.std.specs.Prelude.{◌≡◌, ℕ, ◌<◌, ◌≤◌, Bool, true, List, length, Result, Ok, Err}
 use Rattle.ss_journal.specs.declared.format.TheConstants.{MOST_SLOTS}
 use Rattle.ss_journal.specs.declared.journal_error.JournalError.{JournalError}
-use Rattle.ss_journal.specs.Kept.{JournalState, IsKept, IsRunning}
+use Rattle.ss_journal.specs.Kept.{JournalState, IsKept, IsRunning, IsSealed, IsSettled, shown}
 use Rattle.ss_journal.specs.Redo.{SlotMap, StandsFor}
 use Rattle.ss_records.specs.Live.{is_live, AreLiveIn}
 use Rattle.ss_records.specs.Pages.{ArePages}
@@ -14,11 +14,19 @@ pub record RecordsState : Type 0 where
   pub live : List Bool
   pub cached : List (ℕ × List ℕ)
 
--- One disk: what is said of a journal; and the free slots and every cached page are those of the map.
+-- what records show over a content: the content with the transactions that are staged
+abbrev pub shown_by : RecordsState → List ℕ → List ℕ
+shown_by records content = shown records.journal content
+
+-- One disk: what is said of a journal; and the free slots and every cached page are those of the map that the records show.
 pub record AreKept (records : RecordsState) (content : List ℕ) : Type 0 where
   pub journal : IsKept records.journal content
-  pub free : (found : SlotMap) → StandsFor content found → AreLiveIn records.live found.bytes
-  pub cached : (found : SlotMap) → StandsFor content found → ArePages records.cached found.bytes
+  pub free : (found : SlotMap) → StandsFor (shown_by records content) found → AreLiveIn records.live found.bytes
+  pub cached : (found : SlotMap) → StandsFor (shown_by records content) found → ArePages records.cached found.bytes
+
+-- the file is formatted, each gate after the entries in use is closed, and nothing is staged
+abbrev pub AreAtRest : RecordsState → Type 0
+AreAtRest records = IsSettled records.journal × IsSealed records.journal
 
 -- What is true of records over every disk, whatever it tells.
 pub record AreSound (records : RecordsState) : Type 0 where

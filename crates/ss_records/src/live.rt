@@ -30,7 +30,7 @@ pub fn read_live<D: Disk>(
 ) -> Result<SlotSet, JournalError>
     requires running { IsRunning journal.old }
     requires one_disk { OfContent (D.seen disk.old) (IsKept journal.old) }
-    ensures live { Step (verdict_of_open result) (D.seen disk.old) (D.seen disk.new) (ReadsLive result) }
+    ensures live { Step (verdict_of_open result) (D.seen disk.old) (D.seen disk.new) (ReadsLive journal.old result) }
     // It fails only where the disk does or the memory runs out, and neither says anything of a content.
     ensures refused { (content : List ℕ) → IfErr result (λ error. OpensAs content (Err error)) }
     ensures bounded { IfOk result (AreBelow journal.old.extent) }

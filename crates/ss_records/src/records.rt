@@ -31,15 +31,16 @@ impl Model for Records {
 }
 
 impl Records {
-    ghost use Rattle.std.specs.Prelude.{◌≡◌, ◌≤◌, ◌<◌, ◌↔◌, [], IsTrue, IsNone, IsSome, IfSome, IfOk, OnOk, OnErr};
+    ghost use Rattle.std.specs.Prelude.{◌≡◌, ◌≤◌, ◌<◌, ◌↔◌, ℕ, List, [], IsTrue, IsNone, IsSome, IfSome, IfOk, OnOk, OnErr};
     ghost use Rattle.ss_outside.specs.Disk.{OfContent};
     ghost use Rattle.ss_outside.specs.Step.{Step};
     ghost use Rattle.ss_outside.specs.Verdict.{verdict};
-    ghost use Rattle.ss_journal.specs.Calls.{HasCommitted, HasSettled, verdict_of_open};
+    ghost use Rattle.ss_journal.specs.Calls.{HasCommitted, HasMadeRoom, HasSealed, HasSettled, HasStaged, verdict_of_open};
     ghost use Rattle.ss_journal.specs.Puts.{slots_fit, IsTxn};
     ghost use Rattle.ss_journal.specs.Redo.{zeros};
-    ghost use Rattle.ss_journal.specs.Kept.{IsRunning, IsSettled, HasStopped};
-    ghost use Rattle.ss_records.specs.Calls.{AppliesPuts, OpensRecords, ReadsRecord, SettlesRecords};
+    ghost use Rattle.ss_journal.specs.Kept.{HasStopped, IsRunning, IsSealed, IsSettled};
+    ghost use Rattle.ss_journal.specs.declared.format.TheConstants.{ENTRIES};
+    ghost use Rattle.ss_records.specs.Calls.{AppliesPuts, MakesRoomFor, OpensRecords, ReadsRecord, SealsRecords, SettlesRecords, StagesPuts};
     ghost use Rattle.ss_records.specs.Live.{is_live, live_count, lowest_free, live_after};
     ghost use Rattle.ss_records.specs.Pages.{cached_slot, Recalls};
     ghost use Rattle.ss_records.specs.Kept.{AreKept, AreSound};
@@ -49,6 +50,7 @@ impl Records {
         // The map of the content, or why it has none. Nothing is written.
         ensures opens { Step (verdict_of_open result) (D.seen disk.old) (D.seen disk.new) (OpensRecords result) }
         ensures running { IfOk result (λ records. IsRunning records.journal × (records.journal.extent ≤ MOST_SLOTS)) }
+        ensures sealed { IfOk result (λ records. IsSealed records.journal) }
         ensures sound { IfOk result AreSound }
     {
         let mut journal = Journal::open(alloc, disk)?;
@@ -101,6 +103,7 @@ impl Records {
     /// the map as it is, also in a crash.
     pub fn settle<D: Disk>(&mut self, disk: &mut D) -> Result<(), Failed>
         requires running { IsRunning self.old.journal }
+        requires sealed { IsSealed self.old.journal }
         requires one_disk { OfContent (D.seen disk.old) (AreKept self.old) }
         // The map stays, also in a crash at any moment of the call, and whatever is pending is made durable.
         ensures settles { Step (verdict result) (D.seen disk.old) (D.seen disk.new) (SettlesRecords self.new result) }
@@ -119,7 +122,7 @@ impl Records {
         requires running { IsRunning self.old.journal }
         requires slot { slot < MOST_SLOTS }
         requires one_disk { OfContent (D.seen disk.old) (AreKept self.old) }
-        ensures reads { Step (verdict result) (D.seen disk.old) (D.seen disk.new) (ReadsRecord self.new slot result) }
+        ensures reads { Step (verdict result) (D.seen disk.old) (D.seen disk.new) (ReadsRecord self.old self.new slot result) }
         ensures unused { self.old.journal.extent ≤ slot → IfOk result (λ bytes. bytes ≡ zeros) }
         ensures journal { OnOk result (self.new.journal ≡ self.old.journal) }
         ensures live { self.new.live ≡ self.old.live }
@@ -140,11 +143,67 @@ impl Records {
         Ok(slot_of(&page, slot % PAGE_SLOTS))
     }
 
+    /// Where every entry of the journal is in use, seals what is staged and brings all into the slots. It leaves the map that is
+    /// shown as it is; a crash leaves that one or the map from before the staged transactions.
+    pub fn make_room<D: Disk>(&mut self, disk: &mut D) -> Result<(), Failed>
+        requires settled { IsSettled self.old.journal }
+        requires one_disk { OfContent (D.seen disk.old) (AreKept self.old) }
+        ensures makes_room { Step (verdict result) (D.seen disk.old) (D.seen disk.new) (MakesRoomFor self.old self.new result) }
+        ensures made { OnOk result (HasMadeRoom self.old.journal self.new.journal) }
+        ensures live { self.new.live ≡ self.old.live }
+        // No page is left that may differ from the map.
+        ensures uncached { OnErr result (self.new.cached ≡ []) }
+        ensures stopped { OnErr result (HasStopped self.new.journal) }
+    {
+        if let Err(failed) = self.journal.make_room(disk) {
+            self.pages.clear();
+            return Err(failed);
+        }
+        Ok(())
+    }
+
+    /// Stages a transaction in memory, for the next `seal`: its bytes are those of its slots from now on. A slot is live then where
+    /// its bytes aren't all 0. The disk stays as it is.
+    pub fn stage(&mut self, txn: &Txn)
+        requires settled { IsSettled self.old.journal }
+        requires txn { IsTxn txn.now.items }
+        // Each slot in order is at most the extent so far.
+        requires fit { IsTrue (slots_fit txn.now.items self.old.journal.extent) }
+        requires room { self.old.journal.in_use < ENTRIES }
+        ensures stages { (content : List ℕ) → StagesPuts txn.now.items self.old self.new content }
+        ensures staged { HasStaged txn.now.items self.old.journal self.new.journal }
+        ensures live { self.new.live ≡ live_after txn.now.items self.old.live }
+    {
+        self.journal.stage(txn);
+        note_puts(&mut self.live, txn);
+        self.pages.put_all(txn);
+    }
+
+    /// Brings all staged transactions to the disk together, by two syncs. A crash at any moment of the call leaves the map from
+    /// before them or the map with all of them, and after `Ok` the latter. At `Failed` the disk may hold either.
+    pub fn seal<D: Disk>(&mut self, disk: &mut D) -> Result<(), Failed>
+        requires settled { IsSettled self.old.journal }
+        requires one_disk { OfContent (D.seen disk.old) (AreKept self.old) }
+        ensures seals { Step (verdict result) (D.seen disk.old) (D.seen disk.new) (SealsRecords self.old self.new result) }
+        ensures sealed { OnOk result (HasSealed self.old.journal self.new.journal) }
+        ensures live { self.new.live ≡ self.old.live }
+        // No page is left that may differ from the map.
+        ensures uncached { OnErr result (self.new.cached ≡ []) }
+        ensures stopped { OnErr result (HasStopped self.new.journal) }
+    {
+        if let Err(failed) = self.journal.seal(disk) {
+            self.pages.clear();
+            return Err(failed);
+        }
+        Ok(())
+    }
+
     /// Puts all of the transaction's bytes into their slots. A slot is live then where its bytes aren't all 0. A crash at
     /// any moment of the call leaves the map from before it or after it, and after `Ok` the map after it. At `Failed` the
     /// disk may hold either.
     pub fn apply<D: Disk>(&mut self, disk: &mut D, txn: &Txn) -> Result<(), Failed>
         requires settled { IsSettled self.old.journal }
+        requires sealed { IsSealed self.old.journal }
         requires txn { IsTxn txn.now.items }
         // Each slot in order is at most the extent so far.
         requires fit { IsTrue (slots_fit txn.now.items self.old.journal.extent) }

@@ -13,12 +13,13 @@ use Rattle.ss_outside.specs.Step.{Step}
 use Rattle.ss_outside.specs.Verdict.{Verdict, fine}
 use Rattle.ss_outside.proofs.CrashLemmas.{reads-joined}
 use Rattle.ss_outside.proofs.StepLemmas.{step-as, step-then}
-use Rattle.ss_journal.specs.Kept.{JournalState, IsKept}
+use Rattle.ss_journal.specs.Kept.{JournalState, IsKept, IsSealed}
 use Rattle.ss_journal.specs.Redo.{SlotMap, StandsFor}
 use Rattle.ss_journal.specs.declared.format.TheConstants.{MOST_SLOTS}
 use Rattle.ss_journal.proofs.MapLemmas.{SameMap-refl}
 use Rattle.ss_journal.proofs.RedoLemmas.{StandsFor-from, StandsFor-same}
-use Rattle.ss_records.specs.Kept.{AreKept, RecordsState}
+use Rattle.ss_journal.proofs.ShownLemmas.{shown-sealed, IsShown-sealed}
+use Rattle.ss_records.specs.Kept.{AreKept, RecordsState, shown_by}
 use Rattle.ss_records.specs.Live.{are_zeros, is_live}
 use Rattle.ss_codec.specs.Decoded.{decoded}
 use Rattle.ss_codec.specs.declared.record.Record.{Record}
@@ -37,12 +38,13 @@ use Rattle.ss_recover.proofs.Lists.{range_with_len-append}
 use Rattle.ss_recover.proofs.Occupied.{filled, filled-append, filled-live, filled-zeros}
 use Rattle.ss_recover.proofs.WholeSlots.{HasWholeSlots-StandsFor}
 
--- a map's extent is that of the journal
-pub extent-kept : (journal : JournalState) (content : List ℕ) (found : SlotMap) → IsKept journal content → StandsFor content found →
+-- where nothing is staged, a map's extent is that of the journal
+pub extent-kept : (journal : JournalState) (content : List ℕ) (found : SlotMap) → IsSealed journal → IsKept journal content → StandsFor content found →
     found.extent ≡ journal.extent
-extent-kept journal content found kept stands =
-    let some = StandsFor-from content kept.found kept.found kept.map (SameMap-refl kept.found) in
-    sym (StandsFor-same content kept.found found some stands).extent ∙ kept.extent
+extent-kept journal content found sealed kept stands =
+    let is = IsShown-sealed journal content sealed kept in
+    let some = StandsFor-from content is.found is.found is.map (SameMap-refl is.found) in
+    sym (StandsFor-same content is.found found some stands).extent ∙ is.extent
 
 -- the slots below one more
 pub range-more : (slot : ℕ) → range_with_len 0 (slot + 1) ≡ range_with_len 0 slot ++ slot ∷ []
@@ -152,11 +154,19 @@ gather-refused found slot all (BadStream number) refused read lt live = refused
 gather-refused found slot all Disk refused read lt live = tt
 gather-refused found slot all OutOfMemory refused read lt live = tt
 
+-- where nothing is staged, records show the map of the content
+pub StandsFor-sealed : (records : RecordsState) (content : List ℕ) (found : SlotMap) → IsSealed records.journal → StandsFor content found →
+    StandsFor (shown_by records content) found
+StandsFor-sealed records content found sealed stands =
+    subst (λ image. StandsFor image found) (sym (shown-sealed records.journal content sealed)) stands
+
 -- a live slot isn't zeros, and a slot that isn't live is free
-pub live-zeros : (records : RecordsState) (content : List ℕ) (found : SlotMap) (slot : ℕ) (b : Bool) → AreKept records content → StandsFor content found →
-    slot < MOST_SLOTS →
+pub live-zeros : (records : RecordsState) (content : List ℕ) (found : SlotMap) (slot : ℕ) (b : Bool) → IsSealed records.journal → AreKept records content →
+    StandsFor content found → slot < MOST_SLOTS →
     is_live records.live slot ≡ not b → are_zeros (found.bytes slot) ≡ b
-live-zeros records content found slot b kept stands lt is = not-same (are_zeros (found.bytes slot)) b (sym (kept.free found stands slot lt) ∙ is)
+live-zeros records content found slot b sealed kept stands lt is =
+    let shows = StandsFor-sealed records content found sealed stands in
+    not-same (are_zeros (found.bytes slot)) b (sym (kept.free found shows slot lt) ∙ is)
   where
     not-same : (x y : Bool) → not x ≡ not y → x ≡ y
     not-same true true same = refl

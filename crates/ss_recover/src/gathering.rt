@@ -3,7 +3,7 @@ ghost use Rattle.std.specs.Prelude.{◌≡◌, ◌<◌, ◌≤◌, All, IfOk, If
 ghost use Rattle.std.specs.List.{range_with_len};
 ghost use Rattle.ss_outside.specs.Disk.{OfContent};
 ghost use Rattle.ss_outside.specs.Step.{Step};
-ghost use Rattle.ss_journal.specs.Kept.{IsRunning};
+ghost use Rattle.ss_journal.specs.Kept.{IsRunning, IsSealed};
 ghost use Rattle.ss_journal.specs.declared.format.TheConstants.{MOST_SLOTS};
 ghost use Rattle.ss_records.specs.Kept.{AreKept};
 ghost use Rattle.ss_records.specs.Live.{is_live};
@@ -42,6 +42,7 @@ fn read_record<D: Disk>(
     slot: u32,
 ) -> Result<Found, RecoverError>
     requires running { IsRunning records.old.journal }
+    requires sealed { IsSealed records.old.journal }
     requires slot { slot < MOST_SLOTS }
     requires one_disk { OfContent (D.seen disk.old) (AreKept records.old) }
     ensures reads { Step (verdict_of_rebuild result) (D.seen disk.old) (D.seen disk.new)
@@ -69,6 +70,7 @@ pub fn gather<D: Disk>(
     disk: &mut D,
 ) -> Result<Vec<Found>, RecoverError>
     requires running { IsRunning records.old.journal }
+    requires sealed { IsSealed records.old.journal }
     requires one_disk { OfContent (D.seen disk.old) (AreKept records.old) }
     ensures gathers { Step (verdict_of_rebuild result) (D.seen disk.old) (D.seen disk.new)
         (FindsOut (verdict_of_rebuild result) records.new (λ found. GathersAs found result)) }

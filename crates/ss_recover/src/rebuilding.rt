@@ -3,7 +3,7 @@ ghost use Rattle.std.specs.Prelude.{◌≡◌, IsTrue, IfOk};
 ghost use Rattle.ss_outside.specs.Disk.{OfContent};
 ghost use Rattle.ss_outside.specs.Step.{Step};
 ghost use Rattle.ss_outside.specs.Verdict.{OnFailed, UnlessFailed};
-ghost use Rattle.ss_journal.specs.Kept.{IsRunning, HasStopped};
+ghost use Rattle.ss_journal.specs.Kept.{HasStopped, IsRunning, IsSealed};
 ghost use Rattle.ss_records.specs.Kept.{AreKept};
 ghost use Rattle.ss_recover.specs.Held.{AreWhole};
 ghost use Rattle.ss_recover.specs.Rebuilt.{Rebuilds, verdict_of_rebuild};
@@ -26,6 +26,7 @@ pub fn rebuild<D: Disk>(
     disk: &mut D,
 ) -> Result<Parts, RecoverError>
     requires running { IsRunning records.old.journal }
+    requires sealed { IsSealed records.old.journal }
     requires one_disk { OfContent (D.seen disk.old) (AreKept records.old) }
     // The streams of the content's map, or its lowest damaged slot, or else its lowest damaged stream. Nothing is written.
     ensures rebuilds { Step (verdict_of_rebuild result) (D.seen disk.old) (D.seen disk.new) (Rebuilds records.new result) }

@@ -2,8 +2,8 @@
 ghost use Rattle.std.specs.Prelude.{◌≡◌, ◌<◌, OnOk};
 ghost use Rattle.ss_outside.specs.Disk.{OfContent};
 ghost use Rattle.ss_outside.specs.MemDisk.{view_of};
-ghost use Rattle.ss_journal.specs.Kept.{IsRunning, IsSettled};
-ghost use Rattle.ss_records.specs.Kept.{AreKept};
+ghost use Rattle.ss_journal.specs.Kept.{IsRunning};
+ghost use Rattle.ss_records.specs.Kept.{AreAtRest, AreKept};
 
 use super::{Fill, put};
 use crate::journal::files::{File, bytes_of, disk_of};
@@ -15,7 +15,7 @@ use std::alloc::{AllocError, Global};
 use std::test::Fail;
 
 // A slot, the byte that fills it, and how many calls of the disk it takes to read it.
-type Seen = (Fill, u64);
+pub type Seen = (Fill, u64);
 
 // What is put, if anything is, and what is read then.
 type Step = (Option<Fill>, Seen);
@@ -77,7 +77,7 @@ const ROWS: [Row; 5] = [
 ];
 
 // Whether a slot reads as the row says, by so many calls.
-fn is_seen(records: &mut Records, disk: &mut MemDisk, seen: Seen) -> Result<bool, Failed>
+pub fn is_seen(records: &mut Records, disk: &mut MemDisk, seen: Seen) -> Result<bool, Failed>
     requires running { IsRunning records.old.journal }
     requires one_disk { OfContent (view_of disk.old) (AreKept records.old) }
     ensures journal { OnOk result (records.new.journal ≡ records.old.journal) }
@@ -90,9 +90,9 @@ fn is_seen(records: &mut Records, disk: &mut MemDisk, seen: Seen) -> Result<bool
 }
 
 fn takes(records: &mut Records, disk: &mut MemDisk, step: Step) -> Result<bool, Failed>
-    requires settled { IsSettled records.old.journal }
+    requires settled { AreAtRest records.old }
     requires one_disk { OfContent (view_of disk.old) (AreKept records.old) }
-    ensures settled { OnOk result (IsSettled records.new.journal) }
+    ensures settled { OnOk result (AreAtRest records.new) }
     ensures one_disk { OfContent (view_of disk.new) (λ content. OnOk result (AreKept records.new content)) }
 {
     if let Some(fill) = step.0 {
@@ -101,10 +101,10 @@ fn takes(records: &mut Records, disk: &mut MemDisk, step: Step) -> Result<bool, 
     is_seen(records, disk, step.1)
 }
 
-fn are_seen(records: &mut Records, disk: &mut MemDisk, seen: &[Seen]) -> Result<bool, Failed>
+pub fn are_seen(records: &mut Records, disk: &mut MemDisk, seen: &[Seen]) -> Result<bool, Failed>
     requires running { IsRunning records.old.journal }
     requires one_disk { OfContent (view_of disk.old) (AreKept records.old) }
-    ensures running { OnOk result (IsRunning records.new.journal) }
+    ensures journal { OnOk result (records.new.journal ≡ records.old.journal) }
     ensures one_disk { OfContent (view_of disk.new) (λ content. OnOk result (AreKept records.new content)) }
 {
     let mut all = true;
@@ -115,7 +115,7 @@ fn are_seen(records: &mut Records, disk: &mut MemDisk, seen: &[Seen]) -> Result<
 }
 
 fn are_taken(records: &mut Records, disk: &mut MemDisk, steps: &[Step]) -> Result<bool, Failed>
-    requires settled { IsSettled records.old.journal }
+    requires settled { AreAtRest records.old }
     requires one_disk { OfContent (view_of disk.old) (AreKept records.old) }
 {
     for step in steps {

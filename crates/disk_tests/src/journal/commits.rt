@@ -1,10 +1,12 @@
 // Many commits in a row, and files with many entries in use.
+ghost use Rattle.std.specs.Prelude.{◌≤◌};
+
 use super::files::{File, Map, bytes_of, disk_of, is_file, set_entry};
 use super::runs::{Commit, NOTHING, commit, run, settled};
-use super::stops::{CRASHES, survives, turns};
+use super::stops::{survives, survives_twice, turns};
 use crate::passing::{pass, pass_if};
 use ss_journal::{Journal, JournalError};
-use ss_outside::{Choice, Disk, Failed, MemDisk};
+use ss_outside::{Disk, Failed, MemDisk};
 use std::alloc::{AllocError, Global};
 use std::test::Fail;
 
@@ -12,7 +14,7 @@ use std::test::Fail;
 const COMMITS: u8 = 70;
 
 // Commit number k puts k into slot 0, and an even one into slot 1 too.
-fn commit_of(k: u8) -> Commit {
+pub fn commit_of(k: u8) -> Commit {
     (k, if k % 2 == 0 { k } else { 0 })
 }
 
@@ -31,45 +33,29 @@ fn commits_before_failure<D: Disk>(alloc: Global, disk: &mut D) -> u8 {
 }
 
 // The bytes of the slots after so many commits. Slot 1 is used from the second on.
-fn bytes_after(commits: u8) -> [u8; 2] {
+pub fn bytes_after(commits: u8) -> [u8; 2] {
     [commits, commits - commits % 2]
 }
 
-// Whether each crash leaves the map after so many commits, or after one more.
-fn survives_after(alloc: Global, disk: &MemDisk, commits: u8) -> Result<bool, JournalError> {
+// How many slots are used after so many commits.
+pub fn used_after(commits: u8) -> usize
+    ensures { result ≤ 2 }
+{
+    if commits < 2 { 1 } else { 2 }
+}
+
+// Whether each crash leaves the map after so many commits, or after one more, and so does a second stop.
+fn survives_after(
+    alloc: Global,
+    disk: &MemDisk,
+    commits: u8,
+    stop: u64,
+) -> Result<bool, JournalError> {
+    let more = commits.saturating_add(1);
     let now = bytes_after(commits);
-    let next = bytes_after(commits.saturating_add(1));
-    let now_used = if commits < 2 { 1 } else { 2 };
-    let next_used = if commits < 1 { 1 } else { 2 };
-    survives(alloc, disk, &[&next[..next_used], &now[..now_used]])
-}
-
-// The same of a crash of a settling that stops at this call, after a first crash.
-fn survives_again(
-    alloc: Global,
-    disk: &MemDisk,
-    choice: Choice,
-    commits: u8,
-    stop: u64,
-) -> Result<bool, JournalError> {
-    let mut left = disk.crash(choice)?;
-    left.stop_from(stop);
-    let _ = run(alloc, &mut left, NOTHING);
-    survives_after(alloc, &left, commits)
-}
-
-fn survives_twice(
-    alloc: Global,
-    disk: &MemDisk,
-    commits: u8,
-    stop: u64,
-) -> Result<bool, JournalError> {
-    for choice in CRASHES {
-        if !survives_again(alloc, disk, choice, commits, stop)? {
-            return Ok(false);
-        }
-    }
-    Ok(true)
+    let next = bytes_after(more);
+    let maps = [&next[..used_after(more)], &now[..used_after(commits)]];
+    Ok(survives(alloc, disk, &maps)? && survives_twice(alloc, disk, stop, &maps)?)
 }
 
 // How many commits come before a stop, if it leaves the map before the next commit or after it, and so does a second stop.
@@ -77,9 +63,8 @@ fn commits_made(alloc: Global, disk: &mut MemDisk, stop: u64) -> Result<Option<u
     let commits = commits_before_failure(alloc, disk);
     // Over all stops the second comes at each call of a settling.
     let second = stop % 270 * 7 % 270;
-    let once = survives_after(alloc, disk, commits)?;
-    let twice = survives_twice(alloc, disk, commits, second)?;
-    Ok(if once && twice { Some(commits) } else { None })
+    let safe = survives_after(alloc, disk, commits, second)?;
+    Ok(if safe { Some(commits) } else { None })
 }
 
 fn safe_commits(alloc: Global, bytes: &[u8], stop: u64) -> Result<Option<u8>, JournalError> {

@@ -1,5 +1,5 @@
 // Files, and the maps for which they stand.
-ghost use Rattle.std.specs.Prelude.{IsTrue};
+ghost use Rattle.std.specs.Prelude.{◌≡◌, IsTrue, OnOk};
 ghost use Rattle.ss_outside.specs.Disk.{OfContent};
 ghost use Rattle.ss_journal.specs.Kept.{IsKept, IsRunning};
 
@@ -93,9 +93,11 @@ fn is_filled(bytes: &[u8; 128], byte: u8) -> bool {
 }
 
 // Whether a journal has this map, of at most two slots.
-fn has<D: Disk>(journal: &mut Journal, disk: &mut D, map: Map<'_>) -> Result<bool, JournalError>
+pub fn has<D: Disk>(journal: &mut Journal, disk: &mut D, map: Map<'_>) -> Result<bool, JournalError>
     requires running { IsRunning journal.old }
     requires one_disk { OfContent (D.seen disk.old) (IsKept journal.old) }
+    ensures journal { OnOk result (journal.new ≡ journal.old) }
+    ensures one_disk { OfContent (D.seen disk.new) (λ content. OnOk result (IsKept journal.new content)) }
 {
     let first = journal.read(disk, 0)?;
     let second = journal.read(disk, 1)?;

@@ -1,7 +1,8 @@
 // Runs of a journal, as rows of a table.
-ghost use Rattle.std.specs.Prelude.{◌≡◌, IfOk, IsTrue, OnOk};
+ghost use Rattle.std.specs.Prelude.{◌≡◌, ◌<◌, IfOk, IsTrue, OnOk};
 ghost use Rattle.ss_outside.specs.Disk.{OfContent};
-ghost use Rattle.ss_journal.specs.Kept.{IsKept, IsSettled};
+ghost use Rattle.ss_journal.specs.Kept.{IsKept, IsSealed, IsSettled};
+ghost use Rattle.ss_journal.specs.Puts.{slots_fit, IsTxn};
 
 use super::files::{File, Map};
 use ss_journal::{Journal, JournalError, Put, Txn};
@@ -25,6 +26,7 @@ fn put_of(slot: u32, byte: u8) -> Put
 // A journal that is opened and settled.
 pub fn settled<D: Disk>(alloc: Global, disk: &mut D) -> Result<Journal, JournalError>
     ensures settled { IfOk result (λ journal. IsSettled journal) }
+    ensures sealed { IfOk result (λ journal. IsSealed journal) }
     ensures one_disk { OfContent (D.seen disk.new) (λ content. IfOk result (λ journal. IsKept journal content)) }
 {
     let mut journal = Journal::open(alloc, disk)?;
@@ -32,8 +34,39 @@ pub fn settled<D: Disk>(alloc: Global, disk: &mut D) -> Result<Journal, JournalE
     Ok(journal)
 }
 
+// The puts of a commit, of which there is one at least, over so many slots.
+fn txn_of(bytes: Commit, extent: u32) -> Txn
+    requires { 0 < extent }
+    ensures txn { IsTxn result.items }
+    ensures fit { IsTrue (slots_fit result.items extent) }
+{
+    let mut txn = Txn::new();
+    txn.push(put_of(0, bytes.0));
+    if bytes.1 == 0 {
+        return txn;
+    }
+    txn.push(put_of(1, bytes.1));
+    txn
+}
+
 // Commits, if there is a slot 0.
 pub fn commit<D: Disk>(journal: &mut Journal, disk: &mut D, bytes: Commit) -> Result<(), Failed>
+    requires settled { IsSettled journal.old }
+    requires sealed { IsSealed journal.old }
+    requires one_disk { OfContent (D.seen disk.old) (IsKept journal.old) }
+    ensures settled { OnOk result (IsSettled journal.new) }
+    ensures sealed { OnOk result (IsSealed journal.new) }
+    ensures one_disk { OfContent (D.seen disk.new) (λ content. OnOk result (IsKept journal.new content)) }
+{
+    if bytes.0 == 0 || journal.extent() == 0 {
+        return Ok(());
+    }
+    let txn = txn_of(bytes, journal.extent());
+    journal.commit(disk, &txn)
+}
+
+// Makes room and stages, if there is a slot 0.
+pub fn stage<D: Disk>(journal: &mut Journal, disk: &mut D, bytes: Commit) -> Result<(), Failed>
     requires settled { IsSettled journal.old }
     requires one_disk { OfContent (D.seen disk.old) (IsKept journal.old) }
     ensures settled { OnOk result (IsSettled journal.new) }
@@ -42,13 +75,10 @@ pub fn commit<D: Disk>(journal: &mut Journal, disk: &mut D, bytes: Commit) -> Re
     if bytes.0 == 0 || journal.extent() == 0 {
         return Ok(());
     }
-    let mut txn = Txn::new();
-    txn.push(put_of(0, bytes.0));
-    if bytes.1 == 0 {
-        return journal.commit(disk, &txn);
-    }
-    txn.push(put_of(1, bytes.1));
-    journal.commit(disk, &txn)
+    let txn = txn_of(bytes, journal.extent());
+    journal.make_room(disk)?;
+    journal.stage(&txn);
+    Ok(())
 }
 
 // Opens, settles and commits.

@@ -71,6 +71,35 @@ pub fn survives(alloc: Global, disk: &MemDisk, maps: &[Map<'_>]) -> Result<bool,
     Ok(disk.short() == 0)
 }
 
+// The same of a crash of a settling that stops at this call, after a first crash.
+fn survives_again(
+    alloc: Global,
+    disk: &MemDisk,
+    choice: Choice,
+    stop: u64,
+    maps: &[Map<'_>],
+) -> Result<bool, JournalError> {
+    let mut left = disk.crash(choice)?;
+    left.stop_from(stop);
+    let _ = run(alloc, &mut left, NOTHING);
+    survives(alloc, &left, maps)
+}
+
+// The same of each first crash.
+pub fn survives_twice(
+    alloc: Global,
+    disk: &MemDisk,
+    stop: u64,
+    maps: &[Map<'_>],
+) -> Result<bool, JournalError> {
+    for choice in CRASHES {
+        if !survives_again(alloc, disk, choice, stop, maps)? {
+            return Ok(false);
+        }
+    }
+    Ok(true)
+}
+
 // Whether the row's run comes to its end, if what it does leaves the map before it or the one after.
 fn ended(alloc: Global, disk: &mut MemDisk, row: &Row) -> Result<Option<bool>, JournalError> {
     let maps = [row.after, row.before];

@@ -1,12 +1,12 @@
 use Rattle.ss_outside.specs.Disk.{OfContent}
 use Rattle.ss_journal.specs.Kept.{IsKept, IsSettled}
-use Rattle.ss_records.specs.Kept.{AreKept}
+use Rattle.ss_records.specs.Kept.{AreAtRest, AreKept}
 use Rattle.disk_tests.proofs.cached.first_other.Given as goal
 
 abbrev pub invariant-loop-k : goal.invariant-loop-k
 invariant-loop-k g l =
     record {
-      settled : IsSettled l.records.journal × IsSettled l.journal;
+      settled : AreAtRest l.records × IsSettled l.journal;
       one_disk : OfContent (g.D.Disk.seen l.disk) (AreKept l.records);
       other_disk : OfContent (g.D.Disk.seen l.other) (IsKept l.journal);
     }

@@ -1,11 +1,10 @@
 use Rattle.ss_outside.specs.Disk.{OfContent}
-use Rattle.ss_journal.specs.Kept.{IsSettled}
-use Rattle.ss_records.specs.Kept.{AreKept}
+use Rattle.ss_records.specs.Kept.{AreAtRest, AreKept}
 use Rattle.disk_tests.proofs.records.first_wrong_step.Given as goal
 
 abbrev pub invariant-steps : goal.invariant-steps
 invariant-steps g l =
     record {
-      settled : IsSettled l.records.journal;
+      settled : AreAtRest l.records;
       one_disk : OfContent (g.D.Disk.seen l.disk) (AreKept l.records);
     }

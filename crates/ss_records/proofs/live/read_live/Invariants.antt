@@ -9,5 +9,5 @@ abbrev pub invariant-loop-slot : goal.invariant-loop-slot
 invariant-loop-slot g l = record {
   bounded : AreBelow l.slot l.live;
   journal : l.journal ≡ l.fn.journal;
-  step : Step fine (g.D.Disk.seen l.fn.disk) (g.D.Disk.seen l.disk) (ReadTo l.slot l.live);
+  step : Step fine (g.D.Disk.seen l.fn.disk) (g.D.Disk.seen l.disk) (ReadTo l.fn.journal l.slot l.live);
 }

@@ -14,7 +14,7 @@ use Rattle.ss_recover.specs.Usable.{IsUsable}
 use Rattle.ss_recover.specs.declared.found.Found.{Found}
 use Rattle.std.proofs.lemmas.Result.{err_from_is_err_and}
 use Rattle.ss_outside.specs.Step.{Step}
-use Rattle.ss_journal.specs.Kept.{JournalState}
+use Rattle.ss_journal.specs.Kept.{JournalState, IsSealed}
 use Rattle.ss_records.specs.Live.{is_live}
 use Rattle.ss_recover.proofs.GatherLemmas.{AreRead, AreRead-live, AreRead-zeros, extent-kept, free-zeros, finds-more, finds-then, gather-refused}
 use Rattle.ss_recover.proofs.GatherLemmas.{live-zeros, slots-all, slots-more, verdict-same}
@@ -24,6 +24,7 @@ use Rattle.ss_recover.proofs.gathering.gather.Goals.{then-is_live+in_ok-found+el
 pub returns-in_err-found-clause-gathers : goal.returns-in_err-found-clause-gathers
 returns-in_err-found-clause-gathers g c =
     let before = c.loop-slot.invariant in
+    let sealed : IsSealed c.loop-slot.records.journal = ap (λ (j : JournalState). j.staged) before.journal ∙ c.requires.sealed in
     let slot = c.loop-slot.slot in
     let e = c.in_err-found.field-0.0 in
     let result = c.from_residual-in_err-found.result in
@@ -35,8 +36,9 @@ returns-in_err-found-clause-gathers g c =
     let live : is_live c.loop-slot.records.live slot ≡ not false = sym c.is_live.ensures.value ∙ c.if-is_live.true in
     let read = finds-then before.gathers c.read_record.ensures.reads (λ found stands kept all one. subst (GathersAs found) (sym is) (
     gather-refused found slot c.loop-slot.all.items e (subst (ReadsAs (found.bytes slot) slot) c.in_err-found.was one) all
-    (omega (arith, lt, finish.value, ap (λ (j : JournalState). j.extent) before.journal, extent-kept c.loop-slot.records.journal _ found kept.journal stands))
-    (live-zeros c.loop-slot.records _ found slot false kept stands (omega (arith, lt, finish.value, finish.most)) live)
+    (let extent = extent-kept c.loop-slot.records.journal _ found sealed kept.journal stands in
+    omega (arith, lt, finish.value, ap (λ (j : JournalState). j.extent) before.journal, extent))
+    (live-zeros c.loop-slot.records _ found slot false sealed kept stands (omega (arith, lt, finish.value, finish.most)) live)
     )) in
     subst (λ v. Step v (g.D.Disk.seen c.args.disk.now) (g.D.Disk.seen c.read_record.new.disk)
     (FindsOut v c.read_record.new.records (λ found. GathersAs found result)))
@@ -45,6 +47,7 @@ returns-in_err-found-clause-gathers g c =
 pub returns-clause-gathers : goal.returns-clause-gathers
 returns-clause-gathers g c =
     let before = c.loop-slot.invariant in
+    let sealed : IsSealed c.loop-slot.records.journal = ap (λ (j : JournalState). j.staged) before.journal ∙ c.requires.sealed in
     let finish = c.extent-slot-end.ensures in
     let at_end = c.loop-slot-test.false in
     finds-more before.gathers (λ found stands kept read.
@@ -55,7 +58,7 @@ returns-clause-gathers g c =
       finish.value,
       c.loop-slot.auto.slot-end,
       ap (λ (j : JournalState). j.extent) before.journal,
-      extent-kept c.loop-slot.records.journal _ found kept.journal stands,
+      extent-kept c.loop-slot.records.journal _ found sealed kept.journal stands,
     ) in
     let all : AreRead c.loop-slot.all.items found found.extent = subst (λ (n : ℕ). AreRead c.loop-slot.all.items found n) size read in
     record { occupied_by = all.occupied_by; spelled_all = all.spelled_all }
@@ -103,6 +106,7 @@ other-step live slots slot not-live is = sym (cond-false (is_live live slot) (sl
 pub loop-slot-preserved : goal.loop-slot-preserved
 loop-slot-preserved g c =
     let before = c.loop-slot.invariant in
+    let sealed : IsSealed c.loop-slot.records.journal = ap (λ (j : JournalState). j.staged) before.journal ∙ c.requires.sealed in
     let slot = c.loop-slot.slot in
     let items = c.loop-slot.all.items in
     let now = c.if-is_live in
@@ -122,7 +126,7 @@ loop-slot-preserved g c =
           ap (λ (fs : List Found). map (λ f. f.slot) fs) pushed ∙ map-append (λ (f : Found). f.slot) items (x ∷ [])
           ∙ ap (λ (k : ℕ). map (λ (f : Found). f.slot) items ++ k ∷ []) read.slot in
           let gathers = finds-then before.gathers read.reads (λ found stands kept all one.
-          let zeros = live-zeros c.loop-slot.records _ found slot false kept stands within (sym c.is_live.ensures.value ∙ w.if-is_live.true) in
+          let zeros = live-zeros c.loop-slot.records _ found slot false sealed kept stands within (sym c.is_live.ensures.value ∙ w.if-is_live.true) in
           AreRead-live items found slot x all zeros one.0 one.1
           ) in
           record {
@@ -138,7 +142,7 @@ loop-slot-preserved g c =
           let is : is_live c.args.records.now.live slot ≡ false = sym value ∙ w.if-is_live.false in
           let kept : now.all.items ≡ items = ap (λ (v : Vec Found Global). v.items) w.all-is in
           let gathers = finds-more before.gathers (λ found stands kept all.
-          let zeros = live-zeros c.loop-slot.records _ found slot true kept stands within (sym c.is_live.ensures.value ∙ w.if-is_live.false) in
+          let zeros = live-zeros c.loop-slot.records _ found slot true sealed kept stands within (sym c.is_live.ensures.value ∙ w.if-is_live.false) in
           AreRead-zeros items found slot all zeros (free-zeros _ found slot stands within zeros)
           ) in
           record {

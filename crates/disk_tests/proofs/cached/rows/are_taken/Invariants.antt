@@ -1,12 +1,11 @@
 use Rattle.ss_outside.specs.Disk.{OfContent}
 use Rattle.ss_outside.specs.MemDisk.{view_of}
-use Rattle.ss_journal.specs.Kept.{IsSettled}
-use Rattle.ss_records.specs.Kept.{AreKept}
+use Rattle.ss_records.specs.Kept.{AreAtRest, AreKept}
 use Rattle.disk_tests.proofs.cached.rows.are_taken.Given as goal
 
 abbrev pub invariant-loop-step : goal.invariant-loop-step
 invariant-loop-step l =
     record {
-      settled : IsSettled l.records.journal;
+      settled : AreAtRest l.records;
       one_disk : OfContent (view_of l.disk) (AreKept l.records);
     }

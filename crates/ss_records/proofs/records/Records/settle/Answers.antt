@@ -1,7 +1,7 @@
 use Rattle.std.proofs.Common.{sym, subst}
 use Rattle.ss_journal.specs.Kept.{IsKept}
 use Rattle.ss_journal.proofs.StepLemmas.{step-from}
-use Rattle.ss_records.specs.Kept.{AreKept, RecordsState}
+use Rattle.ss_records.specs.Kept.{RecordsState}
 use Rattle.ss_records.proofs.RecordLemmas.{settles-records}
 use Rattle.ss_records.proofs.records.Records.settle.Goals as goal
 
@@ -13,6 +13,5 @@ settle-requires-clause-one_disk g c told =
 pub returns-clause-settles : goal.returns-clause-settles
 returns-clause-settles g c =
     step-from c.settle.ensures.settles (λ told settles.
-    settles-records c.self.inside.journal c.self.inside.live c.self.inside.pages _
-    (subst (λ (records : RecordsState). AreKept records (g.D.Disk.seen c.args.disk.now).told.content) (sym c.self.view_is) (c.requires.one_disk told))
-    _ c.settle.new.self c.settle.result settles)
+    settles-records c.self.inside.journal c.self.inside.live c.self.inside.pages c.args.self.now c.self.view_is _ (c.requires.one_disk told)
+    _ c.settle.new.self c.settle.result c.requires.sealed c.settle.ensures.settled settles)

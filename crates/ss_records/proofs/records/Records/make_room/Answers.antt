@@ -1,0 +1,22 @@
+use Rattle.std.proofs.Common.{sym, subst}
+use Rattle.ss_journal.specs.Kept.{IsKept}
+use Rattle.ss_journal.proofs.StepLemmas.{step-from}
+use Rattle.ss_records.specs.Kept.{RecordsState}
+use Rattle.ss_records.proofs.RecordLemmas.{makes-room-failed, makes-room-for}
+use Rattle.ss_records.proofs.records.Records.make_room.Goals as goal
+
+pub make_room-requires-clause-one_disk : goal.make_room-requires-clause-one_disk
+make_room-requires-clause-one_disk g c told =
+    subst (λ (records : RecordsState). IsKept records.journal (g.D.Disk.seen c.args.disk.now).told.content) (sym c.self.view_is)
+    (c.requires.one_disk told).journal
+
+pub returns-in-Err-clause-makes_room : goal.returns-in-Err-clause-makes_room
+returns-in-Err-clause-makes_room g c =
+    step-from c.in-Err.ensures.makes_room (λ told step.
+    makes-room-failed c.self.inside.journal c.self.inside.live c.self.inside.pages c.args.self.now c.self.view_is _ _ _ _ step)
+
+pub returns-clause-makes_room : goal.returns-clause-makes_room
+returns-clause-makes_room g c =
+    step-from c.in_default.ensures.makes_room (λ told step.
+    makes-room-for c.self.inside.journal c.self.inside.live c.self.inside.pages c.args.self.now c.self.view_is _ (c.requires.one_disk told)
+    _ c.make_room.new.self _ _ step)
