@@ -1,5 +1,6 @@
 -- A stream whose windows are read one after the other, oldest first.
-use Rattle.std.proofs.Common.{◌≡◌, ◌∙◌, ℕ, ◌+◌, ◌<◌, ◌≤◌, List, [], ◌∷◌, ◌++◌, map, refl, sym, ap, subst, arith, append-nil, Option, Some, None, Ok, Err, Result}
+use Rattle.std.proofs.Common.{◌≡◌, ◌∙◌, ℕ, ◌+◌, ◌<◌, ◌≤◌, List, [], ◌∷◌, ◌++◌, map, refl, sym, ap, subst, arith, append-nil}
+use Rattle.std.proofs.Common.{Option, Some, None, Ok, Err, Result}
 use Rattle.std.specs.List.{Contains}
 use Rattle.std.proofs.lemmas.List.{map-append}
 use Rattle.std.proofs.lemmas.List.Elements.{recursion_from_All}
@@ -25,7 +26,8 @@ use Rattle.ss_outside.specs.Step.{Step}
 use Rattle.ss_outside.specs.Verdict.{IfChanged, UnlessFailed, fine}
 use Rattle.ss_recover.specs.Held.{entries_of, span_held, span_of, window_record}
 use Rattle.ss_recover.specs.declared.parts.StreamParts.{StreamParts}
-use Rattle.ss_records.specs.Kept.{AreKept, RecordsState}
+use Rattle.ss_journal.specs.Kept.{JournalState, shown}
+use Rattle.ss_records.specs.Kept.{AreKept, RecordsState, shown_by}
 use Rattle.ss_query.specs.Answered.{AnswersStream, BeginsAt, IsAnswered, IsSeenAs, SeesEntry}
 use Rattle.ss_query.specs.Asked.{HasRoom, marks_seen, outcome_seen, seen_after}
 use Rattle.ss_query.specs.Held.{IsHeldIn}
@@ -34,24 +36,25 @@ use Rattle.ss_query.specs.Slots.{HasRecords}
 use Rattle.ss_query.specs.declared.asking.Seen.{Seen}
 use Rattle.ss_query.specs.declared.read_error.ReadError.{ReadError}
 use Rattle.ss_query.specs.declared.read_error.ReadError.TheVariants as error
-use Rattle.ss_query.proofs.NextWindow.{AreLeft, AreLeft-early, AreLeft-more, Follows-next, IsBeside-here, IsNext, IsNext-here, IsWalkedTo, IsWalkedTo-more, after}
-use Rattle.ss_query.proofs.NextWindow.{late-next}
+use Rattle.ss_query.proofs.NextWindow.{AreLeft, AreLeft-early, AreLeft-more, Follows-next, IsBeside-here, IsNext, IsNext-here, IsWalkedTo}
+use Rattle.ss_query.proofs.NextWindow.{IsWalkedTo-more, after, late-next}
 use Rattle.ss_query.proofs.Places.{entries_in, none-first}
 use Rattle.ss_query.proofs.Rooms.{HasRoom-none}
 use Rattle.ss_query.proofs.Seeing.{IsSeen, IsSeen-none, outcome-seen}
 
--- Entries are looked at in a row, by records that are these then, up to a place of a line. Content and images stay.
+-- Entries are looked at in a row, by records that are others then, of what they show, up to a place of a line. What they show
+-- stays, as do content and images.
 pub record WalksTo (part : StreamParts) (from to : ℕ) (seen : Seen) (next : Option At) (line : IsWalkedTo part from to seen next)
-    (records : RecordsState) (old new : Told) : Type 0 where
-  pub left : (others : List (ℕ × Option Record)) (s : Stream) → IsHeldIn others part s old.content →
+    (was is : RecordsState) (old new : Told) : Type 0 where
+  pub left : (others : List (ℕ × Option Record)) (s : Stream) → IsHeldIn others part s (shown_by was old.content) →
       AreLeft s part.landmarks.landmarks from to (entries_in line.before) (entries_in line.rest) seen
-  pub kept : AreKept records new.content
+  pub kept : AreKept is new.content
   pub reads : OnlyReads old new
 
 pub record IsAsking (before now : DiskView) (records records_now : RecordsState) (part : StreamParts) (from to : ℕ) (seen : Seen)
     (next : Option At) : Type 0 where
   pub line : IsWalkedTo part from to seen next
-  pub step : Step fine before now (WalksTo part from to seen next line records_now)
+  pub step : Step fine before now (WalksTo part from to seen next line records records_now)
   pub journal : records_now.journal ≡ records.journal
   pub live : records_now.live ≡ records.live
 
@@ -93,12 +96,12 @@ IsAsking-none disk records part from to start begins kept marked marked_is =
     ap (λ es. entries_in es) begins.is ∙ map-append (λ (e : At × Entry). e.1) begins.before begins.rest in
     record {
       line = line;
-      step = step-none disk (WalksTo part from to (marks_seen marked) start line records) (λ told. record {
+      step = step-none disk (WalksTo part from to (marks_seen marked) start line records records) (λ told. record {
         left = λ others s held.
             AreLeft-early s part.landmarks.landmarks from to [] begins.before (entries_in begins.rest) (marks_seen marked)
             (recursion_from_All (λ (e : At × Entry). e.1.t_last < from) begins.before begins.early)
             (subst (λ es. AreLeft s part.landmarks.landmarks from to [] es (marks_seen marked)) split
-            (AreLeft-none others part s disk.told.content from to marked marked_is held));
+            (AreLeft-none others part s (shown_by records disk.told.content) from to marked marked_is held));
         kept = kept told;
         reads = reads-none disk.told;
       });
@@ -136,6 +139,10 @@ IsAnswered-err : (seen : Seen) (outcome : Outcome) (why : ReadError) → IsSeenA
 IsAnswered-err seen outcome error.Disk read = tt
 IsAnswered-err seen outcome (error.Changed slot) read = absurd read
 
+-- what is shown stays where the journal and the content do
+shown-stays : (was is : JournalState) (old new : List ℕ) → is ≡ was → new ≡ old → shown was old ≡ shown is new
+shown-stays was is old new journal content = ap (shown was) (sym content) ∙ ap (λ (j : JournalState). shown j new) (sym journal)
+
 -- one more entry is looked at
 module _ {before mid : DiskView} {records records_mid : RecordsState} {part : StreamParts} {seen : Seen} {at : At} {entry : Entry} (query : Query)
     (line : IsLine part.line) (asking : IsAsking before mid records records_mid part query.from query.to seen (Some at))
@@ -152,21 +159,22 @@ module _ {before mid : DiskView} {records records_mid : RecordsState} {part : St
     is : IsSeenAs (seen_after part.landmarks.landmarks from to seen next.window) result
 
   sees-next : (old now new : Told) (records_new : RecordsState) (result : Result Seen ReadError) →
-      WalksTo part from to seen (Some at) asking.line records_mid old now → SeesEntry part from to entry seen records_new result now new →
-      (others : List (ℕ × Option Record)) (s : Stream) → IsHeldIn others part s old.content → IsSeenNext s result
+      WalksTo part from to seen (Some at) asking.line records records_mid old now → SeesEntry part from to entry seen records_mid records_new result now new →
+      (others : List (ℕ × Option Record)) (s : Stream) → IsHeldIn others part s (shown_by records old.content) → IsSeenNext s result
   sees-next old now new records_new result walks sees others s held =
       let next = IsNext-here line asking.line read s (walks.left others s held) in
-      let beside = IsBeside-here line asking.line read others s old.content held next in
+      let beside = IsBeside-here line asking.line read others s (shown_by records old.content) held next in
       let has = subst (λ image. HasRecords ((entry.slot, Some (window_record part.id.0 next.window)) ∷ beside.others) image)
-      (sym walks.reads.same.content) beside.has in
+      (shown-stays records.journal records_mid.journal old.content now.content asking.journal walks.reads.same.content) beside.has in
       record { next = next; is = sees.window beside.others next.window has next.span next.time beside.free (Follows-next next) }
 
   module _ {after_it : DiskView} {records_now : RecordsState} where
     -- what follows where it can't be seen
-    pub failed-answer : (why : ReadError) → Step (verdict_of_read {T = Seen} (Err why)) mid after_it (SeesEntry part from to entry seen records_now (Err why)) →
-        Step (verdict_of_read {T = Outcome} (Err why)) before after_it (AnswersStream part query records_now (Err why))
+    pub failed-answer : (why : ReadError) →
+        Step (verdict_of_read {T = Seen} (Err why)) mid after_it (SeesEntry part from to entry seen records_mid records_now (Err why)) →
+        Step (verdict_of_read {T = Outcome} (Err why)) before after_it (AnswersStream part query records records_now (Err why))
     failed-answer why step =
-        step-then {Q = SeesEntry part from to entry seen records_now (Err why)} asking.step (step-verdict (same-verdict why) step (λ sees. sees))
+        step-then {Q = SeesEntry part from to entry seen records_mid records_now (Err why)} asking.step (step-verdict (same-verdict why) step (λ sees. sees))
         (λ walks sees. record {
           answer = λ others s held.
               let is = sees-next before.told mid.told after_it.told records_now (Err why) walks sees others s held in
@@ -175,7 +183,7 @@ module _ {before mid : DiskView} {records records_mid : RecordsState} {part : St
           reads = reads-joined before.told mid.told after_it.told walks.reads sees.reads;
         })
 
-    pub IsAsking-more : (now : Seen) → Step fine mid after_it (SeesEntry part from to entry seen records_now (Ok now)) →
+    pub IsAsking-more : (now : Seen) → Step fine mid after_it (SeesEntry part from to entry seen records_mid records_now (Ok now)) →
         HasRoom now × (now.marked ≡ seen.marked) → KeepsRecords fine records_mid records_now → (next : Option At) →
         next ≡ place_at part.line.entries (index_of part.line.entries at + 1) →
         IsAsking before after_it records records_now part from to now next
@@ -195,7 +203,7 @@ module _ {before mid : DiskView} {records records_mid : RecordsState} {part : St
 
   -- where it begins after the range, what is known is all
   pub late-answer : to < entry.t_first → (outcome : Outcome) → outcome ≡ outcome_seen query.kind seen →
-      Step fine before mid (AnswersStream part query records_mid (Ok outcome))
+      Step fine before mid (AnswersStream part query records records_mid (Ok outcome))
   late-answer late outcome is =
       step-as asking.step (λ walks. record {
         answer = λ others s held.
@@ -219,7 +227,7 @@ seen-all part from to seen line s left =
 
 pub all-answer : {before now : DiskView} {records records_now : RecordsState} {part : StreamParts} {seen : Seen} (query : Query) (outcome : Outcome) →
     IsAsking before now records records_now part query.from query.to seen None → outcome ≡ outcome_seen query.kind seen →
-    Step fine before now (AnswersStream part query records_now (Ok outcome))
+    Step fine before now (AnswersStream part query records records_now (Ok outcome))
 all-answer {part = part} {seen = seen} query outcome asking is =
     step-as asking.step (λ walks. record {
       answer = λ others s held.

@@ -7,5 +7,6 @@ pub mod Seeing
 pub mod SplitLemmas
 pub mod SeenEntries
 pub mod NextWindow
+pub mod Looks
 pub mod AskedWindows
 mod Rows

@@ -1,5 +1,5 @@
 -- The next window of a stream whose windows are looked at one after the other, oldest first.
-use Rattle.std.proofs.Common.{◌≡◌, ◌∙◌, ℕ, ◌+◌, ◌-◌, ◌<◌, ◌≤◌, Bool, true, false, List, [], ◌∷◌, ◌++◌, map, length, refl, sym, ap, inl, inr}
+use Rattle.std.proofs.Common.{◌≡◌, ◌∙◌, ℕ, ◌+◌, ◌-◌, ◌<◌, ◌≤◌, Bool, true, List, [], ◌∷◌, ◌++◌, map, length, refl, sym, ap, inl, inr}
 use Rattle.std.proofs.Common.{ap₂, subst, arith, append_assoc, append-nil, length-append, drop, get_or, Option, Some, None, IsTrue}
 use Rattle.std.specs.Prelude.{All, option_map, slice_get, zip}
 use Rattle.std.specs.List.{AllByRecursion, Contains, list_all}
@@ -218,7 +218,7 @@ module _ {part : StreamParts} {from to : ℕ} {seen : Seen} {at : At} (line : Is
     unfoldable pub after : List (At × Entry)
     after = there.1
 
-    rest-here : to_here.rest ≡ (at, entry) ∷ after
+    pub rest-here : to_here.rest ≡ (at, entry) ∷ after
     unfolding after
     rest-here =
         let whole : part.line.entries ≡ to_here.before ++ (at, there.0) ∷ there.1 = to_here.is ∙ ap (λ es. to_here.before ++ es) there.2 in

@@ -149,9 +149,9 @@ window-count : (part : StreamParts) (entry : Entry) (summary : Figures) → IsWi
 window-count part entry summary is = is.count
 
 -- the records are kept also where one has changed
-module _ (part : StreamParts) (records : RecordsState) (slot : ℕ) (old new : Told) where
-  reads-changed : (entry : Entry) → ReadsWindow part entry records (Err (error.Changed slot)) old new → AreKept records new.content
+module _ (part : StreamParts) (was is : RecordsState) (slot : ℕ) (old new : Told) where
+  reads-changed : (entry : Entry) → ReadsWindow part entry was is (Err (error.Changed slot)) old new → AreKept is new.content
   reads-changed entry reads = reads.kept
 
-  answers-changed : (query : Query) → AnswersStream part query records (Err (error.Changed slot)) old new → AreKept records new.content
+  answers-changed : (query : Query) → AnswersStream part query was is (Err (error.Changed slot)) old new → AreKept is new.content
   answers-changed query answers = answers.kept

@@ -1,9 +1,9 @@
 -- What a stream answers to a query.
-use Rattle.std.specs.Prelude.{◌≡◌, ℕ, ◌<◌, List, ◌∷◌, ◌++◌, map, All, IsTrue, Option, Some, Result, Ok, Err, ⊤}
+use Rattle.std.specs.Prelude.{◌≡◌, ℕ, ◌<◌, ◌&&◌, nat_le, nat_lt, List, ◌∷◌, ◌++◌, drop, map, All, count_by, IsTrue, Option, Some, Result, Ok, Err, ⊤}
 use Rattle.ss_outside.specs.Crash.{OnlyReads}
 use Rattle.ss_outside.specs.Disk.{Told}
 use Rattle.ss_outside.specs.Verdict.{UnlessFailed}
-use Rattle.ss_records.specs.Kept.{AreKept, RecordsState}
+use Rattle.ss_records.specs.Kept.{AreKept, RecordsState, shown_by}
 use Rattle.ss_catalog.specs.declared.query.Query.{Query}
 use Rattle.ss_codec.specs.declared.record.Record.{Record}
 use Rattle.ss_line.specs.Line.{place_at}
@@ -42,29 +42,41 @@ pub record BeginsAt (entries : List (At × Entry)) (from : ℕ) (start : Option 
   pub early : All (λ (e : At × Entry). e.1.t_last < from) before
   pub place : start ≡ place_at rest 0
 
+-- Such a place is near the time: of the windows from there on, only the first one may begin by it.
+pub record BeginsNear (entries : List (At × Entry)) (from : ℕ) (start : Option At) : Type 0 where
+  pub before : List (At × Entry)
+  pub rest : List (At × Entry)
+  pub is : entries ≡ before ++ rest
+  pub place : start ≡ place_at rest 0
+  pub behind : All (λ (e : At × Entry). from < e.1.t_first) (drop 1 rest)
+
+-- how many windows begin after a time and not after another
+abbrev pub begun_in : ℕ → ℕ → List (At × Entry) → ℕ
+begun_in from to entries = count_by (λ (e : At × Entry). nat_lt from e.1.t_first && nat_le e.1.t_first to) entries
+
 -- what looking at an entry tells, on a disk that tells: what is known with its window, unless the disk fails
 abbrev pub IsSeenAs : Seen → Result Seen ReadError → Type 0
 IsSeenAs seen (Ok now) = now ≡ seen
 IsSeenAs seen (Err Disk) = ⊤
 IsSeenAs seen (Err (Changed slot)) = ⊥
 
--- An entry is looked at, by records that are these then: its record is read where it has times in the range. Content and
+-- An entry is looked at, by records that are others then, of what they show: its record is read where it has times in the range. Content and
 -- images stay.
-pub record SeesEntry (part : StreamParts) (from to : ℕ) (entry : Entry) (seen : Seen) (records : RecordsState) (result : Result Seen ReadError)
+pub record SeesEntry (part : StreamParts) (from to : ℕ) (entry : Entry) (seen : Seen) (was is : RecordsState) (result : Result Seen ReadError)
     (old new : Told) : Type 0 where
   -- what is known with the window whose record lies in the slot of the entry, where it comes next, as for reading it
   pub window : (others : List (ℕ × Option Record)) (w : Window) →
-      HasRecords ((entry.slot, Some (window_record part.id.0 w)) ∷ others) old.content →
+      HasRecords ((entry.slot, Some (window_record part.id.0 w)) ∷ others) (shown_by was old.content) →
       span_held entry ≡ span_of w → times_held entry ≡ times_of w → IsTrue (lies_free part.landmarks.landmarks w) → Follows seen w →
       IsSeenAs (seen_after part.landmarks.landmarks from to seen w) result
-  pub kept : UnlessFailed (verdict_of_read result) (AreKept records new.content)
+  pub kept : UnlessFailed (verdict_of_read result) (AreKept is new.content)
   pub reads : OnlyReads old new
 
--- A query is answered, by records that are these then. Content and images stay.
-pub record AnswersStream (part : StreamParts) (query : Query) (records : RecordsState) (result : Result Outcome ReadError) (old new : Told) :
+-- A query is answered, by records that are others then, of what they show. Content and images stay.
+pub record AnswersStream (part : StreamParts) (query : Query) (was is : RecordsState) (result : Result Outcome ReadError) (old new : Told) :
     Type 0 where
   -- the answer of the stream, whatever lies beside it
-  pub answer : (others : List (ℕ × Option Record)) (s : Stream) → IsHeldIn others part s old.content →
+  pub answer : (others : List (ℕ × Option Record)) (s : Stream) → IsHeldIn others part s (shown_by was old.content) →
       IsAnswered (answer_of query s) result
-  pub kept : UnlessFailed (verdict_of_read result) (AreKept records new.content)
+  pub kept : UnlessFailed (verdict_of_read result) (AreKept is new.content)
   pub reads : OnlyReads old new

@@ -5,7 +5,7 @@ use Rattle.ss_outside.specs.Disk.{Told}
 use Rattle.ss_outside.specs.Verdict as verdicts
 use Rattle.ss_outside.specs.Verdict.{Verdict, OnFailed, UnlessFailed}
 use Rattle.ss_journal.specs.Kept.{HasStopped}
-use Rattle.ss_records.specs.Kept.{AreKept, RecordsState}
+use Rattle.ss_records.specs.Kept.{AreKept, RecordsState, shown_by}
 use Rattle.ss_codec.specs.declared.record.Record.{Record}
 use Rattle.ss_line.specs.declared.entry.Entry.{Entry}
 use Rattle.ss_summary.specs.Figures.{Figures}
@@ -35,15 +35,15 @@ pub record IsWindowOf (part : StreamParts) (entry : Entry) (summary : Figures) :
   pub times : times_held entry ≡ (summary.t_first, summary.t_last)
   pub free : IsTrue (lies_free part.landmarks.landmarks (record { first = entry.first; summary = summary }))
 
--- A window is read, by records that are these then. Content and images stay.
-pub record ReadsWindow (part : StreamParts) (entry : Entry) (records : RecordsState) (result : Result Figures ReadError) (old new : Told) :
+-- A window is read, by records that are others then, of what they show. Content and images stay.
+pub record ReadsWindow (part : StreamParts) (entry : Entry) (was is : RecordsState) (result : Result Figures ReadError) (old new : Told) :
     Type 0 where
   -- that of the stream whose record lies in the slot of the entry, where it has the positions and the times of the entry and
   -- lies free
   pub window : (others : List (ℕ × Option Record)) (w : Window) →
-      HasRecords ((entry.slot, Some (window_record part.id.0 w)) ∷ others) old.content →
+      HasRecords ((entry.slot, Some (window_record part.id.0 w)) ∷ others) (shown_by was old.content) →
       span_held entry ≡ span_of w → times_held entry ≡ times_of w → IsTrue (lies_free part.landmarks.landmarks w) → IsRead w.summary result
-  pub kept : UnlessFailed (verdict_of_read result) (AreKept records new.content)
+  pub kept : UnlessFailed (verdict_of_read result) (AreKept is new.content)
   pub reads : OnlyReads old new
 
 -- What reading leaves of the records: all, unless the disk failed, and at any answer which slots are live.

@@ -1,5 +1,5 @@
 // What one stream answers to a query.
-ghost use Rattle.std.specs.Prelude.{◌≡◌, ◌<◌, ◌≤◌, All, IfOk};
+ghost use Rattle.std.specs.Prelude.{◌≡◌, ◌+◌, ◌*◌, ◌<◌, ◌≤◌, All, IfOk};
 ghost use Rattle.std.specs.List.{Contains};
 ghost use Rattle.ss_outside.specs.Disk.{OfContent};
 ghost use Rattle.ss_outside.specs.Step.{Step};
@@ -9,7 +9,7 @@ ghost use Rattle.ss_journal.specs.declared.format.TheConstants.{MOST_SLOTS};
 ghost use Rattle.ss_records.specs.Kept.{AreKept};
 ghost use Rattle.ss_model.specs.Answers.{IsOfKind};
 ghost use Rattle.ss_steps.specs.Steps.{IsFresh};
-ghost use Rattle.ss_query.specs.Answered.{AnswersStream, BeginsAt, SeesEntry, window_slots_of};
+ghost use Rattle.ss_query.specs.Answered.{AnswersStream, BeginsAt, BeginsNear, SeesEntry, begun_in, window_slots_of};
 ghost use Rattle.ss_query.specs.Asked.{HasRoom};
 ghost use Rattle.ss_query.specs.Reading.{KeepsRecords, verdict_of_read};
 
@@ -25,7 +25,8 @@ use ss_steps::Steps;
 use std::marker::Brand;
 use std::sync::ledger::{Blank, Ledger};
 
-// What is known with the window of an entry. Its record is read only where it has times in the range.
+// What is known with the window of an entry that begins by the end of the range. Its record is read only where it doesn't end
+// before the range.
 fn see_entry<D: Disk>(
     records: &mut Records,
     disk: &mut D,
@@ -35,17 +36,18 @@ fn see_entry<D: Disk>(
     seen: Seen,
 ) -> Result<Seen, ReadError>
     requires order { query.now.from ≤ query.now.to }
+    requires begins { entry.t_first ≤ query.now.to }
     requires room { HasRoom seen }
     requires running { IsRunning records.old.journal }
     requires slot { entry.slot < MOST_SLOTS }
     requires one_disk { OfContent (D.seen disk.old) (AreKept records.old) }
     ensures sees { Step (verdict_of_read result) (D.seen disk.old) (D.seen disk.new)
-        (SeesEntry part.now query.now.from query.now.to entry seen records.new result) }
+        (SeesEntry part.now query.now.from query.now.to entry seen records.old records.new result) }
     ensures room { IfOk result (λ now. HasRoom now × (now.marked ≡ seen.marked)) }
     ensures changed { IfChanged (verdict_of_read result) (λ slot. slot ≡ entry.slot) }
     ensures records { KeepsRecords (verdict_of_read result) records.old records.new }
 {
-    if entry.t_last < query.from || query.to < entry.t_first {
+    if entry.t_last < query.from {
         return Ok(seen);
     }
     let window = Window {
@@ -59,8 +61,8 @@ fn see_entry<D: Disk>(
 }
 
 /// What a stream answers to a query: it tallies the values of landmarks in the range, and reads the records of those windows,
-/// oldest first, that have times in the range. It looks at all of them from the first on. It writes nothing, and takes no
-/// memory.
+/// oldest first, that have times in the range. It looks at each window from the first one on, up to the first that begins after
+/// the range. It writes nothing, and takes no memory.
 pub fn answer<D: Disk>(
     part: &StreamParts,
     records: &mut Records,
@@ -73,71 +75,73 @@ pub fn answer<D: Disk>(
     requires one_disk { OfContent (D.seen disk.old) (AreKept records.old) }
     // The answer of the stream whose records the content has, each in the slot where it is held.
     ensures answers { Step (verdict_of_read result) (D.seen disk.old) (D.seen disk.new)
-        (AnswersStream part.now query.now records.new result) }
+        (AnswersStream part.now query.now records.old records.new result) }
     // Over every disk it is to what was asked for.
     ensures kind { IfOk result (IsOfKind query.now.kind) }
     // A slot that has changed is that of a window.
     ensures changed { IfChanged (verdict_of_read result) (Contains (window_slots_of part.now)) }
     ensures records { KeepsRecords (verdict_of_read result) records.old records.new }
 {
-    answer_from(part, part.line.first(), records, disk, query)
-}
-
-/// The same from a place on, before which each window ends before the range. It ends with the first one that begins after it.
-pub fn answer_from<D: Disk>(
-    part: &StreamParts,
-    start: Option<At>,
-    records: &mut Records,
-    disk: &mut D,
-    query: &Query,
-) -> Result<Outcome, ReadError>
-    requires begins { BeginsAt part.now.line.entries query.now.from start }
-    requires order { query.now.from ≤ query.now.to }
-    requires running { IsRunning records.old.journal }
-    requires slots { All (λ slot. slot < MOST_SLOTS) (window_slots_of part.now) }
-    requires one_disk { OfContent (D.seen disk.old) (AreKept records.old) }
-    ensures answers { Step (verdict_of_read result) (D.seen disk.old) (D.seen disk.new)
-        (AnswersStream part.now query.now records.new result) }
-    ensures kind { IfOk result (IsOfKind query.now.kind) }
-    ensures changed { IfChanged (verdict_of_read result) (Contains (window_slots_of part.now)) }
-    ensures records { KeepsRecords (verdict_of_read result) records.old records.new }
-{
-    answer_in::<D, Brand>(part, start, records, disk, query, Blank::new(1))
+    answer_in::<D, Brand>(part, records, disk, query, Blank::new(1))
 }
 
 // The same, with a counter.
 fn answer_in<D: Disk, L: Ledger>(
     part: &StreamParts,
-    start: Option<At>,
     records: &mut Records,
     disk: &mut D,
     query: &Query,
     blank: Blank,
 ) -> Result<Outcome, ReadError>
     requires fresh { IsFresh L.name L.parts blank }
+    requires order { query.now.from ≤ query.now.to }
+    requires running { IsRunning records.old.journal }
+    requires slots { All (λ slot. slot < MOST_SLOTS) (window_slots_of part.now) }
+    requires one_disk { OfContent (D.seen disk.old) (AreKept records.old) }
+    ensures answers { Step (verdict_of_read result) (D.seen disk.old) (D.seen disk.new)
+        (AnswersStream part.now query.now records.old records.new result) }
+    ensures kind { IfOk result (IsOfKind query.now.kind) }
+    ensures changed { IfChanged (verdict_of_read result) (Contains (window_slots_of part.now)) }
+    ensures records { KeepsRecords (verdict_of_read result) records.old records.new }
+{
+    let mut steps = Steps::<L>::new(blank);
+    answer_from(part, part.line.first(), records, disk, query, &mut steps)
+}
+
+/// The same from a place on, before which each window ends before the range.
+pub fn answer_from<D: Disk, L: Ledger>(
+    part: &StreamParts,
+    start: Option<At>,
+    records: &mut Records,
+    disk: &mut D,
+    query: &Query,
+    steps: &mut Steps<L>,
+) -> Result<Outcome, ReadError>
     requires begins { BeginsAt part.now.line.entries query.now.from start }
     requires order { query.now.from ≤ query.now.to }
     requires running { IsRunning records.old.journal }
     requires slots { All (λ slot. slot < MOST_SLOTS) (window_slots_of part.now) }
     requires one_disk { OfContent (D.seen disk.old) (AreKept records.old) }
     ensures answers { Step (verdict_of_read result) (D.seen disk.old) (D.seen disk.new)
-        (AnswersStream part.now query.now records.new result) }
+        (AnswersStream part.now query.now records.old records.new result) }
     ensures kind { IfOk result (IsOfKind query.now.kind) }
     ensures changed { IfChanged (verdict_of_read result) (Contains (window_slots_of part.now)) }
     ensures records { KeepsRecords (verdict_of_read result) records.old records.new }
+    // Two looks at the first window, two at each other one that begins in the range, and one at the one after these.
+    ensures looks { BeginsNear part.now.line.entries query.now.from start
+        → steps.new ≤ steps.old + 2 * begun_in query.now.from query.now.to part.now.line.entries + 3 }
 {
-    let mut steps = Steps::<L>::new(blank);
     let _len = part.line.len();
     let _known = part.landmarks.count();
     let mut seen = nothing_seen(part.landmarks.values_in(query.from, query.to));
     let mut next = start;
     while let Some(at) = next {
-        let entry = part.line.get(at, &mut steps);
+        let entry = part.line.get(at, steps);
         if query.to < entry.t_first {
             return Ok(outcome_seen(seen, query.kind));
         }
         seen = see_entry(records, disk, part, query, entry, seen)?;
-        next = part.line.neighbours(at, &mut steps).1;
+        next = part.line.neighbours(at, steps).1;
     }
     Ok(outcome_seen(seen, query.kind))
 }

@@ -77,7 +77,7 @@ pub fn read_window<D: Disk>(
     requires one_disk { OfContent (D.seen disk.old) (AreKept records.old) }
     // The window of the record that lies in the slot of the entry.
     ensures reads { Step (verdict_of_read result) (D.seen disk.old) (D.seen disk.new)
-        (ReadsWindow part.now entry records.new result) }
+        (ReadsWindow part.now entry records.old records.new result) }
     // Over every disk it has as many values as its positions say and the times that are held, and lies among the landmarks as a
     // window has to.
     ensures window { IfOk result (IsWindowOf part.now entry) }

@@ -1,76 +1,14 @@
-use Rattle.std.proofs.Common.{subst, sym}
-use Rattle.std.proofs.lemmas.Result.{err_from_is_err_and}
-use Rattle.ss_query.specs.Asked.{IsFewMarked}
-use Rattle.ss_query.proofs.AskedWindows.{IsAsking, IsAsking-more, IsAsking-none, all-answer, asking-at, changed-window, failed-answer, late-answer}
-use Rattle.ss_query.proofs.MarkedTallies.{IsFewMarked-in}
-use Rattle.ss_query.proofs.NextWindow.{Contains-slot, StandsIn-here, left_from-less, slot-here}
+use Rattle.std.proofs.Common.{◌<◌, [], refl}
+use Rattle.std.proofs.lemmas.List.Elements.{All-nil}
+use Rattle.ss_line.specs.declared.entry.At.{At}
+use Rattle.ss_line.specs.declared.entry.Entry.{Entry}
 use Rattle.ss_query.proofs.answering.answer_in.Goals as goal
 
-pub loop-next-init : goal.loop-next-init
-loop-next-init g c =
-    subst (λ seen. IsAsking (g.D.Disk.seen c.args.disk.now) (g.D.Disk.seen c.args.disk.now) c.args.records.now c.args.records.now c.args.part.now
-    c.args.query.now.from c.args.query.now.to seen c.args.start) (sym c.nothing_seen-seen.ensures)
-    (IsAsking-none (g.D.Disk.seen c.args.disk.now) c.args.records.now c.args.part.now c.args.query.now.from c.args.query.now.to
-    c.args.start c.requires.begins c.requires.one_disk c.values_in.result c.values_in.ensures)
-
-pub get-entry-requires : goal.get-entry-requires
-get-entry-requires g c =
-    let asking = asking-at c.in-Some.is c.loop-next.invariant in
-    StandsIn-here c.len-len.ensures.line asking.line
-
-pub returns-then-query-entry-clause-answers : goal.returns-then-query-entry-clause-answers
-returns-then-query-entry-clause-answers g c =
-    let asking = asking-at c.in-Some.is c.loop-next.invariant in
-    late-answer c.args.query.now c.len-len.ensures.line asking c.get-entry.ensures.entry c.if-query-entry.true c.outcome_seen.result c.outcome_seen.ensures
-
-pub see_entry-requires-clause-slot : goal.see_entry-requires-clause-slot
-see_entry-requires-clause-slot g c =
-    let asking = asking-at c.in-Some.is c.loop-next.invariant in
-    slot-here c.len-len.ensures.line asking.line c.get-entry.ensures.entry c.requires.slots
-
-pub returns-in_err-seen-clause-answers : goal.returns-in_err-seen-clause-answers
-returns-in_err-seen-clause-answers g c =
-    let asking = asking-at c.in-Some.is c.loop-next.invariant in
-    let p = err_from_is_err_and c.from_residual.result c.from_residual.ensures.1 in
-    rw (p.1, p.2)
-    (failed-answer c.args.query.now c.len-len.ensures.line asking c.get-entry.ensures.entry c.in_err-seen.field-0.0
-    c.in_err-seen.ensures.sees)
-
-pub returns-in_err-seen-clause-changed : goal.returns-in_err-seen-clause-changed
-returns-in_err-seen-clause-changed g c =
-    let p = err_from_is_err_and c.from_residual.result c.from_residual.ensures.1 in
-    rw (p.1, p.2)
-    (changed-window c.in_err-seen.field-0.0 c.get-entry.result.slot _ c.in_err-seen.ensures.changed
-    (Contains-slot c.args.part.now c.in-Some.at c.get-entry.result c.get-entry.ensures.entry))
-
-pub neighbours-next-requires : goal.neighbours-next-requires
-neighbours-next-requires g c =
-    let asking = asking-at c.in-Some.is c.loop-next.invariant in
-    StandsIn-here c.len-len.ensures.line asking.line
-
-pub loop-next-smaller : goal.loop-next-smaller
-loop-next-smaller g c =
-    let asking = asking-at c.in-Some.is c.loop-next.invariant in
-    rw c.in-Some.is
-    (left_from-less c.len-len.ensures.line asking.line c.get-entry.ensures.entry c.neighbours-next.result.1 c.neighbours-next.ensures.behind)
-
-pub loop-next-preserved : goal.loop-next-preserved
-loop-next-preserved g c =
-    let asking = asking-at c.in-Some.is c.loop-next.invariant in
-    IsAsking-more c.args.query.now c.len-len.ensures.line asking c.get-entry.ensures.entry _ c.in_ok-seen.ensures.sees
-    c.in_ok-seen.ensures.room c.in_ok-seen.ensures.records c.neighbours-next.result.1 c.neighbours-next.ensures.behind
-
-pub outcome_seen-requires : goal.outcome_seen-requires
-outcome_seen-requires g c =
-    let line = c.loop-next.invariant.line in
-    subst IsFewMarked (sym line.marked)
-    (IsFewMarked-in c.args.part.now.landmarks c.args.query.now.from c.args.query.now.to c.count-known.ensures.state)
-
-pub outcome_seen-requires-2 : goal.outcome_seen-requires-2
-outcome_seen-requires-2 g c =
-    let line = c.loop-next.invariant.line in
-    subst IsFewMarked (sym line.marked)
-    (IsFewMarked-in c.args.part.now.landmarks c.args.query.now.from c.args.query.now.to c.count-known.ensures.state)
-
-pub returns-clause-answers : goal.returns-clause-answers
-returns-clause-answers g c = all-answer c.args.query.now _ (asking-at c.in_default.is c.loop-next.invariant) c.outcome_seen-2.ensures
+pub answer_from-requires-clause-begins : goal.answer_from-requires-clause-begins
+answer_from-requires-clause-begins g c = record {
+  before = [];
+  rest = c.args.part.now.line.entries;
+  is = refl;
+  early = All-nil (λ (e : At × Entry). e.1.t_last < c.args.query.now.from);
+  place = c.first.ensures.value;
+}

@@ -16,5 +16,5 @@ returns-then-not-follows-clause-sees g c =
 
 pub returns-clause-sees : goal.returns-clause-sees
 returns-clause-sees g c =
-    seen-more c.args.query.now.from c.args.query.now.to c.args.seen c.in_ok-read_window.ensures.reads c.if-entry-query.false c.if-query-entry.false
+    seen-more c.args.query.now.from c.args.query.now.to c.args.seen c.in_ok-read_window.ensures.reads c.if-entry-query.false c.requires.begins
     c.with_window.result c.with_window.ensures
