@@ -74,11 +74,9 @@ fn call_after(alloc: Global, syncs: u64) -> Result<u64, AllocError> {
     Ok(300)
 }
 
-// A birth makes 3 syncs, and each creation, value and merge 2. Three merges come before the second of the seventh append.
-const FIRST_MERGE: u64 = 3 + 2 * (1 + 7 + 3);
-
-// The gate of the seventh append's first entry is written, and not synced.
-const SEVENTH_GATE: u64 = 3 + 2 * (1 + 6 + 2) + 2;
+// A birth makes 3 syncs, and each event 2. At the last of these the gate of the seventh append's entries is written, and not
+// synced.
+const SEVENTH_GATE: u64 = 3 + 2 * (1 + 7);
 
 // How many good syncs a run over an input makes of a disk that holds nothing.
 fn syncs_over(alloc: Global, input: &str) -> Result<u64, AllocError> {
@@ -87,20 +85,21 @@ fn syncs_over(alloc: Global, input: &str) -> Result<u64, AllocError> {
     Ok(disk.syncs())
 }
 
-// A birth makes 3 syncs, and each of the worked row's 8 events and 4 merges 2.
+// A birth makes 3 syncs, and each of the worked row's 8 events 2, with the 4 merges that they make.
 #[test]
-fn each_event_and_merge_is_two_syncs(rt: HostRuntime) -> Result<(), Fail> {
-    for (input, syncs) in [("", 3), (READINGS, 27), ("list\n", 3)] {
+fn each_event_with_its_merges_is_two_syncs(rt: HostRuntime) -> Result<(), Fail> {
+    for (input, syncs) in [("", 3), (READINGS, 19), ("list\n", 3)] {
         assert_eq!(rt; syncs_over(rt.alloc(), input)?, syncs, "{input}");
     }
     Ok(())
 }
 
-const CRASHES: [Choice; 4] = [
+const CRASHES: [Choice; 5] = [
     Choice::Lost,
     Choice::Kept,
     Choice::Fill(0),
     Choice::Fill(0xA5),
+    Choice::Fill(0xFF),
 ];
 
 fn is_one_of(found: &[u8], texts: &[&str]) -> bool {
@@ -122,14 +121,33 @@ fn shows(alloc: Global, disk: &MemDisk, texts: &[&str]) -> Result<bool, AllocErr
     Ok(true)
 }
 
-// Whether the worked row that stops at a call says so, and each crash shows what it acknowledged, or one event more.
-fn keeps_its_word(alloc: Global, stop: u64) -> Result<bool, AllocError> {
-    let (disk, status, written) = stopped_at(alloc, RUN, stop)?;
+// Whether a run over the worked row ended as it should where the disk failed, and each crash shows what it acknowledged, or one
+// event more.
+fn kept_its_word(
+    alloc: Global,
+    disk: &MemDisk,
+    status: u8,
+    written: &[u8],
+) -> Result<bool, AllocError> {
     let replies = written.len() / 7;
-    if written.as_slice() != front(replies) || status != if replies < 8 { 4 } else { 0 } {
+    if written != front(replies) || status != if replies < 8 { 4 } else { 0 } {
         return Ok(false);
     }
-    shows(alloc, &disk, shown_after(replies))
+    shows(alloc, disk, shown_after(replies))
+}
+
+// The same where the disk stops at a call.
+fn keeps_its_word(alloc: Global, stop: u64) -> Result<bool, AllocError> {
+    let (disk, status, written) = stopped_at(alloc, RUN, stop)?;
+    kept_its_word(alloc, &disk, status, written.as_slice())
+}
+
+// The same where this call alone fails.
+fn keeps_its_word_after(alloc: Global, call: u64) -> Result<bool, AllocError> {
+    let mut disk = disk_of(alloc, &[])?;
+    disk.fail_at([call].as_slice().to_vec(alloc)?);
+    let (status, written) = answer_on(alloc, RUN, &mut disk, READINGS)?;
+    kept_its_word(alloc, &disk, status, written.as_slice())
 }
 
 #[test]
@@ -140,9 +158,12 @@ fn each_stop_leaves_what_was_acknowledged(rt: HostRuntime) -> Result<(), Fail> {
     Ok(())
 }
 
-// The call at which the worked row stops between the merges of the seventh append.
-fn merge_call(alloc: Global) -> Result<u64, AllocError> {
-    call_after(alloc, FIRST_MERGE)
+#[test]
+fn each_failing_call_leaves_what_was_acknowledged(rt: HostRuntime) -> Result<(), Fail> {
+    for call in 0..300 {
+        assert!(rt; keeps_its_word_after(rt.alloc(), call)?, "call {call}");
+    }
+    Ok(())
 }
 
 // The sync of that gate.
@@ -163,7 +184,6 @@ fn stops_with(
 
 #[test]
 fn a_run_stops_with_the_disk(rt: HostRuntime) -> Result<(), Fail> {
-    assert!(rt; stops_with(rt.alloc(), RUN, merge_call(rt.alloc())?, 7)?);
     assert!(rt; stops_with(rt.alloc(), RUN, gate_call(rt.alloc())?, 7)?);
     assert!(rt; stops_with(rt.alloc(), GEN, 20, 0)?);
     Ok(())
@@ -187,22 +207,28 @@ fn fatal_call(alloc: Global, disk: &MemDisk) -> Result<u64, AllocError> {
     Ok(200)
 }
 
-// Whether each crash between the merges shows all seven values, and that call.
-fn crashes_between_merges(alloc: Global) -> Result<(bool, u64), AllocError> {
-    let disk = disk_at(alloc, merge_call(alloc)?)?;
+// Where the gate of the seventh append's first merge lies: the worked row's 8 events and 4 merges have an entry each.
+const MERGE_GATE: usize = 512 + 544 * 10;
+
+// The disk after the worked row, where the merges of the seventh append aren't in use: they are due when it is opened.
+fn waiting(alloc: Global) -> Result<MemDisk, AllocError> {
+    let mut bytes = disk_at(alloc, 300)?.content().to_vec(alloc)?;
+    if let Some(gate) = bytes.get_mut(MERGE_GATE) {
+        *gate = 0;
+    }
+    disk_of(alloc, bytes.as_slice())
+}
+
+// Whether each crash of it shows all seven values, and that call.
+fn crashes_before_merges(alloc: Global) -> Result<(bool, u64), AllocError> {
+    let disk = waiting(alloc)?;
     Ok((shows(alloc, &disk, &[SEVEN])?, fatal_call(alloc, &disk)?))
 }
 
 #[test]
-fn a_crash_between_two_merges(rt: HostRuntime) -> Result<(), Fail> {
-    assert_eq!(rt; crashes_between_merges(rt.alloc())?, (true, 200));
+fn an_opening_makes_the_merges_that_are_due(rt: HostRuntime) -> Result<(), Fail> {
+    assert_eq!(rt; crashes_before_merges(rt.alloc())?, (true, 200));
     Ok(())
-}
-
-// The disk after a crash between the merges.
-fn waiting(alloc: Global) -> Result<MemDisk, AllocError> {
-    let disk = disk_at(alloc, merge_call(alloc)?)?;
-    disk.crash(Choice::Kept)
 }
 
 // Whether a check of it answers by this line.
@@ -230,5 +256,69 @@ fn the_gate_of_an_append_decides(rt: HostRuntime) -> Result<(), Fail> {
     for (byte, text) in [(0xA5, SEVEN), (0, SIX), (0x7F, SIX)] {
         assert!(rt; shows_by_gate(rt.alloc(), byte, text)?, "{byte}");
     }
+    Ok(())
+}
+
+// The worked row after so many streams that its seventh append has the last entry of the file for its value, and none for its
+// merges: 9 entries are taken by the row before it, and 54 by the streams.
+fn crowded(alloc: Global) -> Result<String, AllocError> {
+    let mut lines = String::new(alloc);
+    for stream in 0..54 {
+        write!(lines, "create s{stream} exp 2 1 1\n")?;
+    }
+    lines.push_str(READINGS)?;
+    Ok(lines)
+}
+
+// The disk where a run over that input stops at a call, and how many syncs were good.
+fn crowded_at(alloc: Global, input: &str, stop: u64) -> Result<(MemDisk, u64), AllocError> {
+    let mut disk = disk_of(alloc, &[])?;
+    disk.stop_from(stop);
+    let _ = answer_on(alloc, RUN, &mut disk, input)?;
+    let syncs = disk.syncs();
+    Ok((disk, syncs))
+}
+
+// The windows of the stream after six and after seven values.
+const WINDOWS: [&str; 2] = [
+    "windows 4\n1 2 2 2 -3 5 10 20\n3 4 2 9 1 8 30 40\n5 5 1 9 9 9 50 50\n6 6 1 2 2 2 60 60\n",
+    "windows 3\n1 4 4 11 -3 8 10 40\n5 6 2 11 2 9 50 60\n7 7 1 7 7 7 70 70\n",
+];
+
+// Whether each crash of a disk shows the windows after six or seven values.
+fn shows_windows(alloc: Global, disk: &MemDisk) -> Result<bool, AllocError> {
+    for choice in CRASHES {
+        let mut left = disk.crash(choice)?;
+        let (status, written) = answer_on(alloc, RUN, &mut left, "windows a\n")?;
+        if status != 0 || !is_one_of(written.as_slice(), &WINDOWS) {
+            return Ok(false);
+        }
+    }
+    Ok(true)
+}
+
+// Birth, 54 streams and the seven events before it: so many syncs come before the seventh append.
+const BEFORE: u64 = 3 + 2 * (54 + 7);
+
+// How many of its calls are stopped safely, and how many syncs it takes with room made in its middle: two for the value, three to
+// settle and two for the merges.
+fn stopped_in_the_middle(alloc: Global) -> Result<(bool, u64), AllocError> {
+    let input = crowded(alloc)?;
+    let mut most = 0;
+    for stop in 0..700 {
+        let (disk, syncs) = crowded_at(alloc, &input, stop)?;
+        if syncs >= BEFORE && !shows_windows(alloc, &disk)? {
+            return Ok((false, stop));
+        }
+        most = most.max(syncs);
+    }
+    Ok((true, most.saturating_sub(BEFORE)))
+}
+
+#[test]
+fn an_append_whose_merges_find_no_room_is_stopped_at_each_call(
+    rt: HostRuntime,
+) -> Result<(), Fail> {
+    assert_eq!(rt; stopped_in_the_middle(rt.alloc())?, (true, 7));
     Ok(())
 }

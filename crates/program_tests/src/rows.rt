@@ -170,6 +170,14 @@ fn each_failing_read_ends_the_run(rt: HostRuntime) -> Result<(), Fail> {
     Ok(())
 }
 
+// Pieces of 64 bytes: the fourth line ends at byte 62, and the fifth is cut.
+#[test]
+fn a_line_that_is_cut_has_no_reply(rt: HostRuntime) -> Result<(), Fail> {
+    let mut source = source_of(rt.alloc(), READINGS, 64, &[1])?;
+    assert!(rt; ends_in(rt.alloc(), RUN, &mut source, &[], 5, front(4))?);
+    Ok(())
+}
+
 // So many lines of the report with rows.
 fn shown_lines(alloc: Global, count: usize) -> Result<String, AllocError> {
     let mut lines = String::new(alloc);

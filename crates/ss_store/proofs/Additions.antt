@@ -1,5 +1,5 @@
 -- A value that is put after the windows of a stream, as a window of its own.
-use Rattle.std.proofs.Common.{◌≡◌, ◌∙◌, ⊎_elim, inl, inr, ℕ, max, ◌+◌, ◌-◌, ◌<◌, ℤ, Bool, false, List, [], ◌∷◌, ◌++◌, map, refl, sym, ap, ap₂, subst}
+use Rattle.std.proofs.Common.{◌≡◌, ◌∙◌, inl, ℕ, max, ◌+◌, ◌-◌, ◌<◌, ℤ, Bool, false, List, [], ◌∷◌, ◌++◌, map, refl, sym, ap, ap₂, subst}
 use Rattle.std.proofs.Common.{arith, IsPermutation, Option, None, Some, Result}
 use Rattle.std.specs.Prelude.{zip}
 use Rattle.std.proofs.lemmas.Bool.Decides.{nat_tests}
@@ -7,6 +7,7 @@ use Rattle.std.proofs.lemmas.List.{map-append}
 use Rattle.std.proofs.lemmas.List.Sorted.{IsPermutation-append_left, IsPermutation-sym, IsPermutation-to_front}
 use Rattle.ss_outside.specs.Disk.{Told}
 use Rattle.ss_windowing.specs.declared.decay.TheConstants.{MOST_VALUES}
+use Rattle.ss_records.specs.Kept.{RecordsState}
 use Rattle.ss_codec.specs.declared.record.Record.{Record}
 use Rattle.ss_codec.specs.declared.record.Record.TheVariants as records
 use Rattle.ss_landmarks.specs.Landmarks.{IsState as AreKnown, LandmarksState}
@@ -30,17 +31,16 @@ use Rattle.ss_model.proofs.Tiles.{taken-append}
 use Rattle.ss_recover.specs.Held.{Agrees, TileFrom, TimesRise, entries_of, mark_slots, records_held, slots_held, span_held, span_of, stream_record}
 use Rattle.ss_recover.specs.Held.{times_held, times_of, window_record, window_slots, windows_held}
 use Rattle.ss_recover.specs.declared.parts.StreamParts.{StreamParts}
-use Rattle.ss_store.specs.Calls.{Turns}
+use Rattle.ss_store.specs.Calls.{TurnsShown}
 use Rattle.ss_store.specs.Held.{IsHalfway, IsOrdered, values_held, with_single, with_windows}
 use Rattle.ss_query.specs.Held.{IsHeldIn}
-use Rattle.ss_store.specs.Slots.{AddsRecord, Either, LiveSlotsGo}
+use Rattle.ss_store.specs.Slots.{LiveSlotsGo, StagesRecord}
 use Rattle.ss_query.specs.Slots.{HasRecords}
-use Rattle.ss_store.proofs.Calls.{Turns-weaker}
-use Rattle.ss_store.proofs.Joinings.{IsPartlyJoined-none}
 use Rattle.ss_store.proofs.LiveSlots.{LiveSlotsGo-beside, LiveSlotsGo-permutation}
 use Rattle.ss_store.proofs.Pairs.{records_held-apart, records_held-changed}
 use Rattle.ss_query.proofs.Records.{HasRecords-permutation, zip-held}
 use Rattle.ss_store.proofs.Rising.{rise-added}
+use Rattle.ss_store.proofs.ShownCalls.{TurnsShown-weaker}
 use Rattle.ss_store.proofs.Spans.{TileFrom-push, values_held-seam, values_held-windows}
 use Rattle.ss_recover.proofs.Permutations.{IsPermutation-same}
 
@@ -168,23 +168,21 @@ module _ (part new : StreamParts) (slot t : ℕ) (added : IsAdded part new slot 
               (IsPermutation-to_front (windows_held (part, s)) added_record))))) has;
         }
 
-  -- a call that puts the record of the value
-  pub Turns-added : {T E : Type 0} (v : ℤ) (summary : Figures) → summary ≡ summary_of ((t, v) ∷ []) → IsPossible summary →
+  -- a call that stages the record of the value
+  pub TurnsShown-added : {T E : Type 0} (v : ℤ) (summary : Figures) → summary ≡ summary_of ((t, v) ∷ []) → IsPossible summary →
       values_held (entries_of part) < MOST_VALUES →
       has_open part.landmarks.landmarks ≡ false → is_past part.last_time t ≡ false →
-      (others : List (ℕ × Option Record)) (s : Stream) (old after : Told) (result : Result T E) →
-      AddsRecord slot (records.Window part.id.0 (values_held (entries_of part) + 1) summary) result old after →
-      Turns (IsHeldIn others part s) (IsHalfway others part s t v) (IsHeldIn others new (with_single s t v)) old after result
-  Turns-added v summary is possible room plain past others s old after result adds =
+      (others : List (ℕ × Option Record)) (s : Stream) (old_records new_records : RecordsState) (old after : Told) (result : Result T E) →
+      StagesRecord slot (records.Window part.id.0 (values_held (entries_of part) + 1) summary) old_records new_records result old after →
+      TurnsShown old_records new_records (IsHeldIn others part s) (IsHalfway others part s t v) (IsHeldIn others new (with_single s t v)) old after result
+  TurnsShown-added v summary is possible room plain past others s old_records new_records old after result stages =
       let before = records_held (part, s) ++ others in
       let now : List (ℕ × Option Record) = (slot, Some (records.Window part.id.0 (values_held (entries_of part) + 1) summary)) ∷ before in
-      Turns-weaker (HasRecords before) (IsHeldIn others part s) (Either (HasRecords before) (HasRecords now)) (IsHalfway others part s t v) (HasRecords now)
+      TurnsShown-weaker old_records new_records (HasRecords before) (IsHeldIn others part s) (HasRecords before) (IsHalfway others part s t v) (HasRecords now)
       (IsHeldIn others new (with_single s t v)) old after result (λ held. held.records)
-      (λ held image. ⊎_elim (λ stays. inl (record { agrees = held.agrees; stream = held.stream; records = stays }))
-      (λ turned. inr (IsPartlyJoined-none others new (with_single s t v) image
-      (IsHeldIn-single v summary is possible room plain past s held.agrees held.stream others image turned))))
+      (λ held image stays. inl (record { agrees = held.agrees; stream = held.stream; records = stays }))
       (λ held image has. IsHeldIn-single v summary is possible room plain past s held.agrees held.stream others image has)
-      (adds before)
+      (stages before)
 
 -- closing after a value was put is taking the value
 pub closed-single : (s : Stream) (t : ℕ) (v : ℤ) → closed_stream (with_single s t v) ≡ with_value s t v

@@ -25,8 +25,7 @@ use Rattle.ss_model.proofs.StandLemmas.{IsState-stepped}
 use Rattle.ss_target.specs.Targets.{params_of}
 use Rattle.ss_recover.specs.Held.{AllAgree, AreWhole, Agrees, EndByLast, RiseToLast, TileFrom, entries_of, records_held, slots_held, span_held, times_held}
 use Rattle.ss_recover.specs.declared.parts.StreamParts.{StreamParts}
-use Rattle.ss_records.specs.Kept.{RecordsState, AreKept}
-use Rattle.ss_journal.specs.Kept.{IsSettled}
+use Rattle.ss_records.specs.Kept.{AreAtRest, AreKept, RecordsState}
 use Rattle.ss_store.specs.Admitted.{IsMarker, IsTaker}
 use Rattle.ss_store.specs.Calls.{StepsState, Turns}
 use Rattle.ss_store.specs.Causes.{said_of_held}
@@ -137,14 +136,14 @@ module _ (store : StoreState) (catalog : List (List ℕ × StreamId)) (sound : I
     (at : slice_get store.streams place ≡ Some was) (same_id : now.id ≡ was.id) (same : now.name ≡ was.name) where
   -- while the store runs or has stopped
   pub IsSound-set : (records_now : RecordsState) (stopped : Bool) →
-      (stopped ≡ false → IsSettled records_now.journal × AreWhole (slice_set store.streams place now) records_now.live) →
+      (stopped ≡ false → AreAtRest records_now × AreWhole (slice_set store.streams place now) records_now.live) →
       IsSound (record { streams = slice_set store.streams place now; records = records_now; stopped = stopped }) catalog
   IsSound-set records_now stopped goes =
       let entry : entry_of now ≡ entry_of was = rw (same, same_id) refl in
       record {
         listed = sound.listed ∙ sym (map-set_same entry_of store.streams place was now at entry);
         numbers = rw (map-set_same (λ (p : StreamParts). p.id.0) store.streams place was now at (ap (λ (i : StreamId). i.0) same_id)) sound.numbers;
-        settled = λ run. (goes run).0;
+        at_rest = λ run. (goes run).0;
         whole = λ run. (goes run).1;
       }
 

@@ -1,5 +1,5 @@
 -- A query to a store: its stream among all, and the refusals of queries.
-use Rattle.std.proofs.Common.{◌≡◌, ◌∙◌, Bool, List, [], ◌∷◌, refl, sym, ap, Option, Some, None, Result, Ok, Err, IsTrue}
+use Rattle.std.proofs.Common.{◌≡◌, ◌∙◌, ℕ, Bool, List, [], ◌∷◌, refl, sym, subst, ap, Option, Some, None, Result, Ok, Err, IsTrue}
 use Rattle.std.specs.Prelude.{is_some, nat_lt, option_map}
 use Rattle.ss_outside.specs.Disk.{DiskView, OfContent, Told}
 use Rattle.ss_outside.specs.Step.{Step}
@@ -7,7 +7,8 @@ use Rattle.ss_outside.specs.Verdict.{IsFirm, fine}
 use Rattle.ss_catalog.specs.declared.query.Query.{Query}
 use Rattle.ss_catalog.specs.declared.refusal.Refusal.TheVariants.{Range, Unknown}
 use Rattle.ss_catalog.specs.declared.stream_id.StreamId.{StreamId}
-use Rattle.ss_records.specs.Kept.{RecordsState}
+use Rattle.ss_journal.proofs.ShownLemmas.{shown-sealed}
+use Rattle.ss_records.specs.Kept.{AreAtRest, RecordsState}
 use Rattle.ss_model.specs.Answers.{answer_of, outcome_of, refuses_query}
 use Rattle.ss_model.specs.Refusals.{first_that_applies}
 use Rattle.ss_model.specs.State.{Stream, state, stream_named}
@@ -16,6 +17,7 @@ use Rattle.ss_model.proofs.AnswerLemmas.{answer-exact, answer-holds}
 use Rattle.ss_recover.specs.Held.{AllAgree}
 use Rattle.ss_recover.specs.declared.parts.StreamParts.{StreamParts}
 use Rattle.ss_query.specs.Answered.{AnswersStream, IsAnswered}
+use Rattle.ss_query.specs.Held.{IsHeldIn}
 use Rattle.ss_query.specs.Reading.{verdict_of_read}
 use Rattle.ss_query.specs.declared.read_error.ReadError.{ReadError}
 use Rattle.ss_query.specs.declared.read_error.ReadError.TheVariants as error
@@ -38,17 +40,23 @@ record IsAsked (query : Query) (streams : List Stream) (result : Result Outcome 
   found : stream_named query.name streams ≡ Some stream
   answered : IsAnswered (answer_of query stream) result
 
-module _ {query : Query} {part : StreamParts} {records : RecordsState} (store : StoreState) (named : part_named query.name store.streams ≡ Some part) where
+module _ {query : Query} {part : StreamParts} {was is : RecordsState} (at_rest : AreAtRest was) (store : StoreState)
+    (named : part_named query.name store.streams ≡ Some part) where
   stream-asked : (old new : Told) (result : Result Outcome ReadError) (kept : StoreIsKept store old.content) →
-      AnswersStream part query records result old new → IsAsked query kept.streams result
+      AnswersStream part query was is result old new → IsAsked query kept.streams result
   stream-asked old new result kept answers =
       let found = AreFound-named store.streams kept.streams query.name part kept.agree kept.state named in
       let others = others_of found.place store.streams kept.streams in
       let held = IsHeldIn-at store.streams kept.streams found.place part found.stream old.content kept.agree kept.state found.at found.here kept.held in
-      record { stream = found.stream; found = found.found_is; answered = answers.answer others found.stream held }
+      record {
+        stream = found.stream;
+        found = found.found_is;
+        answered = answers.answer others found.stream
+            (subst (λ (content : List ℕ). IsHeldIn others part found.stream content) (sym (shown-sealed was.journal old.content at_rest.1)) held);
+      }
 
   -- the answer of the state that the content recovers to
-  outcome-kept : (old new : Told) (outcome : Outcome) → StoreIsKept store old.content → AnswersStream part query records (Ok outcome) old new →
+  outcome-kept : (old new : Told) (outcome : Outcome) → StoreIsKept store old.content → AnswersStream part query was is (Ok outcome) old new →
       (streams : List Stream) → Recovers streams old.content → outcome_of streams query ≡ Some outcome
   unfolding outcome_of
   outcome-kept old new outcome kept answers streams recovers =
@@ -58,7 +66,7 @@ module _ {query : Query} {part : StreamParts} {records : RecordsState} (store : 
       ap (option_map (λ (s : Stream). answer_of query s)) found ∙ ap (λ (o : Outcome). Some o) (sym is.answered)
 
   module _ {before after : DiskView} (kept : OfContent before (StoreIsKept store)) where
-    pub answers-kept : (outcome : Outcome) → Step fine before after (AnswersStream part query records (Ok outcome)) →
+    pub answers-kept : (outcome : Outcome) → Step fine before after (AnswersStream part query was is (Ok outcome)) →
         Step fine before after (Answers query (Ok outcome))
     answers-kept outcome step = record {
       tells = step.tells;
@@ -75,7 +83,7 @@ module _ {query : Query} {part : StreamParts} {records : RecordsState} (store : 
     }
 
     -- no slot has changed on a disk that tells
-    pub IsFirm-kept : (why : ReadError) → Step (verdict_of_read {T = Outcome} (Err why)) before after (AnswersStream part query records (Err why)) →
+    pub IsFirm-kept : (why : ReadError) → Step (verdict_of_read {T = Outcome} (Err why)) before after (AnswersStream part query was is (Err why)) →
         IsTrue before.tells → IsFirm (verdict_of_read {T = Outcome} (Err why))
     IsFirm-kept why step told =
         let is = stream-asked before.told after.told (Err why) (kept told) (step.told told) in

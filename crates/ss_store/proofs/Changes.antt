@@ -10,13 +10,15 @@ use Rattle.std.specs.Prelude.{nat_eq, nat_le, nat_lt}
 use Rattle.ss_outside.proofs.CrashLemmas.{weaker}
 use Rattle.ss_outside.specs.Disk.{Told}
 use Rattle.ss_journal.specs.Calls.{ChangesMap}
+use Rattle.ss_journal.specs.Kept.{IsSealed}
 use Rattle.ss_journal.specs.Puts.{IsTxn, extent_after, slots_fit}
 use Rattle.ss_journal.specs.Redo.{SlotMap, StandsFor, changed}
 use Rattle.ss_journal.specs.declared.format.TheConstants.{MOST_SLOTS}
 use Rattle.ss_journal.specs.declared.put.Put.{Put}
 use Rattle.ss_journal.proofs.RedoLemmas.{StandsFor-from, StandsFor-same}
 use Rattle.ss_journal.proofs.MapLemmas.{SameMap-refl}
-use Rattle.ss_records.specs.Kept.{AreKept, RecordsState}
+use Rattle.ss_journal.proofs.ShownLemmas.{shown-sealed}
+use Rattle.ss_records.specs.Kept.{AreKept, RecordsState, shown_by}
 use Rattle.ss_records.specs.Live.{are_zeros, is_live, live_after}
 use Rattle.ss_codec.specs.Record.{is_valid}
 use Rattle.ss_codec.specs.declared.record.Record.{Record}
@@ -25,7 +27,7 @@ use Rattle.ss_recover.specs.Held.{IsRecord, occupied}
 use Rattle.ss_recover.proofs.Permutations.{IsPermutation-turn}
 use Rattle.ss_recover.proofs.PutLemmas.{live-IsRecord, occupied-free, occupied-freed, occupied-replaced}
 use Rattle.ss_store.specs.Calls.{Turns}
-use Rattle.ss_store.specs.Slots.{AddsRecord, Either, LiveSlotsGo, Replaces, ReplacesTwo, live_slots, pair_put, record_put, zeros_put}
+use Rattle.ss_store.specs.Slots.{AddsRecord, Either, LiveSlotsGo, Replaces, live_slots, pair_put, record_put, zeros_put}
 use Rattle.ss_query.specs.Slots.{HasRecords}
 use Rattle.ss_store.proofs.LiveSlots.{AreTwoLive, LiveSlotsGo-freed, LiveSlotsGo-taken, live_slots-freed_first, live_slots-kept_first}
 
@@ -52,15 +54,16 @@ Turns-changes before after puts old new result moves changes = record {
   durable = λ none. changes.durable;
 }
 
--- the map of records that are kept: its extent is theirs, and a slot that isn't live is zeros
-extent-kept : (records : RecordsState) (content : List ℕ) (found : SlotMap) → AreKept records content → StandsFor content found →
+-- the map that records show which are kept: its extent is theirs, and a slot that isn't live is zeros
+extent-kept : (records : RecordsState) (content : List ℕ) (found : SlotMap) → AreKept records content → StandsFor (shown_by records content) found →
     found.extent ≡ records.journal.extent
 extent-kept records content found kept is =
-    let its = kept.journal.found in
-    let same = StandsFor-same content found its is (StandsFor-from content its its kept.journal.map (SameMap-refl its)) in
-    same.extent ∙ kept.journal.extent
+    let its = kept.journal.shown.found in
+    let image = shown_by records content in
+    let same = StandsFor-same image found its is (StandsFor-from image its its kept.journal.shown.map (SameMap-refl its)) in
+    same.extent ∙ kept.journal.shown.extent
 
-zeros-kept : (records : RecordsState) (content : List ℕ) (found : SlotMap) (slot : ℕ) → AreKept records content → StandsFor content found →
+zeros-kept : (records : RecordsState) (content : List ℕ) (found : SlotMap) (slot : ℕ) → AreKept records content → StandsFor (shown_by records content) found →
     slot < MOST_SLOTS → is_live records.live slot ≡ false → are_zeros (found.bytes slot) ≡ true
 zeros-kept records content found slot kept is below free =
     not-false (are_zeros (found.bytes slot)) (sym (kept.free found is slot below) ∙ free)
@@ -72,18 +75,26 @@ set-live (b ∷ bs) zero is = ap (λ (c : Bool). c ∷ bs) (sym is)
 set-live (b ∷ bs) (suc slot) is = ap (λ l. b ∷ l) (set-live bs slot is)
 
 module _ (slot : ℕ) (r : Record) (valid : IsTrue (is_valid r)) (some : r ≢ Free) where
-  -- a record in a free slot
-  pub AddsRecord-changes : {T E : Type 0} (records : RecordsState) (old new : Told) (result : Result T E) → AreKept records old.content → slot < MOST_SLOTS →
-      slot ≤ records.journal.extent → is_live records.live slot ≡ false → ChangesMap (record_put slot r ∷ []) old new result →
-      AddsRecord slot r result old new
-  AddsRecord-changes records old new result kept below within free changes others =
-      Turns-changes others ((slot, Some r) ∷ others) (record_put slot r ∷ []) old new result
-      (λ found is moved.
-      let extent = extent-kept records old.content found kept is in
+  -- a record in a free slot of what records show
+  pub moves-added : (records : RecordsState) (content : List ℕ) (others : List (ℕ × Option Record)) → AreKept records content → slot < MOST_SLOTS →
+      slot ≤ records.journal.extent → is_live records.live slot ≡ false → (found : SlotMap) → StandsFor (shown_by records content) found →
+      IsPermutation others (occupied found) → IsPermutation ((slot, Some r) ∷ others) (occupied (changed found (record_put slot r ∷ [])))
+  moves-added records content others kept below within free found is moved =
+      let extent = extent-kept records content found kept is in
       let inside : slot ≤ found.extent = omega arith in
       IsPermutation-trans ((slot, Some r) ∷ others) ((slot, Some r) ∷ occupied found) (occupied (changed found (record_put slot r ∷ [])))
       (IsPermutation-cons (slot, Some r) others (occupied found) moved)
-      (occupied-free found (record_put slot r) r (IsRecord-put slot r valid some) inside (zeros-kept records old.content found slot kept is below free)))
+      (occupied-free found (record_put slot r) r (IsRecord-put slot r valid some) inside (zeros-kept records content found slot kept is below free))
+
+  pub AddsRecord-changes : {T E : Type 0} (records : RecordsState) (old new : Told) (result : Result T E) → IsSealed records.journal →
+      AreKept records old.content → slot < MOST_SLOTS →
+      slot ≤ records.journal.extent → is_live records.live slot ≡ false → ChangesMap (record_put slot r ∷ []) old new result →
+      AddsRecord slot r result old new
+  AddsRecord-changes records old new result sealed kept below within free changes others =
+      Turns-changes others ((slot, Some r) ∷ others) (record_put slot r ∷ []) old new result
+      (λ found is moved.
+      moves-added records old.content others kept below within free found
+      (subst (λ (image : List ℕ). StandsFor image found) (sym (shown-sealed records.journal old.content sealed)) is) moved)
       changes
 
   -- a record's bytes make its slot live
@@ -142,12 +153,11 @@ module _ (kept freed : ℕ) (r : Record) (valid : IsTrue (is_valid r)) (some : r
       occupied-replaced mid (record_put kept r) was others one r (IsRecord-put kept r valid some)
 
   -- a record in place of that of one slot, and zeros in another
-  pub ReplacesTwo-changes : {T E : Type 0} (old new : Told) (result : Result T E) → ChangesMap (pair_put kept freed r) old new result →
-      ReplacesTwo kept freed r result old new
+  pub moves-paired : (found : SlotMap) (was gone : Option Record) (others : List (ℕ × Option Record)) →
+      IsPermutation ((kept, was) ∷ (freed, gone) ∷ others) (occupied found) →
+      IsPermutation ((kept, Some r) ∷ others) (occupied (changed found (pair_put kept freed r)))
   unfolding orders
-  ReplacesTwo-changes old new result changes was gone others =
-      Turns-changes ((kept, was) ∷ (freed, gone) ∷ others) ((kept, Some r) ∷ others) (pair_put kept freed r) old new result
-      (λ found is moved. moves (nat_lt kept freed) found was gone others moved) changes
+  moves-paired found was gone others moved = moves (nat_lt kept freed) found was gone others moved
 
   live_orders : (first : Bool) (live : List Bool) → AreTwoLive live kept freed → live_slots (live_after (orders first) live) ≡ live_slots (set live freed false)
   unfolding orders

@@ -1,9 +1,10 @@
 -- Joins of a stream one after another, until none is due.
-use Rattle.std.proofs.Common.{◌≡◌, ◌∙◌, ℕ, List, map, subst, Option, Ok, Result}
+use Rattle.std.proofs.Common.{◌≡◌, ◌∙◌, ℕ, List, map, refl, subst, Option, Ok, Result}
 use Rattle.std.proofs.lemmas.Result.{on_ok_weaker}
-use Rattle.ss_outside.specs.Crash.{KnowsNow}
+use Rattle.ss_outside.specs.Crash.{KnowsNow, LeavesOnly}
 use Rattle.ss_outside.specs.Disk.{Told}
-use Rattle.ss_outside.proofs.CrashLemmas.{joined as run_joined, weaker}
+use Rattle.ss_outside.proofs.CrashLemmas.{joined as run_joined, now, reads-none, weaker}
+use Rattle.ss_records.specs.Kept.{RecordsState, shown_by}
 use Rattle.ss_codec.specs.declared.record.Record.{Record}
 use Rattle.ss_target.specs.Lengths.{lengths_of}
 use Rattle.ss_target.specs.Targets.{params_of}
@@ -16,12 +17,12 @@ use Rattle.ss_model.specs.declared.types.Window.{Window}
 use Rattle.ss_model.proofs.JoinLemmas.{JoinsDue-append, closed-only_end, taken-JoinsDue}
 use Rattle.ss_recover.specs.Held.{entries_of, span_held, span_of}
 use Rattle.ss_recover.specs.declared.parts.StreamParts.{StreamParts}
-use Rattle.ss_store.specs.Calls.{Turns}
+use Rattle.ss_store.specs.Calls.{TurnsShown}
 use Rattle.ss_store.specs.Held.{IsPartlyJoined, IsSameStream, values_held, with_windows}
 use Rattle.ss_query.specs.Held.{IsHeldIn}
 use Rattle.ss_store.specs.Joining.{IsJoinedIn, NoSpansAreDue}
-use Rattle.ss_store.proofs.Calls.{Turns-same, Turns-weaker}
-use Rattle.ss_store.proofs.Joinings.{IsJoinedIn-none, IsPartlyJoined-none}
+use Rattle.ss_store.proofs.ShownCalls.{StaysOr, StaysOr-later, TurnsShown-reads, TurnsShown-weaker}
+use Rattle.ss_store.proofs.Joinings.{IsJoinedIn-none}
 use Rattle.ss_store.proofs.Spans.{NoneIsDue-spans, values_held-windows}
 
 -- joins after joins, of windows that hold as many values
@@ -39,29 +40,37 @@ module _ (others : List (ℕ × Option Record)) (s : Stream) (between : List Win
   IsPartlyJoined-more image is = record { part = is.part; windows = is.windows; joins = joins_more s between is.windows first is.joins; held = is.held }
 
 -- what a join makes of a stream, whichever it is and whatever lies beside it
-abbrev pub JoinsEach : {E : Type 0} → StreamParts → StreamParts → Told → Told → Result (Unit {0}) E → Type 0
-JoinsEach part new old after result =
-    (others : List (ℕ × Option Record)) (s : Stream) → Turns (IsHeldIn others part s) (IsPartlyJoined others s) (IsJoinedIn others new s) old after result
+abbrev pub JoinsEach : {E : Type 0} → RecordsState → RecordsState → StreamParts → StreamParts → Told → Told → Result (Unit {0}) E → Type 0
+JoinsEach was is part new old after result =
+    (others : List (ℕ × Option Record)) (s : Stream) →
+    TurnsShown was is (IsHeldIn others part s) (IsPartlyJoined others s) (IsJoinedIn others new s) old after result
 
-pub JoinsEach-none : {E : Type 0} (part : StreamParts) (disk : Told) → KnowsNow disk → JoinsEach {E = E} part part disk disk (Ok tt)
-JoinsEach-none part disk knows others s =
-    Turns-weaker (IsHeldIn others part s) (IsHeldIn others part s) (IsPartlyJoined others s) (IsPartlyJoined others s) (IsHeldIn others part s)
-    (IsJoinedIn others part s)
-    disk disk (Ok tt) (λ held. held) (λ held image left. left) (λ held image is. IsJoinedIn-none others part s image is)
-    (Turns-same (IsHeldIn others part s) (IsPartlyJoined others s) disk (Ok tt) knows (IsPartlyJoined-none others part s disk.content))
+pub JoinsEach-none : {E : Type 0} (records : RecordsState) (part : StreamParts) (disk : Told) → KnowsNow disk →
+    JoinsEach {E = E} records records part part disk disk (Ok tt)
+JoinsEach-none records part disk knows others s =
+    TurnsShown-weaker records records (IsHeldIn others part s) (IsHeldIn others part s) (IsPartlyJoined others s) (IsPartlyJoined others s)
+    (IsHeldIn others part s) (IsJoinedIn others part s) disk disk (Ok tt) (λ held. held) (λ held image left. left)
+    (λ held image is. IsJoinedIn-none others part s image is)
+    (TurnsShown-reads records records (IsHeldIn others part s) (IsPartlyJoined others s) disk disk (Ok tt) knows (reads-none disk) refl)
 
-pub JoinsEach-more : {E F : Type 0} (part mid_part new : StreamParts) (old mid after : Told) (result : Result (Unit {0}) F) →
-    JoinsEach {E = E} part mid_part old mid (Ok tt) →
-    JoinsEach mid_part new mid after result → JoinsEach part new old after result
-JoinsEach-more part mid_part new old mid after result first second others s = record {
+pub JoinsEach-more : {E F : Type 0} (was between is : RecordsState) (part mid_part new : StreamParts) (old mid after : Told) (result : Result (Unit {0}) F) →
+    KnowsNow mid → JoinsEach {E = E} was between part mid_part old mid (Ok tt) → JoinsEach between is mid_part new mid after result →
+    JoinsEach was is part new old after result
+JoinsEach-more was between is part mid_part new old mid after result knows first second others s = record {
   content = λ held.
-      let is = (first others s).content held in
-      on_ok_weaker result (IsJoinedIn-more others s is.windows is.joins new after.content) ((second others (with_windows s is.windows)).content is.held);
+      let left = (first others s).content held in
+      on_ok_weaker result (IsJoinedIn-more others s left.windows left.joins new (shown_by is after.content))
+      ((second others (with_windows s left.windows)).content left.held);
   any_moment = λ none held.
-      let is = (first others s).content held in
-      run_joined old mid after (IsPartlyJoined others s) ((first others s).any_moment none held)
-      (weaker mid after (IsPartlyJoined others (with_windows s is.windows)) (IsPartlyJoined others s) (IsPartlyJoined-more others s is.windows is.joins)
-      ((second others (with_windows s is.windows)).any_moment ((first others s).durable none) is.held));
+      let left = (first others s).content held in
+      let before : LeavesOnly old mid (StaysOr old (IsPartlyJoined others s)) = (first others s).any_moment none held in
+      let here : StaysOr old (IsPartlyJoined others s) mid.content =
+      now old mid (StaysOr old (IsPartlyJoined others s)) knows before mid.content knows.content_is_image in
+      run_joined old mid after (StaysOr old (IsPartlyJoined others s)) before
+      (weaker mid after (StaysOr mid (IsPartlyJoined others (with_windows s left.windows))) (StaysOr old (IsPartlyJoined others s))
+      (StaysOr-later old mid (IsPartlyJoined others (with_windows s left.windows)) (IsPartlyJoined others s)
+      (IsPartlyJoined-more others s left.windows left.joins) here)
+      ((second others (with_windows s left.windows)).any_moment ((first others s).durable none) left.held));
   durable = λ none. (second others s).durable ((first others s).durable none);
 }
 
@@ -83,14 +92,14 @@ closes others part s n image stream all none is =
     closed-only_end len (values_in s) s.windows is.windows stream.windows is.joins (NoneIsDue-spans len (values_in s) is.windows spans) in
     subst (λ ws. IsHeldIn others part (with_windows s ws) image) end is.held
 
-pub Turns-closes : {E : Type 0} (others : List (ℕ × Option Record)) (part now : StreamParts) (s : Stream) (n : ℕ) (old new : Told) →
-    n ≡ values_held (entries_of now) →
-    NoSpansAreDue (lengths_of (params_of now.target)) n (map span_held (entries_of now)) → JoinsEach {E = E} part now old new (Ok tt) →
-    Turns {T = Unit {0}} {E = E} (IsHeldIn others part s) (IsPartlyJoined others s) (IsHeldIn others now (closed_stream s)) old new (Ok tt)
-Turns-closes others part now s n old new all none joins =
-    Turns-weaker (IsHeldIn others part s) (IsHeldIn others part s) (IsPartlyJoined others s) (IsPartlyJoined others s) (IsJoinedIn others now s)
-    (IsHeldIn others now (closed_stream s))
-    old new (Ok tt) (λ held. held) (λ held image left. left) (λ held image is. closes others now s n image held.stream all none is) (joins others s)
+pub TurnsShown-closes : {E : Type 0} (was is : RecordsState) (others : List (ℕ × Option Record)) (part now : StreamParts) (s : Stream) (n : ℕ)
+    (old new : Told) → n ≡ values_held (entries_of now) →
+    NoSpansAreDue (lengths_of (params_of now.target)) n (map span_held (entries_of now)) → JoinsEach {E = E} was is part now old new (Ok tt) →
+    TurnsShown {T = Unit {0}} {E = E} was is (IsHeldIn others part s) (IsPartlyJoined others s) (IsHeldIn others now (closed_stream s)) old new (Ok tt)
+TurnsShown-closes was is others part now s n old new all none joins =
+    TurnsShown-weaker was is (IsHeldIn others part s) (IsHeldIn others part s) (IsPartlyJoined others s) (IsPartlyJoined others s)
+    (IsJoinedIn others now s) (IsHeldIn others now (closed_stream s))
+    old new (Ok tt) (λ held. held) (λ held image left. left) (λ held image joined. closes others now s n image held.stream all none joined) (joins others s)
 
 pub IsSameStream-more : (part mid new : StreamParts) → IsSameStream part mid → IsSameStream mid new → IsSameStream part new
 IsSameStream-more part mid new first second = record {

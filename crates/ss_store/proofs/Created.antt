@@ -34,8 +34,7 @@ use Rattle.ss_model.proofs.NameLemmas.{same_name-Decides, same_name-same, same_n
 use Rattle.ss_model.proofs.StandLemmas.{IsState-stepped}
 use Rattle.ss_recover.specs.Held.{AllAgree, AreWhole, Agrees, EndByLast, RiseToLast, TileFrom, entries_of, records_held, slots_held}
 use Rattle.ss_recover.specs.declared.parts.StreamParts.{StreamParts}
-use Rattle.ss_records.specs.Kept.{RecordsState, AreKept}
-use Rattle.ss_journal.specs.Kept.{IsSettled}
+use Rattle.ss_records.specs.Kept.{AreAtRest, AreKept, RecordsState}
 use Rattle.ss_store.specs.Admitted.{IsNew}
 use Rattle.ss_store.specs.Calls.{StepsState}
 use Rattle.ss_store.specs.Causes.{said_of_held}
@@ -238,7 +237,7 @@ AreWhole-created parts live live_now part name params whole fresh number room no
 pub IsSound-created : (store : StoreState) (catalog : List (List ℕ × StreamId)) (records_now : RecordsState) (part : StreamParts) (name : List ℕ)
     (params : Params)
     (slot : ℕ) (stopped : Bool) → IsSound store catalog → store.stopped ≡ false → IsFreshPart part name params → IsNew store name params part.id.0 slot →
-    (stopped ≡ false → IsSettled records_now.journal × LiveSlotsGo [] (part.slot ∷ []) store.records.live records_now.live) →
+    (stopped ≡ false → AreAtRest records_now × LiveSlotsGo [] (part.slot ∷ []) store.records.live records_now.live) →
     IsSound (record { streams = store.streams ++ part ∷ []; records = records_now; stopped = stopped }) (catalog ++ (name, part.id) ∷ [])
 IsSound-created store catalog records_now part name params slot stopped sound runs fresh new goes =
     let parts = store.streams in
@@ -247,7 +246,7 @@ IsSound-created store catalog records_now part name params slot stopped sound ru
     record {
       listed = rw (map-append entry_of parts (part ∷ []), sound.listed, fresh.name_is) refl;
       numbers = rw (map-append (λ (p : StreamParts). p.id.0) parts (part ∷ []), new.next) rising;
-      settled = λ run. (goes run).0;
+      at_rest = λ run. (goes run).0;
       whole = λ run. AreWhole-created parts store.records.live records_now.live part name params (sound.whole runs) fresh new.next new.room new.named
           (goes run).1;
     }

@@ -6,13 +6,12 @@ use Rattle.ss_outside.specs.Step.{Step}
 use Rattle.ss_outside.specs.Verdict.{failed, fine}
 use Rattle.ss_outside.specs.declared.source.Failed.{Failed}
 use Rattle.ss_journal.proofs.StepLemmas.{step-from}
-use Rattle.ss_journal.specs.Kept.{IsSettled}
 use Rattle.ss_catalog.specs.declared.event.Event.TheVariants.{Create}
 use Rattle.ss_catalog.specs.declared.params.Params.{Params}
 use Rattle.ss_catalog.specs.declared.stream_id.StreamId.{StreamId}
 use Rattle.ss_codec.specs.declared.record.Record.TheVariants as records
 use Rattle.ss_model.specs.Refusals.{refuses}
-use Rattle.ss_records.specs.Kept.{RecordsState}
+use Rattle.ss_records.specs.Kept.{AreAtRest, RecordsState}
 use Rattle.ss_recover.specs.Held.{records_held}
 use Rattle.ss_recover.specs.declared.parts.StreamParts.{StreamParts}
 use Rattle.ss_store.specs.Admitted.{IsNew}
@@ -63,10 +62,10 @@ module _ {store : StoreState} {catalog : List (List ℕ × StreamId)} {name : Li
   sound-unwritten now =
       IsSound-created store catalog now part name params part.slot true is.sound is.runs is.fresh is.is_new (λ run. let wrong : true ≡ false = run in cc)
 
-  pub sound-created : (now : RecordsState) → IsSettled now.journal → LiveSlotsGo [] (part.slot ∷ []) store.records.live now.live →
+  pub sound-created : (now : RecordsState) → AreAtRest now → LiveSlotsGo [] (part.slot ∷ []) store.records.live now.live →
       IsSound (with_part now store.stopped) (catalog ++ (name, part.id) ∷ [])
-  sound-created now settled live =
-      IsSound-created store catalog now part name params part.slot store.stopped is.sound is.runs is.fresh is.is_new (λ run. (settled, live))
+  sound-created now at_rest live =
+      IsSound-created store catalog now part name params part.slot store.stopped is.sound is.runs is.fresh is.is_new (λ run. (at_rest, live))
 
   -- the event is applied
   pub applies-created : (now : RecordsState) (after : DiskView) (done : Unit {0}) → now.journal.extent ≤ max store.records.journal.extent (part.slot + 1) →

@@ -1,5 +1,5 @@
 -- A transaction that joins two neighbours, in which a crash may come.
-use Rattle.std.proofs.Common.{◌≡◌, ◌∙◌, ◌⊎◌, ⊎_elim, ℕ, ◌<◌, arith, ap, map, Bool, List, [], ◌∷◌, ◌++◌, refl, sym, subst, Option, Some, None, Err, Result}
+use Rattle.std.proofs.Common.{◌≡◌, ◌∙◌, ◌⊎◌, ⊎_elim, ℕ, ◌<◌, arith, ap, ap₂, map, Bool, List, [], ◌∷◌, ◌++◌, refl, sym, subst, Option, Some, None, Err, Ok, Result}
 use Rattle.std.specs.Prelude.{Contains, IsErr, IsTrue}
 use Rattle.std.proofs.lemmas.List.{map-append}
 use Rattle.std.proofs.lemmas.List.Elements.{Contains-append_right}
@@ -7,7 +7,10 @@ use Rattle.std.proofs.lemmas.Result.{on_ok_weaker}
 use Rattle.std.proofs.lemmas.List.Sorted.{IsPermutation-sym}
 use Rattle.ss_outside.specs.Crash.{KnowsNow, OnlyReads}
 use Rattle.ss_outside.specs.Disk.{Told}
-use Rattle.ss_outside.proofs.CrashLemmas.{joined as run_joined, nothing_pending-same, of_content, read_leaves, weaker}
+use Rattle.ss_outside.proofs.CrashLemmas.{weaker}
+use Rattle.ss_journal.specs.Kept.{shown}
+use Rattle.ss_journal.proofs.TearLemmas.{on_err}
+use Rattle.ss_records.specs.Kept.{RecordsState, shown_by}
 use Rattle.ss_codec.specs.declared.record.Record.{Record}
 use Rattle.ss_codec.specs.declared.record.Record.TheVariants as records
 use Rattle.ss_landmarks.specs.Landmark.{Landmark}
@@ -23,7 +26,7 @@ use Rattle.ss_model.specs.declared.types.Window.{Window}
 use Rattle.ss_recover.specs.Held.{entries_of, records_held, slots_held, span_held, span_of, window_record}
 use Rattle.ss_recover.specs.Held.{times_held, times_of}
 use Rattle.ss_recover.specs.declared.parts.StreamParts.{StreamParts}
-use Rattle.ss_store.specs.Calls.{Turns}
+use Rattle.ss_store.specs.Calls.{TurnsShown}
 use Rattle.ss_query.specs.Reading.{IsRead, verdict_of_read}
 use Rattle.ss_outside.specs.Verdict.{IfChanged, IsFirm}
 use Rattle.ss_store.specs.Changing.{ChangedIsHeld}
@@ -31,11 +34,11 @@ use Rattle.ss_query.specs.Answered.{window_slots_of}
 use Rattle.ss_store.specs.Held.{IsPartlyJoined, values_held, with_windows}
 use Rattle.ss_query.specs.Held.{IsHeldIn}
 use Rattle.ss_store.specs.Joining.{IsJoinedIn}
-use Rattle.ss_store.specs.Slots.{AreSomeLive, Either, LiveSlotsGo, ReplacesTwo}
+use Rattle.ss_store.specs.Slots.{AreSomeLive, LiveSlotsGo, StagesTwo}
 use Rattle.ss_query.specs.Slots.{HasRecords}
 use Rattle.ss_query.specs.declared.read_error.ReadError.{ReadError}
 use Rattle.ss_query.specs.declared.read_error.ReadError.TheVariants as fault
-use Rattle.ss_store.proofs.Calls.{Turns-failed, Turns-reads}
+use Rattle.ss_store.proofs.ShownCalls.{StaysOr, StaysOr-weaker, TurnsShown-failed, TurnsShown-reads, TurnsShown-then}
 use Rattle.ss_store.proofs.LiveSlots.{AreSomeLive-part, AreSomeLive-permutation, LiveSlotsGo-beside, LiveSlotsGo-permutation}
 use Rattle.ss_store.proofs.Pairs.{AreJoined, AreSlots, JoinsHeld, JoinsHeld-pair, SameButLine}
 use Rattle.ss_query.proofs.Records.{HasRecords-permutation}
@@ -81,10 +84,10 @@ module _ (others : List (ℕ × Option Record)) (part new : StreamParts) (s : St
       content j.was held.records)
       j.first j.second j.first_times j.second_times j.first_free j.second_free j.later
 
-  module _ {T E : Type 0} (old mid after : Told) (summary : Figures) (result : Result T E) (knows : KnowsNow old) (reads : OnlyReads old mid)
-      (read : ReadsBoth part.id.0 part.landmarks.landmarks w v old.content (λ is. summary ≡ is))
-      (replaces : ReplacesTwo w.slot v.slot (records.Window part.id.0 w.first summary) result mid after) where
-    module _ (held : IsHeldIn others part s old.content) where
+  module _ {T E : Type 0} (old_records new_records : RecordsState) (old after : Told) (summary : Figures) (result : Result T E)
+      (read : ReadsBoth part.id.0 part.landmarks.landmarks w v (shown_by old_records old.content) (λ is. summary ≡ is))
+      (stages : StagesTwo w.slot v.slot (records.Window part.id.0 w.first summary) old_records new_records result old after) where
+    module _ (held : IsHeldIn others part s (shown_by old_records old.content)) where
       j : JoinsHeld others part new s w v
       j = JoinsHeld-pair others part new s w v same pair held.agrees held.stream
 
@@ -94,19 +97,17 @@ module _ (others : List (ℕ × Option Record)) (part new : StreamParts) (s : St
       is : List (ℕ × Option Record)
       is = (w.slot, Some (records.Window part.id.0 w.first summary)) ∷ j.beside
 
-      turns : Turns (HasRecords was) (Either (HasRecords was) (HasRecords is)) (HasRecords is) mid after result
+      turns : TurnsShown old_records new_records (HasRecords was) (HasRecords was) (HasRecords is) old after result
       unfolding was is
-      turns = replaces (Some (window_record part.id.0 j.one)) (Some (window_record part.id.0 j.two)) j.beside
+      turns = stages (Some (window_record part.id.0 j.one)) (Some (window_record part.id.0 j.two)) j.beside
 
-      before : HasRecords was mid.content
+      before : HasRecords was (shown_by old_records old.content)
       unfolding was
-      before =
-          subst (λ image. HasRecords was image) (sym reads.same.content)
-          (HasRecords-permutation (records_held (part, s) ++ others) was old.content j.was held.records)
+      before = HasRecords-permutation (records_held (part, s) ++ others) was (shown_by old_records old.content) j.was held.records
 
       summary_is : summary ≡ joined j.one.summary j.two.summary
       unfolding j
-      summary_is = read-held old.content (λ is. summary ≡ is) read held
+      summary_is = read-held (shown_by old_records old.content) (λ is. summary ≡ is) read held
 
       reached : (image : List ℕ) → HasRecords is image → IsJoinedIn others new s image
       unfolding is
@@ -123,38 +124,52 @@ module _ (others : List (ℕ × Option Record)) (part new : StreamParts) (s : St
             };
           }
 
-      stayed : (image : List ℕ) → HasRecords was image → IsHeldIn others part s image
+      stayed : (image : List ℕ) → HasRecords was image → IsPartlyJoined others s image
       unfolding was
-      stayed image has = record {
-        agrees = held.agrees;
-        stream = held.stream;
-        records = HasRecords-permutation was (records_held (part, s) ++ others) image (IsPermutation-sym (records_held (part, s) ++ others) was j.was) has;
-      }
+      stayed image has =
+          IsPartlyJoined-none others part s image
+          (record {
+            agrees = held.agrees;
+            stream = held.stream;
+            records = HasRecords-permutation was (records_held (part, s) ++ others) image
+                (IsPermutation-sym (records_held (part, s) ++ others) was j.was) has;
+          })
 
-      left : (image : List ℕ) → Either (HasRecords was) (HasRecords is) image → IsPartlyJoined others s image
-      left image = ⊎_elim (λ stays. IsPartlyJoined-none others part s image (stayed image stays))
-          (λ turned. IsPartlyJoined-joined others new s image (reached image turned))
-
-    -- two records are read, and one is put in their place
-    pub Turns-join : Turns (IsHeldIn others part s) (IsPartlyJoined others s) (IsJoinedIn others new s) old after result
-    Turns-join = record {
-      content = λ held. on_ok_weaker result (reached held after.content) ((turns held).content (before held));
+    -- one record is staged in the place of two
+    TurnsShown-pair : TurnsShown old_records new_records (IsHeldIn others part s) (IsPartlyJoined others s) (IsJoinedIn others new s) old after result
+    TurnsShown-pair = record {
+      content = λ held. on_ok_weaker result (reached held (shown_by new_records after.content)) ((turns held).content (before held));
       any_moment = λ none held.
-          run_joined old mid after (IsPartlyJoined others s)
-          (weaker old mid old.may_leave (IsPartlyJoined others s)
-          (of_content old (IsPartlyJoined others s) none (IsPartlyJoined-none others part s old.content held)) (read_leaves old mid knows reads))
-          (weaker mid after (Either (HasRecords (was held)) (HasRecords (is held))) (IsPartlyJoined others s) (left held)
-          ((turns held).any_moment (nothing_pending-same old mid reads.same none) (before held)));
-      durable = λ none. (replaces None None []).durable (nothing_pending-same old mid reads.same none);
+          weaker old after (StaysOr old (HasRecords (was held))) (StaysOr old (IsPartlyJoined others s))
+          (StaysOr-weaker old (HasRecords (was held)) (IsPartlyJoined others s) (stayed held)) ((turns held).any_moment none (before held));
+      durable = (stages None None []).durable;
     }
 
--- where the records weren't read nothing was written
-pub Turns-not_read : {T E : Type 0} (others : List (ℕ × Option Record)) (part : StreamParts) (s : Stream) (Q : List ℕ → Type 0) (old new : Told)
-    (result : Result T E) →
-    IsErr result → KnowsNow old → OnlyReads old new → Turns (IsHeldIn others part s) (IsPartlyJoined others s) Q old new result
-Turns-not_read others part s Q old new result failed knows reads =
-    Turns-failed (IsHeldIn others part s) (IsPartlyJoined others s) (IsHeldIn others part s) Q old new result result failed
-    (Turns-reads (IsHeldIn others part s) (IsPartlyJoined others s) old new result knows reads (IsPartlyJoined-none others part s old.content))
+  -- two records are read, and one is staged in their place
+  pub TurnsShown-join : {T E : Type 0} (old_records read_records new_records : RecordsState) (old mid after : Told) (summary : Figures) (result : Result T E) →
+      KnowsNow old → KnowsNow mid → OnlyReads old mid → read_records.journal ≡ old_records.journal →
+      ReadsBoth part.id.0 part.landmarks.landmarks w v (shown_by old_records old.content) (λ is. summary ≡ is) →
+      StagesTwo w.slot v.slot (records.Window part.id.0 w.first summary) read_records new_records result mid after →
+      TurnsShown old_records new_records (IsHeldIn others part s) (IsPartlyJoined others s) (IsJoinedIn others new s) old after result
+  TurnsShown-join old_records read_records new_records old mid after summary result knows knows_mid reads journal read stages =
+      let same_shown : shown_by read_records mid.content ≡ shown_by old_records old.content = ap₂ shown journal reads.same.content in
+      TurnsShown-then {S = Figures} {F = ReadError} old_records read_records new_records (IsHeldIn others part s) (IsPartlyJoined others s)
+      (IsHeldIn others part s) (IsPartlyJoined others s) (IsJoinedIn others new s) (IsPartlyJoined others s) old mid after summary result knows_mid
+      (TurnsShown-reads old_records read_records (IsHeldIn others part s) (IsPartlyJoined others s) old mid (Ok summary) knows reads journal)
+      (TurnsShown-pair read_records new_records mid after summary result
+      (subst (λ (content : List ℕ). ReadsBoth part.id.0 part.landmarks.landmarks w v content (λ is. summary ≡ is)) (sym same_shown) read) stages)
+      (λ image left. left) (λ image left. left)
+
+-- where the records weren't read nothing was staged
+pub TurnsShown-not_read : {T E : Type 0} (others : List (ℕ × Option Record)) (part : StreamParts) (s : Stream) (Q : List ℕ → Type 0)
+    (old_records new_records : RecordsState) (old new : Told) (result : Result T E) →
+    IsErr result → KnowsNow old → OnlyReads old new →
+    TurnsShown old_records new_records (IsHeldIn others part s) (IsPartlyJoined others s) Q old new result
+TurnsShown-not_read others part s Q old_records new_records old new result failed knows reads =
+    TurnsShown-failed old_records new_records new_records (IsHeldIn others part s) (IsPartlyJoined others s) (IsHeldIn others part s) Q old new result result
+    failed
+    (TurnsShown-reads old_records new_records (IsHeldIn others part s) (IsPartlyJoined others s) old new result knows reads
+    (on_err result (new_records.journal ≡ old_records.journal) failed))
 
 -- the slots of two neighbours are live, and the second goes
 pub AreSomeLive-two : (part new : StreamParts) (w v : Entry) (live : List Bool) → AreSlots part new w v → AreSomeLive (slots_held part) live →

@@ -6,6 +6,7 @@ pub mod KeptStates
 pub mod Unformed
 pub mod Additions
 pub mod Calls
+pub mod ShownCalls
 pub mod Changes
 pub mod Closings
 pub mod FewWindows
@@ -43,6 +44,7 @@ mod AskRows
 mod CallRows
 pub mod FoundAlike
 pub mod Wholes
+pub mod Sealings
 pub mod Steps
 pub mod Applying
 pub mod Taking

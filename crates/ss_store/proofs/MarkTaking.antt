@@ -18,7 +18,7 @@ use Rattle.ss_recover.specs.Held.{entries_of, mark_slots, slots_held}
 use Rattle.ss_recover.specs.declared.parts.StreamParts.{StreamParts}
 use Rattle.ss_store.specs.Admitted.{IsMarker}
 use Rattle.ss_store.specs.Applied.{Applies, StandsOn, is_creation, is_plain_value}
-use Rattle.ss_store.specs.Changing.{CanTakeMark, HasRoomFor, HasSameWindows, HasTakenMark, KeepsWhole, TakesMark}
+use Rattle.ss_store.specs.Changing.{CanTakeMark, HasRoomFor, HasSameWindows, HasTakenMark, KeepsAtRest, TakesMark}
 use Rattle.ss_store.specs.Held.{IsOrdered, values_held}
 use Rattle.ss_store.specs.Kept.{IsSound, SameButSpare, StoreIsKept, StoreState, of_part, refuses_held, without_spare}
 use Rattle.ss_store.specs.Marking.{CanMark, FitsMark, IsInOpen, IsItsSlot, event_of, slots_used}
@@ -113,7 +113,7 @@ module _ {store : StoreState} {catalog : List (List ℕ × StreamId)} {name : Li
       IsSound-set store catalog is.sound place is.marker.part (record was { landmarks = marks }) is.marker.at (ap (λ (p : StreamParts). p.id) room.same)
       (ap (λ (p : StreamParts). p.name) room.same) store.records store.stopped
       (λ run. (
-        is.sound.settled is.runs,
+        is.sound.at_rest is.runs,
         AreWhole-IsSpared store place is.marker.part (record was { landmarks = marks }) is.marker.at room
             (is.sound.whole is.runs),
       ))
@@ -162,15 +162,15 @@ module _ {store : StoreState} {catalog : List (List ℕ × StreamId)} {name : Li
     sound-stopped =
         IsSound-set store catalog is.sound place is.marker.part now is.marker.at same_id same_name records true (λ run. let wrong : true ≡ false = run in cc)
 
-    module _ (whole : KeepsWhole (record was { landmarks = marks }) now store.records records (slots_used mark slot))
+    module _ (whole : KeepsAtRest (record was { landmarks = marks }) now store.records records (slots_used mark slot))
         (taken : HasTakenMark (record was { landmarks = marks }) now t mark) where
       pub sound-taken : IsSound (with_stream now records store.stopped) catalog
       sound-taken =
           IsSound-set store catalog is.sound place is.marker.part now is.marker.at same_id same_name records store.stopped
           (λ run. (
-            whole.settled,
+            (whole.whole.settled, whole.sealed),
             whole-changed store place is.marker.part (record was { landmarks = marks }) now records is.marker.at room (is.sound.whole is.runs) same.id same.name
-                whole.ordered (taken.known, taken.last) whole.live,
+                whole.whole.ordered (taken.known, taken.last) whole.whole.live,
           ))
 
       -- the event is applied
@@ -179,7 +179,7 @@ module _ {store : StoreState} {catalog : List (List ℕ × StreamId)} {name : Li
           n ≡ values_held (entries_of now) → k ≡ length now.line.entries →
           Applies (event_of name t mark) store (with_stream now records store.stopped) before after (Ok (record { n = n; k = k }))
       applies-taken after n k done step values windows =
-          let extent = whole.extent in
+          let extent = whole.whole.extent in
           let low = is.marker.low in
           Applies-done (event_of name t mark) store (with_stream now records store.stopped) is.none before after (record { n = n; k = k })
           (step-from step (λ told takes.

@@ -7,13 +7,14 @@ use Rattle.ss_outside.specs.Verdict as verdicts
 use Rattle.ss_outside.specs.Verdict.{IfUndone, IsFirm, Verdict}
 use Rattle.ss_journal.specs.Calls.{KeepsMap, verdict_of_open}
 use Rattle.ss_journal.specs.Kept as Journals
-use Rattle.ss_journal.specs.Kept.{JournalState}
+use Rattle.ss_journal.specs.Kept.{IsSealed, JournalState}
 use Rattle.ss_journal.specs.Redo.{SlotMap, StandsFor}
 use Rattle.ss_journal.specs.declared.journal_error.JournalError.{JournalError}
 use Rattle.ss_journal.specs.declared.journal_error.JournalError.TheVariants as journal
 use Rattle.ss_journal.proofs.MapLemmas.{SameMap-refl}
 use Rattle.ss_journal.proofs.RedoLemmas.{StandsFor-from}
-use Rattle.ss_records.specs.Kept.{AreKept, RecordsState}
+use Rattle.ss_journal.proofs.ShownLemmas.{shown-sealed}
+use Rattle.ss_records.specs.Kept.{AreKept, RecordsState, shown_by}
 use Rattle.ss_model.specs.ClosedState.{closed_state}
 use Rattle.ss_model.specs.Standing.{IsState}
 use Rattle.ss_model.specs.State.{Stream, state}
@@ -90,16 +91,19 @@ firm-recover T recovering.Disk = tt
 firm-recover T recovering.OutOfMemory = tt
 
 -- the map of a content that records keep
-pub StandsFor-kept : (records : RecordsState) (content : List ℕ) (kept : AreKept records content) → StandsFor content kept.journal.found
-StandsFor-kept records content kept =
-    StandsFor-from content kept.journal.found kept.journal.found kept.journal.map (SameMap-refl kept.journal.found)
+pub StandsFor-kept : (records : RecordsState) (content : List ℕ) (kept : AreKept records content) → IsSealed records.journal →
+    StandsFor content kept.journal.shown.found
+StandsFor-kept records content kept sealed =
+    let found = kept.journal.shown.found in
+    subst (λ (image : List ℕ). StandsFor image found) (shown-sealed records.journal content sealed)
+    (StandsFor-from (shown_by records content) found found kept.journal.shown.map (SameMap-refl found))
 
 -- What was rebuilt of the records that are kept.
-pub IsRebuilt-from : (records : RecordsState) (parts : Parts) (content : List ℕ) → AreKept records content →
+pub IsRebuilt-from : (records : RecordsState) (parts : Parts) (content : List ℕ) → IsSealed records.journal → AreKept records content →
     ((found : SlotMap) → StandsFor content found → RebuildsAs found (Ok parts)) → IsRebuilt parts.streams.items content
-IsRebuilt-from records parts content kept rebuilds =
-    let found = kept.journal.found in
-    let is = StandsFor-kept records content kept in
+IsRebuilt-from records parts content sealed kept rebuilds =
+    let found = kept.journal.shown.found in
+    let is = StandsFor-kept records content kept sealed in
     let built = rebuilds found is in
     record {
       streams = built.0;
@@ -110,10 +114,10 @@ IsRebuilt-from records parts content kept rebuilds =
 
 -- what was rebuilt of a disk that was only read
 pub IsRebuilt-opened : (records : RecordsState) (parts : Parts) (held : List StreamParts) (old opened : Told) → OnlyReads old opened →
-    AreKept records opened.content → ((found : SlotMap) → StandsFor opened.content found → RebuildsAs found (Ok parts)) →
+    IsSealed records.journal → AreKept records opened.content → ((found : SlotMap) → StandsFor opened.content found → RebuildsAs found (Ok parts)) →
     held ≡ parts.streams.items → IsRebuilt held old.content
-IsRebuilt-opened records parts held old opened reads kept rebuilds is =
-    rw (is, ← reads.same.content) (IsRebuilt-from records parts opened.content kept rebuilds)
+IsRebuilt-opened records parts held old opened reads sealed kept rebuilds is =
+    rw (is, ← reads.same.content) (IsRebuilt-from records parts opened.content sealed kept rebuilds)
 
 pub Recovers-rebuilt : (parts : List StreamParts) (content : List ℕ) (is : IsRebuilt parts content) → Recovers (closed_state is.streams) content
 Recovers-rebuilt parts content is = Recovers-held parts is.streams content is.agree is.state is.records

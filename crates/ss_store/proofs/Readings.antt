@@ -1,8 +1,10 @@
 -- Two records that are read one after the other.
-use Rattle.std.proofs.Common.{◌≡◌, ℕ, ◌<◌, Bool, List, ◌∷◌, ◌++◌, length, sym, subst, arith, Option, Err, All}
+use Rattle.std.proofs.Common.{◌≡◌, ℕ, ◌<◌, Bool, List, ◌∷◌, ◌++◌, length, ap₂, sym, subst, arith, Option, Err, All}
 use Rattle.std.specs.List.{range_with_len}
 use Rattle.std.proofs.lemmas.List.Elements.{All-filter, All-from_recursion, All-head}
 use Rattle.std.proofs.lemmas.List.Sorted.{All-permutation, IsPermutation-sym}
+use Rattle.ss_journal.specs.Kept.{shown}
+use Rattle.ss_records.specs.Kept.{RecordsState, shown_by}
 use Rattle.ss_records.specs.Live.{is_live}
 use Rattle.ss_codec.specs.declared.record.Record.{Record}
 use Rattle.ss_summary.specs.Figures.{Figures}
@@ -34,6 +36,10 @@ live-below slot slots live some =
 pub live-below_second : (first slot : ℕ) (slots : List ℕ) (live : List Bool) → AreSomeLive (first ∷ slot ∷ slots) live → slot < length live
 live-below_second first slot slots live some =
     live-below slot (first ∷ slots) live (AreSomeLive-permutation (first ∷ slot ∷ slots) (slot ∷ first ∷ slots) live (IsPermutation-turn first slot slots) some)
+
+-- what is shown stays while the journal and the content do
+pub shown-same : (was is : RecordsState) (old new : List ℕ) → is.journal ≡ was.journal → new ≡ old → shown_by is new ≡ shown_by was old
+shown-same was is old new journal content = ap₂ shown journal content
 
 -- the second of two records, after a call that left the content
 pub HasRecords-second : (first second : ℕ × Option Record) (others : List (ℕ × Option Record)) (old new : List ℕ) → new ≡ old →

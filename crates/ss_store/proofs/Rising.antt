@@ -4,17 +4,17 @@ use Rattle.std.proofs.Common.{map, max, length, take, All, refl, sym, ap, ap₂,
 use Rattle.std.proofs.Common.{Option, Some, None, MatchOption, length-append}
 use Rattle.std.proofs.lemmas.Bool.Decides.{nat_tests}
 use Rattle.std.proofs.lemmas.List.{map-append}
-use Rattle.std.proofs.lemmas.List.Elements.{All-cons, All-head, All-nil, All-tail, All-weaker}
+use Rattle.std.proofs.lemmas.List.Elements.{All-cons, All-drop, All-head, All-nil, All-tail, All-weaker}
 use Rattle.ss_line.specs.Line.{entry_at, index_of, place_at}
 use Rattle.ss_line.specs.declared.entry.At.{At}
 use Rattle.ss_line.specs.declared.entry.Entry.{Entry}
-use Rattle.ss_times.specs.Times.{IsLastBy, IsSought}
+use Rattle.ss_times.specs.Times.{IsLastBy}
 use Rattle.ss_schedule.specs.Pairs.{joined_entry}
 use Rattle.ss_model.specs.Marks.{later}
 use Rattle.ss_model.specs.Refusals.{is_past}
 use Rattle.ss_recover.specs.Held.{RiseToLast, TileFrom, TimesRise, entries_of}
 use Rattle.ss_recover.specs.declared.parts.StreamParts.{StreamParts}
-use Rattle.ss_query.specs.Answered.{BeginsAt}
+use Rattle.ss_query.specs.Answered.{BeginsAt, BeginsNear}
 use Rattle.ss_query.proofs.Places.{IsAt-entry_at, entries_in, index-once}
 use Rattle.ss_schedule.proofs.Places.{take-seam}
 use Rattle.ss_store.specs.Held.{IsOrdered}
@@ -30,6 +30,12 @@ TimesRise-joined from last [] w v rest rise =
     let some_behind = rise.3.1 in
     (rise.0, omega (arith, some, next, some_behind), rise.3.2, rise.3.3)
 TimesRise-joined from last (f ∷ fs) w v rest rise = (rise.0, rise.1, rise.2, TimesRise-joined (f.t_last + 1) last fs w v rest rise.3)
+
+-- the first of them ends before the second begins
+pub TimesRise-seam : (from last : ℕ) (front : List Entry) (w v : Entry) (rest : List Entry) → TimesRise from last (front ++ w ∷ v ∷ rest) →
+    w.t_last < v.t_first
+TimesRise-seam from last [] w v rest rise = let next = rise.3.0 in omega (arith, next)
+TimesRise-seam from last (f ∷ fs) w v rest rise = TimesRise-seam (f.t_last + 1) last fs w v rest rise.3
 
 -- up to a later time
 pub TimesRise-later : (from last now : ℕ) (es : List Entry) → last ≤ now → TimesRise from last es → TimesRise from now es
@@ -142,6 +148,7 @@ record IsFound (entries : List (At × Entry)) (before : List (ℕ × At)) (time 
   pub rest : List (At × Entry)
   pub is : entries ≡ front ++ (at, entry) ∷ rest
   pub begun : entry.t_first ≡ time
+  pub later : map begun_at rest ≡ behind
 
 found : (entries : List (At × Entry)) (before : List (ℕ × At)) (time : ℕ) (at : At) (behind : List (ℕ × At)) →
     map begun_at entries ≡ before ++ (time, at) ∷ behind → IsFound entries before time at behind
@@ -155,11 +162,12 @@ found (e ∷ es) [] time at behind is =
       rest = es;
       is = ap (λ (a : At). (a, e.1) ∷ es) (ap (λ (p : ℕ × At). p.1) first);
       begun = ap (λ (p : ℕ × At). p.0) first;
+      later = cc;
     }
 found (e ∷ es) (b ∷ bs) time at behind is =
     let later : map begun_at es ≡ bs ++ (time, at) ∷ behind = cc in
     let there = found es bs time at behind later in
-    record { front = e ∷ there.front; entry = there.entry; rest = there.rest; is = ap (λ xs. e ∷ xs) there.is; begun = there.begun }
+    record { front = e ∷ there.front; entry = there.entry; rest = there.rest; is = ap (λ xs. e ∷ xs) there.is; begun = there.begun; later = there.later }
 
 weaker : (t from : ℕ) (es : List (At × Entry)) → t ≤ from → All (λ (f : At × Entry). f.1.t_last < t) es → All (λ (f : At × Entry). f.1.t_last < from) es
 weaker t from es low all = All-weaker (λ (f : At × Entry). f.1.t_last < t) (λ (f : At × Entry). f.1.t_last < from)
@@ -190,6 +198,38 @@ BeginsAt-first entries from start is = record {
   is = refl;
   early = All-nil (λ (e : At × Entry). e.1.t_last < from);
   place = is;
+}
+
+-- windows whose times are later begin later
+begin-late : (t : ℕ) (es : List (At × Entry)) → All (λ (p : ℕ × At). t < p.0) (map begun_at es) → All (λ (e : At × Entry). t < e.1.t_first) es
+begin-late t [] late = All-nil (λ (e : At × Entry). t < e.1.t_first)
+begin-late t (e ∷ es) late =
+    let T : ℕ × At → Type 0 = λ p. t < p.0 in
+    All-cons (λ (f : At × Entry). t < f.1.t_first) e es (All-head T (begun_at e) (map begun_at es) late)
+    (begin-late t es (All-tail T (begun_at e) (map begun_at es) late))
+
+-- both of these places are near the time
+pub BeginsNear-sought : (entries : List (At × Entry)) (times : List (ℕ × At)) (from : ℕ) (at : At) → IsTimed entries times →
+    IsLastBy from times at → BeginsNear entries from (Some at)
+BeginsNear-sought entries times from at timed last =
+    let there = found entries last.before last.time at last.behind (sym timed ∙ last.is) in
+    record {
+      before = there.front;
+      rest = (at, there.entry) ∷ there.rest;
+      is = there.is;
+      place = refl;
+      behind = begin-late from there.rest (subst (λ ts. All (λ (p : ℕ × At). from < p.0) ts) (sym there.later) last.later);
+    }
+
+pub BeginsNear-first : (entries : List (At × Entry)) (times : List (ℕ × At)) (from : ℕ) (start : Option At) → start ≡ place_at entries 0 →
+    IsTimed entries times → All (λ (p : ℕ × At). from < p.0) times → BeginsNear entries from start
+BeginsNear-first entries times from start is timed late = record {
+  before = [];
+  rest = entries;
+  is = refl;
+  place = is;
+  behind = All-drop (λ (e : At × Entry). from < e.1.t_first) 1 entries
+      (begin-late from entries (subst (λ ts. All (λ (p : ℕ × At). from < p.0) ts) timed late));
 }
 
 -- the times after a window was put behind the others, and after two were joined

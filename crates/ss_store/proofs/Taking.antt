@@ -16,7 +16,7 @@ use Rattle.ss_recover.specs.Held.{entries_of, slots_held}
 use Rattle.ss_recover.specs.declared.parts.StreamParts.{StreamParts}
 use Rattle.ss_store.specs.Admitted.{IsTaker}
 use Rattle.ss_store.specs.Applied.{Applies, StandsOn}
-use Rattle.ss_store.specs.Changing.{ChangedIsHeld, HoldsUntil, KeepsWhole, NoneAreDue, TakesValue}
+use Rattle.ss_store.specs.Changing.{ChangedIsHeld, HoldsUntil, KeepsAtRest, NoneAreDue, TakesValue}
 use Rattle.ss_store.specs.Errors.{apply_of_fault}
 use Rattle.ss_query.specs.Reading.{verdict_of_read}
 use Rattle.ss_store.specs.Held.{IsOrdered, IsSameStream, values_held}
@@ -91,7 +91,7 @@ module _ {store : StoreState} {catalog : List (List ℕ × StreamId)} {name : Li
   sound-spared =
       IsSound-set store catalog is.sound place is.taker.part (record was { line = line }) is.taker.at (ap (λ (p : StreamParts). p.id) room.same)
       (ap (λ (p : StreamParts). p.name) room.same) store.records store.stopped
-      (λ run. (is.sound.settled is.runs, AreWhole-IsSpared store place is.taker.part (record was { line = line }) is.taker.at room (is.sound.whole is.runs)))
+      (λ run. (is.sound.at_rest is.runs, AreWhole-IsSpared store place is.taker.part (record was { line = line }) is.taker.at room (is.sound.whole is.runs)))
 
   pub same-spared : SameButSpare store (with_stream (record was { line = line }) store.records store.stopped)
   same-spared = SameButSpare-IsSpared store place is.taker.part (record was { line = line }) is.taker.at room
@@ -133,16 +133,16 @@ module _ {store : StoreState} {catalog : List (List ℕ × StreamId)} {name : Li
         IsSound-set store catalog is.sound place is.taker.part now is.taker.at (same.id ∙ ap (λ (p : StreamParts). p.id) room.same) same_name records true
         (λ run. let wrong : true ≡ false = run in cc)
 
-    module _ (whole : KeepsWhole (record was { line = line }) now store.records records (slot + 1))
+    module _ (whole : KeepsAtRest (record was { line = line }) now store.records records (slot + 1))
         (holds : HoldsUntil now (values_held (entries_of (record was { line = line })) + 1) (Some t)) where
       pub sound-taken : IsSound (with_stream now records store.stopped) catalog
       sound-taken =
           IsSound-set store catalog is.sound place is.taker.part now is.taker.at (same.id ∙ ap (λ (p : StreamParts). p.id) room.same) same_name records
           store.stopped
           (λ run. (
-            whole.settled,
+            (whole.whole.settled, whole.sealed),
             whole-appended store place is.taker.part (record was { line = line }) now records is.taker.at room (is.sound.whole is.runs) same
-                (IsNoEarlier-past was.last_time now.last_time t holds.last_time later-taker) whole.ordered whole.live,
+                (IsNoEarlier-past was.last_time now.last_time t holds.last_time later-taker) whole.whole.ordered whole.whole.live,
           ))
 
       -- the event is applied
@@ -151,7 +151,7 @@ module _ {store : StoreState} {catalog : List (List ℕ × StreamId)} {name : Li
           n ≡ values_held (entries_of now) → k ≡ length now.line.entries →
           Applies (Value name t v) store (with_stream now records store.stopped) before after (Ok (record { n = n; k = k }))
       applies-taken after n k done step none_due values windows =
-          let extent = whole.extent in
+          let extent = whole.whole.extent in
           let low = is.taker.low in
           let some : 0 < n = omega (arith, values, holds.values) in
           Applies-done (Value name t v) store (with_stream now records store.stopped) is.none before after (record { n = n; k = k })
@@ -171,7 +171,7 @@ module _ {store : StoreState} {catalog : List (List ℕ × StreamId)} {name : Li
           )))
           (λ made. let wrong : false ≡ true = made in absurd (cc))
           (said_of_set name store.streams place is.taker.part now n k is.sound.numbers is.taker.named is.taker.at same_name values windows)
-          (λ plain. KeepsToTarget-taken store catalog name t place slot now n k is.sound is.taker same_name values windows whole.ordered.tiles none_due some)
+          (λ plain. KeepsToTarget-taken store catalog name t place slot now n k is.sound is.taker same_name values windows whole.whole.ordered.tiles none_due some)
           refl (omega (arith, extent, low))
 
     -- the call failed

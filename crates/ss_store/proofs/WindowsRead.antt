@@ -25,7 +25,8 @@ use Rattle.ss_recover.specs.declared.parts.StreamParts.{StreamParts}
 use Rattle.ss_outside.specs.Disk.{DiskView, OfContent, Told}
 use Rattle.ss_outside.specs.Step.{Step}
 use Rattle.ss_outside.specs.Verdict.{IsFirm, fine}
-use Rattle.ss_records.specs.Kept.{RecordsState}
+use Rattle.ss_journal.proofs.ShownLemmas.{shown-sealed}
+use Rattle.ss_records.specs.Kept.{AreAtRest, RecordsState, shown_by}
 use Rattle.ss_query.specs.Reading.{IsRead, ReadsWindow, verdict_of_read}
 use Rattle.ss_query.specs.declared.read_error.ReadError.{ReadError}
 use Rattle.ss_query.specs.declared.read_error.ReadError.TheVariants as error
@@ -137,9 +138,13 @@ IsFirm-error summary error.Disk read = tt
 IsFirm-error summary (error.Changed slot) read = read
 
 -- a window that is read again: what it is of the state that the content recovers to
-module _ {part : StreamParts} {entry : Entry} (records : RecordsState) (store : StoreState) (number : ℕ) (at : At)
+module _ {part : StreamParts} {entry : Entry} (was is : RecordsState) (at_rest : AreAtRest was) (store : StoreState) (number : ℕ) (at : At)
     (numbered : part_numbered number store.streams ≡ Some part) (read : entry_at part.line.entries at ≡ Some entry) where
-  window-read : (old new : Told) (summary : Figures) → StoreIsKept store old.content → ReadsWindow part entry records (Ok summary) old new →
+  -- nothing is staged: what is shown is the content
+  shown-first : (content : List ℕ) (slots : List (ℕ × Option Record)) → HasRecords slots content → HasRecords slots (shown_by was content)
+  shown-first content slots has = subst (λ (image : List ℕ). HasRecords slots image) (sym (shown-sealed was.journal content at_rest.1)) has
+
+  window-read : (old new : Told) (summary : Figures) → StoreIsKept store old.content → ReadsWindow part entry was is (Ok summary) old new →
       (streams : List Stream) → Recovers streams old.content →
       IfSome (part_numbered number store.streams) (λ p. IfSome (stream_numbered number streams) (λ s.
       slice_get (map placed_of s.windows) (index_of p.line.entries at) ≡ Some (placed entry summary)))
@@ -147,22 +152,22 @@ module _ {part : StreamParts} {entry : Entry} (records : RecordsState) (store : 
       let window = IsKeptWindow-at store old.content kept number part at entry numbered read in
       let same = Recovers-same kept.streams streams old.content (Recovers-StoreIsKept store old.content kept) recovers in
       let found : stream_numbered number streams ≡ Some window.stream = ap (λ l. stream_numbered number l) (sym same) ∙ window.found in
-      let summary_is = reads.window window.others window.window window.has window.span window.times window.free in
-      let is : slice_get (map placed_of window.stream.windows) (index_of part.line.entries at) ≡ Some (placed entry summary) =
+      let summary_is = reads.window window.others window.window (shown-first old.content _ window.has) window.span window.times window.free in
+      let here : slice_get (map placed_of window.stream.windows) (index_of part.line.entries at) ≡ Some (placed entry summary) =
       slice_get-map placed_of window.stream.windows (index_of part.line.entries at) ∙ ap (option_map placed_of) window.at
       ∙ ap (λ (p : Placed). Some p) (placed-is entry window.window summary window.span summary_is) in
-      rw (numbered, found) is
+      rw (numbered, found) here
 
   -- it keeps to the target
   within-read : (shown : Placed) (history : List Event) → IsHistory history →
       IfSome (part_numbered number store.streams) (λ p. IfSome (stream_numbered number (state history)) (λ s.
       slice_get (map placed_of s.windows) (index_of p.line.entries at) ≡ Some shown)) →
       IfSome (stream_numbered number (state history)) (λ s. IsReadWithinTarget (lengths_of s.params) (values_in s) shown)
-  within-read shown history whole is =
-      IsReadWithinTarget-read history (state history) number (index_of part.line.entries at) shown whole refl (rw numbered at is)
+  within-read shown history whole shows =
+      IsReadWithinTarget-read history (state history) number (index_of part.line.entries at) shown whole refl (rw numbered at shows)
 
   module _ {before after : DiskView} (kept : OfContent before (StoreIsKept store)) where
-    pub shows-read : (summary : Figures) → Step fine before after (ReadsWindow part entry records (Ok summary)) →
+    pub shows-read : (summary : Figures) → Step fine before after (ReadsWindow part entry was is (Ok summary)) →
         Step fine before after (ShowsWindow number at store.streams (Ok (record { first = entry.first; last = entry.last; summary = summary })))
     shows-read summary step = record {
       tells = step.tells;
@@ -178,11 +183,12 @@ module _ {part : StreamParts} {entry : Entry} (records : RecordsState) (store : 
     }
 
     -- no slot has changed on a disk that tells
-    pub IsFirm-read : (why : ReadError) → Step (verdict_of_read {T = Figures} (Err why)) before after (ReadsWindow part entry records (Err why)) →
+    pub IsFirm-read : (why : ReadError) → Step (verdict_of_read {T = Figures} (Err why)) before after (ReadsWindow part entry was is (Err why)) →
         IsTrue before.tells → IsFirm (verdict_of_read {T = Placed} (Err why))
     IsFirm-read why step told =
         let window = IsKeptWindow-at store before.told.content (kept told) number part at entry numbered read in
-        IsFirm-error window.window.summary why ((step.told told).window window.others window.window window.has window.span window.times window.free)
+        IsFirm-error window.window.summary why ((step.told told).window window.others window.window (shown-first before.told.content _ window.has)
+        window.span window.times window.free)
 
 -- the entry at a place, in the part that was read
 pub entry-read : {o : Option StreamParts} {read : StreamParts} {e : Entry} (at : At) → o ≡ Some read →

@@ -1,8 +1,10 @@
 -- What a call makes of what a disk stands for, also in a crash.
-use Rattle.std.specs.Prelude.{◌⊎◌, ℕ, List, [], ◌∷◌, ◌++◌, Result, OnOk}
+use Rattle.std.specs.Prelude.{◌≡◌, ◌⊎◌, ℕ, List, [], ◌∷◌, ◌++◌, Result, OnOk}
 use Rattle.ss_catalog.specs.declared.event.Event.{Event}
 use Rattle.ss_outside.specs.Crash.{LeavesOnly}
 use Rattle.ss_outside.specs.Disk.{Told, NothingPending}
+use Rattle.ss_journal.specs.Redo.{SlotMap, StandsFor}
+use Rattle.ss_records.specs.Kept.{RecordsState, shown_by}
 use Rattle.ss_model.specs.State.{Stream}
 use Rattle.ss_model.specs.Steps.{stepped}
 use Rattle.ss_store.specs.Recover.{Recovers, Stands}
@@ -12,6 +14,17 @@ use Rattle.ss_store.specs.Recover.{Recovers, Stands}
 pub record Turns {T E : Type 0} (P M Q : List ℕ → Type 0) (old new : Told) (result : Result T E) : Type 0 where
   pub content : P old.content → OnOk result (Q new.content)
   pub any_moment : NothingPending old → P old.content → LeavesOnly old new M
+  pub durable : NothingPending old → OnOk result (NothingPending new)
+
+-- the image stands for the map of an image that has P
+abbrev pub Like : (List ℕ → Type 0) → List ℕ → Type 0
+Like P image = (was : List ℕ) × P was × ((found : SlotMap) → StandsFor was found → StandsFor image found)
+
+-- Records, which are others then, turn what they show from P into Q. With nothing pending at the call, a crash at any moment of it
+-- leaves only images that stand for what the content stood for, or for what has M, and at Ok nothing is pending.
+pub record TurnsShown {T E : Type 0} (was is : RecordsState) (P M Q : List ℕ → Type 0) (old new : Told) (result : Result T E) : Type 0 where
+  pub content : P (shown_by was old.content) → OnOk result (Q (shown_by is new.content))
+  pub any_moment : NothingPending old → P (shown_by was old.content) → LeavesOnly old new (Like (λ image. (image ≡ old.content) ⊎ M image))
   pub durable : NothingPending old → OnOk result (NothingPending new)
 
 -- A call keeps what the disk stands for, whatever it is.

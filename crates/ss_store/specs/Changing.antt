@@ -5,9 +5,9 @@ use Rattle.ss_outside.specs.Crash.{OnlyReads}
 use Rattle.ss_outside.specs.Disk.{Told}
 use Rattle.ss_outside.specs.Verdict.{Verdict, IfChanged, IsFirm, verdict}
 use Rattle.ss_outside.specs.declared.source.Failed.{Failed}
-use Rattle.ss_journal.specs.Kept.{IsSettled}
+use Rattle.ss_journal.specs.Kept.{IsSealed, IsSettled}
 use Rattle.ss_journal.specs.declared.format.TheConstants.{MOST_SLOTS}
-use Rattle.ss_records.specs.Kept.{RecordsState, AreKept}
+use Rattle.ss_records.specs.Kept.{AreKept, RecordsState, shown_by}
 use Rattle.ss_codec.specs.declared.record.Record.{Record}
 use Rattle.ss_landmarks.specs.Landmarks.{IsState as AreKnown, LandmarksState}
 use Rattle.ss_line.specs.declared.entry.Entry.{Entry}
@@ -24,7 +24,7 @@ use Rattle.ss_model.specs.Steps.{with_value}
 use Rattle.ss_model.specs.declared.types.Window.{Window}
 use Rattle.ss_recover.specs.Held.{AllAgree, EndByLast, entries_of, mark_slots, slots_held, span_held, span_of, times_held, times_of, window_record}
 use Rattle.ss_recover.specs.declared.parts.StreamParts.{StreamParts}
-use Rattle.ss_store.specs.Calls.{Turns}
+use Rattle.ss_store.specs.Calls.{Turns, TurnsShown}
 use Rattle.ss_query.specs.Reading.{IsRead, verdict_of_read}
 use Rattle.ss_store.specs.Held.{IsHalfway, IsOrdered, IsPartlyJoined, values_held, with_single}
 use Rattle.ss_query.specs.Held.{IsHeldIn}
@@ -51,21 +51,34 @@ pub record TurnsStream {T E : Type 0} (v : Verdict) (part : StreamParts) (during
   pub firm : (others : List (ℕ × Option Record)) (s : Stream) → IsHeldIn others part s old.content → IsFirm v
   pub kept : OnOk result (AreKept records new.content)
 
--- windows that are due were joined, and a crash leaves them joined in part
-abbrev pub JoinsWindows : StreamParts → StreamParts → RecordsState → Result (Unit {0}) ReadError → Told → Told → Type 0
-JoinsWindows part now records result =
-    TurnsStream (verdict_of_read result) part IsPartlyJoined (λ others s. IsJoinedIn others now s) records result
+-- The same of what records show, which are others then: a crash leaves what the content stands for, or this.
+pub record StagesStream (v : Verdict) (part : StreamParts) (during after : List (ℕ × Option Record) → Stream → List ℕ → Type 0)
+    (was is : RecordsState) (result : Result (Unit {0}) ReadError) (old new : Told) : Type 0 where
+  pub turns : (others : List (ℕ × Option Record)) (s : Stream) →
+      TurnsShown was is (IsHeldIn others part s) (during others s) (after others s) old new result
+  pub firm : (others : List (ℕ × Option Record)) (s : Stream) → IsHeldIn others part s (shown_by was old.content) → IsFirm v
+  pub kept : OnOk result (AreKept is new.content)
+
+-- windows that are due were joined, and this is staged
+abbrev pub JoinsWindows : StreamParts → StreamParts → RecordsState → RecordsState → Result (Unit {0}) ReadError → Told → Told → Type 0
+JoinsWindows part now was is result =
+    StagesStream (verdict_of_read result) part IsPartlyJoined (λ others s. IsJoinedIn others now s) was is result
+
+-- all of them were joined, and this is staged
+abbrev pub StagesJoins : StreamParts → StreamParts → RecordsState → RecordsState → Result (Unit {0}) ReadError → Told → Told → Type 0
+StagesJoins part now was is result =
+    StagesStream (verdict_of_read result) part IsPartlyJoined (λ others s. IsHeldIn others now (closed_stream s)) was is result
 
 -- all of them were joined
 abbrev pub ClosesStream : StreamParts → StreamParts → RecordsState → Result (Unit {0}) ReadError → Told → Told → Type 0
 ClosesStream part now records result =
     TurnsStream (verdict_of_read result) part IsPartlyJoined (λ others s. IsHeldIn others now (closed_stream s)) records result
 
--- a value was put as a window of its own
-abbrev pub PutsValue : StreamParts → StreamParts → ℕ → ℤ → RecordsState → Result (Unit {0}) ReadError → Told → Told → Type 0
-PutsValue part now t v records result =
-    TurnsStream (verdict_of_read result) part (λ others s. IsHalfway others part s t v) (λ others s. IsHeldIn others now (with_single s t v))
-    records result
+-- a value was put as a window of its own, and this is staged
+abbrev pub PutsValue : StreamParts → StreamParts → ℕ → ℤ → RecordsState → RecordsState → Result (Unit {0}) ReadError → Told → Told → Type 0
+PutsValue part now t v was is result =
+    StagesStream (verdict_of_read result) part (λ others s. IsHalfway others part s t v) (λ others s. IsHeldIn others now (with_single s t v))
+    was is result
 
 -- a value was taken, and the windows were closed
 abbrev pub TakesValue : StreamParts → StreamParts → ℕ → ℤ → RecordsState → Result (Unit {0}) ReadError → Told → Told → Type 0
@@ -79,20 +92,21 @@ TakesMark part now t mark records result =
     TurnsStream (verdict result) part (λ others s. IsMarkedOrNot others part s t mark) (λ others s. IsHeldIn others now (with_mark s t mark))
     records result
 
--- Two windows of a stream are read as one, by records that are these then. Content and images stay.
-pub record ReadsJoined (part : StreamParts) (window next : Entry) (records : RecordsState) (result : Result Figures ReadError) (old new : Told) : Type 0 where
+-- Two windows of a stream are read as one, by records that are others then, of what they show. Content and images stay.
+pub record ReadsJoined (part : StreamParts) (window next : Entry) (was is : RecordsState) (result : Result Figures ReadError) (old new : Told) : Type 0 where
   pub joined : (others : List (ℕ × Option Record)) (w v : Window) →
-      HasRecords ((window.slot, Some (window_record part.id.0 w)) ∷ (next.slot, Some (window_record part.id.0 v)) ∷ others) old.content →
+      HasRecords ((window.slot, Some (window_record part.id.0 w)) ∷ (next.slot, Some (window_record part.id.0 v)) ∷ others) (shown_by was old.content) →
       span_held window ≡ span_of w → span_held next ≡ span_of v → times_held window ≡ times_of w → times_held next ≡ times_of v →
       IsTrue (lies_free part.landmarks.landmarks w) → IsTrue (lies_free part.landmarks.landmarks v) →
       w.summary.t_last < v.summary.t_first → IsRead (joined w.summary v.summary) result
-  pub kept : OnOk result (AreKept records new.content)
+  pub kept : OnOk result (AreKept is new.content)
   pub reads : OnlyReads old new
 
--- two windows stand side by side, within the positions that there are
+-- two windows stand side by side, within the positions that there are, and all times of the second are later
 pub record AreNeighbours (window next : Entry) : Type 0 where
   pub first : 1 ≤ window.first
   pub side_by_side : next.first ≡ window.last + 1
+  pub later : window.t_last < next.t_first
   pub few : next.last ≤ MOST_VALUES
 
 -- What the change of a stream keeps over every disk: the order of its windows, that its slots are live, and that the journal is
@@ -102,6 +116,11 @@ pub record KeepsWhole (part now : StreamParts) (was is : RecordsState) (used : �
   pub live : LiveSlotsGo (slots_held part) (slots_held now) was.live is.live
   pub settled : IsSettled is.journal
   pub extent : is.journal.extent ≤ max was.journal.extent used
+
+-- the same, and nothing is staged
+pub record KeepsAtRest (part now : StreamParts) (was is : RecordsState) (used : ℕ) : Type 0 where
+  pub whole : KeepsWhole part now was is used
+  pub sealed : IsSealed is.journal
 
 -- how many values the windows of a stream hold, and its last time
 pub record HoldsUntil (part : StreamParts) (n : ℕ) (last : Option ℕ) : Type 0 where

@@ -15,8 +15,7 @@ use Rattle.ss_landmarks.specs.Landmark.{all_values}
 use Rattle.ss_target.specs.Lengths.{has_target}
 use Rattle.ss_target.specs.Targets.{params_of}
 use Rattle.ss_windowing.specs.declared.decay.TheConstants.{MOST_VALUES}
-use Rattle.ss_journal.specs.Kept.{IsSettled}
-use Rattle.ss_records.specs.Kept.{RecordsState, AreKept}
+use Rattle.ss_records.specs.Kept.{AreAtRest, AreKept, RecordsState}
 use Rattle.ss_model.specs.ClosedState.{closed_state}
 use Rattle.ss_model.specs.Marks.{has_open}
 use Rattle.ss_model.specs.Refusals.{first_that_applies, is_before, is_opening, is_past}
@@ -43,7 +42,7 @@ entry_of part = (part.name, part.id)
 pub record IsSound (store : StoreState) (catalog : List (List ℕ × StreamId)) : Type 0 where
   pub listed : catalog ≡ map entry_of store.streams
   pub numbers : IsStrictlyIncreasing (map (λ (part : StreamParts). part.id.0) store.streams)
-  pub settled : store.stopped ≡ false → IsSettled store.records.journal
+  pub at_rest : store.stopped ≡ false → AreAtRest store.records
   pub whole : store.stopped ≡ false → AreWhole store.streams store.records.live
 
 -- One disk: the content has the records of these streams, each in the slot where the store holds it, and no merge is due.

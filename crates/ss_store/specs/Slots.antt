@@ -5,11 +5,12 @@ use Rattle.std.specs.List.Sorted.{IsPermutation}
 use Rattle.ss_outside.specs.Disk.{Told}
 use Rattle.ss_journal.specs.Redo.{zeros}
 use Rattle.ss_journal.specs.declared.put.Put.{Put}
+use Rattle.ss_records.specs.Kept.{RecordsState}
 use Rattle.ss_records.specs.Live.{is_live}
 use Rattle.ss_codec.specs.Record.{spelling}
 use Rattle.ss_codec.specs.declared.record.Record.{Record}
 use Rattle.ss_query.specs.Slots.{HasRecords}
-use Rattle.ss_store.specs.Calls.{Turns}
+use Rattle.ss_store.specs.Calls.{Turns, TurnsShown}
 
 -- either
 abbrev pub Either : (List ℕ → Type 0) → (List ℕ → Type 0) → List ℕ → Type 0
@@ -29,13 +30,17 @@ Replaces slot r result old new =
     let after = HasRecords ((slot, Some r) ∷ others) in
     Turns before (Either before after) after old new result
 
--- a call puts a record in place of that of one slot, and frees another, or leaves all as it was
-abbrev pub ReplacesTwo : {T E : Type 0} → ℕ → ℕ → Record → Result T E → Told → Told → Type 0
-ReplacesTwo kept freed r result old new =
-    (was gone : Option Record) (others : List (ℕ × Option Record)) →
-    let before = HasRecords ((kept, was) ∷ (freed, gone) ∷ others) in
-    let after = HasRecords ((kept, Some r) ∷ others) in
-    Turns before (Either before after) after old new result
+-- a call stages a record for a free slot
+abbrev pub StagesRecord : {T E : Type 0} → ℕ → Record → RecordsState → RecordsState → Result T E → Told → Told → Type 0
+StagesRecord slot r was is result old new =
+    (others : List (ℕ × Option Record)) → TurnsShown was is (HasRecords others) (HasRecords others) (HasRecords ((slot, Some r) ∷ others)) old new result
+
+-- a call stages a record in place of that of one slot, and the freeing of another
+abbrev pub StagesTwo : {T E : Type 0} → ℕ → ℕ → Record → RecordsState → RecordsState → Result T E → Told → Told → Type 0
+StagesTwo kept freed r was is result old new =
+    (first gone : Option Record) (others : List (ℕ × Option Record)) →
+    let before = HasRecords ((kept, first) ∷ (freed, gone) ∷ others) in
+    TurnsShown was is before before (HasRecords ((kept, Some r) ∷ others)) old new result
 
 -- a put of a record, and one of zeros
 abbrev pub record_put : ℕ → Record → Put

@@ -4,17 +4,17 @@ ghost use Rattle.ss_outside.specs.Disk.{OfContent};
 ghost use Rattle.ss_outside.specs.Step.{Step};
 ghost use Rattle.ss_outside.specs.Verdict.{IfChanged};
 ghost use Rattle.ss_journal.specs.Kept.{IsRunning, IsSettled};
-ghost use Rattle.ss_records.specs.Kept.{AreKept};
+ghost use Rattle.ss_records.specs.Kept.{AreAtRest, AreKept};
 ghost use Rattle.ss_summary.specs.Figures.{IsPossible};
 ghost use Rattle.ss_recover.specs.Held.{entries_of, slots_held};
-ghost use Rattle.ss_store.specs.Changing.{AreNeighbours, ChangedIsHeld, ClosesStream, HoldsUntil, JoinsWindows, KeepsWhole, ReadsJoined};
+ghost use Rattle.ss_store.specs.Changing.{AreNeighbours, ChangedIsHeld, ClosesStream, HoldsUntil, JoinsWindows, KeepsAtRest, KeepsWhole, ReadsJoined, StagesJoins};
 ghost use Rattle.ss_query.specs.Reading.{verdict_of_read};
 ghost use Rattle.ss_store.specs.Held.{IsOrdered, IsSameStream, values_held};
 ghost use Rattle.ss_store.specs.Indexed.{IsDuePair, IsKeyedFor, IsScheduled};
 ghost use Rattle.ss_store.specs.Slots.{AreSomeLive};
 
 use crate::index::Index;
-use crate::writing::replace_two;
+use crate::writing::stage_two;
 use ss_codec::Record;
 use ss_line::Entry;
 use ss_outside::Disk;
@@ -52,7 +52,7 @@ fn read_joined<D: Disk>(
     requires neighbours { AreNeighbours window next }
     requires one_disk { OfContent (D.seen disk.old) (AreKept records.old) }
     ensures joined { Step (verdict_of_read result) (D.seen disk.old) (D.seen disk.new)
-        (ReadsJoined part.now window next records.new result) }
+        (ReadsJoined part.now window next records.old records.new result) }
     ensures count { IfOk result (λ summary. window.first + summary.count ≡ next.last + 1) }
     ensures possible { IfOk result IsPossible }
     ensures changed { IfChanged (verdict_of_read result) (λ slot. (slot ≡ window.slot) ⊎ (slot ≡ next.slot)) }
@@ -63,13 +63,10 @@ fn read_joined<D: Disk>(
     let _live = records.live();
     let older = read_window(records, disk, part, window)?;
     let newer = read_window(records, disk, part, next)?;
-    if newer.t_first <= older.t_last {
-        return Err(ReadError::Changed { slot: next.slot });
-    }
     Ok(Summary::join(older, newer))
 }
 
-// Joins two neighbouring windows that are due, as one transaction.
+// Stages the join of two neighbouring windows that are due, as one transaction.
 fn join<D: Disk, L: Ledger>(
     records: &mut Records,
     disk: &mut D,
@@ -83,7 +80,7 @@ fn join<D: Disk, L: Ledger>(
     requires live { AreSomeLive (slots_held part.old) records.old.live }
     requires one_disk { OfContent (D.seen disk.old) (AreKept records.old) }
     ensures joins { Step (verdict_of_read result) (D.seen disk.old) (D.seen disk.new)
-        (JoinsWindows part.old part.new records.new result) }
+        (JoinsWindows part.old part.new records.old records.new result) }
     ensures same { IsSameStream part.old part.new }
     ensures whole { OnOk result (KeepsWhole part.old part.new records.old records.new 0) }
     ensures holds { OnOk result (HoldsUntil part.new (values_held (entries_of part.old)) part.old.last_time) }
@@ -100,14 +97,14 @@ fn join<D: Disk, L: Ledger>(
         first: window.first,
         summary: read_joined(records, disk, part, window, next)?,
     };
-    replace_two(records, disk, window.slot, next.slot, &joined)?;
+    stage_two(records, disk, window.slot, next.slot, &joined)?;
     let n = values_held(part, steps);
     index.merged(&mut part.line, pair, next.t_first, n, steps);
     Ok(())
 }
 
-/// Joins neighbours, each two as one transaction, until no two lie together in one target window.
-pub fn close_windows<D: Disk, L: Ledger>(
+/// Stages the joins of neighbours, each two as one transaction, until no two lie together in one target window.
+pub fn stage_joins<D: Disk, L: Ledger>(
     records: &mut Records,
     disk: &mut D,
     part: &mut StreamParts,
@@ -120,7 +117,7 @@ pub fn close_windows<D: Disk, L: Ledger>(
     requires live { AreSomeLive (slots_held part.old) records.old.live }
     requires one_disk { OfContent (D.seen disk.old) (AreKept records.old) }
     ensures closes { Step (verdict_of_read result) (D.seen disk.old) (D.seen disk.new)
-        (ClosesStream part.old part.new records.new result) }
+        (StagesJoins part.old part.new records.old records.new result) }
     ensures same { IsSameStream part.old part.new }
     ensures whole { OnOk result (KeepsWhole part.old part.new records.old records.new 0) }
     ensures holds { OnOk result (HoldsUntil part.new (values_held (entries_of part.old)) part.old.last_time) }
@@ -131,5 +128,31 @@ pub fn close_windows<D: Disk, L: Ledger>(
     while let Some(pair) = index.due(&part.line, n, steps) {
         join(records, disk, part, index, pair, steps)?;
     }
+    Ok(())
+}
+
+/// Joins neighbours, each two as one transaction, until no two lie together in one target window. All come to the disk together.
+pub fn close_windows<D: Disk, L: Ledger>(
+    records: &mut Records,
+    disk: &mut D,
+    part: &mut StreamParts,
+    index: &mut Index,
+    steps: &mut Steps<L>,
+) -> Result<(), ReadError>
+    requires keyed { IsKeyedFor part.old index.old }
+    requires at_rest { AreAtRest records.old }
+    requires ordered { IsOrdered part.old }
+    requires live { AreSomeLive (slots_held part.old) records.old.live }
+    requires one_disk { OfContent (D.seen disk.old) (AreKept records.old) }
+    ensures closes { Step (verdict_of_read result) (D.seen disk.old) (D.seen disk.new)
+        (ClosesStream part.old part.new records.new result) }
+    ensures same { IsSameStream part.old part.new }
+    ensures whole { OnOk result (KeepsAtRest part.old part.new records.old records.new 0) }
+    ensures holds { OnOk result (HoldsUntil part.new (values_held (entries_of part.old)) part.old.last_time) }
+    ensures scheduled { OnOk result (IsScheduled part.new index.new) }
+    ensures changed { ChangedIsHeld (verdict_of_read result) part.new }
+{
+    stage_joins(records, disk, part, index, steps)?;
+    records.seal(disk)?;
     Ok(())
 }

@@ -35,7 +35,7 @@ impl Index {
     ghost use Rattle.ss_schedule.specs.Keyed.{FollowUpTo, IsKeyed, lengths};
     ghost use Rattle.ss_schedule.specs.Pairs.{AreSideBySide, IsPairIn, NoPairFits, joined_entry};
     ghost use Rattle.ss_recover.specs.Held.{RiseToLast, TimesRise};
-    ghost use Rattle.ss_query.specs.Answered.{BeginsAt};
+    ghost use Rattle.ss_query.specs.Answered.{BeginsAt, BeginsNear};
     ghost use Rattle.ss_store.specs.Indexed.{HasPlaces, IsTimed};
 
     /// The index of a line without windows, with no room.
@@ -174,7 +174,9 @@ impl Index {
     pub fn start(&self, part: &StreamParts, from: u64) -> Option<At>
         requires timed { IsTimed part.now.line.entries self.now.times }
         requires times { RiseToLast part.now }
-        ensures { BeginsAt part.now.line.entries from result }
+        ensures begins { BeginsAt part.now.line.entries from result }
+        // Of the windows from there on only the first one may begin by that time.
+        ensures near { BeginsNear part.now.line.entries from result }
     {
         match self.times.seek(from) {
             Some(at) => Some(at),

@@ -3,16 +3,15 @@ ghost use Rattle.std.specs.Prelude.{◌≡◌, ◌≢◌, ◌+◌, ◌<◌, ◌�
 ghost use Rattle.ss_outside.specs.Disk.{OfContent};
 ghost use Rattle.ss_outside.specs.Step.{Step};
 ghost use Rattle.ss_outside.specs.Verdict.{verdict};
-ghost use Rattle.ss_journal.specs.Kept.{IsSettled};
 ghost use Rattle.ss_journal.specs.declared.format.TheConstants.{MOST_SLOTS};
-ghost use Rattle.ss_records.specs.Kept.{AreKept};
+ghost use Rattle.ss_records.specs.Kept.{AreAtRest, AreKept};
 ghost use Rattle.ss_codec.specs.Record.{is_valid};
 ghost use Rattle.ss_codec.specs.declared.record.Record.TheVariants.{Free};
 ghost use Rattle.ss_landmarks.specs.Landmark.{all_values};
 ghost use Rattle.ss_landmarks.specs.Landmarks.{IsState as AreKnown};
 ghost use Rattle.ss_model.specs.Marks.{later};
 ghost use Rattle.ss_recover.specs.Held.{mark_slots, slots_held};
-ghost use Rattle.ss_store.specs.Changing.{CanTakeMark, HasSameWindows, HasRoomFor, HasTakenMark, KeepsWhole, TakesMark};
+ghost use Rattle.ss_store.specs.Changing.{CanTakeMark, HasSameWindows, HasRoomFor, HasTakenMark, KeepsAtRest, TakesMark};
 ghost use Rattle.ss_store.specs.Marking.{CanMark, FitsMark, landmarks_after, mark_record, slots_after, slots_used, start_open, value_slots_after, values_open};
 ghost use Rattle.ss_store.specs.Slots.{AreSomeLive};
 
@@ -135,7 +134,7 @@ pub fn put_mark<D: Disk>(
     t: u64,
     mark: Mark,
 ) -> Result<(), Failed>
-    requires settled { IsSettled records.old.journal }
+    requires at_rest { AreAtRest records.old }
     requires can { CanTakeMark records.old part.old slot t mark }
     requires time { t ≤ LAST_TIME }
     requires live { AreSomeLive (slots_held part.old) records.old.live }
@@ -146,7 +145,7 @@ pub fn put_mark<D: Disk>(
     ensures fits { FitsMark mark }
     ensures same { HasSameWindows part.old part.new }
     ensures taken { OnOk result (HasTakenMark part.old part.new t mark) }
-    ensures whole { OnOk result (KeepsWhole part.old part.new records.old records.new (slots_used mark slot)) }
+    ensures whole { OnOk result (KeepsAtRest part.old part.new records.old records.new (slots_used mark slot)) }
     ensures err { OnErr result (part.new ≡ part.old) }
 {
     let written = record_of(part, t, mark);

@@ -6,9 +6,9 @@ ghost use Rattle.ss_outside.specs.Step.{Step};
 ghost use Rattle.ss_outside.specs.Verdict.{IfChanged, IsFirm};
 ghost use Rattle.ss_catalog.specs.Names.{same_name};
 ghost use Rattle.ss_catalog.specs.declared.TheConstants.{MOST_STREAMS};
-ghost use Rattle.ss_journal.specs.Kept.{IsRunning, IsSettled};
+ghost use Rattle.ss_journal.specs.Kept.{IsRunning, IsSealed};
 ghost use Rattle.ss_journal.specs.declared.format.TheConstants.{MOST_SLOTS};
-ghost use Rattle.ss_records.specs.Kept.{AreKept};
+ghost use Rattle.ss_records.specs.Kept.{AreAtRest, AreKept};
 ghost use Rattle.ss_recover.specs.Held.{AreWhole};
 ghost use Rattle.ss_recover.specs.declared.parts.StreamParts.{StreamParts};
 ghost use Rattle.ss_store.specs.Changing.{ClosesAll, SomeChangedIsHeld};
@@ -40,6 +40,7 @@ pub fn read_all<D: Disk>(
     ensures unchanged { IsFirm (verdict_of_opening result) }
     ensures whole { IfOk result (λ read. AreWhole read.1.items read.0.live) }
     ensures running { IfOk result (λ read. IsRunning read.0.journal) }
+    ensures sealed { IfOk result (λ read. IsSealed read.0.journal) }
 {
     let mut records = Records::open(alloc, disk)?;
     let Parts { streams } = rebuild(alloc, &mut records, disk)?;
@@ -70,7 +71,7 @@ pub fn close_all<D: Disk, L: Ledger>(
     indexes: &mut [Index],
     steps: &mut Steps<L>,
 ) -> Result<(), ReadError>
-    requires settled { IsSettled records.old.journal }
+    requires at_rest { AreAtRest records.old }
     requires whole { AreWhole streams.old records.old.live }
     requires keyed { AllZip IsKeyedFor streams.old indexes.old }
     requires one_disk { OfContent (D.seen disk.old) (AreKept records.old) }
@@ -78,7 +79,7 @@ pub fn close_all<D: Disk, L: Ledger>(
         (ClosesAll streams.old streams.new records.new result) }
     ensures entries { map entry_of streams.new ≡ map entry_of streams.old }
     ensures whole { OnOk result (AreWhole streams.new records.new.live) }
-    ensures settled { OnOk result (IsSettled records.new.journal) }
+    ensures at_rest { OnOk result (AreAtRest records.new) }
     ensures scheduled { OnOk result (AllZip IsScheduled streams.new indexes.new) }
     ensures changed { SomeChangedIsHeld (verdict_of_read result) streams.new }
 {
@@ -103,6 +104,7 @@ pub fn settle_all<D: Disk, L: Ledger>(
     steps: &mut Steps<L>,
 ) -> Result<(), ReadError>
     requires running { IsRunning records.old.journal }
+    requires sealed { IsSealed records.old.journal }
     requires whole { AreWhole streams.old records.old.live }
     requires keyed { AllZip IsKeyedFor streams.old indexes.old }
     requires one_disk { OfContent (D.seen disk.old) (AreKept records.old) }
@@ -110,7 +112,7 @@ pub fn settle_all<D: Disk, L: Ledger>(
         (ClosesAll streams.old streams.new records.new result) }
     ensures entries { map entry_of streams.new ≡ map entry_of streams.old }
     ensures whole { OnOk result (AreWhole streams.new records.new.live) }
-    ensures settled { OnOk result (IsSettled records.new.journal) }
+    ensures at_rest { OnOk result (AreAtRest records.new) }
     ensures scheduled { OnOk result (AllZip IsScheduled streams.new indexes.new) }
     ensures changed { SomeChangedIsHeld (verdict_of_read result) streams.new }
 {

@@ -6,6 +6,9 @@ use ss_catalog::{Query, Refusal, StreamId};
 use ss_model::Outcome;
 use ss_outside::Disk;
 use ss_query::answer_from;
+use ss_steps::Steps;
+use std::marker::Brand;
+use std::sync::ledger::{Blank, Ledger};
 
 impl Store {
     ghost use Rattle.std.specs.Prelude.{◌≡◌, ◌≢◌, ◌≤◌, ◌↔◌, true, false, Some, IsSome, IfOk, IfSome, OnOk, IfErr, Err, None};
@@ -15,6 +18,7 @@ impl Store {
     ghost use Rattle.ss_outside.specs.Verdict.{IfChanged, IfUndone};
     ghost use Rattle.ss_catalog.specs.declared.refusal.Refusal.{Refusal};
     ghost use Rattle.ss_model.specs.Answers.{IsOfKind};
+    ghost use Rattle.ss_steps.specs.Steps.{IsFresh};
     ghost use Rattle.ss_query.specs.Answered.{window_slots_of};
     ghost use Rattle.ss_store.specs.Applied.{Answers, Looks, StandsOn};
     ghost use Rattle.ss_store.specs.Asked.{refuses_query_held};
@@ -45,7 +49,7 @@ impl Store {
             return Err(AskError::Stopped);
         }
         match self.asked(query) {
-            Ok(id) => self.query_stream(disk, query, id),
+            Ok(id) => self.query_stream::<D, Brand>(disk, query, id, Blank::new(1)),
             Err(refusal) => Err(AskError::Refused(refusal)),
         }
     }
@@ -68,12 +72,14 @@ impl Store {
     }
 
     // Answers a query to the stream of a number, where the store hasn't stopped.
-    fn query_stream<D: Disk>(
+    fn query_stream<D: Disk, L: Ledger>(
         &mut self,
         disk: &mut D,
         query: &Query,
         id: StreamId,
+        blank: Blank,
     ) -> Result<Outcome, AskError>
+        requires fresh { IsFresh L.name L.parts blank }
         requires order { query.now.from ≤ query.now.to }
         requires stands { IsSome (part_numbered id.0 self.old.streams) }
         requires same { part_numbered id.0 self.old.streams ≡ part_named query.now.name self.old.streams }
@@ -91,7 +97,8 @@ impl Store {
         let place = place_of(&self.streams, id);
         let stream = &self.streams[place];
         let start = self.indexes[place].start(stream, query.from);
-        match answer_from(stream, start, &mut self.records, disk, query) {
+        let mut steps = Steps::<L>::new(blank);
+        match answer_from(stream, start, &mut self.records, disk, query, &mut steps) {
             Ok(outcome) => Ok(outcome),
             Err(error) => {
                 self.stopped = true;

@@ -19,14 +19,14 @@ use Rattle.ss_recover.specs.declared.parts.StreamParts.{StreamParts}
 use Rattle.ss_store.specs.Held.{IsHalfway, values_held, with_single}
 use Rattle.ss_query.specs.Held.{IsHeldIn}
 use Rattle.ss_store.specs.Indexed.{begun_at}
-use Rattle.ss_store.proofs.Additions.{IsAdded, IsOrdered-added, LiveSlotsGo-added, TileFrom-added, Turns-added, single_entry, values_held-added}
+use Rattle.ss_store.proofs.Additions.{IsAdded, IsOrdered-added, LiveSlotsGo-added, TileFrom-added, TurnsShown-added, single_entry, values_held-added}
 use Rattle.ss_store.proofs.KeyedWindows.{FollowUpTo-take, FollowUpTo-tiles, NoPairFits-spans, take-all}
 use Rattle.ss_store.proofs.Rising.{IsTimed-added}
-use Rattle.ss_store.proofs.Calls.{Turns-answers, Turns-failed}
+use Rattle.ss_store.proofs.ShownCalls.{TurnsShown-answers, TurnsShown-failed}
 use Rattle.ss_store.proofs.appending.put_value.Goals as goal
 
-pub add_record-requires-clause-valid : goal.add_record-requires-clause-valid
-add_record-requires-clause-valid g c =
+pub stage_record-requires-clause-valid : goal.stage_record-requires-clause-valid
+stage_record-requires-clause-valid g c =
     let count : c.one.result.count ≡ 1 = ap (λ f. f.count) c.one.ensures in
     is_valid-IsWindow c.number_of.result (c.values_held-position.result + 1) c.one.result (omega arith) (omega arith)
     (omega (arith, count, c.values_held-position.ensures, c.requires.can.room)) (assumption c.one.type_inv)
@@ -50,8 +50,8 @@ added_part-added part slot t = record {
   entries = map-append (λ (e : At × Entry). e.1) part.line.entries ((record { 0 = 0 }, single_entry (values_held (entries_of part) + 1) t slot) ∷ []);
 }
 
-pub returns-in_err-add_record-clause-puts : goal.returns-in_err-add_record-clause-puts
-returns-in_err-add_record-clause-puts g c =
+pub returns-in_err-stage_record-clause-puts : goal.returns-in_err-stage_record-clause-puts
+returns-in_err-stage_record-clause-puts g c =
     let part = c.args.part.now in
     let can = c.requires.can in
     let new = added_part part c.args.slot c.args.t in
@@ -59,12 +59,12 @@ returns-in_err-add_record-clause-puts g c =
     c.one.ensures ∙ ap (λ v. summary_of ((c.args.t, v) ∷ [])) (to_z-of_z {w = w64} {z = c.args.v} c.ranges.v) in
     let p = err_from_is_err_and c.from_residual.result c.from_residual.ensures.1 in
     rw (p.1, p.2)
-    (step-as c.in_err-add_record.ensures.adds (λ made. record {
+    (step-as c.in_err-stage_record.ensures.stages (λ made. record {
       turns = λ others s.
-          Turns-failed (IsHeldIn others part s) (IsHalfway others part s c.args.t c.args.v) (IsHeldIn others new (with_single s c.args.t c.args.v))
-          _ _ _ _ _ refl
-          (Turns-added part new c.args.slot c.args.t (added_part-added part c.args.slot c.args.t) c.args.v c.one.result single
-          (assumption c.one.type_inv) can.room can.plain can.later others s _ _ _
+          TurnsShown-failed c.args.records.now c.stage_record.new.records c.stage_record.new.records (IsHeldIn others part s)
+          (IsHalfway others part s c.args.t c.args.v) (IsHeldIn others new (with_single s c.args.t c.args.v)) _ _ _ _ _ refl
+          (TurnsShown-added part new c.args.slot c.args.t (added_part-added part c.args.slot c.args.t) c.args.v c.one.result single
+          (assumption c.one.type_inv) can.room can.plain can.later others s c.args.records.now c.stage_record.new.records _ _ _
           (rw (c.values_held-position.ensures, c.number_of.ensures) at made.changes));
       firm = λ others s held. tt;
       kept = tt;
@@ -92,14 +92,14 @@ returns-clause-puts g c =
     let new = record part { last_time = Some c.args.t; line = c.push-at.new.self } in
     let single : c.one.result ≡ summary_of ((c.args.t, c.args.v) ∷ []) =
     c.one.ensures ∙ ap (λ v. summary_of ((c.args.t, v) ∷ [])) (to_z-of_z {w = w64} {z = c.args.v} c.ranges.v) in
-    step-as c.in_ok-add_record.ensures.adds (λ made. record {
+    step-as c.in_ok-stage_record.ensures.stages (λ made. record {
       turns = λ others s.
-          Turns-answers (IsHeldIn others part s) (IsHalfway others part s c.args.t c.args.v) (IsHeldIn others new (with_single s c.args.t c.args.v))
-          _ _ c.in_ok-add_record.field-0 _
-          (Turns-added part new c.args.slot c.args.t
+          TurnsShown-answers c.args.records.now c.stage_record.new.records (IsHeldIn others part s) (IsHalfway others part s c.args.t c.args.v) (IsHeldIn others new (with_single s c.args.t c.args.v))
+          _ _ c.in_ok-stage_record.field-0 _
+          (TurnsShown-added part new c.args.slot c.args.t
           (added part c.push-at.new.self c.push-at.result c.values_held-position.result c.args.slot c.args.t c.push-at.ensures.pushed
           c.values_held-position.ensures) c.args.v c.one.result single (assumption c.one.type_inv)
-          can.room can.plain can.later others s _ _ _ (rw (c.values_held-position.ensures, c.number_of.ensures) at made.changes));
+          can.room can.plain can.later others s c.args.records.now c.stage_record.new.records _ _ _ (rw (c.values_held-position.ensures, c.number_of.ensures) at made.changes));
       firm = λ others s held. tt;
       kept = made.kept;
     })
@@ -118,14 +118,14 @@ pub returns-clause-whole : goal.returns-clause-whole
 returns-clause-whole g c =
     let part = c.args.part.now in
     let new = record part { last_time = Some c.args.t; line = c.push-at.new.self } in
-    let done = c.in_ok-add_record.ensures in
+    let done = c.in_ok-stage_record.ensures in
     record {
       ordered = IsOrdered-added part new c.args.slot c.args.t
           (added part c.push-at.new.self c.push-at.result c.values_held-position.result c.args.slot c.args.t c.push-at.ensures.pushed
           c.values_held-position.ensures) c.requires.can.ordered c.requires.can.room c.requires.can.later;
       live = LiveSlotsGo-added part new c.args.slot c.args.t
           (added part c.push-at.new.self c.push-at.result c.values_held-position.result c.args.slot c.args.t c.push-at.ensures.pushed
-          c.values_held-position.ensures) c.args.records.now.live c.add_record.new.records.live done.live;
+          c.values_held-position.ensures) c.args.records.now.live c.stage_record.new.records.live done.live;
       settled = done.settled;
       extent = done.extent;
     }

@@ -1,125 +1,64 @@
-use Rattle.std.proofs.Common.{◌∙◌, map, refl, sym, subst}
+use Rattle.std.proofs.Common.{refl}
 use Rattle.std.proofs.lemmas.Result.{err_from_is_err_and}
-use Rattle.ss_outside.proofs.StepLemmas.{step-as, step-none, step-then}
-use Rattle.ss_journal.proofs.StepLemmas.{after-step}
-use Rattle.ss_target.specs.Lengths.{lengths_of}
-use Rattle.ss_target.specs.Targets.{params_of}
-use Rattle.ss_recover.specs.Held.{entries_of, slots_held, span_held}
-use Rattle.ss_store.specs.Held.{IsPartlyJoined}
+use Rattle.ss_outside.proofs.StepLemmas.{step-as}
+use Rattle.ss_outside.specs.Verdict.{failed, fine}
+use Rattle.ss_journal.proofs.StepLemmas.{after-step, step-next}
+use Rattle.ss_model.specs.ClosedState.{closed_stream}
 use Rattle.ss_query.specs.Held.{IsHeldIn}
-use Rattle.ss_schedule.specs.Keyed.{IsKeyed}
-use Rattle.ss_store.specs.Joining.{IsJoinedIn, NoSpansAreDue}
-use Rattle.ss_store.proofs.KeyedWindows.{NoSpansAreDue-pairs}
-use Rattle.ss_store.proofs.Calls.{Turns-failed}
-use Rattle.ss_store.proofs.Closings.{IsSameStream-more, Turns-closes}
-use Rattle.ss_store.proofs.LiveSlots.{AreSomeLive-go}
-use Rattle.ss_store.proofs.Wholes.{HoldsUntil-then, JoinsWindows-more, JoinsWindows-none, KeepsWhole-none, KeepsWhole-then}
+use Rattle.ss_store.specs.Held.{IsPartlyJoined}
+use Rattle.ss_store.proofs.Calls.{Turns-answers, Turns-failed}
+use Rattle.ss_store.proofs.Joinings.{IsPartlyJoined-none}
+use Rattle.ss_store.proofs.Sealings.{IsHeldIn-of_map, IsPartlyJoined-closed, IsPartlyJoined-of_map, TurnsStream-not_sealed, TurnsStream-sealed}
+use Rattle.ss_store.proofs.Wholes.{KeepsAtRest-sealed}
 use Rattle.ss_store.proofs.closing.close_windows.Goals as goal
 
-pub loop-pair-init : goal.loop-pair-init
-loop-pair-init g c = (
-  record {
-    step = step-none (g.D.Disk.seen c.args.disk.now) _ (λ told.
-        JoinsWindows-none c.args.part.now c.args.records.now _ (g.met.D.Disk.knows_now c.args.disk.now told) (c.requires.one_disk told));
-    same = record { id = refl; name = refl; target = refl; slot = refl; landmarks = refl };
-    whole = KeepsWhole-none c.args.part.now c.args.records.now c.requires.ordered c.requires.settled;
-    holds = record { values = refl; last_time = refl };
-  },
-  c.requires.keyed,
-)
-
-pub due-requires : goal.due-requires
-due-requires g c =
-    subst (λ n. IsKeyed n c.loop-pair.part.line.entries c.loop-pair.index.schedule)
-    (c.loop-pair.invariant.0.holds.values ∙ sym c.values_held-n.ensures) c.loop-pair.invariant.1.keyed
-
-pub join-requires-clause-due : goal.join-requires-clause-due
-join-requires-clause-due g c = record {
-  ordered = c.loop-pair.invariant.0.whole.ordered;
-  keyed = c.loop-pair.invariant.1;
-  stands = c.in-Some.ensures.pair;
-  fits = rw (c.loop-pair.invariant.0.holds.values, ← c.values_held-n.ensures, ← c.loop-pair.invariant.1.target) c.in-Some.ensures.fits;
-}
-
-pub join-requires-clause-settled : goal.join-requires-clause-settled
-join-requires-clause-settled g c = c.loop-pair.invariant.0.whole.settled
-
-pub join-requires-clause-live : goal.join-requires-clause-live
-join-requires-clause-live g c =
-    AreSomeLive-go (slots_held c.args.part.now) (slots_held c.loop-pair.part) c.args.records.now.live c.loop-pair.records.live c.requires.live
-    c.loop-pair.invariant.0.whole.live
-
-pub join-requires-clause-one_disk : goal.join-requires-clause-one_disk
-join-requires-clause-one_disk g c = after-step c.loop-pair.invariant.0.step (λ told has. has.kept)
-
-pub loop-pair-smaller : goal.loop-pair-smaller
-loop-pair-smaller g c = c.in_ok-join.ensures.fewer
-
-pub loop-pair-preserved : goal.loop-pair-preserved
-loop-pair-preserved g c =
-    let before = c.loop-pair.invariant.0 in
-    let after = c.in_ok-join.ensures in (
-      record {
-        step = step-then before.step after.joins (λ first second. JoinsWindows-more _ first second);
-        same = IsSameStream-more c.args.part.now c.loop-pair.part c.join.new.part before.same c.join.ensures.same;
-        whole = KeepsWhole-then before.whole after.whole;
-        holds = HoldsUntil-then before.holds after.holds;
-      },
-      after.keyed,
-    )
-
-pub returns-in_err-join-clause-closes : goal.returns-in_err-join-clause-closes
-returns-in_err-join-clause-closes g c =
+pub returns-in_err-stage_joins-clause-closes : goal.returns-in_err-stage_joins-clause-closes
+returns-in_err-stage_joins-clause-closes g c =
     let part = c.args.part.now in
     let p = err_from_is_err_and c.from_residual.result c.from_residual.ensures.1 in
     rw (p.1, p.2)
-    (step-then c.loop-pair.invariant.0.step c.in_err-join.ensures.joins (λ first second.
-    let all = JoinsWindows-more _ first second in
+    (step-as c.in_err-stage_joins.ensures.closes (λ staged.
+    TurnsStream-not_sealed part IsPartlyJoined (λ others s. IsHeldIn others c.stage_joins.new.part (closed_stream s)) c.args.records.now _
+    c.requires.at_rest.1 IsPartlyJoined-of_map (λ others s. IsPartlyJoined-none others part s) _ c.stage_joins.new.records c.stage_joins.new.records _ _
+    (λ others s. IsHeldIn others c.stage_joins.new.part (closed_stream s)) refl staged))
+
+pub seal-requires-clause-one_disk : goal.seal-requires-clause-one_disk
+seal-requires-clause-one_disk g c = after-step c.in_ok-stage_joins.ensures.closes (λ told has. has.kept)
+
+pub returns-in_err-seal-clause-closes : goal.returns-in_err-seal-clause-closes
+returns-in_err-seal-clause-closes g c =
+    let part = c.args.part.now in
+    let now = c.stage_joins.new.part in
+    let p = err_from_is_err_and c.from_residual-in_err-seal.result c.from_residual-in_err-seal.ensures.1 in
+    rw (p.1, p.2)
+    (step-next c.in_ok-stage_joins.ensures.closes c.in_err-seal.ensures.seals (λ told then staged seals.
+    let all = TurnsStream-sealed part IsPartlyJoined (λ others s. IsHeldIn others now (closed_stream s)) c.args.records.now _ c.requires.at_rest.1
+    IsPartlyJoined-of_map (λ others s. IsPartlyJoined-none others part s) failed c.stage_joins.new.records c.seal.new.self _ _ _
+    (λ others s. IsHeldIn-of_map others now (closed_stream s)) (λ others s. IsPartlyJoined-closed others now s) tt
+    (g.met.D.Disk.knows_now c.stage_joins.new.disk then) tt staged seals in
     record {
       turns = λ others s.
-          Turns-failed (IsHeldIn others part s) (IsPartlyJoined others s) (IsJoinedIn others c.join.new.part s) _ _ _ _ _ refl (all.turns others s);
+          Turns-failed (IsHeldIn others part s) (IsPartlyJoined others s) (IsHeldIn others now (closed_stream s)) _ _ _ _ _ refl (all.turns others s);
       firm = all.firm;
       kept = tt;
     }))
 
-pub returns-in_err-join-clause-same : goal.returns-in_err-join-clause-same
-returns-in_err-join-clause-same g c =
-    IsSameStream-more c.args.part.now c.loop-pair.part c.join.new.part c.loop-pair.invariant.0.same c.join.ensures.same
-
-pub returns-in_err-join-clause-changed : goal.returns-in_err-join-clause-changed
-returns-in_err-join-clause-changed g c =
-    let p = err_from_is_err_and c.from_residual.result c.from_residual.ensures.1 in
-    rw (p.1, p.2, c.in_err-join.ensures.err) c.in_err-join.ensures.changed
-
--- at the end none is due
-none_due : (g : _) (c : goal.In_default g) →
-    NoSpansAreDue (lengths_of (params_of c.loop-pair.part.target)) c.values_held-n.result (map span_held (entries_of c.loop-pair.part))
-none_due g c =
-    NoSpansAreDue-pairs (lengths_of (params_of c.loop-pair.part.target)) c.values_held-n.result c.loop-pair.part.line.entries
-    (rw (← c.loop-pair.invariant.1.target) c.in_default.ensures.none)
-
 pub returns-clause-closes : goal.returns-clause-closes
 returns-clause-closes g c =
-    step-as c.loop-pair.invariant.0.step (λ has. record {
+    let part = c.args.part.now in
+    let now = c.stage_joins.new.part in
+    step-next c.in_ok-stage_joins.ensures.closes c.in_ok-seal.ensures.seals (λ told then staged seals.
+    let all = TurnsStream-sealed part IsPartlyJoined (λ others s. IsHeldIn others now (closed_stream s)) c.args.records.now _ c.requires.at_rest.1
+    IsPartlyJoined-of_map (λ others s. IsPartlyJoined-none others part s) fine c.stage_joins.new.records c.seal.new.self _ _ _
+    (λ others s. IsHeldIn-of_map others now (closed_stream s)) (λ others s. IsPartlyJoined-closed others now s) tt
+    (g.met.D.Disk.knows_now c.stage_joins.new.disk then) c.in_ok-seal.ensures.sealed.sealed staged seals in
+    record {
       turns = λ others s.
-          Turns-closes others c.args.part.now c.loop-pair.part s c.values_held-n.result _ _
-          (c.values_held-n.ensures ∙ sym c.loop-pair.invariant.0.holds.values) (none_due g c) has.turns;
-      firm = λ others s held. tt;
-      kept = has.kept;
+          Turns-answers (IsHeldIn others part s) (IsPartlyJoined others s) (IsHeldIn others now (closed_stream s)) _ _ c.in_ok-seal.field-0 _
+          (all.turns others s);
+      firm = all.firm;
+      kept = all.kept;
     })
 
-pub returns-clause-same : goal.returns-clause-same
-returns-clause-same g c = c.loop-pair.invariant.0.same
-
 pub returns-clause-whole : goal.returns-clause-whole
-returns-clause-whole g c = c.loop-pair.invariant.0.whole
-
-pub returns-clause-holds : goal.returns-clause-holds
-returns-clause-holds g c = c.loop-pair.invariant.0.holds
-
-pub returns-clause-scheduled : goal.returns-clause-scheduled
-returns-clause-scheduled g c = (
-  c.loop-pair.invariant.1,
-  subst (λ n. NoSpansAreDue (lengths_of (params_of c.loop-pair.part.target)) n (map span_held (entries_of c.loop-pair.part)))
-      (c.values_held-n.ensures ∙ sym c.loop-pair.invariant.0.holds.values) (none_due g c),
-)
+returns-clause-whole g c = KeepsAtRest-sealed c.in_ok-stage_joins.ensures.whole c.seal.ensures.live c.in_ok-seal.ensures.sealed

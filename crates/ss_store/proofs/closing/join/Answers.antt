@@ -14,13 +14,14 @@ use Rattle.ss_store.specs.Held.{IsPartlyJoined, values_held}
 use Rattle.ss_query.specs.Held.{IsHeldIn}
 use Rattle.ss_store.specs.Joining.{IsJoinedIn}
 use Rattle.ss_store.specs.Slots.{AreSomeLive, LiveSlotsGo}
-use Rattle.ss_store.proofs.Calls.{Turns-answers, Turns-failed}
-use Rattle.ss_store.proofs.Joinings.{AreSomeLive-two, IfChanged-window, IsFirm-read, LiveSlotsGo-two, Turns-join, Turns-not_read, read-held}
+use Rattle.ss_store.proofs.Joinings.{AreSomeLive-two, IfChanged-window, IsFirm-read, LiveSlotsGo-two, TurnsShown-join}
+use Rattle.ss_store.proofs.Joinings.{TurnsShown-not_read, read-held}
 use Rattle.ss_store.proofs.Pairs.{AreJoined, ArePair-read, AreSlots-joined, JoinsHeld-pair, StandsIn-left}
 use Rattle.ss_store.proofs.Pairs.{StandsIn-right, joined_line, next_is, one_part, one_part-same}
 use Rattle.ss_store.proofs.KeyedWindows.{AreDue-pair}
 use Rattle.ss_store.specs.Indexed.{IsTimed, begun_at}
-use Rattle.ss_store.proofs.Rising.{IsTimed-joined, IsTimed-seam, rise-joined}
+use Rattle.ss_store.proofs.Rising.{IsTimed-joined, IsTimed-seam, TimesRise-any, TimesRise-seam, rise-joined}
+use Rattle.ss_store.proofs.ShownCalls.{TurnsShown-answers, TurnsShown-failed}
 use Rattle.ss_store.proofs.Spans.{TileFrom-joined, values_held-joined}
 use Rattle.ss_store.proofs.closing.join.Goals as goal
 
@@ -45,10 +46,18 @@ read_joined-requires-clause-live g c =
 
 pub read_joined-requires-clause-neighbours : goal.read_joined-requires-clause-neighbours
 read_joined-requires-clause-neighbours g c =
-    let tiled = (ArePair-read c.args.part.now c.args.pair.left c.args.pair.right c.get-window.result c.get-next.result (AreDue-pair c.args.part.now
-    c.args.index.now c.args.pair c.requires.due) c.requires.due.ordered.tiles
-    c.get-window.ensures.entry c.get-next.ensures.entry).tiled in
-    record { first = tiled.first; side_by_side = tiled.next; few = omega (arith, tiled.last, tiled.few) }
+    let part = c.args.part.now in
+    let w = c.get-window.result in
+    let v = c.get-next.result in
+    let pair = ArePair-read part c.args.pair.left c.args.pair.right w v (AreDue-pair part c.args.index.now c.args.pair c.requires.due)
+    c.requires.due.ordered.tiles c.get-window.ensures.entry c.get-next.ensures.entry in
+    let rise = TimesRise-any part.last_time (entries_of part) c.requires.due.ordered.times in
+    record {
+      first = pair.tiled.first;
+      side_by_side = pair.tiled.next;
+      later = TimesRise-seam 0 rise.0 pair.joined.front w v pair.joined.rest (subst (λ es. TimesRise 0 rise.0 es) pair.joined.was rise.1);
+      few = omega (arith, pair.tiled.last, pair.tiled.few);
+    }
 
 pub returns-in_err-read_joined-clause-joins : goal.returns-in_err-read_joined-clause-joins
 returns-in_err-read_joined-clause-joins g c =
@@ -63,7 +72,8 @@ returns-in_err-read_joined-clause-joins g c =
     let p = err_from_is_err_and c.from_residual.result c.from_residual.ensures.1 in
     rw (p.1, p.2)
     (step-from c.in_err-read_joined.ensures.joined (λ told read. record {
-      turns = λ others s. Turns-not_read others part s _ _ _ _ refl (g.met.D.Disk.knows_now c.args.disk.now told) read.reads;
+      turns = λ others s.
+          TurnsShown-not_read others part s _ c.args.records.now c.read_joined.new.records _ _ _ refl (g.met.D.Disk.knows_now c.args.disk.now told) read.reads;
       firm = λ others s held.
           let j = JoinsHeld-pair others part new s w v same pair.joined held.agrees held.stream in
           IsFirm-read (Unit {0}) (joined j.one.summary j.two.summary) failure
@@ -71,8 +81,8 @@ returns-in_err-read_joined-clause-joins g c =
       kept = tt;
     }))
 
-pub replace_two-requires-clause-valid : goal.replace_two-requires-clause-valid
-replace_two-requires-clause-valid g c =
+pub stage_two-requires-clause-valid : goal.stage_two-requires-clause-valid
+stage_two-requires-clause-valid g c =
     let tiled = (ArePair-read c.args.part.now c.args.pair.left c.args.pair.right c.get-window.result c.get-next.result (AreDue-pair c.args.part.now
     c.args.index.now c.args.pair c.requires.due) c.requires.due.ordered.tiles
     c.get-window.ensures.entry c.get-next.ensures.entry).tiled in
@@ -81,8 +91,8 @@ replace_two-requires-clause-valid g c =
     (omega (arith, count, tiled.last, tiled.few))
     c.in_ok-read_joined.ensures.possible
 
-pub replace_two-requires-clause-live : goal.replace_two-requires-clause-live
-replace_two-requires-clause-live g c =
+pub stage_two-requires-clause-live : goal.stage_two-requires-clause-live
+stage_two-requires-clause-live g c =
     let pair = ArePair-read c.args.part.now c.args.pair.left c.args.pair.right c.get-window.result c.get-next.result (AreDue-pair c.args.part.now
     c.args.index.now c.args.pair c.requires.due) c.requires.due.ordered.tiles
     c.get-window.ensures.entry c.get-next.ensures.entry in
@@ -91,8 +101,8 @@ replace_two-requires-clause-live g c =
     c.get-window.result
     c.get-next.result c.args.records.now.live pair.slots c.requires.live)
 
-pub returns-in_err-replace_two-clause-joins : goal.returns-in_err-replace_two-clause-joins
-returns-in_err-replace_two-clause-joins g c =
+pub returns-in_err-stage_two-clause-joins : goal.returns-in_err-stage_two-clause-joins
+returns-in_err-stage_two-clause-joins g c =
     let part = c.args.part.now in
     let w = c.get-window.result in
     let v = c.get-next.result in
@@ -100,13 +110,15 @@ returns-in_err-replace_two-clause-joins g c =
     let same = one_part-same part (joined_line (AreDue-pair c.args.part.now c.args.index.now c.args.pair c.requires.due)) in
     let pair = ArePair-read part c.args.pair.left c.args.pair.right w v (AreDue-pair c.args.part.now c.args.index.now c.args.pair c.requires.due)
     c.requires.due.ordered.tiles c.get-window.ensures.entry c.get-next.ensures.entry in
-    let p = err_from_is_err_and c.from_residual-in_err-replace_two.result c.from_residual-in_err-replace_two.ensures.1 in
+    let p = err_from_is_err_and c.from_residual-in_err-stage_two.result c.from_residual-in_err-stage_two.ensures.1 in
     rw (p.1, p.2)
-    (step-next c.in_ok-read_joined.ensures.joined c.in_err-replace_two.ensures.replaces (λ told told_read read replaced. record {
+    (step-next c.in_ok-read_joined.ensures.joined c.in_err-stage_two.ensures.stages (λ told told_read read staged. record {
       turns = λ others s.
-          Turns-failed (IsHeldIn others part s) (IsPartlyJoined others s) (IsJoinedIn others new s) _ _ _ _ _ refl
-          (Turns-join others part new s w v same pair.joined _ _ _ c.in_ok-read_joined.field-0 _
-          (g.met.D.Disk.knows_now c.args.disk.now told) read.reads read.joined replaced.changes);
+          TurnsShown-failed c.args.records.now c.stage_two.new.records c.stage_two.new.records (IsHeldIn others part s) (IsPartlyJoined others s)
+          (IsJoinedIn others new s) _ _ _ _ _ refl
+          (TurnsShown-join others part new s w v same pair.joined c.args.records.now c.read_joined.new.records c.stage_two.new.records _ _ _
+          c.in_ok-read_joined.field-0 _ (g.met.D.Disk.knows_now c.args.disk.now told) (g.met.D.Disk.knows_now c.read_joined.new.disk told_read) read.reads
+          c.in_ok-read_joined.ensures.journal read.joined staged.changes);
       firm = λ others s held. tt;
       kept = tt;
     }))
@@ -137,14 +149,16 @@ pub returns-clause-joins : goal.returns-clause-joins
 returns-clause-joins g c =
     let part = c.args.part.now in
     let new = record part { line = c.merged.new.line } in
-    step-next c.in_ok-read_joined.ensures.joined c.in_ok-replace_two.ensures.replaces (λ told told_read read replaced. record {
+    step-next c.in_ok-read_joined.ensures.joined c.in_ok-stage_two.ensures.stages (λ told told_read read staged. record {
       turns = λ others s.
-          Turns-answers (IsHeldIn others part s) (IsPartlyJoined others s) (IsJoinedIn others new s) _ _ c.in_ok-replace_two.field-0 _
-          (Turns-join others part new s c.get-window.result c.get-next.result
-          (record { id = refl; name = refl; target = refl; slot = refl; last_time = refl; landmarks = refl }) (line g c) _ _ _
-          c.in_ok-read_joined.field-0 _ (g.met.D.Disk.knows_now c.args.disk.now told) read.reads read.joined replaced.changes);
+          TurnsShown-answers c.args.records.now c.stage_two.new.records (IsHeldIn others part s) (IsPartlyJoined others s) (IsJoinedIn others new s) _ _
+          c.in_ok-stage_two.field-0 _
+          (TurnsShown-join others part new s c.get-window.result c.get-next.result
+          (record { id = refl; name = refl; target = refl; slot = refl; last_time = refl; landmarks = refl }) (line g c) c.args.records.now
+          c.read_joined.new.records c.stage_two.new.records _ _ _ c.in_ok-read_joined.field-0 _ (g.met.D.Disk.knows_now c.args.disk.now told)
+          (g.met.D.Disk.knows_now c.read_joined.new.disk told_read) read.reads c.in_ok-read_joined.ensures.journal read.joined staged.changes);
       firm = λ others s held. tt;
-      kept = replaced.kept;
+      kept = staged.kept;
     })
 
 pub returns-clause-holds : goal.returns-clause-holds
@@ -167,7 +181,7 @@ returns-clause-whole g c =
     let v = c.get-next.result in
     let pair = line g c in
     let slots = AreSlots-joined (lengths_of (params_of part.target)) (values_held (entries_of part)) part new w v refl refl pair in
-    let done = c.in_ok-replace_two.ensures in
+    let done = c.in_ok-stage_two.ensures in
     record {
       ordered = record {
         tiles = subst (λ es. TileFrom 1 es) (sym pair.is)
@@ -176,8 +190,8 @@ returns-clause-whole g c =
             (rise-joined part.last_time pair.front w v pair.rest
             (subst (λ (es : List Entry). MatchOption part.last_time (es ≡ []) (λ last. TimesRise 0 last es)) pair.was c.requires.due.ordered.times));
       };
-      live = LiveSlotsGo-two part new w v c.args.records.now.live c.replace_two.new.records.live slots
-          (subst (λ live. LiveSlotsGo (w.slot ∷ v.slot ∷ []) (w.slot ∷ []) live c.replace_two.new.records.live) c.read_joined.ensures.live done.live);
+      live = LiveSlotsGo-two part new w v c.args.records.now.live c.stage_two.new.records.live slots
+          (subst (λ live. LiveSlotsGo (w.slot ∷ v.slot ∷ []) (w.slot ∷ []) live c.stage_two.new.records.live) c.read_joined.ensures.live done.live);
       settled = done.settled;
       extent = rw (done.extent, c.in_ok-read_joined.ensures.journal) (omega arith);
     }

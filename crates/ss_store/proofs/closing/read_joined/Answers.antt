@@ -4,9 +4,8 @@ use Rattle.ss_outside.proofs.CrashLemmas.{reads-joined}
 use Rattle.ss_outside.proofs.StepLemmas.{step-as, step-then}
 use Rattle.ss_codec.specs.declared.record.Record.{Record}
 use Rattle.ss_recover.specs.Held.{window_record}
-use Rattle.ss_summary.specs.Figures.{Figures}
 use Rattle.ss_summary.specs.Summaries.{joined}
-use Rattle.ss_store.proofs.Readings.{HasRecords-second, IsRead-err, live-below, live-below_second}
+use Rattle.ss_store.proofs.Readings.{HasRecords-second, IsRead-err, live-below, live-below_second, shown-same}
 use Rattle.ss_store.proofs.closing.read_joined.Goals as goal
 
 pub read_window-requires-clause-slot : goal.read_window-requires-clause-slot
@@ -42,36 +41,17 @@ returns-in_err-newer-clause-joined g c =
           let one : ℕ × Option Record = (c.args.window.slot, Some (window_record number w)) in
           IsRead-err v.summary (joined w.summary v.summary) c.in_err-newer.field-0.0
           (then.window (one ∷ others) v
-          (HasRecords-second one (c.args.next.slot, Some (window_record number v)) others _ _ first.reads.same.content has) second second_times second_free);
+          (HasRecords-second one (c.args.next.slot, Some (window_record number v)) others _ _
+          (shown-same c.args.records.now c.read_window.new.records _ _ c.in_ok-older.ensures.records.journal first.reads.same.content) has) second second_times second_free);
       kept = tt;
       reads = reads-joined _ _ _ first.reads then.reads;
     }))
 
-pub returns-then-newer-older-clause-joined : goal.returns-then-newer-older-clause-joined
-returns-then-newer-older-clause-joined g c =
-    let number = c.args.part.now.id.0 in
-    let read = c.in_ok-older.ensures.reads in
-    let then = c.in_ok-newer.ensures.reads in
-    record {
-      tells = then.tells ∙ read.tells;
-      counted = then.counted ∙ read.counted;
-      told = λ told.
-          let one_read = read.told told in
-          let two_read = then.told (read.tells ∙ told) in
-          record {
-            joined = λ others w v has same second times second_times free second_free later.
-                let one : ℕ × Option Record = (c.args.window.slot, Some (window_record number w)) in
-                let two : ℕ × Option Record = (c.args.next.slot, Some (window_record number v)) in
-                let older : c.in_ok-older.older ≡ w.summary = one_read.window (two ∷ others) w has same times free in
-                let newer : c.in_ok-newer.newer ≡ v.summary =
-                two_read.window (one ∷ others) v (HasRecords-second one two others _ _ one_read.reads.same.content has) second second_times second_free in
-                let last = ap (λ (f : Figures). f.t_last) (c.older.view_is ∙ older) in
-                let first = ap (λ (f : Figures). f.t_first) (c.newer.view_is ∙ newer) in
-                omega (arith, c.if-newer-older.true, later, last, first);
-            kept = tt;
-            reads = reads-joined _ _ _ one_read.reads two_read.reads;
-          };
-    }
+pub join-requires-clause-later : goal.join-requires-clause-later
+join-requires-clause-later g c =
+    let last = ap (λ (p : ℕ × ℕ). p.1) c.in_ok-older.ensures.window.times in
+    let first = ap (λ (p : ℕ × ℕ). p.0) c.in_ok-newer.ensures.window.times in
+    omega (arith, last, first, c.requires.neighbours.later)
 
 pub returns-clause-joined : goal.returns-clause-joined
 returns-clause-joined g c =
@@ -82,7 +62,8 @@ returns-clause-joined g c =
           let older : c.in_ok-older.older ≡ w.summary = first.window ((c.args.next.slot, Some (window_record number v)) ∷ others) w has same times free in
           let newer : c.in_ok-newer.newer ≡ v.summary =
           then.window (one ∷ others) v
-          (HasRecords-second one (c.args.next.slot, Some (window_record number v)) others _ _ first.reads.same.content has) second second_times second_free in
+          (HasRecords-second one (c.args.next.slot, Some (window_record number v)) others _ _
+          (shown-same c.args.records.now c.read_window.new.records _ _ c.in_ok-older.ensures.records.journal first.reads.same.content) has) second second_times second_free in
           c.join.ensures.exact ∙ ap₂ joined older newer;
       kept = then.kept;
       reads = reads-joined _ _ _ first.reads then.reads;

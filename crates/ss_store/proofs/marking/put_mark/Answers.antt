@@ -7,7 +7,7 @@ use Rattle.ss_landmarks.proofs.TimeLemmas.{AllEndBy-later}
 use Rattle.ss_recover.specs.Held.{entries_of}
 use Rattle.ss_recover.specs.declared.parts.StreamParts.{StreamParts}
 use Rattle.ss_store.specs.Held.{IsOrdered}
-use Rattle.ss_store.specs.Changing.{KeepsWhole}
+use Rattle.ss_store.specs.Changing.{KeepsAtRest}
 use Rattle.ss_query.specs.Held.{IsHeldIn}
 use Rattle.ss_store.specs.Marking.{IsMarkedOrNot, landmarks_after, slots_used, with_mark}
 use Rattle.ss_store.proofs.Calls.{Turns-answers, Turns-failed}
@@ -119,22 +119,28 @@ returns-clause-whole g c =
     elim c.match-mark.branch [
       | in-Open+in_ok-add_record-in-Open w ↦
           (let done = w.in_ok-add_record-in-Open.ensures in
-          subst (λ (r : RecordsState). KeepsWhole part new was r (slots_used mark slot)) (sym w.records-is)
+          subst (λ (r : RecordsState). KeepsAtRest part new was r (slots_used mark slot)) (sym w.records-is)
           (record {
-            ordered = ordered_marked g c;
-            live = LiveSlotsGo-mark_added part new slot t mark (marked g c) (IsAdding-is mark w.in-Open.is) was.live w.add_record.new.records.live done.live;
-            settled = done.settled;
-            extent = rw (slots_used-adding mark slot (IsAdding-is mark w.in-Open.is)) done.extent;
+            whole = record {
+              ordered = ordered_marked g c;
+              live = LiveSlotsGo-mark_added part new slot t mark (marked g c) (IsAdding-is mark w.in-Open.is) was.live w.add_record.new.records.live done.live;
+              settled = done.at_rest.0;
+              extent = rw (slots_used-adding mark slot (IsAdding-is mark w.in-Open.is)) done.extent;
+            };
+            sealed = done.at_rest.1;
           }))
       | in-Close+in_ok-replace_record-in-Close w ↦
           (let done = w.in_ok-replace_record-in-Close.ensures in
-          subst (λ (r : RecordsState). KeepsWhole part new was r (slots_used mark slot)) (sym w.records-is)
+          subst (λ (r : RecordsState). KeepsAtRest part new was r (slots_used mark slot)) (sym w.records-is)
           (record {
-            ordered = ordered_marked g c;
-            live = LiveSlotsGo-mark_closed part new slot t mark w.in-Close.is (marked g c) was.live w.replace_record.new.records.live
-                w.replace_record.ensures.live;
-            settled = done.settled;
-            extent = rw done.extent (omega arith);
+            whole = record {
+              ordered = ordered_marked g c;
+              live = LiveSlotsGo-mark_closed part new slot t mark w.in-Close.is (marked g c) was.live w.replace_record.new.records.live
+                  w.replace_record.ensures.live;
+              settled = done.at_rest.0;
+              extent = rw done.extent (omega arith);
+            };
+            sealed = done.at_rest.1;
           }))
     ]
 

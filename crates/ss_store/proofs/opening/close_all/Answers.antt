@@ -21,7 +21,7 @@ loop-place-init g c = record {
     changes = ClosesFirst-none c.args.streams.now _ (g.met.D.Disk.knows_now c.args.disk.now told);
     kept = c.requires.one_disk told;
   });
-  settled = c.requires.settled;
+  at_rest = c.requires.at_rest;
   whole = c.requires.whole;
   entries = refl;
   closed = AreClosedTo-none c.args.streams.now c.args.indexes.now c.requires.keyed;
@@ -96,9 +96,9 @@ loop-place-preserved g c =
         changes = rw add-one (ClosesFirst-more was now part new place _ _ _ (Ok tt) at c.loop-place-test.true first.changes second.turns);
         kept = second.kept;
       });
-      settled = after.whole.settled;
+      at_rest = (after.whole.whole.settled, after.whole.sealed);
       whole = AreWhole-set now c.loop-place.records.live c.close_windows.new.records.live place part new before.whole at same
-          (IsNoEarlier-same part.last_time new.last_time after.holds.last_time) after.whole.ordered after.whole.live;
+          (IsNoEarlier-same part.last_time new.last_time after.holds.last_time) after.whole.whole.ordered after.whole.whole.live;
       entries = map-set_same entry_of now place part new at (λ i. (same.name i, same.id i)) ∙ before.entries;
       closed = rw add-one
           (AreClosedTo-more place now c.loop-place.indexes new c.close_windows.new.index before.closed after.scheduled);

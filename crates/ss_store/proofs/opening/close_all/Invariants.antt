@@ -1,7 +1,7 @@
 use Rattle.std.proofs.Common.{◌≡◌, Ok, map}
 use Rattle.ss_outside.specs.Step.{Step}
 use Rattle.ss_outside.specs.Verdict.{fine}
-use Rattle.ss_journal.specs.Kept.{IsSettled}
+use Rattle.ss_records.specs.Kept.{AreAtRest}
 use Rattle.ss_recover.specs.Held.{AreWhole}
 use Rattle.ss_store.specs.Changing.{Makes}
 use Rattle.ss_store.specs.Kept.{entry_of}
@@ -14,7 +14,7 @@ abbrev pub invariant-loop-place : goal.invariant-loop-place
 invariant-loop-place g l = record {
   step : Step fine (g.D.Disk.seen l.fn.disk) (g.D.Disk.seen l.disk)
       (Makes {T = Unit {0}} {E = ReadError} (ClosesFirst l.fn.streams l.streams l.place) l.records (Ok tt));
-  settled : IsSettled l.records.journal;
+  at_rest : AreAtRest l.records;
   whole : AreWhole l.streams l.records.live;
   entries : map entry_of l.streams ≡ map entry_of l.fn.streams;
   closed : AreClosedTo l.place l.streams l.indexes;

@@ -36,11 +36,11 @@ returns-in_err-streams-clause-reads g c =
     let p = err_from_is_err_and c.from_residual-in_err-streams.result c.from_residual-in_err-streams.ensures.1 in
     rw (p.1, p.2)
     (step-handed (verdict-recover (Unit {0}) (Unit {0}) why) c.in_ok-records.ensures.opens c.in_err-streams.ensures.rebuilds (λ told first second.
-    let is = StandsFor-kept c.in_ok-records.records _ first.kept in
+    let is = StandsFor-kept c.in_ok-records.records _ first.kept c.in_ok-records.ensures.sealed in
     record {
       rebuilt = tt;
       opens = subst (λ (content : List ℕ). OpensAs content (Err (open_of_recover why))) first.reads.same.content
-          (OpensAs-recover _ first.kept.journal.found why is (second.carried first.kept.journal.found is));
+          (OpensAs-recover _ first.kept.journal.shown.found why is (second.carried first.kept.journal.shown.found is));
       kept = tt;
       reads = reads-joined _ _ _ first.reads second.reads;
     }))
@@ -53,8 +53,8 @@ returns-in_err-streams-clause-unchanged g c =
 pub returns-clause-reads : goal.returns-clause-reads
 returns-clause-reads g c =
     step-then c.in_ok-records.ensures.opens c.in_ok-streams.ensures.rebuilds (λ first second. record {
-      rebuilt = IsRebuilt-opened c.in_ok-records.records c.in_ok-streams.field-0 c.in_ok-streams.field-0.streams.items _ _ first.reads first.kept
-          second.carried refl;
+      rebuilt = IsRebuilt-opened c.in_ok-records.records c.in_ok-streams.field-0 c.in_ok-streams.field-0.streams.items _ _ first.reads
+          c.in_ok-records.ensures.sealed first.kept second.carried refl;
       opens = tt;
       kept = second.kept;
       reads = reads-joined _ _ _ first.reads second.reads;

@@ -12,6 +12,7 @@ pub returns-clause-adds : goal.returns-clause-adds
 returns-clause-adds g c =
     let slot = c.args.slot in
     let lowest : c.lowest_free.result ≡ Some slot = c.lowest_free.ensures.least ∙ c.requires.free in
+    let settled = c.requires.at_rest.0 in
     let running : IsRunning c.args.records.now.journal = λ stopped. absurd (cc) in
     let below = rw lowest at c.lowest_free.ensures.few in
     let within = rw lowest at c.lowest_free.ensures.fits running in
@@ -20,7 +21,7 @@ returns-clause-adds g c =
       counted = c.apply.ensures.applies.counted;
       told = λ told. record {
         changes = AddsRecord-changes slot c.args.written.now c.requires.valid c.requires.some c.args.records.now _ _ c.apply.result
-            (c.requires.one_disk told) below.0 within (lowest_free-is_free c.args.records.now.live slot c.requires.free).1
+            c.requires.at_rest.1 (c.requires.one_disk told) below.0 within (lowest_free-is_free c.args.records.now.live slot c.requires.free).1
             (rw c.put_of.ensures at (c.apply.ensures.applies.told told).changes_map);
         kept = (c.apply.ensures.applies.told told).kept;
       };

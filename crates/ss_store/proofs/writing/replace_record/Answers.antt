@@ -22,6 +22,7 @@ apply-requires-clause-txn g c =
 pub apply-requires-clause-fit : goal.apply-requires-clause-fit
 apply-requires-clause-fit g c =
     let one = IsOneLive-permutation c.args.records.now.live c.args.slot c.requires.live.0 c.requires.live.1 in
+    let settled = c.requires.at_rest.0 in
     let below = c.live.ensures.sound.below (λ stopped. absurd (cc)) in
     subst (λ (l : List Put). IsTrue (slots_fit l c.args.records.now.journal.extent)) (sym c.put_of.ensures)
     (slots_fit-one c.args.slot c.args.written.now c.args.records.now.journal.extent (below c.args.slot one.is))
@@ -51,6 +52,7 @@ pub returns-clause-extent : goal.returns-clause-extent
 returns-clause-extent g c =
     let extent = c.args.records.now.journal.extent in
     let one = IsOneLive-permutation c.args.records.now.live c.args.slot c.requires.live.0 c.requires.live.1 in
+    let settled = c.requires.at_rest.0 in
     let below = c.live.ensures.sound.below (λ stopped. absurd (cc)) in
     on_ok_weaker c.apply.result (λ after.
     after.extent ∙ ap (λ (l : List Put). extent_after l extent) c.put_of.ensures

@@ -37,7 +37,7 @@ invariant_of-self-in-Ok-add_record g c =
     (g.D.Disk.seen c.args.disk.now) c.self.view_is c.requires.one_disk c.self.invariant.0 c.requires.runs c.in-Ok.ensures.accepted
     (IsFreshPart-made part c.args.params c.in-Ok.ensures.target refl (ap (λ (l : LineState). l.entries) c.new.ensures) c.new-2.ensures) c.in-Ok.ensures.new in
     let done = c.in-Ok-add_record.ensures in (
-      rw (c.in-Ok-grow.ensures.streams, c.in-Ok-grow.ensures.catalog) (sound-created is c.add_record.new.records done.settled done.live),
+      rw (c.in-Ok-grow.ensures.streams, c.in-Ok-grow.ensures.catalog) (sound-created is c.add_record.new.records done.at_rest done.live),
       λ run. rw (c.in-Ok-grow.ensures.streams, c.in-Ok-grow.ensures.indexes)
           (AllZip-more IsScheduled c.self.inside.streams.items c.self.inside.indexes.items part c.new-3.result (c.self.invariant.1 run)
           (IsScheduled-none part c.new-3.result c.new-3.ensures.target (ap (λ (l : LineState). l.entries) c.new.ensures) (c.new-3.ensures.keyed 0 (omega arith))

@@ -1,4 +1,4 @@
-use Rattle.std.proofs.Common.{◌≡◌, ◌∙◌, ◌<◌, Some, ap, arith, length, refl, subst, sym}
+use Rattle.std.proofs.Common.{◌≡◌, ◌∙◌, Some, ap, arith, refl, subst, sym}
 use Rattle.std.proofs.lemmas.Option.{slice_get_within}
 use Rattle.std.proofs.lemmas.Slice.Zip.{AllZip-long}
 use Rattle.std.specs.Prelude.{slice_get}
@@ -59,20 +59,22 @@ answer_from-requires-clause-slots g c =
 
 pub returns-in-Ok-clause-answers : goal.returns-in-Ok-clause-answers
 returns-in-Ok-clause-answers g c =
+    let rest = c.self.invariant.0.at_rest (ap (λ (s : StoreState). s.stopped) c.self.view_is ∙ c.requires.runs) in
     let streams = ap (λ (s : StoreState). s.streams) c.self.view_is in
     let part = IsPartAt-read c.deref.ensures.value streams c.place_of-place.ensures.at c.requires.stands c.index-stream.ensures in
-    answers-kept c.args.self.now (sym c.requires.same ∙ part.numbered) c.requires.one_disk c.in-Ok.outcome c.in-Ok.ensures.answers
+    answers-kept rest c.args.self.now (sym c.requires.same ∙ part.numbered) c.requires.one_disk c.in-Ok.outcome c.in-Ok.ensures.answers
 
-pub returns-in-Err-clause-looks : goal.returns-in-Err-clause-looks
-returns-in-Err-clause-looks g c =
+pub returns-clause-looks : goal.returns-clause-looks
+returns-clause-looks g c =
+    let rest = c.self.invariant.0.at_rest (ap (λ (s : StoreState). s.stopped) c.self.view_is ∙ c.requires.runs) in
     let streams = ap (λ (s : StoreState). s.streams) c.self.view_is in
     let part = IsPartAt-read c.deref.ensures.value streams c.place_of-place.ensures.at c.requires.stands c.index-stream.ensures in
     Looks-failed Outcome c.in-Err.error c.from.result c.args.self.now _ c.from.ensures refl streams
     (c.in-Err.ensures.records.live ∙ ap (λ (s : StoreState). s.records.live) c.self.view_is)
-    (IsFirm-kept c.args.self.now (sym c.requires.same ∙ part.numbered) c.requires.one_disk c.in-Err.error c.in-Err.ensures.answers)
+    (IsFirm-kept rest c.args.self.now (sym c.requires.same ∙ part.numbered) c.requires.one_disk c.in-Err.error c.in-Err.ensures.answers)
 
-pub returns-in-Err-clause-changed : goal.returns-in-Err-clause-changed
-returns-in-Err-clause-changed g c =
+pub returns-clause-changed : goal.returns-clause-changed
+returns-clause-changed g c =
     let streams = ap (λ (s : StoreState). s.streams) c.self.view_is in
     let part = IsPartAt-read c.deref.ensures.value streams c.place_of-place.ensures.at c.requires.stands c.index-stream.ensures in
     let named : part_named c.args.query.now.name c.args.self.now.streams ≡ Some c.index-stream.result.now = sym c.requires.same ∙ part.numbered in

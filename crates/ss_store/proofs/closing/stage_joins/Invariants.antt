@@ -1,7 +1,7 @@
 use Rattle.std.proofs.Common.{length}
 use Rattle.ss_store.specs.Indexed.{IsKeyedFor}
 use Rattle.ss_store.proofs.Wholes.{IsClosing}
-use Rattle.ss_store.proofs.closing.close_windows.Given as goal
+use Rattle.ss_store.proofs.closing.stage_joins.Given as goal
 
 abbrev pub invariant-loop-pair : goal.invariant-loop-pair
 invariant-loop-pair g l =

@@ -1,0 +1,127 @@
+-- What was staged of a stream is sealed: the value and the joins come to the disk together.
+use Rattle.std.proofs.Common.{inl, inr, ℕ, ℤ, List, ◌++◌, Ok, Option, Result, subst, sym}
+use Rattle.std.specs.Prelude.{IsErr, IsTrue, OnOk}
+use Rattle.ss_outside.specs.Crash.{KnowsNow}
+use Rattle.ss_outside.specs.Disk.{DiskView, Told}
+use Rattle.ss_outside.specs.Step.{Step}
+use Rattle.ss_outside.specs.Verdict.{IsFirm, Verdict, fine}
+use Rattle.ss_outside.specs.declared.source.Failed.{Failed}
+use Rattle.ss_journal.specs.Kept.{IsSealed}
+use Rattle.ss_journal.proofs.ShownLemmas.{shown-sealed}
+use Rattle.ss_journal.proofs.StepLemmas.{step-next}
+use Rattle.ss_journal.proofs.TearLemmas.{on_err}
+use Rattle.ss_records.specs.Calls.{SealsRecords}
+use Rattle.ss_records.specs.Kept.{AreKept, RecordsState}
+use Rattle.ss_codec.specs.declared.record.Record.{Record}
+use Rattle.ss_target.specs.Lengths.{lengths_of}
+use Rattle.ss_model.specs.Closed.{closed}
+use Rattle.ss_model.specs.ClosedState.{closed_stream}
+use Rattle.ss_model.specs.State.{Stream, values_in}
+use Rattle.ss_model.specs.Steps.{with_value}
+use Rattle.ss_model.proofs.JoinLemmas.{JoinsDue-closed}
+use Rattle.ss_recover.specs.Held.{records_held}
+use Rattle.ss_recover.specs.declared.parts.StreamParts.{StreamParts}
+use Rattle.ss_query.specs.Held.{IsHeldIn}
+use Rattle.ss_query.specs.Reading.{verdict_of_read}
+use Rattle.ss_query.specs.declared.read_error.ReadError.{ReadError}
+use Rattle.ss_store.specs.Changing.{PutsValue, StagesJoins, StagesStream, TurnsStream}
+use Rattle.ss_store.specs.Held.{IsHalfway, IsPartlyJoined, with_single, with_windows}
+use Rattle.ss_store.proofs.Additions.{closed-single}
+use Rattle.ss_store.proofs.ShownCalls.{HasRecords-of_map, IsOfMap, Turns-not_sealed, Turns-sealed, TurnsShown-then}
+
+-- each of these is a property of maps
+pub IsHeldIn-of_map : (others : List (ℕ × Option Record)) (part : StreamParts) (s : Stream) → IsOfMap (IsHeldIn others part s)
+IsHeldIn-of_map others part s image held =
+    let its = HasRecords-of_map (records_held (part, s) ++ others) image held.records in
+    (its.0, its.1, λ other stands. record { agrees = held.agrees; stream = held.stream; records = its.2 other stands })
+
+pub IsPartlyJoined-of_map : (others : List (ℕ × Option Record)) (s : Stream) → IsOfMap (IsPartlyJoined others s)
+IsPartlyJoined-of_map others s image is =
+    let its = IsHeldIn-of_map others is.part (with_windows s is.windows) image is.held in
+    (its.0, its.1, λ other stands. record { part = is.part; windows = is.windows; joins = is.joins; held = its.2 other stands })
+
+pub IsHalfway-of_map : (t : ℕ) (v : ℤ) (others : List (ℕ × Option Record)) (part : StreamParts) (s : Stream) → IsOfMap (IsHalfway others part s t v)
+IsHalfway-of_map t v others part s image either = elim either [
+  | inl held ↦ (let its = IsHeldIn-of_map others part s image held in (its.0, its.1, λ other stands. inl (its.2 other stands)))
+  | inr joined ↦ (let its = IsPartlyJoined-of_map others (with_single s t v) image joined in (its.0, its.1, λ other stands. inr (its.2 other stands)))
+]
+
+-- a stream of which all windows were joined that are due
+pub IsPartlyJoined-closed : (others : List (ℕ × Option Record)) (part : StreamParts) (s : Stream) (image : List ℕ) →
+    IsHeldIn others part (closed_stream s) image → IsPartlyJoined others s image
+IsPartlyJoined-closed others part s image held = record {
+  part = part;
+  windows = closed (lengths_of s.params) (values_in s) s.windows;
+  joins = JoinsDue-closed (lengths_of s.params) (values_in s) s.windows;
+  held = held;
+}
+
+-- the same after a value
+pub IsHalfway-valued : (others : List (ℕ × Option Record)) (part now : StreamParts) (s : Stream) (t : ℕ) (v : ℤ) (image : List ℕ) →
+    IsHeldIn others now (with_value s t v) image → IsHalfway others part s t v image
+IsHalfway-valued others part now s t v image held =
+    inr (IsPartlyJoined-closed others now (with_single s t v) image (rw (closed-single s t v) held))
+
+-- A change of a stream that is held was staged, since nothing was.
+module _ (part : StreamParts) (during after : List (ℕ × Option Record) → Stream → List ℕ → Type 0) (was : RecordsState) (old : Told)
+    (at_rest : IsSealed was.journal) (maps : (others : List (ℕ × Option Record)) (s : Stream) → IsOfMap (during others s))
+    (of_before : (others : List (ℕ × Option Record)) (s : Stream) (image : List ℕ) → IsHeldIn others part s image → during others s image) where
+  firm_shown : (v : Verdict) (between : RecordsState) (result : Result (Unit {0}) ReadError) (mid : Told) →
+      StagesStream v part during after was between result old mid → (others : List (ℕ × Option Record)) (s : Stream) →
+      IsHeldIn others part s old.content → IsFirm v
+  firm_shown v between result mid stages others s held =
+      stages.firm others s (subst (λ (content : List ℕ). IsHeldIn others part s content) (sym (shown-sealed was.journal old.content at_rest)) held)
+
+  -- it was not sealed, since the call failed
+  pub TurnsStream-not_sealed : (v : Verdict) (between is : RecordsState) (result : Result (Unit {0}) ReadError) (mid : Told)
+      (later : List (ℕ × Option Record) → Stream → List ℕ → Type 0) → IsErr result → StagesStream v part during after was between result old mid →
+      TurnsStream v part during later is result old mid
+  TurnsStream-not_sealed v between is result mid later failed stages = record {
+    turns = λ others s.
+        Turns-not_sealed was (IsHeldIn others part s) (during others s) (during others s) old at_rest (of_before others s) (λ image left. left)
+        (maps others s) between is (after others s) mid mid result result (later others s) failed (stages.turns others s);
+    firm = firm_shown v between result mid stages;
+    kept = on_err result (AreKept is mid.content) failed;
+  }
+
+  -- the seal, whatever it answers
+  pub TurnsStream-sealed : (v : Verdict) (between is : RecordsState) (result : Result (Unit {0}) Failed) (mid new : Told) →
+      ((others : List (ℕ × Option Record)) (s : Stream) → IsOfMap (after others s)) →
+      ((others : List (ℕ × Option Record)) (s : Stream) (image : List ℕ) → after others s image → during others s image) → IsFirm v → KnowsNow mid →
+      OnOk result (IsSealed is.journal) → StagesStream fine part during after was between (Ok tt) old mid → SealsRecords between is result mid new →
+      TurnsStream v part during after is result old new
+  TurnsStream-sealed v between is result mid new reached of_reached firm knows sealed stages seals = record {
+    turns = λ others s.
+        Turns-sealed was (IsHeldIn others part s) (during others s) (during others s) old at_rest (of_before others s) (λ image left. left)
+        (maps others s) between is (after others s) mid new tt result (reached others s) (of_reached others s) knows sealed (stages.turns others s)
+        seals.keeps_shown;
+    firm = λ others s held. firm;
+    kept = seals.kept;
+  }
+
+-- A value was put, and then windows were joined until none is due.
+pub StagesStream-valued : {part between_part now : StreamParts} {t : ℕ} {v : ℤ} {was between is : RecordsState} {old mid new : Told}
+    (result : Result (Unit {0}) ReadError) → KnowsNow mid → PutsValue part between_part t v was between (Ok tt) old mid →
+    StagesJoins between_part now between is result mid new →
+    StagesStream (verdict_of_read result) part (λ others s. IsHalfway others part s t v) (λ others s. IsHeldIn others now (with_value s t v))
+    was is result old new
+StagesStream-valued {part} {between_part} {now} {t} {v} {was} {between} {is} {old} {mid} {new} result knows first second = record {
+  turns = λ others s.
+      let single = with_single s t v in
+      rw (← closed-single s t v)
+      (TurnsShown-then {S = Unit {0}} {F = ReadError} was between is (IsHeldIn others part s) (IsHalfway others part s t v)
+      (IsHeldIn others between_part single) (IsPartlyJoined others single) (IsHeldIn others now (closed_stream single)) (IsHalfway others part s t v)
+      old mid new tt result knows (first.turns others s) (second.turns others single) (λ image left. left) (λ image left. inr left));
+  firm = λ others s held. second.firm others (with_single s t v) ((first.turns others s).content held);
+  kept = second.kept;
+}
+
+-- the same of the steps of a disk
+pub step-valued : {part between_part now : StreamParts} {t : ℕ} {v : ℤ} {was between is : RecordsState} {old mid new : DiskView}
+    (result : Result (Unit {0}) ReadError) → (IsTrue mid.tells → KnowsNow mid.told) →
+    Step fine old mid (PutsValue part between_part t v was between (Ok tt)) →
+    Step (verdict_of_read result) mid new (StagesJoins between_part now between is result) →
+    Step (verdict_of_read result) old new
+    (StagesStream (verdict_of_read result) part (λ others s. IsHalfway others part s t v) (λ others s. IsHeldIn others now (with_value s t v)) was is result)
+step-valued {t} {v} result knows first second =
+    step-next first second (λ told then put joins. StagesStream-valued {t = t} {v = v} result (knows then) put joins)

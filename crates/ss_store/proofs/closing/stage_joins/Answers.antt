@@ -1,0 +1,127 @@
+use Rattle.std.proofs.Common.{◌∙◌, map, refl, sym, subst}
+use Rattle.std.proofs.lemmas.Result.{err_from_is_err_and}
+use Rattle.ss_outside.proofs.StepLemmas.{step-as, step-none}
+use Rattle.ss_journal.proofs.StepLemmas.{after-step, step-next}
+use Rattle.ss_target.specs.Lengths.{lengths_of}
+use Rattle.ss_target.specs.Targets.{params_of}
+use Rattle.ss_recover.specs.Held.{entries_of, slots_held, span_held}
+use Rattle.ss_store.specs.Held.{IsPartlyJoined}
+use Rattle.ss_query.specs.Held.{IsHeldIn}
+use Rattle.ss_schedule.specs.Keyed.{IsKeyed}
+use Rattle.ss_store.specs.Joining.{IsJoinedIn, NoSpansAreDue}
+use Rattle.ss_store.proofs.KeyedWindows.{NoSpansAreDue-pairs}
+use Rattle.ss_store.proofs.Closings.{IsSameStream-more, TurnsShown-closes}
+use Rattle.ss_store.proofs.LiveSlots.{AreSomeLive-go}
+use Rattle.ss_store.proofs.ShownCalls.{TurnsShown-failed}
+use Rattle.ss_store.proofs.Wholes.{HoldsUntil-then, JoinsWindows-more, JoinsWindows-none, KeepsWhole-none, KeepsWhole-then}
+use Rattle.ss_store.proofs.closing.stage_joins.Goals as goal
+
+pub loop-pair-init : goal.loop-pair-init
+loop-pair-init g c = (
+  record {
+    step = step-none (g.D.Disk.seen c.args.disk.now) _ (λ told.
+        JoinsWindows-none c.args.part.now c.args.records.now _ (g.met.D.Disk.knows_now c.args.disk.now told) (c.requires.one_disk told));
+    same = record { id = refl; name = refl; target = refl; slot = refl; landmarks = refl };
+    whole = KeepsWhole-none c.args.part.now c.args.records.now c.requires.ordered c.requires.settled;
+    holds = record { values = refl; last_time = refl };
+  },
+  c.requires.keyed,
+)
+
+pub due-requires : goal.due-requires
+due-requires g c =
+    subst (λ n. IsKeyed n c.loop-pair.part.line.entries c.loop-pair.index.schedule)
+    (c.loop-pair.invariant.0.holds.values ∙ sym c.values_held-n.ensures) c.loop-pair.invariant.1.keyed
+
+pub join-requires-clause-due : goal.join-requires-clause-due
+join-requires-clause-due g c = record {
+  ordered = c.loop-pair.invariant.0.whole.ordered;
+  keyed = c.loop-pair.invariant.1;
+  stands = c.in-Some.ensures.pair;
+  fits = rw (c.loop-pair.invariant.0.holds.values, ← c.values_held-n.ensures, ← c.loop-pair.invariant.1.target) c.in-Some.ensures.fits;
+}
+
+pub join-requires-clause-settled : goal.join-requires-clause-settled
+join-requires-clause-settled g c = c.loop-pair.invariant.0.whole.settled
+
+pub join-requires-clause-live : goal.join-requires-clause-live
+join-requires-clause-live g c =
+    AreSomeLive-go (slots_held c.args.part.now) (slots_held c.loop-pair.part) c.args.records.now.live c.loop-pair.records.live c.requires.live
+    c.loop-pair.invariant.0.whole.live
+
+pub join-requires-clause-one_disk : goal.join-requires-clause-one_disk
+join-requires-clause-one_disk g c = after-step c.loop-pair.invariant.0.step (λ told has. has.kept)
+
+pub loop-pair-smaller : goal.loop-pair-smaller
+loop-pair-smaller g c = c.in_ok-join.ensures.fewer
+
+pub loop-pair-preserved : goal.loop-pair-preserved
+loop-pair-preserved g c =
+    let before = c.loop-pair.invariant.0 in
+    let after = c.in_ok-join.ensures in (
+      record {
+        step = step-next before.step after.joins (λ told then first second.
+            JoinsWindows-more _ (g.met.D.Disk.knows_now c.loop-pair.disk then) first second);
+        same = IsSameStream-more c.args.part.now c.loop-pair.part c.join.new.part before.same c.join.ensures.same;
+        whole = KeepsWhole-then before.whole after.whole;
+        holds = HoldsUntil-then before.holds after.holds;
+      },
+      after.keyed,
+    )
+
+pub returns-in_err-join-clause-closes : goal.returns-in_err-join-clause-closes
+returns-in_err-join-clause-closes g c =
+    let part = c.args.part.now in
+    let p = err_from_is_err_and c.from_residual.result c.from_residual.ensures.1 in
+    rw (p.1, p.2)
+    (step-next c.loop-pair.invariant.0.step c.in_err-join.ensures.joins (λ told then first second.
+    let all = JoinsWindows-more _ (g.met.D.Disk.knows_now c.loop-pair.disk then) first second in
+    record {
+      turns = λ others s.
+          TurnsShown-failed c.args.records.now c.join.new.records c.join.new.records (IsHeldIn others part s) (IsPartlyJoined others s)
+          (IsJoinedIn others c.join.new.part s) _ _ _ _ _ refl (all.turns others s);
+      firm = all.firm;
+      kept = tt;
+    }))
+
+pub returns-in_err-join-clause-same : goal.returns-in_err-join-clause-same
+returns-in_err-join-clause-same g c =
+    IsSameStream-more c.args.part.now c.loop-pair.part c.join.new.part c.loop-pair.invariant.0.same c.join.ensures.same
+
+pub returns-in_err-join-clause-changed : goal.returns-in_err-join-clause-changed
+returns-in_err-join-clause-changed g c =
+    let p = err_from_is_err_and c.from_residual.result c.from_residual.ensures.1 in
+    rw (p.1, p.2, c.in_err-join.ensures.err) c.in_err-join.ensures.changed
+
+-- at the end none is due
+none_due : (g : _) (c : goal.In_default g) →
+    NoSpansAreDue (lengths_of (params_of c.loop-pair.part.target)) c.values_held-n.result (map span_held (entries_of c.loop-pair.part))
+none_due g c =
+    NoSpansAreDue-pairs (lengths_of (params_of c.loop-pair.part.target)) c.values_held-n.result c.loop-pair.part.line.entries
+    (rw (← c.loop-pair.invariant.1.target) c.in_default.ensures.none)
+
+pub returns-clause-closes : goal.returns-clause-closes
+returns-clause-closes g c =
+    step-as c.loop-pair.invariant.0.step (λ has. record {
+      turns = λ others s.
+          TurnsShown-closes c.args.records.now c.loop-pair.records others c.args.part.now c.loop-pair.part s c.values_held-n.result _ _
+          (c.values_held-n.ensures ∙ sym c.loop-pair.invariant.0.holds.values) (none_due g c) has.turns;
+      firm = λ others s held. tt;
+      kept = has.kept;
+    })
+
+pub returns-clause-same : goal.returns-clause-same
+returns-clause-same g c = c.loop-pair.invariant.0.same
+
+pub returns-clause-whole : goal.returns-clause-whole
+returns-clause-whole g c = c.loop-pair.invariant.0.whole
+
+pub returns-clause-holds : goal.returns-clause-holds
+returns-clause-holds g c = c.loop-pair.invariant.0.holds
+
+pub returns-clause-scheduled : goal.returns-clause-scheduled
+returns-clause-scheduled g c = (
+  c.loop-pair.invariant.1,
+  subst (λ n. NoSpansAreDue (lengths_of (params_of c.loop-pair.part.target)) n (map span_held (entries_of c.loop-pair.part)))
+      (c.values_held-n.ensures ∙ sym c.loop-pair.invariant.0.holds.values) (none_due g c),
+)

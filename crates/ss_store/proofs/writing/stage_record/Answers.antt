@@ -1,0 +1,55 @@
+use Rattle.std.proofs.Common.{Bool, List, Some, [], ap₂, arith, refl, subst, sym, ◌∷◌, ◌≡◌, ◌≤◌, ◌∙◌}
+use Rattle.std.proofs.lemmas.Result.{err_from_is_err_and}
+use Rattle.ss_journal.specs.Kept.{IsRunning}
+use Rattle.ss_journal.proofs.StepLemmas.{step-from}
+use Rattle.ss_records.specs.Live.{live_after}
+use Rattle.ss_query.specs.Slots.{HasRecords}
+use Rattle.ss_store.specs.Slots.{LiveSlotsGo, record_put}
+use Rattle.ss_store.proofs.Changes.{LiveSlotsGo-added, moves-added}
+use Rattle.ss_store.proofs.LiveSlots.{lowest_free-is_free}
+use Rattle.ss_store.proofs.ShownCalls.{TurnsShown-failed, TurnsShown-keeps, TurnsShown-staged}
+use Rattle.ss_store.proofs.writing.stage_record.Goals as goal
+
+pub returns-in_err-make_room-clause-stages : goal.returns-in_err-make_room-clause-stages
+returns-in_err-make_room-clause-stages g c =
+    let p = err_from_is_err_and c.from_residual.result c.from_residual.ensures.1 in
+    rw (p.1, p.2)
+    (step-from c.in_err-make_room.ensures.makes_room (λ told made. record {
+      changes = λ others.
+          TurnsShown-failed c.args.records.now c.make_room.new.self c.make_room.new.self (HasRecords others) (HasRecords others) (HasRecords others)
+          (HasRecords ((c.args.slot, Some c.args.written.now) ∷ others)) _ _ _ _ refl
+          (TurnsShown-keeps c.args.records.now c.make_room.new.self others _ _ _ (c.requires.one_disk told) made.keeps_shown);
+      kept = tt;
+    }))
+
+pub returns-clause-stages : goal.returns-clause-stages
+returns-clause-stages g c =
+    let slot = c.args.slot in
+    let between = c.make_room.new.self in
+    let lowest : c.lowest_free.result ≡ Some slot = c.lowest_free.ensures.least ∙ c.requires.free in
+    let running : IsRunning c.args.records.now.journal = λ stopped. absurd (cc) in
+    let below = rw lowest at c.lowest_free.ensures.few in
+    let within = rw lowest at c.lowest_free.ensures.fits running in
+    let inside : slot ≤ between.journal.extent = omega (arith, within, c.in_ok-make_room.ensures.made.extent) in
+    let free = (lowest_free-is_free c.args.records.now.live slot c.requires.free).1 in
+    step-from c.in_ok-make_room.ensures.makes_room (λ told made.
+    let stages = c.stage.ensures.stages _ in
+    record {
+      changes = λ others.
+          TurnsShown-staged c.args.records.now between others _ _ c.stage.new.self ((slot, Some c.args.written.now) ∷ others)
+          (record_put slot c.args.written.now ∷ []) c.in_ok-make_room.field-0 _ made.kept (rw c.put_of.ensures at stages)
+          (moves-added slot c.args.written.now c.requires.valid c.requires.some between _ others made.kept below.0 inside
+          (rw c.make_room.ensures.live free))
+          (TurnsShown-keeps c.args.records.now between others _ _ _ (c.requires.one_disk told) made.keeps_shown);
+      kept = stages.kept made.kept;
+    })
+
+pub returns-clause-live : goal.returns-clause-live
+returns-clause-live g c =
+    let slot = c.args.slot in
+    let live = c.args.records.now.live in
+    let free = lowest_free-is_free live slot c.requires.free in
+    let is : c.stage.new.self.live ≡ live_after (record_put slot c.args.written.now ∷ []) live =
+    c.stage.ensures.live ∙ ap₂ live_after c.put_of.ensures c.make_room.ensures.live in
+    subst (λ (now : List Bool). LiveSlotsGo [] (slot ∷ []) live now) (sym is)
+    (LiveSlotsGo-added slot c.args.written.now c.requires.valid c.requires.some live free.0 free.1)
