@@ -8,38 +8,34 @@ use Rattle.std.specs.declared.io.Error.{Error}
 use Rattle.std.specs.declared.io.ErrorKind.TheVariants.{InvalidInput, Other, ReadOnlyFilesystem}
 use Rattle.ss_journal.specs.Format.{is_unborn}
 use Rattle.summarystore.specs.FileDisk.{KeepsFile, untold}
-use Rattle.summarystore.specs.Opening.{IsBlank, IsHeldAs, IsLockedAs, IsNative, IsSettledAs, MayHold, StaysHeld, StaysUnmade, access_for, is_writable}
+use Rattle.summarystore.specs.Opening.{IsBlank, IsHeldAs, IsLockedAs, IsNative, IsSettledAs, MayHold, StaysHeld, StaysUnmade, is_writable}
 use Rattle.summarystore.specs.Opening.{missing_for}
-use Rattle.summarystore.specs.System.{Durable, Fact, IsUnsyncable, Keeps, KeepsAll, LockedBy, OpenFor, RegularFile, Synced, Unmade, Unsyncable, Unwritten}
+use Rattle.summarystore.specs.System.{Apart, Durable, Fact, IsUnsyncable, Keeps, KeepsAll, LockedBy, OpenFor, RegularFile, Synced, Unmade, Unsyncable, Unwritten}
 use Rattle.summarystore.specs.System.{lasts_lock, lasts_open, lasts_write}
 use Rattle.summarystore.specs.declared.opening.Missing.{Missing}
 use Rattle.summarystore.specs.declared.opening.Missing.TheVariants as missing
 use Rattle.summarystore.specs.declared.opening.Opened.{Opened}
 use Rattle.summarystore.specs.declared.opening.Opened.TheVariants.{Made, Nothing, ReadOnly, Writable}
-use Rattle.summarystore.specs.declared.system.Access.TheVariants.{Change, Make, Read}
+use Rattle.summarystore.specs.declared.system.Access.TheVariants.{Make, Read}
 use Rattle.summarystore.specs.declared.system.Lock.TheVariants.{Exclusive, Shared}
 
 facts : List Fact
-facts = Unmade ∷ Unwritten ∷ OpenFor Make ∷ LockedBy Shared ∷ RegularFile ∷ Synced ∷ Unsyncable ∷ Durable ∷ []
+facts = Unmade ∷ Unwritten ∷ OpenFor Make ∷ Apart ∷ LockedBy Shared ∷ RegularFile ∷ Synced ∷ Unsyncable ∷ Durable ∷ []
 
 -- what each call leaves
-lasts_open-Make : map (lasts_open Make) facts ≡ false ∷ true ∷ false ∷ false ∷ false ∷ false ∷ false ∷ false ∷ []
+lasts_open-Make : map (lasts_open Make) facts ≡ false ∷ true ∷ false ∷ false ∷ false ∷ false ∷ false ∷ false ∷ false ∷ []
 unfolding facts
 lasts_open-Make = refl
 
-lasts_open-Change : map (lasts_open Change) facts ≡ true ∷ true ∷ false ∷ false ∷ false ∷ false ∷ false ∷ false ∷ []
-unfolding facts
-lasts_open-Change = refl
-
-lasts_open-Read : map (lasts_open Read) facts ≡ true ∷ true ∷ false ∷ false ∷ false ∷ false ∷ false ∷ false ∷ []
+lasts_open-Read : map (lasts_open Read) facts ≡ true ∷ true ∷ false ∷ false ∷ false ∷ false ∷ false ∷ false ∷ false ∷ []
 unfolding facts
 lasts_open-Read = refl
 
-lasts_lock-facts : map lasts_lock facts ≡ true ∷ true ∷ true ∷ false ∷ true ∷ true ∷ true ∷ true ∷ []
+lasts_lock-facts : map lasts_lock facts ≡ true ∷ true ∷ true ∷ true ∷ false ∷ true ∷ true ∷ true ∷ true ∷ []
 unfolding facts
 lasts_lock-facts = refl
 
-lasts_write-facts : map lasts_write facts ≡ true ∷ false ∷ true ∷ true ∷ true ∷ false ∷ true ∷ false ∷ []
+lasts_write-facts : map lasts_write facts ≡ true ∷ false ∷ true ∷ true ∷ true ∷ true ∷ false ∷ true ∷ false ∷ []
 unfolding facts
 lasts_write-facts = refl
 
@@ -72,18 +68,22 @@ missing_for-others :
 missing_for-others = refl
 
 -- what a file is opened and locked for
-access_for-each : access_for missing.Make ∷ access_for missing.ReadEmpty ∷ [] ≡ Make ∷ Change ∷ []
-access_for-each = refl
+held-ReadOnly : (holds : Fact → Type 0) → IsHeldAs missing.Make ReadOnly holds →
+    holds (OpenFor Read) × holds (LockedBy Shared) × holds RegularFile × holds Apart
+held-ReadOnly holds (locked, regular, apart) = (locked.opened, locked.locked, regular, apart)
 
-held-ReadOnly : (holds : Fact → Type 0) → IsHeldAs missing.Make ReadOnly holds → holds (OpenFor Read) × holds (LockedBy Shared) × holds RegularFile
-held-ReadOnly holds (locked, regular) = (locked.opened, locked.locked, regular)
+held-Writable : (holds : Fact → Type 0) → IsHeldAs missing.Make Writable holds →
+    holds (OpenFor Make) × holds (LockedBy Exclusive) × holds RegularFile × holds Apart
+held-Writable holds ((made, locked), regular, apart) = (locked.opened, locked.locked, regular, apart)
 
-held-Writable : (holds : Fact → Type 0) → IsHeldAs missing.ReadEmpty Writable holds →
-    holds (OpenFor Change) × holds (LockedBy Exclusive) × holds RegularFile
-held-Writable holds (locked, regular) = (locked.opened, locked.locked, regular)
+held-Made : (holds : Fact → Type 0) → IsHeldAs missing.Make Made holds →
+    holds (OpenFor Make) × holds (LockedBy Exclusive) × holds RegularFile × holds Apart
+held-Made holds ((made, locked), regular, apart) = (locked.opened, locked.locked, regular, apart)
 
-held-Made : (holds : Fact → Type 0) → IsHeldAs missing.Make Made holds → holds (OpenFor Make) × holds (LockedBy Exclusive) × holds RegularFile
-held-Made holds (locked, regular) = (locked.opened, locked.locked, regular)
+-- where no file is made none is written
+held-ReadEmpty : (holds : Fact → Type 0) → IsHeldAs missing.ReadEmpty Writable holds ⊎ IsHeldAs missing.ReadEmpty Made holds → ⊥
+held-ReadEmpty holds (inl ((made, locked), regular, apart)) = cc
+held-ReadEmpty holds (inr ((made, locked), regular, apart)) = cc
 
 held-Nothing : (holds : Fact → Type 0) → IsHeldAs missing.Make Nothing holds → ⊥
 held-Nothing holds is = cc

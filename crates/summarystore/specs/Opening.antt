@@ -4,13 +4,13 @@ use Rattle.std.specs.Prelude.{IsTrue, Option, Some, None, ⊤}
 use Rattle.std.specs.Str.{bytes_eq}
 use Rattle.ss_journal.specs.Format.{is_unborn}
 use Rattle.ss_journal.specs.declared.format.TheConstants.{FIRST_SLOT}
-use Rattle.summarystore.specs.System.{Fact, Unmade, OpenFor, LockedBy, RegularFile, Synced, Unsyncable, Durable}
+use Rattle.summarystore.specs.System.{Fact, Unmade, OpenFor, Apart, LockedBy, RegularFile, Synced, Unsyncable, Durable}
 use Rattle.summarystore.specs.declared.opening.Missing.{Missing}
 use Rattle.summarystore.specs.declared.opening.Missing.TheVariants.{Make, ReadEmpty}
 use Rattle.summarystore.specs.declared.opening.Opened.{Opened}
 use Rattle.summarystore.specs.declared.opening.Opened.TheVariants.{Nothing, ReadOnly, Writable, Made}
 use Rattle.summarystore.specs.declared.system.Access.{Access}
-use Rattle.summarystore.specs.declared.system.Access.TheVariants.{Change, Read}
+use Rattle.summarystore.specs.declared.system.Access.TheVariants.{Read}
 use Rattle.summarystore.specs.declared.system.Access.TheVariants as access
 use Rattle.summarystore.specs.declared.system.Lock.{Lock}
 use Rattle.summarystore.specs.declared.system.Lock.TheVariants.{Exclusive, Shared}
@@ -20,29 +20,25 @@ abbrev pub missing_for : List (List ℕ) → Missing
 missing_for (program ∷ path ∷ mode ∷ []) = if bytes_eq mode (codes "check") then ReadEmpty else Make
 missing_for _ = Make
 
--- what a file that may be written is opened for
-abbrev pub access_for : Missing → Access
-access_for Make = access.Make
-access_for ReadEmpty = Change
-
 -- the file is open for this, and locked so
 pub record IsLocked (access : Access) (how : Lock) (holds : Fact → Type 0) : Type 0 where
   pub opened : holds (OpenFor access)
   pub locked : holds (LockedBy how)
 
--- a file that may only be read is locked against those that write, any other against every other opening
+-- a file that is only read is locked against those that write, any other against every other opening; where no file is made it is
+-- only read
 abbrev pub IsLockedAs : Missing → Opened → (Fact → Type 0) → Type 0
 IsLockedAs missing Nothing holds = ⊥
 IsLockedAs missing ReadOnly holds = IsLocked Read Shared holds
-IsLockedAs missing Writable holds = IsLocked (access_for missing) Exclusive holds
-IsLockedAs missing Made holds = IsLocked (access_for missing) Exclusive holds
+IsLockedAs missing Writable holds = (missing ≡ Make) × IsLocked access.Make Exclusive holds
+IsLockedAs missing Made holds = (missing ≡ Make) × IsLocked access.Make Exclusive holds
 
--- what stands open is a regular file, and locked; nothing does only where no file is made
+-- what stands open is a regular file, locked, and no standard stream goes into it; nothing does only where no file is made
 abbrev pub IsHeldAs : Missing → Opened → (Fact → Type 0) → Type 0
 IsHeldAs missing Nothing holds = missing ≡ ReadEmpty
-IsHeldAs missing ReadOnly holds = IsLockedAs missing ReadOnly holds × holds RegularFile
-IsHeldAs missing Writable holds = IsLockedAs missing Writable holds × holds RegularFile
-IsHeldAs missing Made holds = IsLockedAs missing Made holds × holds RegularFile
+IsHeldAs missing ReadOnly holds = IsLockedAs missing ReadOnly holds × holds RegularFile × holds Apart
+IsHeldAs missing Writable holds = IsLockedAs missing Writable holds × holds RegularFile × holds Apart
+IsHeldAs missing Made holds = IsLockedAs missing Made holds × holds RegularFile × holds Apart
 
 -- the same of a disk, once it was opened
 abbrev pub StaysHeld : Missing → Option Opened → (Fact → Type 0) → Type 0

@@ -4,15 +4,17 @@ use Rattle.std.specs.IoError.{error_kind}
 use Rattle.std.specs.declared.io.Error.{Error}
 use Rattle.std.specs.declared.io.ErrorKind.TheVariants.{InvalidInput, ReadOnlyFilesystem}
 use Rattle.summarystore.specs.declared.system.Access.{Access}
-use Rattle.summarystore.specs.declared.system.Access.TheVariants.{Make, Change, Read}
+use Rattle.summarystore.specs.declared.system.Access.TheVariants.{Make, Read}
 use Rattle.summarystore.specs.declared.system.Lock.{Lock}
 
--- What is known of the system and of the file that is open: nothing was made, nothing was written, what it was opened for, how
--- it is locked, that it is a regular file, that what it holds was synced or can't be, and its name after it.
+-- What is known of the system and of the file that is open: nothing was made, nothing was written, what it was opened for, that
+-- no standard stream goes into it, how it is locked, that it is a regular file, that what it holds was synced or can't be, and
+-- its name after it.
 pub data Fact : Type 0 where
   Unmade : Fact
   Unwritten : Fact
   OpenFor : Access → Fact
+  Apart : Fact
   LockedBy : Lock → Fact
   RegularFile : Fact
   Synced : Fact
@@ -31,7 +33,6 @@ Keeps lasts old new = (fact : Fact) → IsTrue (lasts fact) → old fact → new
 abbrev pub lasts_open : Access → Fact → Bool
 lasts_open _ Unwritten = true
 lasts_open Make Unmade = false
-lasts_open Change Unmade = true
 lasts_open Read Unmade = true
 lasts_open _ _ = false
 

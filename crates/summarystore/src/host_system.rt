@@ -4,10 +4,10 @@ ghost use Rattle.std.specs.Prelude.{⊤};
 #[cfg(test)]
 mod tests;
 
-use crate::system::{Access, Kind, Lock, System};
-use std::fs::{self, File, FileType, OpenOptions};
+use crate::system::{Access, Kind, Lock, Stream, System};
+use std::fs::{self, File, FileType, Metadata, OpenOptions};
 use std::io::{self, ErrorKind};
-use std::os::unix::fs::{FileExt, FileTypeExt};
+use std::os::unix::fs::{FileExt, FileTypeExt, MetadataExt};
 use std::rt::Files;
 
 // Three handles of a folder. Whichever of the descriptors 0, 1 and 2 was closed, one of them has taken it.
@@ -51,6 +51,14 @@ fn options_for(access: Access) -> OpenOptions {
     options.write(access != Access::Read);
     options.create(access == Access::Make);
     options
+}
+
+// Whether a descriptor leads to this file. Where the system doesn't show it, it doesn't.
+fn leads_to<R: Files>(rt: &R, descriptor: &str, file: &Metadata) -> bool {
+    match fs::metadata(rt, descriptor) {
+        Ok(found) => found.dev() == file.dev() && found.ino() == file.ino(),
+        Err(_) => false,
+    }
 }
 
 /// The system that this process runs on.
@@ -97,6 +105,17 @@ impl<R: Files<File = File> + AllocGlobal> System for HostSystem<'_, R> {
         }
         self.file = Some(options_for(access).open(self.rt, path)?);
         Ok(())
+    }
+
+    fn stream_into(&mut self) -> io::Result<Option<Stream>> {
+        let file = self.opened()?.metadata()?;
+        Ok(if leads_to(self.rt, "/proc/self/fd/2", &file) {
+            Some(Stream::Error)
+        } else if leads_to(self.rt, "/proc/self/fd/1", &file) {
+            Some(Stream::Output)
+        } else {
+            None
+        })
     }
 
     fn lock(&mut self, how: Lock) -> io::Result<()> {

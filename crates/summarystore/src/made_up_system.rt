@@ -2,7 +2,7 @@
 // bytes than they were asked for.
 ghost use Rattle.std.specs.Prelude.{⊤};
 
-use crate::system::{Access, Kind, Lock, System};
+use crate::system::{Access, Kind, Lock, Stream, System};
 use std::alloc::Global;
 use std::io::{self, ErrorKind};
 
@@ -14,6 +14,8 @@ pub struct MadeUpSystem {
     /// What has the path of the file. Every other path is that of a folder.
     pub found: Option<Kind>,
     pub may_be_written: bool,
+    /// The standard stream that goes into the file.
+    pub stream: Option<Stream>,
     pub bytes: Vec<u8>,
     /// The call that fails, by its name, and how.
     pub failing: &'static str,
@@ -29,7 +31,6 @@ pub struct MadeUpSystem {
 fn name_of(access: Access) -> &'static str {
     match access {
         Access::Make => "make",
-        Access::Change => "change",
         Access::Read => "open",
     }
 }
@@ -40,6 +41,7 @@ impl MadeUpSystem {
         MadeUpSystem {
             found: Some(Kind::Regular),
             may_be_written: true,
+            stream: None,
             bytes: Vec::new(alloc),
             failing: "",
             error: ErrorKind::Other,
@@ -121,6 +123,11 @@ impl System for MadeUpSystem {
         }
         self.kind_found()?;
         Ok(())
+    }
+
+    fn stream_into(&mut self) -> io::Result<Option<Stream>> {
+        self.note("streams")?;
+        Ok(self.stream)
     }
 
     fn lock(&mut self, how: Lock) -> io::Result<()> {

@@ -1,7 +1,7 @@
 // How the file of a store is opened.
 ghost use Rattle.std.specs.Prelude.{◌≡◌, ◌⊎◌, ◌↔◌, ℕ, List, Ok, Some, map, string_bytes, IsTrue, IfOk, OnOk};
-ghost use Rattle.summarystore.specs.Opening.{IsHeldAs, IsLocked, IsLockedAs, IsNative, IsSettledAs, MayHold, StaysUnmade, access_for, missing_for};
-ghost use Rattle.summarystore.specs.System.{Durable, IsUnsyncable, Keeps, KeepsAll, LockedBy, Synced, Unmade, Unsyncable, Unwritten};
+ghost use Rattle.summarystore.specs.Opening.{IsHeldAs, IsLocked, IsLockedAs, IsNative, IsSettledAs, MayHold, StaysUnmade, missing_for};
+ghost use Rattle.summarystore.specs.System.{Apart, Durable, IsUnsyncable, Keeps, KeepsAll, LockedBy, Synced, Unmade, Unsyncable, Unwritten};
 ghost use Rattle.summarystore.specs.System.{lasts_lock, lasts_open};
 
 use crate::foreign::is_foreign;
@@ -89,6 +89,18 @@ fn require_folder<S: System>(system: &mut S, path: &str) -> Result<(), Reason>
     }
 }
 
+// Fails where a standard stream goes into the open file.
+fn require_apart<S: System>(system: &mut S) -> Result<(), Reason>
+    ensures apart { OnOk result (S.holds system.new Apart) }
+    ensures keeps { KeepsAll (S.holds system.old) (S.holds system.new) }
+{
+    match system.stream_into() {
+        Ok(None) => Ok(()),
+        Ok(Some(stream)) => Err(Reason::own(Trouble::Stream(stream))),
+        Err(error) => Err(Reason::of(error, Trouble::NotOpened)),
+    }
+}
+
 // Locks the open file, and doesn't wait for it.
 fn lock<S: System>(system: &mut S, how: Lock) -> Result<(), Reason>
     ensures locks { OnOk result (S.holds system.new (LockedBy how)) }
@@ -101,36 +113,48 @@ fn lock<S: System>(system: &mut S, how: Lock) -> Result<(), Reason>
     }
 }
 
-// Opens a file that may not be written. It is locked against those that write.
-fn open_to_read<S: System>(system: &mut S, path: &str, refused: io::Error) -> Result<Opened, Reason>
+// Opens a file to be read alone, and locks it against those that write. Where there is none, this is the reason.
+fn open_to_read<S: System>(system: &mut S, path: &str, missing: Reason) -> Result<Opened, Reason>
     ensures read_only { IfOk result (λ opened. opened ≡ Opened.ReadOnly) }
     ensures locked { OnOk result (IsLocked Access.Read Lock.Shared (S.holds system.new)) }
+    ensures apart { OnOk result (S.holds system.new Apart) }
     ensures unmade { S.holds system.old Unmade → S.holds system.new Unmade }
     ensures unwritten { S.holds system.old Unwritten → S.holds system.new Unwritten }
 {
     match system.open(path, Access::Read) {
         Ok(()) => {}
-        Err(error) if error.kind() == ErrorKind::NotFound => {
-            return Err(Reason::of(refused, Trouble::NotMakeable));
-        }
+        Err(error) if error.kind() == ErrorKind::NotFound => return Err(missing),
         Err(error) => return Err(Reason::of(error, refusal(&error))),
     }
+    require_apart(system)?;
     lock(system, Lock::Shared)?;
     Ok(Opened::ReadOnly)
 }
 
-// What a file that may be written is opened for.
-fn access_for(missing: Missing) -> Access
-    ensures { result ≡ access_for missing }
+// Opens the file to be written, makes it where it is missing, and locks it against every other opening. One that may only be
+// read is opened so.
+fn open_to_write<S: System>(system: &mut S, path: &str, is_there: bool) -> Result<Opened, Reason>
+    ensures locked { IfOk result (λ opened. IsLockedAs Missing.Make opened (S.holds system.new)) }
+    ensures apart { OnOk result (S.holds system.new Apart) }
+    ensures unwritten { S.holds system.old Unwritten → S.holds system.new Unwritten }
 {
-    match missing {
-        Missing::Make => Access::Make,
-        Missing::ReadEmpty => Access::Change,
+    match system.open(path, Access::Make) {
+        Ok(()) => {}
+        Err(error) if is_read_only(&error) => {
+            return open_to_read(system, path, Reason::of(error, Trouble::NotMakeable));
+        }
+        Err(error) => return Err(Reason::of(error, refusal(&error))),
     }
+    require_apart(system)?;
+    lock(system, Lock::Exclusive)?;
+    Ok(if is_there {
+        Opened::Writable
+    } else {
+        Opened::Made
+    })
 }
 
-// Opens the file, makes it where it is missing and to be made, and locks it. One that may be written is locked against
-// every other opening.
+// Opens the file and locks it. Where none is to be made, it is only read.
 fn open_locked<S: System>(
     system: &mut S,
     path: &str,
@@ -138,20 +162,14 @@ fn open_locked<S: System>(
     is_there: bool,
 ) -> Result<Opened, Reason>
     ensures locked { IfOk result (λ opened. IsLockedAs missing opened (S.holds system.new)) }
+    ensures apart { OnOk result (S.holds system.new Apart) }
     ensures unmade { StaysUnmade missing (S.holds system.old) (S.holds system.new) }
     ensures unwritten { S.holds system.old Unwritten → S.holds system.new Unwritten }
 {
-    match system.open(path, access_for(missing)) {
-        Ok(()) => {}
-        Err(error) if is_read_only(&error) => return open_to_read(system, path, error),
-        Err(error) => return Err(Reason::of(error, refusal(&error))),
+    match missing {
+        Missing::Make => open_to_write(system, path, is_there),
+        Missing::ReadEmpty => open_to_read(system, path, Reason::own(Trouble::NoFile)),
     }
-    lock(system, Lock::Exclusive)?;
-    Ok(if is_there {
-        Opened::Writable
-    } else {
-        Opened::Made
-    })
 }
 
 // Whether something has the path. It fails where that isn't a regular file: to open a pipe or a device might wait or do
@@ -219,8 +237,8 @@ fn refuse_foreign<S: System>(system: &mut S) -> Result<(), Reason>
 }
 
 /// Opens the file of a store. Nothing is read before its bytes and its name are durable, and nothing is written. It fails
-/// where something else has the path, where another opening keeps it away, and where the file isn't formatted, but
-/// holds something.
+/// where something else has the path, where a standard stream goes into the file, where another opening keeps it away,
+/// and where the file isn't formatted, but holds something.
 pub fn open<S: System>(system: &mut S, path: &str, missing: Missing) -> Result<Opened, Reason>
     ensures held { IfOk result (λ opened. IsHeldAs missing opened (S.holds system.new)) }
     ensures settled { IfOk result (λ opened. IsSettledAs opened (S.holds system.new)) }

@@ -1,5 +1,5 @@
 // Why the file of a store can't be used.
-use crate::system::Kind;
+use crate::system::{Kind, Stream};
 use std::io::{self, ErrorKind};
 
 /// What is wrong with the file.
@@ -7,6 +7,7 @@ use std::io::{self, ErrorKind};
 pub enum Trouble {
     NoName,
     Irregular(Kind),
+    Stream(Stream),
     InUse,
     NoFolder,
     NotReadable,
@@ -29,6 +30,7 @@ impl Trouble {
         match self {
             Trouble::NoName => "the store has no name",
             Trouble::Irregular(kind) => irregular(kind),
+            Trouble::Stream(stream) => goes_into(stream),
             Trouble::InUse => "another process uses it",
             Trouble::NoFolder => "no such folder",
             Trouble::NotReadable => "may not be read",
@@ -49,6 +51,13 @@ impl Trouble {
 
 const READ_ONLY_WITH_WORK: &str =
     "may only be read, and an earlier run left work to do in it: run it once where it can be written";
+
+fn goes_into(stream: Stream) -> &'static str {
+    match stream {
+        Stream::Output => "standard output goes into it",
+        Stream::Error => "standard error goes into it",
+    }
+}
 
 fn irregular(kind: Kind) -> &'static str {
     match kind {

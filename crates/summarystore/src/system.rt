@@ -1,6 +1,7 @@
 // The calls of the system that a store's file needs.
 ghost use Rattle.std.specs.Prelude.{◌≡◌, ◌<◌, ◌≤◌, ◌+◌, ◌++◌, [], ℕ, List, length, take, slice_index, Ok, IfOk, IfErr, OnOk, OnErr};
-ghost use Rattle.summarystore.specs.System.{Fact, OpenFor, LockedBy, RegularFile, Synced, Unsyncable, Durable};
+ghost use Rattle.std.specs.Prelude.{None};
+ghost use Rattle.summarystore.specs.System.{Fact, OpenFor, Apart, LockedBy, RegularFile, Synced, Unsyncable, Durable};
 ghost use Rattle.summarystore.specs.System.{KeepsAll, Keeps, lasts_open, lasts_lock, lasts_write, IsUnsyncable};
 
 use std::io;
@@ -19,7 +20,6 @@ pub enum Kind {
 #[derive(Clone, Copy, Debug, PartialEq, Eq)]
 pub enum Access {
     Make,
-    Change,
     Read,
 }
 
@@ -28,6 +28,13 @@ pub enum Access {
 pub enum Lock {
     Exclusive,
     Shared,
+}
+
+/// A standard stream that is written.
+#[derive(Clone, Copy, Debug, PartialEq, Eq)]
+pub enum Stream {
+    Output,
+    Error,
 }
 
 /// The system, with at most one file open. A call of the open file fails where none is. No lock is waited for.
@@ -52,6 +59,11 @@ pub trait System {
     fn open(&mut self, path: &str, access: Access) -> io::Result<()>
         ensures opens { OnOk result (holds self.new (OpenFor access)) }
         ensures keeps { Keeps (lasts_open access) (holds self.old) (holds self.new) };
+
+    /// The standard stream that goes into the open file, if one does: standard error where both do.
+    fn stream_into(&mut self) -> io::Result<Option<Stream>>
+        ensures apart { result ≡ Ok None → holds self.new Apart }
+        ensures keeps { KeepsAll (holds self.old) (holds self.new) };
 
     /// Locks the open file. `WouldBlock` says that another opening has a lock that keeps this one away.
     fn lock(&mut self, how: Lock) -> io::Result<()>

@@ -6,7 +6,7 @@ ghost use Rattle.ss_program.specs.Sent.{appended};
 use crate::file_disk::FileDisk;
 use crate::opening::Opened;
 use crate::reason::{Reason, Trouble};
-use crate::system::System;
+use crate::system::{Stream, System};
 use ss_outside::Sink;
 use ss_program::{Status, complaint, send};
 use std::io;
@@ -23,10 +23,11 @@ pub fn print_notice<K: Sink>(sink: &mut K, text: &str) -> u8
     }
 }
 
-// Says what is wrong with the file of a store, in one line.
+// Says what is wrong with the file of a store, in one line. Nothing is said where it would go into that file.
 fn tell_reason<R: Eprint>(rt: &R, path: &str, reason: Reason) -> io::Result<()> {
     let words = reason.trouble.words();
     match (reason.trouble, reason.error) {
+        (Trouble::Stream(Stream::Error), _) => Ok(()),
         (Trouble::NoName, _) => eprintln!(rt; "summarystore: {words}"),
         (_, None) => eprintln!(rt; "summarystore: {path}: {words}"),
         (_, Some(error)) => eprintln!(rt; "summarystore: {path}: {words} [{error}]"),

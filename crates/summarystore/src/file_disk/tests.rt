@@ -3,7 +3,7 @@ use super::FileDisk;
 use crate::host_system::HostSystem;
 use crate::made_up_system::{MadeUpSystem, PATH};
 use crate::opening::Missing;
-use crate::system::Kind;
+use crate::system::{Kind, Stream};
 use ss_outside::Disk;
 use std::alloc::{AllocError, Global};
 use std::fs;
@@ -13,7 +13,7 @@ use std::test::Fail;
 // What the words of a table stand for.
 fn kind_named(word: &str) -> Option<Kind> {
     match word {
-        "file" | "read-only" => Some(Kind::Regular),
+        "file" | "read-only" | "output" | "error" => Some(Kind::Regular),
         "folder" => Some(Kind::Folder),
         "pipe" => Some(Kind::Pipe),
         "device" => Some(Kind::Device),
@@ -22,10 +22,19 @@ fn kind_named(word: &str) -> Option<Kind> {
     }
 }
 
+fn stream_named(word: &str) -> Option<Stream> {
+    match word {
+        "output" => Some(Stream::Output),
+        "error" => Some(Stream::Error),
+        _ => None,
+    }
+}
+
 // A system with this at the path, of which a call fails.
 fn system_of(alloc: Global, found: &str, failing: &'static str, error: &str) -> MadeUpSystem {
     let mut system = MadeUpSystem::new(alloc);
     system.found = kind_named(found);
+    system.stream = stream_named(found);
     system.may_be_written = found != "read-only";
     system.fail_at(failing, error_named(error));
     system
@@ -105,9 +114,9 @@ fn row_of(line: &'static str) -> Row {
 }
 
 const OPENINGS: &str = "\
-none,,,kind_of make lock kind sync_all sync_folder len read len ,
-file,,,kind_of make lock kind sync_all sync_folder len read len ,
-read-only,,,kind_of make open share kind sync_all len read len ,
+none,,,kind_of make streams lock kind sync_all sync_folder len read len ,
+file,,,kind_of make streams lock kind sync_all sync_folder len read len ,
+read-only,,,kind_of make open streams share kind sync_all len read len ,
 folder,,,kind_of ,is a folder
 pipe,,,kind_of ,is a pipe
 device,,,kind_of ,is a device
@@ -119,23 +128,28 @@ file,kind_of,PermissionDenied,kind_of ,may not be read
 file,kind_of,NotADirectory,kind_of ,no such folder
 file,make,Other,kind_of make ,can't be opened
 read-only,open,PermissionDenied,kind_of make open ,may not be read
-file,lock,WouldBlock,kind_of make lock ,another process uses it
-read-only,share,WouldBlock,kind_of make open share ,another process uses it
-file,lock,Other,kind_of make lock ,can't be opened
-file,sync_all,InvalidInput,kind_of make lock kind sync_all ,a sync failed
-read-only,sync_all,InvalidInput,kind_of make open share kind sync_all len read len ,
-read-only,sync_all,Other,kind_of make open share kind sync_all ,a sync failed
-file,sync_folder,Other,kind_of make lock kind sync_all sync_folder ,a sync failed
-file,len,Other,kind_of make lock kind sync_all sync_folder len ,a read failed
-file,read,Other,kind_of make lock kind sync_all sync_folder len read ,a read failed
+output,,,kind_of make streams ,standard output goes into it
+error,,,kind_of make streams ,standard error goes into it
+file,streams,Other,kind_of make streams ,can't be opened
+file,lock,WouldBlock,kind_of make streams lock ,another process uses it
+read-only,share,WouldBlock,kind_of make open streams share ,another process uses it
+file,lock,Other,kind_of make streams lock ,can't be opened
+file,sync_all,InvalidInput,kind_of make streams lock kind sync_all ,a sync failed
+read-only,sync_all,InvalidInput,kind_of make open streams share kind sync_all len read len ,
+read-only,sync_all,Other,kind_of make open streams share kind sync_all ,a sync failed
+file,sync_folder,Other,kind_of make streams lock kind sync_all sync_folder ,a sync failed
+file,len,Other,kind_of make streams lock kind sync_all sync_folder len ,a read failed
+file,read,Other,kind_of make streams lock kind sync_all sync_folder len read ,a read failed
 ";
 
-// The same where no file is made.
+// The same where no file is made: it is only read.
 const LOOKS: &str = "\
 none,,,kind_of folder ,
 none,folder,NotFound,kind_of folder ,no such folder
-file,,,kind_of change lock kind sync_all sync_folder len read len ,
-read-only,,,kind_of change open share kind sync_all len read len ,
+file,,,kind_of open streams share kind sync_all len read len ,
+read-only,,,kind_of open streams share kind sync_all len read len ,
+output,,,kind_of open streams ,standard output goes into it
+file,share,WouldBlock,kind_of open streams share ,another process uses it
 ";
 
 fn opens_as(alloc: Global, line: &'static str, missing: Missing) -> Result<bool, AllocError> {

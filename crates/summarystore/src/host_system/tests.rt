@@ -37,7 +37,6 @@ fn tells_kinds<S: System>(system: &mut S) -> bool {
     is(system.kind_of("/"), Kind::Folder)
         && is(system.kind_of("/dev/null"), Kind::Device)
         && fails_as(system.kind_of("missing"), ErrorKind::NotFound)
-        && fails_as(system.open("missing", Access::Change), ErrorKind::NotFound)
         && fails_as(system.open("missing", Access::Read), ErrorKind::NotFound)
 }
 
@@ -46,7 +45,7 @@ fn passes_errors_on<S: System>(system: &mut S, link: &str) -> bool {
     system.open("/", Access::Read).is_ok()
         && is(system.kind(), Kind::Folder)
         && system.read(0, &mut [0]).is_err()
-        && system.open("/dev/null", Access::Change).is_ok()
+        && system.open("/dev/null", Access::Make).is_ok()
         && is(system.kind(), Kind::Device)
         && is(system.write(0, b"abc"), 3)
         && system.sync_data().is_err()
