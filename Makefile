@@ -23,6 +23,8 @@ faults: ## tries the program that was built last on files while something goes w
 	@faults/kill $(PROGRAM)
 	@faults/images $(PROGRAM)
 	@faults/flips $(PROGRAM)
+	@faults/damage $(PROGRAM) 10000
+	@faults/memory $(PROGRAM)
 
 install: ## installs the program that was built last, and its man page: make install PREFIX=/usr/local
 	@test -x $(PROGRAM) || $(MAKE) build
