@@ -1,11 +1,12 @@
 // The devices in memory, called through the bounds that the crates above use.
+mod ahead;
 mod mem_disk;
 
 ghost use Rattle.std.specs.Prelude.{◌<◌, ◌≤◌, length};
 
 use crate::passing::{pass, pass_if};
 use ss_journal::JournalError;
-use ss_outside::{Failed, MemSink, MemSource, Sink, Source};
+use ss_outside::{Failed, MemSink, MemSource, Sink, Source, SteadySink, SteadySource};
 use std::alloc::{AllocError, Global};
 use std::test::Fail;
 
@@ -45,7 +46,8 @@ fn gives_in_pieces(alloc: Global, length: usize, piece: usize) -> Result<bool, J
     requires length { length ≤ 10 }
 {
     let mut source = source_of(alloc, &BYTES[..length], piece)?;
-    gives(&mut source, length)
+    let mut steady = SteadySource::new(BYTES[..length].to_vec(alloc)?, piece);
+    Ok(gives(&mut source, length)? && gives(&mut steady, length)?)
 }
 
 // The first length and piece, of three pieces for each of ten lengths, with which not all is given in order.
@@ -142,15 +144,30 @@ fn left_by(first: Result<usize, Failed>, second: Result<usize, Failed>) -> (usiz
     }
 }
 
-fn holds_what_it_took(sink: &mut MemSink) -> bool {
+fn left_in<K: Sink>(sink: &mut K) -> (usize, u64) {
     let first = put(sink, &[1, 2]);
     let second = put(sink, &[7; 64]);
-    (sink.held().len(), sink.short()) == left_by(first, second)
+    left_by(first, second)
+}
+
+fn holds_what_it_took(sink: &mut MemSink) -> bool {
+    let left = left_in(sink);
+    (sink.held().len(), sink.short()) == left
+}
+
+fn holds_steadily(sink: &mut SteadySink) -> bool {
+    let left = left_in(sink);
+    (sink.held().len(), sink.short()) == left
+}
+
+fn holds_both(alloc: Global) -> bool {
+    let mut sink = MemSink::new(alloc);
+    let mut steady = SteadySink::new(alloc);
+    holds_what_it_took(&mut sink) && holds_steadily(&mut steady)
 }
 
 // Passes with and without memory: run it with each allocation failing in turn.
 #[test]
 fn a_put_without_memory_leaves_what_was_held(rt: HostRuntime) -> Result<(), Fail> {
-    let mut sink = MemSink::new(rt.alloc());
-    pass_if(Ok(holds_what_it_took(&mut sink)))
+    pass_if(Ok(holds_both(rt.alloc())))
 }

@@ -6,6 +6,7 @@ pub mod MemDiskTime
 pub mod PastLemmas
 mod Rows
 mod DeviceRows
+mod SpareRows
 mod StepRows
 mod VerdictRows
 pub mod StepLemmas

@@ -8,7 +8,7 @@ use Rattle.ss_outside.proofs.PastLemmas.{replay-append}
 use Rattle.ss_outside.specs.Crash.{Elapses}
 use Rattle.ss_outside.specs.Disk.{overwrite, IsImage, BecomesPending, StaysSame, NothingPending}
 use Rattle.ss_outside.specs.MemDisk.{DiskCall, Wrote, Tore, Synced, DiskState, MemDiskState, fresh, pend, step, now, Leaves, told_by, IsListed}
-use Rattle.ss_outside.specs.MemDisk.{IsConsistent, answered, failed, starved, with_change}
+use Rattle.ss_outside.specs.MemDisk.{IsConsistent, Suffices, answered, failed, starved, with_change}
 use Rattle.ss_outside.specs.declared.source.Failed.{Failed}
 
 stepped : (s : MemDiskState) (call : DiskCall) → now (with_change s call) ≡ step (now s) call
@@ -38,32 +38,32 @@ module _ (old new : MemDiskState) where
 
     pub pending_written : IsConsistent (now old) → IsConsistent (now new) → (result : Result (Unit {0}) Failed) →
         OnOk result (new ≡ with_change (answered old) (Wrote at bytes))
-        → OnErr result ((IsListed old × (new ≡ with_change (failed old) (Tore at (length bytes)))) ⊎ (new ≡ starved old))
+        → OnErr result ((IsListed old × (new ≡ with_change (failed old) (Tore at (length bytes)))) ⊎ (¬ Suffices old (length bytes) × (new ≡ starved old)))
         → BecomesPending at (length bytes) (told_by old) (told_by new) ⊎ (IsErr result × StaysSame (told_by old) (told_by new))
     pending_written sound_old sound_new (Ok done) is none = inl (pends _ sound_old sound_new (ap now is ∙ stepped (answered old) (Wrote at bytes)))
     pending_written sound_old sound_new (Err e) none (inl tore) =
         inl (pends _ sound_old sound_new (ap now tore.1 ∙ stepped (failed old) (Tore at (length bytes))))
     pending_written sound_old sound_new (Err e) none (inr short) =
-        inr (refl, subst (λ (s : MemDiskState). StaysSame (told_by old) (told_by s)) (sym short) (reads-none (told_by old)).same)
+        inr (refl, subst (λ (s : MemDiskState). StaysSame (told_by old) (told_by s)) (sym short.1) (reads-none (told_by old)).same)
 
     pub time_written : (result : Result (Unit {0}) Failed) → OnOk result (new ≡ with_change (answered old) (Wrote at bytes))
-        → OnErr result ((IsListed old × (new ≡ with_change (failed old) (Tore at (length bytes)))) ⊎ (new ≡ starved old)) → Elapses (told_by old) (told_by new)
+        → OnErr result ((IsListed old × (new ≡ with_change (failed old) (Tore at (length bytes)))) ⊎ (¬ Suffices old (length bytes) × (new ≡ starved old))) → Elapses (told_by old) (told_by new)
     time_written (Ok done) is none = subst (λ (s : MemDiskState). Elapses (told_by old) (told_by s)) (sym is) (time_push old (Wrote at bytes))
     time_written (Err e) none (inl tore) = subst (λ (s : MemDiskState). Elapses (told_by old) (told_by s)) (sym tore.1) (time_push old (Tore at (length bytes)))
-    time_written (Err e) none (inr short) = subst (λ (s : MemDiskState). Elapses (told_by old) (told_by s)) (sym short) (reads-none (told_by old)).time
+    time_written (Err e) none (inr short) = subst (λ (s : MemDiskState). Elapses (told_by old) (told_by s)) (sym short.1) (reads-none (told_by old)).time
 
   pub time_synced : (result : Result (Unit {0}) Failed) → OnOk result (¬ IsListed old × (new ≡ with_change (answered old) Synced))
-      → OnErr result ((IsListed old × (new ≡ failed old)) ⊎ (¬ IsListed old × (new ≡ starved old))) → Elapses (told_by old) (told_by new)
+      → OnErr result ((IsListed old × (new ≡ failed old)) ⊎ (¬ IsListed old × ¬ Suffices old 0 × (new ≡ starved old))) → Elapses (told_by old) (told_by new)
   time_synced (Ok done) is none = subst (λ (s : MemDiskState). Elapses (told_by old) (told_by s)) (sym is.1) (time_push old Synced)
   time_synced (Err e) none (inl listed) = subst (λ (s : MemDiskState). Elapses (told_by old) (told_by s)) (sym listed.1) (reads-none (told_by old)).time
-  time_synced (Err e) none (inr short) = subst (λ (s : MemDiskState). Elapses (told_by old) (told_by s)) (sym short.1) (reads-none (told_by old)).time
+  time_synced (Err e) none (inr short) = subst (λ (s : MemDiskState). Elapses (told_by old) (told_by s)) (sym short.2) (reads-none (told_by old)).time
 
   pub state_synced : (result : Result (Unit {0}) Failed) → OnOk result (¬ IsListed old × (new ≡ with_change (answered old) Synced))
-      → OnErr result ((IsListed old × (new ≡ failed old)) ⊎ (¬ IsListed old × (new ≡ starved old))) →
+      → OnErr result ((IsListed old × (new ≡ failed old)) ⊎ (¬ IsListed old × ¬ Suffices old 0 × (new ≡ starved old))) →
       MatchResult result (λ _. now new ≡ fresh (now old).content) (λ _. now new ≡ now old)
   state_synced (Ok done) is none = ap now is.1 ∙ stepped (answered old) Synced
   state_synced (Err e) none (inl listed) = ap now listed.1
-  state_synced (Err e) none (inr short) = ap now short.1
+  state_synced (Err e) none (inr short) = ap now short.2
 
   -- by the state after a sync
   pub content_synced : (result : Result (Unit {0}) Failed) → MatchResult result (λ _. now new ≡ fresh (now old).content) (λ _. now new ≡ now old)
@@ -84,8 +84,8 @@ module _ (old new : MemDiskState) where
   no_other_synced (Ok done) is image left = inl (only_content is image left)
   no_other_synced (Err e) is image left = subst (λ (s : DiskState). Leaves s image) is left
 
-  pub same_synced : (result : Result (Unit {0}) Failed) → OnErr result ((IsListed old × (new ≡ failed old)) ⊎ (¬ IsListed old × (new ≡ starved old)))
+  pub same_synced : (result : Result (Unit {0}) Failed) → OnErr result ((IsListed old × (new ≡ failed old)) ⊎ (¬ IsListed old × ¬ Suffices old 0 × (new ≡ starved old)))
       → OnErr result (StaysSame (told_by old) (told_by new))
   same_synced (Ok done) none = tt
   same_synced (Err e) (inl listed) = subst (λ (s : MemDiskState). StaysSame (told_by old) (told_by s)) (sym listed.1) (reads-none (told_by old)).same
-  same_synced (Err e) (inr short) = subst (λ (s : MemDiskState). StaysSame (told_by old) (told_by s)) (sym short.1) (reads-none (told_by old)).same
+  same_synced (Err e) (inr short) = subst (λ (s : MemDiskState). StaysSame (told_by old) (told_by s)) (sym short.2) (reads-none (told_by old)).same

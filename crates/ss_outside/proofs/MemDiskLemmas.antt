@@ -1,10 +1,10 @@
 -- What the calls of a disk in memory keep.
-use Rattle.std.proofs.Common.{◌≡◌, ℕ, ◌≤◌, List, [], ◌∷◌, ◌++◌, length, take, drop, refl, sym, ◌∙◌, ap, subst, arith}
+use Rattle.std.proofs.Common.{◌≡◌, ℕ, ◌+◌, ◌-◌, ◌≤◌, List, [], ◌∷◌, ◌++◌, length, take, drop, refl, sym, ◌∙◌, ap, subst, arith}
 use Rattle.std.proofs.lemmas.List.{take-append-drop}
 use Rattle.ss_outside.specs.Disk.{overwrite, AreBytes, Torn}
 use Rattle.ss_outside.specs.MemDisk.{DiskCall, Wrote, Tore, Synced, DiskState, fresh, pend, step, replay, IsConsistent}
 use Rattle.ss_outside.specs.Past.{CountsToSync}
-use Rattle.ss_outside.proofs.DiskLemmas.{image_now, torn_is_image, overwrite_is_torn}
+use Rattle.ss_outside.proofs.DiskLemmas.{image_now, length-overwrite, torn_is_image, overwrite_is_torn}
 use Rattle.ss_outside.proofs.PastLemmas.{replay-append}
 
 sound_fresh : (content : List ℕ) → AreBytes content → IsConsistent (fresh content)
@@ -43,6 +43,12 @@ module _ (start : List ℕ) (calls after : List DiskCall) (held : List ℕ) (sou
   pub kept_synced : after ≡ calls ++ Synced ∷ [] → held ≡ (replay (fresh start) calls).content →
       (held ≡ (replay (fresh start) after).content) × IsConsistent (replay (fresh start) after)
   kept_synced is holds = kept_more Synced is holds (sound_fresh _ sound.own.bytes)
+
+-- a write takes at most as much of the spare room as it has bytes
+pub spare-wrote : (content bytes held : List ℕ) (at spare before after : ℕ) → at ≤ length content → held ≡ overwrite content at bytes →
+    length content + spare ≤ before → before ≤ after → length held ≤ after → length held + (spare - length bytes) ≤ after
+spare-wrote content bytes held at spare before after within is room grows fits =
+    omega (arith, ap length is ∙ length-overwrite content bytes at within, room, grows, fits)
 
 -- the calls up to the last good sync and those since
 pub replay_synced : (start : List ℕ) (calls : List DiskCall) (synced : ℕ) → CountsToSync synced calls →

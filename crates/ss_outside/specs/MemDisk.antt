@@ -1,5 +1,5 @@
 -- A disk in memory, as its calls tell it.
-use Rattle.std.specs.Prelude.{◌≡◌, ◌⊎◌, ℕ, zero, suc, ◌+◌, ◌≤◌, max, Bool, true, false, List, [], ◌∷◌, ◌++◌, length, filter, Option, None, Contains}
+use Rattle.std.specs.Prelude.{◌≡◌, ◌⊎◌, ℕ, zero, suc, ◌+◌, ◌-◌, ◌≤◌, max, Bool, true, false, List, [], ◌∷◌, ◌++◌, length, filter, Option, None, Contains}
 use Rattle.std.specs.Prelude.{IsSomeAnd, refl}
 use mathlib.Core.Logic.{inl, inr}
 use Rattle.ss_outside.specs.Crash.{KnowsNow}
@@ -17,6 +17,12 @@ abbrev pub is_sync : DiskCall → Bool
 is_sync (Wrote at bytes) = false
 is_sync (Tore at count) = false
 is_sync Synced = true
+
+-- how many bytes a call keeps
+abbrev pub kept_bytes : DiskCall → ℕ
+kept_bytes (Wrote at bytes) = length bytes
+kept_bytes (Tore at count) = 0
+kept_bytes Synced = 0
 
 -- how many of these calls are good syncs
 abbrev pub good_syncs : List DiskCall → ℕ
@@ -60,10 +66,13 @@ LeftSince s (call ∷ calls) zero image = Leaves s image ⊎ LeftSince (step s c
 LeftSince s (call ∷ calls) (suc t) image = LeftSince (step s call) calls t image
 
 -- what contracts see of a disk in memory: what it held when it was made, the calls since that changed something, the
--- listed calls, the first of those that fail all, and how many calls were made, failed, and failed because memory ran out
+-- spare calls and bytes, the listed calls, the first of those that fail all, and how many calls were made, failed, and failed
+-- because memory ran out
 pub record MemDiskState : Type 0 where
   pub start : List ℕ
   pub changes : List DiskCall
+  pub spare_calls : ℕ
+  pub spare_bytes : ℕ
   pub failing : List ℕ
   pub stop : Option ℕ
   pub calls : ℕ
@@ -72,7 +81,7 @@ pub record MemDiskState : Type 0 where
 
 -- a disk that was just made
 abbrev pub made : List ℕ → MemDiskState
-made content = record { start = content; changes = []; failing = []; stop = None; calls = 0; faults = 0; short = 0 }
+made content = record { start = content; changes = []; spare_calls = 0; spare_bytes = 0; failing = []; stop = None; calls = 0; faults = 0; short = 0 }
 
 -- the state of a disk in memory now
 abbrev pub now : MemDiskState → DiskState
@@ -92,9 +101,18 @@ failed s = record s { calls = one_more s.calls; faults = one_more s.faults }
 abbrev pub starved : MemDiskState → MemDiskState
 starved s = record s { calls = one_more s.calls; faults = one_more s.faults; short = one_more s.short }
 
--- the same with one change more
+-- the same with one change more, for which the spare is used
 abbrev pub with_change : MemDiskState → DiskCall → MemDiskState
-with_change s call = record s { changes = s.changes ++ call ∷ [] }
+with_change s call =
+    record s { changes = s.changes ++ call ∷ []; spare_calls = s.spare_calls - 1; spare_bytes = s.spare_bytes - kept_bytes call }
+
+-- the spare is enough for a call that keeps so many bytes
+abbrev pub Suffices : MemDiskState → ℕ → Type 0
+Suffices s bytes = (1 ≤ s.spare_calls) × (bytes ≤ s.spare_bytes)
+
+-- with so many spare calls and bytes at least
+abbrev pub reserved : MemDiskState → ℕ → ℕ → MemDiskState
+reserved s calls bytes = record s { spare_calls = max s.spare_calls calls; spare_bytes = max s.spare_bytes bytes }
 
 -- what it tells
 abbrev pub told_by : MemDiskState → Told

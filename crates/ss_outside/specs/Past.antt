@@ -1,9 +1,23 @@
 -- How the calls of a disk in memory are kept.
-use Rattle.std.specs.Prelude.{◌≡◌, ℕ, ◌+◌, ◌≤◌, List, [], ◌∷◌, length, take, drop, ⊤}
-use Rattle.ss_outside.specs.MemDisk.{DiskCall, Wrote, Tore, Synced, fresh, replay}
+use Rattle.std.specs.Prelude.{◌≡◌, ℕ, ◌+◌, ◌-◌, ◌≤◌, ◌++◌, max, List, [], ◌∷◌, length, take, drop, ⊤}
+use Rattle.ss_outside.specs.MemDisk.{DiskCall, Wrote, Tore, Synced, fresh, kept_bytes, replay}
 use Rattle.ss_outside.specs.declared.disk.TheConstants.{LONGEST_DISK}
 use Rattle.ss_outside.specs.declared.past.Change.{Change}
 use Rattle.ss_outside.specs.declared.past.Change.TheVariants.{Bytes, Torn, Sync}
+
+-- the calls that are kept, and for how many more, and how many more of their bytes, memory was taken ahead
+pub record PastState : Type 0 where
+  pub calls : List DiskCall
+  pub spare_calls : ℕ
+  pub spare_bytes : ℕ
+
+-- one call more
+abbrev pub with_call : PastState → DiskCall → PastState
+with_call p call = record { calls = p.calls ++ call ∷ []; spare_calls = p.spare_calls - 1; spare_bytes = p.spare_bytes - kept_bytes call }
+
+-- so many spare calls and bytes at least
+abbrev pub with_spare : PastState → ℕ → ℕ → PastState
+with_spare p calls bytes = record p { spare_calls = max p.spare_calls calls; spare_bytes = max p.spare_bytes bytes }
 
 -- the call that a change stands for, with its bytes in the pool
 abbrev pub call_of : List ℕ → Change → DiskCall

@@ -19,6 +19,7 @@ pub(crate) fn read_from(content: &[u8], at: u64, into: &mut [u8])
 pub(crate) fn overwrite_at(content: &mut Vec<u8>, at: usize, bytes: &[u8]) -> Result<(), AllocError>
     ensures done { OnOk result (content.new.items ≡ overwrite content.old.items at bytes.now) }
     ensures kept { OnErr result (content.new.items ≡ content.old.items) }
+    ensures capacity { vec_capacity content.old ≤ vec_capacity content.new }
     ensures room { length content.old.items + length bytes.now ≤ vec_capacity content.old → IsOk result }
 {
     let at = at.min(content.len());

@@ -9,6 +9,9 @@ mod mem_source;
 mod past;
 mod sink;
 mod source;
+mod spare;
+mod steady_sink;
+mod steady_source;
 
 pub use disk::{Disk, LONGEST_DISK};
 pub use mem_disk::{Choice, MemDisk};
@@ -16,3 +19,6 @@ pub use mem_sink::MemSink;
 pub use mem_source::MemSource;
 pub use sink::Sink;
 pub use source::{Failed, Source};
+pub use spare::MOST_SPARE;
+pub use steady_sink::SteadySink;
+pub use steady_source::SteadySource;

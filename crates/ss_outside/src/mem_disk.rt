@@ -17,7 +17,8 @@ pub enum Choice {
 }
 
 /// A disk that holds its bytes in memory, and fails at the calls that `fail_at` and `stop_from` list. It keeps what its
-/// calls changed, and grows as it is used: a write or a sync that finds no memory to grow fails too.
+/// calls changed, and grows as it is used: a write or a sync that finds no memory to grow fails too. None does while what
+/// `reserve` took ahead is enough for it.
 #[derive(Drop)]
 pub struct MemDisk {
     alloc: Global,
@@ -35,14 +36,16 @@ pub struct MemDisk {
 }
 
 impl Model for MemDisk {
-    ghost use Rattle.std.specs.Prelude.{◌≡◌};
+    ghost use Rattle.std.specs.Prelude.{◌≡◌, ◌+◌, ◌≤◌, length, vec_capacity};
     ghost use Rattle.ss_outside.specs.MemDisk.{MemDiskState, IsConsistent, fresh, replay};
 
     ghost Value = { MemDiskState };
 
     ghost view = { λ s. record {
       start = s.start.items;
-      changes = s.past;
+      changes = s.past.calls;
+      spare_calls = s.past.spare_calls;
+      spare_bytes = s.past.spare_bytes;
       failing = s.failing.items;
       stop = s.stop;
       calls = s.calls;
@@ -50,7 +53,8 @@ impl Model for MemDisk {
       short = s.short;
     } };
 
-    ghost invariant = { λ s. let state = replay (fresh s.start.items) s.past in (s.bytes.items ≡ state.content) × IsConsistent state };
+    ghost invariant = { λ s. let state = replay (fresh s.start.items) s.past.calls in
+        (s.bytes.items ≡ state.content) × IsConsistent state × (length s.bytes.items + s.past.spare_bytes ≤ vec_capacity s.bytes) };
 }
 
 impl MemDisk {
@@ -59,7 +63,8 @@ impl MemDisk {
     ghost use Rattle.ss_outside.specs.Choice.{IsChosen};
     ghost use Rattle.ss_outside.specs.Disk.{NothingPending};
     ghost use Rattle.ss_outside.specs.MemDisk.{Wrote, Tore, Synced, made, now, good_syncs, told_by, Leaves, IsListed, IsConsistent, answered, failed};
-    ghost use Rattle.ss_outside.specs.MemDisk.{starved, with_change};
+    ghost use Rattle.ss_outside.specs.MemDisk.{Suffices, starved, reserved, with_change};
+    ghost use Rattle.ss_outside.specs.Memory.{CanBeSpare};
 
     /// A disk that holds these bytes, with nothing pending and no call listed as failing. It takes memory for a copy of
     /// them.
@@ -124,6 +129,18 @@ impl MemDisk {
         self.short
     }
 
+    /// Takes memory ahead for so many more calls and bytes at least. `len` and `read_at` use none of it, a write uses one
+    /// call and as many bytes as it is given, and a sync or a failed write one call.
+    pub fn reserve(&mut self, calls: u64, bytes: u64) -> Result<(), AllocError>
+        requires calls { CanBeSpare calls }
+        requires bytes { CanBeSpare bytes }
+        ensures reserved { OnOk result (self.new ≡ reserved self.old calls bytes) }
+        ensures kept { OnErr result (self.new ≡ self.old) }
+    {
+        self.bytes.reserve(bytes as usize)?;
+        self.past.reserve(calls as usize, bytes as usize)
+    }
+
     /// The disk that a crash now leaves, with nothing pending and no call listed as failing. It takes memory for a copy
     /// of what is left.
     pub fn crash(&self, choice: Choice) -> Result<MemDisk, AllocError>
@@ -164,7 +181,8 @@ impl MemDisk {
         ensures listed { IsListed self.old → IsErr result }
         ensures wrote { OnOk result (self.new ≡ with_change (answered self.old) (Wrote at bytes.now)) }
         ensures failed { OnErr result
-            ((IsListed self.old × (self.new ≡ with_change (failed self.old) (Tore at (length bytes.now)))) ⊎ (self.new ≡ starved self.old)) }
+            ((IsListed self.old × (self.new ≡ with_change (failed self.old) (Tore at (length bytes.now))))
+            ⊎ (¬ Suffices self.old (length bytes.now) × (self.new ≡ starved self.old))) }
         ensures cause { HasCause self.old.faults self.new.faults result }
         ensures sound_before { IsConsistent (now self.old) }
         ensures sound { IsConsistent (now self.new) }
@@ -187,7 +205,8 @@ impl MemDisk {
     fn make_sync(&mut self) -> Result<(), Failed>
         ensures synced { OnOk result (¬ IsListed self.old × (self.new ≡ with_change (answered self.old) Synced)) }
         ensures failed { OnErr result
-            ((IsListed self.old × (self.new ≡ failed self.old)) ⊎ (¬ IsListed self.old × (self.new ≡ starved self.old))) }
+            ((IsListed self.old × (self.new ≡ failed self.old))
+            ⊎ (¬ IsListed self.old × ¬ Suffices self.old 0 × (self.new ≡ starved self.old))) }
         ensures cause { HasCause self.old.faults self.new.faults result }
         ensures sound_before { IsConsistent (now self.old) }
         ensures sound { IsConsistent (now self.new) }
@@ -204,7 +223,7 @@ impl MemDisk {
 
 impl Disk for MemDisk {
     ghost use Rattle.std.specs.Prelude.{◌≡◌, ◌⊎◌, ◌+◌, ◌≤◌, ◌↔◌, length, IsErr, OnOk, OnErr};
-    ghost use Rattle.ss_outside.specs.MemDisk.{Wrote, Tore, Synced, told_by, view_of, knows_now, IsListed, answered, failed, starved, with_change};
+    ghost use Rattle.ss_outside.specs.MemDisk.{Wrote, Tore, Synced, told_by, view_of, knows_now, IsListed, Suffices, answered, failed, starved, with_change};
     ghost use Rattle.ss_outside.specs.Step.{Measures, ReadsAt, Step, Syncs, WritesAt};
     ghost use Rattle.ss_outside.specs.Verdict.{verdict};
 
@@ -237,7 +256,8 @@ impl Disk for MemDisk {
     }
 
     /// Fails where the call is listed, and else only where memory is short, which `short` counts. A listed write writes
-    /// nothing, but its range is pending. One that finds no memory, listed or not, leaves the disk as it was.
+    /// nothing, but its range is pending. One that finds no memory, listed or not, leaves the disk as it was. None does so
+    /// while the spare is enough.
     fn write_at(&mut self, at: u64, bytes: &[u8]) -> Result<(), Failed>
         requires within { at ≤ length (told_by self.old).content }
         requires end { at + length bytes.now ≤ LONGEST_DISK }
@@ -245,26 +265,30 @@ impl Disk for MemDisk {
         ensures listed { IsListed self.old → IsErr result }
         ensures wrote { OnOk result (self.new ≡ with_change (answered self.old) (Wrote at bytes.now)) }
         ensures failed { OnErr result
-            ((IsListed self.old × (self.new ≡ with_change (failed self.old) (Tore at (length bytes.now)))) ⊎ (self.new ≡ starved self.old)) }
+            ((IsListed self.old × (self.new ≡ with_change (failed self.old) (Tore at (length bytes.now))))
+            ⊎ (¬ Suffices self.old (length bytes.now) × (self.new ≡ starved self.old))) }
     {
         self.write(at as usize, bytes)
     }
 
-    /// Fails where the call is listed, and else only where memory is short, which `short` counts.
+    /// Fails where the call is listed, and else only where memory is short, which `short` counts, and the spare isn't
+    /// enough.
     fn sync(&mut self) -> Result<(), Failed>
         ensures step { Step (verdict result) (view_of self.old) (view_of self.new) (Syncs result) }
         ensures synced { OnOk result (¬ IsListed self.old × (self.new ≡ with_change (answered self.old) Synced)) }
         ensures failed { OnErr result
-            ((IsListed self.old × (self.new ≡ failed self.old)) ⊎ (¬ IsListed self.old × (self.new ≡ starved self.old))) }
+            ((IsListed self.old × (self.new ≡ failed self.old))
+            ⊎ (¬ IsListed self.old × ¬ Suffices self.old 0 × (self.new ≡ starved self.old))) }
     {
         self.make_sync()
     }
 }
 
-ghost use Rattle.std.specs.Prelude.{◌≡◌, ◌⊎◌, ◌+◌, ◌≤◌, ◌++◌, ◌∷◌, [], ◌↔◌, length, Contains, IsTrue, IsSomeAnd, IfOk, OnOk, OnErr};
+ghost use Rattle.std.specs.Prelude.{◌≡◌, ◌⊎◌, ◌+◌, ◌≤◌, ◌↔◌, length, vec_capacity, Contains, IsTrue, IsSomeAnd, IsOk, IfOk, OnOk, OnErr};
 ghost use Rattle.ss_outside.specs.Disk.{overwrite};
 ghost use Rattle.ss_outside.specs.Choice.{IsFilled};
 ghost use Rattle.ss_outside.specs.MemDisk.{Wrote, fresh, replay};
+ghost use Rattle.ss_outside.specs.Past.{with_call};
 
 // Whether the call with this number is listed as failing.
 fn is_listed(failing: &[u64], stop: Option<u64>, call: u64) -> bool
@@ -282,8 +306,11 @@ fn is_listed(failing: &[u64], stop: Option<u64>, call: u64) -> bool
 fn put(content: &mut Vec<u8>, past: &mut Past, at: usize, bytes: &[u8]) -> Result<(), AllocError>
     requires { at + length bytes.now ≤ LONGEST_DISK }
     ensures content { OnOk result (content.new.items ≡ overwrite content.old.items at bytes.now) }
-    ensures past { OnOk result (past.new ≡ past.old ++ Wrote at bytes.now ∷ []) }
+    ensures past { OnOk result (past.new ≡ with_call past.old (Wrote at bytes.now)) }
     ensures kept { OnErr result ((content.new.items ≡ content.old.items) × (past.new ≡ past.old)) }
+    ensures capacity { vec_capacity content.old ≤ vec_capacity content.new }
+    ensures enough { length content.old.items + length bytes.now ≤ vec_capacity content.old
+        → 1 ≤ past.old.spare_calls → length bytes.now ≤ past.old.spare_bytes → IsOk result }
 {
     content.reserve(bytes.len())?;
     past.write(at, bytes)?;
@@ -292,14 +319,14 @@ fn put(content: &mut Vec<u8>, past: &mut Past, at: usize, bytes: &[u8]) -> Resul
 
 // The content at the last good sync.
 fn lost(alloc: Global, start: &[u8], past: &Past) -> Result<Vec<u8>, AllocError>
-    ensures { IfOk result (λ image. image.items ≡ (replay (fresh start.now) past.now).synced) }
+    ensures { IfOk result (λ image. image.items ≡ (replay (fresh start.now) past.now.calls).synced) }
 {
     past.content_after(alloc, start, past.synced())
 }
 
 // The image with this byte at every free place.
 fn filled(alloc: Global, start: &[u8], past: &Past, byte: u8) -> Result<Vec<u8>, AllocError>
-    ensures { IfOk result (λ image. IsFilled (replay (fresh start.now) past.now) byte image.items) }
+    ensures { IfOk result (λ image. IsFilled (replay (fresh start.now) past.now.calls) byte image.items) }
 {
     let synced = past.synced();
     let mut image = past.content_after(alloc, start, synced)?;

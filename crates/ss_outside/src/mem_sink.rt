@@ -1,19 +1,18 @@
 // A sink in memory.
-use crate::{Failed, Sink};
-use std::alloc::Global;
+use crate::{Failed, Sink, SteadySink};
+use std::alloc::{AllocError, Global};
 use std::marker::Model;
 
 /// A sink that holds its bytes in memory, takes each piece whole, and fails at the puts that `fail_at` lists. It grows
-/// as it is used: a put that finds no memory to grow fails too.
+/// as it is used: a put that finds no memory to grow fails too. None does while what `reserve` took ahead is enough for it.
 #[derive(Drop)]
 pub struct MemSink {
-    bytes: Vec<u8>,
+    steady: SteadySink,
     // The numbers of the puts that fail.
     failing: Vec<u64>,
-    // How many puts were made, how many of them failed, and how many of those because memory ran out.
+    // How many puts were made, and how many of them failed.
     calls: u64,
     faults: u64,
-    short: u64,
 }
 
 impl Model for MemSink {
@@ -22,27 +21,28 @@ impl Model for MemSink {
     ghost Value = { SinkState };
 
     ghost view = { λ s. record {
-      held = s.bytes.items;
+      held = s.steady.held;
+      spare = s.steady.spare;
       failing = s.failing.items;
       calls = s.calls;
       faults = s.faults;
-      short = s.short;
+      short = s.steady.short;
     } };
 }
 
 impl MemSink {
-    ghost use Rattle.std.specs.Prelude.{◌≡◌, []};
+    ghost use Rattle.std.specs.Prelude.{◌≡◌, [], OnOk, OnErr};
+    ghost use Rattle.ss_outside.specs.Memory.{CanBeSpare, roomy};
 
     /// A sink that holds nothing. No put is listed as failing, and nothing is allocated.
     pub fn new(alloc: Global) -> MemSink
-        ensures { result ≡ record { held = []; failing = []; calls = 0; faults = 0; short = 0 } }
+        ensures { result ≡ record { held = []; spare = 0; failing = []; calls = 0; faults = 0; short = 0 } }
     {
         MemSink {
-            bytes: Vec::new(alloc),
+            steady: SteadySink::new(alloc),
             failing: Vec::new(alloc),
             calls: 0,
             faults: 0,
-            short: 0,
         }
     }
 
@@ -53,18 +53,27 @@ impl MemSink {
         self.failing = calls;
     }
 
+    /// Takes memory ahead for so many more bytes at least.
+    pub fn reserve(&mut self, bytes: u64) -> Result<(), AllocError>
+        requires { CanBeSpare bytes }
+        ensures reserved { OnOk result (self.new ≡ roomy self.old bytes) }
+        ensures kept { OnErr result (self.new ≡ self.old) }
+    {
+        self.steady.reserve(bytes)
+    }
+
     /// The bytes held, in the order in which they were put.
     pub fn held(&self) -> &[u8]
         ensures { result.now ≡ self.now.held }
     {
-        self.bytes.as_slice()
+        self.steady.held()
     }
 
     /// How many puts failed because memory ran out, a number of 64 bits that stands still at its greatest.
     pub fn short(&self) -> u64
         ensures { result ≡ self.now.short }
     {
-        self.short
+        self.steady.short()
     }
 }
 
@@ -72,13 +81,14 @@ impl Sink for MemSink {
     ghost use Rattle.std.specs.Prelude.{◌≡◌, ◌⊎◌, ◌<◌, ◌≤◌, length, Some, Contains, IsErr, IfOk, OnOk, OnErr};
     ghost use Rattle.ss_outside.specs.Verdict.{HasCause};
     ghost use Rattle.ss_outside.specs.Sink.{Appends};
-    ghost use Rattle.ss_outside.specs.Memory.{crowded, taken, untaken};
+    ghost use Rattle.ss_outside.specs.Memory.{IsBeyond, crowded, taken, untaken};
 
     ghost held = { λ s. Some s.held };
 
     ghost faults = { λ s. s.faults };
 
-    /// Takes the piece whole. Fails where the put is listed, and else only where memory is short, which `short` counts.
+    /// Takes the piece whole. Fails where the put is listed, and else only where memory is short, which `short` counts, and
+    /// the spare isn't enough.
     fn put(&mut self, piece: &[u8]) -> Result<usize, Failed>
         requires { 0 < length piece.now }
         ensures bound { IfOk result (λ k. (0 < k) × (k ≤ length piece.now)) }
@@ -88,7 +98,7 @@ impl Sink for MemSink {
         ensures listed { Contains self.old.failing self.old.calls → IsErr result }
         ensures taken { OnOk result (self.new ≡ taken self.old piece.now) }
         ensures failed { OnErr result ((Contains self.old.failing self.old.calls × (self.new ≡ untaken self.old))
-            ⊎ (¬ Contains self.old.failing self.old.calls × (self.new ≡ crowded self.old))) }
+            ⊎ (¬ Contains self.old.failing self.old.calls × IsBeyond self.old.spare piece.now × (self.new ≡ crowded self.old))) }
     {
         let call = self.calls;
         self.calls = call.saturating_add(1);
@@ -96,11 +106,10 @@ impl Sink for MemSink {
             self.faults = self.faults.saturating_add(1);
             return Err(Failed);
         }
-        if self.bytes.extend_from_slice(piece).is_err() {
+        let put = self.steady.put(piece);
+        if put.is_err() {
             self.faults = self.faults.saturating_add(1);
-            self.short = self.short.saturating_add(1);
-            return Err(Failed);
         }
-        Ok(piece.len())
+        put
     }
 }

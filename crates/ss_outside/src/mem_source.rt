@@ -1,16 +1,12 @@
 // A source in memory.
-use crate::{Failed, Source};
+use crate::{Failed, Source, SteadySource};
 use std::alloc::Global;
 use std::marker::Model;
 
 /// A source over bytes in memory, which gives at most `piece` bytes a read, and fails at the reads that `fail_at` lists.
 #[derive(Drop)]
 pub struct MemSource {
-    bytes: Vec<u8>,
-    // How many of the bytes were given.
-    given: usize,
-    // The most bytes that a read gives.
-    piece: usize,
+    steady: SteadySource,
     // The numbers of the reads that fail.
     failing: Vec<u64>,
     // How many reads were made, and how many of them failed.
@@ -19,20 +15,17 @@ pub struct MemSource {
 }
 
 impl Model for MemSource {
-    ghost use Rattle.std.specs.Prelude.{◌<◌, ◌≤◌, drop, length};
     ghost use Rattle.ss_outside.specs.Memory.{SourceState};
 
     ghost Value = { SourceState };
 
     ghost view = { λ s. record {
-      left = drop s.given s.bytes.items;
-      piece = s.piece;
+      left = s.steady.left;
+      piece = s.steady.piece;
       failing = s.failing.items;
       calls = s.calls;
       faults = s.faults;
     } };
-
-    ghost invariant = { λ s. (s.given ≤ length s.bytes.items) × (0 < s.piece) };
 }
 
 impl MemSource {
@@ -45,9 +38,7 @@ impl MemSource {
         ensures { result ≡ record { left = bytes.items; piece = piece; failing = []; calls = 0; faults = 0 } }
     {
         MemSource {
-            bytes,
-            given: 0,
-            piece,
+            steady: SteadySource::new(bytes, piece),
             failing: Vec::new(alloc),
             calls: 0,
             faults: 0,
@@ -92,11 +83,6 @@ impl Source for MemSource {
             self.faults = self.faults.saturating_add(1);
             return Err(Failed);
         }
-        let left = self.bytes.len() - self.given;
-        let count = self.piece.min(left).min(into.len());
-        let end = self.given + count;
-        into[..count].copy_from_slice(&self.bytes[self.given..end]);
-        self.given = end;
-        Ok(count)
+        Ok(self.steady.give(into))
     }
 }

@@ -19,73 +19,102 @@ enum Change {
     Sync,
 }
 
-// What a disk in memory went through since it was made.
+// What a disk in memory went through since it was made. There is room for so many more calls and for so many more of
+// their bytes.
 #[derive(Drop)]
 pub(crate) struct Past {
     changes: Vec<Change>,
     pool: Vec<u8>,
+    spare_calls: usize,
+    spare_bytes: usize,
 }
 
 impl Model for Past {
-    ghost use Rattle.std.specs.Prelude.{List, map, length, All};
-    ghost use Rattle.ss_outside.specs.MemDisk.{DiskCall};
+    ghost use Rattle.std.specs.Prelude.{◌+◌, ◌≤◌, map, length, All, vec_capacity};
+    ghost use Rattle.ss_outside.specs.Past.{PastState, call_of, LiesWithin};
 
-    ghost Value = { List DiskCall };
+    ghost Value = { PastState };
 
-    ghost use Rattle.ss_outside.specs.Past.{call_of, LiesWithin};
+    ghost view = { λ p. record {
+      calls = map (call_of p.pool.items) p.changes.items;
+      spare_calls = p.spare_calls;
+      spare_bytes = p.spare_bytes;
+    } };
 
-    ghost view = { λ p. map (call_of p.pool.items) p.changes.items };
-
-    ghost invariant = { λ p. All (LiesWithin (length p.pool.items)) p.changes.items };
+    ghost invariant = { λ p. All (LiesWithin (length p.pool.items)) p.changes.items
+        × (length p.changes.items + p.spare_calls ≤ vec_capacity p.changes)
+        × (length p.pool.items + p.spare_bytes ≤ vec_capacity p.pool) };
 }
 
 impl Past {
-    ghost use Rattle.std.specs.Prelude.{◌≡◌, ◌+◌, ◌≤◌, [], ◌∷◌, ◌++◌, length, take, drop, IfOk, OnOk, OnErr};
+    ghost use Rattle.std.specs.Prelude.{◌≡◌, ◌+◌, ◌≤◌, [], length, take, drop, IsOk, IfOk, OnOk, OnErr};
     ghost use Rattle.ss_outside.specs.MemDisk.{Wrote, Tore, Synced, fresh, good_syncs, replay};
-    ghost use Rattle.ss_outside.specs.Past.{CountsToSync};
+    ghost use Rattle.ss_outside.specs.Past.{CountsToSync, with_call, with_spare};
     ghost use Rattle.ss_outside.specs.Choice.{IsFilled};
 
     pub(crate) fn new(alloc: Global) -> Past
-        ensures { result ≡ [] }
+        ensures { result ≡ record { calls = []; spare_calls = 0; spare_bytes = 0 } }
     {
         Past {
             changes: Vec::new(alloc),
             pool: Vec::new(alloc),
+            spare_calls: 0,
+            spare_bytes: 0,
         }
     }
 
     pub(crate) fn write(&mut self, at: usize, bytes: &[u8]) -> Result<(), AllocError>
         requires { at + length bytes.now ≤ LONGEST_DISK }
-        ensures added { OnOk result (self.new ≡ self.old ++ Wrote at bytes.now ∷ []) }
+        ensures added { OnOk result (self.new ≡ with_call self.old (Wrote at bytes.now)) }
         ensures kept { OnErr result (self.new ≡ self.old) }
+        ensures enough { 1 ≤ self.old.spare_calls → length bytes.now ≤ self.old.spare_bytes → IsOk result }
     {
         let from = self.pool.len();
         let count = bytes.len();
+        self.changes.reserve(1)?;
         self.pool.extend_from_slice(bytes)?;
         self.changes.push(Change::Bytes { at, from, count })?;
+        self.spare_calls = self.spare_calls.saturating_sub(1);
+        self.spare_bytes = self.spare_bytes.saturating_sub(count);
         Ok(())
     }
 
     pub(crate) fn tear(&mut self, at: usize, count: usize) -> Result<(), AllocError>
         requires { at + count ≤ LONGEST_DISK }
-        ensures added { OnOk result (self.new ≡ self.old ++ Tore at count ∷ []) }
+        ensures added { OnOk result (self.new ≡ with_call self.old (Tore at count)) }
         ensures kept { OnErr result (self.new ≡ self.old) }
+        ensures enough { 1 ≤ self.old.spare_calls → IsOk result }
     {
         self.changes.push(Change::Torn { at, count })?;
+        self.spare_calls = self.spare_calls.saturating_sub(1);
         Ok(())
     }
 
     pub(crate) fn sync(&mut self) -> Result<(), AllocError>
-        ensures added { OnOk result (self.new ≡ self.old ++ Synced ∷ []) }
+        ensures added { OnOk result (self.new ≡ with_call self.old Synced) }
         ensures kept { OnErr result (self.new ≡ self.old) }
+        ensures enough { 1 ≤ self.old.spare_calls → IsOk result }
     {
         self.changes.push(Change::Sync)?;
+        self.spare_calls = self.spare_calls.saturating_sub(1);
+        Ok(())
+    }
+
+    // Takes memory for so many more calls, and for so many more of their bytes.
+    pub(crate) fn reserve(&mut self, calls: usize, bytes: usize) -> Result<(), AllocError>
+        ensures reserved { OnOk result (self.new ≡ with_spare self.old calls bytes) }
+        ensures kept { OnErr result (self.new ≡ self.old) }
+    {
+        self.changes.reserve(calls)?;
+        self.pool.reserve(bytes)?;
+        self.spare_calls = self.spare_calls.max(calls);
+        self.spare_bytes = self.spare_bytes.max(bytes);
         Ok(())
     }
 
     // How many of the calls came up to the last good sync.
     pub(crate) fn synced(&self) -> usize
-        ensures { CountsToSync result self.now }
+        ensures { CountsToSync result self.now.calls }
     {
         let mut synced = 0;
         for (k, change) in self.changes.iter().enumerate() {
@@ -98,7 +127,7 @@ impl Past {
 
     // How many of the calls were good syncs.
     pub(crate) fn syncs(&self) -> u64
-        ensures { result ≡ good_syncs self.now }
+        ensures { result ≡ good_syncs self.now.calls }
     {
         let mut syncs = 0;
         for change in self.changes.iter() {
@@ -116,8 +145,8 @@ impl Past {
         start: &[u8],
         calls: usize,
     ) -> Result<Vec<u8>, AllocError>
-        requires { calls ≤ length self.now }
-        ensures { IfOk result (λ v. v.items ≡ (replay (fresh start.now) (take calls self.now)).content) }
+        requires { calls ≤ length self.now.calls }
+        ensures { IfOk result (λ v. v.items ≡ (replay (fresh start.now) (take calls self.now.calls)).content) }
     {
         let mut content = start.to_vec(alloc)?;
         for change in &self.changes[..calls] {
@@ -135,8 +164,8 @@ impl Past {
         image: &mut Vec<u8>,
         byte: u8,
     ) -> Result<(), AllocError>
-        requires { CountsToSync synced self.now }
-        ensures { OnOk result (IsFilled (replay (fresh image.old.items) (drop synced self.now)) byte image.new.items) }
+        requires { CountsToSync synced self.now.calls }
+        ensures { OnOk result (IsFilled (replay (fresh image.old.items) (drop synced self.now.calls)) byte image.new.items) }
     {
         for change in &self.changes[synced..] {
             match *change {

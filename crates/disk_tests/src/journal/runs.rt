@@ -121,6 +121,16 @@ const AFTER_CLOSED: Row = Row {
     in_use: 0,
 };
 
+// Of three entries the first gate is closed, and the others are open: none is in use, and settling closes their gates.
+const GROUP_AFTER_CLOSED: Row = Row {
+    file: File::Formed(&[0, 0, 0, 5, 0, 6], &[3]),
+    commit: NOTHING,
+    before: &[3],
+    after: &[3],
+    length: 36992,
+    in_use: 0,
+};
+
 // Three entries in use, of which the last puts into the slot of the first again.
 const THREE: Row = Row {
     file: File::Formed(&[0, 4, 1, 5, 0, 6], &[]),
@@ -150,4 +160,4 @@ const TWO: Row = Row {
     in_use: 1,
 };
 
-pub const ROWS: [Row; 5] = [SHARED, AFTER_CLOSED, THREE, ONE, TWO];
+pub const ROWS: [Row; 6] = [SHARED, AFTER_CLOSED, GROUP_AFTER_CLOSED, THREE, ONE, TWO];

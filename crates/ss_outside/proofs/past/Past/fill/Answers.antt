@@ -1,6 +1,6 @@
 use Rattle.std.proofs.Common.{◌≡◌, ◌≤◌, ℕ, ap, map, sym, ◌∙◌, take, drop, length, ◌-◌, arith, subst}
 use Rattle.std.proofs.lemmas.List.{drop-map, take_rest, length-take, length-drop}
-use Rattle.ss_outside.specs.Past.{call_of, LiesWithin}
+use Rattle.ss_outside.specs.Past.{PastState, call_of, LiesWithin}
 use Rattle.ss_outside.specs.Disk.{overwrite}
 use Rattle.std.specs.Prelude.{All}
 use Rattle.std.proofs.lemmas.List.Elements.{All-take, All-drop, All-same}
@@ -15,16 +15,16 @@ pub loop-change-preserved : goal.loop-change-preserved
 loop-change-preserved c =
     let pool = c.self.inside.pool.items in
     let changes = take (length c.deref.result.now - c.args.synced) (drop c.args.synced c.deref.result.now) in
-    let calls = drop c.args.synced c.args.self.now in
+    let calls = drop c.args.synced c.args.self.now.calls in
     let kept : map (call_of pool) changes ≡ calls =
     ap (map (call_of pool)) (take_rest c.deref.result.now c.args.synced) ∙ sym (drop-map (call_of pool) c.args.synced c.deref.result.now)
-    ∙ ap (drop c.args.synced) (ap (map (call_of pool)) c.deref.ensures.value ∙ c.self.view_is) in
+    ∙ ap (drop c.args.synced) (ap (map (call_of pool)) c.deref.ensures.value ∙ ap (λ (p : PastState). p.calls) c.self.view_is) in
     let before = replay (fresh c.args.image.now.items) (take c.loop-change.change-index calls) in
     let short : length before.synced ≤ before.longest = synced_no_longer (fresh c.args.image.now.items) (take c.loop-change.change-index calls) (omega arith) in
     let all : All (LiesWithin (length pool)) changes =
     All-take (LiesWithin (length pool)) (length c.deref.result.now - c.args.synced) (drop c.args.synced c.deref.result.now)
     (All-drop (LiesWithin (length pool)) c.args.synced c.deref.result.now
-    (All-same (LiesWithin (length pool)) c.deref.result.now c.self.inside.changes.items c.deref.ensures.value c.self.invariant)) in
+    (All-same (LiesWithin (length pool)) c.deref.result.now c.self.inside.changes.items c.deref.ensures.value c.self.invariant.0)) in
     elim c.match-change.branch [
       | in-Bytes+in_ok-fill_at-in-Bytes w ↦
           let more = replay_more pool changes calls kept c.loop-change.change-index c.loop-change-test.true (Bytes 0 0 0)
