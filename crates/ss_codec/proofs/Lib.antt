@@ -3,3 +3,4 @@ mod FieldOrder
 pub mod RecordLemmas
 mod Rows
 pub mod WindowBytes
+mod ZeroLemmas

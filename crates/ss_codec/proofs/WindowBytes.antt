@@ -1,5 +1,5 @@
 -- Which bytes are those of the window that is read from them: those with zeros wherever no field is.
-use Rattle.std.specs.Prelude.{◌≡◌, ℕ, zero, suc, ◌+◌, Bool, true, false, ◌==◌, List, [], ◌∷◌, ◌++◌}
+use Rattle.std.specs.Prelude.{◌≡◌, ℕ, ◌+◌, true, ◌==◌, List, [], ◌∷◌, ◌++◌}
 use Rattle.std.specs.Prelude.{length, replicate, slice_index, drop}
 use Rattle.std.specs.Int.{cast_unsigned, w64, w128}
 use Rattle.std.specs.List.{list_all}
@@ -16,6 +16,7 @@ use Rattle.ss_codec.specs.Fields.{with_field}
 use Rattle.ss_codec.specs.Record.{spelling}
 use Rattle.ss_codec.specs.Decoded.{figures_in, is_blank, landmark_in, record_in, stream_in, value_in, window_in}
 use Rattle.ss_codec.proofs.FieldLemmas.{part}
+use Rattle.ss_codec.proofs.ZeroLemmas.{list_all-zeros, same_tests}
 
 -- a window's bytes, one field after the other
 abbrev window_bytes : ℕ → ℕ → Figures → List ℕ
@@ -50,18 +51,6 @@ first-part : (bytes : List ℕ) → slice_index bytes 0 ≡ 2 → part 1 0 bytes
 first-part [] kind = absurd (omega arith)
 first-part (x ∷ xs) kind = ap (λ (y : ℕ). y ∷ []) kind
 
-list_all-zeros : (xs : List ℕ) → list_all (λ byte. byte == 0) xs ≡ true → xs ≡ replicate (length xs) 0
-list_all-zeros [] all = refl
-list_all-zeros (x ∷ xs) all =
-    let first : x ≡ 0 = grind (arith, nat_tests) in
-    let rest : list_all (λ byte. byte == 0) xs ≡ true = grind (arith, nat_tests) in
-    let tail = list_all-zeros xs rest in
-    λ i. first i ∷ tail i
-
-zeros-list_all : (n : ℕ) → list_all (λ byte. byte == 0) (replicate n 0) ≡ true
-zeros-list_all zero = refl
-zeros-list_all (suc n) = zeros-list_all n
-
 -- where zeros stand beside the fields, the window that is read is spelled by the bytes
 spelled-is_blank : (bytes : List ℕ) → length bytes ≡ 128 → AreBytes bytes → slice_index bytes 0 ≡ 2 → is_blank bytes ≡ true
     → spelling (window_in bytes) ≡ bytes
@@ -91,11 +80,6 @@ is_blank-spelled bytes same =
     let blank = window_bytes-blank (number_at 4 bytes 4) (number_at 8 bytes 8) (figures_in bytes) in
     let is = sym same ∙ spelling-window (number_at 4 bytes 4) (number_at 8 bytes 8) (figures_in bytes) in
     rw (ap (λ (xs : List ℕ). part 3 1 xs) is ∙ blank.0, ap (λ (xs : List ℕ). part 56 72 xs) is ∙ blank.1) refl
-
-same_tests : (a b : Bool) → (a ≡ true → b ≡ true) → (b ≡ true → a ≡ true) → a ≡ b
-same_tests true b to from = sym (to refl)
-same_tests false true to from = from refl
-same_tests false false to from = refl
 
 window_in-record_in : (bytes : List ℕ) (id first : ℕ) (f : Figures) → record_in bytes ≡ Window id first f
     → (slice_index bytes 0 ≡ 2) × (record_in bytes ≡ window_in bytes)

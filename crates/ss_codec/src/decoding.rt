@@ -1,5 +1,5 @@
 // Records, read.
-ghost use Rattle.std.specs.Prelude.{◌≡◌, ◌+◌, ◌-◌, ◌&&◌, ◌==◌, ◌≤◌, nat_le, IsTrue, IfSome, IfNone, if◌then◌else◌};
+ghost use Rattle.std.specs.Prelude.{◌≡◌, ◌+◌, ◌-◌, ◌&&◌, ◌==◌, ◌≤◌, drop, nat_le, IsTrue, IfSome, IfNone, if◌then◌else◌};
 ghost use Rattle.std.specs.List.{list_all};
 ghost use Rattle.std.specs.Str.{bytes_eq};
 ghost use Rattle.ss_summary.specs.Possible.{is_possible};
@@ -183,18 +183,24 @@ fn record_in(bytes: &[u8; SLOT_SIZE]) -> Option<Record>
     }
 }
 
-// Whether all of the bytes are zeros.
-fn are_zeros(bytes: &[u8]) -> bool
-    ensures { result ≡ list_all (λ byte. byte == 0) bytes.now }
+// Whether zeros stand after the last field of a window, by words of 8 bytes.
+fn ends_blank(bytes: &[u8; SLOT_SIZE]) -> bool
+    ensures { result ≡ list_all (λ byte. byte == 0) (drop 72 bytes.now) }
 {
-    bytes.iter().all(|byte| *byte == 0)
+    for word in 9..16 {
+        if get_u64(bytes, 8 * word) != 0 {
+            return false;
+        }
+    }
+    true
 }
 
 // Whether zeros stand wherever a window has no field.
+#[tactic(auto, using(crate::proofs::ZeroLemmas::is_blank_bytes, std::proofs::lemmas::Bool::Decides::nat_tests))]
 fn is_blank(bytes: &[u8; SLOT_SIZE]) -> bool
     ensures { result ≡ is_blank bytes.now }
 {
-    are_zeros(&bytes[1..4]) && are_zeros(&bytes[72..])
+    bytes[1] == 0 && bytes[2] == 0 && bytes[3] == 0 && ends_blank(bytes)
 }
 
 // Whether the bytes are the spelling of the valid record that was read from them. The fields of a window are what was read,

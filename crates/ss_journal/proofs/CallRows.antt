@@ -1,5 +1,5 @@
 -- Rows that pin what the calls of a journal leave, field by field.
-use Rattle.std.proofs.Common.{◌≡◌, ◌⊎◌, ◌+◌, ◌*◌, ◌<◌, ℕ, List, [], ◌∷◌, Result, Ok, Err, IsTrue, refl, lit≤}
+use Rattle.std.proofs.Common.{◌≡◌, ◌⊎◌, ◌+◌, ◌*◌, ◌<◌, ℕ, List, [], ◌∷◌, length, Result, Ok, Err, IsTrue, refl, lit≤}
 use Rattle.ss_outside.specs.Crash.{LeavesOnly, OnlyReads}
 use Rattle.ss_outside.specs.Disk.{NothingPending, Told}
 use Rattle.ss_outside.specs.declared.source.Failed.{Failed}
@@ -191,6 +191,9 @@ module _ (old new : JournalState) where
 
   HasStaged-in_use : (puts : List Put) → HasStaged puts old new → new.in_use ≡ old.in_use + 1
   HasStaged-in_use puts has = has.in_use
+
+  HasStaged-some : (puts : List Put) → HasStaged puts old new → 0 < length new.staged
+  HasStaged-some puts has = has.some
 
   HasCommitted-settled : (puts : List Put) → HasCommitted puts old new → IsSettled new
   HasCommitted-settled puts has = has.settled

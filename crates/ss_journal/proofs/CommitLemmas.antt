@@ -8,7 +8,7 @@ use Rattle.std.proofs.lemmas.List.{append-nil, append_assoc, drop_at, length-app
 use Rattle.std.specs.List.{range_with_len}
 use Rattle.std.specs.Prelude.{flat_map, slice_index}
 use Rattle.ss_outside.specs.Disk.{overwrite}
-use Rattle.ss_journal.specs.Commit.{AddsEntry, IsReadyFor}
+use Rattle.ss_journal.proofs.NextEntry.{AddsEntry, IsReadyFor}
 use Rattle.ss_journal.specs.Entries.{entries, entry_body, is_good, open_prefix, puts_of}
 use Rattle.ss_journal.specs.Format.{entry_at, is_born}
 use Rattle.ss_journal.specs.Gates.{ClosedFrom, IsClosed, entry_place, is_open, opens}

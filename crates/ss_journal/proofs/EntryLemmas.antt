@@ -193,7 +193,7 @@ length-entry_body puts whole few =
           (542 - 132 * length puts) 0,
     )
 
--- what stands after the gate of a spelled entry
+-- one put more
 pub entry-more : (puts : List Put) (k : ℕ) (d : Put) (old : List ℕ) → k < length puts → length puts ≤ 4 → AreWhole (take k puts)
     → old ≡ 0 ∷ length puts ∷ flat_map put_bytes (take k puts) ++ replicate (542 - 132 * k) 0
     → take (2 + 132 * k) old ++ put_bytes (get_or puts k d) ++ drop (2 + 132 * (k + 1)) old ≡ 0 ∷ length puts ∷ flat_map put_bytes (take (k + 1) puts) ++

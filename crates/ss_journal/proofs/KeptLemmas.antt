@@ -3,7 +3,7 @@ use Rattle.std.proofs.Common.{◌++◌, ◌+◌, Ok, Result, IsTrue, List, [], a
 use Rattle.std.proofs.Common.{false, ◌≢◌, ◌≤◌, ◌⊎◌}
 use denote.Enum.Bare.{sameb}
 use Rattle.std.proofs.lemmas.Bool.{both_ways, cases_Bool, cases_lt, cond-false, cond-true, le-ltb, lt-ltb}
-use Rattle.ss_journal.specs.Commit.{AddsEntry, IsReadyFor}
+use Rattle.ss_journal.proofs.NextEntry.{AddsEntry, IsReadyFor}
 use Rattle.std.specs.Prelude.{IsErr, OnOk, flat_map}
 use Rattle.ss_outside.specs.Disk.{NothingPending, Told}
 use Rattle.ss_outside.specs.declared.source.Failed.{Failed}

@@ -7,6 +7,7 @@ pub mod HeaderLemmas
 pub mod InUseLemmas
 pub mod KeptLemmas
 pub mod MapLemmas
+pub mod NextEntry
 pub mod OpenLemmas
 pub mod PageLemmas
 pub mod PrefixLemmas

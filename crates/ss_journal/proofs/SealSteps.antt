@@ -1,7 +1,5 @@
 -- The steps of a journal: what is staged is sealed, room is made, and a transaction is committed.
-use Rattle.std.proofs.Common.{Err, List, Ok, Result, [], arith, inl, inr, length, subst, sym, ℕ, ⊎_elim, ◌+◌, ◌<◌, ◌≡◌, ◌⊎◌}
-use Rattle.std.proofs.lemmas.Bool.{cases_lt}
-use Rattle.std.proofs.lemmas.List.{nil_from_length}
+use Rattle.std.proofs.Common.{Err, List, Ok, Result, [], inl, inr, length, subst, sym, ℕ, ⊎_elim, ◌<◌, ◌≡◌, ◌⊎◌}
 use Rattle.std.proofs.lemmas.Result.{on_ok_weaker}
 use Rattle.std.specs.Prelude.{IsErr, OnOk}
 use Rattle.ss_outside.proofs.CrashLemmas.{joined, weaker}
@@ -9,7 +7,7 @@ use Rattle.ss_outside.specs.Disk.{Told}
 use Rattle.ss_outside.specs.declared.source.Failed.{Failed}
 use Rattle.ss_journal.specs.Calls.{Commits, KeepsMap, KeepsShown, MakesRoom, Seals, Stages}
 use Rattle.ss_journal.specs.Format.{IsCleared}
-use Rattle.ss_journal.specs.Kept.{IsKept, IsSealed, IsShown, JournalState, shown}
+use Rattle.ss_journal.specs.Kept.{IsSealed, JournalState, shown}
 use Rattle.ss_journal.specs.Redo.{SlotMap, StandsFor, changed}
 use Rattle.ss_journal.specs.Steps.{Reaches}
 use Rattle.ss_journal.specs.declared.phase.Phase.TheVariants.{Settled}
@@ -82,21 +80,7 @@ module _ (puts : List Put) (was : JournalState) (sealed-was : IsSealed was) wher
   }
 
   module _ (free staged left : JournalState) (old between new : Told) (value : Unit {0}) (room : MakesRoom was free (Ok value) old between)
-      (sealed : IsSealed free) (more : staged.in_use ≡ free.in_use + 1) (stages : Stages puts free staged between.content) where
-    is-staged : IsKept staged between.content
-    is-staged = stages.kept room.kept
-
-    -- the entry is one that the content doesn't have
-    some : 0 < length staged.staged
-    some = elim (cases_lt 0 (length staged.staged)) [
-      | inl lt ↦ lt
-      | inr none ↦
-          let empty : IsSealed staged = nil_from_length staged.staged (omega (arith, none)) in
-          let before : IsShown free between.content = IsShown-sealed free between.content sealed room.kept in
-          let after : IsShown staged between.content = IsShown-sealed staged between.content empty is-staged in
-          absurd (omega (arith, before.number, after.number, more))
-    ]
-
+      (sealed : IsSealed free) (some : 0 < length staged.staged) (stages : Stages puts free staged between.content) where
     pub commits-sealed : (result : Result (Unit {0}) Failed) → OnOk result (IsSealed left) → Seals staged left result between new
         → Commits left puts result old new
     commits-sealed result then seals =

@@ -1,12 +1,11 @@
 -- A transaction is staged: its entry follows those that are staged, and what the journal shows has its puts.
-use Rattle.std.proofs.Common.{Err, IsTrue, List, Ok, Result, ap, arith, inl, inr, length, subst, sym, ℕ, ◌++◌, ◌+◌, ◌<◌, ◌∙◌, ◌∷◌, ◌≡◌, ◌≤◌, ◌⊎◌}
+use Rattle.std.proofs.Common.{IsTrue, List, ap, arith, inl, inr, length, subst, sym, ℕ, ◌++◌, ◌+◌, ◌<◌, ◌∙◌, ◌∷◌, ◌≡◌, ◌≤◌, ◌⊎◌}
 use Rattle.std.proofs.lemmas.List.{length-append}
-use Rattle.std.proofs.Math.ListN.{set}
-use Rattle.std.specs.Prelude.{IsOk, OnOk, slice_index}
+use Rattle.std.specs.Prelude.{slice_index}
 use Rattle.ss_outside.proofs.DiskLemmas.{get_or-overwrite_outside, length-overwrite}
 use Rattle.ss_outside.specs.Disk.{overwrite}
 use Rattle.ss_journal.specs.Calls.{Stages}
-use Rattle.ss_journal.specs.Commit.{AddsEntry, IsReadyFor}
+use Rattle.ss_journal.proofs.NextEntry.{AddsEntry, IsReadyFor}
 use Rattle.ss_journal.specs.Entries.{entry_body}
 use Rattle.ss_journal.specs.Format.{entry_at}
 use Rattle.ss_journal.specs.Gates.{entry_place}
@@ -51,16 +50,6 @@ module _ (n : ℕ) (puts : List Put) (content : List ℕ) (ready : IsReadyFor n 
 
   pub StandsFor-written : (found : SlotMap) → StandsFor content found → StandsFor image (changed found puts)
   StandsFor-written = StandsFor-opened n puts content image ready free size beside whole txn is_entry
-
--- the entry that entry_of spells, with its gate open, follows what is staged
-pub entry-staged : {T E : Type 0} (result : Result T E) (old new entry : List ℕ) (puts : List Put) → AreWhole puts → IsTxn puts
-    → entry ≡ 0 ∷ entry_body puts → length old + 544 ≤ 34816 → (length old + length (set entry 0 165) ≤ 34816 → IsOk result)
-    → OnOk result (new ≡ old ++ set entry 0 165) → new ≡ old ++ 165 ∷ entry_body puts
-entry-staged (Ok value) old new entry puts whole txn spelled room fits added = added ∙ ap (λ (list : List ℕ). old ++ set list 0 165) spelled
-entry-staged {T} {E} (Err error) old new entry puts whole txn spelled room fits added =
-    let long : length (set entry 0 165) ≡ 544 = omega (arith, ap (λ (list : List ℕ). length (set list 0 165)) spelled, length-entry_body puts whole txn.few) in
-    let fit : IsOk {T = T} {E = E} (Err error) = fits (omega (arith, long, room)) in
-    absurd (cc)
 
 -- what staging makes of a journal
 pub record IsStaged (puts : List Put) (was then : JournalState) : Type 0 where

@@ -1,5 +1,5 @@
 -- What the calls of a journal leave of the map, also in a crash, and what they make of the journal.
-use Rattle.std.specs.Prelude.{◌≡◌, ◌⊎◌, ℕ, ◌+◌, ◌*◌, ◌<◌, nat_lt, if◌then◌else◌, List, take, drop}
+use Rattle.std.specs.Prelude.{◌≡◌, ◌⊎◌, ℕ, ◌+◌, ◌*◌, ◌<◌, nat_lt, if◌then◌else◌, List, length, take, drop}
 use Rattle.std.specs.Prelude.{Result, Ok, Err, IfOk, OnOk, IsTrue}
 use Rattle.ss_outside.specs.Crash.{LeavesOnly, OnlyReads}
 use Rattle.ss_outside.specs.Verdict.{Verdict, fine, refused, no_memory, failed}
@@ -117,7 +117,7 @@ pub record HasSettled (old new : JournalState) : Type 0 where
 abbrev pub entries_after : ℕ → ℕ
 entries_after in_use = if nat_lt in_use ENTRIES then in_use + 1 else 1
 
--- What making room makes of a journal, over every disk: an entry is free. Where none was, nothing is staged any more.
+-- What making room makes of a journal, over every disk: an entry is free, and where nothing was staged nothing is.
 pub record HasMadeRoom (old new : JournalState) : Type 0 where
   pub settled : IsSettled new
   pub extent : new.extent ≡ old.extent
@@ -133,11 +133,12 @@ pub record HasSealed (old new : JournalState) : Type 0 where
   pub waiting : new.waiting ≡ old.waiting
   pub sealed : IsSealed new
 
--- What staging these puts makes of a journal, over every disk: they are in an entry more.
+-- What staging these puts makes of a journal, over every disk: they are in an entry more, which is staged.
 pub record HasStaged (puts : List Put) (old new : JournalState) : Type 0 where
   pub settled : IsSettled new
   pub extent : new.extent ≡ extent_after puts old.extent
   pub in_use : new.in_use ≡ old.in_use + 1
+  pub some : 0 < length new.staged
 
 -- A journal over a content became another by staging these puts: it shows the map with them.
 pub record Stages (puts : List Put) (was is : JournalState) (content : List ℕ) : Type 0 where

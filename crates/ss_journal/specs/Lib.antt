@@ -8,5 +8,4 @@ pub mod Writes
 pub mod Birth
 pub mod Calls
 pub mod Opening
-pub mod Commit
 pub mod Steps

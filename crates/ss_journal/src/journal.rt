@@ -3,17 +3,15 @@ use crate::JournalError;
 use crate::birth::give_birth;
 use crate::committing::add_entries;
 use crate::entry::{entry_of, extent_after};
-use crate::format::{
-    ENTRIES, ENTRIES_SIZE, GATE_OPEN, MOST_PAGES, MOST_SLOTS, PAGE_SIZE, SLOT_SIZE, slots_in,
-};
+use crate::format::{ENTRIES, GATE_OPEN, MOST_PAGES, MOST_SLOTS, PAGE_SIZE, SLOT_SIZE, slots_in};
 use crate::opening::{read_entries, read_head};
 use crate::paging::{clear_unused, lay_puts, read_slots};
 use crate::phase::Phase;
 use crate::put::Txn;
 use crate::reading::read_slot;
 use crate::settling::{settle_entries, settle_formed};
+use crate::staged::Staged;
 use crate::waiting::Waiting;
-use arrayvec::ArrayVec;
 use ss_outside::{Disk, Failed};
 use std::alloc::Global;
 use std::marker::Model;
@@ -30,7 +28,7 @@ pub struct Journal {
     waiting: Waiting,
     // How many of these entries stand in the file, and the bytes of those after them, which don't yet.
     sealed: u32,
-    staged: ArrayVec<u8, ENTRIES_SIZE>,
+    staged: Staged,
 }
 
 impl Model for Journal {
@@ -38,10 +36,10 @@ impl Model for Journal {
 
     ghost Value = { JournalState };
 
-    ghost view = { λ s. record { phase = s.phase; extent = s.extent; in_use = s.in_use; waiting = s.waiting; sealed = s.sealed; staged = s.staged.items } };
+    ghost view = { λ s. record { phase = s.phase; extent = s.extent; in_use = s.in_use; waiting = s.waiting; sealed = s.sealed; staged = s.staged } };
 
     ghost invariant = { λ s.
-        IsBounded (record { phase = s.phase; extent = s.extent; in_use = s.in_use; waiting = s.waiting; sealed = s.sealed; staged = s.staged.items }) };
+        IsBounded (record { phase = s.phase; extent = s.extent; in_use = s.in_use; waiting = s.waiting; sealed = s.sealed; staged = s.staged }) };
 }
 
 impl Journal {
@@ -71,7 +69,7 @@ impl Journal {
                 in_use: 0,
                 waiting: Waiting::new(alloc)?,
                 sealed: 0,
-                staged: ArrayVec::new(),
+                staged: Staged::new(alloc)?,
             });
         }
         if !head.is_born() {
@@ -84,7 +82,7 @@ impl Journal {
             in_use: read.in_use,
             waiting: read.waiting,
             sealed: read.in_use,
-            staged: ArrayVec::new(),
+            staged: Staged::new(alloc)?,
         })
     }
 
@@ -182,6 +180,8 @@ impl Journal {
         requires one_disk { OfContent (D.seen disk.old) (IsKept self.old) }
         ensures makes_room { Step (verdict result) (D.seen disk.old) (D.seen disk.new) (MakesRoom self.old self.new result) }
         ensures made { OnOk result (HasMadeRoom self.old self.new) }
+        // Where an entry is free nothing is done.
+        ensures idle { self.old.in_use < ENTRIES → (disk.new ≡ disk.old) × (self.new ≡ self.old) }
         ensures stopped { OnErr result (HasStopped self.new) }
     {
         if self.in_use < ENTRIES {
@@ -209,7 +209,7 @@ impl Journal {
     {
         let mut entry = entry_of(txn);
         entry[0] = GATE_OPEN;
-        let _ = self.staged.try_extend_from_slice(&entry);
+        self.staged.add(&entry);
         self.extent = extent_after(txn, self.extent);
         self.waiting.add(txn);
         self.in_use += 1;
@@ -222,9 +222,11 @@ impl Journal {
         requires one_disk { OfContent (D.seen disk.old) (IsKept self.old) }
         ensures seals { Step (verdict result) (D.seen disk.old) (D.seen disk.new) (Seals self.old self.new result) }
         ensures sealed { OnOk result (HasSealed self.old self.new) }
+        // Where nothing is staged nothing is done.
+        ensures idle { IsSealed self.old → (disk.new ≡ disk.old) × (self.new ≡ self.old) }
         ensures stopped { OnErr result (HasStopped self.new) }
     {
-        if self.staged.is_empty() {
+        if self.staged.as_slice().is_empty() {
             return Ok(());
         }
         self.phase = Phase::Stopped;

@@ -14,6 +14,7 @@ mod phase;
 mod put;
 mod reading;
 mod settling;
+mod staged;
 mod waiting;
 mod writing;
 

@@ -3,7 +3,7 @@ use Rattle.std.proofs.Common.{◌≡◌, ℕ, ◌*◌, true, false, Bool, List, 
 use Rattle.ss_journal.specs.declared.format.TheConstants.{PAGE_SIZE}
 use Rattle.ss_records.specs.Bits.{is_set, is_full}
 use Rattle.ss_records.specs.Live.{are_zeros, is_live, live_count, lowest_free, live_after}
-use Rattle.ss_records.specs.Pages.{cached_slot}
+use Rattle.ss_records.specs.Pages.{cached_slot, page_numbers}
 use Rattle.ss_records.specs.declared.pages.TheConstants.{MOST_CACHED}
 
 abbrev live : List Bool
@@ -57,6 +57,9 @@ cached_slot-next = refl
 
 pub cached_slot-before : cached_slot cached 63 ≡ None
 cached_slot-before = refl
+
+pub page_numbers-both : page_numbers cached ≡ 0 ∷ 2 ∷ []
+page_numbers-both = refl
 
 pub most_cached-size : MOST_CACHED * PAGE_SIZE ≡ 262144
 most_cached-size = refl

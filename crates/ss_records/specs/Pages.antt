@@ -1,11 +1,15 @@
 -- Pages of the map that are cached, each with its number, the most recently used first.
 use Rattle.std.specs.Prelude.{◌≡◌, ◌⊎◌, ℕ, ◌+◌, ◌-◌, ◌*◌, ◌/◌, ◌%◌, ◌<◌, nat_eq, List, ◌∷◌, take, Contains}
 use Rattle.std.specs.Prelude.{Option, None, option_map}
-use Rattle.std.specs.Map.{lookup}
+use Rattle.std.specs.Map.{keys_of, lookup}
 use Rattle.lru.specs.LruCache.{promoted}
 use Rattle.ss_journal.specs.declared.format.TheConstants.{MOST_PAGES, PAGE_SLOTS}
 use Rattle.ss_journal.specs.Calls.{slot_in_page}
 use Rattle.ss_records.specs.declared.pages.TheConstants.{MOST_CACHED}
+
+-- the numbers of the pages that are cached, the most recently used first
+abbrev pub page_numbers : List (ℕ × List ℕ) → List ℕ
+page_numbers cached = keys_of cached
 
 -- the bytes of a slot, where its page is cached
 abbrev pub cached_slot : List (ℕ × List ℕ) → ℕ → Option (List ℕ)

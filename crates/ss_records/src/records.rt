@@ -42,7 +42,7 @@ impl Records {
     ghost use Rattle.ss_journal.specs.declared.format.TheConstants.{ENTRIES};
     ghost use Rattle.ss_records.specs.Calls.{AppliesPuts, MakesRoomFor, OpensRecords, ReadsRecord, SealsRecords, SettlesRecords, StagesPuts};
     ghost use Rattle.ss_records.specs.Live.{is_live, live_count, lowest_free, live_after};
-    ghost use Rattle.ss_records.specs.Pages.{cached_slot, Recalls};
+    ghost use Rattle.ss_records.specs.Pages.{cached_slot, page_numbers, Recalls};
     ghost use Rattle.ss_records.specs.Kept.{AreKept, AreSound};
 
     /// Opens a disk, formatted or not. It reads the entries in use, and each slot below the extent once, and writes nothing.
@@ -150,7 +150,10 @@ impl Records {
         requires one_disk { OfContent (D.seen disk.old) (AreKept self.old) }
         ensures makes_room { Step (verdict result) (D.seen disk.old) (D.seen disk.new) (MakesRoomFor self.old self.new result) }
         ensures made { OnOk result (HasMadeRoom self.old.journal self.new.journal) }
+        // Where an entry is free nothing is done.
+        ensures idle { self.old.journal.in_use < ENTRIES → (disk.new ≡ disk.old) × (self.new ≡ self.old) }
         ensures live { self.new.live ≡ self.old.live }
+        ensures cached { OnOk result (self.new.cached ≡ self.old.cached) }
         // No page is left that may differ from the map.
         ensures uncached { OnErr result (self.new.cached ≡ []) }
         ensures stopped { OnErr result (HasStopped self.new.journal) }
@@ -173,6 +176,8 @@ impl Records {
         ensures stages { (content : List ℕ) → StagesPuts txn.now.items self.old self.new content }
         ensures staged { HasStaged txn.now.items self.old.journal self.new.journal }
         ensures live { self.new.live ≡ live_after txn.now.items self.old.live }
+        // The same pages are cached, in the same order.
+        ensures cached { page_numbers self.new.cached ≡ page_numbers self.old.cached }
     {
         self.journal.stage(txn);
         note_puts(&mut self.live, txn);
@@ -186,7 +191,10 @@ impl Records {
         requires one_disk { OfContent (D.seen disk.old) (AreKept self.old) }
         ensures seals { Step (verdict result) (D.seen disk.old) (D.seen disk.new) (SealsRecords self.old self.new result) }
         ensures sealed { OnOk result (HasSealed self.old.journal self.new.journal) }
+        // Where nothing is staged nothing is done.
+        ensures idle { IsSealed self.old.journal → (disk.new ≡ disk.old) × (self.new ≡ self.old) }
         ensures live { self.new.live ≡ self.old.live }
+        ensures cached { OnOk result (self.new.cached ≡ self.old.cached) }
         // No page is left that may differ from the map.
         ensures uncached { OnErr result (self.new.cached ≡ []) }
         ensures stopped { OnErr result (HasStopped self.new.journal) }

@@ -16,4 +16,4 @@ pub returns-clause-commits : goal.returns-clause-commits
 returns-clause-commits g c =
     step-next c.in_ok-make_room.ensures.makes_room c.seal.ensures.seals (λ told then room seals.
     commits-sealed c.args.txn.now.items c.args.self.now c.requires.sealed _ _ _ _ _ _ _ room (c.in_ok-make_room.ensures.made.sealed c.requires.sealed)
-    c.stage.ensures.staged.in_use (c.stage.ensures.stages _) c.seal.result (on_ok_weaker c.seal.result (λ has. has.sealed) c.seal.ensures.sealed) seals)
+    c.stage.ensures.staged.some (c.stage.ensures.stages _) c.seal.result (on_ok_weaker c.seal.result (λ has. has.sealed) c.seal.ensures.sealed) seals)

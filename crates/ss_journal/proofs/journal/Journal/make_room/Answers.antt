@@ -7,8 +7,8 @@ use Rattle.ss_journal.proofs.journal.Journal.make_room.Goals as goal
 pub returns-clause-makes_room : goal.returns-clause-makes_room
 returns-clause-makes_room g c =
     step-next c.in_ok-seal.ensures.seals c.in_ok-settle_entries.ensures (λ told then seals reaches.
-    room-made c.args.self.now _ _ _ _ _ _ _ c.clear.new.self (Seals-as (sym c.self-2.view_is) seals)
-    (subst IsSealed (sym c.self-2.view_is) c.in_ok-seal.ensures.sealed.sealed) c.clear.ensures reaches)
+    room-made c.args.self.now _ _ _ _ _ _ _ _ (Seals-as (sym c.self-2.view_is) seals)
+    (subst IsSealed (sym c.self-2.view_is) c.in_ok-seal.ensures.sealed.sealed) (cc) reaches)
 
 pub returns-in_err-settle_entries-clause-makes_room : goal.returns-in_err-settle_entries-clause-makes_room
 returns-in_err-settle_entries-clause-makes_room g c =

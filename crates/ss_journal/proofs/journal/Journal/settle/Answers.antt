@@ -18,12 +18,12 @@ returns-in_err-give_birth-in-Unborn-clause-settles g c =
     step-failed failed.result failed.ensures.0 c.in_err-give_birth-in-Unborn.ensures (λ told birth.
     let kept = subst (λ (j : JournalState). IsKept j content) (sym c.self.view_is) (c.requires.one_disk told) in
     let is = IsShown-sealed _ content sealed kept in
-    settles-unborn _ _ _ is c.self.inside.waiting c.self.inside.staged.items (unborn-shown _ content c.in-Unborn.is is) _ failed.result failed.ensures.0 birth)
+    settles-unborn _ _ _ is c.self.inside.waiting c.self.inside.staged (unborn-shown _ content c.in-Unborn.is is) _ failed.result failed.ensures.0 birth)
 
 pub returns-clause-settles : goal.returns-clause-settles
 returns-clause-settles g c =
     let content = (g.D.Disk.seen c.args.disk.now).told.content in
-    let staged = c.self.inside.staged.items in
+    let staged = c.self.inside.staged in
     let sealed = subst IsSealed (sym c.self.view_is) c.requires.sealed in
     let settled : JournalState = record {
       phase = Settled;

@@ -1,23 +1,22 @@
-use Rattle.std.proofs.Common.{IsTrue, List, ap, arith, refl, subst, sym, ◌++◌, ◌<◌, ◌∙◌}
+use Rattle.std.proofs.Common.{IsTrue, List, ap, refl, subst, sym, ℕ, ◌++◌, ◌<◌, ◌∙◌}
+use Rattle.std.proofs.Math.ListN.{set}
 use Rattle.ss_journal.specs.declared.put.Put.{Put}
 use Rattle.ss_journal.specs.Kept.{IsSettled, JournalState}
 use Rattle.ss_journal.specs.Puts.{extent_after, slots_fit}
-use Rattle.ss_journal.proofs.StageLemmas.{IsBounded-staged, entry-staged, stages}
+use Rattle.ss_journal.proofs.StageLemmas.{IsBounded-staged, stages}
 use Rattle.ss_journal.proofs.journal.Journal.stage.Goals as goal
 
 pub invariant_of-self : goal.invariant_of-self
 invariant_of-self c =
     let puts = c.args.txn.now.items in
     let room : c.self.inside.in_use < 64 = subst (λ (j : JournalState). j.in_use < 64) (sym c.self.view_is) c.requires.room in
-    let staged = entry-staged c.try_extend_from_slice.result c.self.inside.staged.items c.try_extend_from_slice.new.self.items c.entry_of-entry.result puts
-    c.entry_of-entry.ensures.whole c.requires.txn c.entry_of-entry.ensures.value (omega (arith, c.self.invariant.staged, room))
-    c.try_extend_from_slice.ensures.variant.1 c.try_extend_from_slice.ensures.ok in
+    let staged = c.add.ensures ∙ ap (λ (entry : List ℕ). c.self.inside.staged ++ set entry 0 165) c.entry_of-entry.ensures.value in
     IsBounded-staged _ _ puts c.self.invariant (subst IsSettled (sym c.self.view_is) c.requires.settled) c.entry_of-entry.ensures.whole c.requires.txn
     (subst (λ (j : JournalState). IsTrue (slots_fit puts j.extent)) (sym c.self.view_is) c.requires.fit) room (record {
       phase = subst IsSettled (sym c.self.view_is) c.requires.settled;
       extent = c.extent_after-self-inside.ensures ∙ ap (λ (list : List Put). extent_after list c.self.inside.extent) c.deref.ensures.0;
       in_use = refl;
-      waiting = c.add.ensures ∙ ap (λ (list : List Put). c.self.inside.waiting ++ list) c.deref-2.ensures.0;
+      waiting = c.add-2.ensures ∙ ap (λ (list : List Put). c.self.inside.waiting ++ list) c.deref-2.ensures.0;
       sealed = refl;
       staged = staged;
     })
@@ -26,15 +25,13 @@ pub returns-clause-stages : goal.returns-clause-stages
 returns-clause-stages c content =
     let puts = c.args.txn.now.items in
     let room : c.self.inside.in_use < 64 = subst (λ (j : JournalState). j.in_use < 64) (sym c.self.view_is) c.requires.room in
-    let staged = entry-staged c.try_extend_from_slice.result c.self.inside.staged.items c.try_extend_from_slice.new.self.items c.entry_of-entry.result puts
-    c.entry_of-entry.ensures.whole c.requires.txn c.entry_of-entry.ensures.value (omega (arith, c.self.invariant.staged, room))
-    c.try_extend_from_slice.ensures.variant.1 c.try_extend_from_slice.ensures.ok in
+    let staged = c.add.ensures ∙ ap (λ (entry : List ℕ). c.self.inside.staged ++ set entry 0 165) c.entry_of-entry.ensures.value in
     stages _ _ puts c.self.invariant (subst IsSettled (sym c.self.view_is) c.requires.settled) c.entry_of-entry.ensures.whole c.requires.txn
     (subst (λ (j : JournalState). IsTrue (slots_fit puts j.extent)) (sym c.self.view_is) c.requires.fit) room (record {
       phase = subst IsSettled (sym c.self.view_is) c.requires.settled;
       extent = c.extent_after-self-inside.ensures ∙ ap (λ (list : List Put). extent_after list c.self.inside.extent) c.deref.ensures.0;
       in_use = refl;
-      waiting = c.add.ensures ∙ ap (λ (list : List Put). c.self.inside.waiting ++ list) c.deref-2.ensures.0;
+      waiting = c.add-2.ensures ∙ ap (λ (list : List Put). c.self.inside.waiting ++ list) c.deref-2.ensures.0;
       sealed = refl;
       staged = staged;
     }) c.args.self.now content c.self.view_is

@@ -1,4 +1,4 @@
-use Rattle.std.proofs.Common.{◌∙◌, ◌<◌, sym, ap, subst, ℕ, List, All, length}
+use Rattle.std.proofs.Common.{◌∙◌, ◌<◌, sym, ap, subst, List, All, length}
 use Rattle.ss_journal.specs.declared.put.Put.{Put}
 use Rattle.ss_journal.specs.Puts.{with_puts}
 use Rattle.ss_records.specs.Live.{live_after}

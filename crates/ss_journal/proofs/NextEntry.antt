@@ -1,4 +1,4 @@
--- When a transaction may be committed, and what an entry of it adds.
+-- When a transaction may be staged for the next entry, and what that entry adds.
 use Rattle.std.specs.Prelude.{◌≡◌, ℕ, ◌+◌, List, ◌++◌, length, IsTrue}
 use Rattle.ss_journal.specs.declared.put.Put.{Put}
 use Rattle.ss_journal.specs.Gates.{ClosedFrom}

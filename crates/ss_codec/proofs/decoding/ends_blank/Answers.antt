@@ -1,0 +1,18 @@
+use Rattle.std.proofs.Common.{◌*◌, ◌+◌, arith, refl}
+use Rattle.std.proofs.lemmas.Bool.Decides.{nat_tests}
+use Rattle.std.proofs.lemmas.List.{drop_all}
+use Rattle.ss_codec.proofs.ZeroLemmas.{zeros-word}
+use Rattle.ss_codec.proofs.decoding.ends_blank.Goals as goal
+
+pub loop-word-preserved : goal.loop-word-preserved
+loop-word-preserved c =
+    let word = zeros-word c.args.bytes.now (8 * c.loop-word.word) (8 * (c.loop-word.word + 1)) (omega arith) (omega arith) c.fits-bytes in
+    record { rest = grind (arith, nat_tests, word, c.loop-word.invariant.rest) }
+
+pub returns-then-get_u64-ne0 : goal.returns-then-get_u64-ne0
+returns-then-get_u64-ne0 c =
+    let word = zeros-word c.args.bytes.now (8 * c.loop-word.word) (8 * (c.loop-word.word + 1)) (omega arith) (omega arith) c.fits-bytes in
+    grind (arith, nat_tests, word, c.loop-word.invariant.rest)
+
+pub returns : goal.returns
+returns c = rw (c.loop-word.invariant.rest, drop_all (8 * c.loop-word.word) c.args.bytes.now (omega arith)) refl
