@@ -25,22 +25,23 @@ use Rattle.ss_model.proofs.StandLemmas.{IsState-stepped}
 use Rattle.ss_target.specs.Targets.{params_of}
 use Rattle.ss_recover.specs.Held.{AllAgree, AreWhole, Agrees, EndByLast, RiseToLast, TileFrom, entries_of, records_held, slots_held, span_held, times_held}
 use Rattle.ss_recover.specs.declared.parts.StreamParts.{StreamParts}
-use Rattle.ss_records.specs.Kept.{AreAtRest, AreKept, RecordsState}
+use Rattle.ss_journal.specs.Kept.{IsSettled}
+use Rattle.ss_records.specs.Kept.{AreKept, RecordsState, shown_by}
 use Rattle.ss_store.specs.Admitted.{IsMarker, IsTaker}
-use Rattle.ss_store.specs.Calls.{StepsState, Turns}
+use Rattle.ss_store.specs.Calls.{RecoversToEither, StepsState, TurnsShown}
 use Rattle.ss_store.specs.Causes.{said_of_held}
 use Rattle.ss_store.specs.Held.{IsHalfway, IsOrdered, IsPartlyJoined, IsSameStream, values_held, with_single}
 use Rattle.ss_query.specs.Held.{IsHeldIn}
-use Rattle.ss_store.specs.Kept.{IsSound, KeepsSpare, SameButSpare, StoreIsKept, StoreState, entry_of, numbers_held, part_named, refuses_held, without_spare}
-use Rattle.ss_store.specs.Marking.{IsInOpen, IsMarkedIn, IsMarkedOrNot, event_of, with_mark}
+use Rattle.ss_store.specs.Kept.{IsSound, KeepsSpare, SameButSpare, StoreIsIn, StoreIsKept, StoreState, entry_of, numbers_held, part_named, refuses_held, without_spare}
+use Rattle.ss_store.specs.Marking.{IsInOpen, event_of, with_mark}
 use Rattle.ss_store.specs.Recover.{Recovers}
-use Rattle.ss_store.specs.Slots.{AreSomeLive, Either, LiveSlotsGo}
+use Rattle.ss_store.specs.Slots.{AreSomeLive, LiveSlotsGo}
 use Rattle.ss_query.specs.Slots.{HasRecords}
 use Rattle.ss_store.specs.declared.marking.Mark.{Mark}
 use Rattle.ss_store.proofs.Among.{AreWhole-at, AreWhole-changed, EndByLast-later, HasRecords-set, IsHeldIn-at, IsNoEarlier, Marks-at, Recovers-held}
 use Rattle.ss_store.proofs.Among.{Recovers-partly, others_of}
 use Rattle.ss_store.proofs.HeldCounts.{values_held-Agrees}
-use Rattle.ss_store.proofs.KeptStates.{Recovers-StoreIsKept}
+use Rattle.ss_store.proofs.KeptStates.{Recovers-StoreIsIn}
 use Rattle.ss_store.proofs.LiveSlots.{LiveSlotsGo-none}
 use Rattle.ss_store.proofs.Named.{IsPair, IsPair-at}
 use Rattle.ss_store.proofs.OneOfMany.{map-set_same, set-same}
@@ -136,14 +137,14 @@ module _ (store : StoreState) (catalog : List (List ℕ × StreamId)) (sound : I
     (at : slice_get store.streams place ≡ Some was) (same_id : now.id ≡ was.id) (same : now.name ≡ was.name) where
   -- while the store runs or has stopped
   pub IsSound-set : (records_now : RecordsState) (stopped : Bool) →
-      (stopped ≡ false → AreAtRest records_now × AreWhole (slice_set store.streams place now) records_now.live) →
+      (stopped ≡ false → IsSettled records_now.journal × AreWhole (slice_set store.streams place now) records_now.live) →
       IsSound (record { streams = slice_set store.streams place now; records = records_now; stopped = stopped }) catalog
   IsSound-set records_now stopped goes =
       let entry : entry_of now ≡ entry_of was = rw (same, same_id) refl in
       record {
         listed = sound.listed ∙ sym (map-set_same entry_of store.streams place was now at entry);
         numbers = rw (map-set_same (λ (p : StreamParts). p.id.0) store.streams place was now at (ap (λ (i : StreamId). i.0) same_id)) sound.numbers;
-        at_rest = λ run. (goes run).0;
+        settled = λ run. (goes run).0;
         whole = λ run. (goes run).1;
       }
 
@@ -197,9 +198,9 @@ module _ (store : StoreState) (place : ℕ) (was now : StreamParts) (at : slice_
     stopped = refl;
   }
 
-  pub StoreIsKept-IsSpared : (content : List ℕ) → StoreIsKept store content →
-      StoreIsKept (record { streams = slice_set store.streams place now; records = store.records; stopped = store.stopped }) content
-  StoreIsKept-IsSpared content kept =
+  StoreIsIn-IsSpared : (content : List ℕ) → StoreIsIn store content →
+      StoreIsIn (record { streams = slice_set store.streams place now; records = store.records; stopped = store.stopped }) content
+  StoreIsIn-IsSpared content kept =
       let pair = IsPair-at store.streams kept.streams place was kept.agree kept.state at in
       let others = others_of place store.streams kept.streams in
       let held = IsHeldIn-at store.streams kept.streams place was pair.stream content kept.agree kept.state at pair.here kept.held in
@@ -207,13 +208,17 @@ module _ (store : StoreState) (place : ℕ) (was now : StreamParts) (at : slice_
       (IsHeldIn-IsSpared others was now pair.stream content spared held) in
       let back = set-same kept.streams place pair.stream pair.here in
       record {
-        records = kept.records;
         streams = kept.streams;
         state = kept.state;
         agree = subst (λ l. AllAgree (slice_set store.streams place now) l) back both.0;
         held = subst (λ l. HasRecords (flat_map records_held (zip (slice_set store.streams place now) l)) content) back both.1;
         closed = kept.closed;
       }
+
+  pub StoreIsKept-IsSpared : (content : List ℕ) → StoreIsKept store content →
+      StoreIsKept (record { streams = slice_set store.streams place now; records = store.records; stopped = store.stopped }) content
+  StoreIsKept-IsSpared content kept =
+      record { records = kept.records; shown = StoreIsIn-IsSpared (shown_by store.records content) kept.shown }
 
 -- what was read at the place
 pub part-read : (parts : List StreamParts) (place : ℕ) (part read : StreamParts) → slice_get parts place ≡ Some part → read ≡ get_or parts place read →
@@ -241,8 +246,9 @@ whole-appended store place was spared now records_now at room whole same later o
       EndByLast-later spared now same.landmarks later (ends-IsSpared store place was spared at room whole),
     ) go
 
--- On a disk that tells a stream at a place takes an event: what is known of it before, and what the call makes of all.
-module _ (store : StoreState) (content : List ℕ) (kept : StoreIsKept store content) (place : ℕ) (was spared now : StreamParts)
+-- On a disk that tells a stream at a place takes an event: what is known of it before, and what the call makes of all. The content
+-- is what the store shows.
+module _ (store : StoreState) (content : List ℕ) (kept : StoreIsIn store content) (place : ℕ) (was spared now : StreamParts)
     (at : slice_get store.streams place ≡ Some was) (room : IsSpared was spared) (s : Stream) (here : slice_get kept.streams place ≡ Some s) where
   -- the records of the other streams
   abbrev beside : List (ℕ × Option Record)
@@ -269,17 +275,21 @@ module _ (store : StoreState) (content : List ℕ) (kept : StoreIsKept store con
     after : IsState (stepped kept.streams event)
     after = IsState-stepped kept.streams event step.state step.said step.none
 
-    pub StoreIsKept-stepped : (records_now : RecordsState) (stopped : Bool) (image : List ℕ) → AreKept records_now image → IsHeldIn beside now next image →
+    pub StoreIsKept-stepped : (records_now : RecordsState) (stopped : Bool) (image : List ℕ) → AreKept records_now image →
+        IsHeldIn beside now next (shown_by records_now image) →
         StoreIsKept (record { streams = slice_set store.streams place now; records = records_now; stopped = stopped }) image
     StoreIsKept-stepped records_now stopped image are held =
-        let both = HasRecords-set store.streams kept.streams place now next image kept.agree inside held in
+        let shown = shown_by records_now image in
+        let both = HasRecords-set store.streams kept.streams place now next shown kept.agree inside held in
         record {
           records = are;
-          streams = stepped kept.streams event;
-          state = after;
-          agree = subst (λ l. AllAgree (slice_set store.streams place now) l) step.is both.0;
-          held = subst (λ l. HasRecords (flat_map records_held (zip (slice_set store.streams place now) l)) image) step.is both.1;
-          closed = step.closed;
+          shown = record {
+            streams = stepped kept.streams event;
+            state = after;
+            agree = subst (λ l. AllAgree (slice_set store.streams place now) l) step.is both.0;
+            held = subst (λ l. HasRecords (flat_map records_held (zip (slice_set store.streams place now) l)) shown) step.is both.1;
+            closed = step.closed;
+          };
         }
 
     pub recovers-after : (part : StreamParts) (image : List ℕ) → IsHeldIn beside part next image → Recovers (stepped kept.streams event) image
@@ -289,21 +299,19 @@ module _ (store : StoreState) (content : List ℕ) (kept : StoreIsKept store con
         let has = subst (λ l. HasRecords (flat_map records_held (zip (slice_set store.streams place part) l)) image) step.is both.1 in
         subst (λ l. Recovers l image) step.closed (Recovers-held (slice_set store.streams place part) (stepped kept.streams event) image agree after has)
 
-    -- a call that turns the stream from before into the one after it, and leaves in a crash the one from before or what recovers to
+    -- a call that turns the stream from before into the one after it, and brings to the disk the one from before or what recovers to
     -- the state after it
-    pub StepsState-one : {T E : Type 0} (Left : List ℕ → Type 0) (old new : Told) (call : Result T E) → old.content ≡ content →
-        ((image : List ℕ) → Left image → Recovers (stepped kept.streams event) image) →
-        Turns (IsHeldIn beside spared s) (Either (IsHeldIn beside spared s) Left) (IsHeldIn beside now next) old new call →
-        StepsState event call old new
-    StepsState-one Left old new call same left turns =
-        StepsState-turns event old new call kept.streams (IsHeldIn beside spared s) (Either (IsHeldIn beside spared s) Left)
-        (IsHeldIn beside now next) (subst (λ c. Recovers kept.streams c) (sym same) (Recovers-StoreIsKept store content kept))
-        (subst (λ c. IsHeldIn beside spared s c) (sym same) held-before)
-        (λ image either. elim either [ inl before ↦ inl (recovers-before image before) | inr more ↦ inr (left image more) ])
-        (λ image held. recovers-after now image held) turns
+    pub StepsState-one : {T E : Type 0} (Left : List ℕ → Type 0) (was_records is_records : RecordsState) (old new : Told) (call : Result T E) →
+        shown_by was_records old.content ≡ content → ((image : List ℕ) → Left image → RecoversToEither kept.streams event image) →
+        TurnsShown was_records is_records (IsHeldIn beside spared s) Left (IsHeldIn beside now next) old new call →
+        StepsState event was_records is_records call old new
+    StepsState-one Left was_records is_records old new call same left turns =
+        StepsState-turns event was_records is_records old new call kept.streams (IsHeldIn beside spared s) Left
+        (IsHeldIn beside now next) (subst (λ c. Recovers kept.streams c) (sym same) (Recovers-StoreIsIn store content kept))
+        (subst (λ c. IsHeldIn beside spared s c) (sym same) held-before) left (λ image held. recovers-after now image held) turns
 
 -- the stream that takes a value outside landmarks
-module _ (store : StoreState) (content : List ℕ) (kept : StoreIsKept store content) (name : List ℕ) (t : ℕ) (v : ℤ) (place slot : ℕ)
+module _ (store : StoreState) (content : List ℕ) (kept : StoreIsIn store content) (name : List ℕ) (t : ℕ) (v : ℤ) (place slot : ℕ)
     (taker : IsTaker store name t place slot) (none : refuses_held store.streams (Value name t v) ≡ None) (said : CanBeSaid (Value name t v)) where
   pub pair : IsPair store.streams kept.streams place taker.part
   pair = IsPair-at store.streams kept.streams place taker.part kept.agree kept.state taker.at
@@ -329,7 +337,7 @@ module _ (store : StoreState) (content : List ℕ) (kept : StoreIsKept store con
     held-taker = held-before store content kept place taker.part spared now taker.at room pair.stream pair.here
 
     pub StoreIsKept-appended : (records_now : RecordsState) (stopped : Bool) (image : List ℕ) → AreKept records_now image →
-        IsHeldIn others now (with_value pair.stream t v) image →
+        IsHeldIn others now (with_value pair.stream t v) (shown_by records_now image) →
         StoreIsKept (record { streams = slice_set store.streams place now; records = records_now; stopped = stopped }) image
     StoreIsKept-appended records_now stopped image are held =
         StoreIsKept-stepped store content kept place taker.part spared now taker.at room pair.stream pair.here (Value name t v) (with_value pair.stream t v)
@@ -342,16 +350,24 @@ module _ (store : StoreState) (content : List ℕ) (kept : StoreIsKept store con
         (slice_get_within store.streams place taker.part taker.at)
         (IsState-single kept.streams name t v place pair.stream may) partly)
 
-    pub StepsState-appended : {T E : Type 0} (old new : Told) (call : Result T E) → old.content ≡ content →
-        Turns (IsHeldIn others spared pair.stream) (IsHalfway others spared pair.stream t v) (IsHeldIn others now (with_value pair.stream t v)) old new call →
-        StepsState (Value name t v) call old new
-    StepsState-appended old new call same turns =
+    pub StepsState-appended : {T E : Type 0} (was_records is_records : RecordsState) (old new : Told) (call : Result T E) →
+        shown_by was_records old.content ≡ content →
+        TurnsShown was_records is_records (IsHeldIn others spared pair.stream) (IsHalfway others spared pair.stream t v)
+        (IsHeldIn others now (with_value pair.stream t v)) old new call →
+        StepsState (Value name t v) was_records is_records call old new
+    StepsState-appended was_records is_records old new call same turns =
         StepsState-one store content kept place taker.part spared now taker.at room pair.stream pair.here (Value name t v) (with_value pair.stream t v)
-        (MayStep-valued kept.streams name t v place pair.stream may kept.closed) (IsPartlyJoined others (with_single pair.stream t v)) old new call same
-        recovers-partly turns
+        (MayStep-valued kept.streams name t v place pair.stream may kept.closed) (IsHalfway others spared pair.stream t v) was_records is_records old new
+        call same
+        (λ image either. elim either [
+          | inl before ↦
+              inl (recovers-before store content kept place taker.part spared now taker.at room pair.stream pair.here image before)
+          | inr more ↦ inr (recovers-partly image more)
+        ])
+        turns
 
 -- the stream whose landmarks take an event
-module _ (store : StoreState) (content : List ℕ) (kept : StoreIsKept store content) (name : List ℕ) (t : ℕ) (mark : Mark) (place slot : ℕ)
+module _ (store : StoreState) (content : List ℕ) (kept : StoreIsIn store content) (name : List ℕ) (t : ℕ) (mark : Mark) (place slot : ℕ)
     (marker : IsMarker store name t mark place slot) (none : refuses_held store.streams (event_of name t mark) ≡ None) (said : CanBeSaid (event_of name t mark))
     (marked : IsInOpen mark → has_open marker.part.landmarks.landmarks ≡ true) where
   pub marking : IsPair store.streams kept.streams place marker.part
@@ -370,19 +386,21 @@ module _ (store : StoreState) (content : List ℕ) (kept : StoreIsKept store con
     held-marker = held-before store content kept place marker.part spared now marker.at room marking.stream marking.here
 
     pub StoreIsKept-marked : (records_now : RecordsState) (stopped : Bool) (image : List ℕ) → AreKept records_now image →
-        IsHeldIn (others_of place store.streams kept.streams) now (with_mark marking.stream t mark) image →
+        IsHeldIn (others_of place store.streams kept.streams) now (with_mark marking.stream t mark) (shown_by records_now image) →
         StoreIsKept (record { streams = slice_set store.streams place now; records = records_now; stopped = stopped }) image
     StoreIsKept-marked records_now stopped image are held =
         StoreIsKept-stepped store content kept place marker.part spared now marker.at room marking.stream marking.here (event_of name t mark)
         (with_mark marking.stream t mark) may-mark records_now stopped image are held
 
-    pub StepsState-marked : {T E : Type 0} (old new : Told) (call : Result T E) → old.content ≡ content →
-        Turns (IsHeldIn (others_of place store.streams kept.streams) spared marking.stream)
-        (IsMarkedOrNot (others_of place store.streams kept.streams) spared marking.stream t mark)
+    pub StepsState-marked : {T E : Type 0} (was_records is_records : RecordsState) (old new : Told) (call : Result T E) →
+        shown_by was_records old.content ≡ content →
+        TurnsShown was_records is_records (IsHeldIn (others_of place store.streams kept.streams) spared marking.stream)
+        (IsHeldIn (others_of place store.streams kept.streams) spared marking.stream)
         (IsHeldIn (others_of place store.streams kept.streams) now (with_mark marking.stream t mark)) old new call →
-        StepsState (event_of name t mark) call old new
-    StepsState-marked old new call same turns =
+        StepsState (event_of name t mark) was_records is_records call old new
+    StepsState-marked was_records is_records old new call same turns =
         StepsState-one store content kept place marker.part spared now marker.at room marking.stream marking.here (event_of name t mark)
-        (with_mark marking.stream t mark) may-mark (IsMarkedIn (others_of place store.streams kept.streams) marking.stream t mark) old new call same
-        (λ image is. recovers-after store content kept place marker.part spared now marker.at room marking.stream marking.here (event_of name t mark)
-        (with_mark marking.stream t mark) may-mark is.0 image is.1) turns
+        (with_mark marking.stream t mark) may-mark (IsHeldIn (others_of place store.streams kept.streams) spared marking.stream) was_records is_records
+        old new call same
+        (λ image before. inl (recovers-before store content kept place marker.part spared now marker.at room marking.stream marking.here image before))
+        turns

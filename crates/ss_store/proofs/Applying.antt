@@ -1,6 +1,7 @@
 -- What an event does to a store: refused, out of memory, failed, done.
 use Rattle.std.proofs.Common.{◌≡◌, ◌∙◌, ℕ, ◌+◌, ◌≤◌, true, false, max, Err, List, None, Ok, Option, Result, Some, ap, flat_map, inl, length, map, refl, sym}
 use Rattle.std.specs.Prelude.{Contains, IfSome, IsTrue}
+use Rattle.ss_outside.proofs.CrashLemmas.{reads-none}
 use Rattle.ss_outside.specs.Crash.{KnowsNow}
 use Rattle.ss_outside.specs.Disk.{DiskView, Told, WhereTold}
 use Rattle.ss_outside.specs.Step.{Step}
@@ -13,28 +14,30 @@ use Rattle.ss_model.specs.declared.types.Ack.{Ack}
 use Rattle.ss_recover.specs.Held.{slots_held}
 use Rattle.ss_recover.specs.declared.parts.StreamParts.{StreamParts}
 use Rattle.ss_store.specs.Applied.{Applies, IsFew, StandsOn, is_creation, is_plain_value}
+use Rattle.ss_records.specs.Kept.{RecordsState}
 use Rattle.ss_store.specs.Calls.{RecoversToEither, StepsState}
 use Rattle.ss_store.specs.Causes.{said_of_held}
 use Rattle.ss_store.specs.Changing.{ChangedIsHeld}
 use Rattle.ss_query.specs.Answered.{window_slots_of}
 use Rattle.ss_store.specs.Errors.{apply_of_fault}
 use Rattle.ss_query.specs.Reading.{verdict_of_read}
-use Rattle.ss_store.specs.Kept.{SameButSpare, StoreIsKept, StoreState, is_of_landmark, part_named, refuses_held, without_spare}
+use Rattle.ss_store.specs.Kept.{SameButSpare, StoreIsKept, StoreState, part_named, refuses_held}
 use Rattle.ss_store.specs.Recover.{Recovers}
 use Rattle.ss_store.specs.declared.error.ApplyError.{ApplyError}
 use Rattle.ss_store.specs.declared.error.ApplyError.TheVariants as apply
 use Rattle.ss_query.specs.declared.read_error.ReadError.{ReadError}
 use Rattle.ss_query.specs.declared.read_error.ReadError.TheVariants as fault
-use Rattle.ss_store.proofs.Calls.{Turns-failed, Turns-same}
+use Rattle.ss_store.proofs.ShownCalls.{TurnsShown-failed, TurnsShown-reads}
 use Rattle.ss_store.proofs.Stepping.{IsRefusedBy}
 
 -- without a call of the disk no step is made
-StepsState-none : (event : Event) (disk : Told) (e : ApplyError) → KnowsNow disk → StepsState {T = Ack} event (Err e) disk disk
-StepsState-none event disk e knows =
+StepsState-none : (event : Event) (was is : RecordsState) (disk : Told) (e : ApplyError) → KnowsNow disk →
+    StepsState {T = Ack} event was is (Err e) disk disk
+StepsState-none event was is disk e knows =
     λ all.
     let none : Result Ack ApplyError = Err e in
-    Turns-failed (Recovers all) (RecoversToEither all event) (Recovers all) (Recovers (stepped all event)) disk disk none none refl
-    (Turns-same (Recovers all) (RecoversToEither all event) disk none knows (λ is. inl is))
+    TurnsShown-failed was was is (Recovers all) (RecoversToEither all event) (Recovers all) (Recovers (stepped all event)) disk disk none none refl
+    (TurnsShown-reads was was (Recovers all) (RecoversToEither all event) disk disk none knows (reads-none disk) tt)
 
 -- an answer that is no refusal, where none applies
 accepted-exactly : (why : Option Refusal) (result : Result Ack ApplyError) → why ≡ None → ((r : Refusal) → result ≡ Err (apply.Refused r) → ⊥) →
@@ -58,7 +61,7 @@ module _ (event : Event) (old : StoreState) where
   pub Applies-refused : (disk : DiskView) (r : Refusal) → refuses_held old.streams event ≡ Some r → StandsOn old disk → WhereTold disk KnowsNow →
       Applies event old old disk disk (Err (apply.Refused r))
   Applies-refused disk r is stands knows = record {
-    step = record { tells = refl; counted = refl; told = λ told. StepsState-none event disk.told (apply.Refused r) (knows told) };
+    step = record { tells = refl; counted = refl; told = λ told. StepsState-none event old.records old.records disk.told (apply.Refused r) (knows told) };
     stands = stands;
     ack = tt;
     decay = λ plain. tt;
@@ -69,7 +72,6 @@ module _ (event : Event) (old : StoreState) where
     stops = refl;
     firm = λ told. tt;
     extent = tt;
-    failed = λ own. tt;
     changed = tt;
   }
 
@@ -77,7 +79,7 @@ module _ (event : Event) (old : StoreState) where
     pub Applies-starved : (disk : DiskView) → SameButSpare old new → StandsOn new disk → WhereTold disk KnowsNow →
         Applies event old new disk disk (Err apply.OutOfMemory)
     Applies-starved disk same stands knows = record {
-      step = record { tells = refl; counted = refl; told = λ told. StepsState-none event disk.told apply.OutOfMemory (knows told) };
+      step = record { tells = refl; counted = refl; told = λ told. StepsState-none event old.records new.records disk.told apply.OutOfMemory (knows told) };
       stands = stands;
       ack = tt;
       decay = λ plain. tt;
@@ -88,12 +90,12 @@ module _ (event : Event) (old : StoreState) where
       stops = same.stopped;
       firm = λ told. tt;
       extent = tt;
-      failed = λ own. tt;
       changed = tt;
     }
 
     module _ (before after : DiskView) where
-      pub Applies-done : (ack : Ack) → Step fine before after (λ o n. StepsState {E = ApplyError} event (Ok ack) o n × StoreIsKept new n.content) →
+      pub Applies-done : (ack : Ack) → Step fine before after
+          (λ o n. StepsState {E = ApplyError} event old.records new.records (Ok ack) o n × StoreIsKept new n.content) →
           (is_creation event ≡ true → ack ≡ record { n = 0; k = 0 }) → ack ≡ said_of_held (part_named (event_name event) new.streams) →
           (is_plain_value old.streams event ≡ true → IsFew new.streams event ack) →
           new.stopped ≡ old.stopped →
@@ -111,18 +113,17 @@ module _ (event : Event) (old : StoreState) where
         stops = runs;
         firm = λ told. tt;
         extent = extent;
-        failed = λ own. tt;
         changed = tt;
       }
 
       pub Applies-failed : (why : ReadError) →
-          Step (verdict_of_read {T = Unit {0}} (Err why)) before after (StepsState {T = Ack} event (Err (apply_of_fault why))) →
+          Step (verdict_of_read {T = Unit {0}} (Err why)) before after (StepsState {T = Ack} event old.records new.records (Err (apply_of_fault why))) →
           (IsTrue before.tells → IsFirm (verdict_of_read {T = Unit {0}} (Err why))) →
           IfChanged (verdict_of_read {T = Unit {0}} (Err why))
           (λ slot. IfSome (part_named (event_name event) new.streams) (λ part. Contains (window_slots_of part) slot)) →
-          new.stopped ≡ true → (is_of_landmark old.streams event ≡ true → map without_spare new.streams ≡ map without_spare old.streams) →
+          new.stopped ≡ true →
           Applies event old new before after (Err (apply_of_fault why))
-      Applies-failed fault.Disk step firm held stops stay = record {
+      Applies-failed fault.Disk step firm held stops = record {
         step = step;
         stands = λ run. let wrong : true ≡ false = sym stops ∙ run in cc;
         ack = tt;
@@ -134,10 +135,9 @@ module _ (event : Event) (old : StoreState) where
         stops = stops;
         firm = λ told. tt;
         extent = tt;
-        failed = stay;
         changed = tt;
       }
-      Applies-failed (fault.Changed slot) step firm held stops stay = record {
+      Applies-failed (fault.Changed slot) step firm held stops = record {
         step = step;
         stands = λ run. let wrong : true ≡ false = sym stops ∙ run in cc;
         ack = tt;
@@ -149,6 +149,5 @@ module _ (event : Event) (old : StoreState) where
         stops = stops;
         firm = firm;
         extent = tt;
-        failed = λ own. tt;
         changed = held;
       }

@@ -1,7 +1,11 @@
 -- What each answer of a look at a store is.
-use Rattle.std.proofs.Common.{◌≡◌, ℕ, [], ◌∷◌, map, refl, Err, Ok}
+use Rattle.std.proofs.Common.{◌≡◌, ◌<◌, ◌++◌, ℕ, List, All, [], ◌∷◌, drop, map, refl, Err, Ok, Option}
 use Rattle.ss_outside.specs.Verdict.{changed, failed, fine, refused, stopped}
 use Rattle.ss_catalog.specs.declared.refusal.Refusal.TheVariants as refusal
+use Rattle.ss_line.specs.Line.{place_at}
+use Rattle.ss_line.specs.declared.entry.At.{At}
+use Rattle.ss_line.specs.declared.entry.Entry.{Entry}
+use Rattle.ss_query.specs.Answered.{BeginsNear, begun_in}
 use Rattle.ss_query.specs.declared.read_error.ReadError.TheVariants as read
 use Rattle.ss_store.specs.Errors.{ask_of_fault, verdict_of_ask}
 use Rattle.ss_store.specs.declared.error.AskError.TheVariants as ask
@@ -15,3 +19,16 @@ verdict-Ok = refl
 
 errors-ask : map ask_of_fault (read.Disk ∷ read.Changed 7 ∷ []) ≡ ask.Disk ∷ ask.Changed 7 ∷ []
 errors-ask = refl
+
+-- how many windows begin after a time and not after another
+abbrev three : List (At × Entry)
+three = map (λ t. (record { 0 = t }, record { first = t; last = t; t_first = t; t_last = t; slot = t })) (10 ∷ 20 ∷ 30 ∷ [])
+
+begun-three : map (λ (range : ℕ × ℕ). begun_in range.0 range.1 three) ((9, 30) ∷ (10, 30) ∷ (10, 29) ∷ (30, 40) ∷ [])
+    ≡ 3 ∷ 2 ∷ 1 ∷ 0 ∷ []
+begun-three = refl
+
+-- of the windows from a near place on only the first may begin by the time
+BeginsNear-behind : (entries : List (At × Entry)) (from : ℕ) (start : Option At) (near : BeginsNear entries from start) →
+    (entries ≡ near.before ++ near.rest) × All (λ (e : At × Entry). from < e.1.t_first) (drop 1 near.rest) × (start ≡ place_at near.rest 0)
+BeginsNear-behind entries from start near = (near.is, near.behind, near.place)

@@ -7,8 +7,7 @@ use Rattle.ss_outside.specs.Verdict.{IsFirm, fine}
 use Rattle.ss_catalog.specs.declared.query.Query.{Query}
 use Rattle.ss_catalog.specs.declared.refusal.Refusal.TheVariants.{Range, Unknown}
 use Rattle.ss_catalog.specs.declared.stream_id.StreamId.{StreamId}
-use Rattle.ss_journal.proofs.ShownLemmas.{shown-sealed}
-use Rattle.ss_records.specs.Kept.{AreAtRest, RecordsState}
+use Rattle.ss_records.specs.Kept.{RecordsState, shown_by}
 use Rattle.ss_model.specs.Answers.{answer_of, outcome_of, refuses_query}
 use Rattle.ss_model.specs.Refusals.{first_that_applies}
 use Rattle.ss_model.specs.State.{Stream, state, stream_named}
@@ -23,11 +22,11 @@ use Rattle.ss_query.specs.declared.read_error.ReadError.{ReadError}
 use Rattle.ss_query.specs.declared.read_error.ReadError.TheVariants as error
 use Rattle.ss_store.specs.Applied.{Answers}
 use Rattle.ss_store.specs.Asked.{refuses_query_held}
-use Rattle.ss_store.specs.Kept.{SomeAgree, StoreIsKept, StoreState, part_named}
+use Rattle.ss_store.specs.Kept.{SomeAgree, StoreIsIn, StoreIsKept, StoreState, part_named}
 use Rattle.ss_store.specs.Recover.{Recovers}
 use Rattle.ss_store.proofs.Among.{IsHeldIn-at, others_of}
 use Rattle.ss_store.proofs.HeldCounts.{SomeAgree-named}
-use Rattle.ss_store.proofs.KeptStates.{Recovers-StoreIsKept, Recovers-same}
+use Rattle.ss_store.proofs.KeptStates.{Recovers-StoreIsIn, Recovers-same}
 use Rattle.ss_store.proofs.Named.{AreFound-named}
 
 IsFirm-answered : (outcome : Outcome) (why : ReadError) → IsAnswered outcome (Err why) → IsFirm (verdict_of_read {T = Outcome} (Err why))
@@ -40,40 +39,40 @@ record IsAsked (query : Query) (streams : List Stream) (result : Result Outcome 
   found : stream_named query.name streams ≡ Some stream
   answered : IsAnswered (answer_of query stream) result
 
-module _ {query : Query} {part : StreamParts} {was is : RecordsState} (at_rest : AreAtRest was) (store : StoreState)
+module _ {query : Query} {part : StreamParts} {is : RecordsState} (store : StoreState)
     (named : part_named query.name store.streams ≡ Some part) where
-  stream-asked : (old new : Told) (result : Result Outcome ReadError) (kept : StoreIsKept store old.content) →
-      AnswersStream part query was is result old new → IsAsked query kept.streams result
+  stream-asked : (old new : Told) (result : Result Outcome ReadError) (kept : StoreIsIn store (shown_by store.records old.content)) →
+      AnswersStream part query store.records is result old new → IsAsked query kept.streams result
   stream-asked old new result kept answers =
       let found = AreFound-named store.streams kept.streams query.name part kept.agree kept.state named in
       let others = others_of found.place store.streams kept.streams in
-      let held = IsHeldIn-at store.streams kept.streams found.place part found.stream old.content kept.agree kept.state found.at found.here kept.held in
+      let held = IsHeldIn-at store.streams kept.streams found.place part found.stream (shown_by store.records old.content) kept.agree kept.state found.at found.here kept.held in
       record {
         stream = found.stream;
         found = found.found_is;
-        answered = answers.answer others found.stream
-            (subst (λ (content : List ℕ). IsHeldIn others part found.stream content) (sym (shown-sealed was.journal old.content at_rest.1)) held);
+        answered = answers.answer others found.stream held;
       }
 
-  -- the answer of the state that the content recovers to
-  outcome-kept : (old new : Told) (outcome : Outcome) → StoreIsKept store old.content → AnswersStream part query was is (Ok outcome) old new →
-      (streams : List Stream) → Recovers streams old.content → outcome_of streams query ≡ Some outcome
+  -- the answer of the state that is shown
+  outcome-kept : (old new : Told) (outcome : Outcome) → StoreIsIn store (shown_by store.records old.content) →
+      AnswersStream part query store.records is (Ok outcome) old new →
+      (streams : List Stream) → Recovers streams (shown_by store.records old.content) → outcome_of streams query ≡ Some outcome
   unfolding outcome_of
   outcome-kept old new outcome kept answers streams recovers =
       let is = stream-asked old new (Ok outcome) kept answers in
-      let same = Recovers-same kept.streams streams old.content (Recovers-StoreIsKept store old.content kept) recovers in
+      let same = Recovers-same kept.streams streams (shown_by store.records old.content) (Recovers-StoreIsIn store (shown_by store.records old.content) kept) recovers in
       let found : stream_named query.name streams ≡ Some is.stream = ap (λ l. stream_named query.name l) (sym same) ∙ is.found in
       ap (option_map (λ (s : Stream). answer_of query s)) found ∙ ap (λ (o : Outcome). Some o) (sym is.answered)
 
   module _ {before after : DiskView} (kept : OfContent before (StoreIsKept store)) where
-    pub answers-kept : (outcome : Outcome) → Step fine before after (AnswersStream part query was is (Ok outcome)) →
-        Step fine before after (Answers query (Ok outcome))
+    pub answers-kept : (outcome : Outcome) → Step fine before after (AnswersStream part query store.records is (Ok outcome)) →
+        Step fine before after (Answers store.records query (Ok outcome))
     answers-kept outcome step = record {
       tells = step.tells;
       counted = step.counted;
       told = λ told.
           let answers = step.told told in
-          let answer = outcome-kept before.told after.told outcome (kept told) answers in
+          let answer = outcome-kept before.told after.told outcome (kept told).shown answers in
           record {
             answer = answer;
             truth = λ history stands. answer-holds history query outcome stands.is_history (answer (state history) stands.state);
@@ -83,10 +82,10 @@ module _ {query : Query} {part : StreamParts} {was is : RecordsState} (at_rest :
     }
 
     -- no slot has changed on a disk that tells
-    pub IsFirm-kept : (why : ReadError) → Step (verdict_of_read {T = Outcome} (Err why)) before after (AnswersStream part query was is (Err why)) →
+    pub IsFirm-kept : (why : ReadError) → Step (verdict_of_read {T = Outcome} (Err why)) before after (AnswersStream part query store.records is (Err why)) →
         IsTrue before.tells → IsFirm (verdict_of_read {T = Outcome} (Err why))
     IsFirm-kept why step told =
-        let is = stream-asked before.told after.told (Err why) (kept told) (step.told told) in
+        let is = stream-asked before.told after.told (Err why) (kept told).shown (step.told told) in
         IsFirm-answered (answer_of query is.stream) why is.answered
 
 known-alike : (part : Option StreamParts) (s : Option Stream) → SomeAgree part s → is_some part ≡ is_some s

@@ -1,7 +1,8 @@
 -- What some definitions come to at one answer each, where nothing else would tell if they said less.
-use Rattle.std.proofs.Common.{◌≡◌, ℕ, ◌+◌, ◌*◌, ◌≤◌, Bool, true, false, List, [], ◌∷◌, map, length, Err, None, Ok, Some, pos, refl}
+use Rattle.std.proofs.Common.{◌≡◌, ◌⊎◌, ℕ, ◌+◌, ◌*◌, ◌≤◌, Bool, true, false, List, [], ◌∷◌, ◌++◌, map, length, Err, None, Ok, Some, pos, refl}
 use Rattle.std.specs.Prelude.{Contains, IfSome, flat_map, max}
-use Rattle.ss_outside.specs.Disk.{DiskView, Told}
+use Rattle.ss_outside.specs.Crash.{LeavesOnly}
+use Rattle.ss_outside.specs.Disk.{DiskView, NothingPending, Told}
 use Rattle.ss_outside.specs.Verdict as verdicts
 use Rattle.ss_outside.specs.Verdict.{Verdict}
 use Rattle.ss_catalog.specs.Events.{event_name}
@@ -20,13 +21,16 @@ use Rattle.ss_model.specs.declared.outcome.Outcome.{Outcome}
 use Rattle.ss_model.specs.declared.types.Ack.{Ack}
 use Rattle.ss_model.specs.declared.types.Placed.{Placed}
 use Rattle.ss_query.specs.Answered.{window_slots_of}
+use Rattle.ss_records.specs.Kept.{RecordsState, shown_by}
 use Rattle.ss_recover.specs.Held.{slots_held}
 use Rattle.ss_recover.specs.declared.parts.StreamParts.{StreamParts}
 use Rattle.ss_target.specs.Lengths.{lengths_of}
 use Rattle.ss_target.specs.Targets.{params_of}
-use Rattle.ss_store.specs.Applied.{Answers, Applies, IsFew, Looks, ShowsWindow, is_creation, is_plain_value}
+use Rattle.ss_store.specs.Applied.{Answers, Applies, IsFew, Looks, SealsStore, ShowsWindow, is_creation, is_plain_value}
+use Rattle.ss_store.specs.Calls.{StagesEvent, StandsForEither}
 use Rattle.ss_store.specs.Errors.{stopped_after, verdict_of_apply, verdict_of_opening}
 use Rattle.ss_store.specs.Kept.{SameButSpare, StoreState, is_of_landmark, part_named, without_spare}
+use Rattle.ss_store.specs.declared.error.ApplyError.{ApplyError}
 use Rattle.ss_store.specs.Recover.{Recovers, Stands}
 use Rattle.ss_store.specs.Surveyed.{survey_of}
 use Rattle.ss_store.specs.declared.error.ApplyError.TheVariants as apply
@@ -108,10 +112,6 @@ module _ (event : Event) (old new : StoreState) (before after : DiskView) where
   applies-decay : (ack : Ack) → is_plain_value old.streams event ≡ true → Applies event old new before after (Ok ack) → IsFew new.streams event ack
   applies-decay ack is applies = applies.decay is
 
-  applies-failed : is_of_landmark old.streams event ≡ true → Applies event old new before after (Err apply.Disk) →
-      map without_spare new.streams ≡ map without_spare old.streams
-  applies-failed is applies = applies.failed is
-
   applies-changed : (slot : ℕ) → Applies event old new before after (Err (apply.Changed slot)) →
       IfSome (part_named (event_name event) new.streams) (λ part. Contains (window_slots_of part) slot)
   applies-changed slot applies = applies.changed
@@ -127,14 +127,34 @@ module _ (event : Event) (old new : StoreState) (before after : DiskView) where
 
 -- what an answer and a window that is shown say
 module _ (old new : Told) where
-  answers-exact : (query : Query) (outcome : Outcome) → Answers query (Ok outcome) old new →
-      (streams : List Stream) → Recovers streams old.content → split_by streams query ≡ [] → IsExactOutcome outcome
-  answers-exact query outcome answers = answers.exact
+  answers-exact : (was : RecordsState) (query : Query) (outcome : Outcome) → Answers was query (Ok outcome) old new →
+      (streams : List Stream) → Recovers streams (shown_by was old.content) → split_by streams query ≡ [] → IsExactOutcome outcome
+  answers-exact was query outcome answers = answers.exact
 
-  shows-within : (number : ℕ) (at : At) (parts : List StreamParts) (placed : Placed) → ShowsWindow number at parts (Ok placed) old new →
-      (history : List Event) → Stands history old.content →
+  shows-within : (number : ℕ) (at : At) (store : StoreState) (placed : Placed) → ShowsWindow number at store (Ok placed) old new →
+      (history : List Event) → Stands history (shown_by store.records old.content) →
       IfSome (stream_numbered number (state history)) (λ s. IsReadWithinTarget (lengths_of s.params) (values_in s) placed)
-  shows-within number at parts placed shows = shows.within
+  shows-within number at store placed shows = shows.within
+
+  -- what a seal keeps of the state that is shown, at Ok and in a crash
+  seals-state : (was is : StoreState) (u : Unit {0}) (streams : List Stream) → SealsStore was is (Ok u) old new →
+      Recovers streams (shown_by was.records old.content) → Recovers streams (shown_by is.records new.content)
+  seals-state was is u streams seals = (seals.state streams).content
+
+  seals-history : (was is : StoreState) (u : Unit {0}) (sealed history : List Event) → SealsStore was is (Ok u) old new → NothingPending old →
+      Stands sealed old.content → Stands history (shown_by was.records old.content) →
+      LeavesOnly old new (λ image. Stands sealed image ⊎ Stands history image) × NothingPending new
+  seals-history was is u sealed history seals none before shown =
+      ((seals.history history).any_moment none sealed before shown, (seals.history history).durable none)
+
+  -- what staging leaves, at Ok and in a crash
+  stages-history : (event : Event) (was is : RecordsState) (ack : Ack) (sealed history : List Event) →
+      StagesEvent {E = ApplyError} event was is (Ok ack) old new → NothingPending old → Stands sealed old.content →
+      Stands history (shown_by was old.content) →
+      Stands (history ++ event ∷ []) (shown_by is new.content)
+      × LeavesOnly old new (λ image. Stands sealed image ⊎ StandsForEither history event image) × NothingPending new
+  stages-history event was is ack sealed history stages none before shown =
+      ((stages history).content shown, (stages history).any_moment none sealed before shown, (stages history).durable none)
 
 -- a survey counts streams, windows, landmarks and the values of these
 surveyed : Stream

@@ -5,19 +5,13 @@ use borrow.Author.Tests.{ltb-true, ltb-false}
 use Rattle.std.proofs.lemmas.Bool.{cases_Bool, cases_eq, cond-false, cond-true, cond_both, not-false}
 use Rattle.std.proofs.lemmas.Bool.Decides.{nat_tests}
 use Rattle.std.proofs.lemmas.List.Sorted.{IsPermutation-cons, IsPermutation-trans}
-use Rattle.std.proofs.lemmas.Result.{on_ok_weaker}
 use Rattle.std.specs.Prelude.{nat_eq, nat_le, nat_lt}
-use Rattle.ss_outside.proofs.CrashLemmas.{weaker}
-use Rattle.ss_outside.specs.Disk.{Told}
-use Rattle.ss_journal.specs.Calls.{ChangesMap}
-use Rattle.ss_journal.specs.Kept.{IsSealed}
 use Rattle.ss_journal.specs.Puts.{IsTxn, extent_after, slots_fit}
 use Rattle.ss_journal.specs.Redo.{SlotMap, StandsFor, changed}
 use Rattle.ss_journal.specs.declared.format.TheConstants.{MOST_SLOTS}
 use Rattle.ss_journal.specs.declared.put.Put.{Put}
 use Rattle.ss_journal.proofs.RedoLemmas.{StandsFor-from, StandsFor-same}
 use Rattle.ss_journal.proofs.MapLemmas.{SameMap-refl}
-use Rattle.ss_journal.proofs.ShownLemmas.{shown-sealed}
 use Rattle.ss_records.specs.Kept.{AreKept, RecordsState, shown_by}
 use Rattle.ss_records.specs.Live.{are_zeros, is_live, live_after}
 use Rattle.ss_codec.specs.Record.{is_valid}
@@ -26,33 +20,13 @@ use Rattle.ss_codec.specs.declared.record.Record.TheVariants.{Free}
 use Rattle.ss_recover.specs.Held.{IsRecord, occupied}
 use Rattle.ss_recover.proofs.Permutations.{IsPermutation-turn}
 use Rattle.ss_recover.proofs.PutLemmas.{live-IsRecord, occupied-free, occupied-freed, occupied-replaced}
-use Rattle.ss_store.specs.Calls.{Turns}
-use Rattle.ss_store.specs.Slots.{AddsRecord, Either, LiveSlotsGo, Replaces, live_slots, pair_put, record_put, zeros_put}
+use Rattle.ss_store.specs.Slots.{LiveSlotsGo, live_slots, pair_put, record_put, zeros_put}
 use Rattle.ss_query.specs.Slots.{HasRecords}
 use Rattle.ss_store.proofs.LiveSlots.{AreTwoLive, LiveSlotsGo-freed, LiveSlotsGo-taken, live_slots-freed_first, live_slots-kept_first}
 
 -- a put of a record that isn't free
 IsRecord-put : (slot : ℕ) (r : Record) → IsTrue (is_valid r) → r ≢ Free → IsRecord (record_put slot r) r
 IsRecord-put slot r valid some = record { spelled = record { valid = valid; spelled = refl }; some = some }
-
--- a call that changes the map turns the records of one map into those of the other, wholly or not at all
-Turns-changes : {T E : Type 0} (before after : List (ℕ × Option Record)) (puts : List Put) (old new : Told) (result : Result T E) →
-    ((found : SlotMap) → StandsFor old.content found → IsPermutation before (occupied found) → IsPermutation after (occupied (changed found puts))) →
-    ChangesMap puts old new result →
-    Turns (HasRecords before) (Either (HasRecords before) (HasRecords after)) (HasRecords after) old new result
-Turns-changes before after puts old new result moves changes = record {
-  content = λ has.
-      on_ok_weaker result (λ is. record { found = changed has.found puts; map = is; occupied = moves has.found has.map has.occupied })
-      (changes.map has.found has.map);
-  any_moment = λ none has.
-      weaker old new (λ image. StandsFor image has.found ⊎ StandsFor image (changed has.found puts)) (Either (HasRecords before) (HasRecords after))
-      (λ image either. elim either [
-        | inl is ↦ inl (record { found = has.found; map = is; occupied = has.occupied })
-        | inr is ↦ inr (record { found = changed has.found puts; map = is; occupied = moves has.found has.map has.occupied })
-      ])
-      (changes.any_moment none has.found has.map);
-  durable = λ none. changes.durable;
-}
 
 -- the map that records show which are kept: its extent is theirs, and a slot that isn't live is zeros
 extent-kept : (records : RecordsState) (content : List ℕ) (found : SlotMap) → AreKept records content → StandsFor (shown_by records content) found →
@@ -86,17 +60,6 @@ module _ (slot : ℕ) (r : Record) (valid : IsTrue (is_valid r)) (some : r ≢ F
       (IsPermutation-cons (slot, Some r) others (occupied found) moved)
       (occupied-free found (record_put slot r) r (IsRecord-put slot r valid some) inside (zeros-kept records content found slot kept is below free))
 
-  pub AddsRecord-changes : {T E : Type 0} (records : RecordsState) (old new : Told) (result : Result T E) → IsSealed records.journal →
-      AreKept records old.content → slot < MOST_SLOTS →
-      slot ≤ records.journal.extent → is_live records.live slot ≡ false → ChangesMap (record_put slot r ∷ []) old new result →
-      AddsRecord slot r result old new
-  AddsRecord-changes records old new result sealed kept below within free changes others =
-      Turns-changes others ((slot, Some r) ∷ others) (record_put slot r ∷ []) old new result
-      (λ found is moved.
-      moves-added records old.content others kept below within free found
-      (subst (λ (image : List ℕ). StandsFor image found) (sym (shown-sealed records.journal old.content sealed)) is) moved)
-      changes
-
   -- a record's bytes make its slot live
   live-put : not (are_zeros (record_put slot r).bytes) ≡ true
   live-put = ap not (live-IsRecord (record_put slot r) r (IsRecord-put slot r valid some))
@@ -107,11 +70,10 @@ module _ (slot : ℕ) (r : Record) (valid : IsTrue (is_valid r)) (some : r ≢ F
       subst (λ (b : Bool). LiveSlotsGo [] (slot ∷ []) live (set live slot b)) (sym live-put) (LiveSlotsGo-taken live slot below free)
 
   -- a record in place of that of the slot
-  pub Replaces-changes : {T E : Type 0} (old new : Told) (result : Result T E) → ChangesMap (record_put slot r ∷ []) old new result →
-      Replaces slot r result old new
-  Replaces-changes old new result changes was others =
-      Turns-changes ((slot, was) ∷ others) ((slot, Some r) ∷ others) (record_put slot r ∷ []) old new result
-      (λ found is moved. occupied-replaced found (record_put slot r) was others moved r (IsRecord-put slot r valid some)) changes
+  pub moves-replaced : (first : Option Record) (others : List (ℕ × Option Record)) (found : SlotMap) →
+      IsPermutation ((slot, first) ∷ others) (occupied found) → IsPermutation ((slot, Some r) ∷ others) (occupied (changed found (record_put slot r ∷ [])))
+  moves-replaced first others found moved =
+      occupied-replaced found (record_put slot r) first others moved r (IsRecord-put slot r valid some)
 
   -- the slot stays live
   pub live_after-again : (live : List Bool) → is_live live slot ≡ true → live_after (record_put slot r ∷ []) live ≡ live

@@ -34,16 +34,17 @@ use Rattle.ss_model.proofs.NameLemmas.{same_name-Decides, same_name-same, same_n
 use Rattle.ss_model.proofs.StandLemmas.{IsState-stepped}
 use Rattle.ss_recover.specs.Held.{AllAgree, AreWhole, Agrees, EndByLast, RiseToLast, TileFrom, entries_of, records_held, slots_held}
 use Rattle.ss_recover.specs.declared.parts.StreamParts.{StreamParts}
-use Rattle.ss_records.specs.Kept.{AreAtRest, AreKept, RecordsState}
+use Rattle.ss_journal.specs.Kept.{IsSettled}
+use Rattle.ss_records.specs.Kept.{AreKept, RecordsState, shown_by}
 use Rattle.ss_store.specs.Admitted.{IsNew}
 use Rattle.ss_store.specs.Calls.{StepsState}
 use Rattle.ss_store.specs.Causes.{said_of_held}
-use Rattle.ss_store.specs.Kept.{IsSound, StoreIsKept, StoreState, entry_of, has_all_numbers, numbers_held, part_named}
+use Rattle.ss_store.specs.Kept.{IsSound, StoreIsIn, StoreIsKept, StoreState, entry_of, has_all_numbers, numbers_held, part_named}
 use Rattle.ss_store.specs.Recover.{Recovers}
-use Rattle.ss_store.specs.Slots.{AddsRecord, Either, LiveSlotsGo, live_slots}
+use Rattle.ss_store.specs.Slots.{LiveSlotsGo, StagesRecord, live_slots}
 use Rattle.ss_query.specs.Slots.{HasRecords}
 use Rattle.ss_store.proofs.Among.{Recovers-held, length-AllAgree}
-use Rattle.ss_store.proofs.KeptStates.{Recovers-StoreIsKept}
+use Rattle.ss_store.proofs.KeptStates.{Recovers-StoreIsIn}
 use Rattle.ss_store.proofs.Named.{numbers-AllAgree}
 use Rattle.ss_query.proofs.Records.{HasRecords-permutation}
 use Rattle.ss_store.proofs.Stepping.{StepsState-turns}
@@ -159,33 +160,38 @@ module _ (parts : List StreamParts) (streams : List Stream) (part : StreamParts)
       (Recovers-held (parts ++ part ∷ []) (stepped streams (Create name params)) image AllAgree-created now (HasRecords-created image has))
 
 -- what is kept after a create, and the step that it makes
-module _ (store : StoreState) (content : List ℕ) (kept : StoreIsKept store content) (part : StreamParts) (name : List ℕ) (params : Params)
+module _ (store : StoreState) (content : List ℕ) (kept : StoreIsIn store content) (part : StreamParts) (name : List ℕ) (params : Params)
     (fresh : IsFreshPart part name params) (number : part.id.0 ≡ next_number (numbers_held store.streams))
     (none : refuses kept.streams (Create name params) ≡ None) where
   pub StoreIsKept-created : (records_now : RecordsState) (stopped : Bool) (now : List ℕ) → AreKept records_now now →
-      HasRecords ((part.slot, Some (records.Stream part.id.0 name params)) ∷ flat_map records_held (zip store.streams kept.streams)) now →
+      HasRecords ((part.slot, Some (records.Stream part.id.0 name params)) ∷ flat_map records_held (zip store.streams kept.streams))
+      (shown_by records_now now) →
       StoreIsKept (record { streams = store.streams ++ part ∷ []; records = records_now; stopped = stopped }) now
   StoreIsKept-created records_now stopped now are has = record {
     records = are;
-    streams = stepped kept.streams (Create name params);
-    state = IsState-stepped kept.streams (Create name params) kept.state tt none;
-    agree = AllAgree-created store.streams kept.streams part name params kept.agree fresh number;
-    held = HasRecords-created store.streams kept.streams part name params kept.agree fresh number now has;
-    closed = closed-created kept.streams name params kept.closed;
+    shown = record {
+      streams = stepped kept.streams (Create name params);
+      state = IsState-stepped kept.streams (Create name params) kept.state tt none;
+      agree = AllAgree-created store.streams kept.streams part name params kept.agree fresh number;
+      held = HasRecords-created store.streams kept.streams part name params kept.agree fresh number (shown_by records_now now) has;
+      closed = closed-created kept.streams name params kept.closed;
+    };
   }
 
-  pub StepsState-created : {T E : Type 0} (old new : Told) (call : Result T E) → old.content ≡ content →
-      AddsRecord part.slot (records.Stream part.id.0 name params) call old new → StepsState (Create name params) call old new
-  StepsState-created old new call same adds =
+  pub StepsState-created : {T E : Type 0} (was_records is_records : RecordsState) (old new : Told) (call : Result T E) →
+      shown_by was_records old.content ≡ content →
+      StagesRecord part.slot (records.Stream part.id.0 name params) was_records is_records call old new →
+      StepsState (Create name params) was_records is_records call old new
+  StepsState-created was_records is_records old new call same stages =
       let others = flat_map records_held (zip store.streams kept.streams) in
       let pushed = (part.slot, Some (records.Stream part.id.0 name params)) ∷ others in
       let after : (image : List ℕ) → HasRecords pushed image → Recovers (stepped kept.streams (Create name params)) image =
       λ image has. Recovers-created store.streams kept.streams part name params kept.agree fresh number image kept.state none kept.closed has in
       let before : (image : List ℕ) → HasRecords others image → Recovers kept.streams image =
       λ image has. subst (λ l. Recovers l image) kept.closed (Recovers-held store.streams kept.streams image kept.agree kept.state has) in
-      StepsState-turns (Create name params) old new call kept.streams (HasRecords others) (Either (HasRecords others) (HasRecords pushed)) (HasRecords pushed)
-      (subst (λ c. Recovers kept.streams c) (sym same) (Recovers-StoreIsKept store content kept)) (subst (λ c. HasRecords others c) (sym same) kept.held)
-      (λ image left. elim left [ inl was ↦ inl (before image was) | inr is ↦ inr (after image is) ]) after (adds others)
+      StepsState-turns (Create name params) was_records is_records old new call kept.streams (HasRecords others) (HasRecords others) (HasRecords pushed)
+      (subst (λ c. Recovers kept.streams c) (sym same) (Recovers-StoreIsIn store content kept)) (subst (λ c. HasRecords others c) (sym same) kept.held)
+      (λ image left. inl (before image left)) after (stages others)
 
 -- over every disk
 none-named : (name : List ℕ) (parts : List StreamParts) → part_named name parts ≡ None →
@@ -237,7 +243,7 @@ AreWhole-created parts live live_now part name params whole fresh number room no
 pub IsSound-created : (store : StoreState) (catalog : List (List ℕ × StreamId)) (records_now : RecordsState) (part : StreamParts) (name : List ℕ)
     (params : Params)
     (slot : ℕ) (stopped : Bool) → IsSound store catalog → store.stopped ≡ false → IsFreshPart part name params → IsNew store name params part.id.0 slot →
-    (stopped ≡ false → AreAtRest records_now × LiveSlotsGo [] (part.slot ∷ []) store.records.live records_now.live) →
+    (stopped ≡ false → IsSettled records_now.journal × LiveSlotsGo [] (part.slot ∷ []) store.records.live records_now.live) →
     IsSound (record { streams = store.streams ++ part ∷ []; records = records_now; stopped = stopped }) (catalog ++ (name, part.id) ∷ [])
 IsSound-created store catalog records_now part name params slot stopped sound runs fresh new goes =
     let parts = store.streams in
@@ -246,7 +252,7 @@ IsSound-created store catalog records_now part name params slot stopped sound ru
     record {
       listed = rw (map-append entry_of parts (part ∷ []), sound.listed, fresh.name_is) refl;
       numbers = rw (map-append (λ (p : StreamParts). p.id.0) parts (part ∷ []), new.next) rising;
-      at_rest = λ run. (goes run).0;
+      settled = λ run. (goes run).0;
       whole = λ run. AreWhole-created parts store.records.live records_now.live part name params (sound.whole runs) fresh new.next new.room new.named
           (goes run).1;
     }

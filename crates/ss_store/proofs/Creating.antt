@@ -11,14 +11,15 @@ use Rattle.ss_catalog.specs.declared.params.Params.{Params}
 use Rattle.ss_catalog.specs.declared.stream_id.StreamId.{StreamId}
 use Rattle.ss_codec.specs.declared.record.Record.TheVariants as records
 use Rattle.ss_model.specs.Refusals.{refuses}
-use Rattle.ss_records.specs.Kept.{AreAtRest, RecordsState}
+use Rattle.ss_journal.specs.Kept.{IsSettled}
+use Rattle.ss_records.specs.Kept.{RecordsState, shown_by}
 use Rattle.ss_recover.specs.Held.{records_held}
 use Rattle.ss_recover.specs.declared.parts.StreamParts.{StreamParts}
 use Rattle.ss_store.specs.Admitted.{IsNew}
 use Rattle.ss_store.specs.Applied.{Applies}
 use Rattle.ss_store.specs.Changing.{Makes}
-use Rattle.ss_store.specs.Kept.{IsSound, StoreIsKept, StoreState, refuses_held}
-use Rattle.ss_store.specs.Slots.{AddsRecord, LiveSlotsGo}
+use Rattle.ss_store.specs.Kept.{IsSound, StoreIsIn, StoreIsKept, StoreState, refuses_held}
+use Rattle.ss_store.specs.Slots.{LiveSlotsGo, StagesRecord}
 use Rattle.ss_store.specs.declared.error.ApplyError.TheVariants.{Disk}
 use Rattle.ss_query.specs.declared.read_error.ReadError.TheVariants as fault
 use Rattle.ss_store.proofs.Applying.{Applies-done, Applies-failed}
@@ -54,7 +55,7 @@ module _ {store : StoreState} {catalog : List (List ℕ × StreamId)} {name : Li
   abbrev pub with_part : RecordsState → Bool → StoreState
   with_part now stopped = record { streams = store.streams ++ part ∷ []; records = now; stopped = stopped }
 
-  none-of : (kept : StoreIsKept store before.told.content) → refuses kept.streams (Create name params) ≡ None
+  none-of : (kept : StoreIsIn store (shown_by store.records before.told.content)) → refuses kept.streams (Create name params) ≡ None
   none-of kept = sym (refuses_held-is store.streams kept.streams (Create name params) kept.agree kept.state) ∙ is.none
 
   -- over every disk
@@ -62,27 +63,28 @@ module _ {store : StoreState} {catalog : List (List ℕ × StreamId)} {name : Li
   sound-unwritten now =
       IsSound-created store catalog now part name params part.slot true is.sound is.runs is.fresh is.is_new (λ run. let wrong : true ≡ false = run in cc)
 
-  pub sound-created : (now : RecordsState) → AreAtRest now → LiveSlotsGo [] (part.slot ∷ []) store.records.live now.live →
+  pub sound-created : (now : RecordsState) → IsSettled now.journal → LiveSlotsGo [] (part.slot ∷ []) store.records.live now.live →
       IsSound (with_part now store.stopped) (catalog ++ (name, part.id) ∷ [])
-  sound-created now at_rest live =
-      IsSound-created store catalog now part name params part.slot store.stopped is.sound is.runs is.fresh is.is_new (λ run. (at_rest, live))
+  sound-created now settled live =
+      IsSound-created store catalog now part name params part.slot store.stopped is.sound is.runs is.fresh is.is_new (λ run. (settled, live))
 
   -- the event is applied
   pub applies-created : (now : RecordsState) (after : DiskView) (done : Unit {0}) → now.journal.extent ≤ max store.records.journal.extent (part.slot + 1) →
       Step fine before after
-      (Makes {T = Unit {0}} {E = Failed} (AddsRecord {T = Unit {0}} {E = Failed} part.slot (records.Stream part.id.0 name params) (Ok done)) now
-      (Ok done)) →
+      (Makes {T = Unit {0}} {E = Failed}
+      (StagesRecord {T = Unit {0}} {E = Failed} part.slot (records.Stream part.id.0 name params) store.records now (Ok done)) now (Ok done)) →
       Applies (Create name params) store (with_part now store.stopped) before after (Ok (record { n = 0; k = 0 }))
   applies-created now after done extent step =
       let low = is.is_new.low in
       Applies-done (Create name params) store (with_part now store.stopped) is.none before after (record { n = 0; k = 0 })
       (step-from step (λ told made.
-      let kept = is.one_disk told in
+      let kept = (is.one_disk told).shown in
+      let content = shown_by store.records before.told.content in
       let others = flat_map records_held (zip store.streams kept.streams) in (
-        StepsState-answers (Create name params) before.told after.told done (Ok (record { n = 0; k = 0 }))
-            (StepsState-created store before.told.content kept part name params is.fresh is.is_new.next (none-of kept) before.told after.told (Ok done) refl
-            made.changes),
-        StoreIsKept-created store before.told.content kept part name params is.fresh is.is_new.next (none-of kept) now store.stopped after.told.content
+        StepsState-answers (Create name params) store.records now before.told after.told done (Ok (record { n = 0; k = 0 }))
+            (StepsState-created store content kept part name params is.fresh is.is_new.next (none-of kept) store.records now before.told after.told
+            (Ok done) refl made.changes),
+        StoreIsKept-created store content kept part name params is.fresh is.is_new.next (none-of kept) now store.stopped after.told.content
             made.kept ((made.changes others).content kept.held),
       )))
       (λ new_one. refl)
@@ -93,13 +95,14 @@ module _ {store : StoreState} {catalog : List (List ℕ × StreamId)} {name : Li
   -- the disk failed
   pub applies-unwritten : (now : RecordsState) (after : DiskView) (e : Failed) →
       Step failed before after
-      (Makes {T = Unit {0}} {E = Failed} (AddsRecord {T = Unit {0}} {E = Failed} part.slot (records.Stream part.id.0 name params) (Err e)) now (Err e)) →
+      (Makes {T = Unit {0}} {E = Failed}
+      (StagesRecord {T = Unit {0}} {E = Failed} part.slot (records.Stream part.id.0 name params) store.records now (Err e)) now (Err e)) →
       Applies (Create name params) store (with_part now true) before after (Err Disk)
   applies-unwritten now after e step =
       Applies-failed (Create name params) store (with_part now true) is.none before after fault.Disk
       (step-from step (λ told made.
-      let kept = is.one_disk told in
-      StepsState-failed (Create name params) before.told after.told (Err e) Disk
-      (StepsState-created store before.told.content kept part name params is.fresh is.is_new.next (none-of kept) before.told after.told (Err e) refl
-      made.changes)))
-      (λ told. tt) tt refl (λ own. let wrong : false ≡ true = own in absurd (cc))
+      let kept = (is.one_disk told).shown in
+      StepsState-failed (Create name params) store.records now now before.told after.told (Err e) Disk
+      (StepsState-created store (shown_by store.records before.told.content) kept part name params is.fresh is.is_new.next (none-of kept) store.records now
+      before.told after.told (Err e) refl made.changes)))
+      (λ told. tt) tt refl

@@ -1,4 +1,4 @@
--- What a store holds, at a history for which its content stands: what is said of a stream, and the stream that is found.
+-- What a store holds, at a history for which its image stands: what is said of a stream, and the stream that is found.
 use Rattle.std.proofs.Common.{◌≡◌, ℕ, Bool, true, List, [], ◌∷◌, length, Option, Some, None, IfSome, refl, ap, sym, subst, inl, inr}
 use Rattle.std.specs.Prelude.{◌==◌, option_map}
 use Rattle.std.specs.List.{All, find}
@@ -14,7 +14,7 @@ use Rattle.ss_model.specs.Steps.{ack_of, said_of}
 use Rattle.ss_recover.specs.Held.{AllAgree}
 use Rattle.ss_recover.specs.declared.parts.StreamParts.{StreamParts}
 use Rattle.ss_store.specs.Causes.{said_of_held}
-use Rattle.ss_store.specs.Kept.{SomeAgree, StoreIsKept, StoreState, part_named, part_numbered, refuses_held}
+use Rattle.ss_store.specs.Kept.{SomeAgree, StoreIsIn, StoreState, part_named, part_numbered, refuses_held}
 use Rattle.ss_store.specs.Recover.{Stands}
 use Rattle.ss_store.proofs.Among.{length-AllAgree}
 use Rattle.ss_store.proofs.HeldCounts.{SomeAgree-named, SomeAgree-numbered, length-Agrees, values_held-Agrees}
@@ -44,26 +44,26 @@ said_alike None (Some s) is agree = absurd agree
 said_alike (Some part) None is agree = absurd agree
 said_alike (Some part) (Some s) is agree = let n = values_held-Agrees part s is agree in let k = length-Agrees part s agree in cc
 
-pub said-kept : (store : StoreState) (content : List ℕ) (history : List Event) (name : List ℕ) → StoreIsKept store content → Stands history content →
+pub said-kept : (store : StoreState) (image : List ℕ) (history : List Event) (name : List ℕ) → StoreIsIn store image → Stands history image →
     said_of_held (part_named name store.streams) ≡ ack_of name (state history)
-said-kept store content history name kept stands =
-    let both = AllAgree-recovered store content (state history) kept stands.state in
+said-kept store image history name kept stands =
+    let both = AllAgree-recovered store image (state history) kept stands.state in
     said_alike (part_named name store.streams) (stream_named name (state history)) (All-find IsStream (λ s. same_name name s.name) (state history) both.1.each)
     (SomeAgree-named store.streams (state history) name both.0)
 
 -- what is refused
-pub refuses-kept : (store : StoreState) (content : List ℕ) (history : List Event) (event : Event) → StoreIsKept store content → Stands history content →
+pub refuses-kept : (store : StoreState) (image : List ℕ) (history : List Event) (event : Event) → StoreIsIn store image → Stands history image →
     refuses (state history) event ≡ refuses_held store.streams event
-refuses-kept store content history event kept stands =
-    let both = AllAgree-recovered store content (state history) kept stands.state in
+refuses-kept store image history event kept stands =
+    let both = AllAgree-recovered store image (state history) kept stands.state in
     sym (refuses_held-is store.streams (state history) event both.0 both.1)
 
 -- how many streams and windows are held
-pub streams-kept : (store : StoreState) (content : List ℕ) (history : List Event) → StoreIsKept store content → Stands history content →
+pub streams-kept : (store : StoreState) (image : List ℕ) (history : List Event) → StoreIsIn store image → Stands history image →
     length store.streams ≡ length (state history)
-streams-kept store content history kept stands =
+streams-kept store image history kept stands =
     length-AllAgree store.streams (state history)
-    (AllAgree-recovered store content (state history) kept stands.state).0
+    (AllAgree-recovered store image (state history) kept stands.state).0
 
 windows_alike : (part : Option StreamParts) (o : Option Stream) (s : Stream) → o ≡ Some s → SomeAgree part o →
     IfSome part (λ p. length p.line.entries ≡ length s.windows)
@@ -72,12 +72,12 @@ windows_alike (Some part) None s is agree = absurd agree
 windows_alike (Some part) (Some t) s is agree =
     let same : t ≡ s = cc in subst (λ u. length part.line.entries ≡ length u.windows) same (length-Agrees part t agree)
 
-pub windows-kept : (store : StoreState) (content : List ℕ) (history : List Event) (number : ℕ) (s : Stream) →
-    StoreIsKept store content → Stands history content →
+pub windows-kept : (store : StoreState) (image : List ℕ) (history : List Event) (number : ℕ) (s : Stream) →
+    StoreIsIn store image → Stands history image →
     stream_numbered number (state history) ≡ Some s → IfSome (part_numbered number store.streams) (λ part. length part.line.entries ≡ length s.windows)
-windows-kept store content history number s kept stands is =
+windows-kept store image history number s kept stands is =
     windows_alike (part_numbered number store.streams) (stream_numbered number (state history)) s is
-    (SomeAgree-numbered store.streams (state history) number (AllAgree-recovered store content (state history) kept stands.state).0)
+    (SomeAgree-numbered store.streams (state history) number (AllAgree-recovered store image (state history) kept stands.state).0)
 
 -- a stream that isn't held doesn't stand
 none_alike : (part : Option StreamParts) (o : Option Stream) → None ≡ option_map (λ (p : StreamParts). p.id) part → SomeAgree part o → o ≡ None
@@ -85,11 +85,11 @@ none_alike None None is agree = refl
 none_alike None (Some s) is agree = absurd agree
 none_alike (Some part) o is agree = cc
 
-pub unknown-kept : (store : StoreState) (content : List ℕ) (history : List Event) (name : List ℕ) → StoreIsKept store content → Stands history content →
+pub unknown-kept : (store : StoreState) (image : List ℕ) (history : List Event) (name : List ℕ) → StoreIsIn store image → Stands history image →
     None ≡ option_map (λ part. part.id) (part_named name store.streams) → stream_named name (state history) ≡ None
-unknown-kept store content history name kept stands none =
+unknown-kept store image history name kept stands none =
     none_alike (part_named name store.streams) (stream_named name (state history)) none
-    (SomeAgree-named store.streams (state history) name (AllAgree-recovered store content (state history) kept stands.state).0)
+    (SomeAgree-named store.streams (state history) name (AllAgree-recovered store image (state history) kept stands.state).0)
 
 -- and one that is held is found by its name and by its number
 both_found : (parts : List StreamParts) (streams : List Stream) (name : List ℕ) (part : StreamParts) → AllAgree parts streams →
@@ -125,10 +125,10 @@ found_alike parts streams name id (Some part) each named number numbered =
     subst (λ (i : StreamId). (s : Stream) × (stream_named name streams ≡ Some s) × (stream_numbered i.0 streams ≡ Some s)) (sym same)
     (both_found parts streams name part each (sym named) (subst (λ (i : StreamId). part_numbered i.0 parts ≡ Some part) same numbered))
 
-pub found-kept : (store : StoreState) (content : List ℕ) (history : List Event) (name : List ℕ) (id : StreamId) →
-    StoreIsKept store content → Stands history content →
+pub found-kept : (store : StoreState) (image : List ℕ) (history : List Event) (name : List ℕ) (id : StreamId) →
+    StoreIsIn store image → Stands history image →
     Some id ≡ option_map (λ part. part.id) (part_named name store.streams) → part_numbered id.0 store.streams ≡ part_named name store.streams →
     (s : Stream) × (stream_named name (state history) ≡ Some s) × (stream_numbered id.0 (state history) ≡ Some s)
-found-kept store content history name id kept stands number numbered =
-    found_alike store.streams (state history) name id (part_named name store.streams) (AllAgree-recovered store content (state history) kept stands.state).0
+found-kept store image history name id kept stands number numbered =
+    found_alike store.streams (state history) name id (part_named name store.streams) (AllAgree-recovered store image (state history) kept stands.state).0
     refl number numbered

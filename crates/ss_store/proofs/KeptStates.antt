@@ -1,25 +1,48 @@
--- What a store holds, and the state that its content stands for.
-use Rattle.std.proofs.Common.{◌≡◌, ℕ, List, sym, subst, ◌∙◌}
+-- What a store holds, and the state of an image that has its records. What an image recovers to is a property of its map.
+use Rattle.std.proofs.Common.{◌≡◌, ℕ, List, refl, sym, subst, ◌∙◌}
+use Rattle.ss_catalog.specs.declared.event.Event.{Event}
+use Rattle.ss_journal.specs.Redo.{Redone, SlotMap, StandsFor, redo, stands, not_a_store, bad_entry}
+use Rattle.ss_journal.proofs.MapLemmas.{SameMap-refl}
+use Rattle.ss_journal.proofs.RedoLemmas.{StandsFor-from}
 use Rattle.ss_model.specs.Standing.{IsState}
-use Rattle.ss_model.specs.State.{Stream}
+use Rattle.ss_model.specs.State.{Stream, state}
 use Rattle.ss_recover.specs.Held.{AllAgree}
-use Rattle.ss_store.specs.Kept.{StoreIsKept, StoreState}
-use Rattle.ss_store.specs.Recover.{Recovers, recovers}
-use Rattle.ss_store.proofs.Among.{Recovers-held}
+use Rattle.ss_store.specs.Kept.{StoreIsIn, StoreState}
+use Rattle.ss_store.specs.Recover.{Recovers, Stands, recover, recovered_from, recovers}
+use Rattle.ss_store.proofs.Among.{Recovers-held, recover-StandsFor}
+use Rattle.ss_store.proofs.ShownCalls.{IsOfMap}
 
--- a content recovers to one state
+-- an image recovers to one state
 pub Recovers-same : (first second : List Stream) (image : List ℕ) → Recovers first image → Recovers second image → first ≡ second
 Recovers-same first second image one two =
     let same : recovers first ≡ recovers second = sym one ∙ two in
     cc
 
 -- and that of what is kept is the one that is held
-pub Recovers-StoreIsKept : (store : StoreState) (content : List ℕ) (kept : StoreIsKept store content) → Recovers kept.streams content
-Recovers-StoreIsKept store content kept =
-    subst (λ l. Recovers l content) kept.closed (Recovers-held store.streams kept.streams content kept.agree kept.state kept.held)
+pub Recovers-StoreIsIn : (store : StoreState) (image : List ℕ) (kept : StoreIsIn store image) → Recovers kept.streams image
+Recovers-StoreIsIn store image kept =
+    subst (λ l. Recovers l image) kept.closed (Recovers-held store.streams kept.streams image kept.agree kept.state kept.held)
 
-pub AllAgree-recovered : (store : StoreState) (content : List ℕ) (streams : List Stream) → StoreIsKept store content → Recovers streams content →
+pub AllAgree-recovered : (store : StoreState) (image : List ℕ) (streams : List Stream) → StoreIsIn store image → Recovers streams image →
     AllAgree store.streams streams × IsState streams
-AllAgree-recovered store content streams kept is =
-    subst (λ l. AllAgree store.streams l × IsState l) (Recovers-same kept.streams streams content (Recovers-StoreIsKept store content kept) is)
+AllAgree-recovered store image streams kept is =
+    subst (λ l. AllAgree store.streams l × IsState l) (Recovers-same kept.streams streams image (Recovers-StoreIsIn store image kept) is)
     (kept.agree, kept.state)
+
+-- what recovers to streams stands for a map
+redone-stands : (redone : Redone) (streams : List Stream) → recovered_from redone ≡ recovers streams → (found : SlotMap) × (redone ≡ stands found)
+redone-stands not_a_store streams is = cc
+redone-stands (bad_entry n) streams is = cc
+redone-stands (stands found) streams is = (found, refl)
+
+pub Recovers-of_map : (streams : List Stream) → IsOfMap (Recovers streams)
+unfolding recover
+Recovers-of_map streams image is =
+    let found = redone-stands (redo image) streams is in
+    let its : StandsFor image found.0 = StandsFor-from image found.0 found.0 found.1 (SameMap-refl found.0) in
+    (found.0, its, λ other also. recover-StandsFor other found.0 also ∙ sym (recover-StandsFor image found.0 its) ∙ is)
+
+pub Stands-of_map : (history : List Event) → IsOfMap (Stands history)
+Stands-of_map history image held =
+    let its = Recovers-of_map (state history) image held.state in
+    (its.0, its.1, λ other also. record { is_history = held.is_history; state = its.2 other also })

@@ -47,6 +47,7 @@ pub mod Wholes
 pub mod Sealings
 pub mod Steps
 pub mod Applying
+pub mod Sealed
 pub mod Taking
 pub mod MarkTaking
 pub mod Creating

@@ -13,12 +13,12 @@ use Rattle.ss_journal.specs.declared.format.TheConstants.{MOST_SLOTS}
 use Rattle.ss_model.specs.History.{CanBeSaid}
 use Rattle.ss_landmarks.specs.Landmarks.{LandmarksState}
 use Rattle.ss_model.specs.Marks.{has_open}
-use Rattle.ss_records.specs.Kept.{RecordsState}
+use Rattle.ss_records.specs.Kept.{RecordsState, shown_by}
 use Rattle.ss_recover.specs.Held.{entries_of, mark_slots, slots_held}
 use Rattle.ss_recover.specs.declared.parts.StreamParts.{StreamParts}
 use Rattle.ss_store.specs.Admitted.{IsMarker}
 use Rattle.ss_store.specs.Applied.{Applies, StandsOn, is_creation, is_plain_value}
-use Rattle.ss_store.specs.Changing.{CanTakeMark, HasRoomFor, HasSameWindows, HasTakenMark, KeepsAtRest, TakesMark}
+use Rattle.ss_store.specs.Changing.{CanTakeMark, HasRoomFor, HasSameWindows, HasTakenMark, KeepsWhole, TakesMark}
 use Rattle.ss_store.specs.Held.{IsOrdered, values_held}
 use Rattle.ss_store.specs.Kept.{IsSound, SameButSpare, StoreIsKept, StoreState, of_part, refuses_held, without_spare}
 use Rattle.ss_store.specs.Marking.{CanMark, FitsMark, IsInOpen, IsItsSlot, event_of, slots_used}
@@ -113,7 +113,7 @@ module _ {store : StoreState} {catalog : List (List ℕ × StreamId)} {name : Li
       IsSound-set store catalog is.sound place is.marker.part (record was { landmarks = marks }) is.marker.at (ap (λ (p : StreamParts). p.id) room.same)
       (ap (λ (p : StreamParts). p.name) room.same) store.records store.stopped
       (λ run. (
-        is.sound.at_rest is.runs,
+        is.sound.settled is.runs,
         AreWhole-IsSpared store place is.marker.part (record was { landmarks = marks }) is.marker.at room
             (is.sound.whole is.runs),
       ))
@@ -162,37 +162,36 @@ module _ {store : StoreState} {catalog : List (List ℕ × StreamId)} {name : Li
     sound-stopped =
         IsSound-set store catalog is.sound place is.marker.part now is.marker.at same_id same_name records true (λ run. let wrong : true ≡ false = run in cc)
 
-    module _ (whole : KeepsAtRest (record was { landmarks = marks }) now store.records records (slots_used mark slot))
+    module _ (whole : KeepsWhole (record was { landmarks = marks }) now store.records records (slots_used mark slot))
         (taken : HasTakenMark (record was { landmarks = marks }) now t mark) where
       pub sound-taken : IsSound (with_stream now records store.stopped) catalog
       sound-taken =
           IsSound-set store catalog is.sound place is.marker.part now is.marker.at same_id same_name records store.stopped
           (λ run. (
-            (whole.whole.settled, whole.sealed),
+            whole.settled,
             whole-changed store place is.marker.part (record was { landmarks = marks }) now records is.marker.at room (is.sound.whole is.runs) same.id same.name
-                whole.whole.ordered (taken.known, taken.last) whole.whole.live,
+                whole.ordered (taken.known, taken.last) whole.live,
           ))
 
       -- the event is applied
       pub applies-taken : (after : DiskView) (n k : ℕ) (done : Unit {0}) →
-          Step fine before after (TakesMark (record was { landmarks = marks }) now t mark records (Ok done)) →
+          Step fine before after (TakesMark (record was { landmarks = marks }) now t mark store.records records (Ok done)) →
           n ≡ values_held (entries_of now) → k ≡ length now.line.entries →
           Applies (event_of name t mark) store (with_stream now records store.stopped) before after (Ok (record { n = n; k = k }))
       applies-taken after n k done step values windows =
-          let extent = whole.whole.extent in
+          let extent = whole.extent in
           let low = is.marker.low in
           Applies-done (event_of name t mark) store (with_stream now records store.stopped) is.none before after (record { n = n; k = k })
           (step-from step (λ told takes.
-          let kept = is.one_disk told in
-          let content = before.told.content in
+          let kept = (is.one_disk told).shown in
+          let content = shown_by store.records before.told.content in
           let others = others_of place store.streams kept.streams in
           let s = (marking store content kept name t mark place slot is.marker is.none said begun).stream in
           let held = held-marker store content kept name t mark place slot is.marker is.none said begun (record was { landmarks = marks }) now room in
           let turns = takes.turns others s in (
-            StepsState-answers (event_of name t mark) before.told after.told done (Ok (record { n = n; k = k }))
+            StepsState-answers (event_of name t mark) store.records records before.told after.told done (Ok (record { n = n; k = k }))
                 (StepsState-marked store content kept name t mark place slot is.marker is.none said begun (record was { landmarks = marks }) now room
-                before.told
-                after.told (Ok done) refl turns),
+                store.records records before.told after.told (Ok done) refl turns),
             StoreIsKept-marked store content kept name t mark place slot is.marker is.none said begun (record was { landmarks = marks }) now room records
                 store.stopped after.told.content takes.kept (turns.content held),
           )))
@@ -203,17 +202,21 @@ module _ {store : StoreState} {catalog : List (List ℕ × StreamId)} {name : Li
           refl (omega (arith, extent, low))
 
     -- the disk failed
-    pub applies-untaken : (after : DiskView) (e : Failed) → now ≡ record was { landmarks = marks } →
-        Step failed before after (TakesMark (record was { landmarks = marks }) now t mark records (Err e)) →
+    pub applies-untaken : (after : DiskView) (e : Failed) →
+        Step failed before after (TakesMark (record was { landmarks = marks }) now t mark store.records records (Err e)) →
         Applies (event_of name t mark) store (with_stream now records true) before after (Err Disk)
-    applies-untaken after e same_part step =
+    applies-untaken after e step =
         Applies-failed (event_of name t mark) store (with_stream now records true) is.none before after fault.Disk
         (step-from step (λ told takes.
-        let kept = is.one_disk told in
-        let content = before.told.content in
+        let kept = (is.one_disk told).shown in
+        let content = shown_by store.records before.told.content in
         let others = others_of place store.streams kept.streams in
         let s = (marking store content kept name t mark place slot is.marker is.none said begun).stream in
-        StepsState-failed (event_of name t mark) before.told after.told (Err e) Disk
-        (StepsState-marked store content kept name t mark place slot is.marker is.none said begun (record was { landmarks = marks }) now room before.told
-        after.told (Err e) refl (takes.turns others s))))
-        (λ told. tt) tt refl (λ own. ap (λ (p : StreamParts). map without_spare (slice_set store.streams place p)) same_part ∙ same-spared.streams)
+        StepsState-failed (event_of name t mark) store.records records records before.told after.told (Err e) Disk
+        (StepsState-marked store content kept name t mark place slot is.marker is.none said begun (record was { landmarks = marks }) now room store.records
+        records before.told after.told (Err e) refl (takes.turns others s))))
+        (λ told. tt) tt refl
+
+    -- and the streams are what they were but for the room
+    pub same-untaken : now ≡ record was { landmarks = marks } → map without_spare (slice_set store.streams place now) ≡ map without_spare store.streams
+    same-untaken same_part = ap (λ (p : StreamParts). map without_spare (slice_set store.streams place p)) same_part ∙ same-spared.streams

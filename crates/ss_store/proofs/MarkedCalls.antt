@@ -21,16 +21,17 @@ use Rattle.ss_model.specs.State.{Stream}
 use Rattle.ss_recover.specs.Held.{Agrees, all_value_records, in_slots, landmark_record, landmark_records, mark_slots, marks_held, records_held}
 use Rattle.ss_recover.specs.Held.{slots_held, window_slots, windows_held}
 use Rattle.ss_recover.specs.declared.parts.StreamParts.{StreamParts}
-use Rattle.ss_store.specs.Calls.{Turns}
+use Rattle.ss_records.specs.Kept.{RecordsState, shown_by}
+use Rattle.ss_store.specs.Calls.{TurnsShown}
 use Rattle.ss_query.specs.Held.{IsHeldIn}
 use Rattle.ss_store.specs.Kept.{without_spare}
-use Rattle.ss_store.specs.Marking.{CanMark, FitsMark, IsItsSlot, IsMarkedOrNot, event_of, landmarks_after, mark_record, mark_refusal, slots_after}
+use Rattle.ss_store.specs.Marking.{CanMark, FitsMark, IsItsSlot, event_of, landmarks_after, mark_record, mark_refusal, slots_after}
 use Rattle.ss_store.specs.Marking.{value_slots_after, slots_used, values_open, with_mark}
-use Rattle.ss_store.specs.Slots.{AddsRecord, AreSomeLive, Either, LiveSlotsGo, Replaces, live_slots}
+use Rattle.ss_store.specs.Slots.{AreSomeLive, LiveSlotsGo, StagesRecord, StagesReplaced, live_slots}
 use Rattle.ss_query.specs.Slots.{HasRecords}
 use Rattle.ss_store.specs.declared.marking.Mark.{Mark}
 use Rattle.ss_store.specs.declared.marking.Mark.TheVariants.{Open, Value, Close}
-use Rattle.ss_store.proofs.Calls.{Turns-weaker}
+use Rattle.ss_store.proofs.ShownCalls.{TurnsShown-weaker}
 use Rattle.ss_store.proofs.LiveSlots.{AreSomeLive-permutation, LiveSlotsGo-beside, LiveSlotsGo-permutation}
 use Rattle.ss_store.proofs.OpenMarks.{HasOpen, HasOpen-can, change-has, closes, count-has, start-has, takes, values-has}
 use Rattle.ss_query.proofs.Records.{HasRecords-permutation}
@@ -52,36 +53,33 @@ module _ (part new : StreamParts) (slot t : ℕ) (mark : Mark) (marked : IsMarke
   }
 
   -- a call turns records into those of the stream afterwards
-  Turns-mark : {T E : Type 0} (before now : List (ℕ × Option Record)) (old after : Told) (result : Result T E) →
+  Turns-mark : {T E : Type 0} (records_was records_is : RecordsState) (before now : List (ℕ × Option Record)) (old after : Told) (result : Result T E) →
       (Agrees part s → IsStream s → IsPermutation before (records_held (part, s) ++ others)) →
       (Agrees part s → IsStream s → IsPermutation now ((windows_held (part, s) ++ marks_held (new, with_mark s t mark)) ++ others)) →
-      Turns (HasRecords before) (Either (HasRecords before) (HasRecords now)) (HasRecords now) old after result →
-      Turns (IsHeldIn others part s) (IsMarkedOrNot others part s t mark) (IsHeldIn others new (with_mark s t mark)) old after result
-  Turns-mark before now old after result was is turns =
-      Turns-weaker (HasRecords before) (IsHeldIn others part s) (Either (HasRecords before) (HasRecords now)) (IsMarkedOrNot others part s t mark)
-      (HasRecords now)
-      (IsHeldIn others new (with_mark s t mark)) old after result
+      TurnsShown records_was records_is (HasRecords before) (HasRecords before) (HasRecords now) old after result →
+      TurnsShown records_was records_is (IsHeldIn others part s) (IsHeldIn others part s) (IsHeldIn others new (with_mark s t mark)) old after result
+  Turns-mark records_was records_is before now old after result was is turns =
+      TurnsShown-weaker records_was records_is (HasRecords before) (IsHeldIn others part s) (HasRecords before) (IsHeldIn others part s)
+      (HasRecords now) (IsHeldIn others new (with_mark s t mark)) old after result
       (λ held.
-      HasRecords-permutation (records_held (part, s) ++ others) before old.content
+      HasRecords-permutation (records_held (part, s) ++ others) before (shown_by records_was old.content)
       (IsPermutation-sym before (records_held (part, s) ++ others) (was held.agrees held.stream)) held.records)
-      (λ held image.
-      ⊎_elim
-      (λ stays. inl (record {
+      (λ held image stays. record {
         agrees = held.agrees;
         stream = held.stream;
         records = HasRecords-permutation before (records_held (part, s) ++ others) image (was held.agrees held.stream) stays;
-      }))
-      (λ turned. inr (new, IsHeldIn-mark image held.agrees held.stream (HasRecords-permutation now _ image (is held.agrees held.stream) turned))))
+      })
       (λ held image has. IsHeldIn-mark image held.agrees held.stream (HasRecords-permutation now _ image (is held.agrees held.stream) has))
       turns
 
   -- a record that is put into a free slot
-  pub Turns-added : {T E : Type 0} (old after : Told) (result : Result T E) → IsAdding mark → AddsRecord slot (mark_record part t mark) result old after →
-      Turns (IsHeldIn others part s) (IsMarkedOrNot others part s t mark) (IsHeldIn others new (with_mark s t mark)) old after result
-  Turns-added old after result adding adds =
+  pub Turns-added : {T E : Type 0} (records_was records_is : RecordsState) (old after : Told) (result : Result T E) → IsAdding mark →
+      StagesRecord slot (mark_record part t mark) records_was records_is result old after →
+      TurnsShown records_was records_is (IsHeldIn others part s) (IsHeldIn others part s) (IsHeldIn others new (with_mark s t mark)) old after result
+  Turns-added records_was records_is old after result adding adds =
       let before = records_held (part, s) ++ others in
       let r = mark_record part t mark in
-      Turns-mark before ((slot, Some r) ∷ before) old after result (λ agrees stream. IsPermutation-refl before)
+      Turns-mark records_was records_is before ((slot, Some r) ∷ before) old after result (λ agrees stream. IsPermutation-refl before)
       (λ agrees stream.
       subst (λ ms. IsPermutation ((slot, Some r) ∷ before) ((windows_held (part, s) ++ ms) ++ others)) (sym (marks_after part new slot t mark marked s))
       (moved-in (windows_held (part, s)) (marks_held (part, s)) _ others (slot, Some r) (marks-added part slot t mark s adding can agrees stream)))
@@ -114,9 +112,10 @@ IsLastSlot-closing part slot t known can in_slot =
 Turns-replaced : (part new : StreamParts) (slot t : ℕ) → IsMarked part new slot t Close → CanMark part.landmarks.landmarks t Close →
     mark_refusal part t Close ≡ None → t ≤ LAST_TIME → IsTrue (is_valid (mark_record part t Close)) → AreKnown part.landmarks → IsLastSlot part slot →
     (others : List (ℕ × Option Record)) (s : Stream) →
-    {T E : Type 0} (old after : Told) (result : Result T E) → Replaces slot (mark_record part t Close) result old after →
-    Turns (IsHeldIn others part s) (IsMarkedOrNot others part s t Close) (IsHeldIn others new (with_mark s t Close)) old after result
-Turns-replaced part new slot t marked can accepted early valid known last others s old after result replaces =
+    {T E : Type 0} (records_was records_is : RecordsState) (old after : Told) (result : Result T E) →
+    StagesReplaced slot (mark_record part t Close) records_was records_is result old after →
+    TurnsShown records_was records_is (IsHeldIn others part s) (IsHeldIn others part s) (IsHeldIn others new (with_mark s t Close)) old after result
+Turns-replaced part new slot t marked can accepted early valid known last others s records_was records_is old after result replaces =
     let ls = part.landmarks.landmarks in
     let has = last.has in
     let k = length has.before + 1 in
@@ -125,7 +124,8 @@ Turns-replaced part new slot t marked can accepted early valid known last others
     let rest = (windows_held (part, s) ++ ms) ++ others in
     let was = landmark_record s.number k has.last in
     let r = mark_record part t Close in
-    Turns-mark part new slot t Close marked can accepted early valid others s ((slot, Some was) ∷ rest) ((slot, Some r) ∷ rest) old after result
+    Turns-mark part new slot t Close marked can accepted early valid others s records_was records_is ((slot, Some was) ∷ rest) ((slot, Some r) ∷ rest)
+    old after result
     (λ agrees stream.
     moved-in (windows_held (part, s)) ms (marks_held (part, s)) others (slot, Some was)
     (subst (λ l. IsPermutation ((slot, Some was) ∷ ms) (marks_in s.number part.landmarks.slots part.landmarks.value_slots l)) agrees.landmarks
@@ -281,12 +281,13 @@ IsLastSlot-is part slot t live Close is known can in_slot = IsLastSlot-closing p
 pub Turns-closed : (part new : StreamParts) (slot t : ℕ) (mark : Mark) → mark ≡ Close → IsMarked part new slot t mark →
     CanMark part.landmarks.landmarks t mark → mark_refusal part t mark ≡ None → t ≤ LAST_TIME → IsTrue (is_valid (mark_record part t mark)) →
     AreKnown part.landmarks → IsLastSlot part slot → (others : List (ℕ × Option Record)) (s : Stream) →
-    {T E : Type 0} (old after : Told) (result : Result T E) → Replaces slot (mark_record part t mark) result old after →
-    Turns (IsHeldIn others part s) (IsMarkedOrNot others part s t mark) (IsHeldIn others new (with_mark s t mark)) old after result
-Turns-closed part new slot t Open is marked can accepted early valid known last others s old after result replaces = cc
-Turns-closed part new slot t (Value v) is marked can accepted early valid known last others s old after result replaces = cc
-Turns-closed part new slot t Close is marked can accepted early valid known last others s old after result replaces =
-    Turns-replaced part new slot t marked can accepted early valid known last others s old after result replaces
+    {T E : Type 0} (records_was records_is : RecordsState) (old after : Told) (result : Result T E) →
+    StagesReplaced slot (mark_record part t mark) records_was records_is result old after →
+    TurnsShown records_was records_is (IsHeldIn others part s) (IsHeldIn others part s) (IsHeldIn others new (with_mark s t mark)) old after result
+Turns-closed part new slot t Open is marked can accepted early valid known last others s records_was records_is old after result replaces = cc
+Turns-closed part new slot t (Value v) is marked can accepted early valid known last others s records_was records_is old after result replaces = cc
+Turns-closed part new slot t Close is marked can accepted early valid known last others s records_was records_is old after result replaces =
+    Turns-replaced part new slot t marked can accepted early valid known last others s records_was records_is old after result replaces
 
 pub LiveSlotsGo-mark_closed : (part new : StreamParts) (slot t : ℕ) (mark : Mark) → mark ≡ Close → IsMarked part new slot t mark → (live live_now : List Bool) →
     live_now ≡ live → LiveSlotsGo (slots_held part) (slots_held new) live live_now

@@ -31,6 +31,7 @@ use Rattle.ss_store.specs.Changing.{ClosesAll}
 use Rattle.ss_store.specs.Errors.{open_of_fault, open_of_journal, open_of_recover, verdict_of_opening}
 use Rattle.ss_query.specs.Reading.{verdict_of_read}
 use Rattle.ss_store.specs.Kept.{StoreIsKept, StoreState}
+use Rattle.ss_query.specs.Slots.{HasRecords}
 use Rattle.ss_store.specs.Rebuilt.{HasRebuilt, IsRebuilt}
 use Rattle.ss_store.specs.Recover.{Recovers, Stands, recover, recovered_from, recovered_of}
 use Rattle.ss_store.specs.declared.error.OpenError.{OpenError}
@@ -201,16 +202,21 @@ module _ (parts now : List StreamParts) (old read new : Told) (knows : KnowsNow 
   pub OpensAs-closed : (store : StoreState) → AllAgree store.streams (closed_state is.streams) → OpensAs old.content (Ok store)
   OpensAs-closed store agree = (closed_state is.streams, Recovers-rebuilt parts old.content is, agree, IsState-closed_state is.streams is.state)
 
-  pub StoreIsKept-closed : (store : StoreState) → Closes {T = Unit {0}} {E = ReadError} (Ok tt) → AreKept store.records new.content → store.streams ≡ now →
-      AllAgree now (closed_state is.streams) → StoreIsKept store new.content
-  StoreIsKept-closed store closes kept same agree = record {
-    records = kept;
-    streams = closed_state is.streams;
-    state = IsState-closed_state is.streams is.state;
-    agree = rw same agree;
-    held = rw same (closes.content held_read);
-    closed = closed_state-again is.streams is.state;
-  }
+  pub StoreIsKept-closed : (store : StoreState) → Closes {T = Unit {0}} {E = ReadError} (Ok tt) → AreKept store.records new.content →
+      IsSealed store.records.journal → store.streams ≡ now → AllAgree now (closed_state is.streams) → StoreIsKept store new.content
+  StoreIsKept-closed store closes kept sealed same agree =
+      let all = λ (parts : List StreamParts). flat_map records_held (zip parts (closed_state is.streams)) in
+      record {
+        records = kept;
+        shown = record {
+          streams = closed_state is.streams;
+          state = IsState-closed_state is.streams is.state;
+          agree = rw same agree;
+          held = subst (λ (image : List ℕ). HasRecords (all store.streams) image) (sym (shown-sealed store.records.journal new.content sealed))
+              (rw same (closes.content held_read));
+          closed = closed_state-again is.streams is.state;
+        };
+      }
 
 -- what keeps the state keeps the history
 KeepsHistory-state : {T E : Type 0} (old new : Told) (result : Result T E) → KeepsState old new result → KeepsHistory old new result
@@ -268,8 +274,8 @@ module _ (parts now : List StreamParts) (old read new : Told) (knows : KnowsNow 
       }
 
   pub OpensStore-closed : (store : StoreState) → ClosesAll parts now records (Ok tt) read new → store.streams ≡ now → store.records ≡ records →
-      OpensStore (Ok store) old new
-  OpensStore-closed store closes same same_records =
+      IsSealed store.records.journal → OpensStore (Ok store) old new
+  OpensStore-closed store closes same same_records sealed =
       let has = held_read parts now old read new knows is reads in
       let agree = closes.agree is.streams is.state is.agree has in
       let turns = closes.turns is.streams is.state is.agree in
@@ -277,7 +283,7 @@ module _ (parts now : List StreamParts) (old read new : Told) (knows : KnowsNow 
       KeepsState-closed parts now old read new knows is reads tt (Ok store) turns agree in
       record {
         opens = OpensAs-closed parts now old read new knows is reads store (rw same agree);
-        kept = StoreIsKept-closed parts now old read new knows is reads store turns (rw same_records closes.kept) same agree;
+        kept = StoreIsKept-closed parts now old read new knows is reads store turns (rw same_records closes.kept) sealed same agree;
         state = keeps;
         history = KeepsHistory-state old new (Ok store) keeps;
         unwritten = tt;

@@ -40,12 +40,6 @@ IsPartlyJoined-of_map others s image is =
     let its = IsHeldIn-of_map others is.part (with_windows s is.windows) image is.held in
     (its.0, its.1, λ other stands. record { part = is.part; windows = is.windows; joins = is.joins; held = its.2 other stands })
 
-pub IsHalfway-of_map : (t : ℕ) (v : ℤ) (others : List (ℕ × Option Record)) (part : StreamParts) (s : Stream) → IsOfMap (IsHalfway others part s t v)
-IsHalfway-of_map t v others part s image either = elim either [
-  | inl held ↦ (let its = IsHeldIn-of_map others part s image held in (its.0, its.1, λ other stands. inl (its.2 other stands)))
-  | inr joined ↦ (let its = IsPartlyJoined-of_map others (with_single s t v) image joined in (its.0, its.1, λ other stands. inr (its.2 other stands)))
-]
-
 -- a stream of which all windows were joined that are due
 pub IsPartlyJoined-closed : (others : List (ℕ × Option Record)) (part : StreamParts) (s : Stream) (image : List ℕ) →
     IsHeldIn others part (closed_stream s) image → IsPartlyJoined others s image
@@ -55,12 +49,6 @@ IsPartlyJoined-closed others part s image held = record {
   joins = JoinsDue-closed (lengths_of s.params) (values_in s) s.windows;
   held = held;
 }
-
--- the same after a value
-pub IsHalfway-valued : (others : List (ℕ × Option Record)) (part now : StreamParts) (s : Stream) (t : ℕ) (v : ℤ) (image : List ℕ) →
-    IsHeldIn others now (with_value s t v) image → IsHalfway others part s t v image
-IsHalfway-valued others part now s t v image held =
-    inr (IsPartlyJoined-closed others now (with_single s t v) image (rw (closed-single s t v) held))
 
 -- A change of a stream that is held was staged, since nothing was.
 module _ (part : StreamParts) (during after : List (ℕ × Option Record) → Stream → List ℕ → Type 0) (was : RecordsState) (old : Told)
@@ -88,7 +76,8 @@ module _ (part : StreamParts) (during after : List (ℕ × Option Record) → St
   pub TurnsStream-sealed : (v : Verdict) (between is : RecordsState) (result : Result (Unit {0}) Failed) (mid new : Told) →
       ((others : List (ℕ × Option Record)) (s : Stream) → IsOfMap (after others s)) →
       ((others : List (ℕ × Option Record)) (s : Stream) (image : List ℕ) → after others s image → during others s image) → IsFirm v → KnowsNow mid →
-      OnOk result (IsSealed is.journal) → StagesStream fine part during after was between (Ok tt) old mid → SealsRecords between is result mid new →
+      OnOk result (IsSealed is.journal) →
+      StagesStream {T = Unit {0}} {E = ReadError} fine part during after was between (Ok tt) old mid → SealsRecords between is result mid new →
       TurnsStream v part during after is result old new
   TurnsStream-sealed v between is result mid new reached of_reached firm knows sealed stages seals = record {
     turns = λ others s.

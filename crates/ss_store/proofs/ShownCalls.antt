@@ -19,11 +19,11 @@ use Rattle.ss_records.specs.Kept.{AreKept, RecordsState, shown_by}
 use Rattle.ss_codec.specs.declared.record.Record.{Record}
 use Rattle.ss_recover.specs.Held.{occupied}
 use Rattle.ss_query.specs.Slots.{HasRecords}
-use Rattle.ss_store.specs.Calls.{Like, Turns, TurnsShown}
+use Rattle.ss_store.specs.Calls.{StandsLike, Turns, TurnsShown}
 
 -- what a crash leaves of a call that stages: what the content stood for, or this
 abbrev pub StaysOr : Told → (List ℕ → Type 0) → List ℕ → Type 0
-StaysOr old M = Like (λ image. (image ≡ old.content) ⊎ M image)
+StaysOr old M = StandsLike (λ image. (image ≡ old.content) ⊎ M image)
 
 -- the content itself, and what has this
 StaysOr-stays : (old : Told) (M : List ℕ → Type 0) (image : List ℕ) → image ≡ old.content → StaysOr old M image
@@ -115,7 +115,7 @@ pub HasRecords-of_map : (slots : List (ℕ × Option Record)) → IsOfMap (HasRe
 HasRecords-of_map slots image has = (has.found, has.map, λ other is. record { found = has.found; map = is; occupied = has.occupied })
 
 -- what is like an image of a property of maps has it
-pub of_map-like : (P : List ℕ → Type 0) → IsOfMap P → (image : List ℕ) → Like P image → P image
+pub of_map-like : (P : List ℕ → Type 0) → IsOfMap P → (image : List ℕ) → StandsLike P image → P image
 of_map-like P maps image like = let its = maps like.0 like.1 in its.2 image (like.2 its.0 its.1)
 
 -- a content of which something may be staged stands for a map
@@ -124,26 +124,32 @@ content-stands : (n : ℕ) (staged content : List ℕ) → ((found : SlotMap) ×
 content-stands n [] content stands before = stands
 content-stands n (gate ∷ bytes) content stands before = (before.found, StandsFor-from content before.found before.found before.map (SameMap-refl before.found))
 
+-- room is made, or what is staged is sealed: a property of maps stays
+pub TurnsShown-kept : {T E : Type 0} (was is : RecordsState) (P : List ℕ → Type 0) (old new : Told) (result : Result T E) → IsOfMap P →
+    AreKept was old.content → KeepsShown was.journal is.journal old new result → TurnsShown was is P P P old new result
+TurnsShown-kept was is P old new result maps kept keeps = record {
+  content = λ has.
+      let its = maps (shown_by was old.content) has in on_ok_weaker result (its.2 (shown_by is new.content)) (keeps.map its.0 its.1);
+  any_moment = λ none has.
+      let its = maps (shown_by was old.content) has in
+      let it = content-stands was.journal.sealed was.journal.staged old.content (its.0, its.1) kept.journal.before in
+      weaker old new (λ image. StandsFor image it.0 ⊎ StandsFor image its.0) (StaysOr old P)
+      (λ image either. elim either [
+        | inl stays ↦ (
+          old.content,
+          inl refl,
+          λ found stands. StandsFor-also image it.0 found stays (StandsFor-same old.content it.0 found it.1 stands),
+        )
+        | inr comes ↦ StaysOr-has old P image (its.2 image comes)
+      ])
+      (keeps.any_moment none it.0 its.0 it.1 its.1);
+  durable = keeps.durable;
+}
+
 module _ (was between : RecordsState) (slots : List (ℕ × Option Record)) (old mid : Told) where
-  -- room is made, or what is staged is sealed
   pub TurnsShown-keeps : {T E : Type 0} (result : Result T E) → AreKept was old.content → KeepsShown was.journal between.journal old mid result →
       TurnsShown was between (HasRecords slots) (HasRecords slots) (HasRecords slots) old mid result
-  TurnsShown-keeps result kept keeps = record {
-    content = λ has. on_ok_weaker result (λ is. record { found = has.found; map = is; occupied = has.occupied }) (keeps.map has.found has.map);
-    any_moment = λ none has.
-        let it = content-stands was.journal.sealed was.journal.staged old.content (has.found, has.map) kept.journal.before in
-        weaker old mid (λ image. StandsFor image it.0 ⊎ StandsFor image has.found) (StaysOr old (HasRecords slots))
-        (λ image either. elim either [
-          | inl is ↦ (
-            old.content,
-            inl refl,
-            λ found stands. StandsFor-also image it.0 found is (StandsFor-same old.content it.0 found it.1 stands),
-          )
-          | inr is ↦ StaysOr-has old (HasRecords slots) image (record { found = has.found; map = is; occupied = has.occupied })
-        ])
-        (keeps.any_moment none it.0 has.found it.1 has.map);
-    durable = keeps.durable;
-  }
+  TurnsShown-keeps result kept keeps = TurnsShown-kept was between (HasRecords slots) old mid result (HasRecords-of_map slots) kept keeps
 
   -- and then puts are staged
   pub TurnsShown-staged : {S F T E : Type 0} (is : RecordsState) (after : List (ℕ × Option Record)) (puts : List Put) (value : S) (result : Result T E) →

@@ -1,8 +1,10 @@
--- Calls that make a step of the state that a disk stands for, and so add an event to its history.
-use Rattle.std.proofs.Common.{◌≡◌, ℕ, List, [], ◌∷◌, ◌++◌, sym, ◌∙◌, subst, refl, None, Some, Option, Result, Ok, Err, inl, inr}
+-- Calls that make a step of the state that records show, and so stage an event after the history.
+use Rattle.std.proofs.Common.{◌≡◌, ◌⊎◌, ℕ, List, [], ◌∷◌, ◌++◌, sym, ◌∙◌, subst, refl, None, Some, Option, Result, Ok, Err, inl, inr}
+use Rattle.std.proofs.lemmas.Result.{on_ok_weaker}
 use Rattle.std.specs.Prelude.{◌↔◌, IsTrue}
+use Rattle.ss_outside.proofs.CrashLemmas.{at_start, of_content, weaker}
 use Rattle.ss_outside.specs.Crash.{KnowsNow}
-use Rattle.ss_outside.specs.Disk.{DiskView, Told}
+use Rattle.ss_outside.specs.Disk.{DiskView, NothingPending, Told}
 use Rattle.ss_outside.specs.Verdict.{IfUndone}
 use Rattle.ss_catalog.specs.declared.event.Event.{Event}
 use Rattle.ss_catalog.specs.declared.refusal.Refusal.{Refusal}
@@ -13,41 +15,43 @@ use Rattle.ss_model.specs.Steps.{stepped}
 use Rattle.ss_model.proofs.HistoryLemmas.{IsHistory_push}
 use Rattle.ss_model.proofs.StepLemmas.{state-push}
 use Rattle.ss_model.specs.declared.types.Ack.{Ack}
-use Rattle.ss_store.specs.Calls.{AddsEvent, RecoversToEither, StandsForEither, StepsState, Turns}
+use Rattle.ss_records.specs.Kept.{RecordsState, shown_by}
+use Rattle.ss_store.specs.Calls.{RecoversToEither, StagesEvent, StandsForEither, StandsLike, StepsState, TurnsShown}
 use Rattle.ss_store.specs.Applied.{Applies}
 use Rattle.ss_store.specs.Errors.{verdict_of_apply}
 use Rattle.ss_store.specs.Kept.{StoreIsKept, StoreState, refuses_held}
 use Rattle.ss_store.specs.declared.error.ApplyError.{ApplyError}
 use Rattle.ss_store.specs.declared.error.ApplyError.TheVariants as apply
 use Rattle.ss_store.specs.Recover.{Recovers, Stands}
-use Rattle.ss_store.proofs.Calls.{Turns-answers, Turns-failed, Turns-same, Turns-weaker}
-use Rattle.ss_store.proofs.KeptStates.{AllAgree-recovered, Recovers-same}
+use Rattle.ss_store.proofs.KeptStates.{AllAgree-recovered, Recovers-of_map, Recovers-same, Stands-of_map}
 use Rattle.ss_store.proofs.Refusals.{refuses_held-is}
+use Rattle.ss_store.proofs.ShownCalls.{StaysOr, TurnsShown-answers, TurnsShown-failed, TurnsShown-weaker, of_map-like}
 
--- what a call does to the records it does to the state that they are of
-pub StepsState-turns : {T E : Type 0} (event : Event) (old new : Told) (result : Result T E) (streams : List Stream) (P M Q : List ℕ → Type 0) →
-    Recovers streams old.content → P old.content → ((image : List ℕ) → M image → RecoversToEither streams event image) →
-    ((image : List ℕ) → Q image → Recovers (stepped streams event) image) → Turns P M Q old new result → StepsState event result old new
-StepsState-turns event old new result streams P M Q is has crash after turns =
+-- what a call does to the records that are shown it does to the state that they are of
+pub StepsState-turns : {T E : Type 0} (event : Event) (was is : RecordsState) (old new : Told) (result : Result T E) (streams : List Stream)
+    (P M Q : List ℕ → Type 0) → Recovers streams (shown_by was old.content) → P (shown_by was old.content) →
+    ((image : List ℕ) → M image → RecoversToEither streams event image) →
+    ((image : List ℕ) → Q image → Recovers (stepped streams event) image) → TurnsShown was is P M Q old new result → StepsState event was is result old new
+StepsState-turns event was is old new result streams P M Q before has crash after turns =
     λ all.
-    Turns-weaker P (Recovers all) M (RecoversToEither all event) Q (Recovers (stepped all event)) old new result (λ same. has)
-    (λ same image left. subst (λ l. RecoversToEither l event image) (Recovers-same streams all old.content is same) (crash image left))
-    (λ same image left. subst (λ l. Recovers (stepped l event) image) (Recovers-same streams all old.content is same) (after image left))
+    TurnsShown-weaker was is P (Recovers all) M (RecoversToEither all event) Q (Recovers (stepped all event)) old new result (λ same. has)
+    (λ same image left. subst (λ l. RecoversToEither l event image) (Recovers-same streams all (shown_by was old.content) before same) (crash image left))
+    (λ same image left. subst (λ l. Recovers (stepped l event) image) (Recovers-same streams all (shown_by was old.content) before same) (after image left))
     turns
 
 -- the step is told by another answer
-pub StepsState-answers : {S F T E : Type 0} (event : Event) (old new : Told) (value : S) (result : Result T E) →
-    StepsState {E = F} event (Ok value) old new → StepsState event result old new
-StepsState-answers event old new value result steps =
-    λ all. Turns-answers (Recovers all) (RecoversToEither all event) (Recovers (stepped all event)) old new value result (steps all)
+pub StepsState-answers : {S F T E : Type 0} (event : Event) (was is : RecordsState) (old new : Told) (value : S) (result : Result T E) →
+    StepsState {E = F} event was is (Ok value) old new → StepsState event was is result old new
+StepsState-answers event was is old new value result steps =
+    λ all. TurnsShown-answers was is (Recovers all) (RecoversToEither all event) (Recovers (stepped all event)) old new value result (steps all)
 
-pub StepsState-failed : {S F T E : Type 0} (event : Event) (old new : Told) (call : Result S F) (e : E) → StepsState event call old new →
-    StepsState {T = T} event (Err e) old new
-StepsState-failed {S} {F} {T} {E} event old new call e steps =
+pub StepsState-failed : {S F T E : Type 0} (event : Event) (was is now : RecordsState) (old new : Told) (call : Result S F) (e : E) →
+    StepsState event was is call old new → StepsState {T = T} event was now (Err e) old new
+StepsState-failed {S} {F} {T} {E} event was is now old new call e steps =
     λ all.
     let failed : Result T E = Err e in
-    Turns-failed (Recovers all) (RecoversToEither all event) (Recovers (stepped all event)) (Recovers (stepped all event)) old new call failed refl
-    (steps all)
+    TurnsShown-failed was is now (Recovers all) (RecoversToEither all event) (Recovers (stepped all event)) (Recovers (stepped all event)) old new call
+    failed refl (steps all)
 
 -- a step is an event more in the history, where the event isn't refused
 Stands-push : (history : List Event) (event : Event) (content image : List ℕ) → CanBeSaid event → Stands history content →
@@ -57,67 +61,91 @@ Stands-push history event content image said stands none is = record {
   state = subst (λ l. Recovers l image) (sym (state-push history event none)) is;
 }
 
--- and so a call that makes a step of the state adds an event to each history of it, where the event isn't refused
-AddsEvent-accepted : {T E : Type 0} (event : Event) (old new : Told) (result : Result T E) → CanBeSaid event →
-    ((streams : List Stream) → Recovers streams old.content → refuses streams event ≡ None) → StepsState event result old new →
-    AddsEvent event result old new
-AddsEvent-accepted event old new result said none steps =
+-- and so a call that makes a step of the state stages an event after each history of it, where the event isn't refused
+StagesEvent-accepted : {T E : Type 0} (event : Event) (was is : RecordsState) (old new : Told) (result : Result T E) → CanBeSaid event →
+    ((streams : List Stream) → Recovers streams (shown_by was old.content) → refuses streams event ≡ None) → StepsState event was is result old new →
+    StagesEvent event was is result old new
+StagesEvent-accepted event was is old new result said none steps =
     λ history.
     let streams = state history in
-    Turns-weaker (Recovers streams) (Stands history) (RecoversToEither streams event) (StandsForEither history event)
-    (Recovers (stepped streams event)) (Stands (history ++ event ∷ [])) old new result (λ stands. stands.state)
-    (λ stands image left.
-    elim left [
-      | inl before ↦ inl (record { is_history = stands.is_history; state = before })
-      | inr after ↦ inr (Stands-push history event old.content image said stands (none streams stands.state) after)
-    ])
-    (λ stands image left. Stands-push history event old.content image said stands (none streams stands.state) left)
-    (steps streams)
+    let turns = steps streams in
+    let content = shown_by was old.content in
+    record {
+      content = λ stands.
+          on_ok_weaker result (λ after. Stands-push history event content (shown_by is new.content) said stands (none streams stands.state) after)
+          (turns.content stands.state);
+      any_moment = λ nothing sealed before stands.
+          weaker old new (StaysOr old (RecoversToEither streams event)) (λ image. Stands sealed image ⊎ StandsForEither history event image)
+          (λ image left. elim left.1 [
+            | inl same ↦
+                inl (of_map-like (Stands sealed) (Stands-of_map sealed) image (left.0, subst (λ (i : List ℕ). Stands sealed i) (sym same) before, left.2))
+            | inr either ↦ elim either [
+              | inl still ↦
+                  inr (inl (record {
+                    is_history = stands.is_history;
+                    state = of_map-like (Recovers streams) (Recovers-of_map streams) image (left.0, still, left.2);
+                  }))
+              | inr after ↦
+                  inr (inr (Stands-push history event content image said stands (none streams stands.state)
+                  (of_map-like (Recovers (stepped streams event)) (Recovers-of_map (stepped streams event)) image (left.0, after, left.2))))
+            ]
+          ])
+          (turns.any_moment nothing stands.state);
+      durable = turns.durable;
+    }
 
 -- where the disk wasn't called, nothing was done
-AddsEvent-uncalled : {T E : Type 0} (event : Event) (disk : Told) (e : E) → KnowsNow disk → AddsEvent {T = T} event (Err e) disk disk
-AddsEvent-uncalled {T} {E} event disk e knows =
-    λ history.
-    let failed : Result T E = Err e in
-    Turns-failed (Stands history) (StandsForEither history event) (Stands history) (Stands (history ++ event ∷ [])) disk disk failed failed refl
-    (Turns-same (Stands history) (StandsForEither history event) disk failed knows (λ is. inl is))
+StagesEvent-uncalled : {T E : Type 0} (event : Event) (was is : RecordsState) (disk : Told) (e : E) → KnowsNow disk →
+    StagesEvent {T = T} event was is (Err e) disk disk
+StagesEvent-uncalled event was is disk e knows =
+    λ history. record {
+      content = λ stands. tt;
+      any_moment = λ nothing sealed before stands.
+          at_start disk (λ image. Stands sealed image ⊎ StandsForEither history event image) knows
+          (of_content disk (λ image. Stands sealed image ⊎ StandsForEither history event image) nothing (inl before));
+      durable = λ nothing. tt;
+    }
 
 -- why an event is refused is answered exactly
 abbrev pub IsRefusedBy : {T : Type 0} → Option Refusal → Result T ApplyError → Type 0
 IsRefusedBy why result = (r : Refusal) → (result ≡ Err (apply.Refused r)) ↔ (why ≡ Some r)
 
 -- what isn't answered by a refusal isn't refused
-not_refused : {T : Type 0} (why : Option Refusal) (result : Result T ApplyError) → IsRefusedBy why result →
+pub not_refused : {T : Type 0} (why : Option Refusal) (result : Result T ApplyError) → IsRefusedBy why result →
     ((r : Refusal) → result ≡ Err (apply.Refused r) → ⊥) → why ≡ None
 not_refused None result exactly never = refl
 not_refused (Some r) result exactly never = absurd (never r ((exactly r).1 refl))
 
--- an event that was applied to a store is added to the history
+-- an event that a store staged comes after the history
 module _ {X : Type 0} (event : Event) (old new : StoreState) (seen : X → DiskView) (was is : X) where
-  -- the state that the content recovers to refuses what the store refuses
+  abbrev shown : List ℕ
+  shown = shown_by old.records (seen was).told.content
+
+  -- the state that is shown refuses what the store refuses
   none-recovered : (result : Result Ack ApplyError) → StoreIsKept old (seen was).told.content → IsRefusedBy (refuses_held old.streams event) result →
-      ((r : Refusal) → result ≡ Err (apply.Refused r) → ⊥) → (streams : List Stream) → Recovers streams (seen was).told.content →
-      refuses streams event ≡ None
+      ((r : Refusal) → result ≡ Err (apply.Refused r) → ⊥) → (streams : List Stream) → Recovers streams shown → refuses streams event ≡ None
   none-recovered result kept exactly never streams has =
-      let held = AllAgree-recovered old (seen was).told.content streams kept has in
+      let held = AllAgree-recovered old shown streams kept.shown has in
       sym (refuses_held-is old.streams streams event held.0 held.1) ∙ not_refused (refuses_held old.streams event) result exactly never
 
-  unchanged : (e : ApplyError) → KnowsNow (seen was).told → is ≡ was → AddsEvent {T = Ack} event (Err e) (seen was).told (seen is).told
+  unchanged : (e : ApplyError) → KnowsNow (seen was).told → is ≡ was →
+      StagesEvent {T = Ack} event old.records new.records (Err e) (seen was).told (seen is).told
   unchanged e knows same =
-      subst (λ (d : X). AddsEvent {T = Ack} event (Err e) (seen was).told (seen d).told) (sym same) (AddsEvent-uncalled event (seen was).told e knows)
+      subst (λ (d : X). StagesEvent {T = Ack} event old.records new.records (Err e) (seen was).told (seen d).told) (sym same)
+      (StagesEvent-uncalled event old.records new.records (seen was).told e knows)
 
-  pub AddsEvent-applied : (result : Result Ack ApplyError) → Applies event old new (seen was) (seen is) result → CanBeSaid event →
+  pub StagesEvent-applied : (result : Result Ack ApplyError) → Applies event old new (seen was) (seen is) result → CanBeSaid event →
       IfUndone (verdict_of_apply result) (is ≡ was) → IsTrue (seen was).tells → KnowsNow (seen was).told → StoreIsKept old (seen was).told.content →
-      AddsEvent event result (seen was).told (seen is).told
-  AddsEvent-applied (Ok ack) applied said same told knows kept =
-      AddsEvent-accepted event (seen was).told (seen is).told (Ok ack) said
+      StagesEvent event old.records new.records result (seen was).told (seen is).told
+  StagesEvent-applied (Ok ack) applied said same told knows kept =
+      StagesEvent-accepted event old.records new.records (seen was).told (seen is).told (Ok ack) said
       (none-recovered (Ok ack) kept applied.refused (λ r wrong. cc)) (applied.step.told told)
-  AddsEvent-applied (Err apply.Disk) applied said same told knows kept =
-      AddsEvent-accepted event (seen was).told (seen is).told (Err apply.Disk) said
+  StagesEvent-applied (Err apply.Disk) applied said same told knows kept =
+      StagesEvent-accepted event old.records new.records (seen was).told (seen is).told (Err apply.Disk) said
       (none-recovered (Err apply.Disk) kept applied.refused (λ r wrong. cc)) (applied.step.told told)
-  AddsEvent-applied (Err (apply.Changed slot)) applied said same told knows kept =
-      AddsEvent-accepted event (seen was).told (seen is).told (Err (apply.Changed slot)) said
+  StagesEvent-applied (Err (apply.Changed slot)) applied said same told knows kept =
+      StagesEvent-accepted event old.records new.records (seen was).told (seen is).told (Err (apply.Changed slot)) said
       (none-recovered (Err (apply.Changed slot)) kept applied.refused (λ r wrong. cc)) (applied.step.told told)
-  AddsEvent-applied (Err (apply.Refused r)) applied said same told knows kept = unchanged (apply.Refused r) knows same
-  AddsEvent-applied (Err apply.Stopped) applied said same told knows kept = unchanged apply.Stopped knows same
-  AddsEvent-applied (Err apply.OutOfMemory) applied said same told knows kept = unchanged apply.OutOfMemory knows same
+  StagesEvent-applied (Err (apply.Refused r)) applied said same told knows kept = unchanged (apply.Refused r) knows same
+  StagesEvent-applied (Err apply.Stopped) applied said same told knows kept = unchanged apply.Stopped knows same
+  StagesEvent-applied (Err apply.OutOfMemory) applied said same told knows kept = unchanged apply.OutOfMemory knows same

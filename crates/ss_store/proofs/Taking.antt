@@ -11,12 +11,12 @@ use Rattle.ss_catalog.specs.declared.stream_id.StreamId.{StreamId}
 use Rattle.ss_line.specs.Line.{LineState}
 use Rattle.ss_line.specs.declared.line.TheConstants.{MOST_PLACES}
 use Rattle.ss_model.specs.History.{CanBeSaid}
-use Rattle.ss_records.specs.Kept.{RecordsState}
+use Rattle.ss_records.specs.Kept.{RecordsState, shown_by}
 use Rattle.ss_recover.specs.Held.{entries_of, slots_held}
 use Rattle.ss_recover.specs.declared.parts.StreamParts.{StreamParts}
 use Rattle.ss_store.specs.Admitted.{IsTaker}
 use Rattle.ss_store.specs.Applied.{Applies, StandsOn}
-use Rattle.ss_store.specs.Changing.{ChangedIsHeld, HoldsUntil, KeepsAtRest, NoneAreDue, TakesValue}
+use Rattle.ss_store.specs.Changing.{ChangedIsHeld, HoldsUntil, KeepsWhole, NoneAreDue, TakesValue}
 use Rattle.ss_store.specs.Errors.{apply_of_fault}
 use Rattle.ss_query.specs.Reading.{verdict_of_read}
 use Rattle.ss_store.specs.Held.{IsOrdered, IsSameStream, values_held}
@@ -91,7 +91,7 @@ module _ {store : StoreState} {catalog : List (List ℕ × StreamId)} {name : Li
   sound-spared =
       IsSound-set store catalog is.sound place is.taker.part (record was { line = line }) is.taker.at (ap (λ (p : StreamParts). p.id) room.same)
       (ap (λ (p : StreamParts). p.name) room.same) store.records store.stopped
-      (λ run. (is.sound.at_rest is.runs, AreWhole-IsSpared store place is.taker.part (record was { line = line }) is.taker.at room (is.sound.whole is.runs)))
+      (λ run. (is.sound.settled is.runs, AreWhole-IsSpared store place is.taker.part (record was { line = line }) is.taker.at room (is.sound.whole is.runs)))
 
   pub same-spared : SameButSpare store (with_stream (record was { line = line }) store.records store.stopped)
   same-spared = SameButSpare-IsSpared store place is.taker.part (record was { line = line }) is.taker.at room
@@ -118,11 +118,6 @@ module _ {store : StoreState} {catalog : List (List ℕ × StreamId)} {name : Li
     ordered = ordered-spared;
   }
 
-  -- it is no event of landmarks
-  not-of-landmark : is_of_landmark store.streams (Value name t v) ≡ false
-  not-of-landmark =
-      of_part-named store.streams name is.taker.part (λ (p : StreamParts). has_open p.landmarks.landmarks) is.taker.named ∙ is.taker.plain
-
   module _ (now : StreamParts) (records : RecordsState) (same : IsSameStream (record was { line = line }) now) where
     same_name : now.name ≡ is.taker.part.name
     same_name = same.name ∙ ap (λ (p : StreamParts). p.name) room.same
@@ -133,68 +128,67 @@ module _ {store : StoreState} {catalog : List (List ℕ × StreamId)} {name : Li
         IsSound-set store catalog is.sound place is.taker.part now is.taker.at (same.id ∙ ap (λ (p : StreamParts). p.id) room.same) same_name records true
         (λ run. let wrong : true ≡ false = run in cc)
 
-    module _ (whole : KeepsAtRest (record was { line = line }) now store.records records (slot + 1))
+    module _ (whole : KeepsWhole (record was { line = line }) now store.records records (slot + 1))
         (holds : HoldsUntil now (values_held (entries_of (record was { line = line })) + 1) (Some t)) where
       pub sound-taken : IsSound (with_stream now records store.stopped) catalog
       sound-taken =
           IsSound-set store catalog is.sound place is.taker.part now is.taker.at (same.id ∙ ap (λ (p : StreamParts). p.id) room.same) same_name records
           store.stopped
           (λ run. (
-            (whole.whole.settled, whole.sealed),
+            whole.settled,
             whole-appended store place is.taker.part (record was { line = line }) now records is.taker.at room (is.sound.whole is.runs) same
-                (IsNoEarlier-past was.last_time now.last_time t holds.last_time later-taker) whole.whole.ordered whole.whole.live,
+                (IsNoEarlier-past was.last_time now.last_time t holds.last_time later-taker) whole.ordered whole.live,
           ))
 
       -- the event is applied
       pub applies-taken : (after : DiskView) (n k : ℕ) (done : Unit {0}) →
-          Step fine before after (TakesValue (record was { line = line }) now t v records (Ok done)) → NoneAreDue now →
+          Step fine before after (TakesValue (record was { line = line }) now t v store.records records (Ok done)) → NoneAreDue now →
           n ≡ values_held (entries_of now) → k ≡ length now.line.entries →
           Applies (Value name t v) store (with_stream now records store.stopped) before after (Ok (record { n = n; k = k }))
       applies-taken after n k done step none_due values windows =
-          let extent = whole.whole.extent in
+          let extent = whole.extent in
           let low = is.taker.low in
           let some : 0 < n = omega (arith, values, holds.values) in
           Applies-done (Value name t v) store (with_stream now records store.stopped) is.none before after (record { n = n; k = k })
           (step-from step (λ told takes.
-          let kept = is.one_disk told in
-          let content = before.told.content in
+          let kept = (is.one_disk told).shown in
+          let content = shown_by store.records before.told.content in
           let others_now = others store content kept name t v place slot is.taker is.none is.said in
           let s = (pair store content kept name t v place slot is.taker is.none is.said).stream in
           let held = held-taker store content kept name t v place slot is.taker is.none is.said (record was { line = line }) now room in
           let turns = takes.turns others_now s in (
-            StepsState-answers (Value name t v) before.told after.told done (Ok (record { n = n; k = k }))
+            StepsState-answers (Value name t v) store.records records before.told after.told done (Ok (record { n = n; k = k }))
                 (StepsState-appended store content kept name t v place slot is.taker is.none is.said (record was { line = line }) now room
-                before.told after.told
-                (Ok done) refl turns),
+                store.records records before.told after.told (Ok done) refl turns),
             StoreIsKept-appended store content kept name t v place slot is.taker is.none is.said (record was { line = line }) now room records store.stopped
                 after.told.content takes.kept (turns.content held),
           )))
           (λ made. let wrong : false ≡ true = made in absurd (cc))
           (said_of_set name store.streams place is.taker.part now n k is.sound.numbers is.taker.named is.taker.at same_name values windows)
-          (λ plain. KeepsToTarget-taken store catalog name t place slot now n k is.sound is.taker same_name values windows whole.whole.ordered.tiles none_due some)
+          (λ plain. KeepsToTarget-taken store catalog name t place slot now n k is.sound is.taker same_name values windows whole.ordered.tiles none_due some)
           refl (omega (arith, extent, low))
 
     -- the call failed
     pub applies-untaken : (after : DiskView) (why : ReadError) →
-        Step (verdict_of_read {T = Unit {0}} (Err why)) before after (TakesValue (record was { line = line }) now t v records (Err why)) →
+        Step (verdict_of_read {T = Unit {0}} (Err why)) before after (TakesValue (record was { line = line }) now t v store.records records (Err why)) →
         ChangedIsHeld (verdict_of_read {T = Unit {0}} (Err why)) now →
         Applies (Value name t v) store (with_stream now records true) before after (Err (apply_of_fault why))
     applies-untaken after why step held =
         Applies-failed (Value name t v) store (with_stream now records true) is.none before after why
         (step-from step (λ told takes.
-        let kept = is.one_disk told in
-        let content = before.told.content in
+        let kept = (is.one_disk told).shown in
+        let content = shown_by store.records before.told.content in
         let others_now = others store content kept name t v place slot is.taker is.none is.said in
         let s = (pair store content kept name t v place slot is.taker is.none is.said).stream in
-        StepsState-failed (Value name t v) before.told after.told (Err why) (apply_of_fault why)
-        (StepsState-appended store content kept name t v place slot is.taker is.none is.said (record was { line = line }) now room before.told after.told
-        (Err why) refl (takes.turns others_now s))))
+        StepsState-failed (Value name t v) store.records records records before.told after.told (Err why) (apply_of_fault why)
+        (StepsState-appended store content kept name t v place slot is.taker is.none is.said (record was { line = line }) now room store.records records
+        before.told after.told (Err why) refl (takes.turns others_now s))))
         (λ told.
-        let kept = is.one_disk told in
-        let content = before.told.content in
+        let kept = (is.one_disk told).shown in
+        let content = shown_by store.records before.told.content in
         let others_now = others store content kept name t v place slot is.taker is.none is.said in
         let s = (pair store content kept name t v place slot is.taker is.none is.said).stream in
         (step.told told).firm others_now s (held-taker store content kept name t v place slot is.taker is.none is.said (record was { line = line }) now room))
         (held_by_named name (slice_set store.streams place now) now why
         (part_named-set name store.streams place is.taker.part now is.sound.numbers is.taker.named is.taker.at same_name) held)
-        refl (λ own. let wrong : false ≡ true = sym not-of-landmark ∙ own in absurd (cc))
+        refl

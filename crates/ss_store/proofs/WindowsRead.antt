@@ -25,17 +25,16 @@ use Rattle.ss_recover.specs.declared.parts.StreamParts.{StreamParts}
 use Rattle.ss_outside.specs.Disk.{DiskView, OfContent, Told}
 use Rattle.ss_outside.specs.Step.{Step}
 use Rattle.ss_outside.specs.Verdict.{IsFirm, fine}
-use Rattle.ss_journal.proofs.ShownLemmas.{shown-sealed}
-use Rattle.ss_records.specs.Kept.{AreAtRest, RecordsState, shown_by}
+use Rattle.ss_records.specs.Kept.{RecordsState, shown_by}
 use Rattle.ss_query.specs.Reading.{IsRead, ReadsWindow, verdict_of_read}
 use Rattle.ss_query.specs.declared.read_error.ReadError.{ReadError}
 use Rattle.ss_query.specs.declared.read_error.ReadError.TheVariants as error
 use Rattle.ss_store.specs.Applied.{ShowsWindow}
-use Rattle.ss_store.specs.Kept.{StoreIsKept, StoreState, part_numbered}
+use Rattle.ss_store.specs.Kept.{StoreIsIn, StoreIsKept, StoreState, part_numbered}
 use Rattle.ss_store.specs.Recover.{Recovers}
 use Rattle.ss_query.specs.Slots.{HasRecords}
 use Rattle.ss_store.proofs.Among.{IsHeldIn-at, others_of}
-use Rattle.ss_store.proofs.KeptStates.{Recovers-StoreIsKept, Recovers-same}
+use Rattle.ss_store.proofs.KeptStates.{Recovers-StoreIsIn, Recovers-same}
 use Rattle.ss_store.proofs.Named.{AreFound-numbered}
 use Rattle.ss_store.proofs.OneOfMany.{slice_get-zip}
 use Rattle.ss_query.proofs.Records.{HasRecords-permutation}
@@ -95,7 +94,7 @@ has-first all i r image at has =
     HasRecords-permutation all (r ∷ remove all i) image
     (IsPermutation-remove all i r (slice_get_within all i r at) (sym (get_or_from_slice_get all i r r at))) has
 
-pub IsKeptWindow-at : (store : StoreState) (content : List ℕ) (kept : StoreIsKept store content) (number : ℕ) (part : StreamParts) (at : At) (e : Entry) →
+pub IsKeptWindow-at : (store : StoreState) (content : List ℕ) (kept : StoreIsIn store content) (number : ℕ) (part : StreamParts) (at : At) (e : Entry) →
     part_numbered number store.streams ≡ Some part → entry_at part.line.entries at ≡ Some e →
     IsKeptWindow content kept.streams number (index_of part.line.entries at) e part
 IsKeptWindow-at store content kept number part at e numbered is =
@@ -138,21 +137,18 @@ IsFirm-error summary error.Disk read = tt
 IsFirm-error summary (error.Changed slot) read = read
 
 -- a window that is read again: what it is of the state that the content recovers to
-module _ {part : StreamParts} {entry : Entry} (was is : RecordsState) (at_rest : AreAtRest was) (store : StoreState) (number : ℕ) (at : At)
+module _ {part : StreamParts} {entry : Entry} (is : RecordsState) (store : StoreState) (number : ℕ) (at : At)
     (numbered : part_numbered number store.streams ≡ Some part) (read : entry_at part.line.entries at ≡ Some entry) where
-  -- nothing is staged: what is shown is the content
-  shown-first : (content : List ℕ) (slots : List (ℕ × Option Record)) → HasRecords slots content → HasRecords slots (shown_by was content)
-  shown-first content slots has = subst (λ (image : List ℕ). HasRecords slots image) (sym (shown-sealed was.journal content at_rest.1)) has
-
-  window-read : (old new : Told) (summary : Figures) → StoreIsKept store old.content → ReadsWindow part entry was is (Ok summary) old new →
-      (streams : List Stream) → Recovers streams old.content →
+  window-read : (old new : Told) (summary : Figures) → StoreIsIn store (shown_by store.records old.content) →
+      ReadsWindow part entry store.records is (Ok summary) old new → (streams : List Stream) → Recovers streams (shown_by store.records old.content) →
       IfSome (part_numbered number store.streams) (λ p. IfSome (stream_numbered number streams) (λ s.
       slice_get (map placed_of s.windows) (index_of p.line.entries at) ≡ Some (placed entry summary)))
   window-read old new summary kept reads streams recovers =
-      let window = IsKeptWindow-at store old.content kept number part at entry numbered read in
-      let same = Recovers-same kept.streams streams old.content (Recovers-StoreIsKept store old.content kept) recovers in
+      let window = IsKeptWindow-at store (shown_by store.records old.content) kept number part at entry numbered read in
+      let same = Recovers-same kept.streams streams (shown_by store.records old.content)
+      (Recovers-StoreIsIn store (shown_by store.records old.content) kept) recovers in
       let found : stream_numbered number streams ≡ Some window.stream = ap (λ l. stream_numbered number l) (sym same) ∙ window.found in
-      let summary_is = reads.window window.others window.window (shown-first old.content _ window.has) window.span window.times window.free in
+      let summary_is = reads.window window.others window.window window.has window.span window.times window.free in
       let here : slice_get (map placed_of window.stream.windows) (index_of part.line.entries at) ≡ Some (placed entry summary) =
       slice_get-map placed_of window.stream.windows (index_of part.line.entries at) ∙ ap (option_map placed_of) window.at
       ∙ ap (λ (p : Placed). Some p) (placed-is entry window.window summary window.span summary_is) in
@@ -167,14 +163,14 @@ module _ {part : StreamParts} {entry : Entry} (was is : RecordsState) (at_rest :
       IsReadWithinTarget-read history (state history) number (index_of part.line.entries at) shown whole refl (rw numbered at shows)
 
   module _ {before after : DiskView} (kept : OfContent before (StoreIsKept store)) where
-    pub shows-read : (summary : Figures) → Step fine before after (ReadsWindow part entry was is (Ok summary)) →
-        Step fine before after (ShowsWindow number at store.streams (Ok (record { first = entry.first; last = entry.last; summary = summary })))
+    pub shows-read : (summary : Figures) → Step fine before after (ReadsWindow part entry store.records is (Ok summary)) →
+        Step fine before after (ShowsWindow number at store (Ok (record { first = entry.first; last = entry.last; summary = summary })))
     shows-read summary step = record {
       tells = step.tells;
       counted = step.counted;
       told = λ told.
           let reads = step.told told in
-          let window = window-read before.told after.told summary (kept told) reads in
+          let window = window-read before.told after.told summary (kept told).shown reads in
           record {
             window = window;
             within = λ history stands. within-read (placed entry summary) history stands.is_history (window (state history) stands.state);
@@ -183,11 +179,11 @@ module _ {part : StreamParts} {entry : Entry} (was is : RecordsState) (at_rest :
     }
 
     -- no slot has changed on a disk that tells
-    pub IsFirm-read : (why : ReadError) → Step (verdict_of_read {T = Figures} (Err why)) before after (ReadsWindow part entry was is (Err why)) →
+    pub IsFirm-read : (why : ReadError) → Step (verdict_of_read {T = Figures} (Err why)) before after (ReadsWindow part entry store.records is (Err why)) →
         IsTrue before.tells → IsFirm (verdict_of_read {T = Placed} (Err why))
     IsFirm-read why step told =
-        let window = IsKeptWindow-at store before.told.content (kept told) number part at entry numbered read in
-        IsFirm-error window.window.summary why ((step.told told).window window.others window.window (shown-first before.told.content _ window.has)
+        let window = IsKeptWindow-at store (shown_by store.records before.told.content) (kept told).shown number part at entry numbered read in
+        IsFirm-error window.window.summary why ((step.told told).window window.others window.window window.has
         window.span window.times window.free)
 
 -- the entry at a place, in the part that was read

@@ -4,7 +4,8 @@ use Rattle.std.specs.Prelude.{Err, Some, IfOk, IfSome, OnOk, IsTrue}
 use Rattle.ss_outside.specs.Crash.{OnlyReads}
 use Rattle.ss_outside.specs.Disk.{DiskView, Told, OfContent}
 use Rattle.ss_outside.specs.Step.{Step}
-use Rattle.ss_outside.specs.Verdict.{Verdict, IfChanged, IfUndone, IsFirm, OnFailed, OnFine, OnNoMemory, OnRefused}
+use Rattle.ss_outside.specs.Verdict.{Verdict, IfChanged, IfUndone, IsFirm, OnFine, OnNoMemory, OnRefused}
+use Rattle.ss_outside.specs.declared.source.Failed.{Failed}
 use Rattle.ss_catalog.specs.Events.{event_name}
 use Rattle.ss_catalog.specs.declared.event.Event.{Event}
 use Rattle.ss_catalog.specs.declared.event.Event.TheVariants.{Create, Value, Open, Close}
@@ -24,11 +25,12 @@ use Rattle.ss_model.specs.declared.types.Ack.{Ack}
 use Rattle.ss_model.specs.declared.types.Placed.{Placed}
 use Rattle.ss_recover.specs.Held.{slots_held}
 use Rattle.ss_recover.specs.declared.parts.StreamParts.{StreamParts}
-use Rattle.ss_store.specs.Calls.{KeepsHistory, KeepsState, StepsState}
+use Rattle.ss_records.specs.Kept.{RecordsState, shown_by}
+use Rattle.ss_store.specs.Calls.{KeepsHistory, KeepsState, SealsHistory, StepsState, TurnsShown}
 use Rattle.ss_store.specs.Causes.{OpensAs, said_of_held}
 use Rattle.ss_query.specs.Answered.{window_slots_of}
 use Rattle.ss_store.specs.Errors.{stopped_after, verdict_of_apply, verdict_of_opening}
-use Rattle.ss_store.specs.Kept.{SameButSpare, StoreIsKept, StoreState, is_of_landmark, part_named, part_numbered, refuses_held, without_spare}
+use Rattle.ss_store.specs.Kept.{SameButSpare, StoreIsKept, StoreState, is_of_landmark, part_named, part_numbered, refuses_held}
 use Rattle.ss_store.specs.Recover.{Recovers, Stands}
 use Rattle.ss_store.specs.Surveyed.{SurveysAs}
 use Rattle.ss_store.specs.declared.error.ApplyError.{ApplyError}
@@ -62,8 +64,8 @@ IsFew parts event ack =
 
 -- What an event does to a store that hasn't stopped, and to its disk.
 pub record Applies (event : Event) (old new : StoreState) (before after : DiskView) (result : Result Ack ApplyError) : Type 0 where
-  -- the state that the disk stands for makes a step, wholly or not at all, also in a crash
-  pub step : Step (verdict_of_apply result) before after (StepsState event result)
+  -- the state that its records show makes a step, wholly or not at all, also in a crash
+  pub step : Step (verdict_of_apply result) before after (StepsState event old.records new.records result)
   pub stands : StandsOn new after
   -- the reply is read off the stream as it is held then
   pub ack : IfOk result (λ ack. ack ≡ said_of_held (part_named (event_name event) new.streams))
@@ -79,12 +81,16 @@ pub record Applies (event : Event) (old new : StoreState) (before after : DiskVi
   pub firm : IsTrue before.tells → IsFirm (verdict_of_apply result)
   -- no more slots are used than the records need
   pub extent : OnOk result (new.records.journal.extent ≤ max old.records.journal.extent (length (flat_map slots_held old.streams) + 1))
-  -- an event of landmarks that fails leaves the streams as they were, but for the room to spare
-  pub failed : is_of_landmark old.streams event ≡ true →
-      OnFailed (verdict_of_apply result) (map without_spare new.streams ≡ map without_spare old.streams)
   -- where the record of a slot has changed, a window of the stream is held there
   pub changed : IfChanged (verdict_of_apply result)
       (λ slot. IfSome (part_named (event_name event) new.streams) (λ part. Contains (window_slots_of part) slot))
+
+-- What is staged is sealed by a store, which is another then: what it shows stays, and comes to the disk as a whole, if it does.
+pub record SealsStore (was is : StoreState) (result : Result Unit Failed) (old new : Told) : Type 0 where
+  pub kept : OnOk result (StoreIsKept is new.content)
+  pub state : (streams : List Stream) →
+      TurnsShown was.records is.records (Recovers streams) (Recovers streams) (Recovers streams) old new result
+  pub history : SealsHistory was.records is.records result old new
 
 -- What a look does to a store, whatever was asked: it writes nothing, and leaves all but the flag, where it stops.
 pub record Looks (v : Verdict) (old new : StoreState) (before after : DiskView) : Type 0 where
@@ -95,25 +101,25 @@ pub record Looks (v : Verdict) (old new : StoreState) (before after : DiskView) 
   pub stops : new.stopped ≡ stopped_after old.stopped v
   pub firm : IsTrue before.tells → IsFirm v
 
--- A query is answered. Content and images stay.
-pub record Answers (query : Query) (result : Result Outcome AskError) (old new : Told) : Type 0 where
-  -- the answer of the state that the content recovers to
-  pub answer : (streams : List Stream) → Recovers streams old.content → IfOk result (λ outcome. outcome_of streams query ≡ Some outcome)
-  -- it holds the truth over all values of the stream, those of its landmarks among them, for every history that the content stands for
-  pub truth : (history : List Event) → Stands history old.content →
+-- A query is answered, of what records show. Content and images stay.
+pub record Answers (was : RecordsState) (query : Query) (result : Result Outcome AskError) (old new : Told) : Type 0 where
+  -- the answer of the state that they show
+  pub answer : (streams : List Stream) → Recovers streams (shown_by was old.content) → IfOk result (λ outcome. outcome_of streams query ≡ Some outcome)
+  -- it holds the truth over all values of the stream, those of its landmarks among them, for every history that is shown
+  pub truth : (history : List Event) → Stands history (shown_by was old.content) →
       IfOk result (HoldsTruth query (values_of history query.name) (marked_of history query.name))
   -- it leaves nothing open where the range splits no window
-  pub exact : (streams : List Stream) → Recovers streams old.content → split_by streams query ≡ [] → IfOk result IsExactOutcome
+  pub exact : (streams : List Stream) → Recovers streams (shown_by was old.content) → split_by streams query ≡ [] → IfOk result IsExactOutcome
   pub reads : OnlyReads old new
 
--- The window at a place of the stream of a number is read. Content and images stay.
-pub record ShowsWindow (number : ℕ) (at : At) (parts : List StreamParts) (result : Result Placed AskError) (old new : Told) : Type 0 where
-  -- that of the state that the content recovers to
-  pub window : (streams : List Stream) → Recovers streams old.content →
-      IfOk result (λ placed. IfSome (part_numbered number parts) (λ part. IfSome (stream_numbered number streams) (λ s.
+-- The window at a place of the stream of a number is read, of what a store shows. Content and images stay.
+pub record ShowsWindow (number : ℕ) (at : At) (store : StoreState) (result : Result Placed AskError) (old new : Told) : Type 0 where
+  -- that of the state that it shows
+  pub window : (streams : List Stream) → Recovers streams (shown_by store.records old.content) →
+      IfOk result (λ placed. IfSome (part_numbered number store.streams) (λ part. IfSome (stream_numbered number streams) (λ s.
       slice_get (map placed_of s.windows) (index_of part.line.entries at) ≡ Some placed)))
   -- it is at most as long as the target window that holds its newest value
-  pub within : (history : List Event) → Stands history old.content →
+  pub within : (history : List Event) → Stands history (shown_by store.records old.content) →
       IfOk result (λ placed. IfSome (stream_numbered number (state history)) (λ s.
       IsReadWithinTarget (lengths_of s.params) (values_in s) placed))
   pub reads : OnlyReads old new

@@ -17,14 +17,14 @@ pub record Turns {T E : Type 0} (P M Q : List ℕ → Type 0) (old new : Told) (
   pub durable : NothingPending old → OnOk result (NothingPending new)
 
 -- the image stands for the map of an image that has P
-abbrev pub Like : (List ℕ → Type 0) → List ℕ → Type 0
-Like P image = (was : List ℕ) × P was × ((found : SlotMap) → StandsFor was found → StandsFor image found)
+abbrev pub StandsLike : (List ℕ → Type 0) → List ℕ → Type 0
+StandsLike P image = (was : List ℕ) × P was × ((found : SlotMap) → StandsFor was found → StandsFor image found)
 
 -- Records, which are others then, turn what they show from P into Q. With nothing pending at the call, a crash at any moment of it
 -- leaves only images that stand for what the content stood for, or for what has M, and at Ok nothing is pending.
 pub record TurnsShown {T E : Type 0} (was is : RecordsState) (P M Q : List ℕ → Type 0) (old new : Told) (result : Result T E) : Type 0 where
   pub content : P (shown_by was old.content) → OnOk result (Q (shown_by is new.content))
-  pub any_moment : NothingPending old → P (shown_by was old.content) → LeavesOnly old new (Like (λ image. (image ≡ old.content) ⊎ M image))
+  pub any_moment : NothingPending old → P (shown_by was old.content) → LeavesOnly old new (StandsLike (λ image. (image ≡ old.content) ⊎ M image))
   pub durable : NothingPending old → OnOk result (NothingPending new)
 
 -- A call keeps what the disk stands for, whatever it is.
@@ -48,7 +48,26 @@ AddsEvent event result old new =
 abbrev pub RecoversToEither : List Stream → Event → List ℕ → Type 0
 RecoversToEither streams event image = Recovers streams image ⊎ Recovers (stepped streams event) image
 
--- A call makes a step of the state that the disk stands for, wholly or not at all, also of one that no history has.
-abbrev pub StepsState : {T E : Type 0} → Event → Result T E → Told → Told → Type 0
-StepsState event result old new =
-    (streams : List Stream) → Turns (Recovers streams) (RecoversToEither streams event) (Recovers (stepped streams event)) old new result
+-- A call makes a step of the state that records show, which are others then, wholly or not at all, also of one that no history has.
+abbrev pub StepsState : {T E : Type 0} → Event → RecordsState → RecordsState → Result T E → Told → Told → Type 0
+StepsState event was is result old new =
+    (streams : List Stream) →
+    TurnsShown was is (Recovers streams) (RecoversToEither streams event) (Recovers (stepped streams event)) old new result
+
+-- A call turns the history that records show, which are others then, into another. With nothing pending at the call, a crash at any
+-- moment of it leaves only images that stand for a history that the content stood for, or that have M, and at Ok nothing is pending.
+pub record TurnsHistory {T E : Type 0} (was is : RecordsState) (history : List Event) (M : List ℕ → Type 0) (then : List Event) (old new : Told)
+    (result : Result T E) : Type 0 where
+  pub content : Stands history (shown_by was old.content) → OnOk result (Stands then (shown_by is new.content))
+  pub any_moment : NothingPending old → (sealed : List Event) → Stands sealed old.content → Stands history (shown_by was old.content) →
+      LeavesOnly old new (λ image. Stands sealed image ⊎ M image)
+  pub durable : NothingPending old → OnOk result (NothingPending new)
+
+-- A call stages an event after the history that records show, wholly or not at all.
+abbrev pub StagesEvent : {T E : Type 0} → Event → RecordsState → RecordsState → Result T E → Told → Told → Type 0
+StagesEvent event was is result old new =
+    (history : List Event) → TurnsHistory was is history (StandsForEither history event) (history ++ event ∷ []) old new result
+
+-- A call brings the history that records show to the disk, wholly or not at all.
+abbrev pub SealsHistory : {T E : Type 0} → RecordsState → RecordsState → Result T E → Told → Told → Type 0
+SealsHistory was is result old new = (history : List Event) → TurnsHistory was is history (Stands history) history old new result

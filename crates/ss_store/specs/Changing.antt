@@ -29,7 +29,7 @@ use Rattle.ss_query.specs.Reading.{IsRead, verdict_of_read}
 use Rattle.ss_store.specs.Held.{IsHalfway, IsOrdered, IsPartlyJoined, values_held, with_single}
 use Rattle.ss_query.specs.Held.{IsHeldIn}
 use Rattle.ss_store.specs.Joining.{IsJoinedIn, NoSpansAreDue}
-use Rattle.ss_store.specs.Marking.{CanMark, IsItsSlot, IsMarkedOrNot, landmarks_after, mark_refusal, with_mark}
+use Rattle.ss_store.specs.Marking.{CanMark, IsItsSlot, landmarks_after, mark_refusal, with_mark}
 use Rattle.ss_store.specs.Rebuilt.{HasRebuilt}
 use Rattle.ss_store.specs.Recover.{Recovers}
 use Rattle.ss_store.specs.Slots.{LiveSlotsGo}
@@ -52,8 +52,8 @@ pub record TurnsStream {T E : Type 0} (v : Verdict) (part : StreamParts) (during
   pub kept : OnOk result (AreKept records new.content)
 
 -- The same of what records show, which are others then: a crash leaves what the content stands for, or this.
-pub record StagesStream (v : Verdict) (part : StreamParts) (during after : List (ℕ × Option Record) → Stream → List ℕ → Type 0)
-    (was is : RecordsState) (result : Result (Unit {0}) ReadError) (old new : Told) : Type 0 where
+pub record StagesStream {T E : Type 0} (v : Verdict) (part : StreamParts) (during after : List (ℕ × Option Record) → Stream → List ℕ → Type 0)
+    (was is : RecordsState) (result : Result T E) (old new : Told) : Type 0 where
   pub turns : (others : List (ℕ × Option Record)) (s : Stream) →
       TurnsShown was is (IsHeldIn others part s) (during others s) (after others s) old new result
   pub firm : (others : List (ℕ × Option Record)) (s : Stream) → IsHeldIn others part s (shown_by was old.content) → IsFirm v
@@ -80,17 +80,16 @@ PutsValue part now t v was is result =
     StagesStream (verdict_of_read result) part (λ others s. IsHalfway others part s t v) (λ others s. IsHeldIn others now (with_single s t v))
     was is result
 
--- a value was taken, and the windows were closed
-abbrev pub TakesValue : StreamParts → StreamParts → ℕ → ℤ → RecordsState → Result (Unit {0}) ReadError → Told → Told → Type 0
-TakesValue part now t v records result =
-    TurnsStream (verdict_of_read result) part (λ others s. IsHalfway others part s t v) (λ others s. IsHeldIn others now (with_value s t v))
-    records result
+-- a value was taken, and the windows were closed, and this is staged
+abbrev pub TakesValue : StreamParts → StreamParts → ℕ → ℤ → RecordsState → RecordsState → Result (Unit {0}) ReadError → Told → Told → Type 0
+TakesValue part now t v was is result =
+    StagesStream (verdict_of_read result) part (λ others s. IsHalfway others part s t v) (λ others s. IsHeldIn others now (with_value s t v))
+    was is result
 
--- landmarks took a mark
-abbrev pub TakesMark : StreamParts → StreamParts → ℕ → Mark → RecordsState → Result (Unit {0}) Failed → Told → Told → Type 0
-TakesMark part now t mark records result =
-    TurnsStream (verdict result) part (λ others s. IsMarkedOrNot others part s t mark) (λ others s. IsHeldIn others now (with_mark s t mark))
-    records result
+-- landmarks took a mark, and this is staged
+abbrev pub TakesMark : StreamParts → StreamParts → ℕ → Mark → RecordsState → RecordsState → Result (Unit {0}) Failed → Told → Told → Type 0
+TakesMark part now t mark was is result =
+    StagesStream (verdict result) part (λ others s. IsHeldIn others part s) (λ others s. IsHeldIn others now (with_mark s t mark)) was is result
 
 -- Two windows of a stream are read as one, by records that are others then, of what they show. Content and images stay.
 pub record ReadsJoined (part : StreamParts) (window next : Entry) (was is : RecordsState) (result : Result Figures ReadError) (old new : Told) : Type 0 where

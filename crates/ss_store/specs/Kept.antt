@@ -15,7 +15,8 @@ use Rattle.ss_landmarks.specs.Landmark.{all_values}
 use Rattle.ss_target.specs.Lengths.{has_target}
 use Rattle.ss_target.specs.Targets.{params_of}
 use Rattle.ss_windowing.specs.declared.decay.TheConstants.{MOST_VALUES}
-use Rattle.ss_records.specs.Kept.{AreAtRest, AreKept, RecordsState}
+use Rattle.ss_journal.specs.Kept.{IsSettled}
+use Rattle.ss_records.specs.Kept.{AreKept, RecordsState, shown_by}
 use Rattle.ss_model.specs.ClosedState.{closed_state}
 use Rattle.ss_model.specs.Marks.{has_open}
 use Rattle.ss_model.specs.Refusals.{first_that_applies, is_before, is_opening, is_past}
@@ -42,17 +43,21 @@ entry_of part = (part.name, part.id)
 pub record IsSound (store : StoreState) (catalog : List (List ℕ × StreamId)) : Type 0 where
   pub listed : catalog ≡ map entry_of store.streams
   pub numbers : IsStrictlyIncreasing (map (λ (part : StreamParts). part.id.0) store.streams)
-  pub at_rest : store.stopped ≡ false → AreAtRest store.records
+  pub settled : store.stopped ≡ false → IsSettled store.records.journal
   pub whole : store.stopped ≡ false → AreWhole store.streams store.records.live
 
--- One disk: the content has the records of these streams, each in the slot where the store holds it, and no merge is due.
-pub record StoreIsKept (store : StoreState) (content : List ℕ) : Type 0 where
-  pub records : AreKept store.records content
+-- An image has the records of these streams, each in the slot where the store holds it, and no merge is due.
+pub record StoreIsIn (store : StoreState) (image : List ℕ) : Type 0 where
   pub streams : List Stream
   pub state : IsState streams
   pub agree : AllAgree store.streams streams
-  pub held : HasRecords (flat_map records_held (zip store.streams streams)) content
+  pub held : HasRecords (flat_map records_held (zip store.streams streams)) image
   pub closed : closed_state streams ≡ streams
+
+-- One disk: what is said of records, and what these show has the store's records.
+pub record StoreIsKept (store : StoreState) (content : List ℕ) : Type 0 where
+  pub records : AreKept store.records content
+  pub shown : StoreIsIn store (shown_by store.records content)
 
 -- the stream of a name and of a number, as it is held
 abbrev pub part_named : List ℕ → List StreamParts → Option StreamParts

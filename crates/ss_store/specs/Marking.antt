@@ -113,11 +113,3 @@ abbrev pub value_slots_after : List ℕ → ℕ → Mark → List ℕ
 value_slots_after slots slot Open = slots
 value_slots_after slots slot (Value v) = slots ++ slot ∷ []
 value_slots_after slots slot Close = slots
-
--- an image has the records of a stream after it, however it is held
-abbrev pub IsMarkedIn : List (ℕ × Option Record) → Stream → ℕ → Mark → List ℕ → Type 0
-IsMarkedIn others s t mark image = (part : StreamParts) × IsHeldIn others part (with_mark s t mark) image
-
--- what a crash may leave: the stream from before, or after it
-abbrev pub IsMarkedOrNot : List (ℕ × Option Record) → StreamParts → Stream → ℕ → Mark → List ℕ → Type 0
-IsMarkedOrNot others part s t mark image = IsHeldIn others part s image ⊎ IsMarkedIn others s t mark image

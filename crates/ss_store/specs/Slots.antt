@@ -10,30 +10,19 @@ use Rattle.ss_records.specs.Live.{is_live}
 use Rattle.ss_codec.specs.Record.{spelling}
 use Rattle.ss_codec.specs.declared.record.Record.{Record}
 use Rattle.ss_query.specs.Slots.{HasRecords}
-use Rattle.ss_store.specs.Calls.{Turns, TurnsShown}
-
--- either
-abbrev pub Either : (List ℕ → Type 0) → (List ℕ → Type 0) → List ℕ → Type 0
-Either P Q image = P image ⊎ Q image
-
--- a call puts a record into a free slot, or leaves all as it was
-abbrev pub AddsRecord : {T E : Type 0} → ℕ → Record → Result T E → Told → Told → Type 0
-AddsRecord slot r result old new =
-    (others : List (ℕ × Option Record)) →
-    Turns (HasRecords others) (Either (HasRecords others) (HasRecords ((slot, Some r) ∷ others))) (HasRecords ((slot, Some r) ∷ others)) old new result
-
--- a call puts a record in place of that of a slot, or leaves all as it was
-abbrev pub Replaces : {T E : Type 0} → ℕ → Record → Result T E → Told → Told → Type 0
-Replaces slot r result old new =
-    (was : Option Record) (others : List (ℕ × Option Record)) →
-    let before = HasRecords ((slot, was) ∷ others) in
-    let after = HasRecords ((slot, Some r) ∷ others) in
-    Turns before (Either before after) after old new result
+use Rattle.ss_store.specs.Calls.{TurnsShown}
 
 -- a call stages a record for a free slot
 abbrev pub StagesRecord : {T E : Type 0} → ℕ → Record → RecordsState → RecordsState → Result T E → Told → Told → Type 0
 StagesRecord slot r was is result old new =
     (others : List (ℕ × Option Record)) → TurnsShown was is (HasRecords others) (HasRecords others) (HasRecords ((slot, Some r) ∷ others)) old new result
+
+-- a call stages a record in place of that of a slot
+abbrev pub StagesReplaced : {T E : Type 0} → ℕ → Record → RecordsState → RecordsState → Result T E → Told → Told → Type 0
+StagesReplaced slot r was is result old new =
+    (first : Option Record) (others : List (ℕ × Option Record)) →
+    let before = HasRecords ((slot, first) ∷ others) in
+    TurnsShown was is before before (HasRecords ((slot, Some r) ∷ others)) old new result
 
 -- a call stages a record in place of that of one slot, and the freeing of another
 abbrev pub StagesTwo : {T E : Type 0} → ℕ → ℕ → Record → RecordsState → RecordsState → Result T E → Told → Told → Type 0

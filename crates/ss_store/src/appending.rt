@@ -4,10 +4,10 @@ ghost use Rattle.ss_outside.specs.Disk.{OfContent};
 ghost use Rattle.ss_outside.specs.Step.{Step};
 ghost use Rattle.ss_outside.specs.Verdict.{IsFirm};
 ghost use Rattle.ss_journal.specs.Kept.{IsSettled};
-ghost use Rattle.ss_records.specs.Kept.{AreAtRest, AreKept};
+ghost use Rattle.ss_records.specs.Kept.{AreKept};
 ghost use Rattle.ss_records.specs.Live.{lowest_free};
 ghost use Rattle.ss_recover.specs.Held.{entries_of, slots_held};
-ghost use Rattle.ss_store.specs.Changing.{ChangedIsHeld, HoldsUntil, KeepsAtRest, KeepsWhole, PutsValue, TakesValue};
+ghost use Rattle.ss_store.specs.Changing.{ChangedIsHeld, HoldsUntil, KeepsWhole, PutsValue, TakesValue};
 ghost use Rattle.ss_query.specs.Reading.{verdict_of_read};
 ghost use Rattle.ss_store.specs.Held.{IsSameStream, values_held};
 ghost use Rattle.ss_store.specs.Indexed.{CanAppend, IsKeyedFor, IsScheduled};
@@ -72,7 +72,7 @@ fn put_value<D: Disk, L: Ledger>(
     Ok(())
 }
 
-/// Puts a value outside landmarks after the windows of a stream, and makes the merges that are due: all come to the disk together.
+/// Stages a value outside landmarks after the windows of a stream, and the merges that are due.
 pub fn append_value<D: Disk, L: Ledger>(
     records: &mut Records,
     disk: &mut D,
@@ -83,23 +83,21 @@ pub fn append_value<D: Disk, L: Ledger>(
     v: i64,
     steps: &mut Steps<L>,
 ) -> Result<(), ReadError>
-    requires at_rest { AreAtRest records.old }
+    requires settled { IsSettled records.old.journal }
     requires free { lowest_free records.old.live ≡ Some slot }
     requires can { CanAppend part.old index.old t }
     requires time { t ≤ LATEST_TIME }
     requires live { AreSomeLive (slots_held part.old) records.old.live }
     requires one_disk { OfContent (D.seen disk.old) (AreKept records.old) }
-    // A crash leaves the stream from before, or with the value and windows joined that are due, all or some.
+    // Where the entries run out in the middle, a crash leaves the value with windows joined that are due, all or some.
     ensures takes { Step (verdict_of_read result) (D.seen disk.old) (D.seen disk.new)
-        (TakesValue part.old part.new t v records.new result) }
+        (TakesValue part.old part.new t v records.old records.new result) }
     ensures same { IsSameStream part.old part.new }
-    ensures whole { OnOk result (KeepsAtRest part.old part.new records.old records.new (slot + 1)) }
+    ensures whole { OnOk result (KeepsWhole part.old part.new records.old records.new (slot + 1)) }
     ensures holds { OnOk result (HoldsUntil part.new (values_held (entries_of part.old) + 1) (Some t)) }
     ensures scheduled { OnOk result (IsScheduled part.new index.new) }
     ensures changed { ChangedIsHeld (verdict_of_read result) part.new }
 {
     put_value(records, disk, part, index, slot, t, v, steps)?;
-    stage_joins(records, disk, part, index, steps)?;
-    records.seal(disk)?;
-    Ok(())
+    stage_joins(records, disk, part, index, steps)
 }

@@ -4,6 +4,8 @@ ghost use Rattle.ss_catalog.specs.declared.event.Event.{Event};
 ghost use Rattle.ss_catalog.specs.declared.query.Query.{Query};
 ghost use Rattle.ss_journal.specs.Format.{is_unborn};
 ghost use Rattle.ss_line.specs.declared.entry.Entry.{Entry};
+ghost use Rattle.ss_journal.specs.Kept.{IsSealed};
+ghost use Rattle.ss_records.specs.Kept.{shown_by};
 ghost use Rattle.ss_records.specs.Live.{live_count};
 ghost use Rattle.ss_model.specs.Answers.{refuses_query};
 ghost use Rattle.ss_model.specs.Decay.{cover};
@@ -19,14 +21,15 @@ ghost use Rattle.ss_store.specs.Joining.{NoSpansAreDue};
 ghost use Rattle.ss_store.specs.Kept.{SomeAgree, StoreIsKept, StoreState, part_named, part_numbered, refuses_held};
 ghost use Rattle.ss_store.specs.Recover.{Recovers, Stands};
 
-/// What a store holds agrees with the state that its content stands for.
+/// What a store holds agrees with the state that its records show, which are those of the content where nothing is staged.
 pub fn what_is_kept_is_the_state()
     ensures state { (store : StoreState) (content : List ℕ) (streams : List Stream) → StoreIsKept store content →
-        Recovers streams content → AllAgree store.streams streams × IsState streams }
+        Recovers streams (shown_by store.records content) → AllAgree store.streams streams × IsState streams }
     ensures history { (store : StoreState) (content : List ℕ) (history : List Event) → StoreIsKept store content →
-        Stands history content → AllAgree store.streams (state history) × IsState (state history) }
+        Stands history (shown_by store.records content) → AllAgree store.streams (state history) × IsState (state history) }
     ensures recovers { (store : StoreState) (content : List ℕ) → StoreIsKept store content →
-        (streams : List Stream) × Recovers streams content × AllAgree store.streams streams × IsState streams }
+        (streams : List Stream) × Recovers streams (shown_by store.records content) × AllAgree store.streams streams × IsState streams }
+    ensures sealed { (store : StoreState) (content : List ℕ) → IsSealed store.records.journal → shown_by store.records content ≡ content }
 {}
 
 /// Streams that are held agree one by one, and are found alike, by name and by number.

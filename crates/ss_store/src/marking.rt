@@ -4,19 +4,20 @@ ghost use Rattle.ss_outside.specs.Disk.{OfContent};
 ghost use Rattle.ss_outside.specs.Step.{Step};
 ghost use Rattle.ss_outside.specs.Verdict.{verdict};
 ghost use Rattle.ss_journal.specs.declared.format.TheConstants.{MOST_SLOTS};
-ghost use Rattle.ss_records.specs.Kept.{AreAtRest, AreKept};
+ghost use Rattle.ss_journal.specs.Kept.{IsSettled};
+ghost use Rattle.ss_records.specs.Kept.{AreKept};
 ghost use Rattle.ss_codec.specs.Record.{is_valid};
 ghost use Rattle.ss_codec.specs.declared.record.Record.TheVariants.{Free};
 ghost use Rattle.ss_landmarks.specs.Landmark.{all_values};
 ghost use Rattle.ss_landmarks.specs.Landmarks.{IsState as AreKnown};
 ghost use Rattle.ss_model.specs.Marks.{later};
 ghost use Rattle.ss_recover.specs.Held.{mark_slots, slots_held};
-ghost use Rattle.ss_store.specs.Changing.{CanTakeMark, HasSameWindows, HasRoomFor, HasTakenMark, KeepsAtRest, TakesMark};
+ghost use Rattle.ss_store.specs.Changing.{CanTakeMark, HasSameWindows, HasRoomFor, HasTakenMark, KeepsWhole, TakesMark};
 ghost use Rattle.ss_store.specs.Marking.{CanMark, FitsMark, landmarks_after, mark_record, slots_after, slots_used, start_open, value_slots_after, values_open};
 ghost use Rattle.ss_store.specs.Slots.{AreSomeLive};
 
 use crate::place::number_of;
-use crate::writing::{add_record, replace_record};
+use crate::writing::{stage_record, stage_replaced};
 use ss_catalog::LAST_TIME;
 use ss_codec::Record;
 use ss_landmarks::{Landmarks, MOST_LANDMARK_SLOTS};
@@ -124,8 +125,8 @@ fn later(last_time: Option<u64>, t: u64) -> u64
     }
 }
 
-/// Opens a landmark of a stream, adds a value to the open one, or closes it, as one transaction. There is room for what is
-/// kept of it.
+/// Opens a landmark of a stream, adds a value to the open one, or closes it, and stages that as one transaction. There is room
+/// for what is kept of it.
 pub fn put_mark<D: Disk>(
     records: &mut Records,
     disk: &mut D,
@@ -134,24 +135,23 @@ pub fn put_mark<D: Disk>(
     t: u64,
     mark: Mark,
 ) -> Result<(), Failed>
-    requires at_rest { AreAtRest records.old }
+    requires settled { IsSettled records.old.journal }
     requires can { CanTakeMark records.old part.old slot t mark }
     requires time { t ≤ LAST_TIME }
     requires live { AreSomeLive (slots_held part.old) records.old.live }
     requires one_disk { OfContent (D.seen disk.old) (AreKept records.old) }
-    // A crash leaves the stream from before, or after the mark.
     ensures takes { Step (verdict result) (D.seen disk.old) (D.seen disk.new)
-        (TakesMark part.old part.new t mark records.new result) }
+        (TakesMark part.old part.new t mark records.old records.new result) }
     ensures fits { FitsMark mark }
     ensures same { HasSameWindows part.old part.new }
     ensures taken { OnOk result (HasTakenMark part.old part.new t mark) }
-    ensures whole { OnOk result (KeepsAtRest part.old part.new records.old records.new (slots_used mark slot)) }
+    ensures whole { OnOk result (KeepsWhole part.old part.new records.old records.new (slots_used mark slot)) }
     ensures err { OnErr result (part.new ≡ part.old) }
 {
     let written = record_of(part, t, mark);
     match mark {
-        Mark::Open | Mark::Value(_) => add_record(records, disk, slot, &written)?,
-        Mark::Close => replace_record(records, disk, slot, &written)?,
+        Mark::Open | Mark::Value(_) => stage_record(records, disk, slot, &written)?,
+        Mark::Close => stage_replaced(records, disk, slot, &written)?,
     }
     take_mark(&mut part.landmarks, slot, t, mark);
     part.last_time = Some(later(part.last_time, t));

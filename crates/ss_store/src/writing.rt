@@ -5,12 +5,12 @@ ghost use Rattle.ss_outside.specs.Step.{Step};
 ghost use Rattle.ss_outside.specs.Verdict.{verdict};
 ghost use Rattle.ss_journal.specs.Kept.{IsSettled};
 ghost use Rattle.ss_journal.specs.declared.format.TheConstants.{MOST_SLOTS};
-ghost use Rattle.ss_records.specs.Kept.{AreAtRest, AreKept};
+ghost use Rattle.ss_records.specs.Kept.{AreKept};
 ghost use Rattle.ss_records.specs.Live.{lowest_free};
 ghost use Rattle.ss_codec.specs.Record.{is_valid};
 ghost use Rattle.ss_codec.specs.declared.record.Record.TheVariants.{Free};
 ghost use Rattle.ss_store.specs.Changing.{Makes};
-ghost use Rattle.ss_store.specs.Slots.{AddsRecord, AreSomeLive, LiveSlotsGo, Replaces, StagesRecord, StagesTwo, pair_put, record_put};
+ghost use Rattle.ss_store.specs.Slots.{AreSomeLive, LiveSlotsGo, StagesRecord, StagesReplaced, StagesTwo, pair_put, record_put};
 
 use ss_codec::{Record, SLOT_SIZE, encode};
 use ss_journal::{MOST_SLOTS, Put, Txn};
@@ -28,52 +28,6 @@ fn put_of(slot: u32, written: &Record) -> Txn
         bytes: encode(written),
     });
     txn
-}
-
-/// Puts a record into the lowest free slot.
-pub fn add_record<D: Disk>(
-    records: &mut Records,
-    disk: &mut D,
-    slot: u32,
-    written: &Record,
-) -> Result<(), Failed>
-    requires at_rest { AreAtRest records.old }
-    requires valid { IsTrue (is_valid written.now) }
-    requires some { written.now ≢ Free }
-    requires free { lowest_free records.old.live ≡ Some slot }
-    requires one_disk { OfContent (D.seen disk.old) (AreKept records.old) }
-    ensures adds { Step (verdict result) (D.seen disk.old) (D.seen disk.new)
-        (Makes (AddsRecord slot written.now result) records.new result) }
-    ensures at_rest { OnOk result (AreAtRest records.new) }
-    ensures live { OnOk result (LiveSlotsGo [] (slot ∷ []) records.old.live records.new.live) }
-    ensures extent { OnOk result (records.new.journal.extent ≤ max records.old.journal.extent (slot + 1)) }
-    ensures err { OnErr result (records.new.live ≡ records.old.live) }
-{
-    prove!(records.lowest_free() == Some(slot));
-    records.apply(disk, &put_of(slot, written))
-}
-
-/// Puts a record in place of another.
-pub fn replace_record<D: Disk>(
-    records: &mut Records,
-    disk: &mut D,
-    slot: u32,
-    written: &Record,
-) -> Result<(), Failed>
-    requires at_rest { AreAtRest records.old }
-    requires valid { IsTrue (is_valid written.now) }
-    requires some { written.now ≢ Free }
-    requires live { AreSomeLive (slot ∷ []) records.old.live }
-    requires one_disk { OfContent (D.seen disk.old) (AreKept records.old) }
-    ensures replaces { Step (verdict result) (D.seen disk.old) (D.seen disk.new)
-        (Makes (Replaces slot written.now result) records.new result) }
-    ensures at_rest { OnOk result (AreAtRest records.new) }
-    ensures live { records.new.live ≡ records.old.live }
-    ensures extent { OnOk result (records.new.journal.extent ≡ records.old.journal.extent) }
-{
-    // The records are sound: each slot that is live lies below the extent.
-    prove!(records.live() <= MOST_SLOTS);
-    records.apply(disk, &put_of(slot, written))
 }
 
 /// Stages a record for the lowest free slot.
@@ -96,6 +50,31 @@ pub fn stage_record<D: Disk>(
     ensures err { OnErr result (records.new.live ≡ records.old.live) }
 {
     prove!(records.lowest_free() == Some(slot));
+    records.make_room(disk)?;
+    records.stage(&put_of(slot, written));
+    Ok(())
+}
+
+/// Stages a record in place of another.
+pub fn stage_replaced<D: Disk>(
+    records: &mut Records,
+    disk: &mut D,
+    slot: u32,
+    written: &Record,
+) -> Result<(), Failed>
+    requires settled { IsSettled records.old.journal }
+    requires valid { IsTrue (is_valid written.now) }
+    requires some { written.now ≢ Free }
+    requires live { AreSomeLive (slot ∷ []) records.old.live }
+    requires one_disk { OfContent (D.seen disk.old) (AreKept records.old) }
+    ensures stages { Step (verdict result) (D.seen disk.old) (D.seen disk.new)
+        (Makes (StagesReplaced slot written.now records.old records.new result) records.new result) }
+    ensures settled { OnOk result (IsSettled records.new.journal) }
+    ensures live { records.new.live ≡ records.old.live }
+    ensures extent { OnOk result (records.new.journal.extent ≡ records.old.journal.extent) }
+{
+    // The records are sound: each slot that is live lies below the extent.
+    prove!(records.live() <= MOST_SLOTS);
     records.make_room(disk)?;
     records.stage(&put_of(slot, written));
     Ok(())

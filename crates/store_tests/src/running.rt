@@ -5,7 +5,7 @@ ghost use Rattle.ss_catalog.specs.Events.{IsInTime};
 use crate::silent::Silent;
 use ss_catalog::{Event, Kind, LAST_TIME, Name, Params, Query, Refusal};
 use ss_model::Outcome;
-use ss_outside::MemDisk;
+use ss_outside::{Failed, MemDisk};
 use ss_store::{ApplyError, AskError, OpenError, Store, Survey};
 use std::alloc::{AllocError, Global};
 
@@ -92,8 +92,11 @@ fn event_of(letter: u8, asked: Asked) -> Option<Event>
 fn applied(running: &mut Running, event: &Event) -> Answer
     requires { IsInTime event.now }
 {
-    let ack = running.store.apply(&mut running.disk, event)?;
-    Ok((ack.n, ack.k))
+    let ack = running.store.stage(&mut running.disk, event)?;
+    match running.store.seal(&mut running.disk) {
+        Ok(()) => Ok((ack.n, ack.k)),
+        Err(Failed) => Err(ApplyError::Disk),
+    }
 }
 
 /// What an event is answered. `None` is for what is no event, and for a call of the disk where the event is refused or the store
@@ -160,7 +163,8 @@ pub fn told(running: &mut Running, question: Question) -> Option<Result<Outcome,
     }
 }
 
-/// The first and the last position of the oldest window of `a`, or of the one after it. `None` is for no such window.
+/// The first and the last position of the oldest window of `a`, or of the one after it. `None` is for no such window, and for a
+/// call of the disk where the store has stopped.
 pub fn window_read(running: &mut Running, is_second: bool) -> Option<Result<(u64, u64), AskError>> {
     let name = Name::of(b"a")?;
     let id = running.store.find(&name)?;
@@ -170,8 +174,10 @@ pub fn window_read(running: &mut Running, is_second: bool) -> Option<Result<(u64
     } else {
         first
     };
+    let before = running.disk.calls();
     match running.store.window_read(&mut running.disk, id, at) {
         Ok(placed) => Some(Ok((placed.first, placed.last))),
+        Err(AskError::Stopped) if running.disk.calls() != before => None,
         Err(error) => Some(Err(error)),
     }
 }

@@ -6,10 +6,10 @@ use crate::running::{
     DOUBLING, Held, Row, Running, answered, empty, fresh, held, opened, play, reopen,
 };
 use crate::silent::Silent;
-use crate::steps::Step::{self, Apply, Crash, Fresh, Holds, Stop};
+use crate::steps::Step::{self, Apply, Counts, Crash, Fresh, Holds, Reads, Stop};
 use crate::steps::first_wrong;
 use ss_outside::Choice;
-use ss_store::{ApplyError, OpenError};
+use ss_store::{ApplyError, AskError, OpenError};
 use std::alloc::Global;
 use std::test::Fail;
 
@@ -140,4 +140,21 @@ const TORN: [Step; 16] = [
 #[test]
 fn a_torn_gate_leaves_either(rt: HostRuntime) -> Result<(), Fail> {
     pass(first_wrong(rt.alloc(), &TORN)?)
+}
+
+// Once the disk has failed under an append, no call of the store calls it again.
+const STOPPED: [Step; 8] = [
+    Fresh,
+    Apply(b'a', Create(DOUBLING), Ok((0, 0))),
+    Apply(b'a', Value(10, 5), Ok((1, 1))),
+    Stop(0),
+    Apply(b'a', Value(20, 8), Err(ApplyError::Disk)),
+    Apply(b'a', Value(20, 8), Err(ApplyError::Stopped)),
+    Counts(Err(AskError::Stopped)),
+    Reads(false, Err(AskError::Stopped)),
+];
+
+#[test]
+fn a_failed_append_stops_the_store(rt: HostRuntime) -> Result<(), Fail> {
+    pass(first_wrong(rt.alloc(), &STOPPED)?)
 }

@@ -1,4 +1,4 @@
-// Applying a value outside landmarks.
+// Staging a value outside landmarks.
 use super::Store;
 use super::times::is_past;
 use crate::ApplyError;
@@ -54,8 +54,8 @@ impl Store {
         }
     }
 
-    // Applies a value outside landmarks.
-    pub(super) fn apply_value<D: Disk, L: Ledger>(
+    // Stages a value outside landmarks.
+    pub(super) fn stage_value<D: Disk, L: Ledger>(
         &mut self,
         disk: &mut D,
         name: &Name,

@@ -3,54 +3,105 @@ use super::Store;
 use crate::ApplyError;
 use crate::marking::Mark;
 use crate::place::place_of;
-use ss_catalog::{Event, Name, Refusal};
+use ss_catalog::{Event, Name};
 use ss_model::Ack;
-use ss_outside::Disk;
+use ss_outside::{Disk, Failed};
 use std::marker::Brand;
 use std::sync::ledger::Blank;
 
 impl Store {
-    ghost use Rattle.std.specs.Prelude.{◌≡◌, ◌↔◌, true, false, Err};
-    ghost use Rattle.ss_outside.specs.Disk.{Between};
-    ghost use Rattle.ss_outside.specs.Verdict.{IfUndone};
+    ghost use Rattle.std.specs.Prelude.{◌≡◌, ◌↔◌, true, false, map, Err, OnOk, OnErr};
+    ghost use Rattle.ss_outside.specs.Disk.{Between, OfContent};
+    ghost use Rattle.ss_outside.specs.Step.{Step};
+    ghost use Rattle.ss_outside.specs.Verdict.{IfUndone, OnFailed, verdict};
     ghost use Rattle.ss_catalog.specs.Events.{IsInTime};
+    ghost use Rattle.ss_journal.specs.Calls.{HasSealed};
+    ghost use Rattle.ss_journal.specs.Kept.{IsSealed};
     ghost use Rattle.ss_model.specs.Marks.{has_open};
-    ghost use Rattle.ss_store.specs.Applied.{Applies, StandsOn};
-    ghost use Rattle.ss_store.specs.Calls.{AddsEvent};
+    ghost use Rattle.ss_store.specs.Applied.{Applies, SealsStore, StandsOn};
+    ghost use Rattle.ss_store.specs.Calls.{AddsEvent, StagesEvent};
     ghost use Rattle.ss_store.specs.Errors.{verdict_of_apply};
-    ghost use Rattle.ss_store.specs.Kept.{of_part};
+    ghost use Rattle.ss_store.specs.Kept.{StoreIsKept, is_of_landmark, of_part, without_spare};
 
     /// Applies an event, and answers what is replied to it. A crash at any moment of the call leaves the history from before
     /// or the history with the event, and after `Ok` the history with the event. A refusal is the first that applies, and
     /// memory is asked for after all refusals and before the first write; either leaves the store and the disk as they were.
+    /// Nothing is staged before the call or after it.
     pub fn apply<D: Disk>(&mut self, disk: &mut D, event: &Event) -> Result<Ack, ApplyError>
         requires in_time { IsInTime event.now }
         requires one_disk { StandsOn self.old (D.seen disk.old) }
+        requires sealed { self.old.stopped ≡ false → IsSealed self.old.records.journal }
         // Stopped comes first, exactly where the store had stopped, and changes nothing.
         ensures stopped { (result ≡ Err ApplyError.Stopped) ↔ (self.old.stopped ≡ true) }
         ensures idle { self.old.stopped ≡ true → self.new ≡ self.old }
         ensures applies { self.old.stopped ≡ false → Applies event.now self.old self.new (D.seen disk.old) (D.seen disk.new) result }
+        ensures sealed { self.new.stopped ≡ false → IsSealed self.new.records.journal }
         // The event is added to the history that the disk stands for, wholly or not at all, also in a crash.
         ensures history { self.old.stopped ≡ false → Between (D.seen disk.old) (D.seen disk.new) (AddsEvent event.now result) }
+        ensures uncalled { IfUndone (verdict_of_apply result) (disk.new ≡ disk.old) }
+    {
+        let ack = self.stage(disk, event)?;
+        match self.seal(disk) {
+            Ok(()) => Ok(ack),
+            Err(Failed) => Err(ApplyError::Disk),
+        }
+    }
+
+    /// Stages an event, and answers what is replied to it: the store shows it from now on, and `seal` brings it to the disk, with
+    /// all that were staged before. Until then a crash leaves a history that stood there before. Where the journal's entries run out
+    /// in the middle, what is staged so far is sealed. Errors come as those of `apply`, and leave what they leave there.
+    pub fn stage<D: Disk>(&mut self, disk: &mut D, event: &Event) -> Result<Ack, ApplyError>
+        requires in_time { IsInTime event.now }
+        requires one_disk { StandsOn self.old (D.seen disk.old) }
+        ensures stopped { (result ≡ Err ApplyError.Stopped) ↔ (self.old.stopped ≡ true) }
+        ensures idle { self.old.stopped ≡ true → self.new ≡ self.old }
+        ensures applies { self.old.stopped ≡ false → Applies event.now self.old self.new (D.seen disk.old) (D.seen disk.new) result }
+        // The event comes after the history that is shown, wholly or not at all, also in a crash.
+        ensures history { self.old.stopped ≡ false →
+            Between (D.seen disk.old) (D.seen disk.new) (StagesEvent event.now self.old.records self.new.records result) }
+        // An event of landmarks that fails leaves the streams as they were, but for the room to spare.
+        ensures failed { is_of_landmark self.old.streams event.now ≡ true →
+            OnFailed (verdict_of_apply result) (map without_spare self.new.streams ≡ map without_spare self.old.streams) }
         ensures uncalled { IfUndone (verdict_of_apply result) (disk.new ≡ disk.old) }
     {
         if self.stopped {
             return Err(ApplyError::Stopped);
         }
         match *event {
-            Event::Create { name, params } => self.apply_create(disk, name, params),
+            Event::Create { name, params } => self.stage_create(disk, name, params),
             Event::Value { name, t, v } => {
                 if self.has_open(&name) {
-                    self.apply_mark::<D, Brand>(disk, &name, t, Mark::Value(v), Blank::new(1))
+                    self.stage_mark::<D, Brand>(disk, &name, t, Mark::Value(v), Blank::new(1))
                 } else {
-                    self.apply_value::<D, Brand>(disk, &name, t, v, Blank::new(1))
+                    self.stage_value::<D, Brand>(disk, &name, t, v, Blank::new(1))
                 }
             }
             Event::Open { name, t } => {
-                self.apply_mark::<D, Brand>(disk, &name, t, Mark::Open, Blank::new(1))
+                self.stage_mark::<D, Brand>(disk, &name, t, Mark::Open, Blank::new(1))
             }
             Event::Close { name, t } => {
-                self.apply_mark::<D, Brand>(disk, &name, t, Mark::Close, Blank::new(1))
+                self.stage_mark::<D, Brand>(disk, &name, t, Mark::Close, Blank::new(1))
+            }
+        }
+    }
+
+    /// Brings all staged events to the disk together. A crash at any moment of the call leaves a history that stood there before,
+    /// or the one that is shown, and after `Ok` the latter. After an error the store has stopped.
+    pub fn seal<D: Disk>(&mut self, disk: &mut D) -> Result<(), Failed>
+        requires runs { self.old.stopped ≡ false }
+        requires one_disk { OfContent (D.seen disk.old) (StoreIsKept self.old) }
+        ensures seals { Step (verdict result) (D.seen disk.old) (D.seen disk.new) (SealsStore self.old self.new result) }
+        ensures sealed { OnOk result (HasSealed self.old.records.journal self.new.records.journal) }
+        ensures runs { OnOk result (self.new.stopped ≡ false) }
+        ensures stops { OnErr result (self.new.stopped ≡ true) }
+        ensures streams { self.new.streams ≡ self.old.streams }
+        ensures live { self.new.records.live ≡ self.old.records.live }
+    {
+        match self.records.seal(disk) {
+            Ok(()) => Ok(()),
+            Err(failed) => {
+                self.stopped = true;
+                Err(failed)
             }
         }
     }

@@ -1,14 +1,58 @@
 // Answering a query.
+ghost use Rattle.std.specs.Prelude.{◌≡◌, ◌+◌, ◌*◌, ◌<◌, ◌≤◌, All, IfOk};
+ghost use Rattle.std.specs.List.{Contains};
+ghost use Rattle.ss_outside.specs.Disk.{OfContent};
+ghost use Rattle.ss_outside.specs.Step.{Step};
+ghost use Rattle.ss_outside.specs.Verdict.{IfChanged};
+ghost use Rattle.ss_journal.specs.Kept.{IsRunning};
+ghost use Rattle.ss_journal.specs.declared.format.TheConstants.{MOST_SLOTS};
+ghost use Rattle.ss_model.specs.Answers.{IsOfKind};
+ghost use Rattle.ss_query.specs.Answered.{AnswersStream, begun_in, window_slots_of};
+ghost use Rattle.ss_query.specs.Reading.{KeepsRecords, verdict_of_read};
+ghost use Rattle.ss_records.specs.Kept.{AreKept};
+ghost use Rattle.ss_recover.specs.Held.{RiseToLast};
+ghost use Rattle.ss_store.specs.Indexed.{IsTimed};
+
 use super::Store;
 use crate::AskError;
+use crate::index::Index;
 use crate::place::place_of;
 use ss_catalog::{Query, Refusal, StreamId};
 use ss_model::Outcome;
 use ss_outside::Disk;
-use ss_query::answer_from;
+use ss_query::{ReadError, answer_from};
+use ss_records::Records;
+use ss_recover::StreamParts;
 use ss_steps::Steps;
 use std::marker::Brand;
 use std::sync::ledger::{Blank, Ledger};
+
+// What a stream answers to a query, from where its index says that the range begins.
+fn answer_indexed<D: Disk, L: Ledger>(
+    part: &StreamParts,
+    index: &Index,
+    records: &mut Records,
+    disk: &mut D,
+    query: &Query,
+    steps: &mut Steps<L>,
+) -> Result<Outcome, ReadError>
+    requires timed { IsTimed part.now.line.entries index.now.times }
+    requires times { RiseToLast part.now }
+    requires order { query.now.from ≤ query.now.to }
+    requires running { IsRunning records.old.journal }
+    requires slots { All (λ slot. slot < MOST_SLOTS) (window_slots_of part.now) }
+    requires one_disk { OfContent (D.seen disk.old) (AreKept records.old) }
+    ensures answers { Step (verdict_of_read result) (D.seen disk.old) (D.seen disk.new)
+        (AnswersStream part.now query.now records.old records.new result) }
+    ensures kind { IfOk result (IsOfKind query.now.kind) }
+    ensures changed { IfChanged (verdict_of_read result) (Contains (window_slots_of part.now)) }
+    ensures records { KeepsRecords (verdict_of_read result) records.old records.new }
+    // It looks at the line twice for each window that begins in the range, and at most three times besides.
+    ensures looks { steps.new ≤ steps.old + 2 * begun_in query.now.from query.now.to part.now.line.entries + 3 }
+{
+    let start = index.start(part, query.from);
+    answer_from(part, start, records, disk, query, steps)
+}
 
 impl Store {
     ghost use Rattle.std.specs.Prelude.{◌≡◌, ◌≢◌, ◌≤◌, ◌↔◌, true, false, Some, IsSome, IfOk, IfSome, OnOk, IfErr, Err, None};
@@ -29,8 +73,8 @@ impl Store {
     /// memory. A refusal is the first that applies, and makes no call of the disk.
     pub fn ask<D: Disk>(&mut self, disk: &mut D, query: &Query) -> Result<Outcome, AskError>
         requires one_disk { StandsOn self.old (D.seen disk.old) }
-        // The answer of the state that the content recovers to. It holds the truth over all values of the stream.
-        ensures answers { Step (verdict_of_ask result) (D.seen disk.old) (D.seen disk.new) (Answers query.now result) }
+        // The answer of the state that is shown, with what is staged. It holds the truth over all values of the stream.
+        ensures answers { Step (verdict_of_ask result) (D.seen disk.old) (D.seen disk.new) (Answers self.old.records query.now result) }
         ensures looks { Looks (verdict_of_ask result) self.old self.new (D.seen disk.old) (D.seen disk.new) }
         // Over every disk it is to what was asked for.
         ensures kind { IfOk result (IsOfKind query.now.kind) }
@@ -85,7 +129,7 @@ impl Store {
         requires same { part_numbered id.0 self.old.streams ≡ part_named query.now.name self.old.streams }
         requires runs { self.old.stopped ≡ false }
         requires one_disk { OfContent (D.seen disk.old) (StoreIsKept self.old) }
-        ensures answers { Step (verdict_of_ask result) (D.seen disk.old) (D.seen disk.new) (Answers query.now result) }
+        ensures answers { Step (verdict_of_ask result) (D.seen disk.old) (D.seen disk.new) (Answers self.old.records query.now result) }
         ensures looks { Looks (verdict_of_ask result) self.old self.new (D.seen disk.old) (D.seen disk.new) }
         ensures kind { IfOk result (IsOfKind query.now.kind) }
         ensures changed { IfChanged (verdict_of_ask result) (λ slot. IfSome (part_named query.now.name self.old.streams) (λ part.
@@ -95,10 +139,15 @@ impl Store {
     {
         let _live = self.records.live();
         let place = place_of(&self.streams, id);
-        let stream = &self.streams[place];
-        let start = self.indexes[place].start(stream, query.from);
         let mut steps = Steps::<L>::new(blank);
-        match answer_from(stream, start, &mut self.records, disk, query, &mut steps) {
+        match answer_indexed(
+            &self.streams[place],
+            &self.indexes[place],
+            &mut self.records,
+            disk,
+            query,
+            &mut steps,
+        ) {
             Ok(outcome) => Ok(outcome),
             Err(error) => {
                 self.stopped = true;

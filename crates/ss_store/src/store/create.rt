@@ -1,4 +1,4 @@
-// Applying the creation of a stream.
+// Staging the creation of a stream.
 ghost use Rattle.std.specs.Prelude.{◌≡◌, ◌∷◌, ◌++◌, [], IsTrue, OnOk, OnErr};
 ghost use Rattle.ss_codec.specs.Record.{is_valid};
 ghost use Rattle.ss_codec.specs.declared.record.Record.TheVariants as record_kinds;
@@ -8,7 +8,7 @@ use super::Store;
 use crate::ApplyError;
 use crate::index::Index;
 use crate::place::next_id;
-use crate::writing::add_record;
+use crate::writing::stage_record;
 use ss_catalog::{Catalog, Name, Params, Refusal, StreamId};
 use ss_codec::Record;
 use ss_landmarks::Landmarks;
@@ -96,8 +96,8 @@ impl Store {
         }
     }
 
-    // Applies the creation of a stream.
-    pub(super) fn apply_create<D: Disk>(
+    // Stages the creation of a stream.
+    pub(super) fn stage_create<D: Disk>(
         &mut self,
         disk: &mut D,
         name: Name,
@@ -135,7 +135,7 @@ impl Store {
             Ok(()) => {}
             Err(_) => return Err(ApplyError::OutOfMemory),
         }
-        match add_record(
+        match stage_record(
             &mut self.records,
             disk,
             slot,

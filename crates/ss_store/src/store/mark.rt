@@ -1,4 +1,4 @@
-// Applying an event of a landmark.
+// Staging an event of a landmark.
 ghost use Rattle.std.specs.Prelude.{◌≡◌, IfSome, IfNone, Some, None};
 ghost use Rattle.ss_store.specs.Marking.{mark_refusal};
 
@@ -37,16 +37,16 @@ fn refuses(stream: &StreamParts, t: u64, mark: Mark) -> Option<Refusal>
 }
 
 impl Store {
-    ghost use Rattle.std.specs.Prelude.{◌≡◌, ◌≢◌, ◌+◌, ◌≤◌, true, false, length, flat_map, Some, IsNone, IfOk, IfSome, OnOk, IfErr, Err, None};
+    ghost use Rattle.std.specs.Prelude.{◌≡◌, ◌≢◌, ◌+◌, ◌≤◌, true, false, length, flat_map, map, Some, IsNone, IfOk, IfSome, OnOk, IfErr, Err, None};
     ghost use Rattle.ss_outside.specs.Disk.{OfContent};
-    ghost use Rattle.ss_outside.specs.Verdict.{IfUndone};
+    ghost use Rattle.ss_outside.specs.Verdict.{IfUndone, OnFailed};
     ghost use Rattle.ss_catalog.specs.declared.refusal.Refusal.{Refusal};
     ghost use Rattle.ss_model.specs.Marks.{has_open};
     ghost use Rattle.ss_recover.specs.Held.{slots_held};
     ghost use Rattle.ss_store.specs.Admitted.{IsMarker};
     ghost use Rattle.ss_store.specs.Applied.{Applies};
     ghost use Rattle.ss_store.specs.Errors.{verdict_of_apply};
-    ghost use Rattle.ss_store.specs.Kept.{StoreIsKept, has_all_slots, of_part, refuses_held};
+    ghost use Rattle.ss_store.specs.Kept.{StoreIsKept, has_all_slots, of_part, refuses_held, without_spare};
     ghost use Rattle.ss_store.specs.Marking.{IsClosing, IsInOpen, IsItsSlot, event_of, slot_refusal, slots_used};
     ghost use Rattle.ss_steps.specs.Steps.{IsFresh};
 
@@ -91,8 +91,8 @@ impl Store {
         }
     }
 
-    // Applies an event of a landmark: it opens, takes a value, or closes.
-    pub(super) fn apply_mark<D: Disk, L: Ledger>(
+    // Stages an event of a landmark: it opens, takes a value, or closes.
+    pub(super) fn stage_mark<D: Disk, L: Ledger>(
         &mut self,
         disk: &mut D,
         name: &Name,
@@ -106,6 +106,7 @@ impl Store {
         requires marked { IsInOpen what → of_part name.now self.old.streams (λ part. has_open part.landmarks.landmarks) ≡ true }
         requires one_disk { OfContent (D.seen disk.old) (StoreIsKept self.old) }
         ensures applies { Applies (event_of name.now t what) self.old self.new (D.seen disk.old) (D.seen disk.new) result }
+        ensures failed { OnFailed (verdict_of_apply result) (map without_spare self.new.streams ≡ map without_spare self.old.streams) }
         ensures running { result ≢ Err ApplyError.Stopped }
         ensures uncalled { IfUndone (verdict_of_apply result) (disk.new ≡ disk.old) }
     {

@@ -13,6 +13,7 @@ impl Store {
     ghost use Rattle.std.specs.Prelude.{◌≡◌, ◌<◌, false, IfOk};
     ghost use Rattle.ss_outside.specs.Step.{Step};
     ghost use Rattle.ss_outside.specs.Verdict.{IfChanged};
+    ghost use Rattle.ss_journal.specs.Kept.{IsSealed};
     ghost use Rattle.ss_journal.specs.declared.format.TheConstants.{MOST_SLOTS};
     ghost use Rattle.ss_steps.specs.Steps.{IsFresh};
     ghost use Rattle.ss_store.specs.Applied.{OpensStore};
@@ -23,7 +24,7 @@ impl Store {
     pub fn open<D: Disk>(alloc: Global, disk: &mut D) -> Result<Store, OpenError>
         // The streams that the content recovers to, or why it recovers to none; and nothing is written before that is known.
         ensures opens { Step (verdict_of_opening result) (D.seen disk.old) (D.seen disk.new) (OpensStore result) }
-        ensures runs { IfOk result (λ store. store.stopped ≡ false) }
+        ensures runs { IfOk result (λ store. (store.stopped ≡ false) × IsSealed store.records.journal) }
     {
         Store::open_in::<D, Brand>(alloc, disk, Blank::new(1))
     }
@@ -36,7 +37,7 @@ impl Store {
     ) -> Result<Store, OpenError>
         requires { IsFresh L.name L.parts blank }
         ensures opens { Step (verdict_of_opening result) (D.seen disk.old) (D.seen disk.new) (OpensStore result) }
-        ensures runs { IfOk result (λ store. store.stopped ≡ false) }
+        ensures runs { IfOk result (λ store. (store.stopped ≡ false) × IsSealed store.records.journal) }
     {
         let (mut records, mut streams) = read_all(alloc, disk)?;
         let catalog = catalog_of(alloc, &streams)?;

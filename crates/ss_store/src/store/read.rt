@@ -35,8 +35,8 @@ impl Store {
         requires stands { IsSome (part_numbered id.0 self.old.streams) }
         requires at { IfSome (part_numbered id.0 self.old.streams) (λ part. StandsIn part.line.entries at) }
         requires one_disk { StandsOn self.old (D.seen disk.old) }
-        // The window of the state that the content recovers to.
-        ensures shows { Step (verdict_of_ask result) (D.seen disk.old) (D.seen disk.new) (ShowsWindow id.0 at self.old.streams result) }
+        // The window of the state that is shown, with what is staged.
+        ensures shows { Step (verdict_of_ask result) (D.seen disk.old) (D.seen disk.new) (ShowsWindow id.0 at self.old result) }
         ensures looks { Looks (verdict_of_ask result) self.old self.new (D.seen disk.old) (D.seen disk.new) }
         // Over every disk it has the positions that are held, and as many values as they say.
         ensures positions { IfSome (part_numbered id.0 self.old.streams) (λ part. IfSome (entry_at part.line.entries at) (λ entry.
@@ -84,7 +84,7 @@ impl Store {
         requires at { IfSome (part_numbered id.0 self.old.streams) (λ part. StandsIn part.line.entries at) }
         requires runs { self.old.stopped ≡ false }
         requires one_disk { OfContent (D.seen disk.old) (StoreIsKept self.old) }
-        ensures shows { Step (verdict_of_ask result) (D.seen disk.old) (D.seen disk.new) (ShowsWindow id.0 at self.old.streams result) }
+        ensures shows { Step (verdict_of_ask result) (D.seen disk.old) (D.seen disk.new) (ShowsWindow id.0 at self.old result) }
         ensures looks { Looks (verdict_of_ask result) self.old self.new (D.seen disk.old) (D.seen disk.new) }
         ensures positions { IfSome (part_numbered id.0 self.old.streams) (λ part. IfSome (entry_at part.line.entries at) (λ entry.
             IfOk result (λ placed. (placed.first ≡ entry.first) × (placed.last ≡ entry.last)

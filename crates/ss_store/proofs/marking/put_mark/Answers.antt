@@ -7,20 +7,20 @@ use Rattle.ss_landmarks.proofs.TimeLemmas.{AllEndBy-later}
 use Rattle.ss_recover.specs.Held.{entries_of}
 use Rattle.ss_recover.specs.declared.parts.StreamParts.{StreamParts}
 use Rattle.ss_store.specs.Held.{IsOrdered}
-use Rattle.ss_store.specs.Changing.{KeepsAtRest}
+use Rattle.ss_store.specs.Changing.{KeepsWhole}
 use Rattle.ss_query.specs.Held.{IsHeldIn}
-use Rattle.ss_store.specs.Marking.{IsMarkedOrNot, landmarks_after, slots_used, with_mark}
-use Rattle.ss_store.proofs.Calls.{Turns-answers, Turns-failed}
+use Rattle.ss_store.specs.Marking.{landmarks_after, slots_used, with_mark}
+use Rattle.ss_store.proofs.ShownCalls.{TurnsShown-answers, TurnsShown-failed}
 use Rattle.ss_store.proofs.Marked.{IsMarked}
 use Rattle.ss_store.proofs.MarkedCalls.{AreSomeLive-last, FitsMark-valid, IsAdding-is, IsLastSlot-is, IsMarked-marked_part, LiveSlotsGo-mark_added}
 use Rattle.ss_store.proofs.MarkedCalls.{LiveSlotsGo-mark_closed, Turns-added, Turns-closed, marked_part, slots_used-adding}
 use Rattle.ss_store.proofs.OpenMarks.{AllEndBy-after}
 use Rattle.ss_store.proofs.Rising.{no-earlier, rise-later}
 use Rattle.ss_store.proofs.marking.put_mark.Goals as goal
-use Rattle.ss_store.proofs.marking.put_mark.Goals.{in-Open+in_ok-add_record-in-Open, in-Close+in_ok-replace_record-in-Close}
+use Rattle.ss_store.proofs.marking.put_mark.Goals.{in-Open+in_ok-stage_record-in-Open, in-Close+in_ok-stage_replaced-in-Close}
 
-pub returns-in_err-add_record-in-Open-clause-takes : goal.returns-in_err-add_record-in-Open-clause-takes
-returns-in_err-add_record-in-Open-clause-takes g c =
+pub returns-in_err-stage_record-in-Open-clause-takes : goal.returns-in_err-stage_record-in-Open-clause-takes
+returns-in_err-stage_record-in-Open-clause-takes g c =
     let part = c.args.part.now in
     let slot = c.args.slot in
     let t = c.args.t in
@@ -32,23 +32,23 @@ returns-in_err-add_record-in-Open-clause-takes g c =
     let marked = IsMarked-marked_part part slot t mark written.known can.can valid c.requires.time can.room can.value_room in
     let p = err_from_is_err_and c.from_residual.result c.from_residual.ensures.1 in
     rw (p.1, p.2)
-    (step-as c.in_err-add_record-in-Open.ensures.adds (λ made. record {
+    (step-as c.in_err-stage_record-in-Open.ensures.stages (λ made. record {
       turns = λ others s.
-          Turns-failed (IsHeldIn others part s) (IsMarkedOrNot others part s t mark) (IsHeldIn others new (with_mark s t mark)) _ _ _ _ _ refl
-          (Turns-added part new slot t mark marked can.can can.accepted c.requires.time valid others s _ _ _ (IsAdding-is mark c.in-Open.is)
+          TurnsShown-failed _ _ _ (IsHeldIn others part s) (IsHeldIn others part s) (IsHeldIn others new (with_mark s t mark)) _ _ _ _ _ refl
+          (Turns-added part new slot t mark marked can.can can.accepted c.requires.time valid others s _ _ _ _ _ (IsAdding-is mark c.in-Open.is)
           (rw written.value at made.changes));
       firm = λ others s held. tt;
       kept = tt;
     }))
 
-pub replace_record-requires-clause-live : goal.replace_record-requires-clause-live
-replace_record-requires-clause-live g c =
+pub stage_replaced-requires-clause-live : goal.stage_replaced-requires-clause-live
+stage_replaced-requires-clause-live g c =
     let last = IsLastSlot-is c.args.part.now c.args.slot c.args.t c.args.records.now.live c.args.mark c.in-Close.is c.record_of-written.ensures.known
     c.requires.can.can c.requires.can.in_slot in
     AreSomeLive-last c.args.part.now c.args.slot c.args.records.now.live last c.requires.live
 
-pub returns-in_err-replace_record-in-Close-clause-takes : goal.returns-in_err-replace_record-in-Close-clause-takes
-returns-in_err-replace_record-in-Close-clause-takes g c =
+pub returns-in_err-stage_replaced-in-Close-clause-takes : goal.returns-in_err-stage_replaced-in-Close-clause-takes
+returns-in_err-stage_replaced-in-Close-clause-takes g c =
     let part = c.args.part.now in
     let slot = c.args.slot in
     let t = c.args.t in
@@ -59,12 +59,12 @@ returns-in_err-replace_record-in-Close-clause-takes g c =
     let new = marked_part part slot t mark in
     let marked = IsMarked-marked_part part slot t mark written.known can.can valid c.requires.time can.room can.value_room in
     let last = IsLastSlot-is part slot t c.args.records.now.live mark c.in-Close.is written.known can.can can.in_slot in
-    let p = err_from_is_err_and c.from_residual-in_err-replace_record-in-Close.result c.from_residual-in_err-replace_record-in-Close.ensures.1 in
+    let p = err_from_is_err_and c.from_residual-in_err-stage_replaced-in-Close.result c.from_residual-in_err-stage_replaced-in-Close.ensures.1 in
     rw (p.1, p.2)
-    (step-as c.in_err-replace_record-in-Close.ensures.replaces (λ made. record {
+    (step-as c.in_err-stage_replaced-in-Close.ensures.stages (λ made. record {
       turns = λ others s.
-          Turns-failed (IsHeldIn others part s) (IsMarkedOrNot others part s t mark) (IsHeldIn others new (with_mark s t mark)) _ _ _ _ _ refl
-          (Turns-closed part new slot t mark c.in-Close.is marked can.can can.accepted c.requires.time valid written.known last others s _ _ _
+          TurnsShown-failed _ _ _ (IsHeldIn others part s) (IsHeldIn others part s) (IsHeldIn others new (with_mark s t mark)) _ _ _ _ _ refl
+          (Turns-closed part new slot t mark c.in-Close.is marked can.can can.accepted c.requires.time valid written.known last others s _ _ _ _ _
           (rw written.value at made.changes));
       firm = λ others s held. tt;
       kept = tt;
@@ -117,30 +117,25 @@ returns-clause-whole g c =
     let was = c.args.records.now in
     let new : StreamParts = record part { last_time = Some c.later.result; landmarks = c.take_mark.new.landmarks } in
     elim c.match-mark.branch [
-      | in-Open+in_ok-add_record-in-Open w ↦
-          (let done = w.in_ok-add_record-in-Open.ensures in
-          subst (λ (r : RecordsState). KeepsAtRest part new was r (slots_used mark slot)) (sym w.records-is)
+      | in-Open+in_ok-stage_record-in-Open w ↦
+          (let done = w.in_ok-stage_record-in-Open.ensures in
+          subst (λ (r : RecordsState). KeepsWhole part new was r (slots_used mark slot)) (sym w.records-is)
           (record {
-            whole = record {
-              ordered = ordered_marked g c;
-              live = LiveSlotsGo-mark_added part new slot t mark (marked g c) (IsAdding-is mark w.in-Open.is) was.live w.add_record.new.records.live done.live;
-              settled = done.at_rest.0;
-              extent = rw (slots_used-adding mark slot (IsAdding-is mark w.in-Open.is)) done.extent;
-            };
-            sealed = done.at_rest.1;
+            ordered = ordered_marked g c;
+            live = LiveSlotsGo-mark_added part new slot t mark (marked g c) (IsAdding-is mark w.in-Open.is) was.live w.stage_record.new.records.live
+                done.live;
+            settled = done.settled;
+            extent = rw (slots_used-adding mark slot (IsAdding-is mark w.in-Open.is)) done.extent;
           }))
-      | in-Close+in_ok-replace_record-in-Close w ↦
-          (let done = w.in_ok-replace_record-in-Close.ensures in
-          subst (λ (r : RecordsState). KeepsAtRest part new was r (slots_used mark slot)) (sym w.records-is)
+      | in-Close+in_ok-stage_replaced-in-Close w ↦
+          (let done = w.in_ok-stage_replaced-in-Close.ensures in
+          subst (λ (r : RecordsState). KeepsWhole part new was r (slots_used mark slot)) (sym w.records-is)
           (record {
-            whole = record {
-              ordered = ordered_marked g c;
-              live = LiveSlotsGo-mark_closed part new slot t mark w.in-Close.is (marked g c) was.live w.replace_record.new.records.live
-                  w.replace_record.ensures.live;
-              settled = done.at_rest.0;
-              extent = rw done.extent (omega arith);
-            };
-            sealed = done.at_rest.1;
+            ordered = ordered_marked g c;
+            live = LiveSlotsGo-mark_closed part new slot t mark w.in-Close.is (marked g c) was.live w.stage_replaced.new.records.live
+                w.stage_replaced.ensures.live;
+            settled = done.settled;
+            extent = rw done.extent (omega arith);
           }))
     ]
 
@@ -156,35 +151,35 @@ returns-clause-takes g c =
     let new : StreamParts = record part { last_time = Some c.later.result; landmarks = c.take_mark.new.landmarks } in
     let old : DiskView = g.D.Disk.seen c.args.disk.now in
     elim c.match-mark.branch [
-      | in-Open+in_ok-add_record-in-Open w ↦
+      | in-Open+in_ok-stage_record-in-Open w ↦
           rw (w.records-is, w.disk-is)
-          (step-as w.in_ok-add_record-in-Open.ensures.adds (λ made. record {
+          (step-as w.in_ok-stage_record-in-Open.ensures.stages (λ made. record {
             turns = λ others s.
-                Turns-answers (IsHeldIn others part s) (IsMarkedOrNot others part s t mark) (IsHeldIn others new (with_mark s t mark)) _ _ tt _
-                (Turns-added part new slot t mark (marked g c) can.can can.accepted c.requires.time valid others s _ _ _ (IsAdding-is mark w.in-Open.is)
+                TurnsShown-answers _ _ (IsHeldIn others part s) (IsHeldIn others part s) (IsHeldIn others new (with_mark s t mark)) _ _ tt _
+                (Turns-added part new slot t mark (marked g c) can.can can.accepted c.requires.time valid others s _ _ _ _ _ (IsAdding-is mark w.in-Open.is)
                 (rw written.value at made.changes));
             firm = λ others s held. tt;
             kept = made.kept;
           }))
-      | in-Close+in_ok-replace_record-in-Close w ↦
+      | in-Close+in_ok-stage_replaced-in-Close w ↦
           (let last = IsLastSlot-is part slot t c.args.records.now.live mark w.in-Close.is written.known can.can can.in_slot in
           rw (w.records-is, w.disk-is)
-          (step-as w.in_ok-replace_record-in-Close.ensures.replaces (λ made. record {
+          (step-as w.in_ok-stage_replaced-in-Close.ensures.stages (λ made. record {
             turns = λ others s.
-                Turns-answers (IsHeldIn others part s) (IsMarkedOrNot others part s t mark) (IsHeldIn others new (with_mark s t mark)) _ _ tt _
-                (Turns-closed part new slot t mark w.in-Close.is (marked g c) can.can can.accepted c.requires.time valid written.known last others s _ _ _
+                TurnsShown-answers _ _ (IsHeldIn others part s) (IsHeldIn others part s) (IsHeldIn others new (with_mark s t mark)) _ _ tt _
+                (Turns-closed part new slot t mark w.in-Close.is (marked g c) can.can can.accepted c.requires.time valid written.known last others s _ _ _ _ _
                 (rw written.value at made.changes));
             firm = λ others s held. tt;
             kept = made.kept;
           })))
     ]
 
-pub returns-in_err-add_record-in-Open-clause-fits : goal.returns-in_err-add_record-in-Open-clause-fits
-returns-in_err-add_record-in-Open-clause-fits g c =
+pub returns-in_err-stage_record-in-Open-clause-fits : goal.returns-in_err-stage_record-in-Open-clause-fits
+returns-in_err-stage_record-in-Open-clause-fits g c =
     FitsMark-valid c.args.part.now c.args.t c.args.mark (rw c.record_of-written.ensures.value at c.record_of-written.ensures.valid)
 
-pub returns-in_err-replace_record-in-Close-clause-fits : goal.returns-in_err-replace_record-in-Close-clause-fits
-returns-in_err-replace_record-in-Close-clause-fits g c =
+pub returns-in_err-stage_replaced-in-Close-clause-fits : goal.returns-in_err-stage_replaced-in-Close-clause-fits
+returns-in_err-stage_replaced-in-Close-clause-fits g c =
     FitsMark-valid c.args.part.now c.args.t c.args.mark (rw c.record_of-written.ensures.value at c.record_of-written.ensures.valid)
 
 pub returns-clause-fits : goal.returns-clause-fits

@@ -1,114 +1,45 @@
-use Rattle.std.proofs.Common.{◌≡◌, ◌∙◌, ap, rules, sym, subst, w64}
-use Rattle.std.specs.Prelude.{FitsSigned}
-use mir.Val.{to_z, of_z}
-use Rattle.ss_catalog.specs.Events.{IsInTime}
-use Rattle.ss_catalog.specs.declared.event.Event.{Event}
-use Rattle.ss_catalog.specs.declared.event.Event.TheVariants.{Value}
-use Rattle.ss_model.specs.History.{CanBeSaid}
-use Rattle.ss_store.specs.Applied.{Applies}
-use Rattle.ss_store.proofs.Stepping.{AddsEvent-applied}
+use Rattle.std.proofs.Common.{◌∙◌, ◌++◌, ◌∷◌, [], Err, Ok, refl, sym}
+use Rattle.std.proofs.lemmas.Result.{err_from_is_err_and}
+use Rattle.ss_store.specs.Calls.{StandsForEither}
+use Rattle.ss_store.specs.Recover.{Stands}
+use Rattle.ss_store.proofs.Calls.{Turns-answers, Turns-failed}
+use Rattle.ss_store.proofs.Sealed.{AddsEvent-sealed, AddsEvent-unsealed, Applies-sealed, Applies-unsealed}
 use Rattle.ss_store.proofs.store.Store.apply.Goals as goal
 
-pub returns-in-Create-clause-applies : goal.returns-in-Create-clause-applies
-returns-in-Create-clause-applies g c runs =
-    let is = c.in-Create.is in
-    subst (λ (e : Event). Applies e c.args.self.now c.apply_create.new.self (g.D.Disk.seen c.args.disk.now) (g.D.Disk.seen c.apply_create.new.disk)
-    c.apply_create.result)
-    (sym is) c.apply_create.ensures.applies
+pub returns-in_err-ack-clause-history : goal.returns-in_err-ack-clause-history
+returns-in_err-ack-clause-history g c runs told history =
+    let p = err_from_is_err_and c.from_residual.result c.from_residual.ensures.1 in
+    rw (p.1, p.2)
+    (AddsEvent-unsealed c.args.event.now c.args.self.now.records c.stage.new.self.records _ _ (c.requires.sealed runs) (Err c.in_err-ack.field-0.0) _ refl
+    (c.in_err-ack.ensures.history runs told) history)
 
-pub returns-in-Create-clause-history : goal.returns-in-Create-clause-history
-returns-in-Create-clause-history g c runs told =
-    let is = c.in-Create.is in
-    let old = g.D.Disk.seen c.args.disk.now in
-    let new = g.D.Disk.seen c.apply_create.new.disk in
-    let applied = subst (λ (e : Event). Applies e c.args.self.now c.apply_create.new.self old new c.apply_create.result) (sym is)
-    c.apply_create.ensures.applies in
-    AddsEvent-applied c.args.event.now c.args.self.now c.apply_create.new.self (λ d. g.D.Disk.seen d) c.args.disk.now c.apply_create.new.disk
-    c.apply_create.result applied
-    (subst (λ e. CanBeSaid e) (sym is) tt)
-    c.apply_create.ensures.uncalled told (g.met.D.Disk.knows_now c.args.disk.now told)
-    (c.requires.one_disk runs told)
+pub returns-in-Ok-clause-applies : goal.returns-in-Ok-clause-applies
+returns-in-Ok-clause-applies g c runs =
+    Applies-sealed c.args.event.now c.args.self.now c.stage.new.self c.seal.new.self (g.D.Disk.seen c.args.disk.now) (g.D.Disk.seen c.stage.new.disk)
+    (g.D.Disk.seen c.seal.new.disk) c.in_ok-ack.ack (g.met.D.Disk.knows_now c.stage.new.disk) (c.in_ok-ack.ensures.applies runs) c.in-Ok.field-0
+    c.in-Ok.ensures.seals c.in-Ok.ensures.sealed c.seal.ensures.streams (c.in-Ok.ensures.runs ∙ sym runs)
 
-pub returns-then-has_open-clause-applies : goal.returns-then-has_open-clause-applies
-returns-then-has_open-clause-applies g c runs =
-    let back : to_z w64 (of_z w64 c.in-Value.v) ≡ c.in-Value.v = search rules in
-    let is = c.in-Value.is ∙ ap (λ x. Value c.in-Value.name c.in-Value.t x) (sym back) in
-    subst (λ (e : Event). Applies e c.args.self.now c.apply_mark.new.self (g.D.Disk.seen c.args.disk.now) (g.D.Disk.seen c.apply_mark.new.disk)
-    c.apply_mark.result)
-    (sym is) c.apply_mark.ensures.applies
+pub returns-in-Ok-clause-history : goal.returns-in-Ok-clause-history
+returns-in-Ok-clause-history g c runs told history =
+    let event = c.args.event.now in
+    let then = (c.in_ok-ack.ensures.applies runs).step.tells ∙ told in
+    Turns-answers (Stands history) (StandsForEither history event) (Stands (history ++ event ∷ [])) _ _ c.in-Ok.field-0 (Ok c.in_ok-ack.ack)
+    (AddsEvent-sealed event c.args.self.now.records c.stage.new.self.records _ _ (c.requires.sealed runs) c.seal.new.self.records _ c.in_ok-ack.ack
+    (Ok c.in-Ok.field-0) (g.met.D.Disk.knows_now c.stage.new.disk then) c.in-Ok.ensures.sealed.sealed (c.in_ok-ack.ensures.history runs told)
+    (c.in-Ok.ensures.seals.told then).history history)
 
-pub returns-then-has_open-clause-history : goal.returns-then-has_open-clause-history
-returns-then-has_open-clause-history g c runs told =
-    let back : to_z w64 (of_z w64 c.in-Value.v) ≡ c.in-Value.v = search rules in
-    let is = c.in-Value.is ∙ ap (λ x. Value c.in-Value.name c.in-Value.t x) (sym back) in
-    let fits : FitsSigned w64 c.in-Value.v = search rules in
-    let old = g.D.Disk.seen c.args.disk.now in
-    let new = g.D.Disk.seen c.apply_mark.new.disk in
-    let applied = subst (λ (e : Event). Applies e c.args.self.now c.apply_mark.new.self old new c.apply_mark.result) (sym is) c.apply_mark.ensures.applies in
-    AddsEvent-applied c.args.event.now c.args.self.now c.apply_mark.new.self (λ d. g.D.Disk.seen d) c.args.disk.now c.apply_mark.new.disk
-    c.apply_mark.result applied
-    (subst (λ e. CanBeSaid e) (sym c.in-Value.is) (subst (λ e. IsInTime e) c.in-Value.is c.requires.in_time, fits))
-    c.apply_mark.ensures.uncalled told (g.met.D.Disk.knows_now c.args.disk.now told)
-    (c.requires.one_disk runs told)
+pub returns-in-Err-clause-applies : goal.returns-in-Err-clause-applies
+returns-in-Err-clause-applies g c runs =
+    Applies-unsealed c.args.event.now c.args.self.now c.stage.new.self c.seal.new.self (g.D.Disk.seen c.args.disk.now) (g.D.Disk.seen c.stage.new.disk)
+    (g.D.Disk.seen c.seal.new.disk) c.in_ok-ack.ack (g.met.D.Disk.knows_now c.stage.new.disk) (c.in_ok-ack.ensures.applies runs) c.in-Err.field-0
+    c.in-Err.ensures.seals c.in-Err.ensures.stops
 
-pub returns-else-has_open-clause-applies : goal.returns-else-has_open-clause-applies
-returns-else-has_open-clause-applies g c runs =
-    let back : to_z w64 (of_z w64 c.in-Value.v) ≡ c.in-Value.v = search rules in
-    let is = c.in-Value.is ∙ ap (λ x. Value c.in-Value.name c.in-Value.t x) (sym back) in
-    subst (λ (e : Event). Applies e c.args.self.now c.apply_value.new.self (g.D.Disk.seen c.args.disk.now) (g.D.Disk.seen c.apply_value.new.disk)
-    c.apply_value.result)
-    (sym is) c.apply_value.ensures.applies
-
-pub returns-else-has_open-clause-history : goal.returns-else-has_open-clause-history
-returns-else-has_open-clause-history g c runs told =
-    let back : to_z w64 (of_z w64 c.in-Value.v) ≡ c.in-Value.v = search rules in
-    let is = c.in-Value.is ∙ ap (λ x. Value c.in-Value.name c.in-Value.t x) (sym back) in
-    let fits : FitsSigned w64 c.in-Value.v = search rules in
-    let old = g.D.Disk.seen c.args.disk.now in
-    let new = g.D.Disk.seen c.apply_value.new.disk in
-    let applied = subst (λ (e : Event). Applies e c.args.self.now c.apply_value.new.self old new c.apply_value.result) (sym is) c.apply_value.ensures.applies in
-    AddsEvent-applied c.args.event.now c.args.self.now c.apply_value.new.self (λ d. g.D.Disk.seen d) c.args.disk.now c.apply_value.new.disk
-    c.apply_value.result applied
-    (subst (λ e. CanBeSaid e) (sym c.in-Value.is) (subst (λ e. IsInTime e) c.in-Value.is c.requires.in_time, fits))
-    c.apply_value.ensures.uncalled told (g.met.D.Disk.knows_now c.args.disk.now told)
-    (c.requires.one_disk runs told)
-
-pub returns-in-Open-clause-applies : goal.returns-in-Open-clause-applies
-returns-in-Open-clause-applies g c runs =
-    let is = c.in-Open.is in
-    subst (λ (e : Event). Applies e c.args.self.now c.apply_mark-in-Open.new.self (g.D.Disk.seen c.args.disk.now)
-    (g.D.Disk.seen c.apply_mark-in-Open.new.disk) c.apply_mark-in-Open.result)
-    (sym is) c.apply_mark-in-Open.ensures.applies
-
-pub returns-in-Open-clause-history : goal.returns-in-Open-clause-history
-returns-in-Open-clause-history g c runs told =
-    let is = c.in-Open.is in
-    let old = g.D.Disk.seen c.args.disk.now in
-    let new = g.D.Disk.seen c.apply_mark-in-Open.new.disk in
-    let applied = subst (λ (e : Event). Applies e c.args.self.now c.apply_mark-in-Open.new.self old new c.apply_mark-in-Open.result) (sym is)
-    c.apply_mark-in-Open.ensures.applies in
-    AddsEvent-applied c.args.event.now c.args.self.now c.apply_mark-in-Open.new.self (λ d. g.D.Disk.seen d) c.args.disk.now
-    c.apply_mark-in-Open.new.disk c.apply_mark-in-Open.result applied
-    (subst (λ e. CanBeSaid e) (sym is) (subst (λ e. IsInTime e) is c.requires.in_time))
-    c.apply_mark-in-Open.ensures.uncalled told (g.met.D.Disk.knows_now c.args.disk.now told)
-    (c.requires.one_disk runs told)
-
-pub returns-in-Close-clause-applies : goal.returns-in-Close-clause-applies
-returns-in-Close-clause-applies g c runs =
-    let is = c.in-Close.is in
-    subst (λ (e : Event). Applies e c.args.self.now c.apply_mark-in-Close.new.self (g.D.Disk.seen c.args.disk.now)
-    (g.D.Disk.seen c.apply_mark-in-Close.new.disk) c.apply_mark-in-Close.result)
-    (sym is) c.apply_mark-in-Close.ensures.applies
-
-pub returns-in-Close-clause-history : goal.returns-in-Close-clause-history
-returns-in-Close-clause-history g c runs told =
-    let is = c.in-Close.is in
-    let old = g.D.Disk.seen c.args.disk.now in
-    let new = g.D.Disk.seen c.apply_mark-in-Close.new.disk in
-    let applied = subst (λ (e : Event). Applies e c.args.self.now c.apply_mark-in-Close.new.self old new c.apply_mark-in-Close.result) (sym is)
-    c.apply_mark-in-Close.ensures.applies in
-    AddsEvent-applied c.args.event.now c.args.self.now c.apply_mark-in-Close.new.self (λ d. g.D.Disk.seen d) c.args.disk.now
-    c.apply_mark-in-Close.new.disk c.apply_mark-in-Close.result applied
-    (subst (λ e. CanBeSaid e) (sym is) (subst (λ e. IsInTime e) is c.requires.in_time))
-    c.apply_mark-in-Close.ensures.uncalled told (g.met.D.Disk.knows_now c.args.disk.now told)
-    (c.requires.one_disk runs told)
+pub returns-in-Err-clause-history : goal.returns-in-Err-clause-history
+returns-in-Err-clause-history g c runs told history =
+    let event = c.args.event.now in
+    let then = (c.in_ok-ack.ensures.applies runs).step.tells ∙ told in
+    let added = Stands (history ++ event ∷ []) in
+    Turns-failed (Stands history) (StandsForEither history event) added added _ _ (Err c.in-Err.field-0) _ refl
+    (AddsEvent-sealed event c.args.self.now.records c.stage.new.self.records _ _ (c.requires.sealed runs) c.seal.new.self.records _ c.in_ok-ack.ack
+    (Err c.in-Err.field-0) (g.met.D.Disk.knows_now c.stage.new.disk then) tt (c.in_ok-ack.ensures.history runs told)
+    (c.in-Err.ensures.seals.told then).history history)

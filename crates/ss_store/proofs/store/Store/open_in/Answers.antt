@@ -48,7 +48,7 @@ invariant_of-result g c =
       subst (λ (streams : List StreamParts). IsSound (record { streams = streams; records = c.settle_all.new.records; stopped = false })
           c.in_ok-catalog.catalog)
           (sym (items_are c.in_ok-records.streams now c.deref_mut.result.now entries c.deref_mut.ensures.len))
-          (record { listed = listed; numbers = whole.numbers; at_rest = λ runs. c.in_ok-settle_all.ensures.at_rest; whole = λ runs. whole }),
+          (record { listed = listed; numbers = whole.numbers; settled = λ runs. c.in_ok-settle_all.ensures.at_rest.0; whole = λ runs. whole }),
       λ run. scheduled_are c.in_ok-records.streams c.in_ok-indexes.indexes now c.deref_mut.result.now c.settle_all.new.indexes
           c.in_ok-settle_all.ensures.scheduled entries c.deref_mut.ensures.len (keyed_long g c),
     )
@@ -97,7 +97,7 @@ returns-clause-opens g c =
     let store : StoreState = record { streams = (with_items c.in_ok-records.streams now).items; records = c.settle_all.new.records; stopped = false } in
     step-next c.in_ok-records.ensures.reads c.in_ok-settle_all.ensures.closes (λ told told_read read closes.
     OpensStore-closed parts now _ _ _ (g.met.D.Disk.knows_now c.args.disk.now told) (rw c.deref_mut.ensures.value read.rebuilt) read.reads
-    c.settle_all.new.records store closes same refl)
+    c.settle_all.new.records store closes same refl c.in_ok-settle_all.ensures.at_rest.1)
 
 pub returns-in_err-indexes-clause-opens : goal.returns-in_err-indexes-clause-opens
 returns-in_err-indexes-clause-opens g c =

@@ -18,66 +18,54 @@ use Rattle.ss_store.proofs.store.Store.query_stream.Goals as goal
 pub place_of-place-requires-clause-rising : goal.place_of-place-requires-clause-rising
 place_of-place-requires-clause-rising g c = subst (λ l. IsStrictlyIncreasing (numbers_held l)) (sym c.deref.ensures.value) c.self.invariant.0.numbers
 
--- the stream has its index at its place
-scheduled : (g : _) (c : goal.After-index g) → IsScheduled c.index-stream.result.now c.index.result.now
-scheduled g c =
+pub index-requires-2 : goal.index-requires-2
+index-requires-2 g c =
     let streams = ap (λ (s : StoreState). s.streams) c.self.view_is in
-    let part = IsPartAt-read c.deref.ensures.value streams c.place_of-place.ensures.at c.requires.stands c.index-stream.ensures in
-    let here = ap (λ l. slice_get l c.place_of-place.result) streams ∙ part.at in
-    IsScheduled-at c.self.inside.streams.items c.self.inside.indexes.items c.place_of-place.result c.index-stream.result.now c.index.result.now
-    (c.self.invariant.1 (ap (λ (s : StoreState). s.stopped) c.self.view_is ∙ c.requires.runs))
-    (slice_get_within c.self.inside.streams.items c.place_of-place.result c.index-stream.result.now here) c.index-stream.ensures c.index.ensures
-
-pub index-requires : goal.index-requires
-index-requires g c =
-    let streams = ap (λ (s : StoreState). s.streams) c.self.view_is in
-    let part = IsPartAt-read c.deref.ensures.value streams c.place_of-place.ensures.at c.requires.stands c.index-stream.ensures in
+    let part = IsPartAt-read c.deref.ensures.value streams c.place_of-place.ensures.at c.requires.stands c.index.ensures in
     let here = ap (λ l. slice_get l c.place_of-place.result) streams ∙ part.at in
     let all = c.self.invariant.1 (ap (λ (s : StoreState). s.stopped) c.self.view_is ∙ c.requires.runs) in
     let long = AllZip-long IsScheduled c.self.inside.streams.items c.self.inside.indexes.items all in
-    let inside = slice_get_within c.self.inside.streams.items c.place_of-place.result c.index-stream.result.now here in
+    let inside = slice_get_within c.self.inside.streams.items c.place_of-place.result c.index.result.now here in
     omega (arith, long, inside)
 
-pub start-start-requires-clause-timed : goal.start-start-requires-clause-timed
-start-start-requires-clause-timed g c = (scheduled g c).0.timed
-
-pub start-start-requires-clause-times : goal.start-start-requires-clause-times
-start-start-requires-clause-times g c =
+pub answer_indexed-requires-clause-timed : goal.answer_indexed-requires-clause-timed
+answer_indexed-requires-clause-timed g c =
     let streams = ap (λ (s : StoreState). s.streams) c.self.view_is in
-    let part = IsPartAt-read c.deref.ensures.value streams c.place_of-place.ensures.at c.requires.stands c.index-stream.ensures in
-    let whole = c.self.invariant.0.whole (ap (λ (s : StoreState). s.stopped) c.self.view_is ∙ c.requires.runs) in
-    (AreWhole-at c.self.inside.streams.items c.self.inside.records.live c.place_of-place.result c.index-stream.result.now whole
-    (ap (λ l. slice_get l c.place_of-place.result) streams ∙ part.at)).0.times
+    let part = IsPartAt-read c.deref.ensures.value streams c.place_of-place.ensures.at c.requires.stands c.index.ensures in
+    let here = ap (λ l. slice_get l c.place_of-place.result) streams ∙ part.at in
+    (IsScheduled-at c.self.inside.streams.items c.self.inside.indexes.items c.place_of-place.result c.index.result.now c.index-2.result.now
+    (c.self.invariant.1 (ap (λ (s : StoreState). s.stopped) c.self.view_is ∙ c.requires.runs))
+    (slice_get_within c.self.inside.streams.items c.place_of-place.result c.index.result.now here) c.index.ensures c.index-2.ensures).0.timed
 
-pub answer_from-requires-clause-slots : goal.answer_from-requires-clause-slots
-answer_from-requires-clause-slots g c =
+pub answer_indexed-requires-clause-slots : goal.answer_indexed-requires-clause-slots
+answer_indexed-requires-clause-slots g c =
     let streams = ap (λ (s : StoreState). s.streams) c.self.view_is in
-    let part = IsPartAt-read c.deref.ensures.value streams c.place_of-place.ensures.at c.requires.stands c.index-stream.ensures in
+    let part = IsPartAt-read c.deref.ensures.value streams c.place_of-place.ensures.at c.requires.stands c.index.ensures in
     let whole = c.self.invariant.0.whole (ap (λ (s : StoreState). s.stopped) c.self.view_is ∙ c.requires.runs) in
-    window_slots-below c.self.inside.streams.items c.self.inside.records.live c.place_of-place.result c.index-stream.result.now whole
+    window_slots-below c.self.inside.streams.items c.self.inside.records.live c.place_of-place.result c.index.result.now whole
     c.live-live.ensures.sound.slots (ap (λ l. slice_get l c.place_of-place.result) streams ∙ part.at)
 
 pub returns-in-Ok-clause-answers : goal.returns-in-Ok-clause-answers
 returns-in-Ok-clause-answers g c =
-    let rest = c.self.invariant.0.at_rest (ap (λ (s : StoreState). s.stopped) c.self.view_is ∙ c.requires.runs) in
     let streams = ap (λ (s : StoreState). s.streams) c.self.view_is in
-    let part = IsPartAt-read c.deref.ensures.value streams c.place_of-place.ensures.at c.requires.stands c.index-stream.ensures in
-    answers-kept rest c.args.self.now (sym c.requires.same ∙ part.numbered) c.requires.one_disk c.in-Ok.outcome c.in-Ok.ensures.answers
+    let part = IsPartAt-read c.deref.ensures.value streams c.place_of-place.ensures.at c.requires.stands c.index.ensures in
+    answers-kept c.args.self.now (sym c.requires.same ∙ part.numbered) c.requires.one_disk c.in-Ok.outcome
+    (rw (ap (λ (s : StoreState). s.records) c.self.view_is) at c.in-Ok.ensures.answers)
 
 pub returns-clause-looks : goal.returns-clause-looks
 returns-clause-looks g c =
-    let rest = c.self.invariant.0.at_rest (ap (λ (s : StoreState). s.stopped) c.self.view_is ∙ c.requires.runs) in
     let streams = ap (λ (s : StoreState). s.streams) c.self.view_is in
-    let part = IsPartAt-read c.deref.ensures.value streams c.place_of-place.ensures.at c.requires.stands c.index-stream.ensures in
+    let part = IsPartAt-read c.deref.ensures.value streams c.place_of-place.ensures.at c.requires.stands c.index.ensures in
     Looks-failed Outcome c.in-Err.error c.from.result c.args.self.now _ c.from.ensures refl streams
     (c.in-Err.ensures.records.live ∙ ap (λ (s : StoreState). s.records.live) c.self.view_is)
-    (IsFirm-kept rest c.args.self.now (sym c.requires.same ∙ part.numbered) c.requires.one_disk c.in-Err.error c.in-Err.ensures.answers)
+    (IsFirm-kept c.args.self.now (sym c.requires.same ∙ part.numbered) c.requires.one_disk c.in-Err.error
+    (rw (ap (λ (s : StoreState). s.records) c.self.view_is) at c.in-Err.ensures.answers))
 
 pub returns-clause-changed : goal.returns-clause-changed
 returns-clause-changed g c =
     let streams = ap (λ (s : StoreState). s.streams) c.self.view_is in
-    let part = IsPartAt-read c.deref.ensures.value streams c.place_of-place.ensures.at c.requires.stands c.index-stream.ensures in
-    let named : part_named c.args.query.now.name c.args.self.now.streams ≡ Some c.index-stream.result.now = sym c.requires.same ∙ part.numbered in
+    let part = IsPartAt-read c.deref.ensures.value streams c.place_of-place.ensures.at c.requires.stands c.index.ensures in
+    let named : part_named c.args.query.now.name c.args.self.now.streams ≡ Some c.index.result.now = sym c.requires.same ∙ part.numbered in
     rw named
-    (IfChanged-ask Outcome Outcome (Contains (window_slots_of c.index-stream.result.now)) c.in-Err.error c.from.result c.from.ensures
+    (IfChanged-ask Outcome Outcome (Contains (window_slots_of c.index.result.now)) c.in-Err.error c.from.result c.from.ensures
     c.in-Err.ensures.changed)

@@ -11,19 +11,18 @@ place_of-requires-clause-rising g c = subst (λ l. IsStrictlyIncreasing (numbers
 
 pub returns-in-Ok-clause-shows : goal.returns-in-Ok-clause-shows
 returns-in-Ok-clause-shows g c =
-    let rest = c.self.invariant.0.at_rest (ap (λ (s : StoreState). s.stopped) c.self.view_is ∙ c.requires.runs) in
     let streams = ap (λ (s : StoreState). s.streams) c.self.view_is in
     let part = IsPartAt-read c.deref.ensures.value streams c.place_of.ensures.at c.requires.stands c.index-part.ensures in
-    shows-read c.self.inside.records c.read_window.new.records rest c.args.self.now c.args.id.0 c.args.at part.numbered
-    (entry-read c.args.at part.numbered c.entry-entry.ensures.entry) c.requires.one_disk c.in-Ok.summary c.in-Ok.ensures.reads
+    shows-read c.read_window.new.records c.args.self.now c.args.id.0 c.args.at part.numbered
+    (entry-read c.args.at part.numbered c.entry-entry.ensures.entry) c.requires.one_disk c.in-Ok.summary
+    (rw (ap (λ (s : StoreState). s.records) c.self.view_is) at c.in-Ok.ensures.reads)
 
 pub returns-in-Err-clause-looks : goal.returns-in-Err-clause-looks
 returns-in-Err-clause-looks g c =
-    let rest = c.self.invariant.0.at_rest (ap (λ (s : StoreState). s.stopped) c.self.view_is ∙ c.requires.runs) in
     let streams = ap (λ (s : StoreState). s.streams) c.self.view_is in
     let part = IsPartAt-read c.deref.ensures.value streams c.place_of.ensures.at c.requires.stands c.index-part.ensures in
     Looks-failed Placed c.in-Err.error c.from.result c.args.self.now _ c.from.ensures refl streams
     (c.in-Err.ensures.records.live ∙ ap (λ (s : StoreState). s.records.live) c.self.view_is)
-    (IsFirm-read c.self.inside.records c.read_window.new.records rest c.args.self.now c.args.id.0 c.args.at part.numbered
+    (IsFirm-read c.read_window.new.records c.args.self.now c.args.id.0 c.args.at part.numbered
     (entry-read c.args.at part.numbered c.entry-entry.ensures.entry) c.requires.one_disk c.in-Err.error
-    c.in-Err.ensures.reads)
+    (rw (ap (λ (s : StoreState). s.records) c.self.view_is) at c.in-Err.ensures.reads))

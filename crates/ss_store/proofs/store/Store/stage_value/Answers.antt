@@ -10,7 +10,7 @@ use Rattle.ss_store.proofs.IndexedStreams.{AllZip-set, IsScheduled-at}
 use Rattle.ss_store.proofs.Applying.{Applies-refused, Applies-starved}
 use Rattle.ss_store.proofs.Taking.{applies-taken, applies-untaken, can-append, live-spared, same-spared, sound-spared, sound-stopped, sound-taken}
 use Rattle.ss_store.proofs.Taking.{few-taker, inside-taker, later-taker, ordered-spared, runs-taker, stands-spared, taking}
-use Rattle.ss_store.proofs.store.Store.apply_value.Goals as goal
+use Rattle.ss_store.proofs.store.Store.stage_value.Goals as goal
 
 pub returns-in-Err-clause-applies : goal.returns-in-Err-clause-applies
 returns-in-Err-clause-applies g c =

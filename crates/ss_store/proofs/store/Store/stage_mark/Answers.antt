@@ -3,9 +3,9 @@ use Rattle.ss_line.specs.Line.{LineState}
 use Rattle.ss_store.proofs.IndexedStreams.{AreScheduled-other}
 use Rattle.ss_store.specs.Marking.{event_of}
 use Rattle.ss_store.proofs.Applying.{Applies-refused, Applies-starved}
-use Rattle.ss_store.proofs.MarkTaking.{applies-taken, applies-untaken, can-mark, live-spared, same-spared, sound-spared, sound-stopped, sound-taken}
+use Rattle.ss_store.proofs.MarkTaking.{applies-taken, applies-untaken, can-mark, live-spared, same-spared, same-untaken, sound-spared, sound-stopped, sound-taken}
 use Rattle.ss_store.proofs.MarkTaking.{stands-spared, taking-mark}
-use Rattle.ss_store.proofs.store.Store.apply_mark.Goals as goal
+use Rattle.ss_store.proofs.store.Store.stage_mark.Goals as goal
 
 pub returns-in-Err-clause-applies : goal.returns-in-Err-clause-applies
 returns-in-Err-clause-applies g c =
@@ -90,5 +90,13 @@ returns-in-Err-put_mark-clause-applies g c =
     c.in-Ok.ensures.accepted c.requires.in_time
     c.requires.marked c.index_mut-stream.ensures.value c.reserve.ensures.grown in
     rw (← c.self.view_is)
-    (applies-untaken is c.put_mark.new.part c.put_mark.new.records c.put_mark.ensures.same c.put_mark.ensures.fits _ _ c.in-Err-put_mark.ensures.err
-    c.in-Err-put_mark.ensures.takes)
+    (applies-untaken is c.put_mark.new.part c.put_mark.new.records c.put_mark.ensures.same c.put_mark.ensures.fits _ _ c.in-Err-put_mark.ensures.takes)
+
+pub returns-in-Err-put_mark-clause-failed : goal.returns-in-Err-put_mark-clause-failed
+returns-in-Err-put_mark-clause-failed g c =
+    let is = taking-mark {store = record { streams = c.self.inside.streams.items; records = c.self.inside.records; stopped = c.self.inside.stopped }}
+    (g.D.Disk.seen c.args.disk.now) c.self.view_is c.requires.one_disk c.self.invariant.0 c.requires.runs c.in-Ok.ensures.marker
+    c.in-Ok.ensures.accepted c.requires.in_time
+    c.requires.marked c.index_mut-stream.ensures.value c.reserve.ensures.grown in
+    rw (← c.self.view_is)
+    (same-untaken is c.put_mark.new.part c.put_mark.new.records c.put_mark.ensures.same c.put_mark.ensures.fits c.in-Err-put_mark.ensures.err)

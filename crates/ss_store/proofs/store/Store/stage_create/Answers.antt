@@ -9,7 +9,7 @@ use Rattle.ss_store.proofs.IndexedStreams.{AllZip-more}
 use Rattle.ss_store.proofs.Applying.{Applies-refused, Applies-starved}
 use Rattle.ss_store.proofs.Created.{IsFreshPart-made}
 use Rattle.ss_store.proofs.Creating.{applies-created, applies-unwritten, creating, sound-created, sound-unwritten}
-use Rattle.ss_store.proofs.store.Store.apply_create.Goals as goal
+use Rattle.ss_store.proofs.store.Store.stage_create.Goals as goal
 
 pub returns-in-Err-clause-applies : goal.returns-in-Err-clause-applies
 returns-in-Err-clause-applies g c =
@@ -22,8 +22,8 @@ returns-in-Err-grow-clause-applies g c =
     (Applies-starved (Create c.args.name c.args.params) c.args.self.now c.args.self.now c.in-Ok.ensures.accepted _ (SameButSpare-same c.args.self.now)
     (λ run. c.requires.one_disk) (g.met.D.Disk.knows_now c.args.disk.now))
 
-pub invariant_of-self-in-Ok-add_record : goal.invariant_of-self-in-Ok-add_record
-invariant_of-self-in-Ok-add_record g c =
+pub invariant_of-self-in-Ok-stage_record : goal.invariant_of-self-in-Ok-stage_record
+invariant_of-self-in-Ok-stage_record g c =
     let part : StreamParts = record {
       id = c.in-Ok.new.1;
       name = c.args.name;
@@ -36,16 +36,16 @@ invariant_of-self-in-Ok-add_record g c =
     let is = creating {store = record { streams = c.self.inside.streams.items; records = c.self.inside.records; stopped = c.self.inside.stopped }} {part = part}
     (g.D.Disk.seen c.args.disk.now) c.self.view_is c.requires.one_disk c.self.invariant.0 c.requires.runs c.in-Ok.ensures.accepted
     (IsFreshPart-made part c.args.params c.in-Ok.ensures.target refl (ap (λ (l : LineState). l.entries) c.new.ensures) c.new-2.ensures) c.in-Ok.ensures.new in
-    let done = c.in-Ok-add_record.ensures in (
-      rw (c.in-Ok-grow.ensures.streams, c.in-Ok-grow.ensures.catalog) (sound-created is c.add_record.new.records done.at_rest done.live),
+    let done = c.in-Ok-stage_record.ensures in (
+      rw (c.in-Ok-grow.ensures.streams, c.in-Ok-grow.ensures.catalog) (sound-created is c.stage_record.new.records done.settled done.live),
       λ run. rw (c.in-Ok-grow.ensures.streams, c.in-Ok-grow.ensures.indexes)
           (AllZip-more IsScheduled c.self.inside.streams.items c.self.inside.indexes.items part c.new-3.result (c.self.invariant.1 run)
           (IsScheduled-none part c.new-3.result c.new-3.ensures.target (ap (λ (l : LineState). l.entries) c.new.ensures) (c.new-3.ensures.keyed 0 (omega arith))
           c.new-3.ensures.times)),
     )
 
-pub invariant_of-self-in-Err-add_record : goal.invariant_of-self-in-Err-add_record
-invariant_of-self-in-Err-add_record g c =
+pub invariant_of-self-in-Err-stage_record : goal.invariant_of-self-in-Err-stage_record
+invariant_of-self-in-Err-stage_record g c =
     let part : StreamParts = record {
       id = c.in-Ok.new.1;
       name = c.args.name;
@@ -58,12 +58,12 @@ invariant_of-self-in-Err-add_record g c =
     let is = creating {store = record { streams = c.self.inside.streams.items; records = c.self.inside.records; stopped = c.self.inside.stopped }} {part = part}
     (g.D.Disk.seen c.args.disk.now) c.self.view_is c.requires.one_disk c.self.invariant.0 c.requires.runs c.in-Ok.ensures.accepted
     (IsFreshPart-made part c.args.params c.in-Ok.ensures.target refl (ap (λ (l : LineState). l.entries) c.new.ensures) c.new-2.ensures) c.in-Ok.ensures.new in (
-      rw (c.in-Ok-grow.ensures.streams, c.in-Ok-grow.ensures.catalog) (sound-unwritten is c.add_record.new.records),
+      rw (c.in-Ok-grow.ensures.streams, c.in-Ok-grow.ensures.catalog) (sound-unwritten is c.stage_record.new.records),
       λ run. let wrong : true ≡ false = run in absurd (cc),
     )
 
-pub returns-in-Ok-add_record-clause-applies : goal.returns-in-Ok-add_record-clause-applies
-returns-in-Ok-add_record-clause-applies g c =
+pub returns-in-Ok-stage_record-clause-applies : goal.returns-in-Ok-stage_record-clause-applies
+returns-in-Ok-stage_record-clause-applies g c =
     let part : StreamParts = record {
       id = c.in-Ok.new.1;
       name = c.args.name;
@@ -76,12 +76,12 @@ returns-in-Ok-add_record-clause-applies g c =
     let is = creating {store = record { streams = c.self.inside.streams.items; records = c.self.inside.records; stopped = c.self.inside.stopped }} {part = part}
     (g.D.Disk.seen c.args.disk.now) c.self.view_is c.requires.one_disk c.self.invariant.0 c.requires.runs c.in-Ok.ensures.accepted
     (IsFreshPart-made part c.args.params c.in-Ok.ensures.target refl (ap (λ (l : LineState). l.entries) c.new.ensures) c.new-2.ensures) c.in-Ok.ensures.new in
-    let done = c.in-Ok-add_record.ensures in
+    let done = c.in-Ok-stage_record.ensures in
     rw (← c.self.view_is, c.in-Ok-grow.ensures.streams)
-    (applies-created is c.add_record.new.records _ _ done.extent (rw c.record_of.ensures.value at done.adds))
+    (applies-created is c.stage_record.new.records _ _ done.extent (rw c.record_of.ensures.value at done.stages))
 
-pub returns-in-Err-add_record-clause-applies : goal.returns-in-Err-add_record-clause-applies
-returns-in-Err-add_record-clause-applies g c =
+pub returns-in-Err-stage_record-clause-applies : goal.returns-in-Err-stage_record-clause-applies
+returns-in-Err-stage_record-clause-applies g c =
     let part : StreamParts = record {
       id = c.in-Ok.new.1;
       name = c.args.name;
@@ -95,4 +95,4 @@ returns-in-Err-add_record-clause-applies g c =
     (g.D.Disk.seen c.args.disk.now) c.self.view_is c.requires.one_disk c.self.invariant.0 c.requires.runs c.in-Ok.ensures.accepted
     (IsFreshPart-made part c.args.params c.in-Ok.ensures.target refl (ap (λ (l : LineState). l.entries) c.new.ensures) c.new-2.ensures) c.in-Ok.ensures.new in
     rw (← c.self.view_is, c.in-Ok-grow.ensures.streams)
-    (applies-unwritten is c.add_record.new.records _ _ (rw c.record_of.ensures.value at c.in-Err-add_record.ensures.adds))
+    (applies-unwritten is c.stage_record.new.records _ _ (rw c.record_of.ensures.value at c.in-Err-stage_record.ensures.stages))

@@ -1,0 +1,71 @@
+use Rattle.std.proofs.Common.{IsTrue, List, Option, Some, [], ap₂, arith, refl, subst, sym, ◌∷◌, ◌<◌, ◌≡◌, ◌∙◌, ℕ}
+use Rattle.std.proofs.lemmas.Result.{err_from_is_err_and}
+use Rattle.ss_journal.specs.Puts.{IsTxn, extent_after, slots_fit}
+use Rattle.ss_journal.specs.declared.format.TheConstants.{MOST_SLOTS}
+use Rattle.ss_journal.specs.declared.put.Put.{Put}
+use Rattle.ss_records.specs.Live.{live_after}
+use Rattle.ss_codec.specs.declared.record.Record.{Record}
+use Rattle.ss_journal.proofs.StepLemmas.{step-from}
+use Rattle.ss_query.specs.Slots.{HasRecords}
+use Rattle.ss_store.specs.Slots.{record_put}
+use Rattle.ss_store.proofs.Changes.{IsTxn-one, extent_after-one, live_after-again, moves-replaced, slots_fit-one}
+use Rattle.ss_store.proofs.LiveSlots.{IsOneLive-permutation}
+use Rattle.ss_store.proofs.ShownCalls.{TurnsShown-failed, TurnsShown-keeps, TurnsShown-staged}
+use Rattle.ss_store.proofs.writing.stage_replaced.Goals as goal
+
+pub stage-requires-clause-txn : goal.stage-requires-clause-txn
+stage-requires-clause-txn g c =
+    let one = IsOneLive-permutation c.args.records.now.live c.args.slot c.requires.live.0 c.requires.live.1 in
+    let below : c.args.slot < MOST_SLOTS = omega (arith, one.below, c.live.ensures.sound.slots) in
+    subst IsTxn (sym c.put_of.ensures) (IsTxn-one c.args.slot c.args.written.now below)
+
+pub stage-requires-clause-fit : goal.stage-requires-clause-fit
+stage-requires-clause-fit g c =
+    let one = IsOneLive-permutation c.args.records.now.live c.args.slot c.requires.live.0 c.requires.live.1 in
+    let below = c.live.ensures.sound.below (λ stopped. absurd (cc)) in
+    let extent = c.args.records.now.journal.extent in
+    subst (λ (e : ℕ). IsTrue (slots_fit c.put_of.result.items e)) (sym c.in_ok-make_room.ensures.made.extent)
+    (subst (λ (l : List Put). IsTrue (slots_fit l extent)) (sym c.put_of.ensures)
+    (slots_fit-one c.args.slot c.args.written.now extent (below c.args.slot one.is)))
+
+pub returns-in_err-make_room-clause-stages : goal.returns-in_err-make_room-clause-stages
+returns-in_err-make_room-clause-stages g c =
+    let p = err_from_is_err_and c.from_residual.result c.from_residual.ensures.1 in
+    rw (p.1, p.2)
+    (step-from c.in_err-make_room.ensures.makes_room (λ told made. record {
+      changes = λ first others.
+          let before : List (ℕ × Option Record) = (c.args.slot, first) ∷ others in
+          TurnsShown-failed c.args.records.now c.make_room.new.self c.make_room.new.self (HasRecords before) (HasRecords before) (HasRecords before)
+          (HasRecords ((c.args.slot, Some c.args.written.now) ∷ others)) _ _ _ _ refl
+          (TurnsShown-keeps c.args.records.now c.make_room.new.self before _ _ _ (c.requires.one_disk told) made.keeps_shown);
+      kept = tt;
+    }))
+
+pub returns-clause-stages : goal.returns-clause-stages
+returns-clause-stages g c =
+    step-from c.in_ok-make_room.ensures.makes_room (λ told made.
+    let stages = c.stage.ensures.stages _ in
+    record {
+      changes = λ first others.
+          let before : List (ℕ × Option Record) = (c.args.slot, first) ∷ others in
+          TurnsShown-staged c.args.records.now c.make_room.new.self before _ _ c.stage.new.self ((c.args.slot, Some c.args.written.now) ∷ others)
+          (record_put c.args.slot c.args.written.now ∷ []) c.in_ok-make_room.field-0 _ made.kept (rw c.put_of.ensures at stages)
+          (λ found is moved. moves-replaced c.args.slot c.args.written.now c.requires.valid c.requires.some first others found moved)
+          (TurnsShown-keeps c.args.records.now c.make_room.new.self before _ _ _ (c.requires.one_disk told) made.keeps_shown);
+      kept = stages.kept made.kept;
+    })
+
+pub returns-clause-live : goal.returns-clause-live
+returns-clause-live g c =
+    let live = c.args.records.now.live in
+    let one = IsOneLive-permutation live c.args.slot c.requires.live.0 c.requires.live.1 in
+    c.stage.ensures.live ∙ ap₂ live_after c.put_of.ensures c.make_room.ensures.live
+    ∙ live_after-again c.args.slot c.args.written.now c.requires.valid c.requires.some live one.is
+
+pub returns-clause-extent : goal.returns-clause-extent
+returns-clause-extent g c =
+    let extent = c.args.records.now.journal.extent in
+    let one = IsOneLive-permutation c.args.records.now.live c.args.slot c.requires.live.0 c.requires.live.1 in
+    let below = c.live.ensures.sound.below (λ stopped. absurd (cc)) in
+    c.stage.ensures.staged.extent ∙ ap₂ extent_after c.put_of.ensures c.in_ok-make_room.ensures.made.extent
+    ∙ extent_after-one c.args.slot c.args.written.now extent (below c.args.slot one.is)
