@@ -1,12 +1,15 @@
 -- Worked rows, each computed.
-use Rattle.std.proofs.Common.{◌≡◌, refl, ◌^◌, [], ◌∷◌, true, false, Some, None, codes}
+use Rattle.std.proofs.Common.{◌≡◌, ℕ, ◌+◌, refl, ◌^◌, List, [], ◌∷◌, map, true, false, Some, None, arith, codes}
 use Rattle.ss_catalog.specs.Catalog.{id_of}
 use Rattle.ss_catalog.specs.Names.{is_name}
 use Rattle.ss_catalog.specs.Params.{in_range}
-use Rattle.ss_catalog.specs.declared.TheConstants.{LAST_TIME, MOST_STREAMS, LAST_STREAM}
+use Rattle.ss_catalog.specs.Series.{IsSeriesInRange, numbers_from, row_query, rows_in, rows_of, whole_query}
+use Rattle.ss_catalog.specs.declared.TheConstants.{LAST_TIME, MOST_ROWS, MOST_STREAMS, LAST_STREAM}
 use Rattle.ss_catalog.specs.declared.name.TheConstants.{LONGEST_NAME}
 use Rattle.ss_catalog.specs.declared.params.TheConstants.{GREATEST_BASE, GREATEST_POWER, GREATEST_WIDENING, GREATEST_SCALE}
 use Rattle.ss_catalog.specs.declared.params.Params.TheVariants.{Exp, Power}
+use Rattle.ss_catalog.specs.declared.query.Kind.TheVariants.{Sum}
+use Rattle.ss_catalog.specs.declared.series.Series.{Series}
 
 longest_name : LONGEST_NAME ≡ 32
 longest_name = refl
@@ -64,3 +67,52 @@ id_of-there = refl
 
 id_of-longer : id_of (codes "bb") ((codes "b", record { 0 = 7 }) ∷ []) ≡ None
 id_of-longer = refl
+
+most_rows : MOST_ROWS ≡ 100000
+most_rows = refl
+
+-- a range of a step and a part of one, one that a step ends, one time, and none
+rows-some : map (λ (range : ℕ × ℕ). rows_in range.0 range.1 5) ((3, 12) ∷ (3, 13) ∷ (3, 7) ∷ (3, 8) ∷ (3, 3) ∷ (4, 3) ∷ []) ≡ 2 ∷ 3 ∷ 1 ∷ 2 ∷ 1 ∷ 0 ∷ []
+rows-some = refl
+
+rows-widest : rows_in 0 LAST_TIME LAST_TIME ≡ 2
+rows-widest = refl
+
+abbrev series : ℕ → Series
+series to = record { name = codes "a"; kind = Sum; from = 3; to = to; step = 5 }
+
+-- the rows of 3..=14
+queries-rows : map (row_query (series 14)) (0 ∷ 1 ∷ 2 ∷ [])
+    ≡ record { name = codes "a"; kind = Sum; from = 3; to = 7 } ∷ record { name = codes "a"; kind = Sum; from = 8; to = 12 }
+    ∷ record { name = codes "a"; kind = Sum; from = 13; to = 14 } ∷ []
+queries-rows = refl
+
+rows-of : rows_of (series 14) ≡ 0 ∷ 1 ∷ 2 ∷ []
+unfolding numbers_from
+rows-of = refl
+
+query-whole : whole_query (series 14) ≡ record { name = codes "a"; kind = Sum; from = 3; to = 14 }
+query-whole = refl
+
+-- each number of a series at its bound
+module _ (name : List ℕ) where
+  longest-step : IsSeriesInRange (record { name = name; kind = Sum; from = 0; to = LAST_TIME; step = LAST_TIME })
+  longest-step = record { from = omega arith; to = omega arith; some = omega arith; step = omega arith; few = omega arith }
+
+  most-rows : IsSeriesInRange (record { name = name; kind = Sum; from = 0; to = 99999; step = 1 })
+  most-rows = record { from = omega arith; to = omega arith; some = omega arith; step = omega arith; few = omega arith }
+
+  more-rows : IsSeriesInRange (record { name = name; kind = Sum; from = 0; to = 100000; step = 1 }) → ⊥
+  more-rows series = omega (arith, series.few)
+
+  no-step : IsSeriesInRange (record { name = name; kind = Sum; from = 0; to = 9; step = 0 }) → ⊥
+  no-step series = omega (arith, series.some)
+
+  long-step : IsSeriesInRange (record { name = name; kind = Sum; from = 0; to = 9; step = LAST_TIME + 1 }) → ⊥
+  long-step series = omega (arith, series.step)
+
+  late-start : IsSeriesInRange (record { name = name; kind = Sum; from = LAST_TIME + 1; to = 9; step = 1 }) → ⊥
+  late-start series = omega (arith, series.from)
+
+  late-end : IsSeriesInRange (record { name = name; kind = Sum; from = LAST_TIME; to = LAST_TIME + 1; step = 1 }) → ⊥
+  late-end series = omega (arith, series.to)

@@ -4,4 +4,5 @@ pub mod Params
 pub mod Refusal
 pub mod Events
 pub mod Queries
+pub mod Series
 pub mod Catalog

@@ -1,6 +1,6 @@
 -- A printed command means that command.
 use Rattle.std.proofs.Common.{◌≡◌, ℕ, suc, ◌+◌, ◌-◌, ◌^◌, ◌<◌, ◌≤◌, true, false, Bool, List, [], ◌∷◌, ◌++◌, length, get_or, Ok, Some, arith, refl, ap}
-use Rattle.std.proofs.Common.{sym, ◌∙◌, codes, append_assoc, nat_lt, ◌&&◌, not}
+use Rattle.std.proofs.Common.{sym, ◌∙◌, codes, append_assoc, nat_lt, nat_le, ◌&&◌, not}
 use Rattle.std.proofs.lemmas.Bool.Decides.{nat_tests}
 use Rattle.std.proofs.lemmas.Fmt.{decimal_is_IsNumeral}
 use Rattle.std.proofs.lemmas.List.{append-nil, get_or_append_left}
@@ -15,7 +15,9 @@ use Rattle.ss_fields.proofs.WordLemmas.{signed_of-signed_decimal, unsigned_of-de
 use Rattle.ss_catalog.proofs.NameLemmas.{length-is_name}
 use Rattle.ss_catalog.specs.Names.{is_name, is_name_byte}
 use Rattle.ss_catalog.specs.Queries.{kind_name}
-use Rattle.ss_catalog.specs.declared.TheConstants.{LAST_TIME}
+use Rattle.ss_catalog.specs.Series.{IsSeriesInRange, rows_in}
+use Rattle.ss_catalog.specs.declared.TheConstants.{LAST_TIME, MOST_ROWS}
+use Rattle.ss_catalog.specs.declared.series.Series.{Series}
 use Rattle.ss_catalog.specs.declared.event.Event.TheVariants.{Create, Value, Open, Close}
 use Rattle.ss_catalog.specs.declared.params.Params.TheVariants.{Exp, Power}
 use Rattle.ss_catalog.specs.declared.query.Kind.{Kind}
@@ -24,7 +26,7 @@ use Rattle.ss_command.proofs.GrammarLemmas.{meaning-words}
 use Rattle.ss_command.proofs.NumberLemmas.{or_number-Ok}
 use Rattle.ss_command.proofs.PutLemmas.{length-decimal_32, length-decimal_64, length-signed_64, length-with_word}
 use Rattle.ss_command.proofs.WordLemmas.{words-blank, words-one}
-use Rattle.ss_command.specs.Grammar.{is_comment, kind_of, meaning, meaning_of_words, name_of, or_number, parameter_of, time_of, value_of}
+use Rattle.ss_command.specs.Grammar.{is_comment, kind_of, meaning, meaning_of_words, name_of, or_number, parameter_of, step_of, time_of, value_of}
 use Rattle.ss_command.specs.Printed.{IsSayable, printed, spaced, target_words, with_word}
 use Rattle.ss_command.specs.Words.{is_blank, words}
 use Rattle.ss_command.specs.declared.command.Command.{Command}
@@ -245,6 +247,46 @@ meaning-query name kind from to is early late =
     meaning-spaced (codes "query") rest (literal (codes "query") refl) all short refl
     ∙ rw (kind_of-name kind, time_of-decimal from early, time_of-decimal to late, name_of-name name is) refl
 
+-- a step of a series reads back
+step_of-decimal : (from to step : ℕ) → 0 < step → step ≤ LAST_TIME → rows_in from to step ≤ MOST_ROWS → step_of from to (decimal step) ≡ Ok step
+step_of-decimal from to step some small few =
+    let both : (nat_lt 0 step && nat_le (rows_in from to step) MOST_ROWS) ≡ true = grind (arith, nat_tests) in
+    rw (time_of-decimal step small, both) refl
+
+meaning-series : (series : Series) → is_name series.name ≡ true → IsSeriesInRange series →
+    meaning (printed (commands.Series series)) ≡ Ok (Some (commands.Series series))
+unfolding printed
+meaning-series series is ranged =
+    let rest = series.name ∷ kind_name series.kind ∷ decimal series.from ∷ decimal series.to ∷ decimal series.step ∷ [] in
+    let from = ranged.from in
+    let to = ranged.to in
+    let step = ranged.step in
+    let all : AreWords rest = (
+      IsWord-name series.name is,
+      (
+        IsWord-kind series.kind,
+        (IsWord-decimal series.from (omega arith), (IsWord-decimal series.to (omega arith), (IsWord-decimal series.step (omega arith), tt))),
+      ),
+    ) in
+    let short : length (spaced (codes "series") rest) ≤ 256 =
+    omega (
+      arith,
+      length-spaced rest (codes "series"),
+      length-is_name series.name is,
+      length-kind series.kind,
+      length-decimal_64 series.from (omega arith),
+      length-decimal_64 series.to (omega arith),
+      length-decimal_64 series.step (omega arith),
+    ) in
+    meaning-spaced (codes "series") rest (literal (codes "series") refl) all short refl
+    ∙ rw (
+      kind_of-name series.kind,
+      time_of-decimal series.from from,
+      time_of-decimal series.to to,
+      step_of-decimal series.from series.to series.step ranged.some step ranged.few,
+      name_of-name series.name is,
+    ) refl
+
 meaning-windows : (name : List ℕ) → is_name name ≡ true → meaning (spaced (codes "windows") (name ∷ [])) ≡ Ok (Some (commands.Windows name))
 meaning-windows name is =
     let rest = name ∷ [] in
@@ -261,5 +303,6 @@ meaning-printed (commands.Do (Value name t v)) sayable = meaning-value name t v 
 meaning-printed (commands.Do (Open name t)) sayable = meaning-open name t sayable.0 sayable.1
 meaning-printed (commands.Do (Close name t)) sayable = meaning-close name t sayable.0 sayable.1
 meaning-printed (commands.Ask query) sayable = meaning-query query.name query.kind query.from query.to sayable.0 sayable.1.0 sayable.1.1
+meaning-printed (commands.Series series) sayable = meaning-series series sayable.0 sayable.1
 meaning-printed (commands.Windows name) sayable = meaning-windows name sayable
 meaning-printed commands.List sayable = meaning-spaced (codes "list") [] (literal (codes "list") refl) tt (omega arith) refl

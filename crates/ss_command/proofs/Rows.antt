@@ -154,3 +154,29 @@ means-one_more :
     ≡ map refused (refusals.Syntax ∷ refusals.Syntax ∷ refusals.Syntax ∷ refusals.Syntax ∷ refusals.Syntax ∷ [])
 unfolding meaning words is_number number_of number_up_to signed_of is_name
 means-one_more = refl
+
+means-series :
+    map meaning (codes "series a count 10 40 5" ∷ codes "series a sum 00 4611686018427387904 4611686018427387904" ∷ codes "series a min 5 4 1"
+    ∷ codes "series a max 0 99999 1" ∷ codes "series a max 1 0 1" ∷ [])
+    ≡ Ok (Some (commands.Series (record { name = codes "a"; kind = kinds.Count; from = 10; to = 40; step = 5 })))
+    ∷ Ok (Some (commands.Series (record { name = codes "a"; kind = kinds.Sum; from = 0; to = 4611686018427387904; step = 4611686018427387904 })))
+    ∷ Ok (Some (commands.Series (record { name = codes "a"; kind = kinds.Min; from = 5; to = 4; step = 1 })))
+    ∷ Ok (Some (commands.Series (record { name = codes "a"; kind = kinds.Max; from = 0; to = 99999; step = 1 })))
+    ∷ Ok (Some (commands.Series (record { name = codes "a"; kind = kinds.Max; from = 1; to = 0; step = 1 })))
+    ∷ []
+unfolding meaning words is_number number_of number_up_to signed_of is_name
+means-series = refl
+
+-- the order of the refusals; a step of 0, one past the last time, and one row too many
+means-series_refused :
+    map meaning (codes "series a count 1 2" ∷ codes "series a count 1 2 3 4" ∷ codes "series x! mean y 2 0" ∷ codes "series x! sum y 2 1"
+    ∷ codes "series x! sum 1 2 0" ∷ codes "series a sum 1 2 4611686018427387905" ∷ codes "series a sum 0 100000 1" ∷ codes "series a sum 2 1 0"
+    ∷ codes "series x! sum 0 100000 1" ∷ codes "series x! sum 0 100000 2" ∷ [])
+    ≡ map refused (refusals.Syntax ∷ refusals.Syntax ∷ refusals.Syntax ∷ refusals.Number ∷ refusals.Number ∷ refusals.Number ∷ refusals.Number
+    ∷ refusals.Number ∷ refusals.Number ∷ refusals.Name ∷ [])
+unfolding meaning words is_number number_of number_up_to signed_of is_name
+means-series_refused = refl
+
+printed-series : printed (commands.Series (record { name = codes "a"; kind = kinds.Min; from = 45; to = 65; step = 7 })) ≡ codes "series a min 45 65 7"
+unfolding printed digits
+printed-series = refl

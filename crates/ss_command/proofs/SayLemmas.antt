@@ -7,13 +7,14 @@ use Rattle.std.specs.Int.{w64}
 use Rattle.ss_fields.specs.Words.{as_negative, as_positive, number_up_to, signed_of}
 use Rattle.ss_fields.specs.declared.number_error.NumberError.{NumberError}
 use Rattle.ss_catalog.specs.Names.{is_name}
-use Rattle.ss_catalog.specs.declared.TheConstants.{LAST_TIME}
+use Rattle.ss_catalog.specs.Series.{rows_in}
+use Rattle.ss_catalog.specs.declared.TheConstants.{LAST_TIME, MOST_ROWS}
 use Rattle.ss_catalog.specs.declared.event.Event.TheVariants.{Create, Value, Open, Close}
 use Rattle.ss_catalog.specs.declared.params.Params.TheVariants.{Exp, Power}
 use Rattle.ss_catalog.specs.declared.refusal.Refusal.{Refusal}
 use Rattle.ss_command.specs.declared.TheConstants.{LONGEST_LINE}
 use Rattle.ss_command.specs.Grammar.{◌>>=◌, append_of, close_of, command_of, create_of, exp_of, is_comment, landmark_of, list_of, meaning}
-use Rattle.ss_command.specs.Grammar.{meaning_of_words, kind_of, name_of, open_of, or_number, parameter_of, power_of, query_of, time_of, value_of}
+use Rattle.ss_command.specs.Grammar.{meaning_of_words, kind_of, name_of, open_of, or_number, parameter_of, power_of, query_of, series_of, step_of, time_of, value_of}
 use Rattle.ss_command.specs.Grammar.{windows_of}
 use Rattle.ss_command.specs.Printed.{IsSayable}
 use Rattle.ss_command.specs.Words.{is_word, words}
@@ -165,6 +166,34 @@ query-sayable (name ∷ asked ∷ first ∷ last ∷ []) c same =
     subst IsSayable is (name-is name stream.0 stream.1, (time-le first from.0 from.1, time-le last to.0 to.1))
 query-sayable (name ∷ asked ∷ first ∷ last ∷ more ∷ rest) c same = cc
 
+-- a step that was read cuts its range into rows
+step-rows : (from to step : ℕ) (word : List ℕ) → step_of from to word ≡ Ok step →
+    (0 < step) × (step ≤ LAST_TIME) × (rows_in from to step ≤ MOST_ROWS)
+step-rows from to step word same =
+    let read = bind-Ok (time_of word) _ step same in
+    let bound = time-le word read.0 read.1 in
+    grind (arith, nat_tests)
+
+series-sayable : (ws : List (List ℕ)) (c : Command) → series_of ws ≡ Ok c → IsSayable c
+series-sayable [] c same = cc
+series-sayable (name ∷ []) c same = cc
+series-sayable (name ∷ asked ∷ []) c same = cc
+series-sayable (name ∷ asked ∷ first ∷ []) c same = cc
+series-sayable (name ∷ asked ∷ first ∷ last ∷ []) c same = cc
+series-sayable (name ∷ asked ∷ first ∷ last ∷ width ∷ []) c same =
+    let kind = bind-Ok (kind_of asked) _ c same in
+    let from = bind-Ok (time_of first) _ c kind.2 in
+    let to = bind-Ok (time_of last) _ c from.2 in
+    let step = bind-Ok (step_of from.0 to.0 width) _ c to.2 in
+    let stream = bind-Ok (name_of name) _ c step.2 in
+    let is : commands.Series (record { name = stream.0; kind = kind.0; from = from.0; to = to.0; step = step.0 }) ≡ c = cc (stream.2) in
+    let rows = step-rows from.0 to.0 step.0 width step.1 in
+    subst IsSayable is (
+      name-is name stream.0 stream.1,
+      record { from = time-le first from.0 from.1; to = time-le last to.0 to.1; some = rows.0; step = rows.1; few = rows.2 },
+    )
+series-sayable (name ∷ asked ∷ first ∷ last ∷ width ∷ more ∷ rest) c same = cc
+
 windows-sayable : (ws : List (List ℕ)) (c : Command) → windows_of ws ≡ Ok c → IsSayable c
 windows-sayable [] c same = cc
 windows-sayable (name ∷ []) c same =
@@ -183,8 +212,9 @@ command-sayable verb rest c same =
     (choice (IsSayable c) (is_word verb (codes "append")) _ _ c (append-sayable rest c)
     (choice (IsSayable c) (is_word verb (codes "landmark")) _ _ c (landmark-sayable rest c)
     (choice (IsSayable c) (is_word verb (codes "query")) _ _ c (query-sayable rest c)
+    (choice (IsSayable c) (is_word verb (codes "series")) _ _ c (series-sayable rest c)
     (choice (IsSayable c) (is_word verb (codes "windows")) _ _ c (windows-sayable rest c)
-    (choice (IsSayable c) (is_word verb (codes "list")) _ _ c (list-sayable rest c) (λ wrong. cc (wrong)))))))
+    (choice (IsSayable c) (is_word verb (codes "list")) _ _ c (list-sayable rest c) (λ wrong. cc (wrong))))))))
     same
 
 words-sayable : (ws : List (List ℕ)) (c : Command) → meaning_of_words ws ≡ Ok (Some c) → IsSayable c

@@ -1,9 +1,10 @@
 -- What a line means.
-use Rattle.std.specs.Prelude.{ℕ, ◌^◌, ◌-◌, Bool, ◌==◌, nat_lt, if◌then◌else◌, List, [], ◌∷◌, length, slice_index, codes, Option, Some, None, Result, Ok, Err, ℤ}
+use Rattle.std.specs.Prelude.{ℕ, ◌^◌, ◌-◌, Bool, ◌==◌, ◌&&◌, nat_lt, nat_le, if◌then◌else◌, List, [], ◌∷◌, length, slice_index, codes, Option, Some, None, Result, Ok, Err, ℤ}
 use Rattle.ss_fields.specs.Words.{number_up_to, signed_of}
 use Rattle.ss_fields.specs.declared.number_error.NumberError.{NumberError}
 use Rattle.ss_catalog.specs.Names.{is_name}
-use Rattle.ss_catalog.specs.declared.TheConstants.{LAST_TIME}
+use Rattle.ss_catalog.specs.Series.{rows_in}
+use Rattle.ss_catalog.specs.declared.TheConstants.{LAST_TIME, MOST_ROWS}
 use Rattle.ss_catalog.specs.declared.event.Event.TheVariants.{Create, Value, Open, Close}
 use Rattle.ss_catalog.specs.declared.params.Params.TheVariants.{Exp, Power}
 use Rattle.ss_catalog.specs.declared.query.Kind.{Kind}
@@ -29,6 +30,12 @@ or_number (Err e) = Err refusals.Number
 -- a time: digits up to the last time
 abbrev pub time_of : List ℕ → Result ℕ Refusal
 time_of word = or_number (number_up_to LAST_TIME word)
+
+-- a step of the rows of a range: as a time, but not 0, nor so short that there are more rows than a series may have
+abbrev pub step_of : ℕ → ℕ → List ℕ → Result ℕ Refusal
+step_of from to word = do
+  step ← time_of word
+  if nat_lt 0 step && nat_le (rows_in from to step) MOST_ROWS then Ok step else Err refusals.Number
 
 -- a value: digits that a `-` may precede, in 64 bits
 abbrev pub value_of : List ℕ → Result ℤ Refusal
@@ -121,6 +128,17 @@ query_of (name ∷ asked ∷ first ∷ last ∷ []) = do
   Ok (commands.Ask (record { name = stream; kind = kind; from = from; to = to }))
 query_of _ = Err refusals.Syntax
 
+-- `series NAME count T1 T2 STEP`, from its name on; also with `sum`, `min` and `max`
+abbrev pub series_of : List (List ℕ) → Result Command Refusal
+series_of (name ∷ asked ∷ first ∷ last ∷ width ∷ []) = do
+  kind ← kind_of asked
+  from ← time_of first
+  to ← time_of last
+  step ← step_of from to width
+  stream ← name_of name
+  Ok (commands.Series (record { name = stream; kind = kind; from = from; to = to; step = step }))
+series_of _ = Err refusals.Syntax
+
 -- `windows NAME`, from its name on
 abbrev pub windows_of : List (List ℕ) → Result Command Refusal
 windows_of (name ∷ []) = do
@@ -140,9 +158,10 @@ command_of verb rest =
     else (if is_word verb (codes "append") then append_of rest
     else (if is_word verb (codes "landmark") then landmark_of rest
     else (if is_word verb (codes "query") then query_of rest
+    else (if is_word verb (codes "series") then series_of rest
     else (if is_word verb (codes "windows") then windows_of rest
     else (if is_word verb (codes "list") then list_of rest
-    else Err refusals.Syntax)))))
+    else Err refusals.Syntax))))))
 
 -- what words mean: nothing, where there are none, or a command
 abbrev pub meaning_of_words : List (List ℕ) → Result (Option Command) Refusal

@@ -5,6 +5,7 @@ use Rattle.std.specs.Int.{w64}
 use Rattle.ss_catalog.specs.Events.{IsInTime}
 use Rattle.ss_catalog.specs.Names.{is_name}
 use Rattle.ss_catalog.specs.Queries.{IsQueryInTime, kind_name}
+use Rattle.ss_catalog.specs.Series.{IsSeriesInRange}
 use Rattle.ss_catalog.specs.declared.TheConstants.{LAST_TIME}
 use Rattle.ss_catalog.specs.declared.event.Event.TheVariants.{Create, Value, Open, Close}
 use Rattle.ss_catalog.specs.declared.params.Params.{Params}
@@ -32,6 +33,8 @@ printed (commands.Do (Value name t v)) = spaced (codes "append") (name ∷ decim
 printed (commands.Do (Open name t)) = spaced (codes "landmark") (name ∷ codes "open" ∷ decimal t ∷ [])
 printed (commands.Do (Close name t)) = spaced (codes "landmark") (name ∷ codes "close" ∷ decimal t ∷ [])
 printed (commands.Ask query) = spaced (codes "query") (query.name ∷ kind_name query.kind ∷ decimal query.from ∷ decimal query.to ∷ [])
+printed (commands.Series series) =
+    spaced (codes "series") (series.name ∷ kind_name series.kind ∷ decimal series.from ∷ decimal series.to ∷ decimal series.step ∷ [])
 printed (commands.Windows name) = spaced (codes "windows") (name ∷ [])
 printed commands.List = codes "list"
 
@@ -47,12 +50,14 @@ IsSayable (commands.Do (Value name t v)) = (is_name name ≡ true) × (t ≤ LAS
 IsSayable (commands.Do (Open name t)) = (is_name name ≡ true) × (t ≤ LAST_TIME)
 IsSayable (commands.Do (Close name t)) = (is_name name ≡ true) × (t ≤ LAST_TIME)
 IsSayable (commands.Ask query) = (is_name query.name ≡ true) × IsQueryInTime query
+IsSayable (commands.Series series) = (is_name series.name ≡ true) × IsSeriesInRange series
 IsSayable (commands.Windows name) = is_name name ≡ true
 IsSayable commands.List = Unit {0}
 
--- a command has no time above the greatest one
+-- a command has no time above the greatest one, and a series no more rows than one may have
 abbrev pub IsCommandInTime : Command → Type 0
 IsCommandInTime (commands.Do event) = IsInTime event
 IsCommandInTime (commands.Ask query) = IsQueryInTime query
+IsCommandInTime (commands.Series series) = IsSeriesInRange series
 IsCommandInTime (commands.Windows name) = Unit {0}
 IsCommandInTime commands.List = Unit {0}

@@ -1,5 +1,5 @@
 // What a line asks for.
-use ss_catalog::{Event, Name, Query};
+use ss_catalog::{Event, Name, Query, Series};
 
 /// What a line asks for. docs/GUIDE.md ("Commands") has the forms.
 #[derive(Clone, Copy, Debug, PartialEq, Eq)]
@@ -8,6 +8,8 @@ pub enum Command {
     Do(Event),
     /// What is asked of a stream.
     Ask(Query),
+    /// What is asked of a stream in rows.
+    Series(Series),
     /// The windows of a stream.
     Windows(Name),
     /// All streams.

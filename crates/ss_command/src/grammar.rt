@@ -1,14 +1,14 @@
 // What a line means.
 ghost use Rattle.std.specs.Prelude.{◌≡◌, ◌≤◌, length, codes, IfOk, IfSome};
 ghost use Rattle.ss_command.specs.Grammar.{append_of, close_of, command_of, create_of, exp_of, is_comment, kind_of, landmark_of, list_of, meaning};
-ghost use Rattle.ss_command.specs.Grammar.{open_of, power_of, query_of, windows_of};
+ghost use Rattle.ss_command.specs.Grammar.{open_of, power_of, query_of, series_of, windows_of};
 ghost use Rattle.ss_command.specs.Printed.{IsCommandInTime, IsSayable};
 
 use crate::command::Command;
-use crate::numbers::{read_name, read_parameter, read_time, read_value};
+use crate::numbers::{read_name, read_parameter, read_step, read_time, read_value};
 use crate::words::{Words, is_word};
 use crate::{COMMENT, LONGEST_LINE};
-use ss_catalog::{Event, Kind, Params, Query, Refusal};
+use ss_catalog::{Event, Kind, Params, Query, Refusal, Series};
 
 // Reads `create NAME exp B R S`, from B on.
 fn exp(name: &[u8], mut words: Words) -> Result<Command, Refusal>
@@ -154,6 +154,31 @@ fn query(mut words: Words) -> Result<Command, Refusal>
     }))
 }
 
+// Reads `series NAME count T1 T2 STEP` and its like, from its name on.
+fn series(mut words: Words) -> Result<Command, Refusal>
+    ensures meaning { result ≡ series_of words.entry }
+    ensures time { IfOk result IsCommandInTime }
+{
+    let name = words.word()?;
+    let asked = words.word()?;
+    let first = words.word()?;
+    let last = words.word()?;
+    let width = words.word()?;
+    words.end()?;
+    let kind = kind(asked)?;
+    let from = read_time(first)?;
+    let to = read_time(last)?;
+    let step = read_step(width, from, to)?;
+    let name = read_name(name)?;
+    Ok(Command::Series(Series {
+        name,
+        kind,
+        from,
+        to,
+        step,
+    }))
+}
+
 // Reads `windows NAME`, from its name on.
 fn windows(mut words: Words) -> Result<Command, Refusal>
     ensures { result ≡ windows_of words.entry }
@@ -185,6 +210,8 @@ fn command(verb: &[u8], words: Words) -> Result<Command, Refusal>
         landmark(words)
     } else if is_word(verb, "query") {
         query(words)
+    } else if is_word(verb, "series") {
+        series(words)
     } else if is_word(verb, "windows") {
         windows(words)
     } else if is_word(verb, "list") {

@@ -1,9 +1,10 @@
 // Words that are to be numbers or names.
-ghost use Rattle.std.specs.Prelude.{◌≡◌, ◌≤◌, ◌^◌, ◌-◌, IfOk};
+ghost use Rattle.std.specs.Prelude.{◌≡◌, ◌<◌, ◌≤◌, ◌^◌, ◌-◌, IfOk};
+ghost use Rattle.ss_catalog.specs.Series.{rows_in};
 ghost use Rattle.ss_fields.specs.Words.{number_up_to};
-ghost use Rattle.ss_command.specs.Grammar.{or_number, time_of, value_of, parameter_of, name_of};
+ghost use Rattle.ss_command.specs.Grammar.{or_number, time_of, step_of, value_of, parameter_of, name_of};
 
-use ss_catalog::{LAST_TIME, Name, Refusal};
+use ss_catalog::{LAST_TIME, MOST_ROWS, Name, Refusal, rows_in};
 use ss_fields::{read_i64, read_u64};
 
 // A number of digits up to `most`.
@@ -23,6 +24,22 @@ pub fn read_time(word: &[u8]) -> Result<u64, Refusal>
     ensures bound { IfOk result (λ t. t ≤ LAST_TIME) }
 {
     read_up_to(word, LAST_TIME)
+}
+
+/// The step of a series over the range `from..=to`.
+pub fn read_step(word: &[u8], from: u64, to: u64) -> Result<u64, Refusal>
+    requires { to ≤ LAST_TIME }
+    ensures value { result ≡ step_of from to word.now }
+    ensures some { IfOk result (λ step. 0 < step) }
+    ensures bound { IfOk result (λ step. step ≤ LAST_TIME) }
+    ensures few { IfOk result (λ step. rows_in from to step ≤ MOST_ROWS) }
+{
+    let step = read_time(word)?;
+    if 0 < step && rows_in(from, to, step) <= u64::from(MOST_ROWS) {
+        Ok(step)
+    } else {
+        Err(Refusal::Number)
+    }
 }
 
 /// A value.

@@ -2,6 +2,7 @@
 ghost use Rattle.std.specs.Prelude.{◌≡◌, [], Ok, Some};
 ghost use Rattle.ss_catalog.specs.Events.{IsInTime};
 ghost use Rattle.ss_catalog.specs.Queries.{IsQueryInTime};
+ghost use Rattle.ss_catalog.specs.Series.{IsSeriesInRange};
 ghost use Rattle.ss_command.specs.Grammar.{meaning};
 ghost use Rattle.ss_command.specs.Printed.{IsCommandInTime, IsSayable, printed};
 ghost use Rattle.ss_command.specs.declared.command.Command.TheVariants as commands;
@@ -9,7 +10,7 @@ ghost use Rattle.ss_command.specs.declared.command.Command.TheVariants as comman
 use crate::command::Command;
 use crate::put::{put_kind, put_name, put_number, put_target, put_value};
 use arrayvec::ArrayString;
-use ss_catalog::{Event, Query};
+use ss_catalog::{Event, Query, Series};
 
 // Writes an event into an empty text.
 fn print_event(event: &Event, out: &mut ArrayString<256>)
@@ -59,6 +60,21 @@ fn print_query(query: &Query, out: &mut ArrayString<256>)
     put_number(query.to, out);
 }
 
+// Writes a series into an empty text.
+fn print_series(series: &Series, out: &mut ArrayString<256>)
+    requires empty { out.old.bytes ≡ [] }
+    requires range { IsSeriesInRange series.now }
+    ensures text { out.new.bytes ≡ printed (commands.Series series.now) }
+    ensures sayable { IsSayable (commands.Series series.now) }
+{
+    out.push_str("series");
+    put_name(&series.name, out);
+    put_kind(series.kind, out);
+    put_number(series.from, out);
+    put_number(series.to, out);
+    put_number(series.step, out);
+}
+
 /// Writes a command into an empty text: its words with one space between them, numbers without leading zeros. `parse`
 /// reads it as the same command.
 pub fn print(command: &Command, out: &mut ArrayString<256>)
@@ -71,6 +87,7 @@ pub fn print(command: &Command, out: &mut ArrayString<256>)
     match command {
         Command::Do(event) => print_event(event, out),
         Command::Ask(query) => print_query(query, out),
+        Command::Series(series) => print_series(series, out),
         Command::Windows(name) => {
             out.push_str("windows");
             put_name(name, out);

@@ -3,6 +3,7 @@ mod HistoryRows
 mod MarkRows
 mod QueryRows
 mod AnswerRows
+mod SeriesRows
 pub mod Rises
 pub mod Stretches
 pub mod Incremental
@@ -26,3 +27,4 @@ pub mod IntervalLemmas
 pub mod PieceLemmas
 pub mod RisingLemmas
 pub mod AnswerLemmas
+pub mod RowLemmas

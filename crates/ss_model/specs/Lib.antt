@@ -16,3 +16,4 @@ pub mod Outline
 pub mod Truth
 pub mod Interval
 pub mod Answers
+pub mod Series

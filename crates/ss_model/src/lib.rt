@@ -9,6 +9,7 @@ mod laws;
 mod outcome;
 mod outline_laws;
 mod query_laws;
+mod series_laws;
 mod types;
 
 pub use answer_laws::{outcomes_hold_the_truth, queries_are_refused_or_answered};
@@ -33,4 +34,5 @@ pub use outline_laws::refusals_read_outlines;
 pub use query_laws::{
     answers_hold_the_truth, answers_hold_the_truth_of_histories, unsplit_answers_are_exact,
 };
+pub use series_laws::rows_hold_the_truth;
 pub use types::{Ack, MOST_RECORDS, Placed, StreamRow, Window};

@@ -7,7 +7,7 @@ use Rattle.ss_catalog.specs.declared.params.Params.TheVariants.{Exp}
 use Rattle.ss_catalog.specs.declared.refusal.Refusal.TheVariants as refusals
 use Rattle.ss_model.specs.declared.outcome.Outcome.TheVariants.{Count, Sum, Min, Max}
 use Rattle.ss_report.specs.Text.{reply_line}
-use Rattle.ss_report.specs.declared.reply.Reply.TheVariants.{Done, Answered, Refused, WindowsHead, Window, ListHead, Stream}
+use Rattle.ss_report.specs.declared.reply.Reply.TheVariants.{Done, Answered, Refused, SeriesHead, Row, WindowsHead, Window, ListHead, Stream}
 
 -- a text as a line
 abbrev ended : List ℕ → List ℕ
@@ -29,6 +29,15 @@ replies-answers :
     ∷ codes "max 0 0 maybe-none" ∷ codes "max none" ∷ [])
 unfolding digits
 replies-answers = refl
+
+replies-series :
+    map reply_line
+    (SeriesHead 5 ∷ Row 10 (Count 1 3) ∷ Row 4611686018427387904 (Sum (negsuc 4) (pos 16)) ∷ Row 0 (Min (Maybe (negsuc 2) (pos 8)))
+    ∷ Row 7 (Max (Sure (pos 2) (pos 9))) ∷ Row 8 (Max Nothing) ∷ [])
+    ≡ map ended
+    (codes "series 5" ∷ codes "10 1 3" ∷ codes "4611686018427387904 -5 16" ∷ codes "0 -3 8 maybe-none" ∷ codes "7 2 9" ∷ codes "8 none" ∷ [])
+unfolding digits
+replies-series = refl
 
 replies-windows :
     map reply_line

@@ -9,7 +9,7 @@ use Rattle.ss_command.specs.declared.TheConstants.{LINE_END}
 use Rattle.ss_model.specs.declared.outcome.Outcome.{Outcome}
 use Rattle.ss_model.specs.declared.outcome.Outcome.TheVariants.{Count, Sum, Min, Max}
 use Rattle.ss_report.specs.declared.reply.Reply.{Reply}
-use Rattle.ss_report.specs.declared.reply.Reply.TheVariants.{Done, Answered, Refused, WindowsHead, Window, ListHead, Stream}
+use Rattle.ss_report.specs.declared.reply.Reply.TheVariants.{Done, Answered, Refused, SeriesHead, Row, WindowsHead, Window, ListHead, Stream}
 
 -- a line of words with one space between them, with its line end
 abbrev pub line_of : List ℕ → List (List ℕ) → List ℕ
@@ -21,18 +21,27 @@ extreme_words Nothing = codes "none" ∷ []
 extreme_words (Sure lo hi) = signed_decimal lo ∷ signed_decimal hi ∷ []
 extreme_words (Maybe lo hi) = signed_decimal lo ∷ signed_decimal hi ∷ codes "maybe-none" ∷ []
 
--- the line of an answer
-abbrev pub answer_line : Outcome → List ℕ
-answer_line (Count lo hi) = line_of (codes "count") (decimal lo ∷ decimal hi ∷ [])
-answer_line (Sum lo hi) = line_of (codes "sum") (signed_decimal lo ∷ signed_decimal hi ∷ [])
-answer_line (Min extreme) = line_of (codes "min") (extreme_words extreme)
-answer_line (Max extreme) = line_of (codes "max") (extreme_words extreme)
+-- what is answered, as a word
+abbrev pub answer_kind : Outcome → List ℕ
+answer_kind (Count lo hi) = codes "count"
+answer_kind (Sum lo hi) = codes "sum"
+answer_kind (Min extreme) = codes "min"
+answer_kind (Max extreme) = codes "max"
+
+-- the words of an answer behind that one
+abbrev pub answer_words : Outcome → List (List ℕ)
+answer_words (Count lo hi) = decimal lo ∷ decimal hi ∷ []
+answer_words (Sum lo hi) = signed_decimal lo ∷ signed_decimal hi ∷ []
+answer_words (Min extreme) = extreme_words extreme
+answer_words (Max extreme) = extreme_words extreme
 
 -- the line of a reply, with its line end
 abbrev pub reply_line : Reply → List ℕ
 reply_line (Done ack) = line_of (codes "ok") (decimal ack.n ∷ decimal ack.k ∷ [])
-reply_line (Answered outcome) = answer_line outcome
+reply_line (Answered outcome) = line_of (answer_kind outcome) (answer_words outcome)
 reply_line (Refused refusal) = line_of (codes "refused") (refusal_name refusal ∷ [])
+reply_line (SeriesHead count) = line_of (codes "series") (decimal count ∷ [])
+reply_line (Row at outcome) = line_of (decimal at) (answer_words outcome)
 reply_line (WindowsHead count) = line_of (codes "windows") (decimal count ∷ [])
 reply_line (Window w) =
     line_of (decimal w.first) (decimal w.last ∷ decimal w.summary.count ∷ signed_decimal w.summary.sum ∷ signed_decimal w.summary.min ∷ signed_decimal

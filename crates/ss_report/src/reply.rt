@@ -12,6 +12,10 @@ pub enum Reply {
     Answered(Outcome),
     /// A command was refused.
     Refused(Refusal),
+    /// So many rows of a series follow.
+    SeriesHead(u32),
+    /// A row of a series: the time at which it begins, and the answer to its query.
+    Row { at: u64, outcome: Outcome },
     /// So many windows follow.
     WindowsHead(u32),
     /// A window.

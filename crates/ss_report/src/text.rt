@@ -2,9 +2,8 @@
 ghost use Rattle.std.specs.Prelude.{◌≡◌, ◌+◌, ◌≤◌, [], length};
 ghost use Rattle.std.specs.Fmt.{decimal};
 ghost use Rattle.ss_command.specs.Printed.{spaced};
-ghost use Rattle.ss_report.specs.Text.{answer_line, extreme_words, reply_line};
-ghost use Rattle.ss_model.specs.declared.outcome.Outcome.TheVariants.{Count, Sum, Min, Max};
-ghost use Rattle.ss_report.specs.declared.reply.Reply.TheVariants.{Done, Refused, WindowsHead, Window, ListHead, Stream};
+ghost use Rattle.ss_report.specs.Text.{answer_kind, answer_words, extreme_words, reply_line};
+ghost use Rattle.ss_report.specs.declared.reply.Reply.TheVariants.{Done, Answered, Refused, SeriesHead, Row, WindowsHead, Window, ListHead, Stream};
 
 use crate::Reply;
 use arrayvec::ArrayString;
@@ -43,28 +42,6 @@ fn done_text(ack: &Ack, out: &mut ArrayString<256>)
     out.push_str("\n");
 }
 
-// Writes the line of a count into an empty text.
-fn count_text(lo: u64, hi: u64, out: &mut ArrayString<256>)
-    requires { out.old.bytes ≡ [] }
-    ensures { out.new.bytes ≡ answer_line (Count lo hi) }
-{
-    out.push_str("count");
-    put_number(lo, out);
-    put_number(hi, out);
-    out.push_str("\n");
-}
-
-// Writes the line of a sum into an empty text.
-fn sum_text(lo: i128, hi: i128, out: &mut ArrayString<256>)
-    requires { out.old.bytes ≡ [] }
-    ensures { out.new.bytes ≡ answer_line (Sum lo hi) }
-{
-    out.push_str("sum");
-    put_sum(lo, out);
-    put_sum(hi, out);
-    out.push_str("\n");
-}
-
 // Adds what is known of a least or a greatest value.
 fn put_extreme(extreme: Extreme, out: &mut ArrayString<256>)
     requires { length out.old.bytes + 80 ≤ 256 }
@@ -85,37 +62,46 @@ fn put_extreme(extreme: Extreme, out: &mut ArrayString<256>)
     }
 }
 
-// Writes the line of a least value into an empty text.
-fn min_text(extreme: Extreme, out: &mut ArrayString<256>)
-    requires { out.old.bytes ≡ [] }
-    ensures { out.new.bytes ≡ answer_line (Min extreme) }
+// Adds what an answer says.
+fn put_words(outcome: &Outcome, out: &mut ArrayString<256>)
+    requires { length out.old.bytes + 82 ≤ 256 }
+    ensures bytes { out.new.bytes ≡ spaced out.old.bytes (answer_words outcome.now) }
+    ensures short { length out.new.bytes ≤ length out.old.bytes + 82 }
 {
-    out.push_str("min");
-    put_extreme(extreme, out);
-    out.push_str("\n");
+    match *outcome {
+        Outcome::Count { lo, hi } => {
+            put_number(lo, out);
+            put_number(hi, out);
+        }
+        Outcome::Sum { lo, hi } => {
+            put_sum(lo, out);
+            put_sum(hi, out);
+        }
+        Outcome::Min(extreme) => put_extreme(extreme, out),
+        Outcome::Max(extreme) => put_extreme(extreme, out),
+    }
 }
 
-// Writes the line of a greatest value into an empty text.
-fn max_text(extreme: Extreme, out: &mut ArrayString<256>)
-    requires { out.old.bytes ≡ [] }
-    ensures { out.new.bytes ≡ answer_line (Max extreme) }
+// What is answered, as a word.
+fn kind_word(outcome: &Outcome) -> &'static str
+    ensures { result.now ≡ answer_kind outcome.now }
 {
-    out.push_str("max");
-    put_extreme(extreme, out);
-    out.push_str("\n");
+    match outcome {
+        Outcome::Count { .. } => "count",
+        Outcome::Sum { .. } => "sum",
+        Outcome::Min(_) => "min",
+        Outcome::Max(_) => "max",
+    }
 }
 
 // Writes the line of an answer into an empty text.
 fn answer_text(outcome: &Outcome, out: &mut ArrayString<256>)
     requires { out.old.bytes ≡ [] }
-    ensures { out.new.bytes ≡ answer_line outcome.now }
+    ensures { out.new.bytes ≡ reply_line (Answered outcome.now) }
 {
-    match *outcome {
-        Outcome::Count { lo, hi } => count_text(lo, hi, out),
-        Outcome::Sum { lo, hi } => sum_text(lo, hi, out),
-        Outcome::Min(extreme) => min_text(extreme, out),
-        Outcome::Max(extreme) => max_text(extreme, out),
-    }
+    out.push_str(kind_word(outcome));
+    put_words(outcome, out);
+    out.push_str("\n");
 }
 
 // Writes the line of a refusal into an empty text.
@@ -125,6 +111,26 @@ fn refused_text(refusal: Refusal, out: &mut ArrayString<256>)
 {
     out.push_str("refused ");
     out.push_str(refusal.text());
+    out.push_str("\n");
+}
+
+// Writes the line that stands above the rows of a series into an empty text.
+fn series_text(count: u32, out: &mut ArrayString<256>)
+    requires { out.old.bytes ≡ [] }
+    ensures { out.new.bytes ≡ reply_line (SeriesHead count) }
+{
+    out.push_str("series");
+    put_number(u64::from(count), out);
+    out.push_str("\n");
+}
+
+// Writes the line of a row of a series into an empty text.
+fn row_text(at: u64, outcome: &Outcome, out: &mut ArrayString<256>)
+    requires { out.old.bytes ≡ [] }
+    ensures { out.new.bytes ≡ reply_line (Row at outcome.now) }
+{
+    begin_with_number(at, out);
+    put_words(outcome, out);
     out.push_str("\n");
 }
 
@@ -187,6 +193,8 @@ pub fn reply_text(reply: &Reply, out: &mut ArrayString<256>)
         Reply::Done(ack) => done_text(ack, out),
         Reply::Answered(outcome) => answer_text(outcome, out),
         Reply::Refused(refusal) => refused_text(*refusal, out),
+        Reply::SeriesHead(count) => series_text(*count, out),
+        Reply::Row { at, outcome } => row_text(*at, outcome, out),
         Reply::WindowsHead(count) => windows_text(*count, out),
         Reply::Window(window) => window_text(window, out),
         Reply::ListHead(count) => list_text(*count, out),

@@ -1,6 +1,6 @@
 // Which word of a line isn't a number in its range.
 use crate::words::{has_digits_alone, word_at};
-use ss_catalog::LAST_TIME;
+use ss_catalog::{LAST_TIME, MOST_ROWS};
 use ss_fields::{read_i64, read_u64};
 use std::alloc::{AllocError, Global};
 
@@ -8,6 +8,7 @@ use std::alloc::{AllocError, Global};
 #[derive(Clone, Copy)]
 enum Number {
     Time,
+    Step,
     Value,
     Parameter,
 }
@@ -18,8 +19,10 @@ fn number_at(verb: &str, place: usize) -> Option<Number> {
         Some(Number::Parameter)
     } else if verb == "append" && place == 3 {
         Some(Number::Value)
+    } else if verb == "series" && place == 5 {
+        Some(Number::Step)
     } else if verb == "append" && place == 2
-        || (verb == "landmark" || verb == "query") && place >= 3
+        || (verb == "landmark" || verb == "query" || verb == "series") && place >= 3
     {
         Some(Number::Time)
     } else {
@@ -27,10 +30,10 @@ fn number_at(verb: &str, place: usize) -> Option<Number> {
     }
 }
 
-// Whether a word is a number of digits up to this one.
-fn is_up_to(word: &str, most: u64) -> bool {
+// Whether a word is a number of digits between these two.
+fn is_within(word: &str, least: u64, most: u64) -> bool {
     match read_u64(word.as_bytes()) {
-        Ok(number) => number <= most,
+        Ok(number) => least <= number && number <= most,
         Err(_) => false,
     }
 }
@@ -38,9 +41,10 @@ fn is_up_to(word: &str, most: u64) -> bool {
 // Whether a word is such a number.
 fn is_number(word: &str, number: Number) -> bool {
     match number {
-        Number::Time => is_up_to(word, LAST_TIME),
+        Number::Time => is_within(word, 0, LAST_TIME),
+        Number::Step => is_within(word, 1, LAST_TIME),
         Number::Value => read_i64(word.as_bytes()).is_ok(),
-        Number::Parameter => is_up_to(word, u64::from(u32::MAX)),
+        Number::Parameter => is_within(word, 0, u64::from(u32::MAX)),
     }
 }
 
@@ -66,15 +70,24 @@ fn is_whole(word: &str) -> bool {
 fn range(alloc: Global, number: Number) -> Result<String, AllocError> {
     match number {
         Number::Time => format!(in alloc; "0 to {LAST_TIME}, as times are"),
+        Number::Step => format!(in alloc; "1 to {LAST_TIME}, as steps are"),
         Number::Value => format!(in alloc; "{} to {}, as values are", i64::MIN, i64::MAX),
         Number::Parameter => format!(in alloc; "0 to {}, as parameters are", u32::MAX),
     }
 }
 
+// Why the numbers of a command are refused of which each is in its range: those of a series may make too many rows.
+fn together(alloc: Global, words: &[&str]) -> Result<String, AllocError> {
+    let (first, last, step) = (word_at(words, 3), word_at(words, 4), word_at(words, 5));
+    format!(in alloc;
+        "from {first} to {last} there are more than {MOST_ROWS} rows of the step {step}"
+    )
+}
+
 /// Why a number of these words is none, or is out of its range.
 pub fn number_reason(alloc: Global, words: &[&str]) -> Result<String, AllocError> {
     match first_wrong(words) {
-        None => String::from_str(alloc, "a number is out of its range"),
+        None => together(alloc, words),
         Some((word, number)) if is_whole(word) => {
             let range = range(alloc, number)?;
             format!(in alloc; "{word} isn't within {range}")

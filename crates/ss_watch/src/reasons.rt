@@ -89,6 +89,7 @@ fn stream_of(command: &Command) -> &str {
     match command {
         Command::Do(event) => name_of_event(event).as_str(),
         Command::Ask(query) => query.name.as_str(),
+        Command::Series(series) => series.name.as_str(),
         Command::Windows(name) => name.as_str(),
         Command::List => "",
     }
@@ -106,6 +107,11 @@ fn time(
         Some(last) => format!(in alloc; "{t} {rule} the last time of {stream}, {last}"),
         None => format!(in alloc; "{t} {rule} the last time of {stream}"),
     }
+}
+
+// Why a range is refused.
+fn range(alloc: Global, from: u64, to: u64) -> Result<String, AllocError> {
+    format!(in alloc; "the range ends before it begins: {from} is later than {to}")
 }
 
 // Why an event is refused for its parameters or its time.
@@ -140,12 +146,8 @@ fn of_command(
         ),
         (Refusal::StoreFull, _) => String::from_str(alloc, "the store takes no more records"),
         (_, Command::Do(event)) => of_event(alloc, event, last),
-        (_, Command::Ask(query)) => {
-            format!(in alloc;
-                "the range ends before it begins: {} is later than {}",
-                query.from, query.to
-            )
-        }
+        (_, Command::Ask(query)) => range(alloc, query.from, query.to),
+        (_, Command::Series(series)) => range(alloc, series.from, series.to),
         _ => String::from_str(alloc, "it can't be done"),
     }
 }

@@ -37,7 +37,10 @@ fn refusal_named(name: &str) -> Option<Refusal> {
 
 // How many rows follow after a head.
 fn rows_after(head: &str) -> u64 {
-    let count = head.strip_prefix("windows ").or(head.strip_prefix("list "));
+    let count = head
+        .strip_prefix("windows ")
+        .or(head.strip_prefix("list "))
+        .or(head.strip_prefix("series "));
     match count {
         Some(count) => count.parse::<u64>().unwrap_or(0),
         None => 0,

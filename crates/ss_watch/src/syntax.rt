@@ -5,7 +5,9 @@ use std::alloc::{AllocError, Global};
 const CREATE: &str = "create NAME exp B R S, or create NAME power P Q R S";
 
 // The first words of the commands.
-const VERBS: [&str; 6] = ["create", "append", "landmark", "query", "windows", "list"];
+const VERBS: [&str; 7] = [
+    "create", "append", "landmark", "query", "series", "windows", "list",
+];
 
 // Whether a word is the first of a command, but for its capitals.
 fn is_verb_in_capitals(verb: &str) -> bool {
@@ -75,16 +77,11 @@ fn landmark(alloc: Global, words: &[&str]) -> Result<String, AllocError> {
     )
 }
 
-fn query(alloc: Global, words: &[&str]) -> Result<String, AllocError> {
+// A form that asks for a count, a sum, a least or a greatest value, and has so many words.
+fn asked(alloc: Global, form: &str, wanted: usize, words: &[&str]) -> Result<String, AllocError> {
     let kind = word_at(words, 2);
     let none = format!(in alloc; "\"{kind}\" is none of count, sum, min and max")?;
-    unlike(
-        alloc,
-        "query NAME count T1 T2, or sum, min or max,",
-        5,
-        words,
-        none.as_str(),
-    )
+    unlike(alloc, form, wanted, words, none.as_str())
 }
 
 /// Why these words fit no form.
@@ -97,7 +94,19 @@ pub fn syntax(alloc: Global, words: &[&str]) -> Result<String, AllocError> {
     } else if verb == "landmark" {
         landmark(alloc, words)
     } else if verb == "query" {
-        query(alloc, words)
+        asked(
+            alloc,
+            "query NAME count T1 T2, or sum, min or max,",
+            5,
+            words,
+        )
+    } else if verb == "series" {
+        asked(
+            alloc,
+            "series NAME count T1 T2 STEP, or sum, min or max,",
+            6,
+            words,
+        )
     } else if verb == "windows" {
         unlike(alloc, "windows NAME", 2, words, "")
     } else if verb == "list" {

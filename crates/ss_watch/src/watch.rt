@@ -38,6 +38,18 @@ fn ending(alloc: Global, counts: Counts, more: u64) -> Result<String, AllocError
     }
 }
 
+// The first line of a text, with its end, and the rest.
+fn first_line(text: &[u8]) -> (&[u8], &[u8]) {
+    let length = match text.iter().position(|byte| *byte == b'\n') {
+        Some(end) => end.saturating_add(1),
+        None => text.len(),
+    };
+    (
+        text.get(..length).unwrap_or(text),
+        text.get(length..).unwrap_or(&[]),
+    )
+}
+
 impl<'a, R: Eprint + Clock + AllocGlobal> Watch<'a, R> {
     /// The watch of a run over the store of this path. Where it says that the store is new, that is told once the first
     /// bytes are written to it.
@@ -139,7 +151,7 @@ impl<'a, R: Eprint + Clock + AllocGlobal> Watch<'a, R> {
         self.renew();
     }
 
-    /// A piece of a reply is about to be written.
+    /// A piece of the report is about to be written.
     pub fn begin_put(&mut self) {
         if self.terminals.output {
             self.clear();
@@ -157,17 +169,29 @@ impl<'a, R: Eprint + Clock + AllocGlobal> Watch<'a, R> {
         self.print(format!(in self.rt.alloc(); "line {number}: {name}: {reason}\n"));
     }
 
-    /// So many bytes of a piece of a reply were written.
-    pub fn end_put(&mut self, piece: &[u8], count: usize) {
+    // So many bytes of a line of a reply were written, or of the rest of one. A line is heard with its first bytes.
+    fn end_line(&mut self, line: &[u8], count: usize) {
         let is_first = !self.is_inside;
-        self.is_inside = count < piece.len();
-        if is_first {
-            let explained = self.explainer.reply(piece);
-            if let Some(explained) = explained
-                && self.explains
-            {
-                self.say(&explained);
+        self.is_inside = count < line.len();
+        if is_first
+            && let Some(explained) = self.explainer.reply(line)
+            && self.explains
+        {
+            self.say(&explained);
+        }
+    }
+
+    /// So many bytes of a piece of the report were written, which has one line or several.
+    pub fn end_put(&mut self, piece: &[u8], count: usize) {
+        let (mut left, mut written) = (piece, count);
+        for _ in 0..piece.len() {
+            if written == 0 || left.is_empty() {
+                break;
             }
+            let (line, rest) = first_line(left);
+            self.end_line(line, written);
+            written = written.saturating_sub(line.len());
+            left = rest;
         }
         self.renew();
     }

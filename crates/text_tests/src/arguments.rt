@@ -7,7 +7,7 @@ use std::alloc::{AllocError, Global};
 use std::test::Fail;
 
 // Right words, wrong ones, numbers at the ends of their ranges and past them, with signs, and of 20 and 21 digits.
-const WORDS: [&'static str; 22] = [
+const WORDS: [&'static str; 23] = [
     "run",
     "gen",
     "1",
@@ -30,6 +30,7 @@ const WORDS: [&'static str; 22] = [
     "00000000000000000001",
     "000000000000000000001",
     "00000000000000000000",
+    "batch",
 ];
 
 // The number that a word spells in at most 20 digits.
@@ -50,6 +51,7 @@ fn number_of(word: &str) -> Option<u64> {
 fn mode_of_word(word: &str) -> Option<Mode> {
     match word {
         "run" => Some(Mode::Run),
+        "batch" => Some(Mode::Batch),
         "check" => Some(Mode::Check),
         _ => None,
     }
@@ -92,7 +94,7 @@ fn push(alloc: Global, words: &mut Vec<String>, word: &str) -> Result<(), AllocE
 }
 
 fn push_nth(alloc: Global, words: &mut Vec<String>, place: u32) -> Result<(), AllocError> {
-    if place >= 22 {
+    if place >= 23 {
         return Ok(());
     }
     push(alloc, words, WORDS[place as usize])
@@ -178,7 +180,7 @@ fn first_wrong_of_all(alloc: Global, base: u32, most: u32) -> Result<Option<u32>
 
 #[test]
 fn up_to_three_words(rt: HostRuntime) -> Result<(), Fail> {
-    pass(first_wrong_of_all(rt.alloc(), 22, 3)?)
+    pass(first_wrong_of_all(rt.alloc(), 23, 3)?)
 }
 
 #[test]

@@ -61,6 +61,10 @@ fn lines_without_a_command() -> Result<(), Fail> {
         query a mean 1 2=SYNTAX\n\
         query a MIN 1 2=SYNTAX\n\
         query x! mean y 2=SYNTAX\n\
+        series a sum 1 2=SYNTAX\n\
+        series a sum 1 2 3 4=SYNTAX\n\
+        series a mean 1 2 3=SYNTAX\n\
+        series x! Sum y 2 0=SYNTAX\n\
         append x! y 1=NUMBER\n\
         landmark x! open y=NUMBER\n\
         landmark a open 4611686018427387905=NUMBER\n\
@@ -68,6 +72,13 @@ fn lines_without_a_command() -> Result<(), Fail> {
         query x! sum 1 y=NUMBER\n\
         query a sum -1 2=NUMBER\n\
         query a max 0 4611686018427387905=NUMBER\n\
+        series x! sum y 2 1=NUMBER\n\
+        series x! sum 1 2 0=NUMBER\n\
+        series a sum 1 2 -1=NUMBER\n\
+        series a sum 2 1 0=NUMBER\n\
+        series a sum 1 2 4611686018427387905=NUMBER\n\
+        series a sum 0 100000 1=NUMBER\n\
+        series x! sum 0 200000 2=NUMBER\n\
         append a 1 +1=NUMBER\n\
         append a -1 1=NUMBER\n\
         append a 1 --1=NUMBER\n\
@@ -81,6 +92,7 @@ fn lines_without_a_command() -> Result<(), Fail> {
         append x! 1 1=NAME\n\
         landmark x! close 1=NAME\n\
         query x! sum 1 2=NAME\n\
+        series x! sum 0 199999 2=NAME\n\
         windows a/b=NAME\n\
         windows a\0=NAME\n\
         windows abcdefghijklmnopqrstuvwxyz0123456=NAME\n\
@@ -119,6 +131,11 @@ fn commands_are_printed() -> Result<(), Fail> {
         \x20query\ta sum 0 4611686018427387904=query a sum 0 4611686018427387904\n\
         query a min 5 4=query a min 5 4\n\
         query a max 45 65=query a max 45 65\n\
+        series a count 10 040 05=series a count 10 40 5\n\
+        \x20series\ta sum 0 4611686018427387904 4611686018427387904=\
+        series a sum 0 4611686018427387904 4611686018427387904\n\
+        series a min 5 4 1=series a min 5 4 1\n\
+        series a max 0 99999 1=series a max 0 99999 1\n\
         append a 007 -0=append a 7 0\n\
         append a 0000000000000000000000000000000000000000001 -0000000000000000000000000000009=append a 1 -9\n\
         append a 4611686018427387904 -9223372036854775808=append a 4611686018427387904 -9223372036854775808\n\

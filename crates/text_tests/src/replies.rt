@@ -2,7 +2,7 @@
 use crate::tables::{Subject, Text, numbers_of, show, test};
 use arrayvec::ArrayString;
 use ss_bounds::Extreme;
-use ss_catalog::{Name, Params, Refusal, StreamId};
+use ss_catalog::{LAST_TIME, Name, Params, Refusal, StreamId};
 use ss_model::{Ack, Outcome, Placed, StreamRow};
 use ss_report::{Reply, reply_text};
 use ss_summary::Summary;
@@ -88,6 +88,13 @@ fn outcome_at(row: u64) -> Outcome {
     }
 }
 
+// A row of a series with one of these answers, whose number is also its time, but for the last time there is.
+fn write_series_row(row: u64, out: &mut Text) {
+    let at = if row == 9 { LAST_TIME } else { row };
+    let outcome = outcome_at(row);
+    write_reply(&Reply::Row { at, outcome }, out);
+}
+
 fn write_row(row: u64, out: &mut Text) {
     match row {
         1 => write_reply(&Reply::Done(Ack { n: 7, k: 3 }), out),
@@ -98,6 +105,8 @@ fn write_row(row: u64, out: &mut Text) {
         6 => write_short_stream(out),
         7 => write_longest_stream(out),
         8 => write_window(out),
+        19 => write_reply(&Reply::SeriesHead(100_000), out),
+        20..=29 => write_series_row(row - 11, out),
         _ => write_reply(&Reply::Answered(outcome_at(row)), out),
     }
 }
@@ -129,7 +138,18 @@ fn each_reply_has_its_line() -> Result<(), Fail> {
         15=min none/\n\
         16=max -3 8/\n\
         17=max -9223372036854775808 9223372036854775807 maybe-none/\n\
-        18=max none/\n"
+        18=max none/\n\
+        19=series 100000/\n\
+        20=4611686018427387904 1 3/\n\
+        21=10 0 18446744073709551615/\n\
+        22=11 -5 16/\n\
+        23=12 -170141183460469231731687303715884105728 170141183460469231731687303715884105727/\n\
+        24=13 -3 8/\n\
+        25=14 -9223372036854775808 9223372036854775807 maybe-none/\n\
+        26=15 none/\n\
+        27=16 -3 8/\n\
+        28=17 -9223372036854775808 9223372036854775807 maybe-none/\n\
+        29=18 none/\n"
             .as_bytes(),
     )
 }

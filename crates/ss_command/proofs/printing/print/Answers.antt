@@ -15,6 +15,11 @@ returns-in-Ask-clause-reads_back c =
     ap meaning c.print_query.ensures.text ∙ meaning-printed (commands.Ask c.in-Ask.query) c.print_query.ensures.sayable ∙
     ap (λ command. Ok (Some command)) (sym c.in-Ask.is)
 
+pub returns-in-Series-clause-reads_back : goal.returns-in-Series-clause-reads_back
+returns-in-Series-clause-reads_back c =
+    ap meaning c.print_series.ensures.text ∙ meaning-printed (commands.Series c.in-Series.series) c.print_series.ensures.sayable ∙
+    ap (λ command. Ok (Some command)) (sym c.in-Series.is)
+
 pub returns-in-Windows-clause-text : goal.returns-in-Windows-clause-text
 unfolding printed
 returns-in-Windows-clause-text c = search rules
