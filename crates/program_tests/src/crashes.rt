@@ -1,51 +1,10 @@
-// What a store holds after runs that stop at each call of the disk.
+// What a store holds after runs that stop with the disk.
 use crate::devices::{CHECK, GEN, READINGS, RUN, answer_on, disk_of, front};
+use crate::images::{shown, shown_at, shows};
+use crate::scripts::{ASKS, SEVEN, SIX};
 use ss_outside::{Choice, MemDisk};
 use std::alloc::{AllocError, Global};
 use std::test::Fail;
-
-// What is shown after each number of events of the worked row, from none to all eight.
-const SHOWN: [&str; 9] = [
-    "refused UNKNOWN\nlist 0\n",
-    "windows 0\nlist 1\na exp 2 1 1 0 0 0 0\n",
-    "windows 1\n1 1 1 5 5 5 10 10\nlist 1\na exp 2 1 1 1 1 0 0\n",
-    "windows 2\n1 1 1 5 5 5 10 10\n2 2 1 -3 -3 -3 20 20\nlist 1\na exp 2 1 1 2 2 0 0\n",
-    "windows 2\n1 2 2 2 -3 5 10 20\n3 3 1 8 8 8 30 30\nlist 1\na exp 2 1 1 3 2 0 0\n",
-    "windows 3\n1 2 2 2 -3 5 10 20\n3 3 1 8 8 8 30 30\n4 4 1 1 1 1 40 40\n\
-    list 1\na exp 2 1 1 4 3 0 0\n",
-    "windows 3\n1 2 2 2 -3 5 10 20\n3 4 2 9 1 8 30 40\n5 5 1 9 9 9 50 50\n\
-    list 1\na exp 2 1 1 5 3 0 0\n",
-    SIX,
-    SEVEN,
-];
-
-const SIX: &str =
-    "windows 4\n1 2 2 2 -3 5 10 20\n3 4 2 9 1 8 30 40\n5 5 1 9 9 9 50 50\n6 6 1 2 2 2 60 60\n\
-    list 1\na exp 2 1 1 6 4 0 0\n";
-
-const SEVEN: &str = "windows 3\n1 4 4 11 -3 8 10 40\n5 6 2 11 2 9 50 60\n7 7 1 7 7 7 70 70\n\
-    list 1\na exp 2 1 1 7 3 0 0\n";
-
-// What is shown after so many events, or one more.
-fn shown_after(events: usize) -> &'static [&'static str] {
-    let end = events.saturating_add(2).min(9);
-    SHOWN.get(events..end).unwrap_or(&[])
-}
-
-// What is shown of the stream on a disk, by a run of its own.
-fn shown(alloc: Global, disk: &mut MemDisk) -> Result<Vec<u8>, AllocError> {
-    let (status, written) = answer_on(alloc, RUN, disk, "windows a\nlist\n")?;
-    if status == 0 {
-        Ok(written)
-    } else {
-        Ok(Vec::new(alloc))
-    }
-}
-
-// The same after a crash.
-fn shown_at(alloc: Global, disk: &MemDisk, choice: Choice) -> Result<Vec<u8>, AllocError> {
-    shown(alloc, &mut disk.crash(choice)?)
-}
 
 // The disk, the status and what was written where the program over the worked row stops at a call.
 fn stopped_at(
@@ -94,78 +53,6 @@ fn each_event_with_its_merges_is_two_syncs(rt: HostRuntime) -> Result<(), Fail> 
     Ok(())
 }
 
-const CRASHES: [Choice; 5] = [
-    Choice::Lost,
-    Choice::Kept,
-    Choice::Fill(0),
-    Choice::Fill(0xA5),
-    Choice::Fill(0xFF),
-];
-
-fn is_one_of(found: &[u8], texts: &[&str]) -> bool {
-    for text in texts {
-        if found == text.as_bytes() {
-            return true;
-        }
-    }
-    false
-}
-
-// Whether each crash shows one of these.
-fn shows(alloc: Global, disk: &MemDisk, texts: &[&str]) -> Result<bool, AllocError> {
-    for choice in CRASHES {
-        if !is_one_of(shown_at(alloc, disk, choice)?.as_slice(), texts) {
-            return Ok(false);
-        }
-    }
-    Ok(true)
-}
-
-// Whether a run over the worked row ended as it should where the disk failed, and each crash shows what it acknowledged, or one
-// event more.
-fn kept_its_word(
-    alloc: Global,
-    disk: &MemDisk,
-    status: u8,
-    written: &[u8],
-) -> Result<bool, AllocError> {
-    let replies = written.len() / 7;
-    if written != front(replies) || status != if replies < 8 { 4 } else { 0 } {
-        return Ok(false);
-    }
-    shows(alloc, disk, shown_after(replies))
-}
-
-// The same where the disk stops at a call.
-fn keeps_its_word(alloc: Global, stop: u64) -> Result<bool, AllocError> {
-    let (disk, status, written) = stopped_at(alloc, RUN, stop)?;
-    kept_its_word(alloc, &disk, status, written.as_slice())
-}
-
-// The same where this call alone fails.
-fn keeps_its_word_after(alloc: Global, call: u64) -> Result<bool, AllocError> {
-    let mut disk = disk_of(alloc, &[])?;
-    disk.fail_at([call].as_slice().to_vec(alloc)?);
-    let (status, written) = answer_on(alloc, RUN, &mut disk, READINGS)?;
-    kept_its_word(alloc, &disk, status, written.as_slice())
-}
-
-#[test]
-fn each_stop_leaves_what_was_acknowledged(rt: HostRuntime) -> Result<(), Fail> {
-    for stop in 0..300 {
-        assert!(rt; keeps_its_word(rt.alloc(), stop)?, "stop {stop}");
-    }
-    Ok(())
-}
-
-#[test]
-fn each_failing_call_leaves_what_was_acknowledged(rt: HostRuntime) -> Result<(), Fail> {
-    for call in 0..300 {
-        assert!(rt; keeps_its_word_after(rt.alloc(), call)?, "call {call}");
-    }
-    Ok(())
-}
-
 // The sync of that gate.
 fn gate_call(alloc: Global) -> Result<u64, AllocError> {
     Ok(call_after(alloc, SEVENTH_GATE)?.saturating_sub(1))
@@ -193,8 +80,8 @@ fn a_run_stops_with_the_disk(rt: HostRuntime) -> Result<(), Fail> {
 fn survives_an_opening(alloc: Global, disk: &MemDisk, stop: u64) -> Result<bool, AllocError> {
     let mut left = disk.crash(Choice::Kept)?;
     left.stop_from(stop);
-    let _ = shown(alloc, &mut left)?;
-    shows(alloc, &left, &[SEVEN])
+    let _ = shown(alloc, &mut left, ASKS)?;
+    shows(alloc, &left, ASKS, &[SEVEN.as_bytes()])
 }
 
 // The first call of 200 at which it doesn't.
@@ -222,7 +109,10 @@ fn waiting(alloc: Global) -> Result<MemDisk, AllocError> {
 // Whether each crash of it shows all seven values, and that call.
 fn crashes_before_merges(alloc: Global) -> Result<(bool, u64), AllocError> {
     let disk = waiting(alloc)?;
-    Ok((shows(alloc, &disk, &[SEVEN])?, fatal_call(alloc, &disk)?))
+    Ok((
+        shows(alloc, &disk, ASKS, &[SEVEN.as_bytes()])?,
+        fatal_call(alloc, &disk)?,
+    ))
 }
 
 #[test]
@@ -247,7 +137,7 @@ fn a_check_counts_windows_after_the_merges(rt: HostRuntime) -> Result<(), Fail> 
 // Whether a crash shows this that fills what was not synced, the gate, with this byte.
 fn shows_by_gate(alloc: Global, byte: u8, text: &str) -> Result<bool, AllocError> {
     let disk = disk_at(alloc, gate_call(alloc)?)?;
-    let found = shown_at(alloc, &disk, Choice::Fill(byte))?;
+    let found = shown_at(alloc, &disk, Choice::Fill(byte), ASKS)?;
     Ok(found.as_slice() == text.as_bytes())
 }
 
@@ -287,14 +177,13 @@ const WINDOWS: [&str; 2] = [
 
 // Whether each crash of a disk shows the windows after six or seven values.
 fn shows_windows(alloc: Global, disk: &MemDisk) -> Result<bool, AllocError> {
-    for choice in CRASHES {
-        let mut left = disk.crash(choice)?;
-        let (status, written) = answer_on(alloc, RUN, &mut left, "windows a\n")?;
-        if status != 0 || !is_one_of(written.as_slice(), &WINDOWS) {
-            return Ok(false);
-        }
-    }
-    Ok(true)
+    let [six, seven] = WINDOWS;
+    shows(
+        alloc,
+        disk,
+        "windows a\n",
+        &[six.as_bytes(), seven.as_bytes()],
+    )
 }
 
 // Birth, 54 streams and the seven events before it: so many syncs come before the seventh append.

@@ -1,7 +1,7 @@
 // The program on devices in memory, and the inputs that several tests run.
 ghost use Rattle.std.specs.Prelude.{◌<◌};
 
-use ss_outside::{MemDisk, MemSink, MemSource, Sink};
+use ss_outside::{MemDisk, MemSink, MemSource, Sink, Source};
 use ss_program::run;
 use std::alloc::{AllocError, Global};
 
@@ -52,11 +52,11 @@ pub fn source_of(
 }
 
 // The program over these devices. Nothing is promised of it, and it's called here alone: what `run` promises is read once.
-pub fn run_on<K: Sink>(
+pub fn run_on<S: Source, K: Sink>(
     alloc: Global,
     words: &[&str],
     disk: &mut MemDisk,
-    source: &mut MemSource,
+    source: &mut S,
     sink: &mut K,
 ) -> Result<u8, AllocError> {
     let words = words_of(alloc, words)?;

@@ -7,6 +7,12 @@ mod crashes;
 #[cfg(test)]
 mod devices;
 #[cfg(test)]
+mod images;
+#[cfg(test)]
 mod modes;
 #[cfg(test)]
 mod rows;
+#[cfg(test)]
+mod scripts;
+#[cfg(test)]
+mod stops;

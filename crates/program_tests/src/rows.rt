@@ -1,18 +1,18 @@
 // Reports of inputs, in whatever pieces they are read and written.
 ghost use Rattle.std.specs.Prelude.{◌<◌, Some};
 
-use crate::devices::{READINGS, REPORT, RUN, ends_in, front, run_anew, source_of};
-use ss_outside::{Failed, MemSink, Sink};
+use crate::devices::{READINGS, REPORT, RUN, disk_of, ends_in, front, run_anew, run_on, source_of};
+use ss_outside::{Failed, MemDisk, MemSink, Sink, SteadySink, SteadySource};
 use ss_program::complaint;
 use std::alloc::{AllocError, Global};
 use std::test::Fail;
 
-// Four streams, two values and what is shown of them: each line of the report is a piece of its own.
+// Four streams, two values and what is shown and asked of them: each line of the report is a piece of its own.
 const SHOWN: &str =
     "create d exp 2 1 1\ncreate b exp 2 1 1\ncreate a exp 3 2 1\ncreate c exp 16 65536 65536\n\
-    append b 1 -7\nappend b 2 3\nwindows b\nlist\n";
+    append b 1 -7\nappend b 2 3\nwindows b\nlist\nseries b sum 1 5 2\n";
 
-const SHOWN_LINES: [&str; 14] = [
+const SHOWN_LINES: [&str; 18] = [
     "ok 0 0\n",
     "ok 0 0\n",
     "ok 0 0\n",
@@ -27,6 +27,10 @@ const SHOWN_LINES: [&str; 14] = [
     "b exp 2 1 1 2 2 0 0\n",
     "a exp 3 2 1 0 0 0 0\n",
     "c exp 16 65536 65536 0 0 0 0\n",
+    "series 3\n",
+    "1 -4 -4\n",
+    "3 0 0\n",
+    "5 0 0\n",
 ];
 
 // After the worked row: each refusal, in the order in which they are tested.
@@ -56,6 +60,23 @@ const QUERIES_REPORT: &str = "ok 0 0\nok 1 1\nok 2 2\nok 3 2\nok 4 3\nok 5 3\nok
     count 2 4\nsum -3 25\nmin -3 8\nmax 2 9\n\
     ok 0 0\nok 1 1\nok 2 1\nok 3 1\nok 4 1\ncount 2 2\nsum 8 12\n\
     refused RANGE\nrefused UNKNOWN\nrefused SYNTAX\nrefused NUMBER\nrefused NAME\nrefused SYNTAX\n";
+
+// Series of the same readings: the last row ends with the range, rows split windows or none, and one has no value. Then each
+// refusal.
+const SERIES: &str =
+    "create a exp 2 1 1\nappend a 10 5\nappend a 20 -3\nappend a 30 8\nappend a 40 1\n\
+    append a 50 9\nappend a 60 2\nappend a 70 7\n\
+    series a count 10 70 25\nseries a sum 10 70 25\nseries a min 10 70 25\nseries a max 0 100 40\n\
+    series a sum 10 100 40\nseries a sum 0 100 4611686018427387904\nseries a min 15 16 1\n\
+    series a sum 5 4 1\nseries x sum 5 4 1\nseries a mean 5 4 1\nseries a sum 5 4 0\nseries a sum 0 100000 1\n\
+    series a! sum 5 4 1\nseries a sum 5 4\n";
+
+const SERIES_REPORT: &str = "ok 0 0\nok 1 1\nok 2 2\nok 3 2\nok 4 3\nok 5 3\nok 6 4\nok 7 3\n\
+    series 3\n10 1 3\n35 2 4\n60 2 2\nseries 3\n10 -5 16\n35 -3 25\n60 9 16\n\
+    series 3\n10 -3 8\n35 -3 8\n60 2 7\nseries 3\n0 -3 8\n40 9 9\n80 none\n\
+    series 3\n10 11 11\n50 18 18\n90 0 0\nseries 1\n0 29 29\n\
+    series 2\n15 -3 8 maybe-none\n16 -3 8 maybe-none\n\
+    refused RANGE\nrefused UNKNOWN\nrefused SYNTAX\nrefused NUMBER\nrefused NUMBER\nrefused NAME\nrefused SYNTAX\n";
 
 // The edges of numbers.
 const EDGES: &str =
@@ -105,10 +126,11 @@ fn is_reported(alloc: Global, input: &str, report: &str) -> Result<bool, AllocEr
     Ok(true)
 }
 
-const ROWS: [(&str, &str); 7] = [
+const ROWS: [(&str, &str); 8] = [
     (READINGS, REPORT),
     (ORDER, ORDER_REPORT),
     (QUERIES, QUERIES_REPORT),
+    (SERIES, SERIES_REPORT),
     (EDGES, EDGES_REPORT),
     (LINES, LINES_REPORT),
     (MARKED, MARKED_REPORT),
@@ -120,6 +142,41 @@ fn rows_are_reported_in_whatever_pieces(rt: HostRuntime) -> Result<(), Fail> {
     for (input, report) in ROWS {
         assert!(rt; is_reported(rt.alloc(), input, report)?, "{input}");
     }
+    Ok(())
+}
+
+// Whether the worked row, on a disk with memory taken ahead, ends well and makes neither the disk nor a sink short of memory.
+fn is_never_short<K: Sink>(
+    alloc: Global,
+    disk: &mut MemDisk,
+    sink: &mut K,
+) -> Result<bool, AllocError> {
+    disk.reserve(100_000, 1_000_000)?;
+    let mut source = SteadySource::new(READINGS.as_bytes().to_vec(alloc)?, 4096);
+    let status = run_on(alloc, RUN, disk, &mut source, sink)?;
+    Ok(status == 0 && disk.short() == 0)
+}
+
+fn gets_all_listed(alloc: Global) -> Result<bool, AllocError> {
+    let mut disk = disk_of(alloc, &[])?;
+    let mut sink = MemSink::new(alloc);
+    sink.reserve(1000)?;
+    let is_over = is_never_short(alloc, &mut disk, &mut sink)?;
+    Ok(is_over && sink.short() == 0 && sink.held() == REPORT.as_bytes())
+}
+
+fn gets_all_steadily(alloc: Global) -> Result<bool, AllocError> {
+    let mut disk = disk_of(alloc, &[])?;
+    let mut sink = SteadySink::new(alloc);
+    sink.reserve(1000)?;
+    let is_over = is_never_short(alloc, &mut disk, &mut sink)?;
+    Ok(is_over && sink.short() == 0 && sink.held() == REPORT.as_bytes())
+}
+
+#[test]
+fn memory_taken_ahead_is_enough(rt: HostRuntime) -> Result<(), Fail> {
+    assert!(rt; gets_all_listed(rt.alloc())?);
+    assert!(rt; gets_all_steadily(rt.alloc())?);
     Ok(())
 }
 
@@ -170,14 +227,6 @@ fn each_failing_read_ends_the_run(rt: HostRuntime) -> Result<(), Fail> {
     Ok(())
 }
 
-// Pieces of 64 bytes: the fourth line ends at byte 62, and the fifth is cut.
-#[test]
-fn a_line_that_is_cut_has_no_reply(rt: HostRuntime) -> Result<(), Fail> {
-    let mut source = source_of(rt.alloc(), READINGS, 64, &[1])?;
-    assert!(rt; ends_in(rt.alloc(), RUN, &mut source, &[], 5, front(4))?);
-    Ok(())
-}
-
 // So many lines of the report with rows.
 fn shown_lines(alloc: Global, count: usize) -> Result<String, AllocError> {
     let mut lines = String::new(alloc);
@@ -206,15 +255,15 @@ fn ends_at_put(
     )
 }
 
-// Whether the input with rows in its report ends at a put that fails. There is no put 14.
+// Whether the input with rows in its report ends at a put that fails. There is no put 18.
 fn shows_until(alloc: Global, put: usize) -> Result<bool, AllocError> {
-    let status = if put < 14 { 6 } else { 0 };
+    let status = if put < 18 { 6 } else { 0 };
     ends_at_put(alloc, RUN, put as u64, status, &shown_lines(alloc, put)?)
 }
 
 #[test]
 fn each_failing_put_ends_the_run(rt: HostRuntime) -> Result<(), Fail> {
-    for put in 0..15 {
+    for put in 0..19 {
         assert!(rt; shows_until(rt.alloc(), put)?, "put {put}");
     }
     Ok(())

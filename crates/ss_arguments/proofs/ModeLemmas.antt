@@ -7,7 +7,7 @@ use Rattle.std.specs.Prelude.{codes, String}
 use Rattle.std.specs.Str.Parse.{starts_with_minus}
 use Rattle.ss_generator.specs.declared.TheConstants.{MOST_COUNT}
 use Rattle.ss_arguments.specs.declared.mode.Mode.{Mode}
-use Rattle.ss_arguments.specs.declared.mode.Mode.TheVariants.{Run, Check, Gen}
+use Rattle.ss_arguments.specs.declared.mode.Mode.TheVariants.{Run, Batch, Check, Gen}
 use Rattle.ss_arguments.specs.Modes.{asked, count_of, gen_of, mode_of, named, seed_of, words_of}
 use Rattle.ss_arguments.proofs.NumberLemmas.{number_between-in_range, number_between-option}
 
@@ -74,10 +74,12 @@ gen_of-in_range seed_word count_word (Some s) (Some k) seed count es ek e =
     let counts = number_between-in_range 1 MOST_COUNT count_word k ek in
     (omega arith, omega arith, omega arith)
 
-named-gen : (p q : Bool) (seed count : ℕ) → cond p (Some Run) (cond q (Some Check) None) ≡ Some (Gen seed count) → AreInRange seed count
-named-gen true q seed count e = cc
-named-gen false true seed count e = cc
-named-gen false false seed count e = cc
+named-gen : (p q r : Bool) (seed count : ℕ) → cond p (Some Run) (cond q (Some Batch) (cond r (Some Check) None)) ≡ Some (Gen seed count) →
+    AreInRange seed count
+named-gen true q r seed count e = cc
+named-gen false true r seed count e = cc
+named-gen false false true seed count e = cc
+named-gen false false false seed count e = cc
 
 chosen_gen : (b : Bool) (mode : Option Mode) (seed count : ℕ) → cond b mode None ≡ Some (Gen seed count) → mode ≡ Some (Gen seed count)
 chosen_gen true mode seed count e = e
@@ -85,7 +87,7 @@ chosen_gen false mode seed count e = cc
 
 asked-gen : (words : List (List ℕ)) (seed count : ℕ) → asked words ≡ Some (Gen seed count) → AreInRange seed count
 asked-gen [] seed count e = cc
-asked-gen (a ∷ []) seed count e = named-gen _ _ seed count e
+asked-gen (a ∷ []) seed count e = named-gen _ _ _ seed count e
 asked-gen (a ∷ b ∷ []) seed count e = cc
 asked-gen (a ∷ b ∷ d ∷ []) seed count e = gen_of-in_range b d _ _ seed count refl refl (chosen_gen _ _ seed count e)
 asked-gen (a ∷ b ∷ d ∷ f ∷ rest) seed count e = cc

@@ -4,7 +4,7 @@ use Rattle.std.specs.Prelude.{codes, replicate}
 use Rattle.ss_fields.specs.Words.{is_number, number_of, number_up_to}
 use Rattle.ss_arguments.specs.declared.TheConstants.{MOST_DIGITS}
 use Rattle.ss_arguments.specs.declared.mode.Mode.{Mode}
-use Rattle.ss_arguments.specs.declared.mode.Mode.TheVariants.{Run, Check, Gen}
+use Rattle.ss_arguments.specs.declared.mode.Mode.TheVariants.{Run, Batch, Check, Gen}
 use Rattle.ss_arguments.specs.Modes.{are_refused_at_once, mode_of, number_between}
 
 most_digits : MOST_DIGITS ≡ 20
@@ -34,6 +34,9 @@ path_alone = refl
 run_word : mode_after (codes "run" ∷ []) ≡ Some Run
 run_word = refl
 
+batch_word : mode_after (codes "batch" ∷ []) ≡ Some Batch
+batch_word = refl
+
 check_word : mode_after (codes "check" ∷ []) ≡ Some Check
 check_word = refl
 
@@ -44,6 +47,15 @@ path_with_hyphen = refl
 -- other words ask for nothing
 run_in_capitals : mode_after (codes "RUN" ∷ []) ≡ None
 run_in_capitals = refl
+
+batch_in_capitals : mode_after (codes "BATCH" ∷ []) ≡ None
+batch_in_capitals = refl
+
+batch_cut_short : mode_after (codes "batc" ∷ []) ≡ None
+batch_cut_short = refl
+
+batch_and_a_letter : mode_after (codes "batchs" ∷ []) ≡ None
+batch_and_a_letter = refl
 
 empty_word : mode_after ([] ∷ []) ≡ None
 empty_word = refl
@@ -57,11 +69,17 @@ gen_alone = refl
 gen_without_count : mode_after (codes "gen" ∷ codes "1" ∷ []) ≡ None
 gen_without_count = refl
 
+batch_and_more : mode_after (codes "batch" ∷ codes "x" ∷ []) ≡ None
+batch_and_more = refl
+
 check_and_more : mode_after (codes "check" ∷ codes "x" ∷ []) ≡ None
 check_and_more = refl
 
 run_and_numbers : mode_after (codes "run" ∷ codes "1" ∷ codes "1" ∷ []) ≡ None
 run_and_numbers = refl
+
+batch_and_numbers : mode_after (codes "batch" ∷ codes "1" ∷ codes "1" ∷ []) ≡ None
+batch_and_numbers = refl
 
 gen_and_more : mode_after (codes "gen" ∷ codes "1" ∷ codes "1" ∷ codes "1" ∷ []) ≡ None
 gen_and_more = refl

@@ -9,7 +9,7 @@ use Rattle.ss_fields.specs.declared.number_error.NumberError.{NumberError}
 use Rattle.ss_generator.specs.declared.TheConstants.{MOST_COUNT}
 use Rattle.ss_arguments.specs.declared.TheConstants.{MOST_DIGITS}
 use Rattle.ss_arguments.specs.declared.mode.Mode.{Mode}
-use Rattle.ss_arguments.specs.declared.mode.Mode.TheVariants.{Run, Check, Gen}
+use Rattle.ss_arguments.specs.declared.mode.Mode.TheVariants.{Run, Batch, Check, Gen}
 
 -- the words, as lists of bytes
 abbrev pub words_of : {A : Type 0} → List (String A) → List (List ℕ)
@@ -38,14 +38,15 @@ abbrev pub gen_of : Option ℕ → Option ℕ → Option Mode
 gen_of (Some seed) (Some count) = Some (Gen seed count)
 gen_of _ _ = None
 
--- a mode that stands alone: `run` or `check`
+-- a mode that stands alone: `run`, `batch` or `check`
 abbrev pub named : List ℕ → Option Mode
 named word =
     if bytes_eq word (codes "run") then Some Run
+    else (if bytes_eq word (codes "batch") then Some Batch
     else (if bytes_eq word (codes "check") then Some Check
-    else None)
+    else None))
 
--- the mode by what stands after the path: nothing, `run`, `check`, or `gen SEED COUNT`
+-- the mode by what stands after the path: nothing, `run`, `batch`, `check`, or `gen SEED COUNT`
 abbrev pub asked : List (List ℕ) → Option Mode
 asked [] = Some Run
 asked (mode ∷ []) = named mode

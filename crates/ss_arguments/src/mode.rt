@@ -5,6 +5,8 @@
 pub enum Mode {
     /// Read the command file from the source.
     Run,
+    /// The same, where events whose lines came together come to the disk together.
+    Batch,
     /// Read the store, write nothing to it, and print what it holds.
     Check,
     /// Run the generated command file of `count` rounds from this seed on.

@@ -42,6 +42,7 @@ fn read_name(word: &str) -> Option<Mode>
 {
     match word {
         "run" => Some(Mode::Run),
+        "batch" => Some(Mode::Batch),
         "check" => Some(Mode::Check),
         _ => None,
     }
@@ -114,8 +115,8 @@ fn read_words(alloc: Global, words: &[String]) -> Result<Option<Mode>, AllocErro
     }
 }
 
-/// The mode that the words of the command line ask for: the program's name, the store's path, and then none, `run`, `check` or
-/// `gen SEED COUNT`. `None` at all other words.
+/// The mode that the words of the command line ask for: the program's name, the store's path, and then none, `run`, `batch`,
+/// `check` or `gen SEED COUNT`. `None` at all other words.
 pub fn mode_of(alloc: Global, words: &[String]) -> Result<Option<Mode>, AllocError>
     ensures mode { IfOk result (λ mode. mode ≡ mode_of (words_of words.now)) }
     // Words that are refused at a glance want no memory.

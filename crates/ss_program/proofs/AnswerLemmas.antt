@@ -35,39 +35,43 @@ use Rattle.std.proofs.Math.Seq.{take-append-add}
 use Rattle.std.proofs.lemmas.Bool.{cases_lt, cond-true, cond-false, le-leb, lt-leb, lt-ltb}
 use Rattle.std.proofs.lemmas.List.{append-nil, length-append, take-append-le}
 use Rattle.std.specs.List.{flat_map}
-use Rattle.std.specs.Prelude.{nat_le}
+use Rattle.std.specs.Prelude.{nat_le, IsTrue}
 use Rattle.ss_catalog.specs.declared.event.Event.{Event}
 use Rattle.ss_catalog.specs.declared.query.Query.{Query}
+use Rattle.ss_catalog.specs.declared.series.Series.{Series}
 use Rattle.ss_catalog.specs.declared.refusal.Refusal.{Refusal}
 use Rattle.ss_catalog.specs.declared.refusal.Refusal.TheVariants as refusals
 use Rattle.ss_command.specs.Grammar.{meaning}
 use Rattle.ss_command.specs.LineState.{unless_long}
 use Rattle.ss_command.specs.declared.TheConstants.{LONGEST_LINE}
 use Rattle.ss_command.specs.declared.command.Command.{Command}
-use Rattle.ss_command.specs.declared.command.Command.TheVariants.{Do, Ask, Windows, List as ListAll}
+use Rattle.ss_command.specs.declared.command.Command.TheVariants.{Do, Ask, Series as AskRows, Windows, List as ListAll}
 use Rattle.ss_catalog.specs.Events.{event_name}
 use Rattle.ss_model.proofs.AnswerLemmas.{answer-known}
 use Rattle.ss_model.specs.Answers.{outcome_of, refuses_query}
 use Rattle.ss_model.specs.Steps.{ack_of}
 use Rattle.ss_model.specs.Refusals.{refuses, refuses_reading}
+use Rattle.ss_model.specs.Series.{refuses_series}
 use Rattle.ss_model.specs.State.{Stream, state, stream_named}
 use Rattle.ss_model.specs.declared.outcome.Outcome.{Outcome}
-use Rattle.ss_model.specs.declared.outcome.Outcome.TheVariants.{Count, Sum, Min, Max}
 use Rattle.ss_model.specs.declared.types.Ack.{Ack}
 use Rattle.ss_outside.specs.declared.source.Failed.{Failed}
 use Rattle.std.specs.Fmt.{decimal, signed_decimal}
 use Rattle.ss_catalog.specs.Refusal.{refusal_name}
 use Rattle.ss_command.specs.Printed.{spaced, target_words}
 use Rattle.ss_command.specs.declared.TheConstants.{LINE_END}
-use Rattle.ss_report.specs.Text.{answer_line, extreme_words, line_of, reply_line}
+use Rattle.ss_report.specs.Text.{answer_kind, answer_words, line_of, reply_line}
 use Rattle.ss_report.specs.declared.reply.Reply.{Reply}
-use Rattle.ss_report.specs.declared.reply.Reply.TheVariants.{Done as AckLine, Answered, Refused, WindowsHead, Window, ListHead, Stream as StreamRow}
+use Rattle.ss_report.specs.declared.reply.Reply.TheVariants.{Done as AckLine, Answered, Refused, SeriesHead, Row, WindowsHead, Window, ListHead, Stream as StreamRow}
 use Rattle.ss_outside.proofs.CrashLemmas.{reads-none}
 use Rattle.ss_outside.specs.Crash.{KnowsNow, OnlyReads}
-use Rattle.ss_outside.specs.Disk.{Told}
+use Rattle.ss_outside.specs.Disk.{DiskView, Told}
+use Rattle.ss_journal.proofs.ShownLemmas.{shown-sealed}
+use Rattle.ss_journal.specs.Kept.{IsSealed}
+use Rattle.ss_records.specs.Kept.{RecordsState, shown_by}
 use Rattle.ss_store.specs.Asked.{refuses_query_held}
 use Rattle.ss_store.specs.Calls.{StandsForEither, Turns}
-use Rattle.ss_store.specs.Kept.{StoreIsKept, StoreState}
+use Rattle.ss_store.specs.Kept.{StoreIsIn, StoreIsKept, StoreState}
 use Rattle.ss_store.specs.Recover.{Stands}
 use Rattle.ss_store.specs.declared.error.ApplyError.{ApplyError}
 use Rattle.ss_store.specs.declared.error.ApplyError.TheVariants as errors
@@ -76,7 +80,7 @@ use Rattle.ss_store.specs.declared.error.AskError.TheVariants as asking
 use Rattle.ss_store.proofs.AskedStreams.{refuses_query_held-is}
 use Rattle.ss_store.proofs.Calls.{Turns-reads, Turns-weaker}
 use Rattle.ss_store.proofs.KeptStates.{AllAgree-recovered}
-use Rattle.ss_program.specs.Answer.{Adds, Replies, at_sink}
+use Rattle.ss_program.specs.Answer.{Adds, IsOpen, Replies, at_sink}
 use Rattle.ss_program.specs.Line.{
   Brought,
   History,
@@ -96,7 +100,7 @@ use Rattle.ss_program.specs.Line.{
   window_rows,
 }
 use Rattle.ss_program.specs.Sent.{appended, AppendsLess, Sends}
-use Rattle.ss_program.specs.Progress.{StandsAround, StopsWith}
+use Rattle.ss_program.specs.Progress.{StandsAround}
 use Rattle.ss_program.specs.Status.{IsApplyStop, IsDiskStop, IsShowStop, IsStop}
 use Rattle.ss_program.specs.declared.status.Status.{Status}
 use Rattle.ss_program.specs.declared.status.Status.TheVariants.{
@@ -148,6 +152,9 @@ windows-event history name = unless_refused-event (refuses_reading (state histor
 pub ask-event : (history : History) (query : Query) → (command_brings history (Ask query)).event ≡ None
 ask-event history query = unless_refused-event (refuses_query (state history) query) _
 
+pub series-event : (history : History) (series : Series) → (command_brings history (AskRows series)).event ≡ None
+series-event history series = unless_refused-event (refuses_series (state history) series) _
+
 -- a query that is refused brings its refusal
 pub brings-unanswered : (history : History) (query : Query) (refusal : Refusal) → refuses_query (state history) query ≡ Some refusal →
     command_brings history (Ask query) ≡ refused refusal
@@ -160,10 +167,21 @@ brings-answered history query outcome none is =
     ap (λ r. unless_refused r (shown (answered (outcome_of (state history) query)))) none ∙ ap (λ o. shown (answered o)) is
 
 -- what is refused by what the store holds
-pub refuses_query-kept : (store : StoreState) (content : List ℕ) (history : History) (query : Query) → StoreIsKept store content →
-    Stands history content → refuses_query (state history) query ≡ refuses_query_held store.streams query
-refuses_query-kept store content history query kept stands =
-    sym (refuses_query_held-is store.streams (state history) query (AllAgree-recovered store content (state history) kept stands.state).0)
+pub refuses_query-kept : (store : StoreState) (image : List ℕ) (history : History) (query : Query) → StoreIsIn store image →
+    Stands history image → refuses_query (state history) query ≡ refuses_query_held store.streams query
+refuses_query-kept store image history query kept stands =
+    sym (refuses_query_held-is store.streams (state history) query (AllAgree-recovered store image (state history) kept stands.state).0)
+
+-- where nothing is staged the content is what is shown, and what a store holds is in it
+pub Stands-shown : (records : RecordsState) (content : List ℕ) (history : History) → IsSealed records.journal → Stands history content →
+    Stands history (shown_by records content)
+Stands-shown records content history sealed stands = subst (Stands history) (sym (shown-sealed records.journal content sealed)) stands
+
+pub StoreIsIn-sealed : (store : StoreState) (content : List ℕ) → IsSealed store.records.journal → StoreIsKept store content → StoreIsIn store content
+StoreIsIn-sealed store content sealed kept = subst (StoreIsIn store) (shown-sealed store.records.journal content sealed) kept.shown
+
+pub StoreIsIn-open : (disk : DiskView) (store : StoreState) → IsOpen disk store → IsTrue disk.tells → StoreIsIn store disk.told.content
+StoreIsIn-open disk store opens told = StoreIsIn-sealed store disk.told.content opens.sealed (opens.serves.kept told)
 
 -- which of the two it is, by what the store answers
 pub not_unanswered : (result : Result Outcome AskError) (refusal : Option Refusal) →
@@ -250,16 +268,12 @@ AppendsLess-none held text some = (0, some, sym (appended-nil held))
 line_of-some : (first : List ℕ) (rest : List (List ℕ)) → 0 < length (line_of first rest)
 line_of-some first rest = omega (arith, length-append (spaced first rest) (LINE_END ∷ []))
 
-answer_line-some : (outcome : Outcome) → 0 < length (answer_line outcome)
-answer_line-some (Count lo hi) = line_of-some (codes "count") (decimal lo ∷ decimal hi ∷ [])
-answer_line-some (Sum lo hi) = line_of-some (codes "sum") (signed_decimal lo ∷ signed_decimal hi ∷ [])
-answer_line-some (Min extreme) = line_of-some (codes "min") (extreme_words extreme)
-answer_line-some (Max extreme) = line_of-some (codes "max") (extreme_words extreme)
-
 pub reply_line-some : (reply : Reply) → 0 < length (reply_line reply)
 reply_line-some (AckLine ack) = line_of-some (codes "ok") (decimal ack.n ∷ decimal ack.k ∷ [])
-reply_line-some (Answered outcome) = answer_line-some outcome
+reply_line-some (Answered outcome) = line_of-some (answer_kind outcome) (answer_words outcome)
 reply_line-some (Refused refusal) = line_of-some (codes "refused") (refusal_name refusal ∷ [])
+reply_line-some (SeriesHead count) = line_of-some (codes "series") (decimal count ∷ [])
+reply_line-some (Row at outcome) = line_of-some (decimal at) (answer_words outcome)
 reply_line-some (WindowsHead count) = line_of-some (codes "windows") (decimal count ∷ [])
 reply_line-some (Window w) = line_of-some (decimal w.first)
     (decimal w.last ∷ decimal w.summary.count ∷ signed_decimal w.summary.sum ∷ signed_decimal w.summary.min ∷ signed_decimal w.summary.max ∷ decimal
@@ -331,6 +345,7 @@ meaning-some history (Err refusal) some = cc
 meaning-some history (Ok None) some = cc
 meaning-some history (Ok (Some (Do event))) some = event-some history event (refuses (state history) event) some
 meaning-some history (Ok (Some (Ask query))) some = let none = ask-event history query in cc
+meaning-some history (Ok (Some (AskRows series))) some = let none = series-event history series in cc
 meaning-some history (Ok (Some (Windows name))) some = let none = windows-event history name in cc
 meaning-some history (Ok (Some ListAll)) some = cc
 

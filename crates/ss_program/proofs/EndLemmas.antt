@@ -1,10 +1,10 @@
 -- How a run ends.
-use Rattle.std.proofs.Common.{◌≡◌, ◌⊎◌, inl, inr, ℕ, List, Option, Some, None, Ok, Err, Result, Bool, IsSome, cond}
+use Rattle.std.proofs.Common.{◌≡◌, ◌⊎◌, inl, inr, ℕ, List, Option, Some, None, Err, Bool, IsSome, cond}
 use Rattle.std.proofs.Common.{nat_eq, refl, sym, ap, ◌∙◌, subst}
 use Rattle.std.specs.Prelude.{IsTrue}
 use Rattle.ss_arguments.specs.Modes.{mode_of}
 use Rattle.ss_arguments.specs.declared.mode.Mode.{Mode}
-use Rattle.ss_arguments.specs.declared.mode.Mode.TheVariants.{Run, Check, Gen}
+use Rattle.ss_arguments.specs.declared.mode.Mode.TheVariants.{Run, Batch, Check, Gen}
 use Rattle.ss_arguments.proofs.ModeLemmas.{mode_of-gen}
 use Rattle.ss_model.specs.State.{Stream}
 use Rattle.ss_outside.proofs.StepLemmas.{step-then}
@@ -14,13 +14,13 @@ use Rattle.ss_outside.specs.Step.{Step}
 use Rattle.ss_outside.specs.Verdict.{Counted, Rose, fine}
 use Rattle.ss_store.specs.Causes.{OpensAs}
 use Rattle.ss_store.specs.Errors.{verdict_of_opening}
-use Rattle.ss_store.specs.Recover.{Recovered, Recovers, recover, no_store, damaged_entry, damaged_slot, damaged_stream, recovers}
+use Rattle.ss_store.specs.Recover.{Recovered, Recovers, recover, recovers}
 use Rattle.ss_store.specs.Surveyed.{SurveysAs}
 use Rattle.ss_store.specs.declared.error.OpenError.{OpenError}
 use Rattle.ss_store.specs.declared.error.OpenError.TheVariants as opening
 use Rattle.ss_program.specs.Devices.{Devices, over}
-use Rattle.ss_program.specs.Ending.{Completes, Ends, HasNumbers, IsRefusedContent, IsUnfed, Refuses}
-use Rattle.ss_program.specs.Refused.{AsRefused, damage_line, refusal_line, status_of_open}
+use Rattle.ss_program.specs.Ending.{Completes, Ends, HasNumbers, IsRefusedContent, IsUnfed, Refuses, sealing_of}
+use Rattle.ss_program.specs.Refused.{AsRefused, refusal_line, status_of_open}
 use Rattle.ss_program.specs.Sent.{SaysLine}
 use Rattle.ss_program.specs.Status.{EndsAs, EndsServing, IsStop, disk_verdict, exit_number, sink_verdict, source_verdict, IsApplyStop}
 use Rattle.ss_program.specs.declared.status.Status.{Status}
@@ -196,12 +196,16 @@ Ends-opened old mid new before after had has status first found second ends coun
 
 -- a run whose source didn't fail, or that reads none, doesn't end by it
 pub source-calm : (asked : Option Mode) (mode : Mode) (before after : Option (List ℕ)) (status : Status) (s t : ℕ) → asked ≡ Some mode →
-    ((mode ≡ Run → ⊥) → IsUnfed before after status) → Counted (source_verdict status) s t → (asked ≡ Some Run → Rose s t → ⊥) →
+    (sealing_of (Some mode) ≡ None → IsUnfed before after status) → Counted (source_verdict status) s t → (IsSome (sealing_of asked) → Rose s t → ⊥) →
     status ≡ SourceFault → ⊥
 source-calm asked Run before after status s t is unfed counted calm same =
-    let rose : Counted (source_verdict SourceFault) s t = subst (λ x. Counted (source_verdict x) s t) same counted in calm is rose.1
-source-calm asked Check before after status s t is unfed counted calm same = subst (λ x. IsUnfed before after x) same (unfed (λ w. cc))
-source-calm asked (Gen a b) before after status s t is unfed counted calm same = subst (λ x. IsUnfed before after x) same (unfed (λ w. cc))
+    let rose : Counted (source_verdict SourceFault) s t = subst (λ x. Counted (source_verdict x) s t) same counted in
+    calm (subst (λ m. IsSome (sealing_of m)) (sym is) refl) rose.1
+source-calm asked Batch before after status s t is unfed counted calm same =
+    let rose : Counted (source_verdict SourceFault) s t = subst (λ x. Counted (source_verdict x) s t) same counted in
+    calm (subst (λ m. IsSome (sealing_of m)) (sym is) refl) rose.1
+source-calm asked Check before after status s t is unfed counted calm same = subst (λ x. IsUnfed before after x) same (unfed refl)
+source-calm asked (Gen a b) before after status s t is unfed counted calm same = subst (λ x. IsUnfed before after x) same (unfed refl)
 
 -- how a run that no device failed ends
 pub Completes-calm : (old new : Devices) (status : Status) → Ends old new status → (status ≡ SourceFault → ⊥) → IsTrue old.disk.tells →
@@ -267,5 +271,6 @@ unfed-unopened (opening.Changed slot) before after had has as_refused = as_refus
 -- a mode that was asked for has the numbers that it may have
 pub has-numbers : (words : List (List ℕ)) (mode : Mode) → mode_of words ≡ Some mode → HasNumbers mode
 has-numbers words Run is = tt
+has-numbers words Batch is = tt
 has-numbers words Check is = tt
 has-numbers words (Gen seed count) is = let range = mode_of-gen words seed count is in (range.1, range.2)

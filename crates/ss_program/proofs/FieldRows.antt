@@ -1,10 +1,9 @@
 -- What each field of the records of a run says, in fixed form, and bounds that are false just past them.
 use Rattle.std.proofs.Common.{◌≡◌, ◌⊎◌, ℕ, ◌+◌, ◌<◌, ◌≤◌, ◌++◌, List, [], ◌∷◌, length, take, drop}
-use Rattle.std.proofs.Common.{Option, Some, IsSome, refl, arith}
+use Rattle.std.proofs.Common.{Option, Some, None, refl, arith}
 use Rattle.std.specs.Prelude.{IsTrue}
 use Rattle.ss_arguments.specs.declared.mode.Mode.{Mode}
-use Rattle.ss_arguments.specs.declared.mode.Mode.TheVariants.{Run}
-use Rattle.ss_command.specs.Lines.{lines}
+use Rattle.ss_arguments.specs.declared.mode.Mode.TheVariants.{Run, Batch, Check, Gen}
 use Rattle.ss_model.specs.State.{Stream}
 use Rattle.ss_outside.specs.Crash.{LeavesOnly, OnlyReads}
 use Rattle.ss_outside.specs.Disk.{DiskView, NothingPending, Told}
@@ -13,17 +12,20 @@ use Rattle.ss_store.specs.Recover.{Stands, recover}
 use Rattle.ss_store.specs.Surveyed.{survey_of}
 use Rattle.ss_program.specs.Checked.{Checks, survey_line}
 use Rattle.ss_program.specs.Devices.{Devices}
-use Rattle.ss_program.specs.Ending.{Completes, Ends, IsRefusedContent, IsUnfed, Refuses, Rejects}
+use Rattle.ss_program.specs.Ending.{Completes, Ends, IsRefusedContent, IsUnfed, Refuses, Rejects, sealing_of}
 use Rattle.ss_program.specs.Generated.{Generates, StandsForAll, StandsForGenerated, summary}
 use Rattle.ss_program.specs.Held.{HoldsAcked, StandsForFirst, acks}
 use Rattle.ss_program.specs.Line.{History}
-use Rattle.ss_program.specs.Outcome.{Moved, NotBegun, Reads, Reports, Serves, Stopped, Took}
+use Rattle.ss_program.specs.Outcome.{NotBegun, Reads, Reports, Stopped, Took}
+use Rattle.ss_program.specs.Progress.{NoneWait, sealing_by}
 use Rattle.ss_program.specs.Promises.{BeginsOver}
 use Rattle.ss_program.specs.Refused.{RefusesStore, refusal_line}
 use Rattle.ss_program.specs.Sent.{appended, AppendsFront, SaysLine}
 use Rattle.ss_program.specs.Session.{accepted, report, report_so_far}
 use Rattle.ss_program.specs.Words.{usage}
 use Rattle.ss_program.specs.declared.running.TheConstants.{LONGEST_INPUT}
+use Rattle.ss_program.specs.declared.sealing.Sealing.{Sealing}
+use Rattle.ss_program.specs.declared.sealing.Sealing.TheVariants.{Each, Shared}
 use Rattle.ss_program.specs.declared.status.Status.{Status}
 use Rattle.ss_program.specs.declared.status.Status.TheVariants.{
   Done,
@@ -68,29 +70,29 @@ module _ (history : History) (ls : List (List ℕ)) (bytes : ℕ) (image : List 
   first-few h = h.1
 
 -- the report of a run over an input, by its status
-module _ (history : History) (input : List ℕ) (left before after : Option (List ℕ)) (disk : Told) where
-  reports-front : (status : Status) → Reports history input left before after disk status → AppendsFront before after (report history input)
+module _ (sealing : Sealing) (history : History) (input : List ℕ) (left before after : Option (List ℕ)) (disk : Told) where
+  reports-front : (status : Status) → Reports sealing history input left before after disk status → AppendsFront before after (report history input)
   reports-front status r = r.front
 
-  reports-whole : Reports history input left before after disk Done → after ≡ appended before (report history input)
+  reports-whole : Reports sealing history input left before after disk Done → after ≡ appended before (report history input)
   reports-whole r = r.whole refl
 
-  reports-broken : Reports history input left before after disk DiskFault →
-      NotBegun input left before after ⊎ Stopped history input left before after disk DiskFault
+  reports-broken : Reports sealing history input left before after disk DiskFault →
+      NotBegun input left before after ⊎ Stopped sealing history input left before after disk DiskFault
   reports-broken r = r.broken refl
 
-  reports-faulted : Reports history input left before after disk SourceFault →
+  reports-faulted : Reports sealing history input left before after disk SourceFault →
       (taken : List ℕ) × (rest : List ℕ) × Took input left taken rest × (after ≡ appended before (report_so_far history taken))
   reports-faulted r = r.faulted refl
 
-  reports-cut : Reports history input left before after disk SinkFault → Stopped history input left before after disk SinkFault
+  reports-cut : Reports sealing history input left before after disk SinkFault → Stopped sealing history input left before after disk SinkFault
   reports-cut r = r.cut refl
 
-  reports-starved : Reports history input left before after disk OutOfMemory →
-      NotBegun input left before after ⊎ Stopped history input left before after disk OutOfMemory
+  reports-starved : Reports sealing history input left before after disk OutOfMemory →
+      NotBegun input left before after ⊎ Stopped sealing history input left before after disk OutOfMemory
   reports-starved r = r.starved refl
 
-  reports-limited : Reports history input left before after disk InputLimit →
+  reports-limited : Reports sealing history input left before after disk InputLimit →
       after ≡ appended before (report_so_far history (take LONGEST_INPUT input))
   reports-limited r = r.limited refl
 
@@ -249,10 +251,44 @@ rejects-usage : (old new : Devices) → Rejects old new Usage → SaysLine usage
 rejects-usage old new r = r
 
 -- a promise begins wherever a run over a source does
-begins-run : (mode : Option Mode) (disk : DiskView) (left : Option (List ℕ)) (history : History) (input : List ℕ) → mode ≡ Some Run →
-    IsTrue disk.tells → NothingPending disk.told → Stands history disk.told.content → left ≡ Some input → BeginsOver mode disk left history input
-begins-run mode disk left history input plain tells durable stands source =
-    record { plain = plain; tells = tells; durable = durable; stands = stands; source = source }
+begins-run : (sealing : Sealing) (mode : Option Mode) (disk : DiskView) (left : Option (List ℕ)) (history : History) (input : List ℕ) →
+    sealing_of mode ≡ Some sealing → IsTrue disk.tells → NothingPending disk.told → Stands history disk.told.content → left ≡ Some input →
+    BeginsOver sealing mode disk left history input
+begins-run sealing mode disk left history input asked tells durable stands source =
+    record { asked = asked; tells = tells; durable = durable; stands = stands; source = source }
+
+-- which modes are runs over a source, and how each seals
+sealing-run : sealing_of (Some Run) ≡ Some Each
+sealing-run = refl
+
+sealing-batch : sealing_of (Some Batch) ≡ Some Shared
+sealing-batch = refl
+
+sealing-check : sealing_of (Some Check) ≡ None
+sealing-check = refl
+
+sealing-gen : sealing_of (Some (Gen 1 1)) ≡ None
+sealing-gen = refl
+
+sealing-none : sealing_of None ≡ None
+sealing-none = refl
+
+-- a session seals each event by itself where no reply can wait
+sealing_by-none : sealing_by None ≡ Each
+sealing_by-none = refl
+
+sealing_by-some : sealing_by (Some (65 ∷ [])) ≡ Shared
+sealing_by-some = refl
+
+-- none waits there, nor in an empty text; and one does in any other
+none_wait-none : NoneWait None
+none_wait-none = tt
+
+none_wait-empty : NoneWait (Some [])
+none_wait-empty = refl
+
+none_wait-some : NoneWait (Some (65 ∷ [])) → ⊥
+none_wait-some waits = cc
 
 -- no more was read than there is
 reads-within : (input : List ℕ) (left : Option (List ℕ)) (status : Status) (r : Reads input left status) → r.few.count ≤ length input

@@ -1,24 +1,28 @@
 -- What a session makes of a history: another one, over which its queries are answered.
-use Rattle.std.proofs.Common.{◌≡◌, ◌∙◌, ◌++◌, List, [], ◌∷◌, ℕ, Option, Some, None, IsSome, Result, Ok, Err, refl, sym, ap, subst}
+use Rattle.std.proofs.Common.{◌≡◌, ◌∙◌, ◌++◌, List, [], ◌∷◌, ℕ, map, Option, Some, None, IsSome, Result, Ok, Err, refl, sym, ap, subst}
 use Rattle.std.proofs.lemmas.List.{append-nil}
 use Rattle.ss_catalog.specs.declared.event.Event.{Event}
 use Rattle.ss_catalog.specs.declared.event.Event.TheVariants.{Create, Value, Open, Close}
 use Rattle.ss_catalog.specs.declared.query.Query.{Query}
 use Rattle.ss_catalog.specs.declared.refusal.Refusal.{Refusal}
+use Rattle.ss_catalog.specs.declared.series.Series.{Series}
+use Rattle.ss_catalog.specs.Series.{row_count, row_start, rows_of}
 use Rattle.ss_command.proofs.SayLemmas.{meant-sayable}
 use Rattle.ss_command.specs.Grammar.{meaning}
 use Rattle.ss_command.specs.Printed.{IsSayable}
 use Rattle.ss_command.specs.declared.command.Command.{Command}
-use Rattle.ss_command.specs.declared.command.Command.TheVariants.{Do, Ask, Windows, List as ListAll}
+use Rattle.ss_command.specs.declared.command.Command.TheVariants.{Do, Ask, Series as AskRows, Windows, List as ListAll}
 use Rattle.ss_model.proofs.AnswerLemmas.{answer-holds, answer-known}
 use Rattle.ss_model.proofs.HistoryLemmas.{IsHistory_push}
+use Rattle.ss_model.proofs.RowLemmas.{row-answered}
 use Rattle.ss_model.specs.Answers.{HoldsTruth, outcome_of, refuses_query}
 use Rattle.ss_model.specs.History.{CanBeSaid, marked_of, values_of}
 use Rattle.ss_model.specs.Refusals.{IsHistory, refuses}
+use Rattle.ss_model.specs.Series.{AnswersRow, refuses_series}
 use Rattle.ss_model.specs.State.{state}
 use Rattle.ss_model.specs.declared.outcome.Outcome.{Outcome}
 use Rattle.ss_report.specs.declared.reply.Reply.{Reply}
-use Rattle.ss_report.specs.declared.reply.Reply.TheVariants.{Answered}
+use Rattle.ss_report.specs.declared.reply.Reply.TheVariants.{Answered, SeriesHead, Row}
 use Rattle.ss_program.specs.Line.{
   Brought,
   History,
@@ -33,7 +37,8 @@ use Rattle.ss_program.specs.Line.{
   unless_refused,
 }
 use Rattle.ss_program.specs.Session.{after_line, after_lines, replies}
-use Rattle.ss_program.proofs.AnswerLemmas.{ask-event, brings-answered, history-still, windows-event}
+use Rattle.ss_program.proofs.AnswerLemmas.{ask-event, brings-answered, history-still, series-event, windows-event}
+use Rattle.ss_program.proofs.SeriesLemmas.{brings-series, series_rows-map}
 use Rattle.ss_program.proofs.SessionLemmas.{replies-append}
 
 -- an event of a command that a line can say
@@ -57,6 +62,7 @@ command-leaves : (history : History) (command : Command) → IsSayable command �
 command-leaves history (Do event) sayable whole =
     event-leaves history event (refuses (state history) event) refl (sayable-said event sayable) whole
 command-leaves history (Ask query) sayable whole = still history (command_brings history (Ask query)) (ask-event history query) whole
+command-leaves history (AskRows series) sayable whole = still history (command_brings history (AskRows series)) (series-event history series) whole
 command-leaves history (Windows name) sayable whole = still history (command_brings history (Windows name)) (windows-event history name) whole
 command-leaves history ListAll sayable whole = still history (command_brings history ListAll) refl whole
 
@@ -90,12 +96,33 @@ answered-line history line query whole means none =
     let it = answered-query history query (outcome_of (state history) query) whole none refl (answer-known (state history) query none) in
     (it.0, ap (λ m. meaning_brings history m) means ∙ it.1, it.2)
 
--- a line to which one reply comes and no event, among other lines
-pub replies-around : (history : History) (before after : List (List ℕ)) (line : List ℕ) (reply : Reply) →
-    brings (after_lines history before) line ≡ shown (reply ∷ []) →
-    replies history (before ++ line ∷ after) ≡ replies history before ++ reply ∷ replies (after_lines history before) after
-replies-around history before after line reply is =
+-- and so does a series, row by row
+pub answered-series : (history : History) (line : List ℕ) (series : Series) → IsHistory history → meaning line ≡ Ok (Some (AskRows series)) →
+    refuses_series (state history) series ≡ None →
+    (answers : ℕ → Outcome)
+    × (brings history line ≡ shown (SeriesHead (row_count series) ∷ map (λ row. Row (row_start series row) (answers row)) (rows_of series)))
+    × ((row : ℕ) → AnswersRow history series row (answers row))
+answered-series history line series whole means none =
+    let answers = λ (row : ℕ). (row-answered history series row whole none).0 in
+    let each = λ (row : ℕ). (row-answered history series row whole none).1 in (
+      answers,
+      ap (λ m. meaning_brings history m) means ∙ brings-series history series none
+          ∙ ap (λ rows. shown (SeriesHead (row_count series) ∷ rows)) (series_rows-map (state history) series answers (λ row. (each row).is)),
+      each,
+    )
+
+-- a line to which replies come and no event, among other lines
+pub replies-among : (history : History) (before after : List (List ℕ)) (line : List ℕ) (rs : List Reply) →
+    brings (after_lines history before) line ≡ shown rs →
+    replies history (before ++ line ∷ after) ≡ replies history before ++ (rs ++ replies (after_lines history before) after)
+replies-among history before after line rs is =
     let here = after_lines history before in
     replies-append history before (line ∷ after)
     ∙ ap (λ b. replies history before ++ (b.replies ++ replies (history_after here b) after)) is
-    ∙ ap (λ h. replies history before ++ reply ∷ replies h after) (append-nil here)
+    ∙ ap (λ h. replies history before ++ (rs ++ replies h after)) (append-nil here)
+
+-- one reply alone
+pub replies-around : (history : History) (before after : List (List ℕ)) (line : List ℕ) (reply : Reply) →
+    brings (after_lines history before) line ≡ shown (reply ∷ []) →
+    replies history (before ++ line ∷ after) ≡ replies history before ++ reply ∷ replies (after_lines history before) after
+replies-around history before after line reply is = replies-among history before after line (reply ∷ []) is

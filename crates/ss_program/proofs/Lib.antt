@@ -5,7 +5,10 @@ pub mod TakeLemmas
 pub mod AnswerLemmas
 pub mod TakesLemmas
 pub mod RowLemmas
+pub mod SeriesLemmas
 pub mod HeldLemmas
+pub mod ReadLemmas
+pub mod HoldsLemmas
 pub mod RunLemmas
 pub mod OpeningLemmas
 pub mod EndLemmas
@@ -13,3 +16,11 @@ pub mod GenerateLemmas
 pub mod LawLemmas
 pub mod Rows
 pub mod FieldRows
+pub mod SharedRows
+pub mod SharedLemmas
+pub mod SharedSeals
+pub mod SharedStops
+pub mod SharedLines
+pub mod SharedStaging
+pub mod SharedInput
+pub mod SeriesRows

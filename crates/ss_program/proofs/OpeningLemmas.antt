@@ -15,16 +15,19 @@ use Rattle.ss_program.specs.Line.{History}
 use Rattle.ss_program.specs.Outcome.{Reads, Serves}
 use Rattle.ss_program.specs.Progress.{StandsWithin}
 use Rattle.ss_program.specs.Refused.{AsRefused, status_of_open}
+use Rattle.ss_program.specs.declared.sealing.Sealing.{Sealing}
 use Rattle.ss_program.specs.declared.status.Status.{Status}
 use Rattle.ss_program.specs.declared.status.Status.TheVariants.{Done, DiskFault, SourceFault, SinkFault, OutOfMemory, InputLimit}
-use Rattle.ss_program.proofs.HeldLemmas.{HoldsReported-done}
-use Rattle.ss_program.proofs.RunLemmas.{Reads-stop}
+use Rattle.ss_program.proofs.HoldsLemmas.{HoldsReported-done}
+use Rattle.ss_program.proofs.ReadLemmas.{AreRead-none}
+use Rattle.ss_program.proofs.ReadLemmas.{Reads-stop}
 use Rattle.ss_program.proofs.SendLemmas.{appended-nil}
 
 -- What opening the store left comes before what serving leaves.
-pub Serves-opened : (history : History) (input : List ℕ) (left before after : Option (List ℕ)) (old mid new : Told) (status : Status) →
-    LeavesOnly old mid (Stands history) → Serves history input left before after mid new status → Serves history input left before after old new status
-Serves-opened history input left before after old mid new status opened serves = record {
+pub Serves-opened : (sealing : Sealing) (history : History) (input : List ℕ) (left before after : Option (List ℕ)) (old mid new : Told) (status : Status) →
+    LeavesOnly old mid (Stands history) → Serves sealing history input left before after mid new status →
+    Serves sealing history input left before after old new status
+Serves-opened sealing history input left before after old mid new status opened serves = record {
   report = serves.report;
   kept = serves.kept;
   any_moment = joined old mid new (StandsWithin history (lines input))
@@ -38,10 +41,11 @@ unopened-other other one two (inl how) is = absurd (one (sym how ∙ is))
 unopened-other other one two (inr how) is = absurd (two (sym how ∙ is))
 
 -- the store wasn't opened, and nothing was said of it
-pub Serves-unopened : (history : History) (input : List ℕ) (left before after : Option (List ℕ)) (old new : Told) (status : Status) →
+pub Serves-unopened : (sealing : Sealing) (history : History) (input : List ℕ) (left before after : Option (List ℕ)) (old new : Told) (status : Status) →
     ((status ≡ DiskFault) ⊎ (status ≡ OutOfMemory)) →
-    left ≡ Some input → after ≡ before → KnowsNow new → LeavesOnly old new (Stands history) → Serves history input left before after old new status
-Serves-unopened history input left before after old new status how still same knows opened =
+    left ≡ Some input → after ≡ before → KnowsNow new → LeavesOnly old new (Stands history) →
+    Serves sealing history input left before after old new status
+Serves-unopened sealing history input left before after old new status how still same knows opened =
     let held = same ∙ sym (appended-nil before) in
     record {
       report = record {
@@ -53,29 +57,29 @@ Serves-unopened history input left before after old new status how still same kn
         starved = λ _. inl (still, same);
         limited = λ is. unopened-other InputLimit (λ w. cc) (λ w. cc) how is;
       };
-      kept = HoldsReported-done history input before after new status [] (lines input) refl held (now old new (Stands history) knows opened)
-          (λ is. unopened-other Done (λ w. cc) (λ w. cc) how is);
+      kept = HoldsReported-done sealing history input left before after new status [] (lines input) refl (AreRead-none input left still) held
+          (now old new (Stands history) knows opened) (λ is. unopened-other Done (λ w. cc) (λ w. cc) how is);
       any_moment = weaker old new (Stands history) (StandsWithin history (lines input)) (λ image is. ([], lines input, refl, is)) opened;
       whole = λ is. unopened-other Done (λ w. cc) (λ w. cc) how is;
     }
 
 -- a content that stands for a history isn't refused
-pub Serves-refused : (history : History) (input : List ℕ) (left before after : Option (List ℕ)) (had has : ℕ) (old new : Told) (error : OpenError) →
-    OpensAs old.content (Err error) → Stands history old.content → AsRefused error before after had has → left ≡ Some input → KnowsNow new →
-    LeavesOnly old new (Stands history) → Serves history input left before after old new (status_of_open error)
-Serves-refused history input left before after had has old new opening.Disk opens stands said still knows opened =
-    Serves-unopened history input left before after old new DiskFault (inl refl) still said.0 knows opened
-Serves-refused history input left before after had has old new opening.OutOfMemory opens stands said still knows opened =
-    Serves-unopened history input left before after old new OutOfMemory (inr refl) still said.0 knows opened
-Serves-refused history input left before after had has old new opening.NotAStore opens stands said still knows opened =
+pub Serves-refused : (sealing : Sealing) (history : History) (input : List ℕ) (left before after : Option (List ℕ)) (had has : ℕ) (old new : Told)
+    (error : OpenError) → OpensAs old.content (Err error) → Stands history old.content → AsRefused error before after had has → left ≡ Some input →
+    KnowsNow new → LeavesOnly old new (Stands history) → Serves sealing history input left before after old new (status_of_open error)
+Serves-refused sealing history input left before after had has old new opening.Disk opens stands said still knows opened =
+    Serves-unopened sealing history input left before after old new DiskFault (inl refl) still said.0 knows opened
+Serves-refused sealing history input left before after had has old new opening.OutOfMemory opens stands said still knows opened =
+    Serves-unopened sealing history input left before after old new OutOfMemory (inr refl) still said.0 knows opened
+Serves-refused sealing history input left before after had has old new opening.NotAStore opens stands said still knows opened =
     let wrong : no_store ≡ recovers (state history) = sym opens ∙ stands.state in cc
-Serves-refused history input left before after had has old new (opening.BadEntry n) opens stands said still knows opened =
+Serves-refused sealing history input left before after had has old new (opening.BadEntry n) opens stands said still knows opened =
     let wrong : damaged_entry n ≡ recovers (state history) = sym opens ∙ stands.state in cc
-Serves-refused history input left before after had has old new (opening.BadSlot n) opens stands said still knows opened =
+Serves-refused sealing history input left before after had has old new (opening.BadSlot n) opens stands said still knows opened =
     let wrong : damaged_slot n ≡ recovers (state history) = sym opens ∙ stands.state in cc
-Serves-refused history input left before after had has old new (opening.BadStream id) opens stands said still knows opened =
+Serves-refused sealing history input left before after had has old new (opening.BadStream id) opens stands said still knows opened =
     let wrong : damaged_stream id ≡ recovers (state history) = sym opens ∙ stands.state in cc
-Serves-refused history input left before after had has old new (opening.Changed slot) opens stands said still knows opened = absurd opens
+Serves-refused sealing history input left before after had has old new (opening.Changed slot) opens stands said still knows opened = absurd opens
 
 -- and what was read then: nothing
 unopened-status : (error : OpenError) → (status_of_open error ≡ Done → ⊥) × (status_of_open error ≡ InputLimit → ⊥)
@@ -91,6 +95,11 @@ pub Reads-refused : (input : List ℕ) (left : Option (List ℕ)) (error : OpenE
 Reads-refused input left error is =
     let other = unopened-status error in
     Reads-stop input left (status_of_open error) other.0 other.1 (record { count = 0; few = omega arith; within = omega arith; others = is })
+
+-- and where there was no memory for a session
+pub Reads-none : (input : List ℕ) (left : Option (List ℕ)) → left ≡ Some input → Reads input left OutOfMemory
+Reads-none input left is =
+    Reads-stop input left OutOfMemory (λ w. cc) (λ w. cc) (record { count = 0; few = omega arith; within = omega arith; others = is })
 
 -- Nothing was said of a store that isn't refused, and the run isn't done nor blames the sink, where it wasn't opened.
 pub unopened : (content : List ℕ) (streams : List Stream) (before after : Option (List ℕ)) (k l : ℕ) (error : OpenError) → Recovers streams content →

@@ -265,7 +265,7 @@ rows-cut-sent part entries_of at s o before held after window is some so_far row
     rows-cut part entries_of at s o before held after window is some so_far row less
 
 -- or one more wasn't read
-unread : (before held : Option (List ℕ)) (rows : List Reply) (index : ℕ) → index < length rows →
+pub unread : (before held : Option (List ℕ)) (rows : List Reply) (index : ℕ) → index < length rows →
     held ≡ appended before (flat_map reply_line (take index rows)) → AppendsLess before held (flat_map reply_line rows)
 unread before held rows index inside so_far = elim (slice_get_cases rows index).1 [
   | inl here ↦ rows-less before held held rows index here.0 here.2 so_far (AppendsLess-none held (reply_line here.0) (reply_line-some here.0))

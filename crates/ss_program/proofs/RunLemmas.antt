@@ -8,7 +8,6 @@ use Rattle.std.proofs.Common.{
   length-drop,
   ℕ,
   ◌+◌,
-  ◌<◌,
   ◌≤◌,
   ◌++◌,
   List,
@@ -23,9 +22,6 @@ use Rattle.std.proofs.Common.{
   IsTrue,
   Option,
   Some,
-  None,
-  Ok,
-  Err,
   refl,
   sym,
   ap,
@@ -34,22 +30,21 @@ use Rattle.std.proofs.Common.{
   arith,
 }
 use Rattle.std.proofs.Math.Seq.{take-add}
-use Rattle.std.proofs.lemmas.List.{append-nil, drop-drop, drop_all, length-take-le, take-append-drop}
+use Rattle.std.proofs.lemmas.List.{append-nil, drop-drop, take-append-drop}
 use Rattle.ss_command.specs.Lines.{lines, lines_so_far, unended, unless_empty, without_return}
 use Rattle.ss_command.proofs.LineLemmas.{lines-front}
 use Rattle.ss_outside.proofs.CrashLemmas.{joined, of_content}
 use Rattle.ss_outside.specs.Crash.{KnowsNow, LeavesOnly}
 use Rattle.ss_outside.specs.Disk.{Told}
-use Rattle.ss_outside.specs.Source.{Moves}
-use Rattle.ss_outside.specs.declared.source.Failed.{Failed}
 use Rattle.ss_store.specs.Recover.{Stands}
 use Rattle.ss_program.specs.Line.{History}
-use Rattle.ss_program.specs.Outcome.{Moved, Reports, Reads, Serves, Stopped, Took, lines_within}
+use Rattle.ss_program.specs.Outcome.{Reports, Serves, Stopped, Took, lines_within}
 use Rattle.ss_program.specs.Progress.{EndsWell, GoesOn, HasReplied, HasTaken, SessionState, StandsWithin, StopsIn}
 use Rattle.ss_program.specs.Sent.{appended, AppendsFront}
 use Rattle.ss_program.specs.Session.{after_lines, report, report_so_far, text_of}
 use Rattle.ss_program.specs.Status.{IsStop}
 use Rattle.ss_program.specs.declared.running.TheConstants.{LONGEST_INPUT}
+use Rattle.ss_program.specs.declared.sealing.Sealing.{Sealing}
 use Rattle.ss_program.specs.declared.status.Status.{Status}
 use Rattle.ss_program.specs.declared.status.Status.TheVariants.{
   Done,
@@ -62,24 +57,11 @@ use Rattle.ss_program.specs.declared.status.Status.TheVariants.{
   InputLimit,
   RecordChanged,
 }
-use Rattle.ss_program.proofs.HeldLemmas.{HoldsReported-done, HoldsReported-stop}
 use Rattle.ss_program.proofs.SendLemmas.{AppendsFront-all}
-use Rattle.ss_program.proofs.SessionLemmas.{after_lines-accepted, front-report, StopsAt-more, StopsAt-front}
+use Rattle.ss_program.proofs.SessionLemmas.{after_lines-accepted, front-report, StopsBy-more, StopsBy-front}
 use Rattle.ss_program.proofs.TakeLemmas.{GoesOn-start, GoesOn-then, StopsIn-more, StopsIn-then, any_moment-more}
-
--- what a read moved
-pub moved : (before after : Option (List ℕ)) (count : ℕ) (into left : List ℕ) → Moves before after (Ok count) into → before ≡ Some left →
-    (count ≤ length left) × (take count into ≡ take count left) × (after ≡ Some (drop count left))
-moved None after count into left moves is = cc
-moved (Some bytes) after count into left moves is =
-    let same : bytes ≡ left = cc in
-    subst (λ bs. (count ≤ length bs) × (take count into ≡ take count bs) × (after ≡ Some (drop count bs))) same (moves.0, moves.2, moves.3)
-
--- and what one that failed left
-pub unmoved : (before after : Option (List ℕ)) (e : Failed) (into left : List ℕ) → Moves before after (Err e) into → before ≡ Some left →
-    after ≡ Some left
-unmoved None after e into left moves is = cc
-unmoved (Some bytes) after e into left moves is = moves ∙ is
+use Rattle.ss_program.proofs.ReadLemmas.{AreRead, AreRead-front, AreRead-took, Took-at, lines-all, stop-other}
+use Rattle.ss_program.proofs.HoldsLemmas.{HoldsReported-done, HoldsReported-stop}
 
 -- so many bytes of the input were taken since a moment, and the lines that end in them are answered
 pub record IsThrough (history : History) (start now : Told) (session : SessionState) (before held left : Option (List ℕ)) (input : List ℕ)
@@ -117,25 +99,6 @@ pub record IsAtEnd (history : History) (start now : Told) (session : SessionStat
   pub source : left ≡ Some []
   pub on : GoesOn history start now session before held input
 
--- so many bytes of the input were read
-pub record IsLeft (left : Option (List ℕ)) (input : List ℕ) (n : ℕ) : Type 0 where
-  pub within : n ≤ length input
-  pub source : left ≡ Some (drop n input)
-
-pub IsLeft-more : (left : Option (List ℕ)) (input : List ℕ) (n k : ℕ) → n ≤ length input → k ≤ length (drop n input) →
-    left ≡ Some (drop k (drop n input)) → IsLeft left input (n + k)
-IsLeft-more left input n k within more source = record {
-  within = omega (arith, within, more, length-drop n input);
-  source = source ∙ ap (λ bs. Some bs) (drop-drop k n input);
-}
-
--- nothing is left of it
-pub length_of-none : (input : List ℕ) (n : ℕ) → drop n input ≡ [] → length input ≤ n
-length_of-none input n none = let short = ap (λ (bs : List ℕ). length bs) none in omega (arith, length-drop n input)
-
-pub left-none : (left : Option (List ℕ)) (rest : List ℕ) (k : ℕ) → rest ≡ [] → left ≡ Some (drop k rest) → left ≡ Some []
-left-none left rest k none is = let short = ap (λ (bs : List ℕ). length bs) none in is ∙ ap (λ bs. Some bs) (drop_all k rest (omega (arith, short)))
-
 pub IsThrough-end : {history : History} {start now : Told} {session : SessionState} {before held left : Option (List ℕ)} {input : List ℕ} {n : ℕ}
     (after_left : Option (List ℕ)) → IsThrough history start now session before held left input n → length input ≤ n →
     length input ≤ LONGEST_INPUT → after_left ≡ Some [] → IsAtEnd history start now session before held after_left input
@@ -146,51 +109,39 @@ IsThrough-end {history = history} {start = start} {now = now} {session = session
       on = subst (λ bs. GoesOn history start now session before held bs) (take_all n input all) through.on;
     }
 
--- what was taken of the input, and what is left
-pub Took-at : (input : List ℕ) (left : Option (List ℕ)) (n : ℕ) → n ≤ length input → n ≤ LONGEST_INPUT → left ≡ Some (drop n input) →
-    Took input left (take n input) (drop n input)
-Took-at input left n within few is = record {
-  all = take-append-drop n input;
-  others = is;
-  few = omega (arith, few, length-take-le n input within);
-}
-
--- the lines so far are a front of those of the input
-lines_within-front : (taken rest : List ℕ) → (more : List (List ℕ)) × (lines (taken ++ rest) ≡ lines_within taken rest ++ more)
-lines_within-front taken [] = ([], ap (λ bs. lines bs) (append-nil taken) ∙ sym (append-nil (lines taken)))
-lines_within-front taken (b ∷ rest) = lines-front taken (b ∷ rest)
-
 -- a line that a line end ended within the bytes taken is one of those so far
-StopsIn-within : (history : History) (old new : Told) (before after : Option (List ℕ)) (status : Status) (taken rest : List ℕ) →
-    StopsIn history (lines_so_far taken) old new before after status → StopsIn history (lines_within taken rest) old new before after status
-StopsIn-within history old new before after status taken [] stops =
-    StopsIn-more history old new before after (lines_so_far taken) (map without_return (unless_empty (unended taken))) status stops
-StopsIn-within history old new before after status taken (b ∷ rest) stops = stops
+StopsIn-within : (sealing : Sealing) (history : History) (old new : Told) (before after : Option (List ℕ)) (status : Status) (taken rest : List ℕ) →
+    StopsIn sealing history (lines_so_far taken) old new before after status →
+    StopsIn sealing history (lines_within taken rest) old new before after status
+StopsIn-within sealing history old new before after status taken [] stops =
+    StopsIn-more sealing history old new before after (lines_so_far taken) (map without_return (unless_empty (unended taken))) status stops
+StopsIn-within sealing history old new before after status taken (b ∷ rest) stops = stops
 
 -- a run stopped at a line that had ended within the bytes taken
-pub record HasStopped (history : History) (input : List ℕ) (left before after : Option (List ℕ)) (old new : Told) (status : Status) : Type 0 where
-  pub taken : List ℕ
-  pub rest : List ℕ
-  pub took : Took input left taken rest
-  pub stops : StopsIn history (lines_within taken rest) old new before after status
+pub record HasStopped (sealing : Sealing) (history : History) (input : List ℕ) (left before after : Option (List ℕ)) (old new : Told) (status : Status) : Type 0
+  where
+    pub taken : List ℕ
+    pub rest : List ℕ
+    pub took : Took input left taken rest
+    pub stops : StopsIn sealing history (lines_within taken rest) old new before after status
 
 -- it stopped at a line of the piece that came next
-pub HasStopped-piece : (history : History) (start mid new : Told) (session : SessionState) (input : List ℕ)
+pub HasStopped-piece : (sealing : Sealing) (history : History) (start mid new : Told) (session : SessionState) (input : List ℕ)
     (old_left left before held after : Option (List ℕ)) (status : Status)
     (n room : ℕ) → IsThrough history start mid session before held old_left input n → n + room ≤ LONGEST_INPUT →
     (count : ℕ) × (count ≤ room) × (count ≤ length (drop n input)) × (left ≡ Some (drop count (drop n input)))
-    × StopsIn history (lines_so_far (take n input ++ take count (drop n input))) mid new before after status →
-    HasStopped history input left before after start new status
-HasStopped-piece history start mid new session input old_left left before held after status n room through few piece =
+    × StopsIn sealing history (lines_so_far (take n input ++ take count (drop n input))) mid new before after status →
+    HasStopped sealing history input left before after start new status
+HasStopped-piece sealing history start mid new session input old_left left before held after status n room through few piece =
     let m = n + piece.0 in
-    let stops = StopsIn-then history start mid new session before held after status (take n input) (take piece.0 (drop n input)) through.on piece.4 in
+    let stops = StopsIn-then sealing history start mid new session before held after status (take n input) (take piece.0 (drop n input)) through.on piece.4 in
     record {
       taken = take m input;
       rest = drop m input;
       took = Took-at input left m (omega (arith, through.within, piece.2, length-drop n input)) (omega (arith, few, piece.1))
           (piece.3 ∙ ap (λ bs. Some bs) (drop-drop piece.0 n input));
-      stops = StopsIn-within history start new before after status (take m input) (drop m input)
-          (subst (λ bs. StopsIn history (lines_so_far bs) start new before after status) (sym (take-add n piece.0 input)) stops);
+      stops = StopsIn-within sealing history start new before after status (take m input) (drop m input)
+          (subst (λ bs. StopsIn sealing history (lines_so_far bs) start new before after status) (sym (take-add n piece.0 input)) stops);
     }
 
 -- what was left in a crash of a session before its last line is a front of all lines
@@ -200,11 +151,11 @@ any_moment-lines history old new input run =
     any_moment-more history old new (lines_so_far input) (map without_return (unless_empty (unended input))) run
 
 -- or at the last line of the input
-pub HasStopped-end : {history : History} {start mid : Told} {session : SessionState} {before held left : Option (List ℕ)} {input : List ℕ} (new : Told)
+pub HasStopped-end : (sealing : Sealing) {history : History} {start mid : Told} {session : SessionState} {before held left : Option (List ℕ)} {input : List ℕ} (new : Told)
     (after : Option (List ℕ))
-    (status : Status) → IsAtEnd history start mid session before held left input → StopsIn history (lines input) mid new before after status →
-    HasStopped history input left before after start new status
-HasStopped-end {history = history} {start = start} {mid = mid} {input = input} new after status end stops = record {
+    (status : Status) → IsAtEnd history start mid session before held left input → StopsIn sealing history (lines input) mid new before after status →
+    HasStopped sealing history input left before after start new status
+HasStopped-end sealing {history = history} {start = start} {mid = mid} {input = input} new after status end stops = record {
   taken = input;
   rest = [];
   took = record { all = append-nil input; others = end.source; few = end.fits };
@@ -214,92 +165,71 @@ HasStopped-end {history = history} {start = start} {mid = mid} {input = input} n
   };
 }
 
--- the lines within the bytes taken are the first of all
-lines-all : (input taken rest : List ℕ) → taken ++ rest ≡ input → (more : List (List ℕ)) × (lines input ≡ lines_within taken rest ++ more)
-lines-all input taken rest all =
-    let more = lines_within-front taken rest in (more.0, ap (λ bs. lines bs) (sym all) ∙ more.1)
-
 -- the run stopped at a line
-Stopped-as : (history : History) (input : List ℕ) (left before after : Option (List ℕ)) (old new : Told) (status : Status) →
-    HasStopped history input left before after old new status → Stopped history input left before after new status
-Stopped-as history input left before after old new status has = (has.taken, has.rest, has.took, has.stops.at)
+Stopped-as : (sealing : Sealing) (history : History) (input : List ℕ) (left before after : Option (List ℕ)) (old new : Told) (status : Status) →
+    HasStopped sealing history input left before after old new status → Stopped sealing history input left before after new status
+Stopped-as sealing history input left before after old new status has = (has.taken, has.rest, has.took, has.stops.at)
 
-Reports-stop : (history : History) (input : List ℕ) (left before after : Option (List ℕ)) (old new : Told) (status : Status) →
-    AppendsFront before after (report history input) → HasStopped history input left before after old new status → IsStop true status →
-    Reports history input left before after new status
-Reports-stop history input left before after old new DiskFault front has stop = record {
+Reports-stop : (sealing : Sealing) (history : History) (input : List ℕ) (left before after : Option (List ℕ)) (old new : Told) (status : Status) →
+    AppendsFront before after (report history input) → HasStopped sealing history input left before after old new status → IsStop true status →
+    Reports sealing history input left before after new status
+Reports-stop sealing history input left before after old new DiskFault front has stop = record {
   front = front;
   whole = λ is. cc;
-  broken = λ is. inr (Stopped-as history input left before after old new DiskFault has);
+  broken = λ is. inr (Stopped-as sealing history input left before after old new DiskFault has);
   faulted = λ is. cc;
   cut = λ is. cc;
   starved = λ is. cc;
   limited = λ is. cc;
 }
-Reports-stop history input left before after old new SinkFault front has stop = record {
+Reports-stop sealing history input left before after old new SinkFault front has stop = record {
   front = front;
   whole = λ is. cc;
   broken = λ is. cc;
   faulted = λ is. cc;
-  cut = λ is. Stopped-as history input left before after old new SinkFault has;
+  cut = λ is. Stopped-as sealing history input left before after old new SinkFault has;
   starved = λ is. cc;
   limited = λ is. cc;
 }
-Reports-stop history input left before after old new OutOfMemory front has stop = record {
+Reports-stop sealing history input left before after old new OutOfMemory front has stop = record {
   front = front;
   whole = λ is. cc;
   broken = λ is. cc;
   faulted = λ is. cc;
   cut = λ is. cc;
-  starved = λ is. inr (Stopped-as history input left before after old new OutOfMemory has);
+  starved = λ is. inr (Stopped-as sealing history input left before after old new OutOfMemory has);
   limited = λ is. cc;
 }
-Reports-stop history input left before after old new RecordChanged front has stop = absurd (stop refl)
-Reports-stop history input left before after old new Done front has stop = absurd stop
-Reports-stop history input left before after old new Usage front has stop = absurd stop
-Reports-stop history input left before after old new RefusedStore front has stop = absurd stop
-Reports-stop history input left before after old new SourceFault front has stop = absurd stop
-Reports-stop history input left before after old new InputLimit front has stop = absurd stop
+Reports-stop sealing history input left before after old new RecordChanged front has stop = absurd (stop refl)
+Reports-stop sealing history input left before after old new Done front has stop = absurd stop
+Reports-stop sealing history input left before after old new Usage front has stop = absurd stop
+Reports-stop sealing history input left before after old new RefusedStore front has stop = absurd stop
+Reports-stop sealing history input left before after old new SourceFault front has stop = absurd stop
+Reports-stop sealing history input left before after old new InputLimit front has stop = absurd stop
 
--- its status isn't that of a run that is done, nor that of an input that is too long
-pub stop-other : (tells : Bool) (status : Status) → IsStop tells status →
-    (status ≡ Done → ⊥) × (status ≡ InputLimit → ⊥) × (status ≡ SourceFault → ⊥)
-stop-other tells DiskFault stop = (λ is. cc, λ is. cc, λ is. cc)
-stop-other tells SinkFault stop = (λ is. cc, λ is. cc, λ is. cc)
-stop-other tells OutOfMemory stop = (λ is. cc, λ is. cc, λ is. cc)
-stop-other tells RecordChanged stop = (λ is. cc, λ is. cc, λ is. cc)
-stop-other tells Done stop = absurd stop
-stop-other tells Usage stop = absurd stop
-stop-other tells RefusedStore stop = absurd stop
-stop-other tells SourceFault stop = absurd stop
-stop-other tells InputLimit stop = absurd stop
-
--- and neither is it where the source failed
-pub end-other : (tells : Bool) (status : Status) → (status ≡ SourceFault) ⊎ IsStop tells status →
-    (status ≡ Done → ⊥) × (status ≡ InputLimit → ⊥)
-end-other tells status (inl fault) = (λ is. cc, λ is. cc)
-end-other tells status (inr stop) = let other = stop-other tells status stop in (other.0, other.1)
-
-pub Serves-stop : (history : History) (input : List ℕ) (left before after : Option (List ℕ)) (old new : Told) (tells : Bool) (status : Status) →
-    IsTrue tells → IsStop tells status → HasStopped history input left before after old new status → Serves history input left before after old new status
-Serves-stop history input left before after old new tells status told stop has =
+pub Serves-stop : (sealing : Sealing) (history : History) (input : List ℕ) (left before after : Option (List ℕ)) (old new : Told) (tells : Bool)
+    (status : Status) → IsTrue tells → IsStop tells status → HasStopped sealing history input left before after old new status →
+    Serves sealing history input left before after old new status
+Serves-stop sealing history input left before after old new tells status told stop has =
     let all = lines-all input has.taken has.rest has.took.all in
     let ls = lines_within has.taken has.rest in
     record {
-      report = Reports-stop history input left before after old new status
-          (subst (λ l. AppendsFront before after (text_of history l)) (sym all.1) (StopsAt-front (StopsAt-more all.0 has.stops.at))) has
+      report = Reports-stop sealing history input left before after old new status
+          (subst (λ l. AppendsFront before after (text_of history l)) (sym all.1) (StopsBy-front sealing history (ls ++ all.0) before after new status
+          (StopsBy-more sealing history ls all.0 before after new status has.stops.at))) has
           (subst (λ b. IsStop b status) told stop);
-      kept = HoldsReported-stop history input before after new status ls all.0 all.1 has.stops.at (stop-other tells status stop).0;
+      kept = HoldsReported-stop sealing history input left before after new status ls all.0 all.1
+          (AreRead-took input left has.taken has.rest has.took) has.stops.at (stop-other tells status stop).0;
       any_moment = subst (λ l. LeavesOnly old new (StandsWithin history l)) (sym all.1) (any_moment-more history old new ls all.0 has.stops.any_moment);
       whole = λ is. absurd ((stop-other tells status stop).0 is);
     }
 
 -- the session came to its end
-pub Serves-done : {history : History} {start mid : Told} {session : SessionState} {before held left : Option (List ℕ)} {input : List ℕ} (new : Told)
+pub Serves-done : (sealing : Sealing) {history : History} {start mid : Told} {session : SessionState} {before held left : Option (List ℕ)} {input : List ℕ} (new : Told)
     (after : Option (List ℕ)) →
     IsAtEnd history start mid session before held left input → EndsWell history (lines input) mid new before after →
-    Serves history input left before after start new Done
-Serves-done {history = history} {start = start} {mid = mid} {before = before} {input = input} new after end ends = record {
+    Serves sealing history input left before after start new Done
+Serves-done sealing {history = history} {start = start} {mid = mid} {before = before} {left = left} {input = input} new after end ends = record {
   report = record {
     front = AppendsFront-all before after (report history input) ends.replied;
     whole = λ _. ends.replied;
@@ -309,23 +239,25 @@ Serves-done {history = history} {start = start} {mid = mid} {before = before} {i
     starved = λ is. cc;
     limited = λ is. cc;
   };
-  kept = HoldsReported-done history input before after new Done (lines input) [] (sym (append-nil (lines input))) ends.replied
+  kept = HoldsReported-done sealing history input left before after new Done (lines input) [] (sym (append-nil (lines input)))
+      (AreRead-took input left input [] (record { all = append-nil input; others = end.source; few = end.fits })) ends.replied
       (of_content new (Stands (after_lines history (lines input))) ends.durable ends.stands) (λ _. refl);
   any_moment = joined start mid new (StandsWithin history (lines input)) (any_moment-lines history start mid input end.on.any_moment) ends.any_moment;
   whole = λ _. subst (λ h. Stands h new.content) (after_lines-accepted history (lines input)) ends.stands;
 }
 
 -- the session was finished
-pub Serves-finish : {history : History} {start mid : Told} {session : SessionState} {before held left : Option (List ℕ)} {input : List ℕ} (new : Told)
+pub Serves-finish : (sealing : Sealing) {history : History} {start mid : Told} {session : SessionState} {before held left : Option (List ℕ)} {input : List ℕ} (new : Told)
     (after : Option (List ℕ))
     (tells : Bool) (status : Status) → IsTrue tells → IsAtEnd history start mid session before held left input →
     (status ≡ Done) ⊎ IsStop tells status →
     (status ≡ Done → EndsWell history (lines input) mid new before after) →
-    (IsStop tells status → StopsIn history (lines input) mid new before after status) → Serves history input left before after start new status
-Serves-finish {history = history} {start = start} {before = before} {left = left} {input = input} new after tells status told end (inl is) done stops =
-    subst (λ s. Serves history input left before after start new s) (sym is) (Serves-done new after end (done is))
-Serves-finish {history = history} {start = start} {before = before} {left = left} {input = input} new after tells status told end (inr stop) done stops =
-    Serves-stop history input left before after start new tells status told stop (HasStopped-end new after status end (stops stop))
+    (IsStop tells status → StopsIn sealing history (lines input) mid new before after status) →
+    Serves sealing history input left before after start new status
+Serves-finish sealing {history = history} {start = start} {before = before} {left = left} {input = input} new after tells status told end (inl is) done stops =
+    subst (λ s. Serves sealing history input left before after start new s) (sym is) (Serves-done sealing new after end (done is))
+Serves-finish sealing {history = history} {start = start} {before = before} {left = left} {input = input} new after tells status told end (inr stop) done stops =
+    Serves-stop sealing history input left before after start new tells status told stop (HasStopped-end sealing new after status end (stops stop))
 
 -- by which of the two statuses
 abbrev Partly : Status → Type 0 → Type 0 → Type 0
@@ -344,13 +276,25 @@ part-limit : {A B : Type 0} {status : Status} → Partly status A B → status �
 part-limit (inl how) is = cc
 part-limit (inr how) is = how.1
 
+-- as many bytes were taken as an input may have, and one more was read
+pub record IsPast (input : List ℕ) (left : Option (List ℕ)) (n : ℕ) : Type 0 where
+  pub all : n ≡ LONGEST_INPUT
+  pub source : left ≡ Some (drop 1 (drop n input))
+
+part-read : {status : Status} (input : List ℕ) (left after_left : Option (List ℕ)) (n : ℕ) → left ≡ Some (drop n input) →
+    Partly status (after_left ≡ left) (IsPast input after_left n) → AreRead input after_left (lines_so_far (take n input))
+part-read input left after_left n is (inl how) =
+    AreRead-front input after_left n 0 (how.1 ∙ is ∙ ap (λ (m : ℕ). Some (drop m input)) (omega arith))
+part-read input left after_left n is (inr how) = AreRead-front input after_left n 1 (how.1.source ∙ ap (λ bs. Some bs) (drop-drop 1 n input))
+
 -- the source failed, or more is left than an input may have
-pub Serves-part : {history : History} {start now : Told} {session : SessionState} {before held left : Option (List ℕ)} {input : List ℕ} {n : ℕ}
+pub Serves-part : (sealing : Sealing) {history : History} {start now : Told} {session : SessionState} {before held left : Option (List ℕ)} {input : List ℕ} {n : ℕ}
     (status : Status)
     (after_left : Option (List ℕ)) → IsThrough history start now session before held left input n → n ≤ LONGEST_INPUT →
-    (status ≡ SourceFault) × (after_left ≡ left) ⊎ (status ≡ InputLimit) × (n ≡ LONGEST_INPUT) →
-    Serves history input after_left before held start now status
-Serves-part {history = history} {start = start} {now = now} {before = before} {held = held} {input = input} {n = n} status after_left through few how =
+    (status ≡ SourceFault) × (after_left ≡ left) ⊎ (status ≡ InputLimit) × IsPast input after_left n →
+    Serves sealing history input after_left before held start now status
+Serves-part sealing {history = history} {start = start} {now = now} {before = before} {held = held} {left = left} {input = input} {n = n} status after_left
+    through few how =
     let more = lines-front (take n input) (drop n input) in
     let all : lines input ≡ lines_so_far (take n input) ++ more.0 = ap (λ bs. lines bs) (sym (take-append-drop n input)) ∙ more.1 in
     let ls = lines_so_far (take n input) in
@@ -364,59 +308,11 @@ Serves-part {history = history} {start = start} {now = now} {before = before} {h
         faulted = λ is. (take n input, drop n input, Took-at input after_left n through.within few (part-left how is ∙ through.source), through.on.replied);
         cut = λ is. part-other SinkFault (λ w. cc) (λ w. cc) how is;
         starved = λ is. part-other OutOfMemory (λ w. cc) (λ w. cc) how is;
-        limited = λ is. through.on.replied ∙ ap (λ m. appended before (report_so_far history (take m input))) (part-limit how is);
+        limited = λ is. through.on.replied ∙ ap (λ m. appended before (report_so_far history (take m input))) (part-limit how is).all;
       };
-      kept = HoldsReported-done history input before held now status ls more.0 all through.on.replied
+      kept = HoldsReported-done sealing history input after_left before held now status ls more.0 all (part-read input left after_left n through.source how)
+          through.on.replied
           (of_content now (Stands (after_lines history ls)) through.on.at.durable through.on.at.stands) (λ is. part-other Done (λ w. cc) (λ w. cc) how is);
       any_moment = subst (λ l. LeavesOnly start now (StandsWithin history l)) (sym all) (any_moment-more history start now ls more.0 through.on.any_moment);
       whole = λ is. part-other Done (λ w. cc) (λ w. cc) how is;
-    }
-
--- so many bytes were read
-pub Moved-at : (input : List ℕ) (left : Option (List ℕ)) (n : ℕ) → IsLeft left input n → n ≤ LONGEST_INPUT → Moved (LONGEST_INPUT + 1) input left
-Moved-at input left n at few = record { count = n; few = omega (arith, few); within = at.within; others = at.source }
-
--- and some of a piece more
-pub Moved-piece : (input : List ℕ) (left : Option (List ℕ)) (n room : ℕ) → n ≤ length input → n + room ≤ LONGEST_INPUT + 1 →
-    Moved room (drop n input) left → Moved (LONGEST_INPUT + 1) input left
-Moved-piece input left n room within fits piece = record {
-  count = n + piece.count;
-  few = omega (arith, fits, piece.few);
-  within = omega (arith, within, piece.within, length-drop n input);
-  others = piece.others ∙ ap (λ bs. Some bs) (drop-drop piece.count n input);
-}
-
--- the run stopped before the input's end was known
-pub Reads-stop : (input : List ℕ) (left : Option (List ℕ)) (status : Status) → (status ≡ Done → ⊥) → (status ≡ InputLimit → ⊥) →
-    Moved (LONGEST_INPUT + 1) input left → Reads input left status
-Reads-stop input left status going within moved = record { few = moved; whole = λ is. absurd (going is); limit = λ is. absurd (within is) }
-
-end-limit : {A : Type 0} (tells : Bool) (status : Status) → (status ≡ Done) ⊎ IsStop tells status → status ≡ InputLimit → A
-end-limit tells status (inl is) wrong = cc
-end-limit tells status (inr stop) wrong = absurd ((stop-other tells status stop).1 wrong)
-
--- what was read, where the session came to its end
-pub Reads-end : (tells : Bool) (input : List ℕ) (left : Option (List ℕ)) (status : Status) → length input ≤ LONGEST_INPUT → left ≡ Some [] →
-    (status ≡ Done) ⊎ IsStop tells status → Reads input left status
-Reads-end tells input left status fits source how = record {
-  few = record {
-    count = length input;
-    few = omega (arith, fits);
-    within = omega arith;
-    others = source ∙ ap (λ bs. Some bs)
-        (sym (drop_all (length input) input (omega arith)));
-  };
-  whole = λ _. (fits, source);
-  limit = λ wrong. end-limit tells status how wrong;
-}
-
-pub Reads-limit : (input : List ℕ) (left : Option (List ℕ)) (n : ℕ) → n ≡ LONGEST_INPUT → 0 < length (drop n input) →
-    left ≡ Some (drop 1 (drop n input)) → Reads input left InputLimit
-Reads-limit input left n last some is =
-    let all = is ∙ ap (λ bs. Some bs) (drop-drop 1 n input ∙ ap (λ m. drop (m + 1) input) last) in
-    let longer : LONGEST_INPUT < length input = omega (arith, last, some, length-drop n input) in
-    record {
-      few = record { count = LONGEST_INPUT + 1; few = omega arith; within = omega (arith, longer); others = all };
-      whole = λ wrong. cc;
-      limit = λ _. (longer, all);
     }

@@ -1,8 +1,9 @@
 -- How a session goes on with further lines, and where it stops. Nothing here rests on what a line brings.
-use Rattle.std.proofs.Common.{inl, inr, ◌≡◌, ℕ, ◌++◌, List, [], ◌∷◌, Option, refl, sym, ap, ◌∙◌, subst, append_assoc}
+use Rattle.std.proofs.Common.{inl, inr, ◌≡◌, ℕ, ◌+◌, ◌++◌, List, [], ◌∷◌, length, take, Option, refl, sym, ap, ◌∙◌, subst, append_assoc, arith}
+use Rattle.std.proofs.Math.Seq.{take-append-add}
 use Rattle.std.specs.List.{flat_map}
 use Rattle.std.proofs.lemmas.Grind.{flat_map-append}
-use Rattle.std.proofs.lemmas.List.{append-nil}
+use Rattle.std.proofs.lemmas.List.{append-nil, length-append, take-append-le}
 use Rattle.ss_command.specs.Lines.{lines_so_far}
 use Rattle.ss_command.proofs.LineLemmas.{lines-front}
 use Rattle.ss_report.specs.Text.{reply_line}
@@ -10,9 +11,11 @@ use Rattle.ss_report.specs.declared.reply.Reply.{Reply}
 use Rattle.ss_program.specs.Line.{Brought, History, brings, line_text, text_brought, the_event}
 use Rattle.ss_outside.specs.Disk.{Told}
 use Rattle.ss_store.specs.Recover.{Stands}
-use Rattle.ss_program.specs.Progress.{StandsAround, StandsStopped, StandsWithin, StopsAt, StopsWith}
+use Rattle.ss_program.specs.Progress.{BeginsWithEvent, StandsAround, StandsBeyond, StandsStopped, StandsWithin, StopsAmong, StopsAt, StopsBy, StopsWith}
 use Rattle.ss_program.specs.Sent.{appended, AppendsFront}
 use Rattle.ss_program.specs.Session.{accepted, after_line, after_lines, replies, report, report_so_far, text_of}
+use Rattle.ss_program.specs.declared.sealing.Sealing.{Sealing}
+use Rattle.ss_program.specs.declared.sealing.Sealing.TheVariants.{Each, Shared}
 use Rattle.ss_program.specs.declared.status.Status.{Status}
 use Rattle.ss_program.specs.declared.status.Status.TheVariants.{
   Done,
@@ -82,6 +85,40 @@ StopsAt-more ms at = record {
   left = at.left;
 }
 
+-- the same where events share seals
+StandsBeyond-more : (history : History) (ls ms : List (List ℕ)) (bytes : ℕ) (image : List ℕ) → StandsBeyond history ls bytes image →
+    StandsBeyond history (ls ++ ms) bytes image
+StandsBeyond-more history ls ms bytes image beyond =
+    (beyond.0, beyond.1 ++ ms, ap (λ l. l ++ ms) beyond.2 ∙ append_assoc beyond.0 beyond.1 ms, beyond.3, beyond.4)
+
+BeginsWithEvent-more : (history : History) (ls ms : List (List ℕ)) → BeginsWithEvent history ls → BeginsWithEvent history (ls ++ ms)
+BeginsWithEvent-more history [] ms begins = absurd begins
+BeginsWithEvent-more history (line ∷ ls) ms begins = begins
+
+StopsAmong-more : {history : History} {ls : List (List ℕ)} {before after : Option (List ℕ)} {disk : Told} {status : Status} (ms : List (List ℕ)) →
+    StopsAmong history ls before after disk status → StopsAmong history (ls ++ ms) before after disk status
+StopsAmong-more {history = history} {before = before} ms at =
+    let here = after_lines history at.out in
+    let text = text_of here at.rest in
+    let more = text_of (after_lines here at.rest) ms in
+    let both = text_of-append here at.rest ms in
+    record {
+      out = at.out;
+      rest = at.rest ++ ms;
+      are = ap (λ ls. ls ++ ms) at.are ∙ append_assoc at.out at.rest ms;
+      bytes = at.bytes;
+      few = omega (arith, at.few, ap (λ (bs : List ℕ). length bs) both, length-append text more);
+      sent = at.sent ∙ ap (λ bs. appended before (text_of history at.out ++ bs))
+          (sym (ap (λ bs. take at.bytes bs) both ∙ take-append-le at.bytes text more at.few));
+      left = λ image left. StandsBeyond-more here at.rest ms at.bytes image (at.left image left);
+      starved = λ memory. let starved = at.starved memory in (starved.0, BeginsWithEvent-more here at.rest ms starved.1, starved.2);
+    }
+
+pub StopsBy-more : (sealing : Sealing) (history : History) (ls ms : List (List ℕ)) (before after : Option (List ℕ)) (disk : Told) (status : Status) →
+    StopsBy sealing history ls before after disk status → StopsBy sealing history (ls ++ ms) before after disk status
+StopsBy-more Each history ls ms before after disk status at = StopsAt-more ms at
+StopsBy-more Shared history ls ms before after disk status at = StopsAmong-more ms at
+
 -- a run that stops at the line that comes next
 pub StopsAt-next : (history : History) (ls : List (List ℕ)) (line : List ℕ) (before held after : Option (List ℕ)) (disk : Told) (status : Status) →
     held ≡ appended before (text_of history ls) → StopsWith (brings (after_lines history ls) line) held after status →
@@ -120,6 +157,22 @@ StopsAt-front {history = history} {ls = ls} {before = before} {after = after} {s
     let through = subst (λ text. AppendsFront before after text) (sym (text_of-push history at.done at.line)) part in
     subst (λ ms. AppendsFront before after (text_of history ms)) (append_assoc at.done (at.line ∷ []) at.others ∙ sym at.are)
     (front-lines history before after (at.done ++ at.line ∷ []) at.others through)
+
+StopsAmong-front : {history : History} {ls : List (List ℕ)} {before after : Option (List ℕ)} {disk : Told} {status : Status} →
+    StopsAmong history ls before after disk status → AppendsFront before after (text_of history ls)
+StopsAmong-front {history = history} {ls = ls} {before = before} at =
+    let here = text_of history at.out in
+    let text = text_of (after_lines history at.out) at.rest in (
+      length here + at.bytes,
+      at.sent ∙ ap (λ bs. appended before bs)
+          (sym (ap (λ l. take (length here + at.bytes) (text_of history l)) at.are
+          ∙ ap (λ bs. take (length here + at.bytes) bs) (text_of-append history at.out at.rest) ∙ take-append-add here text at.bytes)),
+    )
+
+pub StopsBy-front : (sealing : Sealing) (history : History) (ls : List (List ℕ)) (before after : Option (List ℕ)) (disk : Told) (status : Status) →
+    StopsBy sealing history ls before after disk status → AppendsFront before after (text_of history ls)
+StopsBy-front Each history ls before after disk status at = StopsAt-front at
+StopsBy-front Shared history ls before after disk status at = StopsAmong-front at
 
 -- the history after one more line
 pub after_lines-push : (history : History) (ls : List (List ℕ)) (line : List ℕ) →

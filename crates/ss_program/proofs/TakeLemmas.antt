@@ -33,7 +33,7 @@ use Rattle.std.proofs.lemmas.Bool.{cond-true, cond-false, cases_lt, le-leb, lt-l
 use Rattle.std.specs.Prelude.{nat_le}
 use Rattle.std.proofs.lemmas.List.{append-nil, map-append, take-append-drop}
 use Rattle.ss_command.specs.Lines.{lines_so_far, unended, without_return}
-use Rattle.ss_command.specs.LineState.{Kept, ended_line, kept, unless_long}
+use Rattle.ss_command.specs.LineState.{Kept, LineState, ended_line, kept, under_way, unless_long}
 use Rattle.ss_command.specs.declared.TheConstants.{LONGEST_LINE}
 use Rattle.ss_command.proofs.LineLemmas.{ended_lines-append}
 use Rattle.ss_outside.proofs.CrashLemmas.{at_start, joined, now, of_content, weaker}
@@ -46,6 +46,8 @@ use Rattle.ss_program.specs.Line.{Brought, History, brings, history_after, line_
 use Rattle.ss_program.specs.Progress.{EndsWell, GoesOn, HasReplied, HasTaken, SessionState, StandsAround, StandsStopped, StandsWithin, StopsIn, StopsWith}
 use Rattle.ss_program.specs.Sent.{appended}
 use Rattle.ss_program.specs.Session.{after_lines, text_of}
+use Rattle.ss_program.specs.declared.sealing.Sealing.{Sealing}
+use Rattle.ss_program.specs.declared.sealing.Sealing.TheVariants.{Each}
 use Rattle.ss_program.specs.declared.status.Status.{Status}
 use Rattle.ss_program.specs.declared.status.Status.TheVariants.{
   Done,
@@ -65,7 +67,7 @@ use Rattle.ss_program.proofs.SessionLemmas.{
   StandsWithin-all,
   StandsWithin-around,
   StandsWithin-more,
-  StopsAt-more,
+  StopsBy-more,
   StopsAt-next,
 }
 
@@ -133,13 +135,22 @@ EndsWell-same history disk before held ls knows is stands durable = record {
       (of_content disk (StandsWithin history ls) durable (StandsWithin-all history ls disk.content stands));
 }
 
+-- a session whose events are sealed each by itself
+abbrev pub each_over : StoreState → LineState → SessionState
+each_over store reader = record { store = store; line = under_way reader; waiting = None }
+
 -- a session whose lines are these has taken what ends in them
-pub GoesOn-ends : (history : History) (old new : Told) (store : StoreState) (before after : Option (List ℕ)) (under_way : Option (List ℕ))
+pub GoesOn-ends : (history : History) (old new : Told) (store : StoreState) (before after : Option (List ℕ)) (reader : LineState)
     (ls : List (List ℕ)) (more : List ℕ) →
-    lines_so_far more ≡ ls → under_way ≡ kept (unended more) → EndsWell history ls old new before after →
-    GoesOn history old new (record { store = store; line = under_way }) before after more
-GoesOn-ends history old new store before after under_way ls more same going ends = record {
-  at = record { stands = subst (λ l. Stands (after_lines history l) new.content) (sym same) ends.stands; durable = ends.durable; line = going };
+    lines_so_far more ≡ ls → under_way reader ≡ kept (unended more) → EndsWell history ls old new before after →
+    GoesOn history old new (each_over store reader) before after more
+GoesOn-ends history old new store before after reader ls more same going ends = record {
+  at = record {
+    stands = subst (λ l. Stands (after_lines history l) new.content) (sym same) ends.stands;
+    durable = ends.durable;
+    line = going;
+    unsaid = tt;
+  };
   replied = ends.replied ∙ ap (λ l. appended before (text_of history l)) (sym same);
   any_moment = subst (λ l. LeavesOnly old new (StandsWithin history l)) (sym same) ends.any_moment;
 }
@@ -167,7 +178,7 @@ pub StopsIn-next : (history : History) (old new : Told) (before held after : Opt
     KnowsNow new → held ≡ appended before (text_of history ls) → StopsWith (brings (after_lines history ls) line) held after status →
     Stands (after_lines history ls) old.content → NothingPending old → (status ≡ OutOfMemory → OnlyReads old new) →
     Adds {T = Unit {0}} (after_lines history ls) (brings (after_lines history ls) line) old new (Err status) →
-    StopsIn history (ls ++ line ∷ []) old new before after status
+    StopsIn Each history (ls ++ line ∷ []) old new before after status
 StopsIn-next history old new before held after ls line status knows is stop stands durable untouched adds =
     let here = after_lines history ls in
     let around = adds.any_moment durable stands in
@@ -178,27 +189,27 @@ StopsIn-next history old new before held after ls line status knows is stop stan
     }
 
 -- it stopped at one of more lines
-pub StopsIn-more : (history : History) (old new : Told) (before after : Option (List ℕ)) (ls ms : List (List ℕ)) (status : Status) →
-    StopsIn history ls old new before after status → StopsIn history (ls ++ ms) old new before after status
-StopsIn-more history old new before after ls ms status stops = record {
-  at = StopsAt-more ms stops.at;
+pub StopsIn-more : (sealing : Sealing) (history : History) (old new : Told) (before after : Option (List ℕ)) (ls ms : List (List ℕ)) (status : Status) →
+    StopsIn sealing history ls old new before after status → StopsIn sealing history (ls ++ ms) old new before after status
+StopsIn-more sealing history old new before after ls ms status stops = record {
+  at = StopsBy-more sealing history ls ms before after new status stops.at;
   any_moment = any_moment-more history old new ls ms stops.any_moment;
 }
 
 -- a line of a piece at which the run stopped
 pub StopsIn-piece : (history : History) (old new : Told) (before after : Option (List ℕ)) (status : Status) (input piece line : List ℕ) (count : ℕ) →
     lines_so_far (input ++ take count piece) ≡ lines_so_far input ++ line ∷ [] →
-    StopsIn history (lines_so_far input ++ line ∷ []) old new before after status →
-    StopsIn history (lines_so_far (input ++ piece)) old new before after status
+    StopsIn Each history (lines_so_far input ++ line ∷ []) old new before after status →
+    StopsIn Each history (lines_so_far (input ++ piece)) old new before after status
 StopsIn-piece history old new before after status input piece line count one stops =
     let more = ended_lines-append (input ++ take count piece) (drop count piece) in
     let whole : (input ++ take count piece) ++ drop count piece ≡ input ++ piece =
     append_assoc input (take count piece) (drop count piece) ∙ ap (λ bs. input ++ bs) (take-append-drop count piece) in
-    subst (λ ls. StopsIn history ls old new before after status)
+    subst (λ ls. StopsIn Each history ls old new before after status)
     (ap (λ ls. ls ++ map without_return more.0) (sym one)
     ∙ sym (ap (λ ls. map without_return ls) more.1 ∙ map-append without_return _ more.0)
     ∙ ap (λ bs. lines_so_far bs) whole)
-    (StopsIn-more history old new before after (lines_so_far input ++ line ∷ []) (map without_return more.0) status stops)
+    (StopsIn-more Each history old new before after (lines_so_far input ++ line ∷ []) (map without_return more.0) status stops)
 
 -- the lines of more input
 any_moment-input : (history : History) (old new : Told) (taken more : List ℕ) → LeavesOnly old new (StandsWithin history (lines_so_far taken)) →
@@ -232,11 +243,11 @@ GoesOn-then history old mid new first second before held after taken more one tw
 }
 
 -- or stops after it
-pub StopsIn-then : (history : History) (old mid new : Told) (session : SessionState) (before held after : Option (List ℕ)) (status : Status)
-    (taken more : List ℕ) →
-    GoesOn history old mid session before held taken → StopsIn history (lines_so_far (taken ++ more)) mid new before after status →
-    StopsIn history (lines_so_far (taken ++ more)) old new before after status
-StopsIn-then history old mid new session before held after status taken more one two = record {
+pub StopsIn-then : (sealing : Sealing) (history : History) (old mid new : Told) (session : SessionState) (before held after : Option (List ℕ))
+    (status : Status) (taken more : List ℕ) →
+    GoesOn history old mid session before held taken → StopsIn sealing history (lines_so_far (taken ++ more)) mid new before after status →
+    StopsIn sealing history (lines_so_far (taken ++ more)) old new before after status
+StopsIn-then sealing history old mid new session before held after status taken more one two = record {
   at = two.at;
   any_moment = joined old mid new (StandsWithin history (lines_so_far (taken ++ more))) (any_moment-input history old mid taken more one.any_moment)
       two.any_moment;

@@ -7,7 +7,7 @@ use Rattle.ss_catalog.specs.declared.refusal.Refusal.{Refusal}
 use Rattle.ss_command.specs.declared.command.Command.TheVariants.{Do}
 use Rattle.ss_model.specs.Refusals.{refuses}
 use Rattle.ss_model.specs.State.{state}
-use Rattle.ss_outside.proofs.CrashLemmas.{reads-joined, reads-none}
+use Rattle.ss_outside.proofs.CrashLemmas.{reads-none}
 use Rattle.ss_outside.proofs.StepLemmas.{step-none}
 use Rattle.ss_outside.specs.Crash.{KnowsNow, OnlyReads}
 use Rattle.ss_outside.specs.Disk.{DiskView, OfContent, Told, WhereTold}
@@ -17,10 +17,12 @@ use Rattle.ss_outside.specs.declared.source.Failed.{Failed}
 use Rattle.ss_report.specs.Text.{reply_line}
 use Rattle.ss_report.specs.declared.reply.Reply.{Reply}
 use Rattle.ss_report.specs.declared.reply.Reply.TheVariants.{Refused}
+use Rattle.ss_journal.specs.Kept.{IsSealed}
+use Rattle.ss_records.specs.Kept.{RecordsState}
 use Rattle.ss_store.specs.Kept.{StoreState}
 use Rattle.ss_store.specs.Recover.{Stands}
 use Rattle.ss_store.proofs.Calls.{Turns-answers, Turns-failed}
-use Rattle.ss_program.specs.Answer.{Adds, AppliesEvent, AsksQuery, DoesCommand, IsOpen, Replies, Shows, TakesLine, at_sink}
+use Rattle.ss_program.specs.Answer.{AppliesEvent, AsksQuery, DoesCommand, IsOpen, Shows, TakesLine, at_sink}
 use Rattle.ss_program.specs.Devices.{Devices, over}
 use Rattle.ss_program.specs.Line.{Brought, History, command_brings, history_after, nothing, refused, text_brought}
 use Rattle.ss_program.specs.Progress.{StandsAround}
@@ -39,7 +41,7 @@ use Rattle.ss_program.specs.declared.status.Status.TheVariants.{
   RecordChanged,
 }
 use Rattle.ss_program.proofs.SendLemmas.{appended-nil}
-use Rattle.ss_program.proofs.AnswerLemmas.{Adds-reads, IsShowStop-disk, IsStop-apply, IsStop-show, Replies-sent, Replies-shown, Replies-stopped, event-some}
+use Rattle.ss_program.proofs.AnswerLemmas.{Adds-reads, Stands-shown, IsStop-apply, IsStop-show, Replies-sent, Replies-shown, Replies-stopped, event-some}
 
 -- the disk was only read, and then a text was sent
 pub Shows-sent : (text : History → List ℕ → Type 0) (old new : DiskView) (store : StoreState) (before after : Option (List ℕ)) (had has : ℕ)
@@ -214,12 +216,12 @@ TakesLine-stopped event old new store held n status applies stop = record {
   status = IsStop-apply old.tells status stop;
 }
 
--- a query is a command that adds nothing
-pub DoesCommand-asked : (brought : History → Brought) (result : Result Reply Status) (old new : Told) → KnowsNow old →
-    ((history : History) → (brought history).event ≡ None) → AsksQuery brought result old new → DoesCommand brought result old new
-DoesCommand-asked brought result old new knows none asks = record {
+-- a query is a command that adds nothing, and is answered of the content where nothing is staged
+pub DoesCommand-asked : (was : RecordsState) (brought : History → Brought) (result : Result Reply Status) (old new : Told) → IsSealed was.journal →
+    KnowsNow old → ((history : History) → (brought history).event ≡ None) → AsksQuery was brought result old new → DoesCommand brought result old new
+DoesCommand-asked was brought result old new sealed knows none asks = record {
   adds = λ history. Adds-reads history (brought history) old new result (λ _. none history) knows asks.reads;
-  reply = asks.reply;
+  reply = λ history stands. asks.reply history (Stands-shown was old.content history sealed stands);
   untouched = λ _. asks.reads;
 }
 

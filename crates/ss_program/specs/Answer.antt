@@ -16,6 +16,8 @@ use Rattle.ss_outside.specs.Verdict.{Counted}
 use Rattle.ss_outside.specs.declared.source.Failed.{Failed}
 use Rattle.ss_report.specs.Text.{reply_line}
 use Rattle.ss_report.specs.declared.reply.Reply.{Reply}
+use Rattle.ss_journal.specs.Kept.{IsSealed}
+use Rattle.ss_records.specs.Kept.{RecordsState, shown_by}
 use Rattle.ss_store.specs.Calls.{Turns}
 use Rattle.ss_store.specs.Kept.{StoreIsKept, StoreState, part_numbered}
 use Rattle.ss_store.specs.Recover.{Stands}
@@ -28,9 +30,14 @@ use Rattle.ss_program.specs.declared.status.Status.{Status}
 use Rattle.ss_program.specs.declared.status.Status.TheVariants.{OutOfMemory, SinkFault}
 
 -- The store can be called: it hasn't stopped, and the disk is as it left it.
-pub record IsOpen (disk : DiskView) (store : StoreState) : Type 0 where
+pub record IsServing (disk : DiskView) (store : StoreState) : Type 0 where
   pub runs : store.stopped ≡ false
   pub kept : OfContent disk (StoreIsKept store)
+
+-- and nothing is staged
+pub record IsOpen (disk : DiskView) (store : StoreState) : Type 0 where
+  pub serves : IsServing disk store
+  pub sealed : IsSealed store.records.journal
 
 -- rows were sent, each in its turn, or less than all of them
 abbrev pub SendsRows : {E : Type 0} → Option (List ℕ) → Option (List ℕ) → List Reply → Result Unit E → Type 0
@@ -67,9 +74,9 @@ pub record AppliesEvent (event : Event) (result : Result Reply Status) (old new 
   pub does : DoesCommand (λ history. command_brings history (Do event)) result old new
   pub accepted : (history : History) → Stands history old.content → OnErr result (IsSome (command_brings history (Do event)).event)
 
--- A query is asked. Content and images stay.
-pub record AsksQuery (brought : History → Brought) (result : Result Reply Status) (old new : Told) : Type 0 where
-  pub reply : RepliesOne brought result old
+-- A query is asked, of what records show. Content and images stay.
+pub record AsksQuery (was : RecordsState) (brought : History → Brought) (result : Result Reply Status) (old new : Told) : Type 0 where
+  pub reply : (history : History) → Stands history (shown_by was old.content) → IfOk result (λ reply. (brought history).replies ≡ reply ∷ [])
   pub reads : OnlyReads old new
 
 -- The window at a place of the stream of a number is read. Content and images stay.

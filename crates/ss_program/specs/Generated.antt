@@ -7,7 +7,7 @@ use Rattle.ss_outside.specs.Crash.{LeavesOnly}
 use Rattle.ss_outside.specs.Disk.{NothingPending, Told}
 use Rattle.ss_report.specs.Text.{reply_line}
 use Rattle.ss_report.specs.declared.reply.Reply.{Reply}
-use Rattle.ss_report.specs.declared.reply.Reply.TheVariants.{Done as AckLine, Answered, Refused, WindowsHead, Window, ListHead, Stream}
+use Rattle.ss_report.specs.declared.reply.Reply.TheVariants.{Done as AckLine, Answered, Refused, SeriesHead, Row, WindowsHead, Window, ListHead, Stream}
 use Rattle.ss_store.specs.Recover.{Stands}
 use Rattle.ss_program.specs.Held.{StandsForFirst}
 use Rattle.ss_program.specs.Line.{History}
@@ -25,6 +25,8 @@ abbrev pub is_done : Reply → Bool
 is_done (AckLine ack) = true
 is_done (Answered outcome) = false
 is_done (Refused refusal) = false
+is_done (SeriesHead count) = false
+is_done (Row at outcome) = false
 is_done (WindowsHead count) = false
 is_done (Window placed) = false
 is_done (ListHead count) = false
@@ -34,6 +36,8 @@ abbrev pub is_refused : Reply → Bool
 is_refused (AckLine ack) = false
 is_refused (Answered outcome) = false
 is_refused (Refused refusal) = true
+is_refused (SeriesHead count) = false
+is_refused (Row at outcome) = false
 is_refused (WindowsHead count) = false
 is_refused (Window placed) = false
 is_refused (ListHead count) = false

@@ -4,6 +4,8 @@ pub mod Sent
 pub mod Devices
 pub mod Progress
 pub mod Answer
+pub mod Series
+pub mod Shared
 pub mod Words
 pub mod Status
 pub mod Held

@@ -1,21 +1,24 @@
 -- What one line brings: the one place that says what a line does to the history before it.
 use Rattle.std.specs.Prelude.{ℕ, List, [], ◌∷◌, ◌++◌, length, map, flat_map, Option, Some, None, Result, Ok, Err}
 use Rattle.ss_catalog.specs.Events.{event_name}
+use Rattle.ss_catalog.specs.Series.{row_count, row_query, row_start, rows_of}
 use Rattle.ss_catalog.specs.declared.event.Event.{Event}
 use Rattle.ss_catalog.specs.declared.refusal.Refusal.{Refusal}
 use Rattle.ss_catalog.specs.declared.refusal.Refusal.TheVariants.{Line}
+use Rattle.ss_catalog.specs.declared.series.Series.{Series}
 use Rattle.ss_command.specs.Grammar.{meaning}
 use Rattle.ss_command.specs.declared.command.Command.{Command}
-use Rattle.ss_command.specs.declared.command.Command.TheVariants.{Do, Ask, Windows, List as ListAll}
+use Rattle.ss_command.specs.declared.command.Command.TheVariants.{Do, Ask, Series as AskRows, Windows, List as ListAll}
 use Rattle.ss_model.specs.Answers.{outcome_of, refuses_query}
 use Rattle.ss_model.specs.Refusals.{refuses, refuses_reading}
+use Rattle.ss_model.specs.Series.{refuses_series}
 use Rattle.ss_model.specs.Shown.{placed_of, row_of}
 use Rattle.ss_model.specs.State.{Stream, state, stream_named}
 use Rattle.ss_model.specs.Steps.{ack_of}
 use Rattle.ss_model.specs.declared.outcome.Outcome.{Outcome}
 use Rattle.ss_report.specs.Text.{reply_line}
 use Rattle.ss_report.specs.declared.reply.Reply.{Reply}
-use Rattle.ss_report.specs.declared.reply.Reply.TheVariants.{Done, Answered, Refused, WindowsHead, Window, ListHead, Stream as StreamRow}
+use Rattle.ss_report.specs.declared.reply.Reply.TheVariants.{Done, Answered, Refused, SeriesHead, Row, WindowsHead, Window, ListHead, Stream as StreamRow}
 
 -- a history: the events that were accepted, oldest first
 abbrev pub History : Type 0
@@ -55,6 +58,15 @@ abbrev pub answered : Option Outcome → List Reply
 answered None = []
 answered (Some outcome) = Answered outcome ∷ []
 
+-- a row of a series: the answer to its query, with the time at which it begins; nothing of a stream that doesn't stand
+abbrev pub row_shown : ℕ → Option Outcome → List Reply
+row_shown at None = []
+row_shown at (Some outcome) = Row at outcome ∷ []
+
+-- the rows of a series, in order
+abbrev pub series_rows : List Stream → Series → List Reply
+series_rows streams series = flat_map (λ row. row_shown (row_start series row) (outcome_of streams (row_query series row))) (rows_of series)
+
 -- the rows of a stream's windows, oldest first
 abbrev pub window_rows : Stream → List Reply
 window_rows s = map (λ w. Window (placed_of w)) s.windows
@@ -73,6 +85,8 @@ abbrev pub command_brings : History → Command → Brought
 command_brings history (Do event) = unless_refused (refuses (state history) event) (accepted_event history event)
 command_brings history (Ask query) =
     unless_refused (refuses_query (state history) query) (shown (answered (outcome_of (state history) query)))
+command_brings history (AskRows series) =
+    unless_refused (refuses_series (state history) series) (shown (SeriesHead (row_count series) ∷ series_rows (state history) series))
 command_brings history (Windows name) =
     unless_refused (refuses_reading (state history) name) (shown (windows_shown (stream_named name (state history))))
 command_brings history ListAll = shown (ListHead (length (state history)) ∷ stream_rows (state history))

@@ -6,11 +6,13 @@ use Rattle.ss_outside.specs.Crash.{LeavesOnly}
 use Rattle.ss_outside.specs.Disk.{NothingPending, Told}
 use Rattle.ss_store.specs.Recover.{Stands}
 use Rattle.ss_program.specs.declared.running.TheConstants.{LONGEST_INPUT}
+use Rattle.ss_program.specs.declared.sealing.Sealing.{Sealing}
+use Rattle.ss_program.specs.declared.sealing.Sealing.TheVariants.{Each, Shared}
 use Rattle.ss_program.specs.declared.status.Status.{Status}
 use Rattle.ss_program.specs.declared.status.Status.TheVariants.{Done, DiskFault, SourceFault, SinkFault, OutOfMemory, InputLimit}
-use Rattle.ss_program.specs.Held.{HoldsAcked}
+use Rattle.ss_program.specs.Held.{HoldsAcked, HoldsShared}
 use Rattle.ss_program.specs.Line.{History}
-use Rattle.ss_program.specs.Progress.{GoesOn, OfTaken, SessionState, StandsWithin, StopsAt, StopsIn}
+use Rattle.ss_program.specs.Progress.{GoesOn, OfTaken, SessionState, StandsWithin, StopsBy, StopsIn, sealing_by}
 use Rattle.ss_program.specs.Sent.{appended, AppendsFront}
 use Rattle.ss_program.specs.Session.{accepted, report, report_so_far}
 
@@ -26,9 +28,9 @@ lines_within taken [] = lines taken
 lines_within taken (b ∷ rest) = lines_so_far taken
 
 -- a run stopped at a line that had ended within the bytes taken
-abbrev pub Stopped : History → List ℕ → Option (List ℕ) → Option (List ℕ) → Option (List ℕ) → Told → Status → Type 0
-Stopped history input left before after disk status =
-    (taken : List ℕ) × (rest : List ℕ) × Took input left taken rest × StopsAt history (lines_within taken rest) before after disk status
+abbrev pub Stopped : Sealing → History → List ℕ → Option (List ℕ) → Option (List ℕ) → Option (List ℕ) → Told → Status → Type 0
+Stopped sealing history input left before after disk status =
+    (taken : List ℕ) × (rest : List ℕ) × Took input left taken rest × StopsBy sealing history (lines_within taken rest) before after disk status
 
 -- a run ended where its store wasn't open yet
 abbrev pub NotBegun : List ℕ → Option (List ℕ) → Option (List ℕ) → Option (List ℕ) → Type 0
@@ -37,14 +39,14 @@ NotBegun input left before after = (left ≡ Some input) × (after ≡ before)
 -- The report: the sink's new bytes are a front of the report of the input. Done, they are all of it. Where the source failed, or
 -- the input is too long, they are the replies to the lines that ended within the bytes taken. Where the sink failed, the run
 -- stopped at such a line, and where the disk failed or memory ran out, there or in opening the store.
-pub record Reports (history : History) (input : List ℕ) (left before after : Option (List ℕ)) (disk : Told) (status : Status) : Type 0 where
+pub record Reports (sealing : Sealing) (history : History) (input : List ℕ) (left before after : Option (List ℕ)) (disk : Told) (status : Status) : Type 0 where
   pub front : AppendsFront before after (report history input)
   pub whole : status ≡ Done → after ≡ appended before (report history input)
-  pub broken : status ≡ DiskFault → NotBegun input left before after ⊎ Stopped history input left before after disk DiskFault
+  pub broken : status ≡ DiskFault → NotBegun input left before after ⊎ Stopped sealing history input left before after disk DiskFault
   pub faulted : status ≡ SourceFault →
       (taken : List ℕ) × (rest : List ℕ) × Took input left taken rest × (after ≡ appended before (report_so_far history taken))
-  pub cut : status ≡ SinkFault → Stopped history input left before after disk SinkFault
-  pub starved : status ≡ OutOfMemory → NotBegun input left before after ⊎ Stopped history input left before after disk OutOfMemory
+  pub cut : status ≡ SinkFault → Stopped sealing history input left before after disk SinkFault
+  pub starved : status ≡ OutOfMemory → NotBegun input left before after ⊎ Stopped sealing history input left before after disk OutOfMemory
   pub limited : status ≡ InputLimit → after ≡ appended before (report_so_far history (take LONGEST_INPUT input))
 
 -- the first bytes of the input were read, at most so many
@@ -60,23 +62,31 @@ pub record Reads (input : List ℕ) (left : Option (List ℕ)) (status : Status)
   pub whole : status ≡ Done → (length input ≤ LONGEST_INPUT) × (left ≡ Some [])
   pub limit : status ≡ InputLimit → (LONGEST_INPUT < length input) × (left ≡ Some (drop (LONGEST_INPUT + 1) input))
 
--- each image holds the acknowledged events, and at most one more, by the sink's new bytes
-abbrev pub HoldsReported : History → List ℕ → Option (List ℕ) → Option (List ℕ) → Told → Status → Type 0
-HoldsReported history input before after disk status =
+-- the image holds the acknowledged events, those whose replies are whole within so many bytes of the report, and at most so many more
+-- as may be on their way
+abbrev pub HoldsBy : Sealing → History → List ℕ → Option (List ℕ) → ℕ → Status → List ℕ → Type 0
+HoldsBy Each history input left bytes status image = HoldsAcked history (lines input) bytes status image
+HoldsBy Shared history input left bytes status image =
+    (read : List ℕ) × (rest : List ℕ) × (read ++ rest ≡ input) × (left ≡ Some rest)
+    × HoldsShared history (lines input) (lines_within read rest) bytes status image
+
+-- each image does, by the sink's new bytes
+abbrev pub HoldsReported : Sealing → History → List ℕ → Option (List ℕ) → Option (List ℕ) → Option (List ℕ) → Told → Status → Type 0
+HoldsReported sealing history input left before after disk status =
     (had has : List ℕ) → before ≡ Some had → after ≡ Some has →
-    (image : List ℕ) → disk.may_leave image → HoldsAcked history (lines input) (length has - length had) status image
+    (image : List ℕ) → disk.may_leave image → HoldsBy sealing history input left (length has - length had) status image
 
 -- What a session over an input leaves, of its report and of the disk.
-pub record Serves (history : History) (input : List ℕ) (left before after : Option (List ℕ)) (old new : Told) (status : Status) : Type 0 where
-  pub report : Reports history input left before after new status
-  pub kept : HoldsReported history input before after new status
+pub record Serves (sealing : Sealing) (history : History) (input : List ℕ) (left before after : Option (List ℕ)) (old new : Told) (status : Status) : Type 0 where
+  pub report : Reports sealing history input left before after new status
+  pub kept : HoldsReported sealing history input left before after new status
   pub any_moment : LeavesOnly old new (StandsWithin history (lines input))
   pub whole : status ≡ Done → Stands (history ++ accepted history (lines input)) new.content
 
 -- A run over an input: what it leaves for each history for which the content stands, with nothing pending.
-abbrev pub ServesInput : List ℕ → Option (List ℕ) → Option (List ℕ) → Option (List ℕ) → Status → Told → Told → Type 0
-ServesInput input left before after status old new =
-    NothingPending old → (history : History) → Stands history old.content → Serves history input left before after old new status
+abbrev pub ServesInput : Sealing → List ℕ → Option (List ℕ) → Option (List ℕ) → Option (List ℕ) → Status → Told → Told → Type 0
+ServesInput sealing input left before after status old new =
+    NothingPending old → (history : History) → Stands history old.content → Serves sealing history input left before after old new status
 
 -- A session reads a piece of at most `room` bytes of the input, or the run stops at a line that ends in it.
 pub record ReadsPiece (room : ℕ) (from to : SessionState) (left rest held after : Option (List ℕ)) (result : Result ℕ Status)
@@ -85,4 +95,4 @@ pub record ReadsPiece (room : ℕ) (from to : SessionState) (left rest held afte
       GoesOn history old new to before after (input ++ take count bytes)))
   pub stops : IfErr result (λ status. (status ≡ SourceFault → ⊥) → (bytes : List ℕ) → left ≡ Some bytes →
       OfTaken from held old (λ history before input. (count : ℕ) × (count ≤ room) × (count ≤ length bytes)
-      × (rest ≡ Some (drop count bytes)) × StopsIn history (lines_so_far (input ++ take count bytes)) old new before after status))
+      × (rest ≡ Some (drop count bytes)) × StopsIn (sealing_by from.waiting) history (lines_so_far (input ++ take count bytes)) old new before after status))

@@ -1,15 +1,16 @@
 -- The start of a run over a source, as promises name it.
 use Rattle.std.specs.Prelude.{◌≡◌, ℕ, List, IsTrue, Option, Some}
 use Rattle.ss_arguments.specs.declared.mode.Mode.{Mode}
-use Rattle.ss_arguments.specs.declared.mode.Mode.TheVariants.{Run}
 use Rattle.ss_outside.specs.Disk.{DiskView, NothingPending}
 use Rattle.ss_store.specs.Recover.{Stands}
+use Rattle.ss_program.specs.Ending.{sealing_of}
 use Rattle.ss_program.specs.Line.{History}
+use Rattle.ss_program.specs.declared.sealing.Sealing.{Sealing}
 
--- The arguments ask for a run over the source; the store's disk tells that it holds this history, with nothing pending; and the
--- source tells that these bytes are its input.
-pub record BeginsOver (mode : Option Mode) (disk : DiskView) (left : Option (List ℕ)) (history : History) (input : List ℕ) : Type 0 where
-  pub plain : mode ≡ Some Run
+-- The arguments ask for a run over the source, whose events come to the disk in this way; the store's disk tells that it holds this
+-- history, with nothing pending; and the source tells that these bytes are its input.
+pub record BeginsOver (sealing : Sealing) (mode : Option Mode) (disk : DiskView) (left : Option (List ℕ)) (history : History) (input : List ℕ) : Type 0 where
+  pub asked : sealing_of mode ≡ Some sealing
   pub tells : IsTrue disk.tells
   pub durable : NothingPending disk.told
   pub stands : Stands history disk.told.content

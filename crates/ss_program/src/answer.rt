@@ -8,9 +8,9 @@ ghost use Rattle.ss_model.specs.State.{Stream, state, stream_numbered};
 ghost use Rattle.ss_outside.specs.Step.{Step};
 ghost use Rattle.ss_outside.specs.Verdict.{Counted, verdict};
 ghost use Rattle.ss_report.specs.Text.{reply_line};
-ghost use Rattle.ss_store.specs.Kept.{StoreIsKept, part_numbered};
+ghost use Rattle.ss_store.specs.Kept.{StoreIsIn, part_numbered};
 ghost use Rattle.ss_store.specs.Recover.{Stands};
-ghost use Rattle.ss_program.specs.Answer.{AppliesEvent, AsksQuery, IsOpen, IsRowsText, IsTextBrought, ReadsRow, SendsRows, Shows, TakesLine, at_sink};
+ghost use Rattle.ss_program.specs.Answer.{AppliesEvent, AsksQuery, IsOpen, IsRowsText, IsServing, IsTextBrought, ReadsRow, SendsRows, Shows, TakesLine, at_sink};
 ghost use Rattle.ss_program.specs.Devices.{over};
 ghost use Rattle.ss_program.specs.Line.{History, command_brings, kept_brings, stream_rows, text_brought, window_rows};
 ghost use Rattle.ss_program.specs.Sent.{Puts, Sends};
@@ -19,6 +19,7 @@ ghost use Rattle.ss_program.specs.Status.{disk_verdict, ended, IsApplyStop, IsDi
 ghost use Rattle.ss_command.specs.declared.command.Command.TheVariants.{Do, Ask, Windows, List as ListAll};
 
 use crate::sending::send;
+use crate::series::show_series;
 use crate::status::Status;
 use arrayvec::ArrayString;
 use ss_catalog::{Event, Name, Query, Refusal, StreamId};
@@ -90,7 +91,7 @@ fn send_windows<D: Disk, K: Sink>(
 // Sends a row for each stream, in order of creation.
 fn send_streams<K: Sink>(store: &Store, count: u32, sink: &mut K) -> Result<(), Failed>
     requires { count ≡ length store.now.streams }
-    ensures sends { (history : History) (content : List ℕ) → StoreIsKept store.now content → Stands history content →
+    ensures sends { (history : History) (content : List ℕ) → StoreIsIn store.now content → Stands history content →
         SendsRows (K.held sink.old) (K.held sink.new) (stream_rows (state history)) result }
     ensures counted { Counted (verdict result) (K.faults sink.old) (K.faults sink.new) }
 {
@@ -120,7 +121,7 @@ fn show_windows<D: Disk, K: Sink>(
 
 // Lists all streams.
 fn list<K: Sink>(store: &Store, sink: &mut K) -> Result<(), Failed>
-    ensures sends { (history : History) (content : List ℕ) → StoreIsKept store.now content → Stands history content →
+    ensures sends { (history : History) (content : List ℕ) → StoreIsIn store.now content → Stands history content →
         Sends (K.held sink.old) (K.held sink.new) (text_brought (command_brings history ListAll)) result }
     ensures counted { Counted (verdict result) (K.faults sink.old) (K.faults sink.new) }
 {
@@ -129,12 +130,13 @@ fn list<K: Sink>(store: &Store, sink: &mut K) -> Result<(), Failed>
     send_streams(store, count, sink)
 }
 
-/// Asks the store, and answers the reply to it.
+/// Asks the store, and answers the reply to it, by what the store shows.
 pub fn ask<D: Disk>(store: &mut Store, query: &Query, disk: &mut D) -> Result<Reply, Status>
-    requires open { IsOpen (D.seen disk.old) store.old }
+    requires serves { IsServing (D.seen disk.old) store.old }
     ensures asks { Step (disk_verdict (ended result)) (D.seen disk.old) (D.seen disk.new)
-        (AsksQuery (λ history. command_brings history (Ask query.now)) result) }
-    ensures open { OnOk result (IsOpen (D.seen disk.new) store.new) }
+        (AsksQuery store.old.records (λ history. command_brings history (Ask query.now)) result) }
+    ensures serves { OnOk result (IsServing (D.seen disk.new) store.new) }
+    ensures journal { OnOk result (store.new.records.journal ≡ store.old.records.journal) }
     ensures status { IfErr result (IsDiskStop (D.seen disk.old).tells) }
 {
     match store.ask(disk, query) {
@@ -197,8 +199,8 @@ fn take<D: Disk, K: Sink>(
     at_sink(send_reply(&reply, sink))
 }
 
-// Does what a command says, and replies to it.
-fn obey<D: Disk, K: Sink>(
+/// Does what a command says, and replies to it.
+pub fn obey<D: Disk, K: Sink>(
     store: &mut Store,
     command: &Command,
     disk: &mut D,
@@ -212,6 +214,7 @@ fn obey<D: Disk, K: Sink>(
     match command {
         Command::Do(event) => take(store, event, disk, sink),
         Command::Ask(query) => show_answer(store, query, disk, sink),
+        Command::Series(series) => show_series(store, series, disk, sink),
         Command::Windows(name) => show_windows(store, name, disk, sink),
         Command::List => at_sink(list(store, sink)),
     }

@@ -97,7 +97,7 @@ fn reply_to<D: Disk>(store: &mut Store, command: &Command, disk: &mut D) -> Resu
     match command {
         Command::Do(event) => apply(store, event, disk),
         Command::Ask(query) => ask(store, query, disk),
-        Command::Windows(_) | Command::List => unreachable!(),
+        Command::Series(_) | Command::Windows(_) | Command::List => unreachable!(),
     }
 }
 

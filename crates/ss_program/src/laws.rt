@@ -1,14 +1,17 @@
 // Laws of what lines bring, each the contract of a function that does nothing.
-ghost use Rattle.std.specs.Prelude.{◌≡◌, ◌++◌, ◌∷◌, ℕ, List, Some, None, Ok};
+ghost use Rattle.std.specs.Prelude.{◌≡◌, ◌++◌, ◌∷◌, ℕ, List, map, Some, None, Ok};
+ghost use Rattle.ss_catalog.specs.Series.{row_count, row_start, rows_of};
 ghost use Rattle.ss_catalog.specs.declared.query.Query.{Query};
+ghost use Rattle.ss_catalog.specs.declared.series.Series.{Series};
 ghost use Rattle.ss_command.specs.Grammar.{meaning};
-ghost use Rattle.ss_command.specs.declared.command.Command.TheVariants.{Ask};
+ghost use Rattle.ss_command.specs.declared.command.Command.TheVariants.{Ask, Series as AskRows};
 ghost use Rattle.ss_model.specs.Answers.{HoldsTruth, refuses_query};
 ghost use Rattle.ss_model.specs.History.{marked_of, values_of};
 ghost use Rattle.ss_model.specs.Refusals.{IsHistory};
+ghost use Rattle.ss_model.specs.Series.{AnswersRow, refuses_series};
 ghost use Rattle.ss_model.specs.State.{state};
 ghost use Rattle.ss_model.specs.declared.outcome.Outcome.{Outcome};
-ghost use Rattle.ss_report.specs.declared.reply.Reply.TheVariants.{Answered};
+ghost use Rattle.ss_report.specs.declared.reply.Reply.TheVariants.{Answered, SeriesHead, Row};
 ghost use Rattle.ss_program.specs.Line.{History};
 ghost use Rattle.ss_program.specs.Session.{after_lines, replies};
 
@@ -27,4 +30,18 @@ pub fn queries_hold_the_truth()
         (outcome : Outcome)
         × (replies history ls ≡ replies history before ++ Answered outcome ∷ replies (after_lines history before) after)
         × HoldsTruth query (values_of (after_lines history before) query.name) (marked_of (after_lines history before) query.name) outcome }
+{}
+
+/// Each line of a session that asks a series which isn't refused then has its head and its rows as replies, in their place
+/// among the others. Each row has the time at which it begins, and an answer that holds the truth over all values that the
+/// stream has of the history and of the lines before, with nothing left open where the row splits no window.
+pub fn series_hold_the_truth()
+    ensures { (history : History) (ls before after : List (List ℕ)) (line : List ℕ) (series : Series) → IsHistory history →
+        ls ≡ before ++ line ∷ after → meaning line ≡ Ok (Some (AskRows series)) →
+        refuses_series (state (after_lines history before)) series ≡ None →
+        (answers : ℕ → Outcome)
+        × (replies history ls ≡ replies history before
+        ++ (SeriesHead (row_count series) ∷ map (λ row. Row (row_start series row) (answers row)) (rows_of series))
+        ++ replies (after_lines history before) after)
+        × ((row : ℕ) → AnswersRow (after_lines history before) series row (answers row)) }
 {}

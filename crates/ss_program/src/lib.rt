@@ -4,16 +4,22 @@
 
 mod answer;
 mod check;
+mod each;
 mod generate;
 mod laws;
 mod promises;
 mod refuse;
+mod replies;
 mod running;
+mod sealing;
 mod sending;
+mod series;
 mod session;
+mod shared;
+mod staging;
 mod status;
 
-pub use laws::{queries_hold_the_truth, sessions_leave_a_history};
+pub use laws::{queries_hold_the_truth, series_hold_the_truth, sessions_leave_a_history};
 pub use promises::run_store;
 pub use running::{LONGEST_INPUT, run};
 pub use sending::send;

@@ -13,12 +13,15 @@ ghost use Rattle.ss_program.specs.Ending.{IsRefusedContent};
 ghost use Rattle.ss_program.specs.Generated.{summary};
 ghost use Rattle.ss_program.specs.Held.{StandsForFirst, acks};
 ghost use Rattle.ss_program.specs.Line.{History};
+ghost use Rattle.ss_program.specs.Outcome.{lines_within};
 ghost use Rattle.ss_program.specs.Promises.{BeginsOver};
+ghost use Rattle.ss_program.specs.declared.sealing.Sealing.{Sealing};
 ghost use Rattle.ss_program.specs.Sent.{appended};
 ghost use Rattle.ss_program.specs.Session.{accepted, report};
 ghost use Rattle.ss_program.specs.Status.{EndsAs};
 
 use crate::running::run;
+use crate::sealing::Sealing;
 use crate::status::Status;
 use ss_arguments::Mode;
 use ss_outside::{Disk, Sink, Source};
@@ -34,23 +37,31 @@ pub fn run_store<D: Disk, S: Source, K: Sink>(
 ) -> u8
     // A run that ends with 0 has replied to every line of its input: the sink got the whole report, and the store holds all
     // events that were accepted.
-    ensures done { (history : History) (input : List ℕ) →
-        BeginsOver (mode_of (words_of words.now)) (D.seen disk.old) (S.left source.old) history input → EndsAs result Status.Done →
+    ensures done { (sealing : Sealing) (history : History) (input : List ℕ) →
+        BeginsOver sealing (mode_of (words_of words.now)) (D.seen disk.old) (S.left source.old) history input → EndsAs result Status.Done →
         (K.held sink.new ≡ appended (K.held sink.old) (report history input))
         × Stands (history ++ accepted history (lines input)) (D.seen disk.new).told.content }
     // A crash at any moment of the run leaves what stood before it and some first of the events that are accepted.
-    ensures any_moment { (history : History) (input : List ℕ) →
-        BeginsOver (mode_of (words_of words.now)) (D.seen disk.old) (S.left source.old) history input → (image : List ℕ) →
+    ensures any_moment { (sealing : Sealing) (history : History) (input : List ℕ) →
+        BeginsOver sealing (mode_of (words_of words.now)) (D.seen disk.old) (S.left source.old) history input → (image : List ℕ) →
         (D.seen disk.new).told.left_since (D.seen disk.old).told.moment image → StandsForFirst history (accepted history (lines input)) image }
-    // However a run ends, whatever a crash leaves after it holds each event whose reply the sink got, and at most one more.
+    // However a run ends, whatever a crash leaves after it holds each event whose reply the sink got, and at most one more where each
+    // event is sealed by itself.
     ensures acked_held { (history : History) (input : List ℕ) →
-        BeginsOver (mode_of (words_of words.now)) (D.seen disk.old) (S.left source.old) history input → (had has : List ℕ) →
+        BeginsOver Sealing.Each (mode_of (words_of words.now)) (D.seen disk.old) (S.left source.old) history input → (had has : List ℕ) →
         K.held sink.old ≡ Some had → K.held sink.new ≡ Some has → (image : List ℕ) → (D.seen disk.new).told.may_leave image →
         (j : ℕ) × (acks history (lines input) (length has - length had) ≤ j) × (j ≤ acks history (lines input) (length has - length had) + 1)
         × Stands (history ++ take j (accepted history (lines input))) image }
+    // Where events share seals, it holds each event whose reply the sink got, and none but those of the lines that were read.
+    ensures shared_held { (history : History) (input : List ℕ) →
+        BeginsOver Sealing.Shared (mode_of (words_of words.now)) (D.seen disk.old) (S.left source.old) history input → (had has : List ℕ) →
+        K.held sink.old ≡ Some had → K.held sink.new ≡ Some has → (image : List ℕ) → (D.seen disk.new).told.may_leave image →
+        (j : ℕ) × (read rest : List ℕ) × (read ++ rest ≡ input) × (S.left source.new ≡ Some rest)
+        × (acks history (lines input) (length has - length had) ≤ j) × (j ≤ length (accepted history (lines_within read rest)))
+        × Stands (history ++ take j (accepted history (lines input))) image }
     // Where memory ran out it holds no more than those.
-    ensures starved { (history : History) (input : List ℕ) →
-        BeginsOver (mode_of (words_of words.now)) (D.seen disk.old) (S.left source.old) history input → EndsAs result Status.OutOfMemory →
+    ensures starved { (sealing : Sealing) (history : History) (input : List ℕ) →
+        BeginsOver sealing (mode_of (words_of words.now)) (D.seen disk.old) (S.left source.old) history input → EndsAs result Status.OutOfMemory →
         (had has : List ℕ) → K.held sink.old ≡ Some had → K.held sink.new ≡ Some has → (image : List ℕ) →
         (D.seen disk.new).told.may_leave image →
         Stands (history ++ take (acks history (lines input) (length has - length had)) (accepted history (lines input))) image }
@@ -71,12 +82,11 @@ pub fn run_store<D: Disk, S: Source, K: Sink>(
         OnlyReads (D.seen disk.old).told (D.seen disk.new).told }
     // 2 comes only of arguments that aren't known.
     ensures usage { EndsAs result Status.Usage → mode_of (words_of words.now) ≡ None }
-    // 4, 5 and 6 come only of a fault of the disk, the source and the sink.
+    // 4, 5 and 6 come only of a fault of the disk, the source and the sink, and 9 never of a disk that tells what it holds.
     ensures faults { (EndsAs result Status.DiskFault → Rose (D.seen disk.old).faults (D.seen disk.new).faults)
         × (EndsAs result Status.SourceFault → Rose (S.faults source.old) (S.faults source.new))
-        × (EndsAs result Status.SinkFault → Rose (K.faults sink.old) (K.faults sink.new)) }
-    // 9 never comes of a disk that tells what it holds.
-    ensures firm { EndsAs result Status.RecordChanged → IsTrue (D.seen disk.old).tells → ⊥ }
+        × (EndsAs result Status.SinkFault → Rose (K.faults sink.old) (K.faults sink.new))
+        × (EndsAs result Status.RecordChanged → IsTrue (D.seen disk.old).tells → ⊥) }
 {
     run(alloc, words, disk, source, sink)
 }

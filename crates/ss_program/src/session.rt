@@ -1,19 +1,22 @@
 // One run over an input: bytes come in, and each line that ends is answered.
-ghost use Rattle.std.specs.Prelude.{◌≡◌, ◌↔◌, ◌⊎◌, ◌<◌, ◌≤◌, [], true, length, take, IsSome, IfOk, IfErr, OnOk};
-ghost use Rattle.std.specs.Option.{option_copied};
+ghost use Rattle.std.specs.Prelude.{◌≡◌, ◌⊎◌, [], IfOk, IfErr, OnOk, OnErr};
 ghost use Rattle.ss_command.specs.Lines.{unended};
 ghost use Rattle.ss_command.specs.LineState.{kept};
 ghost use Rattle.ss_outside.specs.Step.{Step};
 ghost use Rattle.ss_outside.specs.Verdict.{Counted};
 ghost use Rattle.ss_program.specs.Answer.{IsOpen};
-ghost use Rattle.ss_program.specs.Progress.{EndsSession, TakesPiece};
+ghost use Rattle.ss_program.specs.Progress.{EndsSession, NoneWait, TakesPiece, sealing_by};
 ghost use Rattle.ss_program.specs.Status.{disk_verdict, ended, sink_verdict, IsStop};
 
-use crate::answer::answer;
+use crate::each::{finish_each, take_each};
+use crate::replies::Replies;
+use crate::sealing::Sealing;
+use crate::shared::{finish_shared, take_shared};
 use crate::status::Status;
-use ss_command::{Ended, LineReader};
+use ss_command::LineReader;
 use ss_outside::{Disk, Sink};
 use ss_store::Store;
+use std::alloc::{AllocError, Global};
 use std::marker::Model;
 
 /// The store, and the line that is under way.
@@ -21,6 +24,8 @@ use std::marker::Model;
 pub struct Session {
     store: Store,
     reader: LineReader,
+    // Where events share seals, the replies that wait for one.
+    waiting: Option<Replies>,
 }
 
 impl Model for Session {
@@ -29,60 +34,26 @@ impl Model for Session {
 
     ghost Value = { SessionState };
 
-    ghost view = { λ s. record { store = s.store; line = under_way s.reader } };
-}
-
-// The line that has ended, where it is kept.
-fn line_of(reader: &LineReader, ended: Ended) -> Option<&[u8]>
-    requires ended { reader.now.ended ≡ true }
-    requires whole { ended ≡ Ended.Whole ↔ IsSome reader.now.line }
-    ensures { option_copied result ≡ reader.now.line }
-{
-    match ended {
-        Ended::Whole => Some(reader.line()),
-        Ended::TooLong => None,
-    }
+    ghost view = { λ s. record { store = s.store; line = under_way s.reader; waiting = s.waiting } };
 }
 
 impl Session {
-    /// A session at the front of its input.
-    pub fn start(store: Store) -> Session
-        ensures store { result.store ≡ store }
-        ensures line { result.line ≡ kept (unended []) }
+    /// A session at the front of its input. It takes memory where events share seals.
+    pub fn start(alloc: Global, store: Store, sealing: Sealing) -> Result<Session, AllocError>
+        ensures store { IfOk result (λ session. session.store ≡ store) }
+        ensures line { IfOk result (λ session. session.line ≡ kept (unended [])) }
+        ensures sealing { IfOk result (λ session. (sealing_by session.waiting ≡ sealing) × NoneWait session.waiting) }
+        ensures each { sealing ≡ Sealing.Each → OnErr result ⊥ }
     {
-        Session {
+        let waiting = match sealing {
+            Sealing::Each => None,
+            Sealing::Shared => Some(Replies::new(alloc)?),
+        };
+        Ok(Session {
             store,
             reader: LineReader::new(),
-        }
-    }
-
-    // Takes bytes of a piece up to and with its first line end, answers the line that ended, and says how many bytes it took.
-    fn advance<D: Disk, K: Sink>(
-        &mut self,
-        piece: &[u8],
-        disk: &mut D,
-        sink: &mut K,
-    ) -> Result<usize, Status>
-        requires some { 0 < length piece.now }
-        requires open { IsOpen (D.seen disk.old) self.old.store }
-        ensures takes { Step (disk_verdict (ended result)) (D.seen disk.old) (D.seen disk.new)
-            (TakesPiece (λ count. take count piece.now) piece.now self.old self.new (K.held sink.old) (K.held sink.new) result) }
-        ensures count { IfOk result (λ count. (0 < count) × (count ≤ length piece.now)) }
-        ensures open { OnOk result (IsOpen (D.seen disk.new) self.new.store) }
-        ensures status { IfErr result (IsStop (D.seen disk.old).tells) }
-        ensures counted { Counted (sink_verdict (ended result)) (K.faults sink.old) (K.faults sink.new) }
-    {
-        let (count, ended) = self.reader.feed(piece);
-        match ended {
-            None => Ok(count),
-            Some(ended) => {
-                let answered = answer(&mut self.store, line_of(&self.reader, ended), disk, sink);
-                match answered {
-                    Ok(()) => Ok(count),
-                    Err(status) => Err(status),
-                }
-            }
-        }
+            waiting,
+        })
     }
 
     /// Takes a piece of the input, and answers each line that ends in it. At an error the run stopped at one of these
@@ -96,18 +67,22 @@ impl Session {
         requires { IsOpen (D.seen disk.old) self.old.store }
         ensures takes { Step (disk_verdict (ended result)) (D.seen disk.old) (D.seen disk.new)
             (TakesPiece (λ _. piece.now) piece.now self.old self.new (K.held sink.old) (K.held sink.new) result) }
+        ensures sealing { sealing_by self.new.waiting ≡ sealing_by self.old.waiting }
         ensures open { OnOk result (IsOpen (D.seen disk.new) self.new.store) }
         ensures status { IfErr result (IsStop (D.seen disk.old).tells) }
         ensures counted { Counted (sink_verdict (ended result)) (K.faults sink.old) (K.faults sink.new) }
     {
-        let mut done = 0;
-        while done < piece.len() {
-            match self.advance(&piece[done..], disk, sink) {
-                Ok(count) => done += count,
-                Err(status) => return Err(status),
-            }
+        match &mut self.waiting {
+            None => take_each(&mut self.store, &mut self.reader, piece, disk, sink),
+            Some(waiting) => take_shared(
+                &mut self.store,
+                &mut self.reader,
+                waiting,
+                piece,
+                disk,
+                sink,
+            ),
         }
-        Ok(())
     }
 
     /// Ends the input, and answers a last line that no line end ended.
@@ -118,15 +93,9 @@ impl Session {
         ensures status { (result ≡ Status.Done) ⊎ IsStop (D.seen disk.old).tells result }
         ensures counted { Counted (sink_verdict result) (K.faults sink.old) (K.faults sink.new) }
     {
-        match self.reader.finish() {
-            None => Status::Done,
-            Some(ended) => {
-                let answered = answer(&mut self.store, line_of(&self.reader, ended), disk, sink);
-                match answered {
-                    Ok(()) => Status::Done,
-                    Err(status) => status,
-                }
-            }
+        match &mut self.waiting {
+            None => finish_each(&mut self.store, &mut self.reader, disk, sink),
+            Some(waiting) => finish_shared(&mut self.store, &mut self.reader, waiting, disk, sink),
         }
     }
 }

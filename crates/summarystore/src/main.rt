@@ -26,7 +26,7 @@ use file_disk::FileDisk;
 use host_system::HostSystem;
 use notice::notice;
 use opening::missing_for;
-use options::take_options;
+use options::{name_batch, take_options};
 use ss_program::{Status, exit_code, run_store};
 use ss_watch::{Terminals, Watch, Watched};
 use std::alloc::{AllocError, Global};
@@ -112,6 +112,9 @@ fn run_program<R: Env + AllocGlobal + Input + Print + Eprint + Clock + Files<Fil
         return tell(rt, number, sink.why());
     }
     let options = take_options(&mut words);
+    if options.batches && name_batch(rt.alloc(), &mut words).is_err() {
+        return tell(rt, Status::OutOfMemory.number(), None);
+    }
     let (Ok(path), Ok(shown)) = (path_of(rt.alloc(), &words), path_of(rt.alloc(), &words)) else {
         return tell(rt, Status::OutOfMemory.number(), None);
     };

@@ -27,6 +27,9 @@ is on the disk before it is printed. One program at a time can use a store.
   query NAME count|sum|min|max T1 T2
                          what is known of the values from the time T1 to T2: the
                          least and the greatest that the answer can be
+  series NAME count|sum|min|max T1 T2 STEP
+                         the same in rows of STEP times each, at most 100000:
+                         the first time of a row, and what is known of it
   windows NAME           the windows of a stream, oldest first
   list                   all streams, in order of creation
 
@@ -46,6 +49,9 @@ Exit statuses:
 
   summarystore --help, -h     prints this text
   summarystore --version, -V  prints the version
+With --batch before STORE, commands that arrive together come to the disk
+together, and their replies after that. That is faster where many arrive at once.
+Each ok is on the disk all the same.
 With --explain before STORE, or at a terminal, standard error says why lines are
 refused, for the first 20 of them.
 A store whose name begins with - is ./-NAME.

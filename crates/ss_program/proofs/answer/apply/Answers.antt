@@ -9,7 +9,7 @@ use Rattle.ss_model.specs.State.{state}
 use Rattle.ss_model.specs.declared.types.Ack.{Ack}
 use Rattle.ss_outside.proofs.CrashLemmas.{reads-none}
 use Rattle.ss_outside.proofs.StepLemmas.{step-none}
-use Rattle.ss_outside.specs.Disk.{DiskView, Told}
+use Rattle.ss_outside.specs.Disk.{DiskView}
 use Rattle.ss_outside.specs.Step.{Step}
 use Rattle.ss_outside.specs.Verdict.{fine}
 use Rattle.ss_report.specs.declared.reply.Reply.{Reply}
@@ -26,7 +26,7 @@ use Rattle.ss_program.specs.Line.{Brought, History, command_brings, history_afte
 use Rattle.ss_program.specs.Progress.{StandsAround}
 use Rattle.ss_program.specs.declared.status.Status.{Status}
 use Rattle.ss_program.specs.declared.status.Status.TheVariants.{DiskFault, OutOfMemory}
-use Rattle.ss_program.proofs.AnswerLemmas.{Adds-applied, Adds-none, IsSome-accepted, brings-accepted, brings-refused, not_refused}
+use Rattle.ss_program.proofs.AnswerLemmas.{Adds-applied, Adds-none, IsSome-accepted, StoreIsIn-open, StoreIsIn-sealed, brings-accepted, brings-refused, not_refused}
 use Rattle.ss_program.proofs.answer.apply.Goals as goal
 
 -- an event that the store doesn't refuse isn't refused by any history that its disk stands for
@@ -35,14 +35,14 @@ accepted : (event : Event) (store : StoreState) (disk : DiskView) (result : Resu
     ((r : Refusal) → result ≡ Err (errors.Refused r) → ⊥) → IsTrue disk.tells → (history : History) → Stands history disk.told.content →
     refuses (state history) event ≡ None
 accepted event store disk result opens refused other told history stands =
-    refuses-kept store disk.told.content history event (opens.kept told) stands ∙ not_refused result (refuses_held store.streams event) refused other
+    refuses-kept store disk.told.content history event (StoreIsIn-open disk store opens told) stands ∙ not_refused result (refuses_held store.streams event) refused other
 
 pub returns-in-Ok-clause-applies : goal.returns-in-Ok-clause-applies
 returns-in-Ok-clause-applies g c =
     let event = c.args.event.now in
     let old = (g.D.Disk.seen c.args.disk.now).told in
     let new = (g.D.Disk.seen c.apply.new.disk).told in
-    let runs = c.requires.open.runs in
+    let runs = c.requires.open.serves.runs in
     let applies = c.in-Ok.ensures.applies runs in
     let turns = c.in-Ok.ensures.history runs in
     let fits = accepted event c.args.store.now (g.D.Disk.seen c.args.disk.now) (Ok c.in-Ok.ack) c.requires.open applies.refused (λ r is. cc) in
@@ -57,7 +57,8 @@ returns-in-Ok-clause-applies g c =
               (turns told history));
           reply = λ history stands.
               let said = said-kept c.apply.new.self new.content (history ++ event ∷ []) (event_name event)
-              (applies.stands (applies.stops ∙ runs) (applies.step.tells ∙ told)) ((turns told history).content stands) in
+              (StoreIsIn-sealed c.apply.new.self new.content (c.in-Ok.ensures.sealed (applies.stops ∙ runs))
+              (applies.stands (applies.stops ∙ runs) (applies.step.tells ∙ told))) ((turns told history).content stands) in
               ap (λ (b : Brought). b.replies) (brings-accepted history event (fits told history stands))
               ∙ ap (λ ack. Done ack ∷ []) (sym (applies.ack ∙ said));
           untouched = λ memory. cc;
@@ -75,8 +76,8 @@ returns-in-Err-Refused-clause-applies g c =
     let result : Result Reply Status = Ok (Refused r) in
     let refused : IsTrue disk.tells → (history : History) → Stands history disk.told.content → refuses (state history) event ≡ Some r =
     λ told history stands.
-    refuses-kept c.args.store.now disk.told.content history event (c.requires.open.kept told) stands
-    ∙ ((c.in-Err-Refused.ensures.applies c.requires.open.runs).refused r).0 (ap (λ e. Err e) c.in-Err-Refused.field-0-is) in
+    refuses-kept c.args.store.now disk.told.content history event (StoreIsIn-open disk c.args.store.now c.requires.open told) stands
+    ∙ ((c.in-Err-Refused.ensures.applies c.requires.open.serves.runs).refused r).0 (ap (λ e. Err e) c.in-Err-Refused.field-0-is) in
     subst (λ d. Step fine disk (g.D.Disk.seen d) (AppliesEvent event result)) (sym still)
     (step-none disk (AppliesEvent event result) (λ told. record {
       does = record {
@@ -108,7 +109,7 @@ returns-in-Err-OutOfMemory-clause-applies g c =
         untouched = λ _. reads-none disk.told;
       };
       accepted = λ history stands. IsSome-accepted history event (accepted event c.args.store.now disk (Err c.in-Err-OutOfMemory.field-0) c.requires.open
-          (c.in-Err-OutOfMemory.ensures.applies c.requires.open.runs).refused (λ r is. cc) told history stands);
+          (c.in-Err-OutOfMemory.ensures.applies c.requires.open.serves.runs).refused (λ r is. cc) told history stands);
     }))
 
 pub returns-in-Err-Disk-clause-applies : goal.returns-in-Err-Disk-clause-applies
@@ -117,7 +118,7 @@ returns-in-Err-Disk-clause-applies g c =
     let old = (g.D.Disk.seen c.args.disk.now).told in
     let new = (g.D.Disk.seen c.apply.new.disk).told in
     let e = c.in-Err-Disk.field-0-is in
-    let applies = c.in-Err-Disk.ensures.applies c.requires.open.runs in
+    let applies = c.in-Err-Disk.ensures.applies c.requires.open.serves.runs in
     let fits = accepted event c.args.store.now (g.D.Disk.seen c.args.disk.now) (Err c.in-Err-Disk.field-0) c.requires.open applies.refused (λ r is. cc) in
     let result : Result Reply Status = Err DiskFault in
     let step = rw e at applies.step in
@@ -130,7 +131,7 @@ returns-in-Err-Disk-clause-applies g c =
               let after = Stands (history ++ event ∷ []) in
               Adds-applied history event old new result (fits told history)
               (Turns-failed (Stands history) (StandsForEither history event) after after old new (Err c.in-Err-Disk.field-0) result refl
-              (c.in-Err-Disk.ensures.history c.requires.open.runs told history));
+              (c.in-Err-Disk.ensures.history c.requires.open.serves.runs told history));
           reply = λ history stands. tt;
           untouched = λ memory. cc;
         };

@@ -1,5 +1,6 @@
 use Rattle.std.proofs.Common.{◌∙◌, Err, Ok, ap}
 use Rattle.ss_model.specs.State.{state}
+use Rattle.ss_records.specs.Kept.{shown_by}
 use Rattle.ss_store.specs.Asked.{refuses_query_held}
 use Rattle.ss_program.specs.Line.{Brought}
 use Rattle.ss_program.proofs.AnswerLemmas.{brings-answered, brings-unanswered, not_unanswered, refuses_query-kept}
@@ -14,9 +15,10 @@ returns-in-Ok-clause-asks g c =
       counted = answers.counted;
       told = λ told. record {
         reply = λ history stands.
-            let same = refuses_query-kept c.args.store.now (g.D.Disk.seen c.args.disk.now).told.content history query (c.requires.open.kept told) stands in
+            let image = shown_by c.args.store.now.records (g.D.Disk.seen c.args.disk.now).told.content in
+            let same = refuses_query-kept c.args.store.now image history query (c.requires.serves.kept told).shown stands in
             let none = same ∙ not_unanswered (Ok c.in-Ok.outcome) (refuses_query_held c.args.store.now.streams query)
-            (c.in-Ok.ensures.refused c.requires.open.runs) (λ r is. cc) in
+            (c.in-Ok.ensures.refused c.requires.serves.runs) (λ r is. cc) in
             ap (λ (b : Brought). b.replies) (brings-answered history query c.in-Ok.outcome none ((answers.told told).answer (state history) stands.state));
         reads = (answers.told told).reads;
       };
@@ -32,8 +34,9 @@ returns-in-Err-Refused-clause-asks g c =
       counted = answers.counted;
       told = λ told. record {
         reply = λ history stands.
-            let same = refuses_query-kept c.args.store.now (g.D.Disk.seen c.args.disk.now).told.content history query (c.requires.open.kept told) stands in
-            let refused = same ∙ (c.in-Err-Refused.ensures.refused c.requires.open.runs c.in-Err-Refused.refusal).0 (ap (λ e. Err e) e) in
+            let image = shown_by c.args.store.now.records (g.D.Disk.seen c.args.disk.now).told.content in
+            let same = refuses_query-kept c.args.store.now image history query (c.requires.serves.kept told).shown stands in
+            let refused = same ∙ (c.in-Err-Refused.ensures.refused c.requires.serves.runs c.in-Err-Refused.refusal).0 (ap (λ e. Err e) e) in
             ap (λ (b : Brought). b.replies) (brings-unanswered history query c.in-Err-Refused.refusal refused);
         reads = (answers.told told).reads;
       };

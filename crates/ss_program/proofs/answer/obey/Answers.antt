@@ -1,12 +1,12 @@
 use Rattle.std.proofs.Common.{refl, subst}
-use Rattle.ss_command.specs.declared.command.Command.TheVariants.{Ask, Windows, List as ListAll}
+use Rattle.ss_command.specs.declared.command.Command.TheVariants.{Ask, Series as AskRows, Windows, List as ListAll}
 use Rattle.ss_program.specs.Answer.{IsTextBrought}
 use Rattle.ss_program.specs.Devices.{over}
-use Rattle.ss_program.specs.Line.{command_brings, text_brought}
+use Rattle.ss_program.specs.Line.{command_brings}
 use Rattle.ss_program.specs.Sent.{Sends}
-use Rattle.ss_program.proofs.AnswerLemmas.{ask-event, windows-event}
+use Rattle.ss_program.proofs.AnswerLemmas.{StoreIsIn-open, ask-event, series-event, windows-event}
 use Rattle.ss_program.proofs.TakesLemmas.{Shows-sent, TakesLine-shown, still}
-use Rattle.std.proofs.Common.{sym, ◌∙◌}
+use Rattle.std.proofs.Common.{sym}
 use Rattle.ss_program.proofs.answer.obey.Goals as goal
 
 pub returns-in-Ask : goal.returns-in-Ask
@@ -16,6 +16,15 @@ returns-in-Ask g c = rw c.in-Ask.is
     (over (g.D.Disk.seen c.show_answer.new.disk) (g.K.Sink.held c.show_answer.new.sink) (g.K.Sink.faults c.show_answer.new.sink))
     c.show_answer.new.store c.show_answer.result (g.met.D.Disk.knows_now c.args.disk.now) (λ history. ask-event history c.in-Ask.query) (λ history. refl)
     c.show_answer.ensures)
+
+pub returns-in-Series : goal.returns-in-Series
+returns-in-Series g c = rw c.in-Series.is
+    (TakesLine-shown (λ history. command_brings history (AskRows c.in-Series.series)) (IsTextBrought (AskRows c.in-Series.series))
+    (over (g.D.Disk.seen c.args.disk.now) (g.K.Sink.held c.args.sink.now) (g.K.Sink.faults c.args.sink.now))
+    (over (g.D.Disk.seen c.show_series.new.disk) (g.K.Sink.held c.show_series.new.sink) (g.K.Sink.faults c.show_series.new.sink))
+    c.show_series.new.store c.show_series.result (g.met.D.Disk.knows_now c.args.disk.now) (λ history. series-event history c.in-Series.series)
+    (λ history. refl)
+    c.show_series.ensures)
 
 pub returns-in-Windows : goal.returns-in-Windows
 returns-in-Windows g c = rw c.in-Windows.is
@@ -38,4 +47,4 @@ returns-in-List g c =
     (g.met.D.Disk.knows_now c.args.disk.now) (λ history. refl) (λ history. refl)
     (Shows-sent (IsTextBrought ListAll) disk disk c.args.store.now before after had has c.list.result (still disk) c.requires.open c.list.ensures.counted
     (λ told history stands bytes is. subst (λ bs. Sends before after bs c.list.result) (sym is)
-    (c.list.ensures.sends history disk.told.content (c.requires.open.kept told) stands))))
+    (c.list.ensures.sends history disk.told.content (StoreIsIn-open disk c.args.store.now c.requires.open told) stands))))

@@ -1,4 +1,5 @@
 use Rattle.ss_model.specs.State.{state}
+use Rattle.ss_program.proofs.AnswerLemmas.{Stands-shown}
 use Rattle.ss_program.proofs.answer.read.Goals as goal
 
 pub returns-in-Ok-clause-reads : goal.returns-in-Ok-clause-reads
@@ -8,7 +9,9 @@ returns-in-Ok-clause-reads g c =
       tells = shows.tells;
       counted = shows.counted;
       told = λ told. record {
-        row = λ history stands. (shows.told told).window (state history) stands.state;
+        row = λ history stands.
+            let shown = Stands-shown c.args.store.now.records (g.D.Disk.seen c.args.disk.now).told.content history c.requires.open.sealed stands in
+            (shows.told told).window (state history) shown.state;
         reads = (shows.told told).reads;
       };
     }

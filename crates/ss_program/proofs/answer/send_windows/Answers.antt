@@ -10,9 +10,9 @@ use Rattle.ss_store.specs.Recover.{Stands}
 use Rattle.ss_store.proofs.FoundAlike.{windows-kept}
 use Rattle.ss_program.specs.Answer.{IsRowsText, Shows}
 use Rattle.ss_program.specs.Devices.{over}
-use Rattle.ss_program.specs.Line.{window_rows}
 use Rattle.ss_program.specs.Sent.{appended, AppendsLess, Sends}
 use Rattle.ss_program.specs.Status.{disk_verdict, IsDiskStop}
+use Rattle.ss_program.proofs.AnswerLemmas.{StoreIsIn-open}
 use Rattle.ss_program.proofs.RowLemmas.{none-sent, rows-after, rows-cut-sent, rows-end, rows-first, rows-step, rows-unread}
 use Rattle.ss_program.proofs.TakesLemmas.{Shows-sent, Shows-stopped, failed-err, sent-all, still}
 use Rattle.ss_program.proofs.answer.send_windows.Goals as goal
@@ -52,7 +52,7 @@ returns-in_err-window g c =
     reads
     inv.faults (λ told history stands bytes is. subst (λ bs. AppendsLess before held bs) (sym is.2)
     (rows-unread o (λ part. part.line.entries) c.in-Some.at is.0 before held c.requires.stands at
-    (windows-kept c.args.store.now old.told.content history c.args.id.0 is.0 (c.requires.open.kept told) stands is.1)
+    (windows-kept c.args.store.now old.told.content history c.args.id.0 is.0 (StoreIsIn-open old c.args.store.now c.requires.open told) stands is.1)
     (rw c.in-Some.is at (inv.held told history stands is.0 is.1)))))
 
 pub returns-in_err-at_sink : goal.returns-in_err-at_sink
@@ -122,5 +122,5 @@ returns g c =
     (λ told history stands bytes is. subst (λ bs. held ≡ appended before bs) (sym is.2)
     (rows-end (part_numbered c.args.id.0 c.args.store.now.streams) (λ part. part.line.entries) c.loop-next.next is.0 before held c.requires.stands
     c.in_default.is
-    (windows-kept c.args.store.now old.told.content history c.args.id.0 is.0 (c.requires.open.kept told) stands is.1)
+    (windows-kept c.args.store.now old.told.content history c.args.id.0 is.0 (StoreIsIn-open old c.args.store.now c.requires.open told) stands is.1)
     (inv.held told history stands is.0 is.1)))

@@ -2,17 +2,18 @@ use Rattle.std.proofs.Common.{◌≡◌, ◌∙◌, Err, refl, sym, ap, subst, r
 use Rattle.std.proofs.lemmas.List.{append-nil}
 use Rattle.std.specs.List.{flat_map}
 use Rattle.ss_command.specs.declared.command.Command.TheVariants.{Ask}
+use Rattle.ss_journal.specs.Kept.{IsSealed}
 use Rattle.ss_outside.proofs.StepLemmas.{step-as}
 use Rattle.ss_outside.specs.Crash.{OnlyReads}
 use Rattle.ss_outside.specs.Step.{Step}
 use Rattle.ss_outside.specs.Verdict.{fine}
 use Rattle.ss_report.specs.Text.{reply_line}
-use Rattle.ss_program.specs.Answer.{IsTextBrought, Shows}
+use Rattle.ss_program.specs.Answer.{IsOpen, IsTextBrought, Shows}
 use Rattle.ss_program.specs.Devices.{over}
 use Rattle.ss_program.specs.Line.{command_brings, text_brought}
 use Rattle.ss_program.specs.Sent.{AppendsLess}
 use Rattle.ss_program.specs.Status.{disk_verdict}
-use Rattle.ss_program.proofs.AnswerLemmas.{AppendsLess-none, ask-some}
+use Rattle.ss_program.proofs.AnswerLemmas.{AppendsLess-none, Stands-shown, ask-some}
 use Rattle.ss_program.proofs.TakesLemmas.{Shows-reply, Shows-stopped}
 use Rattle.ss_program.proofs.answer.show_answer.Goals as goal
 
@@ -37,9 +38,12 @@ returns g c =
     let new = g.D.Disk.seen c.ask.new.disk in
     let asks = c.in_ok-reply.ensures.asks in
     let reads : Step fine old new OnlyReads = step-as asks (λ asks. asks.reads) in
+    let opens : IsOpen new c.ask.new.store =
+    record { serves = c.in_ok-reply.ensures.serves; sealed = subst IsSealed (sym c.in_ok-reply.ensures.journal) c.requires.open.sealed } in
     rw c.at_sink.ensures
     (Shows-reply (IsTextBrought (Ask c.args.query.now)) old new c.ask.new.store (g.K.Sink.held c.args.sink.now) (g.K.Sink.held c.send_reply.new.sink)
-    (g.K.Sink.faults c.args.sink.now) (g.K.Sink.faults c.send_reply.new.sink) c.in_ok-reply.reply c.send_reply.result reads c.in_ok-reply.ensures.open
+    (g.K.Sink.faults c.args.sink.now) (g.K.Sink.faults c.send_reply.new.sink) c.in_ok-reply.reply c.send_reply.result reads opens
     c.send_reply.ensures
-    (λ told history stands bytes is. is ∙ ap (λ rs. flat_map reply_line rs) ((asks.told told).reply history stands) ∙ append-nil
+    (λ told history stands bytes is. is ∙ ap (λ rs. flat_map reply_line rs) ((asks.told told).reply history
+    (Stands-shown c.args.store.now.records old.told.content history c.requires.open.sealed stands)) ∙ append-nil
     (reply_line c.in_ok-reply.reply)))

@@ -11,6 +11,7 @@ use Rattle.ss_program.specs.Devices.{over}
 use Rattle.ss_program.specs.Line.{command_brings, text_brought, window_rows}
 use Rattle.ss_program.specs.Sent.{Sends}
 use Rattle.ss_program.specs.Status.{ended, sink_verdict}
+use Rattle.ss_program.proofs.AnswerLemmas.{StoreIsIn-open}
 use Rattle.ss_program.proofs.RowLemmas.{windows-count, windows-head, windows-rows, windows-unknown}
 use Rattle.ss_program.proofs.TakesLemmas.{Shows-sent, failed-err, less-sent, sends-less, sent-all, still}
 use Rattle.ss_program.proofs.answer.show_windows.Goals as goal
@@ -26,7 +27,7 @@ returns-in_default g c =
     (g.K.Sink.faults c.send_reply.new.sink) c.send_reply.result (still disk) c.requires.open c.send_reply.ensures.counted
     (λ told history stands bytes is. subst (λ bs. Sends before after bs c.send_reply.result) (sym is)
     (windows-unknown history name before after c.send_reply.result
-    (unknown-kept c.args.store.now disk.told.content history name (c.requires.open.kept told) stands (sym c.in_default.is ∙ c.find.ensures.number))
+    (unknown-kept c.args.store.now disk.told.content history name (StoreIsIn-open disk c.args.store.now c.requires.open told) stands (sym c.in_default.is ∙ c.find.ensures.number))
     c.send_reply.ensures.sends)))
 
 pub returns-in_err-at_sink : goal.returns-in_err-at_sink
@@ -44,7 +45,7 @@ returns-in_err-at_sink g c =
     subst (λ r. Shows text (over disk before had) (over disk after has) store r) (sym (same ∙ c.in_err-at_sink.ensures))
     (Shows-sent text disk disk store before after had has sent (still disk) c.requires.open c.send_reply-2.ensures.counted
     (λ told history stands bytes is.
-    let kept = c.requires.open.kept told in
+    let kept = StoreIsIn-open disk store c.requires.open told in
     let found = found-kept store disk.told.content history c.args.name.now c.in-Some.id kept stands c.in-Some.ensures.number c.in-Some.ensures.same in
     let all = windows-count (part_numbered c.in-Some.id.0 store.streams) (λ part. part.line.entries) found.0 c.windows.result c.in-Some.ensures.stands
     c.windows.ensures
@@ -67,7 +68,7 @@ returns g c =
     record {
       reads = shows.reads;
       sends = λ told history stands bytes is.
-          let kept = c.requires.open.kept told in
+          let kept = StoreIsIn-open disk store c.requires.open told in
           let found = found-kept store disk.told.content history c.args.name.now c.in-Some.id kept stands c.in-Some.ensures.number c.in-Some.ensures.same in
           let all = windows-count (part_numbered c.in-Some.id.0 store.streams) (λ part. part.line.entries) found.0 c.windows.result c.in-Some.ensures.stands
           c.windows.ensures

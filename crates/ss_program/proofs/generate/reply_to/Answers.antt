@@ -1,4 +1,3 @@
-use Rattle.std.proofs.Common.{refl, sym, subst}
 use Rattle.ss_command.specs.declared.command.Command.TheVariants.{Ask}
 use Rattle.ss_outside.proofs.StepLemmas.{step-as}
 use Rattle.ss_program.specs.Line.{command_brings}
@@ -17,7 +16,7 @@ returns-in-Ask-clause-does g c =
     rw c.in-Ask.is (record {
       tells = asks.tells;
       counted = asks.counted;
-      told = λ told. DoesCommand-asked (λ history. command_brings history (Ask c.in-Ask.query)) c.ask.result old new
-          (g.met.D.Disk.knows_now c.args.disk.now told)
+      told = λ told. DoesCommand-asked c.args.store.now.records (λ history. command_brings history (Ask c.in-Ask.query)) c.ask.result old new
+          c.requires.open.sealed (g.met.D.Disk.knows_now c.args.disk.now told)
           (λ history. ask-event history c.in-Ask.query) (asks.told told);
     })

@@ -1,11 +1,11 @@
-use Rattle.std.proofs.Common.{◌∙◌, length, refl, sym}
+use Rattle.std.proofs.Common.{length, refl, sym}
 use Rattle.ss_program.specs.Generated.{generated}
 use Rattle.ss_program.specs.Session.{replies}
 use Rattle.ss_program.specs.declared.status.Status.TheVariants.{SinkFault}
 use Rattle.ss_program.proofs.AnswerLemmas.{IsStop-apply}
 use Rattle.ss_program.proofs.EndLemmas.{unfed-stop}
 use Rattle.ss_program.proofs.GenerateLemmas.{Generates-done, Generates-stop}
-use Rattle.ss_program.proofs.RunLemmas.{stop-other}
+use Rattle.ss_program.proofs.ReadLemmas.{stop-other}
 use Rattle.ss_program.proofs.SendLemmas.{appended-nil}
 use Rattle.ss_program.proofs.StepLemmas.{step-so}
 use Rattle.ss_program.proofs.TakesLemmas.{apply-counted}

@@ -1,39 +1,57 @@
-use Rattle.std.proofs.Common.{◌≡◌, ℕ, List, Option, Some, None, IsSome, refl, sym, subst}
+use Rattle.std.proofs.Common.{◌≡◌, ◌++◌, ℕ, List, take, Option, Some, None, IsSome, refl, sym, subst}
 use Rattle.ss_arguments.specs.Modes.{mode_of, words_of}
 use Rattle.ss_arguments.specs.declared.mode.Mode.{Mode}
 use Rattle.ss_command.specs.Lines.{lines}
-use Rattle.ss_outside.specs.Verdict.{Rose}
 use Rattle.ss_program.proofs.HeldLemmas.{StandsForFirst-within}
-use Rattle.ss_program.specs.Devices.{Devices}
-use Rattle.ss_program.specs.Ending.{Ends, Rejects}
-use Rattle.ss_program.specs.Status.{EndsAs}
-use Rattle.ss_program.specs.declared.status.Status.{Status}
+use Rattle.ss_program.specs.Held.{acks}
+use Rattle.ss_program.specs.Line.{History}
+use Rattle.ss_program.specs.Outcome.{HoldsBy}
+use Rattle.ss_program.specs.Session.{accepted}
+use Rattle.ss_program.specs.declared.sealing.Sealing.{Sealing}
+use Rattle.ss_program.specs.declared.sealing.Sealing.TheVariants.{Each, Shared}
+use Rattle.ss_store.specs.Recover.{Stands}
 use Rattle.ss_program.specs.declared.status.Status.TheVariants.{Done, Usage, RefusedStore, DiskFault, SourceFault, SinkFault, OutOfMemory, RecordChanged}
 use Rattle.ss_program.proofs.promises.run_store.Goals as goal
 
 pub returns-clause-done : goal.returns-clause-done
-returns-clause-done g c history input begins is =
-    let serves = c.run.ensures.serves begins.plain Done is input begins.source begins.tells begins.durable history begins.stands in
+returns-clause-done g c sealing history input begins is =
+    let serves = c.run.ensures.serves sealing begins.asked Done is input begins.source begins.tells begins.durable history begins.stands in
     (serves.report.whole refl, serves.whole refl)
 
 pub returns-clause-any_moment : goal.returns-clause-any_moment
-returns-clause-any_moment g c history input begins image left =
+returns-clause-any_moment g c sealing history input begins image left =
     let known = c.run.ensures.known in
     StandsForFirst-within history (lines input) image
-    ((c.run.ensures.serves begins.plain known.0 known.1 input begins.source begins.tells begins.durable history begins.stands).any_moment.each image left)
+    ((c.run.ensures.serves sealing begins.asked known.0 known.1 input begins.source begins.tells begins.durable history begins.stands).any_moment.each image left)
 
 pub returns-clause-acked_held : goal.returns-clause-acked_held
 returns-clause-acked_held g c history input begins had has is_had is_has image left =
     let known = c.run.ensures.known in
-    let holds = (c.run.ensures.serves begins.plain known.0 known.1 input begins.source begins.tells begins.durable history begins.stands).kept had has is_had
-    is_has image left in
+    let holds = (c.run.ensures.serves Each begins.asked known.0 known.1 input begins.source begins.tells begins.durable history begins.stands).kept had has
+    is_had is_has image left in
     (holds.j, holds.acked, holds.at_most, holds.stands)
 
+pub returns-clause-shared_held : goal.returns-clause-shared_held
+returns-clause-shared_held g c history input begins had has is_had is_has image left =
+    let known = c.run.ensures.known in
+    let holds = (c.run.ensures.serves Shared begins.asked known.0 known.1 input begins.source begins.tells begins.durable history begins.stands).kept had has
+    is_had is_has image left in
+    (holds.4.j, holds.0, holds.1, holds.2, holds.3, holds.4.acked, holds.4.at_most, holds.4.stands)
+
+-- where memory ran out the image holds the acknowledged events, whatever the sealing
+starved-holds : (sealing : Sealing) (history : History) (input : List ℕ) (left : Option (List ℕ)) (bytes : ℕ) (image : List ℕ) →
+    HoldsBy sealing history input left bytes OutOfMemory image → Stands (history ++ take (acks history (lines input) bytes) (accepted history (lines input)))
+    image
+starved-holds Each history input left bytes image holds =
+    subst (λ j. Stands (history ++ take j (accepted history (lines input))) image) (holds.starved refl) holds.stands
+starved-holds Shared history input left bytes image holds =
+    subst (λ j. Stands (history ++ take j (accepted history (lines input))) image) (holds.4.starved refl) holds.4.stands
+
 pub returns-clause-starved : goal.returns-clause-starved
-returns-clause-starved g c history input begins is had has is_had is_has image left =
-    let holds = (c.run.ensures.serves begins.plain OutOfMemory is input begins.source begins.tells begins.durable history begins.stands).kept had has is_had
-    is_has image left in
-    rw (sym (holds.starved refl)) holds.stands
+returns-clause-starved g c sealing history input begins is had has is_had is_has image may =
+    starved-holds sealing history input _ _ image
+    ((c.run.ensures.serves sealing begins.asked OutOfMemory is input begins.source begins.tells begins.durable history begins.stands).kept had has is_had
+    is_has image may)
 
 pub returns-clause-checked : goal.returns-clause-checked
 returns-clause-checked g c asked is told streams recovers = (c.run.ensures.checks asked Done is told streams recovers).whole refl
@@ -72,9 +90,5 @@ returns-clause-faults g c =
       λ is. by-mode mode (λ some. (c.run.ensures.ends some DiskFault is).disk.counted.1) (λ none. absurd (c.run.ensures.rejects none DiskFault is)),
       λ is. (c.run.ensures.source SourceFault is).1,
       λ is. by-mode mode (λ some. ((c.run.ensures.ends some SinkFault is).sink (λ w. cc)).1) (λ none. absurd (c.run.ensures.rejects none SinkFault is)),
+      λ is told. by-mode mode (λ some. (c.run.ensures.ends some RecordChanged is).firm refl told) (λ none. c.run.ensures.rejects none RecordChanged is),
     )
-
-pub returns-clause-firm : goal.returns-clause-firm
-returns-clause-firm g c is told =
-    by-mode (mode_of (words_of c.args.words.now)) (λ some. (c.run.ensures.ends some RecordChanged is).firm refl told)
-    (λ none. c.run.ensures.rejects none RecordChanged is)

@@ -1,11 +1,11 @@
-use Rattle.std.proofs.Common.{◌≤◌, ◌++◌, ◌∙◌, Ok, Err, rules, refl, subst, take, arith}
+use Rattle.std.proofs.Common.{◌≤◌, ◌++◌, Err, rules, refl, subst, take, arith}
 use Rattle.std.proofs.lemmas.Grind.{common_steps}
 use Rattle.ss_command.specs.Lines.{lines_so_far}
 use Rattle.ss_outside.proofs.StepLemmas.{step-as, step-none}
 use Rattle.ss_program.specs.Outcome.{ReadsPiece}
-use Rattle.ss_program.specs.Progress.{GoesOn, StopsIn}
+use Rattle.ss_program.specs.Progress.{GoesOn, StopsIn, sealing_by}
 use Rattle.ss_program.specs.declared.status.Status.TheVariants.{SourceFault}
-use Rattle.ss_program.proofs.RunLemmas.{moved, stop-other, unmoved}
+use Rattle.ss_program.proofs.ReadLemmas.{moved, stop-other, unmoved}
 use Rattle.ss_program.proofs.running.read_piece.Goals as goal
 
 pub returns-in-Err-clause-reads : goal.returns-in-Err-clause-reads
@@ -52,7 +52,7 @@ returns-in-Err-take-clause-reads g c =
             small,
             move.0,
             move.2,
-            subst (λ bs. StopsIn history (lines_so_far (input ++ bs)) old new before (g.K.Sink.held c.take.new.sink) status)
+            subst (λ bs. StopsIn (sealing_by c.args.session.now.waiting) history (lines_so_far (input ++ bs)) old new before (g.K.Sink.held c.take.new.sink) status)
                 move.1 (takes.stops history before input at replied),
           );
     })

@@ -1,8 +1,12 @@
-use Rattle.std.proofs.Common.{◌≡◌, ◌∙◌, sym, subst, ap}
+use Rattle.std.proofs.Common.{◌≡◌, ◌∙◌, Some, sym, subst, ap}
 use Rattle.ss_arguments.specs.declared.mode.Mode.{Mode}
 use Rattle.ss_arguments.specs.declared.mode.Mode.TheVariants.{Gen}
-use Rattle.ss_program.specs.Ending.{HasNumbers}
+use Rattle.ss_outside.specs.Disk.{Between}
+use Rattle.ss_program.specs.Ending.{HasNumbers, sealing_of}
 use Rattle.ss_program.specs.Generated.{GeneratesFrom}
+use Rattle.ss_program.specs.Outcome.{ServesInput}
+use Rattle.ss_program.specs.declared.sealing.Sealing.{Sealing}
+use Rattle.ss_program.specs.declared.sealing.Sealing.TheVariants.{Each, Shared}
 use Rattle.ss_program.proofs.running.run_mode.Goals as goal
 
 pub generate-requires-clause-some : goal.generate-requires-clause-some
@@ -10,6 +14,26 @@ generate-requires-clause-some g c = (subst (λ m. HasNumbers m) c.in-Gen.is c.re
 
 pub generate-requires-clause-few : goal.generate-requires-clause-few
 generate-requires-clause-few g c = (subst (λ m. HasNumbers m) c.in-Gen.is c.requires).1
+
+-- a run over the source is of the sealing that the mode asks for
+as_asked : (P : Sealing → Type 0) (mode : Mode) (found sealing : Sealing) → sealing_of (Some mode) ≡ Some found → sealing_of (Some mode) ≡ Some sealing →
+    P found → P sealing
+as_asked P mode found sealing is asked has =
+    let same : found ≡ sealing = cc in
+    subst P same has
+
+pub returns-in-Run-clause-serves : goal.returns-in-Run-clause-serves
+returns-in-Run-clause-serves g c sealing asked input left =
+    as_asked (λ s. Between (g.D.Disk.seen c.args.disk.now) (g.D.Disk.seen c.run_source.new.disk)
+    (ServesInput s input (g.S.Source.left c.run_source.new.source) (g.K.Sink.held c.args.sink.now) (g.K.Sink.held c.run_source.new.sink)
+    c.run_source.result)) c.args.mode Each sealing (ap (λ m. sealing_of (Some m)) c.in-Run.is) asked (c.run_source.ensures.serves input left)
+
+pub returns-in-Batch-clause-serves : goal.returns-in-Batch-clause-serves
+returns-in-Batch-clause-serves g c sealing asked input left =
+    as_asked (λ s. Between (g.D.Disk.seen c.args.disk.now) (g.D.Disk.seen c.run_source-in-Batch.new.disk)
+    (ServesInput s input (g.S.Source.left c.run_source-in-Batch.new.source) (g.K.Sink.held c.args.sink.now)
+    (g.K.Sink.held c.run_source-in-Batch.new.sink) c.run_source-in-Batch.result)) c.args.mode Shared sealing
+    (ap (λ m. sealing_of (Some m)) c.in-Batch.is) asked (c.run_source-in-Batch.ensures.serves input left)
 
 pub returns-in-Gen-clause-generates : goal.returns-in-Gen-clause-generates
 returns-in-Gen-clause-generates g c seed count is =

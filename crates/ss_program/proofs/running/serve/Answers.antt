@@ -1,36 +1,16 @@
-use Rattle.std.proofs.Common.{◌≡◌, ◌-◌, ◌+◌, List, ℕ, Some, take, drop, Err, refl, sym, ap, ◌∙◌, subst, arith, inl, inr}
-use Rattle.ss_command.specs.Lines.{ended_lines}
+use Rattle.std.proofs.Common.{◌≡◌, ◌-◌, ◌+◌, ◌≤◌, ◌++◌, List, ℕ, Some, length, take, drop, refl, sym, ◌∙◌, subst, arith, inl, inr}
+use Rattle.ss_command.specs.Lines.{ended_lines, lines, lines_so_far}
 use Rattle.ss_outside.proofs.StepLemmas.{step-as, step-none, step-then}
-use Rattle.ss_outside.specs.Disk.{NothingPending, Told}
-use Rattle.ss_outside.specs.Verdict.{Counted}
+use Rattle.ss_outside.specs.Disk.{NothingPending}
 use Rattle.ss_store.specs.Recover.{Stands}
 use Rattle.ss_program.specs.Line.{History}
 use Rattle.ss_program.specs.Outcome.{Serves}
-use Rattle.ss_program.specs.Status.{sink_verdict}
-use Rattle.ss_program.specs.declared.running.TheConstants.{LONGEST_INPUT}
+use Rattle.ss_program.specs.Progress.{StopsIn, sealing_by}
 use Rattle.ss_program.specs.declared.status.Status.TheVariants.{InputLimit, SourceFault}
 use Rattle.ss_program.proofs.SendLemmas.{appended-nil}
 use Rattle.ss_program.proofs.StepLemmas.{step-told}
-use Rattle.ss_program.proofs.RunLemmas.{
-  HasStopped-piece,
-  end-other,
-  IsLeft-more,
-  IsThrough,
-  IsThrough-end,
-  IsThrough-more,
-  IsThrough-start,
-  Moved-at,
-  Moved-piece,
-  Reads-end,
-  Reads-limit,
-  Reads-stop,
-  Serves-finish,
-  Serves-part,
-  Serves-stop,
-  left-none,
-  length_of-none,
-  stop-other,
-}
+use Rattle.ss_program.proofs.RunLemmas.{HasStopped-piece, IsThrough, IsThrough-end, IsThrough-more, IsThrough-start, Serves-finish, Serves-part, Serves-stop}
+use Rattle.ss_program.proofs.ReadLemmas.{end-other, IsLeft-more, Moved-at, Moved-piece, Reads-end, Reads-limit, Reads-stop, left-none, length_of-none, stop-other}
 use Rattle.ss_program.proofs.running.serve.Goals as goal
 
 pub loop-done-init : goal.loop-done-init
@@ -42,12 +22,13 @@ loop-done-init g c =
     record {
       fits = omega arith;
       is_open = c.requires.open;
+      sealing = refl;
       left = λ input is. record { within = omega arith; source = is };
       through = step-none disk (λ old now. (input : List ℕ) → left ≡ Some input → NothingPending old → (history : History) →
           Stands history old.content → IsThrough history old now c.args.session.now before before left input 0)
           (λ told input is none history stands.
           IsThrough-start history disk.told c.args.session.now before left input (g.met.D.Disk.knows_now c.args.disk.now told)
-          (record { stands = stands; durable = none; line = c.requires.front }) (sym (appended-nil before)) is);
+          (record { stands = stands; durable = none; line = c.requires.front; unsaid = c.requires.unsaid }) (sym (appended-nil before)) is);
       source = refl;
       sink = refl;
     }
@@ -63,6 +44,7 @@ loop-done-preserved g c =
     record {
       fits = omega (arith, c.in-Ok.ensures.count, inv.fits);
       is_open = c.in-Ok.ensures.open;
+      sealing = c.read_piece.ensures.sealing ∙ inv.sealing;
       left = λ input is.
           let at = inv.left input is in
           let moves = c.in-Ok.ensures.moves (drop done input) at.source in
@@ -118,9 +100,12 @@ returns-in-Ok-eq0-clause-serves g c =
     let all = length_of-none input n empty in
     let end = IsThrough-end left (through input is none history stands) (omega (arith, all)) (omega (arith, all, inv.fits))
     (left-none left rest k empty moves.2) in
-    Serves-finish (g.D.Disk.seen c.finish.new.disk).told (g.K.Sink.held c.finish.new.sink) then.tells c.finish.result tells end c.finish.ensures.status
-    (λ is_done. ends.done is_done history before input end.on.at end.on.replied) (λ stop. ends.stops (stop-other then.tells c.finish.result stop).0 history
-    before input end.on.at end.on.replied))
+    let sealing = sealing_by c.args.session.now.waiting in
+    let same = c.read_piece.ensures.sealing ∙ inv.sealing in
+    Serves-finish sealing (g.D.Disk.seen c.finish.new.disk).told (g.K.Sink.held c.finish.new.sink) then.tells c.finish.result tells end c.finish.ensures.status
+    (λ is_done. ends.done is_done history before input end.on.at end.on.replied) (λ stop.
+    subst (λ s. StopsIn s history (lines input) then.told (g.D.Disk.seen c.finish.new.disk).told before (g.K.Sink.held c.finish.new.sink) c.finish.result) same
+    (ends.stops (stop-other then.tells c.finish.result stop).0 history before input end.on.at end.on.replied)))
 
 pub returns-in-Err-clause-reads : goal.returns-in-Err-clause-reads
 returns-in-Err-clause-reads g c input is =
@@ -142,17 +127,20 @@ returns-in-Err-clause-serves g c =
     let after = g.K.Sink.held c.read_piece.new.sink in
     let status = c.in-Err.status in
     let inv = c.loop-done.invariant in
+    let sealing = sealing_by c.args.session.now.waiting in
     step-told inv.through c.in-Err.ensures.reads (λ tells first second input is none history stands.
     let old = first input is none history stands in
     elim c.in-Err.ensures.status [
       | inl fault ↦ (let same = c.in-Err.ensures.fault fault in
-          subst (λ o. Serves history input left before o start new status) (sym same.2)
-          (subst (λ d. Serves history input left before (g.K.Sink.held c.loop-done.sink) start (g.D.Disk.seen d).told status) (sym same.3)
-          (Serves-part status left old inv.fits (inl (fault, same.0)))))
-      | inr stop ↦ Serves-stop history input left before after start new mid.tells status tells stop
-          (HasStopped-piece history start mid.told new c.loop-done.session input (g.S.Source.left c.loop-done.source) left
+          subst (λ o. Serves sealing history input left before o start new status) (sym same.2)
+          (subst (λ d. Serves sealing history input left before (g.K.Sink.held c.loop-done.sink) start (g.D.Disk.seen d).told status) (sym same.3)
+          (Serves-part sealing status left old inv.fits (inl (fault, same.0)))))
+      | inr stop ↦ Serves-stop sealing history input left before after start new mid.tells status tells stop
+          (HasStopped-piece sealing history start mid.told new c.loop-done.session input (g.S.Source.left c.loop-done.source) left
           before (g.K.Sink.held c.loop-done.sink) after status n (68719476736 - n) old (omega (arith, inv.fits))
-          (second.stops (stop-other mid.tells status stop).2 (drop n input) old.source history before (take n input) old.on.at old.on.replied))
+          (subst (λ s. (count : ℕ) × (count ≤ 68719476736 - n) × (count ≤ length (drop n input)) × (left ≡ Some (drop count (drop n input)))
+          × StopsIn s history (lines_so_far (take n input ++ take count (drop n input))) mid.told new before after status) inv.sealing
+          (second.stops (stop-other mid.tells status stop).2 (drop n input) old.source history before (take n input) old.on.at old.on.replied)))
     ])
 
 pub returns-in-Err-is_at_end-clause-reads : goal.returns-in-Err-is_at_end-clause-reads
@@ -169,7 +157,7 @@ returns-in-Err-is_at_end-clause-reads g c input is =
 pub returns-in-Err-is_at_end-clause-serves : goal.returns-in-Err-is_at_end-clause-serves
 returns-in-Err-is_at_end-clause-serves g c =
     step-as c.loop-done.invariant.through (λ through input is none history stands.
-    Serves-part SourceFault (g.S.Source.left c.is_at_end.new.source) (through input is none history stands) c.loop-done.invariant.fits
+    Serves-part (sealing_by c.args.session.now.waiting) SourceFault (g.S.Source.left c.is_at_end.new.source) (through input is none history stands) c.loop-done.invariant.fits
     (inl (refl, c.in-Err-is_at_end.ensures.err)))
 
 -- the input ends at the limit
@@ -187,10 +175,13 @@ returns-in-Ok-true-clause-serves g c =
     let ends = c.in-Ok-true.ensures.ends (drop c.loop-done.done input) one.source c.in-Ok-true.field-0-test in
     let all = length_of-none input c.loop-done.done ends.0 in
     let end = IsThrough-end (g.S.Source.left c.is_at_end.new.source) one all (omega (arith, all, c.loop-done.invariant.fits)) ends.1 in
-    Serves-finish (g.D.Disk.seen c.finish-in-Ok-true.new.disk).told (g.K.Sink.held c.finish-in-Ok-true.new.sink) (g.D.Disk.seen c.loop-done.disk).tells
+    Serves-finish (sealing_by c.args.session.now.waiting) (g.D.Disk.seen c.finish-in-Ok-true.new.disk).told (g.K.Sink.held c.finish-in-Ok-true.new.sink) (g.D.Disk.seen c.loop-done.disk).tells
     c.finish-in-Ok-true.result tells end c.finish-in-Ok-true.ensures.status (λ is_done. finished.done is_done history before input end.on.at end.on.replied)
-    (λ stop. finished.stops (stop-other (g.D.Disk.seen c.loop-done.disk).tells c.finish-in-Ok-true.result stop).0 history before input end.on.at
-    end.on.replied))
+    (λ stop.
+    subst (λ s. StopsIn s history (lines input) (g.D.Disk.seen c.loop-done.disk).told (g.D.Disk.seen c.finish-in-Ok-true.new.disk).told before
+    (g.K.Sink.held c.finish-in-Ok-true.new.sink) c.finish-in-Ok-true.result) c.loop-done.invariant.sealing
+    (finished.stops (stop-other (g.D.Disk.seen c.loop-done.disk).tells c.finish-in-Ok-true.result stop).0 history before input end.on.at
+    end.on.replied)))
 
 pub returns-in-Ok-false-clause-reads : goal.returns-in-Ok-false-clause-reads
 returns-in-Ok-false-clause-reads g c input is =
@@ -201,5 +192,7 @@ returns-in-Ok-false-clause-reads g c input is =
 pub returns-in-Ok-false-clause-serves : goal.returns-in-Ok-false-clause-serves
 returns-in-Ok-false-clause-serves g c =
     step-as c.loop-done.invariant.through (λ through input is none history stands.
-    Serves-part InputLimit (g.S.Source.left c.is_at_end.new.source) (through input is none history stands) c.loop-done.invariant.fits
-    (inr (refl, omega (arith, c.loop-done.invariant.fits, c.loop-done-test.false))))
+    let one = through input is none history stands in
+    let more = c.in-Ok-false.ensures.goes_on (drop c.loop-done.done input) one.source c.in-Ok-false.field-0-test in
+    Serves-part (sealing_by c.args.session.now.waiting) InputLimit (g.S.Source.left c.is_at_end.new.source) one c.loop-done.invariant.fits
+    (inr (refl, record { all = omega (arith, c.loop-done.invariant.fits, c.loop-done-test.false); source = more.1 })))

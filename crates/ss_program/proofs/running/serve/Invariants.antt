@@ -5,8 +5,10 @@ use Rattle.ss_outside.specs.Verdict.{fine}
 use Rattle.ss_store.specs.Recover.{Stands}
 use Rattle.ss_program.specs.Answer.{IsOpen}
 use Rattle.ss_program.specs.Line.{History}
+use Rattle.ss_program.specs.Progress.{sealing_by}
 use Rattle.ss_program.specs.declared.running.TheConstants.{LONGEST_INPUT}
-use Rattle.ss_program.proofs.RunLemmas.{IsThrough, IsLeft}
+use Rattle.ss_program.proofs.RunLemmas.{IsThrough}
+use Rattle.ss_program.proofs.ReadLemmas.{IsLeft}
 use Rattle.ss_program.proofs.running.serve.Given as goal
 
 -- so many bytes were read, and the lines that end in them are answered
@@ -14,6 +16,7 @@ abbrev pub invariant-loop-done : goal.invariant-loop-done
 invariant-loop-done g l = record {
   fits : l.done ≤ LONGEST_INPUT;
   is_open : IsOpen (g.D.Disk.seen l.disk) l.session.store;
+  sealing : sealing_by l.session.waiting ≡ sealing_by l.fn.session.waiting;
   left : (input : List ℕ) → g.S.Source.left l.fn.source ≡ Some input → IsLeft (g.S.Source.left l.source) input l.done;
   through : Step fine (g.D.Disk.seen l.fn.disk) (g.D.Disk.seen l.disk) (λ old now. (input : List ℕ) → g.S.Source.left l.fn.source ≡ Some input →
       NothingPending old → (history : History) → Stands history old.content →

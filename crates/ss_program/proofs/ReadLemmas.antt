@@ -1,0 +1,227 @@
+-- What was read of an input, and the lines that had ended within it.
+use Rattle.std.proofs.Common.{
+  ◌≡◌,
+  ◌⊎◌,
+  inl,
+  inr,
+  length-drop,
+  ℕ,
+  ◌+◌,
+  ◌<◌,
+  ◌≤◌,
+  ◌++◌,
+  List,
+  [],
+  ◌∷◌,
+  length,
+  take,
+  drop,
+  map,
+  Bool,
+  Option,
+  Some,
+  None,
+  Ok,
+  Err,
+  refl,
+  sym,
+  ap,
+  ◌∙◌,
+  subst,
+  append_assoc,
+  arith,
+}
+use Rattle.std.proofs.Math.Seq.{take-add}
+use Rattle.std.proofs.lemmas.List.{append-nil, drop-drop, drop_all, length-take-le, map-append, take-append-drop}
+use Rattle.ss_command.specs.Lines.{lines, lines_so_far, unended, unless_empty, without_return}
+use Rattle.ss_command.proofs.LineLemmas.{ended_lines-append, lines-front}
+use Rattle.ss_outside.specs.Source.{Moves}
+use Rattle.ss_outside.specs.declared.source.Failed.{Failed}
+use Rattle.ss_program.specs.Outcome.{Moved, Reads, Took, lines_within}
+use Rattle.ss_program.specs.Status.{IsStop}
+use Rattle.ss_program.specs.declared.running.TheConstants.{LONGEST_INPUT}
+use Rattle.ss_program.specs.declared.status.Status.{Status}
+use Rattle.ss_program.specs.declared.status.Status.TheVariants.{
+  Done,
+  Usage,
+  RefusedStore,
+  DiskFault,
+  SourceFault,
+  SinkFault,
+  OutOfMemory,
+  InputLimit,
+  RecordChanged,
+}
+
+-- some first bytes of the input were read, and these lines had ended within them
+pub record AreRead (input : List ℕ) (left : Option (List ℕ)) (ls : List (List ℕ)) : Type 0 where
+  pub read : List ℕ
+  pub rest : List ℕ
+  pub all : read ++ rest ≡ input
+  pub others : left ≡ Some rest
+  pub more : List (List ℕ)
+  pub are : lines_within read rest ≡ ls ++ more
+
+-- none were
+pub AreRead-none : (input : List ℕ) (left : Option (List ℕ)) → left ≡ Some input → AreRead input left []
+AreRead-none input left is = record { read = []; rest = input; all = refl; others = is; more = lines_within [] input; are = refl }
+
+-- what a read moved
+pub moved : (before after : Option (List ℕ)) (count : ℕ) (into left : List ℕ) → Moves before after (Ok count) into → before ≡ Some left →
+    (count ≤ length left) × (take count into ≡ take count left) × (after ≡ Some (drop count left))
+moved None after count into left moves is = cc
+moved (Some bytes) after count into left moves is =
+    let same : bytes ≡ left = cc in
+    subst (λ bs. (count ≤ length bs) × (take count into ≡ take count bs) × (after ≡ Some (drop count bs))) same (moves.0, moves.2, moves.3)
+
+-- and what one that failed left
+pub unmoved : (before after : Option (List ℕ)) (e : Failed) (into left : List ℕ) → Moves before after (Err e) into → before ≡ Some left →
+    after ≡ Some left
+unmoved None after e into left moves is = cc
+unmoved (Some bytes) after e into left moves is = moves ∙ is
+
+-- so many bytes of the input were read
+pub record IsLeft (left : Option (List ℕ)) (input : List ℕ) (n : ℕ) : Type 0 where
+  pub within : n ≤ length input
+  pub source : left ≡ Some (drop n input)
+
+pub IsLeft-more : (left : Option (List ℕ)) (input : List ℕ) (n k : ℕ) → n ≤ length input → k ≤ length (drop n input) →
+    left ≡ Some (drop k (drop n input)) → IsLeft left input (n + k)
+IsLeft-more left input n k within more source = record {
+  within = omega (arith, within, more, length-drop n input);
+  source = source ∙ ap (λ bs. Some bs) (drop-drop k n input);
+}
+
+-- nothing is left of it
+pub length_of-none : (input : List ℕ) (n : ℕ) → drop n input ≡ [] → length input ≤ n
+length_of-none input n none = let short = ap (λ (bs : List ℕ). length bs) none in omega (arith, length-drop n input)
+
+pub left-none : (left : Option (List ℕ)) (rest : List ℕ) (k : ℕ) → rest ≡ [] → left ≡ Some (drop k rest) → left ≡ Some []
+left-none left rest k none is = let short = ap (λ (bs : List ℕ). length bs) none in is ∙ ap (λ bs. Some bs) (drop_all k rest (omega (arith, short)))
+
+-- what was taken of the input, and what is left
+pub Took-at : (input : List ℕ) (left : Option (List ℕ)) (n : ℕ) → n ≤ length input → n ≤ LONGEST_INPUT → left ≡ Some (drop n input) →
+    Took input left (take n input) (drop n input)
+Took-at input left n within few is = record {
+  all = take-append-drop n input;
+  others = is;
+  few = omega (arith, few, length-take-le n input within);
+}
+
+-- the lines so far are a front of those of the input
+lines_within-front : (taken rest : List ℕ) → (more : List (List ℕ)) × (lines (taken ++ rest) ≡ lines_within taken rest ++ more)
+lines_within-front taken [] = ([], ap (λ bs. lines bs) (append-nil taken) ∙ sym (append-nil (lines taken)))
+lines_within-front taken (b ∷ rest) = lines-front taken (b ∷ rest)
+
+-- and those within fewer bytes are a front of those within more
+lines_within-so_far : (taken rest : List ℕ) → (more : List (List ℕ)) × (lines_within taken rest ≡ lines_so_far taken ++ more)
+lines_within-so_far taken [] = (map without_return (unless_empty (unended taken)), refl)
+lines_within-so_far taken (b ∷ rest) = ([], sym (append-nil (lines_so_far taken)))
+
+lines_within-more : (taken next rest : List ℕ) → (more : List (List ℕ)) × (lines_within (taken ++ next) rest ≡ lines_so_far taken ++ more)
+lines_within-more taken next rest =
+    let front = ended_lines-append taken next in
+    let first : lines_so_far (taken ++ next) ≡ lines_so_far taken ++ map without_return front.0 =
+    ap (λ ls. map without_return ls) front.1 ∙ map-append without_return _ front.0 in
+    let within = lines_within-so_far (taken ++ next) rest in (
+      map without_return front.0 ++ within.0,
+      within.1 ∙ ap (λ ls. ls ++ within.0) first ∙ append_assoc (lines_so_far taken) (map without_return front.0) within.0,
+    )
+
+-- so many bytes of the input were read: the lines that ended within the first of them are among those that ended then
+pub AreRead-front : (input : List ℕ) (left : Option (List ℕ)) (n k : ℕ) → left ≡ Some (drop (n + k) input) → AreRead input left (lines_so_far (take n input))
+AreRead-front input left n k is =
+    let both : take (n + k) input ≡ take n input ++ take k (drop n input) = take-add n k input in
+    let within = lines_within-more (take n input) (take k (drop n input)) (drop (n + k) input) in
+    record {
+      read = take (n + k) input;
+      rest = drop (n + k) input;
+      all = take-append-drop (n + k) input;
+      others = is;
+      more = within.0;
+      are = ap (λ bs. lines_within bs (drop (n + k) input)) both ∙ within.1;
+    }
+
+-- the lines that ended within the bytes taken
+pub AreRead-took : (input : List ℕ) (left : Option (List ℕ)) (taken rest : List ℕ) → Took input left taken rest → AreRead input left (lines_within taken rest)
+AreRead-took input left taken rest took = record {
+  read = taken;
+  rest = rest;
+  all = took.all;
+  others = took.others;
+  more = [];
+  are = sym (append-nil (lines_within taken rest));
+}
+
+-- the lines within the bytes taken are the first of all
+pub lines-all : (input taken rest : List ℕ) → taken ++ rest ≡ input → (more : List (List ℕ)) × (lines input ≡ lines_within taken rest ++ more)
+lines-all input taken rest all =
+    let more = lines_within-front taken rest in (more.0, ap (λ bs. lines bs) (sym all) ∙ more.1)
+
+-- its status isn't that of a run that is done, nor that of an input that is too long
+pub stop-other : (tells : Bool) (status : Status) → IsStop tells status →
+    (status ≡ Done → ⊥) × (status ≡ InputLimit → ⊥) × (status ≡ SourceFault → ⊥)
+stop-other tells DiskFault stop = (λ is. cc, λ is. cc, λ is. cc)
+stop-other tells SinkFault stop = (λ is. cc, λ is. cc, λ is. cc)
+stop-other tells OutOfMemory stop = (λ is. cc, λ is. cc, λ is. cc)
+stop-other tells RecordChanged stop = (λ is. cc, λ is. cc, λ is. cc)
+stop-other tells Done stop = absurd stop
+stop-other tells Usage stop = absurd stop
+stop-other tells RefusedStore stop = absurd stop
+stop-other tells SourceFault stop = absurd stop
+stop-other tells InputLimit stop = absurd stop
+
+-- and neither is it where the source failed
+pub end-other : (tells : Bool) (status : Status) → (status ≡ SourceFault) ⊎ IsStop tells status →
+    (status ≡ Done → ⊥) × (status ≡ InputLimit → ⊥)
+end-other tells status (inl fault) = (λ is. cc, λ is. cc)
+end-other tells status (inr stop) = let other = stop-other tells status stop in (other.0, other.1)
+
+-- so many bytes were read
+pub Moved-at : (input : List ℕ) (left : Option (List ℕ)) (n : ℕ) → IsLeft left input n → n ≤ LONGEST_INPUT → Moved (LONGEST_INPUT + 1) input left
+Moved-at input left n at few = record { count = n; few = omega (arith, few); within = at.within; others = at.source }
+
+-- and some of a piece more
+pub Moved-piece : (input : List ℕ) (left : Option (List ℕ)) (n room : ℕ) → n ≤ length input → n + room ≤ LONGEST_INPUT + 1 →
+    Moved room (drop n input) left → Moved (LONGEST_INPUT + 1) input left
+Moved-piece input left n room within fits piece = record {
+  count = n + piece.count;
+  few = omega (arith, fits, piece.few);
+  within = omega (arith, within, piece.within, length-drop n input);
+  others = piece.others ∙ ap (λ bs. Some bs) (drop-drop piece.count n input);
+}
+
+-- the run stopped before the input's end was known
+pub Reads-stop : (input : List ℕ) (left : Option (List ℕ)) (status : Status) → (status ≡ Done → ⊥) → (status ≡ InputLimit → ⊥) →
+    Moved (LONGEST_INPUT + 1) input left → Reads input left status
+Reads-stop input left status going within moved = record { few = moved; whole = λ is. absurd (going is); limit = λ is. absurd (within is) }
+
+end-limit : {A : Type 0} (tells : Bool) (status : Status) → (status ≡ Done) ⊎ IsStop tells status → status ≡ InputLimit → A
+end-limit tells status (inl is) wrong = cc
+end-limit tells status (inr stop) wrong = absurd ((stop-other tells status stop).1 wrong)
+
+-- what was read, where the session came to its end
+pub Reads-end : (tells : Bool) (input : List ℕ) (left : Option (List ℕ)) (status : Status) → length input ≤ LONGEST_INPUT → left ≡ Some [] →
+    (status ≡ Done) ⊎ IsStop tells status → Reads input left status
+Reads-end tells input left status fits source how = record {
+  few = record {
+    count = length input;
+    few = omega (arith, fits);
+    within = omega arith;
+    others = source ∙ ap (λ bs. Some bs)
+        (sym (drop_all (length input) input (omega arith)));
+  };
+  whole = λ _. (fits, source);
+  limit = λ wrong. end-limit tells status how wrong;
+}
+
+pub Reads-limit : (input : List ℕ) (left : Option (List ℕ)) (n : ℕ) → n ≡ LONGEST_INPUT → 0 < length (drop n input) →
+    left ≡ Some (drop 1 (drop n input)) → Reads input left InputLimit
+Reads-limit input left n last some is =
+    let all = is ∙ ap (λ bs. Some bs) (drop-drop 1 n input ∙ ap (λ m. drop (m + 1) input) last) in
+    let longer : LONGEST_INPUT < length input = omega (arith, last, some, length-drop n input) in
+    record {
+      few = record { count = LONGEST_INPUT + 1; few = omega arith; within = omega (arith, longer); others = all };
+      whole = λ wrong. cc;
+      limit = λ _. (longer, all);
+    }

@@ -1,0 +1,133 @@
+-- What sending the rows of a series leaves.
+use Rattle.std.proofs.Common.{◌≡◌, ℕ, ◌+◌, ◌<◌, ◌++◌, List, [], ◌∷◌, length, map, take, Option, Some, None, Result, refl, sym, ap, ◌∙◌, subst, arith}
+use Rattle.std.proofs.lemmas.List.{length-map}
+use Rattle.std.proofs.lemmas.Option.{slice_get-map}
+use Rattle.std.specs.List.{flat_map, slice_get}
+use Rattle.std.specs.Prelude.{is_some, nat_lt, option_map}
+use Rattle.ss_catalog.proofs.SeriesLemmas.{length-rows_of, slice_get-rows_of}
+use Rattle.ss_catalog.specs.Series.{row_count, row_query, row_start, rows_of, whole_query}
+use Rattle.ss_catalog.specs.declared.query.Query.{Query}
+use Rattle.ss_catalog.specs.declared.refusal.Refusal.{Refusal}
+use Rattle.ss_catalog.specs.declared.series.Series.{Series}
+use Rattle.ss_command.specs.declared.command.Command.TheVariants.{Series as AskRows}
+use Rattle.ss_model.proofs.RowLemmas.{row-known, row-taken}
+use Rattle.ss_model.specs.Answers.{outcome_of}
+use Rattle.ss_model.specs.Series.{refuses_series}
+use Rattle.ss_model.specs.State.{Stream, state}
+use Rattle.ss_model.specs.declared.outcome.Outcome.{Outcome}
+use Rattle.ss_report.specs.Text.{reply_line}
+use Rattle.ss_report.specs.declared.reply.Reply.{Reply}
+use Rattle.ss_report.specs.declared.reply.Reply.TheVariants.{SeriesHead, Row}
+use Rattle.ss_store.specs.Asked.{refuses_query_held}
+use Rattle.ss_store.specs.Kept.{StoreState, part_named}
+use Rattle.ss_program.specs.Line.{History, command_brings, refused, row_shown, series_rows, shown, text_brought, unless_refused}
+use Rattle.ss_program.specs.Sent.{appended, AppendsLess, Sends}
+use Rattle.ss_program.proofs.RowLemmas.{AppendsLess-head, Sends-head, rows-all, rows-less, rows-more, unread}
+
+-- rows of which each is answered
+rows-as : (streams : List Stream) (series : Series) (answers : ℕ → Outcome) →
+    ((row : ℕ) → outcome_of streams (row_query series row) ≡ Some (answers row)) → (rows : List ℕ) →
+    flat_map (λ row. row_shown (row_start series row) (outcome_of streams (row_query series row))) rows
+    ≡ map (λ row. Row (row_start series row) (answers row)) rows
+rows-as streams series answers are [] = refl
+rows-as streams series answers are (row ∷ rows) =
+    ap (λ o. row_shown (row_start series row) o ++ flat_map (λ r. row_shown (row_start series r) (outcome_of streams (row_query series r))) rows) (are row)
+    ∙ ap (λ rest. Row (row_start series row) (answers row) ∷ rest) (rows-as streams series answers are rows)
+
+-- so are those of a series that isn't refused
+pub series_rows-map : (streams : List Stream) (series : Series) (answers : ℕ → Outcome) →
+    ((row : ℕ) → outcome_of streams (row_query series row) ≡ Some (answers row)) →
+    series_rows streams series ≡ map (λ row. Row (row_start series row) (answers row)) (rows_of series)
+series_rows-map streams series answers are = rows-as streams series answers are (rows_of series)
+
+module _ (streams : List Stream) (series : Series) (none : refuses_series streams series ≡ None) where
+  are-rows : series_rows streams series ≡ map (λ row. Row (row_start series row) (row-known streams series none row).0) (rows_of series)
+  are-rows = series_rows-map streams series (λ row. (row-known streams series none row).0) (λ row. (row-known streams series none row).1)
+
+  -- there are as many as the head says
+  length-series_rows : length (series_rows streams series) ≡ row_count series
+  length-series_rows =
+      ap (λ (rows : List Reply). length rows) are-rows ∙ length-map (rows_of series) (λ row. Row (row_start series row) (row-known streams series none row).0)
+      ∙ length-rows_of series
+
+  -- and each has the answer to its query
+  slice_get-series_rows : (row : ℕ) (outcome : Outcome) → row < row_count series → outcome_of streams (row_query series row) ≡ Some outcome →
+      slice_get (series_rows streams series) row ≡ Some (Row (row_start series row) outcome)
+  slice_get-series_rows row outcome inside is =
+      let known = row-known streams series none row in
+      let same : known.0 ≡ outcome = cc (known.1, is) in
+      let reply = λ (r : ℕ). Row (row_start series r) (row-known streams series none r).0 in
+      ap (λ (rows : List Reply). slice_get rows row) are-rows ∙ slice_get-map reply (rows_of series) row
+      ∙ ap (λ (o : Option ℕ). option_map reply o) (slice_get-rows_of series row inside)
+      ∙ ap (λ o. Some (Row (row_start series row) o)) same
+
+  row-at : (row : ℕ) (query : Query) (outcome : Outcome) → row < row_count series → query ≡ row_query series row →
+      outcome_of streams query ≡ Some outcome → slice_get (series_rows streams series) row ≡ Some (Row query.from outcome)
+  row-at row query outcome inside q is =
+      slice_get-series_rows row outcome inside (ap (λ p. outcome_of streams p) (sym q) ∙ is) ∙ ap (λ (p : Query). Some (Row p.from outcome)) (sym q)
+
+  -- one row more was sent
+  pub row-sent : (row : ℕ) (query : Query) (outcome : Outcome) (before held after : Option (List ℕ)) → row < row_count series →
+      query ≡ row_query series row → outcome_of streams query ≡ Some outcome →
+      held ≡ appended before (flat_map reply_line (take row (series_rows streams series))) → after ≡ appended held (reply_line (Row query.from outcome)) →
+      after ≡ appended before (flat_map reply_line (take (row + 1) (series_rows streams series)))
+  row-sent row query outcome before held after inside q is so_far sent =
+      rows-more before held after (series_rows streams series) row (Row query.from outcome) (row-at row query outcome inside q is) so_far sent
+
+  -- or less than one more
+  pub row-cut : (row : ℕ) (query : Query) (outcome : Outcome) (before held after : Option (List ℕ)) → row < row_count series →
+      query ≡ row_query series row → outcome_of streams query ≡ Some outcome →
+      held ≡ appended before (flat_map reply_line (take row (series_rows streams series))) → AppendsLess held after (reply_line (Row query.from outcome)) →
+      AppendsLess before after (flat_map reply_line (series_rows streams series))
+  row-cut row query outcome before held after inside q is so_far less =
+      rows-less before held after (series_rows streams series) row (Row query.from outcome) (row-at row query outcome inside q is) so_far less
+
+  -- all rows were sent
+  pub row-end : (row : ℕ) (before held : Option (List ℕ)) → row ≡ row_count series →
+      held ≡ appended before (flat_map reply_line (take row (series_rows streams series))) →
+      held ≡ appended before (flat_map reply_line (series_rows streams series))
+  row-end row before held last so_far =
+      rows-all before held (series_rows streams series) row (omega (arith, last, length-series_rows)) so_far
+
+  -- a row wasn't answered
+  pub row-unread : (row : ℕ) (before held : Option (List ℕ)) → row < row_count series →
+      held ≡ appended before (flat_map reply_line (take row (series_rows streams series))) →
+      AppendsLess before held (flat_map reply_line (series_rows streams series))
+  row-unread row before held inside so_far =
+      unread before held (series_rows streams series) row (omega (arith, inside, length-series_rows)) so_far
+
+-- a series that is refused brings its refusal
+pub brings-refused_series : (history : History) (series : Series) (refusal : Refusal) → refuses_series (state history) series ≡ Some refusal →
+    command_brings history (AskRows series) ≡ refused refusal
+brings-refused_series history series refusal is =
+    ap (λ r. unless_refused r (shown (SeriesHead (row_count series) ∷ series_rows (state history) series))) is
+
+-- and one that isn't brings its head and its rows
+pub brings-series : (history : History) (series : Series) → refuses_series (state history) series ≡ None →
+    command_brings history (AskRows series) ≡ shown (SeriesHead (row_count series) ∷ series_rows (state history) series)
+brings-series history series none =
+    ap (λ r. unless_refused r (shown (SeriesHead (row_count series) ∷ series_rows (state history) series))) none
+
+-- less than the head was sent
+pub series-head : (history : History) (series : Series) (before after : Option (List ℕ)) → refuses_series (state history) series ≡ None →
+    AppendsLess before after (reply_line (SeriesHead (row_count series))) →
+    AppendsLess before after (text_brought (command_brings history (AskRows series)))
+series-head history series before after none less =
+    subst (λ b. AppendsLess before after (text_brought b)) (sym (brings-series history series none))
+    (AppendsLess-head before after (SeriesHead (row_count series)) (series_rows (state history) series) less)
+
+-- or the head, and the rows after it
+pub series-sent : (history : History) (series : Series) (before held after : Option (List ℕ)) {E : Type 0} (sent : Result (Unit {0}) E) →
+    refuses_series (state history) series ≡ None → held ≡ appended before (reply_line (SeriesHead (row_count series))) →
+    Sends held after (flat_map reply_line (series_rows (state history) series)) sent →
+    Sends before after (text_brought (command_brings history (AskRows series))) sent
+series-sent history series before held after sent none first rows =
+    subst (λ b. Sends before after (text_brought b) sent) (sym (brings-series history series none))
+    (Sends-head before held after (SeriesHead (row_count series)) (series_rows (state history) series) sent first rows)
+
+-- a row of a series that isn't refused isn't either, by what is held
+pub row-taken_held : (store : StoreState) (series : Series) (row : ℕ) → 0 < series.step → row < row_count series →
+    refuses_query_held store.streams (whole_query series) ≡ None → refuses_query_held store.streams (row_query series row) ≡ None
+unfolding refuses_query_held
+row-taken_held store series row some inside none =
+    row-taken (is_some (part_named series.name store.streams)) (nat_lt series.to series.from) series row some inside none

@@ -1,0 +1,32 @@
+use Rattle.std.proofs.Common.{Err, ap}
+use Rattle.ss_model.specs.State.{state}
+use Rattle.ss_program.proofs.AnswerLemmas.{Stands-shown}
+use Rattle.ss_program.proofs.series.answer_query.Goals as goal
+
+pub returns-in-Ok-clause-answers : goal.returns-in-Ok-clause-answers
+returns-in-Ok-clause-answers g c =
+    let answers = c.in-Ok.ensures.answers in
+    record {
+      tells = answers.tells;
+      counted = answers.counted;
+      told = λ told. record {
+        answer = λ history stands.
+            let shown = Stands-shown c.args.store.now.records (g.D.Disk.seen c.args.disk.now).told.content history c.requires.open.sealed stands in
+            (answers.told told).answer (state history) shown.state;
+        reads = (answers.told told).reads;
+      };
+    }
+
+pub returns-in-Err-Disk-clause-answers : goal.returns-in-Err-Disk-clause-answers
+returns-in-Err-Disk-clause-answers g c =
+    let answers = rw c.in-Err-Disk.field-0-is at c.in-Err-Disk.ensures.answers in
+    record {
+      tells = answers.tells;
+      counted = answers.counted;
+      told = λ told. record { answer = λ history stands. tt; reads = (answers.told told).reads };
+    }
+
+pub unreachable-requires : goal.unreachable-requires
+unreachable-requires g c =
+    let refused = (c.in-Err-Refused.ensures.refused c.requires.open.serves.runs _).0 (ap (λ e. Err e) c.in-Err-Refused.field-0-is) in
+    cc (refused, c.requires.taken)

@@ -1,0 +1,145 @@
+use Rattle.std.proofs.Common.{◌≡◌, ◌∙◌, ◌<◌, Ok, Err, None, refl, sym, ap, subst, rules, arith}
+use Rattle.std.specs.List.{flat_map}
+use Rattle.std.specs.Prelude.{IsTrue}
+use Rattle.ss_catalog.specs.Series.{row_count, whole_query}
+use Rattle.ss_catalog.specs.declared.series.Series.{Series}
+use Rattle.ss_model.specs.Series.{refuses_series}
+use Rattle.ss_model.specs.State.{state}
+use Rattle.ss_outside.proofs.CrashLemmas.{reads-joined}
+use Rattle.ss_outside.proofs.StepLemmas.{step-then}
+use Rattle.ss_outside.specs.Crash.{OnlyReads}
+use Rattle.ss_outside.specs.Disk.{DiskView}
+use Rattle.ss_outside.specs.Step.{Step}
+use Rattle.ss_outside.specs.Verdict.{Counted, fine, verdict}
+use Rattle.ss_report.specs.Text.{reply_line}
+use Rattle.ss_report.specs.declared.reply.Reply.TheVariants.{Row}
+use Rattle.ss_store.specs.Asked.{refuses_query_held}
+use Rattle.ss_store.specs.Kept.{StoreState}
+use Rattle.ss_store.specs.Recover.{Stands}
+use Rattle.ss_program.specs.Answer.{IsOpen, Shows}
+use Rattle.ss_program.specs.Devices.{over}
+use Rattle.ss_program.specs.Line.{History, series_rows}
+use Rattle.ss_program.specs.Sent.{appended, AppendsLess, Sends}
+use Rattle.ss_program.specs.Series.{IsSeriesText}
+use Rattle.ss_program.specs.Status.{disk_verdict, IsDiskStop}
+use Rattle.ss_program.proofs.AnswerLemmas.{StoreIsIn-open, refuses_query-kept}
+use Rattle.ss_program.proofs.SendLemmas.{appended-nil}
+use Rattle.ss_program.proofs.SeriesLemmas.{row-cut, row-end, row-sent, row-taken_held, row-unread}
+use Rattle.ss_program.proofs.TakesLemmas.{Shows-sent, Shows-stopped, failed-err, less-sent, sends-less, sent-all, still}
+use Rattle.ss_program.proofs.series.send_rows.Goals as goal
+
+-- no history for which the content stands refuses the series
+unrefused : (store : StoreState) (disk : DiskView) (series : Series) → IsOpen disk store → refuses_query_held store.streams (whole_query series) ≡ None →
+    IsTrue disk.tells → (history : History) → Stands history disk.told.content → refuses_series (state history) series ≡ None
+unrefused store disk series opens taken told history stands =
+    refuses_query-kept store disk.told.content history (whole_query series) (StoreIsIn-open disk store opens told) stands ∙ taken
+
+pub loop-row-init : goal.loop-row-init
+loop-row-init g c = record {
+  is_open = c.requires.open;
+  streams = refl;
+  reads = still (g.D.Disk.seen c.args.disk.now);
+  held = λ told history stands. sym (appended-nil (g.K.Sink.held c.args.sink.now));
+  faults = refl;
+}
+
+pub answer_query-requires-clause-taken : goal.answer_query-requires-clause-taken
+answer_query-requires-clause-taken g c =
+    let series = c.args.series.now in
+    let inside : c.loop-row.row < row_count series = subst (λ n. c.loop-row.row < n) c.rows-row-end.ensures c.loop-row-test.true in
+    ap (λ parts. refuses_query_held parts c.row-query.result) c.loop-row.invariant.streams
+    ∙ ap (λ q. refuses_query_held c.args.store.now.streams q) c.row-query.ensures
+    ∙ row-taken_held c.args.store.now series c.loop-row.row c.requires.range.some inside c.requires.taken
+
+pub returns-in_err-outcome : goal.returns-in_err-outcome
+returns-in_err-outcome g c =
+    let old = g.D.Disk.seen c.args.disk.now in
+    let mid = g.D.Disk.seen c.loop-row.disk in
+    let new = g.D.Disk.seen c.answer_query.new.disk in
+    let before = g.K.Sink.held c.args.sink.now in
+    let held = g.K.Sink.held c.loop-row.sink in
+    let had = g.K.Sink.faults c.args.sink.now in
+    let has = g.K.Sink.faults c.loop-row.sink in
+    let series = c.args.series.now in
+    let text = IsSeriesText series in
+    let status = c.in_err-outcome.field-0.0 in
+    let inv = c.loop-row.invariant in
+    let inside : c.loop-row.row < row_count series = subst (λ n. c.loop-row.row < n) c.rows-row-end.ensures c.loop-row-test.true in
+    let reads : Step (disk_verdict status) old new OnlyReads =
+    step-then inv.reads c.in_err-outcome.ensures.answers (λ first second. reads-joined old.told mid.told new.told first second.reads) in
+    let same : c.from_residual.result ≡ Err status = search rules in
+    subst (λ r. Shows text (over old before had) (over new held has) c.answer_query.new.store r) (sym same)
+    (Shows-stopped text old new c.answer_query.new.store before held had has status
+    (subst (λ b. IsDiskStop b status) inv.reads.tells c.in_err-outcome.ensures.status) reads inv.faults
+    (λ told history stands bytes is. subst (λ bs. AppendsLess before held bs) (sym is)
+    (row-unread (state history) series (unrefused c.args.store.now old series c.requires.open c.requires.taken told history stands) c.loop-row.row before held
+    inside (inv.held told history stands))))
+
+pub returns-in_err-at_sink : goal.returns-in_err-at_sink
+returns-in_err-at_sink g c =
+    let old = g.D.Disk.seen c.args.disk.now in
+    let mid = g.D.Disk.seen c.loop-row.disk in
+    let new = g.D.Disk.seen c.answer_query.new.disk in
+    let before = g.K.Sink.held c.args.sink.now in
+    let held = g.K.Sink.held c.loop-row.sink in
+    let after = g.K.Sink.held c.send_reply.new.sink in
+    let had = g.K.Sink.faults c.args.sink.now in
+    let has = g.K.Sink.faults c.send_reply.new.sink in
+    let series = c.args.series.now in
+    let text = IsSeriesText series in
+    let sent = c.send_reply.result in
+    let inv = c.loop-row.invariant in
+    let answered = c.in_ok-outcome.ensures in
+    let outcome = c.in_ok-outcome.outcome in
+    let inside : c.loop-row.row < row_count series = subst (λ n. c.loop-row.row < n) c.rows-row-end.ensures c.loop-row-test.true in
+    let failed = failed-err sent c.in_err-at_sink.field-0.0 c.in_err-at_sink.ensures in
+    let reads : Step fine old new OnlyReads =
+    step-then inv.reads answered.answers (λ first second. reads-joined old.told mid.told new.told first second.reads) in
+    let same : c.from_residual-in_err-at_sink.result ≡ Err c.in_err-at_sink.field-0.0 = search rules in
+    subst (λ r. Shows text (over old before had) (over new after has) c.answer_query.new.store r) (sym (same ∙ c.in_err-at_sink.ensures))
+    (Shows-sent text old new c.answer_query.new.store before after had has sent reads answered.open
+    (subst (λ n. Counted (verdict sent) n has) inv.faults c.send_reply.ensures.counted)
+    (λ told history stands bytes is. subst (λ bs. Sends before after bs sent) (sym is)
+    (sends-less before after (flat_map reply_line (series_rows (state history) series)) sent failed
+    (row-cut (state history) series (unrefused c.args.store.now old series c.requires.open c.requires.taken told history stands) c.loop-row.row
+    c.row-query.result outcome before held after inside c.row-query.ensures
+    ((answered.answers.told (inv.reads.tells ∙ told)).answer history (subst (Stands history) (sym (inv.reads.told told).same.content) stands))
+    (inv.held told history stands)
+    (less-sent held after (reply_line (Row c.row-query.result.from outcome)) sent failed c.send_reply.ensures.sends)))))
+
+pub loop-row-preserved : goal.loop-row-preserved
+loop-row-preserved g c =
+    let old = g.D.Disk.seen c.args.disk.now in
+    let mid = g.D.Disk.seen c.loop-row.disk in
+    let new = g.D.Disk.seen c.answer_query.new.disk in
+    let series = c.args.series.now in
+    let inv = c.loop-row.invariant in
+    let answered = c.in_ok-outcome.ensures in
+    let inside : c.loop-row.row < row_count series = subst (λ n. c.loop-row.row < n) c.rows-row-end.ensures c.loop-row-test.true in
+    let sent = sent-all c.send_reply.result c.in_ok-at_sink.field-0 c.in_ok-at_sink.ensures c.send_reply.ensures in
+    record {
+      is_open = answered.open;
+      streams = answered.streams ∙ inv.streams;
+      reads = step-then inv.reads answered.answers (λ first second. reads-joined old.told mid.told new.told first second.reads);
+      held = λ told history stands.
+          row-sent (state history) series (unrefused c.args.store.now old series c.requires.open c.requires.taken told history stands) c.loop-row.row
+          c.row-query.result c.in_ok-outcome.outcome (g.K.Sink.held c.args.sink.now) (g.K.Sink.held c.loop-row.sink) (g.K.Sink.held c.send_reply.new.sink)
+          inside c.row-query.ensures
+          ((answered.answers.told (inv.reads.tells ∙ told)).answer history (subst (Stands history) (sym (inv.reads.told told).same.content) stands))
+          (inv.held told history stands) sent.0;
+      faults = sent.1 ∙ inv.faults;
+    }
+
+pub returns : goal.returns
+returns g c =
+    let old = g.D.Disk.seen c.args.disk.now in
+    let series = c.args.series.now in
+    let inv = c.loop-row.invariant in
+    let before = g.K.Sink.held c.args.sink.now in
+    let held = g.K.Sink.held c.loop-row.sink in
+    let last : c.loop-row.row ≡ row_count series = omega (arith, c.rows-row-end.ensures) in
+    Shows-sent (IsSeriesText series) old (g.D.Disk.seen c.loop-row.disk) c.loop-row.store before held (g.K.Sink.faults c.args.sink.now)
+    (g.K.Sink.faults c.loop-row.sink) (Ok tt) inv.reads inv.is_open inv.faults
+    (λ told history stands bytes is. subst (λ bs. held ≡ appended before bs) (sym is)
+    (row-end (state history) series (unrefused c.args.store.now old series c.requires.open c.requires.taken told history stands) c.loop-row.row before held
+    last (inv.held told history stands)))

@@ -1,0 +1,93 @@
+// Shows a series: each of its rows is asked by itself, one after another.
+ghost use Rattle.std.specs.Prelude.{◌≡◌, None, IfErr, OnOk};
+ghost use Rattle.ss_catalog.specs.Series.{IsSeriesInRange, whole_query};
+ghost use Rattle.ss_command.specs.declared.command.Command.TheVariants.{Series as AskRows};
+ghost use Rattle.ss_outside.specs.Step.{Step};
+ghost use Rattle.ss_store.specs.Asked.{refuses_query_held};
+ghost use Rattle.ss_program.specs.Answer.{IsOpen, IsTextBrought, Shows};
+ghost use Rattle.ss_program.specs.Devices.{over};
+ghost use Rattle.ss_program.specs.Series.{AnswersQuery, IsSeriesText};
+ghost use Rattle.ss_program.specs.Status.{disk_verdict, ended, IsDiskStop};
+
+use crate::answer::{at_sink, send_reply};
+use crate::status::Status;
+use ss_catalog::{Query, Refusal, Series};
+use ss_model::Outcome;
+use ss_outside::{Disk, Sink};
+use ss_report::Reply;
+use ss_store::{AskError, Store};
+
+// Why a series is refused, where it is.
+fn refusal_of(store: &Store, series: &Series) -> Option<Refusal>
+    ensures { result ≡ refuses_query_held store.now.streams (whole_query series.now) }
+{
+    if store.find(&series.name).is_none() {
+        return Some(Refusal::Unknown);
+    }
+    if series.to < series.from {
+        return Some(Refusal::Range);
+    }
+    None
+}
+
+// Asks a query that isn't refused.
+fn answer_query<D: Disk>(store: &mut Store, query: &Query, disk: &mut D) -> Result<Outcome, Status>
+    requires open { IsOpen (D.seen disk.old) store.old }
+    requires taken { refuses_query_held store.old.streams query.now ≡ None }
+    ensures answers { Step (disk_verdict (ended result)) (D.seen disk.old) (D.seen disk.new) (AnswersQuery query.now result) }
+    ensures streams { store.new.streams ≡ store.old.streams }
+    ensures open { OnOk result (IsOpen (D.seen disk.new) store.new) }
+    ensures status { IfErr result (IsDiskStop (D.seen disk.old).tells) }
+{
+    match store.ask(disk, query) {
+        Ok(outcome) => Ok(outcome),
+        Err(AskError::Disk) => Err(Status::DiskFault),
+        Err(AskError::Changed { .. }) => Err(Status::RecordChanged),
+        Err(AskError::Refused(_)) => unreachable!(),
+        Err(AskError::Stopped) => unreachable!(),
+    }
+}
+
+// Sends the rows of a series, in order.
+fn send_rows<D: Disk, K: Sink>(
+    store: &mut Store,
+    series: &Series,
+    disk: &mut D,
+    sink: &mut K,
+) -> Result<(), Status>
+    requires range { IsSeriesInRange series.now }
+    requires open { IsOpen (D.seen disk.old) store.old }
+    requires taken { refuses_query_held store.old.streams (whole_query series.now) ≡ None }
+    ensures { Shows (IsSeriesText series.now) (over (D.seen disk.old) (K.held sink.old) (K.faults sink.old))
+        (over (D.seen disk.new) (K.held sink.new) (K.faults sink.new)) store.new result }
+{
+    for row in 0..series.rows() {
+        let query = series.row(row);
+        let outcome = answer_query(store, &query, disk)?;
+        let reply = Reply::Row {
+            at: query.from,
+            outcome,
+        };
+        at_sink(send_reply(&reply, sink))?;
+    }
+    Ok(())
+}
+
+/// Shows the rows of a series, or why it is refused.
+pub fn show_series<D: Disk, K: Sink>(
+    store: &mut Store,
+    series: &Series,
+    disk: &mut D,
+    sink: &mut K,
+) -> Result<(), Status>
+    requires range { IsSeriesInRange series.now }
+    requires open { IsOpen (D.seen disk.old) store.old }
+    ensures { Shows (IsTextBrought (AskRows series.now)) (over (D.seen disk.old) (K.held sink.old) (K.faults sink.old))
+        (over (D.seen disk.new) (K.held sink.new) (K.faults sink.new)) store.new result }
+{
+    if let Some(refusal) = refusal_of(store, series) {
+        return at_sink(send_reply(&Reply::Refused(refusal), sink));
+    }
+    at_sink(send_reply(&Reply::SeriesHead(series.rows()), sink))?;
+    send_rows(store, series, disk, sink)
+}

@@ -1,0 +1,156 @@
+// A session whose events share seals: the lines of a piece are done in memory, and then all comes to the disk together.
+ghost use Rattle.std.specs.Prelude.{◌≡◌, ◌⊎◌, ◌↔◌, ◌<◌, ◌≤◌, [], true, length, take, Some, IsSome, IfOk, IfErr, OnOk};
+ghost use Rattle.std.specs.Option.{option_copied};
+ghost use Rattle.ss_command.specs.LineState.{under_way};
+ghost use Rattle.ss_outside.specs.Step.{Step};
+ghost use Rattle.ss_outside.specs.Verdict.{Counted};
+ghost use Rattle.ss_program.specs.Answer.{IsOpen, IsServing};
+ghost use Rattle.ss_program.specs.Progress.{EndsSession, TakesPiece};
+ghost use Rattle.ss_program.specs.Shared.{TakesBytes, TakesLast, amid};
+ghost use Rattle.ss_program.specs.Status.{disk_verdict, ended, sink_verdict, IsStop};
+
+use crate::each::line_of;
+use crate::replies::Replies;
+use crate::staging::{flush, stage_line};
+use crate::status::Status;
+use ss_command::LineReader;
+use ss_outside::{Disk, Sink};
+use ss_store::Store;
+
+// Takes bytes of a piece up to and with its first line end, does what the line says that ended, and answers how many bytes it took.
+fn advance_shared<D: Disk, K: Sink>(
+    store: &mut Store,
+    reader: &mut LineReader,
+    waiting: &mut Replies,
+    piece: &[u8],
+    disk: &mut D,
+    sink: &mut K,
+) -> Result<usize, Status>
+    requires some { 0 < length piece.now }
+    requires serves { IsServing (D.seen disk.old) store.old }
+    ensures takes { Step (disk_verdict (ended result)) (D.seen disk.old) (D.seen disk.new)
+        (TakesBytes (λ count. take count piece.now) piece.now (under_way reader.old) (under_way reader.new)
+        (amid store.old.records waiting.old (K.held sink.old)) (amid store.new.records waiting.new (K.held sink.new)) result) }
+    ensures count { IfOk result (λ count. (0 < count) × (count ≤ length piece.now)) }
+    ensures serves { OnOk result (IsServing (D.seen disk.new) store.new) }
+    ensures status { IfErr result (IsStop (D.seen disk.old).tells) }
+    ensures counted { Counted (sink_verdict (ended result)) (K.faults sink.old) (K.faults sink.new) }
+{
+    let (count, ended) = reader.feed(piece);
+    match ended {
+        None => Ok(count),
+        Some(ended) => {
+            stage_line(store, waiting, line_of(reader, ended), disk, sink)?;
+            Ok(count)
+        }
+    }
+}
+
+// Takes a piece of the input, and does what each line says that ends in it.
+fn take_piece<D: Disk, K: Sink>(
+    store: &mut Store,
+    reader: &mut LineReader,
+    waiting: &mut Replies,
+    piece: &[u8],
+    disk: &mut D,
+    sink: &mut K,
+) -> Result<(), Status>
+    requires { IsServing (D.seen disk.old) store.old }
+    ensures takes { Step (disk_verdict (ended result)) (D.seen disk.old) (D.seen disk.new)
+        (TakesBytes (λ _. piece.now) piece.now (under_way reader.old) (under_way reader.new)
+        (amid store.old.records waiting.old (K.held sink.old)) (amid store.new.records waiting.new (K.held sink.new)) result) }
+    ensures serves { OnOk result (IsServing (D.seen disk.new) store.new) }
+    ensures status { IfErr result (IsStop (D.seen disk.old).tells) }
+    ensures counted { Counted (sink_verdict (ended result)) (K.faults sink.old) (K.faults sink.new) }
+{
+    let mut done = 0;
+    while done < piece.len() {
+        done += advance_shared(store, reader, waiting, &piece[done..], disk, sink)?;
+    }
+    Ok(())
+}
+
+/// Takes a piece of the input, and does what each line says that ends in it. Then all of it is brought to the disk, and the replies
+/// to these lines are sent. At an error the run stopped at one of these lines, and the session is of no more use.
+pub fn take_shared<D: Disk, K: Sink>(
+    store: &mut Store,
+    reader: &mut LineReader,
+    waiting: &mut Replies,
+    piece: &[u8],
+    disk: &mut D,
+    sink: &mut K,
+) -> Result<(), Status>
+    requires { IsOpen (D.seen disk.old) store.old }
+    ensures takes { Step (disk_verdict (ended result)) (D.seen disk.old) (D.seen disk.new)
+        (TakesPiece (λ _. piece.now) piece.now (record { store = store.old; line = under_way reader.old; waiting = Some waiting.old })
+        (record { store = store.new; line = under_way reader.new; waiting = Some waiting.new }) (K.held sink.old) (K.held sink.new) result) }
+    ensures open { OnOk result (IsOpen (D.seen disk.new) store.new) }
+    ensures status { IfErr result (IsStop (D.seen disk.old).tells) }
+    ensures counted { Counted (sink_verdict (ended result)) (K.faults sink.old) (K.faults sink.new) }
+{
+    take_piece(store, reader, waiting, piece, disk, sink)?;
+    flush(store, waiting, disk, sink)
+}
+
+// Ends the last line of the input, if it has bytes, and does what it says.
+fn take_last<D: Disk, K: Sink>(
+    store: &mut Store,
+    reader: &mut LineReader,
+    waiting: &mut Replies,
+    disk: &mut D,
+    sink: &mut K,
+) -> Result<(), Status>
+    requires { IsServing (D.seen disk.old) store.old }
+    ensures takes { Step (disk_verdict (ended result)) (D.seen disk.old) (D.seen disk.new)
+        (TakesLast (under_way reader.old) (amid store.old.records waiting.old (K.held sink.old))
+        (amid store.new.records waiting.new (K.held sink.new)) result) }
+    ensures serves { OnOk result (IsServing (D.seen disk.new) store.new) }
+    ensures status { IfErr result (IsStop (D.seen disk.old).tells) }
+    ensures counted { Counted (sink_verdict (ended result)) (K.faults sink.old) (K.faults sink.new) }
+{
+    match reader.finish() {
+        None => Ok(()),
+        Some(ended) => stage_line(store, waiting, line_of(reader, ended), disk, sink),
+    }
+}
+
+// Ends the last line of the input, and then brings all to the disk and sends what waits.
+fn end_lines<D: Disk, K: Sink>(
+    store: &mut Store,
+    reader: &mut LineReader,
+    waiting: &mut Replies,
+    disk: &mut D,
+    sink: &mut K,
+) -> Result<(), Status>
+    requires { IsServing (D.seen disk.old) store.old }
+    ensures takes { Step (disk_verdict (ended result)) (D.seen disk.old) (D.seen disk.new)
+        (TakesLast (under_way reader.old) (amid store.old.records waiting.old (K.held sink.old))
+        (amid store.new.records waiting.new (K.held sink.new)) result) }
+    ensures open { OnOk result (IsOpen (D.seen disk.new) store.new) }
+    ensures none { OnOk result (waiting.new ≡ []) }
+    ensures status { IfErr result (IsStop (D.seen disk.old).tells) }
+    ensures counted { Counted (sink_verdict (ended result)) (K.faults sink.old) (K.faults sink.new) }
+{
+    take_last(store, reader, waiting, disk, sink)?;
+    flush(store, waiting, disk, sink)
+}
+
+/// Ends the input: does what a last line says that no line end ended, brings all to the disk and sends the replies that wait.
+pub fn finish_shared<D: Disk, K: Sink>(
+    store: &mut Store,
+    reader: &mut LineReader,
+    waiting: &mut Replies,
+    disk: &mut D,
+    sink: &mut K,
+) -> Status
+    requires { IsOpen (D.seen disk.old) store.old }
+    ensures ends { Step (disk_verdict result) (D.seen disk.old) (D.seen disk.new)
+        (EndsSession (record { store = store.old; line = under_way reader.old; waiting = Some waiting.old }) (K.held sink.old) (K.held sink.new) result) }
+    ensures status { (result ≡ Status.Done) ⊎ IsStop (D.seen disk.old).tells result }
+    ensures counted { Counted (sink_verdict result) (K.faults sink.old) (K.faults sink.new) }
+{
+    match end_lines(store, reader, waiting, disk, sink) {
+        Ok(()) => Status::Done,
+        Err(status) => status,
+    }
+}
