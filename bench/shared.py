@@ -38,6 +38,11 @@ def judged(figure, most):
     return f"{most}, {'met' if figure <= most else 'MISSED'}"
 
 
+def judged_least(figure, least):
+    """What is the least that a figure may be, and whether that was met."""
+    return f"{least}, {'met' if figure >= least else 'MISSED'}"
+
+
 class Run:
     """A run of the program: its wall time, its processor time beside system calls in seconds, and its report. The input and the
     output are files in memory. Where a number of replies is given, there have to be as many, and each has to be an `ok`."""
