@@ -1,6 +1,6 @@
 -- What the code holds of whole numbers in 128 bits is these numbers.
 use Rattle.std.specs.Prelude.{◌≡◌, ℕ, ◌-◌, ◌^◌, ◌<◌, ◌≤◌, ℤ, pos, ◌-ℤ◌, ◌*ℤ◌, FitsSigned, unsigned_abs}
-use Rattle.std.specs.Int.{w64, w128, int_min, int_max}
+use Rattle.std.specs.Int.{w64, w128, int_max}
 use Rattle.std.proofs.Common.{ap, ap₂, arith, ◌∙◌, subst, sym}
 use Rattle.std.proofs.lemmas.Int.{ints, clamps, to_z-of_z}
 use Rattle.ss_bounds.specs.Split.{SplitFigures, IsSplit, low_sum}
@@ -111,14 +111,3 @@ computed-missing s split count_held max_held missing count_is max_is missing_is 
     let order = split.order in
     let rest = minus-times s.count 1 s.max (omega (arith, split.count_low)) in
     omega (arith, ints)
-
--- what the code computes of four results is the least of them
-pub computed-least : (a b p q ends crossing least : ℤ) → FitsSigned w128 a → FitsSigned w128 b → FitsSigned w128 p → FitsSigned w128 q
-    → FitsSigned w128 ends → FitsSigned w128 crossing → FitsSigned w128 least
-    → ends ≡ int_min (held a) (held b) → crossing ≡ int_min (held p) (held q) → least ≡ int_min (held ends) (held crossing)
-    → held least ≡ int_min (int_min a b) (int_min p q)
-computed-least a b p q ends crossing least a_fits b_fits p_fits q_fits ends_fit crossing_fits least_fits ends_is crossing_is least_is =
-    let first = ends_is ∙ ap₂ int_min (to_z-of_z w128 a a_fits) (to_z-of_z w128 b b_fits) in
-    let second = crossing_is ∙ ap₂ int_min (to_z-of_z w128 p p_fits) (to_z-of_z w128 q q_fits) in
-    let both = ap₂ int_min (to_z-of_z w128 ends ends_fit ∙ first) (to_z-of_z w128 crossing crossing_fits ∙ second) in
-    to_z-of_z w128 least least_fits ∙ least_is ∙ both

@@ -1,7 +1,10 @@
 pub mod Numbers
 pub mod Held
+pub mod StraightLemmas
 pub mod LineLemmas
 pub mod LeastLemmas
+pub mod AttainedLemmas
+pub mod PartedLemmas
 pub mod EitherLemmas
 pub mod TimeLemmas
 pub mod TruthLemmas

@@ -27,17 +27,11 @@ minus-times c x a within =
     let sum = plus-times x (c - x) a in
     omega (arith, ints)
 
--- more of a number that isn't below zero is no less, and of one that isn't above zero no more
+-- more of a number that isn't below zero is no less
 pub more-times : (x y : ℕ) (a : ℤ) → x ≤ y → pos 0 ≤ℤ a → (pos x *ℤ a) ≤ℤ (pos y *ℤ a)
 more-times x y a order high =
     let rest = minus-times y x a order in
     let scaled = times-le-times (y - x) (pos 0) a high in
-    omega (arith, ints)
-
-pub more-times_negative : (x y : ℕ) (a : ℤ) → x ≤ y → a ≤ℤ pos 0 → (pos y *ℤ a) ≤ℤ (pos x *ℤ a)
-more-times_negative x y a order low =
-    let rest = minus-times y x a order in
-    let scaled = times-le-times (y - x) a (pos 0) low in
     omega (arith, ints)
 
 -- a product of at most 2^40 and a number of 64 bits is far within 128 bits

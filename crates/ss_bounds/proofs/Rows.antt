@@ -1,10 +1,12 @@
 -- Worked rows, each computed.
 use Rattle.std.specs.Prelude.{◌≡◌, ◌^◌, ℕ, true, not, ℤ, pos, negsuc, [], ◌∷◌, map, None, Some}
-use Rattle.std.proofs.Common.{arith, lit≤, refl}
+use Rattle.std.proofs.Common.{arith, inl, inr, lit≤, refl}
 use Rattle.std.proofs.lemmas.Int.{ints}
 use Rattle.ss_bounds.specs.declared.split.TheConstants.{MOST_VALUES, MOST_TIMES}
 use Rattle.ss_bounds.specs.declared.extreme.Extreme.TheVariants.{Nothing, Sure, Maybe}
 use Rattle.ss_bounds.specs.Split.{SplitFigures, count_interval, low_sum, high_sum, sum_interval}
+use Rattle.ss_bounds.specs.Attained.{first_at, least_sum_at, greatest_sum_at, IsFirstLeast, IsFirstGreatest}
+use Rattle.ss_bounds.specs.Parted.{CanMake, CanHoldLeast, CanHoldGreatest, CanBeParted}
 use Rattle.ss_bounds.specs.Times.{lies_in, split_of}
 use Rattle.ss_bounds.specs.Truth.{asked, Holds, RiseFree, AreSplit}
 use Rattle.ss_bounds.specs.Extremes.{min_interval, max_interval}
@@ -211,3 +213,156 @@ RiseFree-crowded = (
   omega (arith, ints),
   (lit≤ tt, refl, omega (arith, ints), omega (arith, ints), tt),
 )
+
+-- the least numbers of values with the least and with the greatest sum of all
+abbrev ends_at : SplitFigures → ℕ × ℕ
+ends_at s = (least_sum_at s, greatest_sum_at s)
+
+ends_at-four : map ends_at (four 1 15 14 ∷ four 0 11 18 ∷ two ∷ crowded ∷ landmark ∷ []) ≡ (2, 2) ∷ (2, 2) ∷ (1, 1) ∷ (2, 2) ∷ (0, 0) ∷ []
+unfolding sum_interval least_sum_at greatest_sum_at
+ends_at-four = refl
+
+-- four values, of which 1 to 3 may lie in the range
+abbrev some_of : ℤ → ℤ → ℤ → SplitFigures
+some_of sum min max = record { count = 4; sum = sum; min = min; max = max; ends = 1; inside = 9; outside = 9 }
+
+-- from -3 to 9 the lines of the least sum cross at 2 where the sum is 12, just before with 13 and just after with 11
+ends_at-whole : map ends_at (some_of (pos 11) (negsuc 2) (pos 9) ∷ some_of (pos 12) (negsuc 2) (pos 9) ∷ some_of (pos 13) (negsuc 2) (pos 9) ∷ [])
+    ≡ (2, 2) ∷ (2, 2) ∷ (2, 2) ∷ []
+unfolding sum_interval least_sum_at greatest_sum_at
+ends_at-whole = refl
+
+-- from -4 to 8 they cross between 1 and 2: with the sum 11 two values have the least sum alone, with 12 one value has it too,
+-- and with 13 one alone
+abbrev tie : ℤ → SplitFigures
+tie sum = some_of sum (negsuc 3) (pos 8)
+
+sums-tie : map (sums (tie (pos 12))) (1 ∷ 2 ∷ 3 ∷ []) ≡ (negsuc 3, pos 8) ∷ (negsuc 3, pos 16) ∷ (pos 4, pos 16) ∷ []
+sums-tie = refl
+
+ends_at-tie : map ends_at (tie (pos 11) ∷ tie (pos 12) ∷ tie (pos 13) ∷ []) ≡ (2, 2) ∷ (1, 2) ∷ (1, 3) ∷ []
+unfolding sum_interval least_sum_at greatest_sum_at
+ends_at-tie = refl
+
+-- where no value is above 0 the least sum stays the same after the crossing point, and where none is below before it
+ends_at-none_above : map ends_at (some_of (negsuc 3) (negsuc 2) (pos 0) ∷ some_of (negsuc 5) (negsuc 2) (pos 0) ∷ []) ≡ (2, 1) ∷ (2, 1) ∷ []
+unfolding sum_interval least_sum_at greatest_sum_at
+ends_at-none_above = refl
+
+ends_at-none_below : map ends_at (some_of (pos 9) (pos 0) (pos 4) ∷ some_of (pos 8) (pos 0) (pos 4) ∷ []) ≡ (1, 3) ∷ (1, 2) ∷ []
+unfolding sum_interval least_sum_at greatest_sum_at
+ends_at-none_below = refl
+
+-- equal values, above 0, at 0 and below it
+ends_at-equal : map ends_at (some_of (pos 20) (pos 5) (pos 5) ∷ some_of (pos 0) (pos 0) (pos 0) ∷ some_of (negsuc 19) (negsuc 4) (negsuc 4) ∷ [])
+    ≡ (1, 3) ∷ (1, 1) ∷ (3, 1) ∷ []
+unfolding sum_interval least_sum_at greatest_sum_at
+ends_at-equal = refl
+
+-- ten values from -1 to 1 with the sum -4, whose least sums cross at 7 and whose greatest at 3, and with the sum 4, where it is
+-- the other way round: 0 to 2 of them in the range, and 8 or 9
+abbrev ten : ℤ → ℕ → ℕ → ℕ → SplitFigures
+ten sum ends inside outside = record { count = 10; sum = sum; min = negsuc 0; max = pos 1; ends = ends; inside = inside; outside = outside }
+
+ends_at-ten_few : map ends_at (ten (negsuc 3) 0 2 8 ∷ ten (pos 4) 0 2 8 ∷ []) ≡ (2, 2) ∷ (2, 2) ∷ []
+unfolding sum_interval least_sum_at greatest_sum_at
+ends_at-ten_few = refl
+
+ends_at-ten_many : map ends_at (ten (negsuc 3) 1 8 1 ∷ ten (pos 4) 1 8 1 ∷ []) ≡ (8, 8) ∷ (8, 8) ∷ []
+unfolding sum_interval least_sum_at greatest_sum_at
+ends_at-ten_many = refl
+
+ends_at-furthest : ends_at (extreme (negsuc 0) (negsuc 9223372036854775807)) ≡ (1, 1)
+unfolding sum_interval least_sum_at greatest_sum_at
+ends_at-furthest = refl
+
+-- a value that a function doesn't have is sought up to the end
+first_at-none : first_at pos (pos 9) 4 3 ≡ 7
+first_at-none = refl
+
+-- of two numbers that attain the least or the greatest sum the second isn't the first one, and one that doesn't attain it isn't
+first-tie_least : IsFirstLeast (low_sum (tie (pos 12))) 1 3 2 → ⊥
+first-tie_least is = omega (arith, ints, is.first 1 (lit≤ tt) (lit≤ tt))
+
+first-not_least : IsFirstLeast (low_sum (tie (pos 11))) 1 3 1 → ⊥
+first-not_least is = omega (arith, ints, is.at_most 2 (lit≤ tt) (lit≤ tt))
+
+first-tie_greatest : IsFirstGreatest (high_sum (tie (pos 12))) 1 3 3 → ⊥
+first-tie_greatest is = omega (arith, ints, is.first 2 (lit≤ tt) (lit≤ tt))
+
+first-not_greatest : IsFirstGreatest (high_sum (tie (pos 11))) 1 3 1 → ⊥
+first-not_greatest is = omega (arith, ints, is.at_least 2 (lit≤ tt) (lit≤ tt))
+
+-- nor is one outside the range
+first-below_least : IsFirstLeast (low_sum (tie (pos 12))) 2 3 1 → ⊥
+first-below_least is = omega (arith, is.from)
+
+first-above_least : IsFirstLeast (low_sum (tie (pos 11))) 0 1 2 → ⊥
+first-above_least is = omega (arith, is.to)
+
+first-below_greatest : IsFirstGreatest (high_sum (tie (pos 12))) 3 3 2 → ⊥
+first-below_greatest is = omega (arith, is.from)
+
+first-above_greatest : IsFirstGreatest (high_sum (tie (pos 12))) 0 1 2 → ⊥
+first-above_greatest is = omega (arith, is.to)
+
+-- two values from -3 to 8 can have any sum from -6 to 16
+CanMake-lowest : CanMake (negsuc 2) (pos 8) 2 (negsuc 5)
+CanMake-lowest = record { low = omega (arith, ints); high = omega (arith, ints) }
+
+CanMake-highest : CanMake (negsuc 2) (pos 8) 2 (pos 16)
+CanMake-highest = record { low = omega (arith, ints); high = omega (arith, ints) }
+
+CanMake-below : CanMake (negsuc 2) (pos 8) 2 (negsuc 6) → ⊥
+CanMake-below is = omega (arith, ints, is.low)
+
+CanMake-above : CanMake (negsuc 2) (pos 8) 2 (pos 17) → ⊥
+CanMake-above is = omega (arith, ints, is.high)
+
+-- with -3 among them up to 5, and with 8 among them from 5 on; no values hold neither
+CanHoldLeast-highest : CanHoldLeast (negsuc 2) (pos 8) 2 (pos 5)
+CanHoldLeast-highest = record { some = lit≤ tt; high = omega (arith, ints) }
+
+CanHoldLeast-above : CanHoldLeast (negsuc 2) (pos 8) 2 (pos 6) → ⊥
+CanHoldLeast-above is = omega (arith, ints, is.high)
+
+CanHoldLeast-one : CanHoldLeast (negsuc 2) (pos 8) 1 (negsuc 2)
+CanHoldLeast-one = record { some = lit≤ tt; high = omega (arith, ints) }
+
+CanHoldLeast-none : CanHoldLeast (negsuc 2) (pos 8) 0 (negsuc 2) → ⊥
+CanHoldLeast-none is = omega (arith, is.some)
+
+CanHoldGreatest-lowest : CanHoldGreatest (negsuc 2) (pos 8) 2 (pos 5)
+CanHoldGreatest-lowest = record { some = lit≤ tt; low = omega (arith, ints) }
+
+CanHoldGreatest-below : CanHoldGreatest (negsuc 2) (pos 8) 2 (pos 4) → ⊥
+CanHoldGreatest-below is = omega (arith, ints, is.low)
+
+CanHoldGreatest-one : CanHoldGreatest (negsuc 2) (pos 8) 1 (pos 8)
+CanHoldGreatest-one = record { some = lit≤ tt; low = omega (arith, ints) }
+
+CanHoldGreatest-none : CanHoldGreatest (negsuc 2) (pos 8) 0 (pos 8) → ⊥
+CanHoldGreatest-none is = omega (arith, is.some)
+
+-- of the four values above not all can be inside, one can't have the sum -4, and one outside can't have 9
+CanBeParted-all : CanBeParted (four 1 15 14) 4 (pos 11) → ⊥
+CanBeParted-all is = omega (arith, is.few)
+
+CanBeParted-inside : CanBeParted (four 1 15 14) 1 (negsuc 3) → ⊥
+CanBeParted-inside is = omega (arith, ints, is.inside.low)
+
+CanBeParted-outside : CanBeParted (four 1 15 14) 3 (pos 2) → ⊥
+CanBeParted-outside is = omega (arith, ints, is.outside.high)
+
+-- two values whose sum needs the greatest alone, or the least alone, can't have the other one on either side
+CanBeParted-no_least : CanBeParted (record { count = 2; sum = pos 16; min = negsuc 2; max = pos 8; ends = 1; inside = 0; outside = 0 }) 1 (pos 8) → ⊥
+CanBeParted-no_least is = elim is.least [
+  | inl inside ↦ omega (arith, ints, inside.high)
+  | inr outside ↦ omega (arith, ints, outside.high)
+]
+
+CanBeParted-no_greatest : CanBeParted (record { count = 2; sum = negsuc 5; min = negsuc 2; max = pos 8; ends = 1; inside = 0; outside = 0 }) 1 (negsuc 2) → ⊥
+CanBeParted-no_greatest is = elim is.greatest [
+  | inl inside ↦ omega (arith, ints, inside.low)
+  | inr outside ↦ omega (arith, ints, outside.low)
+]

@@ -1,6 +1,8 @@
 // Laws, each the contract of a function that does nothing.
-ghost use Rattle.std.specs.Prelude.{◌≡◌, ℕ, ◌+◌, ◌-◌, max, min, Bool, ℤ, ◌≤ℤ◌, List, ◌∷◌, Option};
-ghost use Rattle.ss_bounds.specs.Split.{SplitFigures, sum_interval};
+ghost use Rattle.std.specs.Prelude.{◌≡◌, ℕ, ◌+◌, ◌-◌, ◌≤◌, max, min, Bool, ℤ, ◌≤ℤ◌, List, ◌∷◌, Option};
+ghost use Rattle.ss_bounds.specs.Split.{SplitFigures, IsSplit, least_count, greatest_count, low_sum, high_sum, sum_interval};
+ghost use Rattle.ss_bounds.specs.Attained.{IsFirstGreatest, IsFirstLeast, greatest_sum_at, least_sum_at};
+ghost use Rattle.ss_bounds.specs.Parted.{CanBeParted};
 ghost use Rattle.ss_bounds.specs.Times.{times, times_inside, times_outside};
 ghost use Rattle.ss_bounds.specs.Extremes.{min_interval, max_interval};
 ghost use Rattle.ss_bounds.specs.Either.{greater, greatest_in, least_in, lesser};
@@ -31,4 +33,23 @@ pub fn extremes_hold_the_truth()
         → Holds (min_interval exact (windows_of windows)) (lesser exact (least_in (values_of_all windows))) }
     ensures greatest { (exact : Option ℤ) (windows : List (SplitFigures × List ℤ)) → MayAllLieThere windows
         → Holds (max_interval exact (windows_of windows)) (greater exact (greatest_in (values_of_all windows))) }
+{}
+
+/// The ends of the interval of sums are attained, at the numbers of values that `least_sum_at` and `greatest_sum_at` give and
+/// at no lesser one of those that may lie in the range.
+pub fn ends_of_sums_are_attained()
+    ensures least { (s : SplitFigures) → IsSplit s → low_sum s (least_sum_at s) ≡ (sum_interval s).0 }
+    ensures least_first { (s : SplitFigures) → IsSplit s
+        → IsFirstLeast (low_sum s) (least_count s) (greatest_count s) (least_sum_at s) }
+    ensures greatest { (s : SplitFigures) → IsSplit s → high_sum s (greatest_sum_at s) ≡ (sum_interval s).1 }
+    ensures greatest_first { (s : SplitFigures) → IsSplit s
+        → IsFirstGreatest (high_sum s) (least_count s) (greatest_count s) (greatest_sum_at s) }
+{}
+
+/// For each number of values that may lie in the range, the window's values can be parted with the least sum of so many inside,
+/// and with the greatest.
+pub fn values_can_be_parted()
+    ensures order { (s : SplitFigures) (x : ℕ) → IsSplit s → x ≤ greatest_count s → low_sum s x ≤ℤ high_sum s x }
+    ensures least { (s : SplitFigures) (x : ℕ) → IsSplit s → x ≤ greatest_count s → CanBeParted s x (low_sum s x) }
+    ensures greatest { (s : SplitFigures) (x : ℕ) → IsSplit s → x ≤ greatest_count s → CanBeParted s x (high_sum s x) }
 {}

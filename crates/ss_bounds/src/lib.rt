@@ -1,6 +1,7 @@
 //! What a window that a range splits says of its values in the range: intervals that hold the true answer.
 #![tactic(auto)]
 
+mod attained;
 mod bounds;
 mod extreme;
 mod extremes;
@@ -8,8 +9,12 @@ mod laws;
 mod lines;
 mod split;
 
+pub use attained::{greatest_sum_at, least_sum_at};
 pub use bounds::{count_bounds, sum_bounds};
 pub use extreme::Extreme;
 pub use extremes::{greater, lesser, max_bounds, min_bounds};
-pub use laws::{extremes_hold_the_truth, free_times_are_parted, split_windows_hold_the_truth};
+pub use laws::{
+    ends_of_sums_are_attained, extremes_hold_the_truth, free_times_are_parted,
+    split_windows_hold_the_truth, values_can_be_parted,
+};
 pub use split::{MOST_TIMES, MOST_VALUES, Split};

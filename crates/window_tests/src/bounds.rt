@@ -1,7 +1,8 @@
 // Worked rows: windows of a few values, and the edges of 64 bits.
 use ss_bounds::{
-    Extreme, MOST_TIMES, MOST_VALUES, Split, count_bounds, extremes_hold_the_truth,
-    free_times_are_parted, max_bounds, min_bounds, split_windows_hold_the_truth, sum_bounds,
+    Extreme, MOST_TIMES, MOST_VALUES, Split, count_bounds, ends_of_sums_are_attained,
+    extremes_hold_the_truth, free_times_are_parted, greatest_sum_at, least_sum_at, max_bounds,
+    min_bounds, split_windows_hold_the_truth, sum_bounds, values_can_be_parted,
 };
 use ss_summary::{LATEST_TIME, Summary};
 
@@ -102,6 +103,90 @@ fn counts_and_sums(rt: HostRuntime) {
     }
 }
 
+// The least numbers of values with the least and with the greatest sum of all.
+const ATTAINED: [(Window, (u64, u64)); 8] = [
+    (FOUR, (2, 2)),
+    (FOUR_WITHOUT_ENDS, (2, 2)),
+    (TWO, (1, 1)),
+    (EQUAL, (2, 2)),
+    (COVERED, (0, 0)),
+    (GREATEST, (1, 1)),
+    (FURTHEST, (1, 1)),
+    (FULL, (549755813888, 549755813888)),
+];
+
+fn attained(window: Window) -> Option<(u64, u64)> {
+    let split = split_of(window)?;
+    Some((least_sum_at(split), greatest_sum_at(split)))
+}
+
+#[test]
+fn ends_are_attained(rt: HostRuntime) {
+    for (k, row) in ATTAINED.iter().enumerate() {
+        assert!(rt; attained(row.0) == Some(row.1), "row {k}");
+    }
+}
+
+// The value x times.
+fn times(x: u64, value: i64) -> i128 {
+    i128::from(x).wrapping_mul(i128::from(value))
+}
+
+// The least and the greatest sum of x values of a window.
+fn sums(window: Window, x: u64) -> (i128, i128) {
+    let (count, sum, min, max, _, _, _) = window;
+    let others = count.wrapping_sub(x);
+    let lo = times(x, min).max(sum.wrapping_sub(times(others, max)));
+    let hi = times(x, max).min(sum.wrapping_sub(times(others, min)));
+    (lo, hi)
+}
+
+// The first numbers from `fewest` to `most` with the least and with the greatest sum of all, by trying each.
+fn tried(window: Window, fewest: u64, most: u64) -> (u64, u64) {
+    let mut least = fewest;
+    let mut greatest = fewest;
+    for x in fewest..=most {
+        if sums(window, x).0 < sums(window, least).0 {
+            least = x;
+        }
+        if sums(window, x).1 > sums(window, greatest).1 {
+            greatest = x;
+        }
+    }
+    (least, greatest)
+}
+
+// The ends that hold of a window's values, and the times inside the range and outside it.
+const PLACES: [(u64, u64, u64); 5] = [(0, 1, 3), (0, 2, 8), (1, 8, 8), (1, 8, 1), (1, 2, 2)];
+
+const VALUES: [i64; 7] = [-3, -2, -1, 0, 1, 2, 3];
+
+// One of the windows of 2 to 6 values from -3 to 3, with a sum from -20 to 20.
+fn small_window(k: u64) -> Window {
+    let (ends, inside, outside) = PLACES[(k % 5) as usize];
+    let count = 2 + k / 5 % 5;
+    let sum = i128::from(k / 25 % 41) - 20;
+    let min = VALUES[(k / 1025 % 7) as usize];
+    let max = VALUES[(k / 7175 % 7) as usize];
+    (count, sum, min, max, ends, inside, outside)
+}
+
+// What is attained in a window, if it can be one, is what is found by trying.
+fn is_as_tried(window: Window) -> bool {
+    let Some(split) = split_of(window) else {
+        return true;
+    };
+    let (fewest, most) = count_bounds(split);
+    attained(window) == Some(tried(window, fewest, most))
+}
+
+#[test]
+fn ends_are_attained_as_by_trying(rt: HostRuntime) {
+    for k in 0..50225 {
+        assert!(rt; is_as_tried(small_window(k)), "window {k}");
+    }
+}
+
 // What is known exactly, two windows, and what is known of the least or the greatest value.
 type Row = (Option<i64>, Option<Window>, Option<Window>, Extreme);
 
@@ -190,6 +275,8 @@ fn greatest_values(rt: HostRuntime) {
 #[test]
 fn laws_are_called() {
     split_windows_hold_the_truth();
+    ends_of_sums_are_attained();
+    values_can_be_parted();
     extremes_hold_the_truth();
     free_times_are_parted();
 }
