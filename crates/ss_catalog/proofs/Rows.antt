@@ -3,12 +3,14 @@ use Rattle.std.proofs.Common.{◌≡◌, ℕ, ◌+◌, refl, ◌^◌, List, [], 
 use Rattle.ss_catalog.specs.Catalog.{id_of}
 use Rattle.ss_catalog.specs.Names.{is_name}
 use Rattle.ss_catalog.specs.Params.{in_range}
+use Rattle.ss_catalog.specs.Queries.{adds_up, end_name, kind_name}
 use Rattle.ss_catalog.specs.Series.{IsSeriesInRange, numbers_from, row_query, rows_in, rows_of, whole_query}
 use Rattle.ss_catalog.specs.declared.TheConstants.{LAST_TIME, MOST_ROWS, MOST_STREAMS, LAST_STREAM}
 use Rattle.ss_catalog.specs.declared.name.TheConstants.{LONGEST_NAME}
 use Rattle.ss_catalog.specs.declared.params.TheConstants.{GREATEST_BASE, GREATEST_POWER, GREATEST_WIDENING, GREATEST_SCALE}
 use Rattle.ss_catalog.specs.declared.params.Params.TheVariants.{Exp, Power}
-use Rattle.ss_catalog.specs.declared.query.Kind.TheVariants.{Sum}
+use Rattle.ss_catalog.specs.declared.query.End.TheVariants.{Lo, Hi}
+use Rattle.ss_catalog.specs.declared.query.Kind.TheVariants.{Count, Sum, Min, Max}
 use Rattle.ss_catalog.specs.declared.series.Series.{Series}
 
 longest_name : LONGEST_NAME ≡ 32
@@ -61,6 +63,15 @@ params-power_greatest = refl
 
 params-power_0 : in_range (Power 0 0 1 1) ≡ false
 params-power_0 = refl
+
+kinds : map kind_name (Count ∷ Sum ∷ Min ∷ Max ∷ []) ≡ codes "count" ∷ codes "sum" ∷ codes "min" ∷ codes "max" ∷ []
+kinds = refl
+
+kinds-add_up : map adds_up (Count ∷ Sum ∷ Min ∷ Max ∷ []) ≡ true ∷ true ∷ false ∷ false ∷ []
+kinds-add_up = refl
+
+ends : map end_name (Lo ∷ Hi ∷ []) ≡ codes "lo" ∷ codes "hi" ∷ []
+ends = refl
 
 id_of-there : id_of (codes "b") ((codes "a", record { 0 = 0 }) ∷ (codes "b", record { 0 = 7 }) ∷ []) ≡ Some (record { 0 = 7 })
 id_of-there = refl

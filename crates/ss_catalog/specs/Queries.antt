@@ -1,6 +1,8 @@
 -- What queries say.
-use Rattle.std.specs.Prelude.{ℕ, ◌≤◌, List, codes}
+use Rattle.std.specs.Prelude.{ℕ, ◌≤◌, Bool, true, false, List, codes}
 use Rattle.ss_catalog.specs.declared.TheConstants.{LAST_TIME}
+use Rattle.ss_catalog.specs.declared.query.End.{End}
+use Rattle.ss_catalog.specs.declared.query.End.TheVariants.{Lo, Hi}
 use Rattle.ss_catalog.specs.declared.query.Kind.{Kind}
 use Rattle.ss_catalog.specs.declared.query.Kind.TheVariants.{Count, Sum, Min, Max}
 use Rattle.ss_catalog.specs.declared.query.Query.{Query}
@@ -11,6 +13,18 @@ kind_name Count = codes "count"
 kind_name Sum = codes "sum"
 kind_name Min = codes "min"
 kind_name Max = codes "max"
+
+-- what is asked for adds up: of all values it is what it is of some and of the others, added
+abbrev pub adds_up : Kind → Bool
+adds_up Count = true
+adds_up Sum = true
+adds_up Min = false
+adds_up Max = false
+
+-- the name of an end of an interval, in a command
+abbrev pub end_name : End → List ℕ
+end_name Lo = codes "lo"
+end_name Hi = codes "hi"
 
 -- a query has no time above the last one
 abbrev pub IsQueryInTime : Query → Type 0

@@ -16,7 +16,7 @@ pub use event::Event;
 pub use laws::rows_are_the_range;
 pub use name::{LONGEST_NAME, Name};
 pub use params::{GREATEST_BASE, GREATEST_POWER, GREATEST_SCALE, GREATEST_WIDENING, Params};
-pub use query::{Kind, Query};
+pub use query::{End, Kind, Query};
 pub use refusal::Refusal;
 pub use series::{Series, rows_in};
 pub use stream_id::StreamId;

@@ -1,6 +1,6 @@
 // What is asked of a stream.
 ghost use Rattle.std.specs.Prelude.{◌≡◌};
-ghost use Rattle.ss_catalog.specs.Queries.{kind_name};
+ghost use Rattle.ss_catalog.specs.Queries.{adds_up, end_name, kind_name};
 
 use crate::Name;
 
@@ -27,6 +27,34 @@ impl Kind {
             Kind::Sum => "sum",
             Kind::Min => "min",
             Kind::Max => "max",
+        }
+    }
+
+    /// Whether it adds up: what is asked for of all values is the sum of what it is of some and of the others.
+    pub fn adds_up(self) -> bool
+        ensures { result ≡ adds_up self }
+    {
+        matches!(self, Kind::Count | Kind::Sum)
+    }
+}
+
+/// An end of the interval that a query answers.
+#[derive(Clone, Copy, Debug, PartialEq, Eq)]
+pub enum End {
+    /// The least that the truth can be.
+    Lo,
+    /// The greatest that the truth can be.
+    Hi,
+}
+
+impl End {
+    /// Its name in a command.
+    pub fn text(self) -> &'static str
+        ensures { result.now ≡ end_name self }
+    {
+        match self {
+            End::Lo => "lo",
+            End::Hi => "hi",
         }
     }
 }

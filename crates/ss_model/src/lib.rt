@@ -35,4 +35,4 @@ pub use query_laws::{
     answers_hold_the_truth, answers_hold_the_truth_of_histories, unsplit_answers_are_exact,
 };
 pub use series_laws::rows_hold_the_truth;
-pub use types::{Ack, MOST_RECORDS, Placed, StreamRow, Window};
+pub use types::{Ack, MOST_RECORDS, Placed, Run, StreamRow, Window};

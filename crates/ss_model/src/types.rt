@@ -40,3 +40,10 @@ pub struct Placed {
     pub last: u64,
     pub summary: Summary,
 }
+
+/// Values that are equal: the value, and how many of it.
+#[derive(Clone, Copy, Debug, Default, PartialEq, Eq)]
+pub struct Run {
+    pub value: i64,
+    pub times: u64,
+}
