@@ -1,0 +1,199 @@
+-- Rebuilt contents are contents like the actual ones, and the contents of the streams of a history are contents.
+use Rattle.std.specs.Prelude.{◌≡◌, ℕ, ◌+◌, ◌≤◌, ℤ, pos, ◌+ℤ◌, ◌≤ℤ◌, List, [], ◌∷◌, All, Some}
+use Rattle.std.proofs.Common.{ap, arith, inl, inr, refl, sym, ◌∙◌, subst}
+use Rattle.std.proofs.lemmas.Bool.{cases_Bool}
+use Rattle.std.proofs.lemmas.Int.{ints}
+use Rattle.std.proofs.lemmas.List.{length-append}
+use Rattle.std.proofs.lemmas.List.Elements.{All-get_or, All-head, All-tail}
+use Rattle.ss_bounds.specs.Truth.{asked}
+use Rattle.ss_catalog.specs.Names.{same_name}
+use Rattle.ss_catalog.specs.declared.event.Event.{Event}
+use Rattle.ss_catalog.specs.declared.query.Kind.TheVariants as kinds
+use Rattle.ss_catalog.specs.declared.query.Query.{Query}
+use Rattle.ss_landmarks.specs.Free.{is_free}
+use Rattle.ss_target.specs.Lengths.{lengths_of}
+use Rattle.ss_model.specs.History.{landmarks_of, values_of}
+use Rattle.ss_model.specs.Interval.{interval_of_count, interval_of_sum, known_count, known_sum, split_windows}
+use Rattle.ss_model.specs.Marks.{marked_values}
+use Rattle.ss_model.specs.Refusals.{IsHistory}
+use Rattle.ss_model.specs.Standing.{IsStream}
+use Rattle.ss_model.specs.State.{Stream, state, stream_after, stream_named}
+use Rattle.ss_model.specs.Windows.{windows}
+use Rattle.ss_model.proofs.IntervalLemmas.{count-lies, sum-lies}
+use Rattle.ss_model.proofs.HistoryLemmas.{IsState-state}
+use Rattle.ss_model.proofs.PieceLemmas.{AreOf-windows}
+use Rattle.ss_model.proofs.ReadLemmas.{All-state}
+use Rattle.ss_model.proofs.RisingLemmas.{values-rise}
+use Rattle.ss_model.proofs.Stretches.{taken-windows}
+use Rattle.ss_contents.specs.Attained.{IsAttained, MayBeTrue, truth_of_kind}
+use Rattle.ss_contents.specs.Contents.{Contents, contents_of, windows_of, AreContents, Like, count_in, sum_in}
+use Rattle.ss_contents.specs.Rebuilt.{rebuilt}
+use Rattle.ss_contents.specs.Sides.{Sides, AllFit, count_inside, sum_inside}
+use Rattle.ss_contents.proofs.PieceLemmas.{length-others, windows-others}
+use Rattle.ss_contents.proofs.ReplacedLemmas.{AreReplaced, replaced-all, total-append}
+use Rattle.ss_contents.proofs.SayableLemmas.{sayable-others, sayable-standing}
+
+module _ (c : Contents) (from to : ℕ) (sides : List Sides) (sound : AreContents c)
+    (fit : AllFit (split_windows (is_free c.landmarks) from to (windows_of c)) sides) where
+  parts : AreReplaced (is_free c.landmarks) from to 0 (windows_of c) sides (rebuilt from to sides c).plain
+  parts =
+      replaced-all (is_free c.landmarks) from to 0 (windows_of c) sides c.plain (AreOf-windows (lengths_of c.params) c.plain) sound.rising fit
+
+  pub Like-rebuilt : Like (rebuilt from to sides c) c
+  Like-rebuilt = record {
+    params = refl;
+    landmarks = refl;
+    number = length-others (lengths_of c.params) c.plain (rebuilt from to sides c).plain parts.of;
+    windows = windows-others (lengths_of c.params) c.plain (rebuilt from to sides c).plain parts.of;
+  }
+
+  pub AreContents-rebuilt : AreContents (rebuilt from to sides c)
+  AreContents-rebuilt = record {
+    target = sound.target;
+    few = omega (arith, Like-rebuilt.number, sound.few);
+    rising = parts.rising;
+    sayable = sayable-others (is_free c.landmarks) 0 (windows_of c) c.plain (rebuilt from to sides c).plain
+        (AreOf-windows (lengths_of c.params) c.plain) parts.of parts.rising sound.sayable;
+    landmarks = sound.landmarks;
+  }
+
+  pub count_in-rebuilt : count_in from to (rebuilt from to sides c)
+      ≡ known_count from to (windows_of c) (marked_values c.landmarks) + count_inside sides
+  count_in-rebuilt =
+      let marked = asked from to (marked_values c.landmarks) in
+      omega (arith, length-append (asked from to (rebuilt from to sides c).plain) marked, parts.count)
+
+  pub sum_in-rebuilt : sum_in from to (rebuilt from to sides c)
+      ≡ (known_sum from to (windows_of c) (marked_values c.landmarks) +ℤ sum_inside sides)
+  sum_in-rebuilt =
+      let marked = asked from to (marked_values c.landmarks) in
+      omega (arith, ints, total-append (asked from to (rebuilt from to sides c).plain) marked, parts.sum)
+
+  pub IsAttained-rebuilt : IsAttained c from to (known_count from to (windows_of c) (marked_values c.landmarks) + count_inside sides)
+      (known_sum from to (windows_of c) (marked_values c.landmarks) +ℤ sum_inside sides)
+  IsAttained-rebuilt = record {
+    contents = rebuilt from to sides c;
+    sound = AreContents-rebuilt;
+    like = Like-rebuilt;
+    counts = count_in-rebuilt;
+    sums = sum_in-rebuilt;
+  }
+
+-- the intervals that the windows of some contents give hold the truth over all contents like them
+module _ (c d : Contents) (from to : ℕ) (sound : AreContents d) (like : Like d c) where
+  pub count_in-lies : let answer = interval_of_count (is_free c.landmarks) from to (windows_of c) (marked_values c.landmarks) in
+      (answer.0 ≤ count_in from to d) × (count_in from to d ≤ answer.1)
+  count_in-lies =
+      subst (λ ls. let answer = interval_of_count (is_free ls) from to (windows_of c) (marked_values ls) in
+      (answer.0 ≤ count_in from to d) × (count_in from to d ≤ answer.1)) like.landmarks
+      (subst (λ ws. let answer = interval_of_count (is_free d.landmarks) from to ws (marked_values d.landmarks) in
+      (answer.0 ≤ count_in from to d) × (count_in from to d ≤ answer.1)) like.windows
+      (count-lies (is_free d.landmarks) from to (windows_of d) d.plain (marked_values d.landmarks) 0
+      (AreOf-windows (lengths_of d.params) d.plain) sound.rising))
+
+  pub sum_in-lies : let answer = interval_of_sum (is_free c.landmarks) from to (windows_of c) (marked_values c.landmarks) in
+      (answer.0 ≤ℤ sum_in from to d) × (sum_in from to d ≤ℤ answer.1)
+  sum_in-lies =
+      subst (λ ls. let answer = interval_of_sum (is_free ls) from to (windows_of c) (marked_values ls) in
+      (answer.0 ≤ℤ sum_in from to d) × (sum_in from to d ≤ℤ answer.1)) like.landmarks
+      (subst (λ ws. let answer = interval_of_sum (is_free d.landmarks) from to ws (marked_values d.landmarks) in
+      (answer.0 ≤ℤ sum_in from to d) × (sum_in from to d ≤ℤ answer.1)) like.windows
+      (sum-lies (is_free d.landmarks) from to (windows_of d) d.plain (marked_values d.landmarks) 0
+      (AreOf-windows (lengths_of d.params) d.plain) sound.rising))
+
+-- ---- the streams of a history
+
+pub AreContents-contents_of : (history : List Event) → IsHistory history → All (λ s. AreContents (contents_of history s)) (state history)
+AreContents-contents_of history whole =
+    λ k d inside.
+    let each = All-get_or IsStream (state history) k d inside (IsState-state history whole).each in
+    All-get_or (λ s. IsStream s → AreContents (contents_of history s)) (state history) k d inside
+    (All-state (λ s. IsStream s → AreContents (contents_of history s)) history
+    (λ c sound.
+    let values = values_of history c.name in
+    let free = is_free (landmarks_of history c.name) in
+    let rising = values-rise history c.name whole in
+    record {
+      target = sound.target;
+      few = omega (arith, sound.windows.few, taken-windows (lengths_of c.params) values);
+      rising = rising;
+      sayable = sayable-standing free 1 0 0 (windows (lengths_of c.params) values) values sound.windows.stand
+          (AreOf-windows (lengths_of c.params) values) rising;
+      landmarks = sound.landmarks;
+    })) each
+
+-- what contents like those of a stream may have in a range, with values that fit the windows that it splits
+abbrev IsAttainedBySides : List Event → Stream → Type 0
+IsAttainedBySides history s =
+    (from to : ℕ) (sides : List Sides) → AllFit (split_windows (is_free s.landmarks) from to s.windows) sides
+    → IsAttained (contents_of history s) from to (known_count from to s.windows (marked_values s.landmarks) + count_inside sides)
+    (known_sum from to s.windows (marked_values s.landmarks) +ℤ sum_inside sides)
+
+pub IsAttained-state : (history : List Event) → IsHistory history
+    → All (λ s. (from to : ℕ) (sides : List Sides) → AllFit (split_windows (is_free s.landmarks) from to s.windows) sides
+    → IsAttained (contents_of history s) from to (known_count from to s.windows (marked_values s.landmarks) + count_inside sides)
+    (known_sum from to s.windows (marked_values s.landmarks) +ℤ sum_inside sides)) (state history)
+IsAttained-state history whole =
+    λ k d inside.
+    All-get_or (λ s. AreContents (contents_of history s) → IsAttainedBySides history s) (state history) k d inside
+    (All-state (λ s. AreContents (contents_of history s) → IsAttainedBySides history s) history
+    (λ c sound from to sides fit. IsAttained-rebuilt (contents_of history (stream_after history c)) from to sides sound fit))
+    (All-get_or (λ s. AreContents (contents_of history s)) (state history) k d inside (AreContents-contents_of history whole))
+
+-- what holds of each stream holds of the one of a name
+All-named : (P : Stream → Type 0) (name : List ℕ) (streams : List Stream) (s : Stream) → All P streams → stream_named name streams ≡ Some s → P s
+All-named P name [] s all found = cc
+All-named P name (u ∷ us) s all found = elim (cases_Bool (same_name name u.name)) [
+  | inl same ↦ (let here : Some u ≡ Some s = rw same at found in let here : u ≡ s = cc in subst P here (All-head P u us all))
+  | inr other ↦ (let later : stream_named name us ≡ Some s = rw other at found in All-named P name us s (All-tail P u us all) later)
+]
+
+pub AreContents-named : (history : List Event) (name : List ℕ) (s : Stream) → IsHistory history → stream_named name (state history) ≡ Some s
+    → AreContents (contents_of history s)
+AreContents-named history name s whole found =
+    All-named (λ u. AreContents (contents_of history u)) name (state history) s (AreContents-contents_of history whole) found
+
+pub IsAttained-named : (history : List Event) (name : List ℕ) (s : Stream) (from to : ℕ) (sides : List Sides) → IsHistory history
+    → stream_named name (state history) ≡ Some s → AllFit (split_windows (is_free s.landmarks) from to s.windows) sides
+    → IsAttained (contents_of history s) from to (known_count from to s.windows (marked_values s.landmarks) + count_inside sides)
+    (known_sum from to s.windows (marked_values s.landmarks) +ℤ sum_inside sides)
+IsAttained-named history name s from to sides whole found =
+    All-named (IsAttainedBySides history) name (state history) s (IsAttained-state history whole) found from to sides
+
+-- ---- answers that may be true in a state
+
+module _ (streams : List Stream) (query : Query) (s : Stream) (sides : List Sides) (found : stream_named query.name streams ≡ Some s)
+    (fit : AllFit (split_windows (is_free s.landmarks) query.from query.to s.windows) sides) where
+  abbrev count : ℕ
+  count = known_count query.from query.to s.windows (marked_values s.landmarks) + count_inside sides
+
+  abbrev sum : ℤ
+  sum = known_sum query.from query.to s.windows (marked_values s.landmarks) +ℤ sum_inside sides
+
+  attained : (history : List Event) (u : Stream) → IsHistory history → state history ≡ streams → stream_named query.name streams ≡ Some u
+      → IsAttained (contents_of history u) query.from query.to count sum
+  attained history u whole is other =
+      let both : Some s ≡ Some u = sym found ∙ other in
+      let same : s ≡ u = cc in
+      subst (λ x. IsAttained (contents_of history x) query.from query.to count sum) same
+      (IsAttained-named history query.name s query.from query.to sides whole (ap (stream_named query.name) is ∙ found) fit)
+
+  pub MayBeTrue-count : query.kind ≡ kinds.Count → MayBeTrue streams query (pos count)
+  MayBeTrue-count kind history u whole is other =
+      let at = attained history u whole is other in
+      record {
+        contents = at.contents;
+        sound = at.sound;
+        like = at.like;
+        truth = ap (λ k. truth_of_kind k query.from query.to at.contents) kind ∙ ap (λ n. Some (pos n)) at.counts;
+      }
+
+  pub MayBeTrue-sum : query.kind ≡ kinds.Sum → MayBeTrue streams query sum
+  MayBeTrue-sum kind history u whole is other =
+      let at = attained history u whole is other in
+      record {
+        contents = at.contents;
+        sound = at.sound;
+        like = at.like;
+        truth = ap (λ k. truth_of_kind k query.from query.to at.contents) kind ∙ ap Some at.sums;
+      }

@@ -1,0 +1,4 @@
+pub mod Contents
+pub mod Sides
+pub mod Rebuilt
+pub mod Attained

@@ -1,0 +1,9 @@
+//! What else the windows of a stream may have held. There is no code here: definitions, and laws over them.
+#![tactic(auto)]
+
+mod laws;
+
+pub use laws::{
+    fitting_answers_may_be_true, fitting_values_are_attained, histories_give_contents,
+    intervals_hold_for_all_that_are_like, rebuilt_is_like,
+};
