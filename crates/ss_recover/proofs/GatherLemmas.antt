@@ -1,13 +1,13 @@
 -- The slots that were read, and one more.
 use Rattle.std.proofs.Common.{◌≡◌, ◌∙◌, ℕ, zero, suc, ◌+◌, ◌-◌, ◌<◌, ◌≤◌, Bool, true, false, not, cond, List, [], ◌∷◌, ◌++◌, map, filter, length}
 use Rattle.std.proofs.Common.{replicate, get_or, Option, Some, None, Result, Err, refl, sym, ap, ap₂, subst, inl, inr, arith, append-nil}
-use Rattle.std.specs.Prelude.{◌≢◌, is_none}
+use Rattle.std.specs.Prelude.{◌≢◌, count_by, is_none}
 use Rattle.std.specs.List.{position_or_len, range_with_len}
 use Rattle.std.proofs.lemmas.Bool.{cases_lt, true≢false, cond-true, cond-false, lt-ltb, false_from_ne_true}
-use Rattle.std.proofs.lemmas.List.{map-append}
+use Rattle.std.proofs.lemmas.List.{get_or_default, length-append, map-append, same_lists}
 use Rattle.std.proofs.lemmas.List.Elements.{filter-append}
 use Rattle.std.proofs.lemmas.List.FromFn.{get_or-map-range_with_len, length-map-range_with_len}
-use Rattle.std.proofs.lemmas.List.Sums.{position_or_len_is}
+use Rattle.std.proofs.lemmas.List.Sums.{length-filter, position_or_len_is, sum_by-cons}
 use Rattle.ss_outside.specs.Disk.{DiskView}
 use Rattle.ss_outside.specs.Step.{Step}
 use Rattle.ss_outside.specs.Verdict.{Verdict, fine}
@@ -20,7 +20,7 @@ use Rattle.ss_journal.proofs.MapLemmas.{SameMap-refl}
 use Rattle.ss_journal.proofs.RedoLemmas.{StandsFor-from, StandsFor-same}
 use Rattle.ss_journal.proofs.ShownLemmas.{shown-sealed, IsShown-sealed}
 use Rattle.ss_records.specs.Kept.{AreKept, RecordsState, shown_by}
-use Rattle.ss_records.specs.Live.{are_zeros, is_live}
+use Rattle.ss_records.specs.Live.{are_zeros, is_live, live_count}
 use Rattle.ss_codec.specs.Decoded.{decoded}
 use Rattle.ss_codec.specs.declared.record.Record.{Record}
 use Rattle.ss_codec.specs.declared.record.Record.TheVariants.{Free}
@@ -108,6 +108,44 @@ slots-all live n m le below =
     none a zero le = refl
     none a (suc k) le =
         cond-false (is_live live a) _ _ (false_from_ne_true (is_live live a) (λ is. absurd (omega (arith, below a is, le)))) ∙ none (a + 1) k (omega arith)
+
+-- how many slots are live, counted slot by slot
+pub length-live : (live : List Bool) → length (filter (is_live live) (range_with_len 0 (length live))) ≡ live_count live
+length-live live =
+    length-filter (is_live live) (range_with_len 0 (length live))
+    ∙ count_by-map (λ (is : Bool). is) (is_live live) (range_with_len 0 (length live))
+    ∙ ap (λ l. live_count l) (map-is_live live)
+  where
+    count_by-map : {X Y : Type 0} (p : Y → Bool) (f : X → Y) (xs : List X) → count_by (λ x. p (f x)) xs ≡ count_by p (map f xs)
+    count_by-map p f [] = refl
+    count_by-map p f (x ∷ xs) =
+        omega (arith, count_by-map p f xs, sum_by-cons (λ y. cond (p (f y)) 1 0) x xs, sum_by-cons (λ y. cond (p y) 1 0) (f x) (map f xs))
+
+    map-is_live : (slots : List Bool) → map (is_live slots) (range_with_len 0 (length slots)) ≡ slots
+    map-is_live slots =
+        same_lists (map (is_live slots) (range_with_len 0 (length slots))) slots (length-map-range_with_len (is_live slots) 0 (length slots))
+        (λ k d inside.
+        let within : k < length slots = omega (arith, inside, length-map-range_with_len (is_live slots) 0 (length slots)) in
+        get_or-map-range_with_len (is_live slots) 0 (length slots) k k d within (omega arith) ∙ get_or_default slots k false d within)
+
+-- below a live slot there are fewer than all
+pub length-live_below : (live : List Bool) (slot : ℕ) → slot < length live → is_live live slot ≡ true →
+    length (filter (is_live live) (range_with_len 0 slot)) < live_count live
+length-live_below live slot lt is =
+    let one : filter (is_live live) (range_with_len 0 (slot + 1)) ≡ filter (is_live live) (range_with_len 0 slot) ++ slot ∷ [] =
+    sym (slots-more live _ slot refl) ∙ cond-true (is_live live slot) _ _ is in
+    let rest = range_with_len (slot + 1) (length live - (slot + 1)) in
+    let all : filter (is_live live) (range_with_len 0 (length live)) ≡ filter (is_live live) (range_with_len 0 (slot + 1)) ++ filter (is_live live) rest =
+    ap (filter (is_live live)) (range_with_len-append 0 (slot + 1) (length live - (slot + 1)) (length live) (slot + 1) (omega arith) (omega arith))
+    ∙ filter-append (is_live live) (range_with_len 0 (slot + 1)) rest in
+    omega (
+      arith,
+      length-live live,
+      ap length all,
+      length-append (filter (is_live live) (range_with_len 0 (slot + 1))) (filter (is_live live) rest),
+      ap length one,
+      length-append (filter (is_live live) (range_with_len 0 slot)) (slot ∷ []),
+    )
 
 -- the lowest slot that spells nothing
 pub lowest-is : (found : SlotMap) (slot : ℕ) → slot < found.extent → ((k : ℕ) → k < slot → decoded (found.bytes k) ≢ None) → decoded (found.bytes slot) ≡ None →

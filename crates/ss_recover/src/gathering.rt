@@ -1,12 +1,13 @@
 // Reading each live slot.
 ghost use Rattle.std.specs.Prelude.{◌≡◌, ◌<◌, ◌≤◌, All, IfOk, IfSome, IfNone, Some, length, map, filter};
+ghost use Rattle.std.specs.Prelude.{[], ◌∷◌, ◌++◌, vec_len, vec_capacity};
 ghost use Rattle.std.specs.List.{range_with_len};
 ghost use Rattle.ss_outside.specs.Disk.{OfContent};
 ghost use Rattle.ss_outside.specs.Step.{Step};
 ghost use Rattle.ss_journal.specs.Kept.{IsRunning, IsSealed};
 ghost use Rattle.ss_journal.specs.declared.format.TheConstants.{MOST_SLOTS};
 ghost use Rattle.ss_records.specs.Kept.{AreKept};
-ghost use Rattle.ss_records.specs.Live.{is_live};
+ghost use Rattle.ss_records.specs.Live.{is_live, live_count};
 ghost use Rattle.ss_codec.specs.Decoded.{decoded};
 ghost use Rattle.ss_recover.specs.Gathered.{SpellsNone, ReadsAs, GathersAs, FindsOut, LeavesRecords};
 ghost use Rattle.ss_recover.specs.Rebuilt.{verdict_of_rebuild};
@@ -63,6 +64,16 @@ fn read_record<D: Disk>(
     }
 }
 
+// Puts one after those that were found, where there is room for it. `push` doesn't say that it stays in this room, and `insert` does.
+fn add<T: Drop>(all: &mut Vec<T>, found: T)
+    requires { vec_len all.old < vec_capacity all.old }
+    ensures added { all.new.items ≡ all.old.items ++ found ∷ [] }
+    ensures room { vec_capacity all.new ≡ vec_capacity all.old }
+{
+    let end = all.len();
+    let _ = all.insert(end, found);
+}
+
 // The record in each live slot, in the order of the slots.
 pub fn gather<D: Disk>(
     alloc: Global,
@@ -78,15 +89,15 @@ pub fn gather<D: Disk>(
     ensures few { IfOk result (λ all. length all.items ≤ MOST_SLOTS) }
     ensures slots { IfOk result (λ all. map (λ f. f.slot) all.items
         ≡ filter (is_live records.old.live) (range_with_len 0 (length records.old.live))) }
+    // Room for as many as are live, and no more.
+    ensures room { IfOk result (λ all. vec_capacity all ≡ live_count records.old.live) }
     ensures leaves { LeavesRecords (verdict_of_rebuild result) records.old records.new }
 {
     let mut all = Vec::with_capacity(alloc, records.live() as usize)?;
     for slot in 0..records.extent() {
         if records.is_live(slot) {
             let found = read_record(records, disk, slot)?;
-            if all.push(found).is_err() {
-                return Err(RecoverError::OutOfMemory);
-            }
+            add(&mut all, found);
         }
     }
     Ok(all)

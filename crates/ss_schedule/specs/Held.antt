@@ -1,5 +1,5 @@
 -- How the keys are held: all places in a heap by when their pairs first fit, and where in the heap each place stands.
-use Rattle.std.specs.Prelude.{◌≡◌, ◌≢◌, ℕ, ◌+◌, ◌*◌, ◌<◌, ◌≤◌, List, length, Option, Some, None}
+use Rattle.std.specs.Prelude.{◌≡◌, ◌≢◌, ℕ, ◌+◌, ◌*◌, ◌^◌, ◌<◌, ◌≤◌, List, length, Option, Some, None}
 use Rattle.std.specs.List.{slice_index_or}
 use Rattle.ss_line.specs.declared.entry.At.{At}
 use Rattle.ss_schedule.specs.declared.sifting.TheConstants.{NEVER}
@@ -38,6 +38,20 @@ IsBelowParent fit index = (parent : ℕ) → IsChild parent index → fit parent
 -- no child comes before its parent
 abbrev pub IsHeap : (ℕ → ℕ) → ℕ → Type 0
 IsHeap fit len = (parent child : ℕ) → IsChild parent child → child < len → fit parent ≤ fit child
+
+-- all places stand in a heap by their keys, and the position of each in it is known
+pub record AreInHeap (keys : List (Option (At × ℕ))) (heap positions : List ℕ) : Type 0 where
+  pub all : length heap ≡ length keys
+  pub inverse : AreInverse heap positions
+  pub order : IsHeap (fit_at keys heap) (length heap)
+
+-- the same, but for the place at one index, whose key may have changed
+pub record AreInHeapBut (keys : List (Option (At × ℕ))) (heap positions : List ℕ) (hole : ℕ) : Type 0 where
+  pub few : length heap < 2 ^ 32
+  pub all : length heap ≡ length keys
+  pub inside : hole < length heap
+  pub inverse : AreInverse heap positions
+  pub order : IsHeapBut (fit_at keys heap) (length heap) hole
 
 -- the keys by place, with the heap of all places and the position of each in it
 pub record AreHeld (keys : List (Option (At × ℕ))) (heap positions : List ℕ) : Type 0 where

@@ -2,7 +2,7 @@
 // twice that index and one or two more, and none of them comes before it.
 ghost use Rattle.std.specs.Prelude.{◌≡◌, ◌+◌, ◌*◌, ◌<◌, ◌≤◌, ◌^◌, ℕ, length, slice_index};
 ghost use Rattle.std.specs.List.{SwappedAt};
-ghost use Rattle.ss_schedule.specs.Held.{AreInverse, IsBelowParent, IsChild, IsHeap, IsHeapBut, fit_at, fit_of};
+ghost use Rattle.ss_schedule.specs.Held.{AreInHeap, AreInHeapBut, AreInverse, IsBelowParent, IsChild, fit_at, fit_of};
 
 use ss_line::At;
 
@@ -51,15 +51,8 @@ fn sift_up(
     positions: &mut [u32],
     start: usize,
 ) -> usize
-    requires few { length heap.old < 2 ^ 32 }
-    requires all { length heap.old ≡ length keys.now }
-    requires start { start < length heap.old }
-    requires inverse { AreInverse heap.old positions.old }
-    requires order { IsHeapBut (fit_at keys.now heap.old) (length heap.old) start }
-    ensures inverse { AreInverse heap.new positions.new }
-    ensures len { length heap.new ≡ length heap.old }
-    ensures index { result < length heap.new }
-    ensures order { IsHeapBut (fit_at keys.now heap.new) (length heap.new) result }
+    requires hole { AreInHeapBut keys.now heap.old positions.old start }
+    ensures hole { AreInHeapBut keys.now heap.new positions.new result }
     ensures below { IsBelowParent (fit_at keys.now heap.new) result }
 {
     let mut index = start;
@@ -94,15 +87,9 @@ fn least_child(keys: &[Option<(At, u64)>], heap: &[u32], index: usize) -> usize
 
 // Moves the place at an index, which doesn't come before its parent, down until no child of it comes before it.
 fn sift_down(keys: &[Option<(At, u64)>], heap: &mut [u32], positions: &mut [u32], start: usize)
-    requires few { length heap.old < 2 ^ 32 }
-    requires all { length heap.old ≡ length keys.now }
-    requires start { start < length heap.old }
-    requires inverse { AreInverse heap.old positions.old }
-    requires order { IsHeapBut (fit_at keys.now heap.old) (length heap.old) start }
+    requires hole { AreInHeapBut keys.now heap.old positions.old start }
     requires below { IsBelowParent (fit_at keys.now heap.old) start }
-    ensures inverse { AreInverse heap.new positions.new }
-    ensures len { length heap.new ≡ length heap.old }
-    ensures order { IsHeap (fit_at keys.now heap.new) (length heap.new) }
+    ensures heap { AreInHeap keys.now heap.new positions.new }
 {
     let mut index = start;
     while 2 * index + 1 < heap.len() {
@@ -117,14 +104,8 @@ fn sift_down(keys: &[Option<(At, u64)>], heap: &mut [u32], positions: &mut [u32]
 
 /// Moves the place at an index, whose key changed, to where it has to stand in the heap.
 pub fn restore(keys: &[Option<(At, u64)>], heap: &mut [u32], positions: &mut [u32], start: usize)
-    requires few { length heap.old < 2 ^ 32 }
-    requires all { length heap.old ≡ length keys.now }
-    requires start { start < length heap.old }
-    requires inverse { AreInverse heap.old positions.old }
-    requires order { IsHeapBut (fit_at keys.now heap.old) (length heap.old) start }
-    ensures inverse { AreInverse heap.new positions.new }
-    ensures len { length heap.new ≡ length heap.old }
-    ensures order { IsHeap (fit_at keys.now heap.new) (length heap.new) }
+    requires hole { AreInHeapBut keys.now heap.old positions.old start }
+    ensures heap { AreInHeap keys.now heap.new positions.new }
 {
     let index = sift_up(keys, heap, positions, start);
     sift_down(keys, heap, positions, index);

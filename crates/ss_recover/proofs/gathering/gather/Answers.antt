@@ -1,7 +1,7 @@
 use Rattle.std.proofs.Common.{◌≡◌, ◌+◌, ◌≤◌, ◌<◌, ◌∙◌, ◌++◌, ℕ, [], ◌∷◌, All, List, Vec, Global, Bool, true, false, not, map, filter, length, Err, sym}
 use Rattle.std.proofs.Common.{ap, subst, arith}
 use Rattle.std.specs.List.{range_with_len}
-use Rattle.std.specs.Result.{is_ok}
+use Rattle.std.specs.Vec.{vec_capacity}
 use Rattle.std.proofs.lemmas.Bool.{cond-true, cond-false}
 use Rattle.std.proofs.lemmas.List.{length-map, map-append}
 use Rattle.std.proofs.lemmas.List.Sums.{count_by-le-length, length-filter}
@@ -17,9 +17,9 @@ use Rattle.ss_outside.specs.Step.{Step}
 use Rattle.ss_journal.specs.Kept.{JournalState, IsSealed}
 use Rattle.ss_records.specs.Live.{is_live}
 use Rattle.ss_recover.proofs.GatherLemmas.{AreRead, AreRead-live, AreRead-zeros, extent-kept, free-zeros, finds-more, finds-then, gather-refused}
-use Rattle.ss_recover.proofs.GatherLemmas.{live-zeros, slots-all, slots-more, verdict-same}
+use Rattle.ss_recover.proofs.GatherLemmas.{length-live_below, live-zeros, slots-all, slots-more, verdict-same}
 use Rattle.ss_recover.proofs.gathering.gather.Goals as goal
-use Rattle.ss_recover.proofs.gathering.gather.Goals.{then-is_live+in_ok-found+else-is_err, else-is_live}
+use Rattle.ss_recover.proofs.gathering.gather.Goals.{then-is_live+in_ok-found, else-is_live}
 
 pub returns-in_err-found-clause-gathers : goal.returns-in_err-found-clause-gathers
 returns-in_err-found-clause-gathers g c =
@@ -103,6 +103,23 @@ other-step : (live : List Bool) (slots : List ℕ) (slot : ℕ) → is_live live
     slots ≡ filter (is_live live) (range_with_len 0 (slot + 1))
 other-step live slots slot not-live is = sym (cond-false (is_live live slot) (slots ++ slot ∷ []) slots not-live) ∙ slots-more live slots slot is
 
+pub add-requires : goal.add-requires
+add-requires g c =
+    let before = c.loop-slot.invariant in
+    let finish = c.extent-slot-end.ensures in
+    let within : c.loop-slot.slot < length c.args.records.now.live =
+    omega (arith, c.loop-slot-test.true, finish.value, finish.most, c.live.ensures.sound.slots) in
+    let live : is_live c.args.records.now.live c.loop-slot.slot ≡ true =
+    sym (ap (λ (l : List Bool). is_live l c.loop-slot.slot) before.live) ∙ sym c.is_live.ensures.value ∙ c.if-is_live.true in
+    omega (
+      arith,
+      c.loop-slot.all.ok.0,
+      before.room,
+      length-live_below c.args.records.now.live c.loop-slot.slot within live,
+      ap (λ (ns : List ℕ). length ns) before.slots,
+      length-map c.loop-slot.all.items (λ (f : Found). f.slot),
+    )
+
 pub loop-slot-preserved : goal.loop-slot-preserved
 loop-slot-preserved g c =
     let before = c.loop-slot.invariant in
@@ -115,13 +132,12 @@ loop-slot-preserved g c =
     let within : slot < MOST_SLOTS = omega (arith, lt, most.value, most.most) in
     let value : c.is_live.result ≡ is_live c.args.records.now.live slot = c.is_live.ensures.value ∙ ap (λ (l : List Bool). is_live l slot) before.live in
     elim c.if-is_live.branch [
-      | then-is_live+in_ok-found+else-is_err w ↦
+      | then-is_live+in_ok-found w ↦
           let x = w.in_ok-found.found in
           let read = w.in_ok-found.ensures in
           let is : is_live c.args.records.now.live slot ≡ true = sym value ∙ w.if-is_live.true in
           let pushed : now.all.items ≡ items ++ x ∷ [] =
-          ap (λ (v : Vec Found Global). v.items) w.all-is ∙ w.push.ensures.items
-          ∙ cond-true (is_ok w.push.result) _ items (w.is_err.ensures.negation ∙ ap not w.if-is_err.false) in
+          ap (λ (v : Vec Found Global). v.items) w.all-is ∙ w.add.ensures.added in
           let same-slots : map (λ (f : Found). f.slot) now.all.items ≡ map (λ (f : Found). f.slot) items ++ slot ∷ [] =
           ap (λ (fs : List Found). map (λ f. f.slot) fs) pushed ∙ map-append (λ (f : Found). f.slot) items (x ∷ [])
           ∙ ap (λ (k : ℕ). map (λ (f : Found). f.slot) items ++ k ∷ []) read.slot in
@@ -135,6 +151,7 @@ loop-slot-preserved g c =
             live = ap (λ (r : RecordsState). r.live) w.records-is ∙ read.leaves.live ∙ before.live;
             usable = subst (λ fs. All (λ (f : Found). IsUsable f.holds) fs) (sym pushed)
                 (All-push (λ (f : Found). IsUsable f.holds) items x before.usable read.usable);
+            room = ap (λ (v : Vec Found Global). vec_capacity v) w.all-is ∙ w.add.ensures.room ∙ before.room;
             slots = live-step c.args.records.now.live (map (λ (f : Found). f.slot) items)
                 (map (λ (f : Found). f.slot) now.all.items) slot is before.slots same-slots;
           }
@@ -150,6 +167,7 @@ loop-slot-preserved g c =
             journal = ap (λ (r : RecordsState). r.journal) w.records-is ∙ before.journal;
             live = ap (λ (r : RecordsState). r.live) w.records-is ∙ before.live;
             usable = subst (λ fs. All (λ (f : Found). IsUsable f.holds) fs) (sym kept) before.usable;
+            room = ap (λ (v : Vec Found Global). vec_capacity v) w.all-is ∙ before.room;
             slots = ap (λ (fs : List Found). map (λ f. f.slot) fs) kept
                 ∙ other-step c.args.records.now.live (map (λ (f : Found). f.slot) items) slot is before.slots;
           }

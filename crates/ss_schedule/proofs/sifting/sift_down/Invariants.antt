@@ -1,12 +1,10 @@
-use Rattle.std.proofs.Common.{◌<◌, ◌-◌, length}
-use Rattle.ss_schedule.specs.Held.{AreInverse, IsBelowParent, IsHeapBut, fit_at}
+use Rattle.std.proofs.Common.{◌-◌, length}
+use Rattle.ss_schedule.specs.Held.{AreInHeapBut, IsBelowParent, fit_at}
 use Rattle.ss_schedule.proofs.sifting.sift_down.Given as goal
 
 abbrev pub invariant-loop-index : goal.invariant-loop-index
 invariant-loop-index l = record {
-  inside : l.index < length l.heap;
-  inverse : AreInverse l.heap l.positions;
-  order : IsHeapBut (fit_at l.keys l.heap) (length l.heap) l.index;
+  hole : AreInHeapBut l.keys l.heap l.positions l.index;
   below : IsBelowParent (fit_at l.keys l.heap) l.index;
 }
 
