@@ -1,5 +1,5 @@
--- A stream whose windows are read one after the other, oldest first.
-use Rattle.std.proofs.Common.{◌≡◌, ◌∙◌, ℕ, ◌+◌, ◌<◌, ◌≤◌, List, [], ◌∷◌, ◌++◌, map, refl, sym, ap, subst, arith, append-nil}
+-- A stream whose windows are looked at one after the other, oldest first.
+use Rattle.std.proofs.Common.{◌≡◌, ◌∙◌, ℕ, ◌+◌, ◌<◌, List, [], ◌∷◌, ◌++◌, map, refl, sym, ap, subst, arith, append-nil}
 use Rattle.std.proofs.Common.{Option, Some, None, Ok, Err, Result}
 use Rattle.std.specs.List.{Contains}
 use Rattle.std.proofs.lemmas.List.{map-append}
@@ -8,28 +8,23 @@ use Rattle.ss_codec.specs.declared.record.Record.{Record}
 use Rattle.ss_line.specs.Line.{IsLine, entry_at, index_of, place_at}
 use Rattle.ss_line.specs.declared.entry.At.{At}
 use Rattle.ss_line.specs.declared.entry.Entry.{Entry}
-use Rattle.ss_catalog.specs.declared.query.Kind.{Kind}
 use Rattle.ss_catalog.specs.declared.query.Query.{Query}
-use Rattle.ss_landmarks.specs.Free.{is_free}
 use Rattle.ss_landmarks.specs.ValuesIn.{tally_of, values_in}
 use Rattle.ss_landmarks.specs.declared.tally.Tally.{Tally}
-use Rattle.ss_model.specs.Answers.{answer_of, answer_of_kind}
 use Rattle.ss_model.specs.State.{Stream}
-use Rattle.ss_model.specs.declared.outcome.Outcome.{Outcome}
 use Rattle.ss_model.specs.declared.types.Window.{Window}
-use Rattle.ss_model.specs.Marks.{marked_values}
 use Rattle.ss_outside.proofs.CrashLemmas.{reads-joined, reads-none}
-use Rattle.ss_outside.proofs.StepLemmas.{step-as, step-none, step-then, step-verdict}
+use Rattle.ss_outside.proofs.StepLemmas.{step-as, step-none, step-then}
 use Rattle.ss_outside.specs.Crash.{OnlyReads}
 use Rattle.ss_outside.specs.Disk.{DiskView, OfContent, Told}
 use Rattle.ss_outside.specs.Step.{Step}
-use Rattle.ss_outside.specs.Verdict.{IfChanged, UnlessFailed, fine}
+use Rattle.ss_outside.specs.Verdict.{IfChanged, fine}
 use Rattle.ss_recover.specs.Held.{entries_of, span_held, span_of, window_record}
 use Rattle.ss_recover.specs.declared.parts.StreamParts.{StreamParts}
 use Rattle.ss_journal.specs.Kept.{JournalState, shown}
 use Rattle.ss_records.specs.Kept.{AreKept, RecordsState, shown_by}
-use Rattle.ss_query.specs.Answered.{AnswersStream, BeginsAt, IsAnswered, IsSeenAs, SeesEntry}
-use Rattle.ss_query.specs.Asked.{HasRoom, marks_seen, outcome_seen, seen_after}
+use Rattle.ss_query.specs.Answered.{BeginsAt, IsSeenAs, SeesEntry, SeesStream}
+use Rattle.ss_query.specs.Asked.{HasCuts, HasRoom, marks_seen, seen_after, seen_of}
 use Rattle.ss_query.specs.Held.{IsHeldIn}
 use Rattle.ss_query.specs.Reading.{KeepsRecords, verdict_of_read}
 use Rattle.ss_query.specs.Slots.{HasRecords}
@@ -37,10 +32,9 @@ use Rattle.ss_query.specs.declared.asking.Seen.{Seen}
 use Rattle.ss_query.specs.declared.read_error.ReadError.{ReadError}
 use Rattle.ss_query.specs.declared.read_error.ReadError.TheVariants as error
 use Rattle.ss_query.proofs.NextWindow.{AreLeft, AreLeft-early, AreLeft-more, Follows-next, IsBeside-here, IsNext, IsNext-here, IsWalkedTo}
-use Rattle.ss_query.proofs.NextWindow.{IsWalkedTo-more, after, late-next}
+use Rattle.ss_query.proofs.NextWindow.{IsWalkedTo-more, after, late-next, seen_by}
 use Rattle.ss_query.proofs.Places.{entries_in, none-first}
 use Rattle.ss_query.proofs.Rooms.{HasRoom-none}
-use Rattle.ss_query.proofs.Seeing.{IsSeen, IsSeen-none, outcome-seen}
 
 -- Entries are looked at in a row, by records that are others then, of what they show, up to a place of a line. What they show
 -- stays, as do content and images.
@@ -69,7 +63,7 @@ AreLeft-none others part s image from to marked is held = record {
   spans_gone = refl;
   spans = held.agrees.positions;
   times = held.agrees.times;
-  seen_is = IsSeen-none part.landmarks.landmarks from to marked is;
+  seen_is = ap marks_seen is;
   position = 0;
   time = 0;
   stand = held.stream.windows.stand;
@@ -91,6 +85,7 @@ IsAsking-none disk records part from to start begins kept marked marked_is =
       place = begins.place;
       marked = marked_is;
       room = HasRoom-none marked;
+      cuts = record { left = tt; right = tt };
     } in
     let split : entries_of part ≡ entries_in begins.before ++ entries_in begins.rest =
     ap (λ es. entries_in es) begins.is ∙ map-append (λ (e : At × Entry). e.1) begins.before begins.rest in
@@ -117,27 +112,19 @@ asking-at {before} {now} {records} {records_now} {part} {from} {to} {seen} same 
 
 -- the window that changed is one of the stream
 pub changed-window : (why : ReadError) (slot : ℕ) (slots : List ℕ) → IfChanged (verdict_of_read {T = Seen} (Err why)) (λ at. at ≡ slot) →
-    Contains slots slot → IfChanged (verdict_of_read {T = Outcome} (Err why)) (Contains slots)
+    Contains slots slot → IfChanged (verdict_of_read {T = Seen} (Err why)) (Contains slots)
 changed-window error.Disk slot slots changed among = tt
 changed-window (error.Changed at) slot slots changed among = subst (Contains slots) (sym changed) among
 
--- what is answered from what is known of all windows is the answer of the stream
-outcome-all : (kind : Kind) (part : StreamParts) (from to : ℕ) (seen : Seen) (s : Stream) → part.landmarks.landmarks ≡ s.landmarks →
-    IsSeen part.landmarks.landmarks from to seen s.windows →
-    outcome_seen kind seen ≡ answer_of_kind kind (is_free s.landmarks) from to s.windows (marked_values s.landmarks)
-outcome-all kind part from to seen s same is =
-    subst (λ ls. outcome_seen kind seen ≡ answer_of_kind kind (is_free ls) from to s.windows (marked_values ls)) same
-    (outcome-seen part.landmarks.landmarks from to seen s.windows is kind)
+-- what is known of all windows is known of the stream
+seen-whole : (part : StreamParts) (from to : ℕ) (seen : Seen) (s : Stream) → part.landmarks.landmarks ≡ s.landmarks →
+    seen ≡ seen_by part.landmarks.landmarks from to s.windows → seen ≡ seen_of from to s
+seen-whole part from to seen s same is = is ∙ ap (λ ls. seen_by ls from to s.windows) same
 
--- an error of a look at an entry, as one of an answer
-same-verdict : (why : ReadError) → verdict_of_read {T = Seen} (Err why) ≡ verdict_of_read {T = Outcome} (Err why)
-same-verdict error.Disk = refl
-same-verdict (error.Changed slot) = refl
-
--- a failure says nothing of the answer
-IsAnswered-err : (seen : Seen) (outcome : Outcome) (why : ReadError) → IsSeenAs seen (Err why) → IsAnswered outcome (Err why)
-IsAnswered-err seen outcome error.Disk read = tt
-IsAnswered-err seen outcome (error.Changed slot) read = absurd read
+-- a failure says nothing of what is known
+IsSeenAs-err : (one other : Seen) (why : ReadError) → IsSeenAs one (Err why) → IsSeenAs other (Err why)
+IsSeenAs-err one other error.Disk read = tt
+IsSeenAs-err one other (error.Changed slot) read = absurd read
 
 -- what is shown stays where the journal and the content do
 shown-stays : (was is : JournalState) (old new : List ℕ) → is ≡ was → new ≡ old → shown was old ≡ shown is new
@@ -170,26 +157,26 @@ module _ {before mid : DiskView} {records records_mid : RecordsState} {part : St
 
   module _ {after_it : DiskView} {records_now : RecordsState} where
     -- what follows where it can't be seen
-    pub failed-answer : (why : ReadError) →
+    pub failed-look : (why : ReadError) →
         Step (verdict_of_read {T = Seen} (Err why)) mid after_it (SeesEntry part from to entry seen records_mid records_now (Err why)) →
-        Step (verdict_of_read {T = Outcome} (Err why)) before after_it (AnswersStream part query records records_now (Err why))
-    failed-answer why step =
-        step-then {Q = SeesEntry part from to entry seen records_mid records_now (Err why)} asking.step (step-verdict (same-verdict why) step (λ sees. sees))
+        Step (verdict_of_read {T = Seen} (Err why)) before after_it (SeesStream part query records records_now (Err why))
+    failed-look why step =
+        step-then {Q = SeesEntry part from to entry seen records_mid records_now (Err why)} asking.step step
         (λ walks sees. record {
-          answer = λ others s held.
+          seen = λ others s held.
               let is = sees-next before.told mid.told after_it.told records_now (Err why) walks sees others s held in
-              IsAnswered-err (seen_after part.landmarks.landmarks from to seen is.next.window) (answer_of query s) why is.is;
-          kept = subst (λ v. UnlessFailed v (AreKept records_now after_it.told.content)) (same-verdict why) sees.kept;
+              IsSeenAs-err (seen_after part.landmarks.landmarks from to seen is.next.window) (seen_of from to s) why is.is;
+          kept = sees.kept;
           reads = reads-joined before.told mid.told after_it.told walks.reads sees.reads;
         })
 
     pub IsAsking-more : (now : Seen) → Step fine mid after_it (SeesEntry part from to entry seen records_mid records_now (Ok now)) →
-        HasRoom now × (now.marked ≡ seen.marked) → KeepsRecords fine records_mid records_now → (next : Option At) →
+        HasRoom now × (now.marked ≡ seen.marked) → HasCuts now → KeepsRecords fine records_mid records_now → (next : Option At) →
         next ≡ place_at part.line.entries (index_of part.line.entries at + 1) →
         IsAsking before after_it records records_now part from to now next
     unfolding IsWalkedTo-more after
-    IsAsking-more now step room keeps next place = record {
-      line = IsWalkedTo-more line asking.line read next now place room.0 room.1;
+    IsAsking-more now step room cuts keeps next place = record {
+      line = IsWalkedTo-more line asking.line read next now place room.0 room.1 cuts;
       step = step-then asking.step step (λ walks sees. record {
         left = λ others s held.
             let it = sees-next before.told mid.told after_it.told records_now (Ok now) walks sees others s held in
@@ -202,13 +189,11 @@ module _ {before mid : DiskView} {records records_mid : RecordsState} {part : St
     }
 
   -- where it begins after the range, what is known is all
-  pub late-answer : to < entry.t_first → (outcome : Outcome) → outcome ≡ outcome_seen query.kind seen →
-      Step fine before mid (AnswersStream part query records records_mid (Ok outcome))
-  late-answer late outcome is =
+  pub late-look : to < entry.t_first → Step fine before mid (SeesStream part query records records_mid (Ok seen))
+  late-look late =
       step-as asking.step (λ walks. record {
-        answer = λ others s held.
-            is ∙ outcome-all query.kind part from to seen s held.agrees.landmarks
-            (late-next (IsNext-here line asking.line read s (walks.left others s held)) late);
+        seen = λ others s held.
+            seen-whole part from to seen s held.agrees.landmarks (late-next (IsNext-here line asking.line read s (walks.left others s held)) late);
         kept = walks.kept;
         reads = walks.reads;
       })
@@ -219,20 +204,20 @@ no-spans (w ∷ ws) none = absurd (cc)
 
 -- at the end of the line all windows were looked at
 seen-all : (part : StreamParts) (from to : ℕ) (seen : Seen) (line : IsWalkedTo part from to seen None) (s : Stream) →
-    AreLeft s part.landmarks.landmarks from to (entries_in line.before) (entries_in line.rest) seen → IsSeen part.landmarks.landmarks from to seen s.windows
+    AreLeft s part.landmarks.landmarks from to (entries_in line.before) (entries_in line.rest) seen →
+    seen ≡ seen_by part.landmarks.landmarks from to s.windows
 seen-all part from to seen line s left =
     let none : line.rest ≡ [] = none-first line.rest line.place in
     let none_left : left.windows ≡ [] = no-spans left.windows (sym left.spans ∙ ap (λ es. map span_held (entries_in es)) none) in
-    subst (λ ws. IsSeen part.landmarks.landmarks from to seen ws) (sym (left.is ∙ ap (λ ws. left.gone ++ ws) none_left ∙ append-nil left.gone)) left.seen_is
+    left.seen_is
+    ∙ ap (λ ws. seen_by part.landmarks.landmarks from to ws) (sym (left.is ∙ ap (λ ws. left.gone ++ ws) none_left ∙ append-nil left.gone))
 
-pub all-answer : {before now : DiskView} {records records_now : RecordsState} {part : StreamParts} {seen : Seen} (query : Query) (outcome : Outcome) →
-    IsAsking before now records records_now part query.from query.to seen None → outcome ≡ outcome_seen query.kind seen →
-    Step fine before now (AnswersStream part query records records_now (Ok outcome))
-all-answer {part = part} {seen = seen} query outcome asking is =
+pub all-look : {before now : DiskView} {records records_now : RecordsState} {part : StreamParts} {seen : Seen} (query : Query) →
+    IsAsking before now records records_now part query.from query.to seen None → Step fine before now (SeesStream part query records records_now (Ok seen))
+all-look {part = part} {seen = seen} query asking =
     step-as asking.step (λ walks. record {
-      answer = λ others s held.
-          is ∙ outcome-all query.kind part query.from query.to seen s held.agrees.landmarks
-          (seen-all part query.from query.to seen asking.line s (walks.left others s held));
+      seen = λ others s held.
+          seen-whole part query.from query.to seen s held.agrees.landmarks (seen-all part query.from query.to seen asking.line s (walks.left others s held));
       kept = walks.kept;
       reads = walks.reads;
     })

@@ -4,6 +4,8 @@ pub mod NearSums
 pub mod MarkedTallies
 pub mod Rooms
 pub mod Seeing
+pub mod Outcomes
+pub mod SeenAnswers
 pub mod SplitLemmas
 pub mod SeenEntries
 pub mod NextWindow

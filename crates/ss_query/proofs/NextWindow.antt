@@ -1,13 +1,14 @@
 -- The next window of a stream whose windows are looked at one after the other, oldest first.
 use Rattle.std.proofs.Common.{◌≡◌, ◌∙◌, ℕ, ◌+◌, ◌-◌, ◌<◌, ◌≤◌, Bool, true, List, [], ◌∷◌, ◌++◌, map, length, refl, sym, ap, inl, inr}
 use Rattle.std.proofs.Common.{ap₂, subst, arith, append_assoc, append-nil, length-append, drop, get_or, Option, Some, None, IsTrue}
-use Rattle.std.specs.Prelude.{All, option_map, slice_get, zip}
+use Rattle.std.specs.Prelude.{All, fold, option_map, slice_get, zip}
 use Rattle.std.specs.List.{AllByRecursion, Contains, list_all}
 use Rattle.std.proofs.lemmas.Bool.{and_parts, cases_Bool, cond-false, cond-true}
 use Rattle.std.proofs.lemmas.List.{map-append}
 use Rattle.std.proofs.lemmas.List.Elements.{All-get_or}
 use Rattle.std.proofs.lemmas.List.Folds.{list_all-append}
 use Rattle.std.proofs.lemmas.List.Sorted.{IsPermutation-middle}
+use Rattle.std.proofs.lemmas.List.Sums.{fold-append}
 use Rattle.std.proofs.lemmas.Option.{get_or_from_slice_get, slice_get-map, slice_get_within}
 use Rattle.ss_codec.specs.declared.record.Record.{Record}
 use Rattle.ss_landmarks.specs.Landmark.{Landmark}
@@ -27,18 +28,22 @@ use Rattle.ss_recover.specs.Held.{entries_of, marks_held, records_held, span_hel
 use Rattle.ss_recover.specs.declared.parts.StreamParts.{StreamParts}
 use Rattle.ss_summary.specs.declared.summary.TheConstants.{GREATEST_COUNT}
 use Rattle.ss_query.specs.Answered.{window_slots_of}
-use Rattle.ss_query.specs.Asked.{Follows, HasRoom, seen_after, seen_with}
+use Rattle.ss_query.specs.Asked.{Follows, HasCuts, HasRoom, marks_seen, seen_after, seen_with}
 use Rattle.ss_query.specs.Held.{IsHeldIn}
 use Rattle.ss_query.specs.Slots.{HasRecords}
 use Rattle.ss_query.specs.declared.asking.Seen.{Seen}
 use Rattle.ss_query.proofs.Places.{IsAt-first, entries_in, index_of-next, place_at-seam, read-once, slice_get-entry}
 use Rattle.ss_query.proofs.Records.{HasRecords-permutation, zip-held}
-use Rattle.ss_query.proofs.Seeing.{IsSeen, IsSeen-late, IsSeen-more, IsSeen-skip, apart-early, apart-late}
+use Rattle.ss_query.proofs.Seeing.{apart-early, apart-late, fold-late}
 
 -- what each of some passes, one among them passes
 pub list_all-middle : {X : Type 0} (test : X → Bool) (xs : List X) (x : X) (ys : List X) → list_all test (xs ++ x ∷ ys) ≡ true → test x ≡ true
 list_all-middle test xs x ys all =
     (and_parts (test x) (list_all test ys) (and_parts (list_all test xs) (list_all test (x ∷ ys)) (sym (list_all-append test xs (x ∷ ys)) ∙ all)).1).0
+
+-- what is known of a range once these windows of a stream are read
+abbrev pub seen_by : List Landmark → ℕ → ℕ → List Window → Seen
+seen_by landmarks from to ws = fold (seen_after landmarks from to) (marks_seen (tally_of (values_in landmarks from to))) ws
 
 -- how many entries are left from a place on
 abbrev pub left_from : List (At × Entry) → Option At → ℕ
@@ -54,7 +59,7 @@ pub record AreLeft (s : Stream) (landmarks : List Landmark) (from to : ℕ) (bef
   pub spans_gone : map span_held before ≡ map span_of gone
   pub spans : map span_held rest ≡ map span_of windows
   pub times : map times_held rest ≡ map times_of windows
-  pub seen_is : IsSeen landmarks from to seen gone
+  pub seen_is : seen ≡ seen_by landmarks from to gone
   pub position : ℕ
   pub time : ℕ
   pub stand : StandFrom (position + 1) time windows
@@ -70,6 +75,7 @@ pub record IsWalkedTo (part : StreamParts) (from to : ℕ) (seen : Seen) (next :
   pub place : next ≡ place_at rest 0
   pub marked : seen.marked ≡ tally_of (values_in part.landmarks.landmarks from to)
   pub room : HasRoom seen
+  pub cuts : HasCuts seen
 
 first-window : (e : Entry) (es : List Entry) (ws : List Window) → map span_held (e ∷ es) ≡ map span_of ws →
     (w : Window) × (vs : List Window) × (ws ≡ w ∷ vs) × (span_held e ≡ span_of w) × (map span_held es ≡ map span_of vs)
@@ -88,7 +94,7 @@ pub record IsNext (s : Stream) (landmarks : List Landmark) (from to : ℕ) (befo
   pub time : times_held entry ≡ times_of window
   pub spans : map span_held after ≡ map span_of behind
   pub times : map times_held after ≡ map times_of behind
-  pub seen_is : IsSeen landmarks from to seen gone
+  pub seen_is : seen ≡ seen_by landmarks from to gone
   pub position : ℕ
   pub taken_so_far : seen.taken ≤ position
   pub later : seen.next_time ≤ window.summary.t_first
@@ -139,9 +145,17 @@ module _ {s : Stream} {landmarks : List Landmark} {from to : ℕ} {before : List
     gone-next =
         map-append span_held before (entry ∷ []) ∙ ap₂ (λ xs x. xs ++ x ∷ []) next.spans_gone next.span ∙ sym (map-append span_of next.gone (w ∷ []))
 
+    seen-next : seen_after landmarks from to seen w ≡ seen_by landmarks from to (next.gone ++ w ∷ [])
+    seen-next =
+        ap (λ (now : Seen). seen_after landmarks from to now w) next.seen_is
+        ∙ sym (fold-append (seen_after landmarks from to) (marks_seen (tally_of (values_in landmarks from to))) next.gone (w ∷ []))
+
+    seen-apart : is_apart from to w ≡ true → seen ≡ seen_by landmarks from to (next.gone ++ w ∷ [])
+    seen-apart apart = sym (cond-true (is_apart from to w) seen (seen_with landmarks from to seen w) apart) ∙ seen-next
+
     -- the windows that are left, once this one was looked at
     left-with : (now : Seen) → now.taken ≤ seen.taken + w.summary.count → now.next_time ≤ w.summary.t_last + 1 →
-        IsSeen landmarks from to now (next.gone ++ w ∷ []) → AreLeft s landmarks from to (before ++ entry ∷ []) after now
+        now ≡ seen_by landmarks from to (next.gone ++ w ∷ []) → AreLeft s landmarks from to (before ++ entry ∷ []) after now
     left-with now few soon is = record {
       gone = next.gone ++ w ∷ [];
       windows = next.behind;
@@ -160,29 +174,37 @@ module _ {s : Stream} {landmarks : List Landmark} {from to : ℕ} {before : List
 
     pub left-apart : is_apart from to w ≡ true → AreLeft s landmarks from to (before ++ entry ∷ []) after seen
     left-apart apart =
+        let later = next.later in let rises = next.rises in left-with seen (omega arith) (omega (arith, later, rises)) (seen-apart apart)
+
+    Ends : Seen → Type 0
+    Ends now = (now.taken ≤ seen.taken + w.summary.count) × (now.next_time ≤ w.summary.t_last + 1)
+
+    ends-after : Ends (seen_after landmarks from to seen w)
+    unfolding Ends
+    ends-after =
         let later = next.later in
         let rises = next.rises in
-        left-with seen (omega arith) (omega (arith, later, rises)) (IsSeen-skip landmarks from to seen next.gone w apart next.rises next.seen_is)
+        elim (cases_Bool (is_apart from to w)) [
+          | inl apart ↦
+              subst Ends (sym (cond-true (is_apart from to w) seen (seen_with landmarks from to seen w) apart)) (omega arith, omega (arith, later, rises))
+          | inr meets ↦
+              subst Ends (sym (cond-false (is_apart from to w) seen (seen_with landmarks from to seen w) meets)) (omega arith, omega arith)
+        ]
 
     pub AreLeft-after : AreLeft s landmarks from to (before ++ entry ∷ []) after (seen_after landmarks from to seen w)
-    AreLeft-after = elim (cases_Bool (is_apart from to w)) [
-      | inl apart ↦
-          subst (AreLeft s landmarks from to (before ++ entry ∷ []) after) (sym (cond-true (is_apart from to w) seen _ apart)) (left-apart apart)
-      | inr meets ↦
-          subst (AreLeft s landmarks from to (before ++ entry ∷ []) after) (sym (cond-false (is_apart from to w) seen _ meets))
-          (left-with (seen_with landmarks from to seen w) (omega arith) (omega arith)
-          (IsSeen-more landmarks from to seen next.gone w next.seen_is next.later next.rises))
-    ]
+    unfolding Ends
+    AreLeft-after = left-with (seen_after landmarks from to seen w) ends-after.0 ends-after.1 seen-next
 
     -- where it begins after the range, nothing more is in it
-    pub late-next : to < entry.t_first → IsSeen landmarks from to seen s.windows
+    pub late-next : to < entry.t_first → seen ≡ seen_by landmarks from to s.windows
     late-next late =
         let begins : entry.t_first ≡ w.summary.t_first = ap (λ (p : ℕ × ℕ). p.0) next.time in
         let rises = next.rises in
-        let first = IsSeen-skip landmarks from to seen next.gone w (apart-late from to w.summary.t_first w.summary.t_last (omega (arith, begins, late)))
-        next.rises next.seen_is in
-        subst (λ ws. IsSeen landmarks from to seen ws) (append_assoc next.gone (w ∷ []) next.behind ∙ sym next.is)
-        (IsSeen-late landmarks from to seen (next.gone ++ w ∷ []) _ _ next.behind next.stand (omega (arith, begins, late, rises)) first)
+        let here = seen-apart (apart-late from to w.summary.t_first w.summary.t_last (omega (arith, begins, late))) in
+        let rest = fold-late landmarks from to seen _ _ next.behind next.stand (omega (arith, begins, late, rises)) in
+        sym rest ∙ ap (λ (now : Seen). fold (seen_after landmarks from to) now next.behind) here
+        ∙ sym (fold-append (seen_after landmarks from to) (marks_seen (tally_of (values_in landmarks from to))) (next.gone ++ w ∷ []) next.behind)
+        ∙ ap (λ ws. seen_by landmarks from to ws) (append_assoc next.gone (w ∷ []) next.behind ∙ sym next.is)
 
 -- windows that end before the range are passed over
 pub AreLeft-early : (s : Stream) (landmarks : List Landmark) (from to : ℕ) (before : List Entry) (early : List (At × Entry)) (rest : List Entry) (seen : Seen) →
@@ -299,14 +321,15 @@ module _ {part : StreamParts} {from to : ℕ} {seen : Seen} {at : At} (line : Is
         omega (arith, index, stands)
 
     unfoldable pub IsWalkedTo-more : (next : Option At) (now : Seen) → next ≡ place_at part.line.entries (index_of part.line.entries at + 1) →
-        HasRoom now → now.marked ≡ seen.marked → IsWalkedTo part from to now next
-    IsWalkedTo-more next now place room marked = record {
+        HasRoom now → now.marked ≡ seen.marked → HasCuts now → IsWalkedTo part from to now next
+    IsWalkedTo-more next now place room marked cuts = record {
       before = to_here.before ++ (at, entry) ∷ [];
       rest = after;
       is = moved-here;
       place = next-here next place;
       marked = marked ∙ to_here.marked;
       room = room;
+      cuts = cuts;
     }
 
     -- the windows that are left then

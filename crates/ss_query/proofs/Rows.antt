@@ -1,14 +1,18 @@
 -- Worked rows: the verdicts of reading, which window may come next, and what is answered from what is known.
 use Rattle.std.proofs.Common.{◌≡◌, ℕ, ◌<◌, ◌≤◌, All, List, [], ◌∷◌, ◌++◌, map, ap, refl, arith, Option, None, Some, Err, Ok, pos}
 use Rattle.std.specs.Prelude.{◌+◌, ◌-◌, ◌^◌, IfSome}
+use Rattle.std.specs.Option.{option_map_or}
 use Rattle.ss_outside.specs.Disk.{Told}
 use Rattle.ss_outside.specs.Verdict.{changed, failed, fine}
+use Rattle.ss_bounds.specs.Split.{IsSplit}
+use Rattle.ss_catalog.specs.declared.params.Params.TheVariants.{Exp}
 use Rattle.ss_catalog.specs.declared.query.Kind.TheVariants as kinds
 use Rattle.ss_catalog.specs.declared.query.Query.{Query}
 use Rattle.ss_landmarks.specs.declared.tally.Tally.{Tally}
 use Rattle.ss_line.specs.Line.{place_at}
 use Rattle.ss_line.specs.declared.entry.At.{At}
 use Rattle.ss_line.specs.declared.entry.Entry.{Entry}
+use Rattle.ss_model.specs.State.{Stream}
 use Rattle.ss_model.specs.declared.outcome.Outcome.{Outcome}
 use Rattle.ss_model.specs.declared.outcome.Outcome.TheVariants.{Count, Sum}
 use Rattle.ss_model.specs.declared.types.Window.{Window}
@@ -16,10 +20,11 @@ use Rattle.ss_records.specs.Kept.{AreKept, RecordsState}
 use Rattle.ss_recover.specs.Held.{entries_of}
 use Rattle.ss_recover.specs.declared.parts.StreamParts.{StreamParts}
 use Rattle.ss_summary.specs.Figures.{Figures}
-use Rattle.ss_query.specs.Answered.{AnswersStream, BeginsAt, IsAnswered, IsSeenAs, window_slots_of}
-use Rattle.ss_query.specs.Asked.{Follows, HasRoom, marks_seen, outcome_seen, seen_after, seen_with}
+use Rattle.ss_query.specs.Answered.{AnswersStream, BeginsAt, IsAnswered, IsSeenAs, SeesStream, window_slots_of}
+use Rattle.ss_query.specs.Asked.{Follows, HasCuts, HasRoom, IsCut, cut_of, marks_seen, outcome_seen, seen_after, seen_of, seen_with}
 use Rattle.ss_query.specs.Reading.{IsRead, IsWindowOf, KeepsRecords, ReadsWindow, verdict_of_read}
 use Rattle.ss_query.specs.declared.asking.Seen.{Seen}
+use Rattle.ss_query.specs.declared.cut.Cut.{Cut}
 use Rattle.ss_query.specs.declared.read_error.ReadError.TheVariants as error
 
 -- each error has its verdict
@@ -130,6 +135,58 @@ split-count : outcome_seen kinds.Count (known 20) ≡ Count 3 4
 unfolding known window marked
 split-count = refl
 
+-- such a window is cut: its positions, how many of its values there are, and the ends and times that lie in the range and outside it
+cut : Cut
+cut = cut_of [] 20 40 (window 4 3)
+
+cut-figures : cut.first ∷ cut.last ∷ cut.split.count ∷ cut.split.ends ∷ cut.split.inside ∷ cut.split.outside ∷ [] ≡ 4 ∷ 6 ∷ 3 ∷ 1 ∷ 10 ∷ 9 ∷ []
+unfolding cut window
+cut-figures = refl
+
+cut-values : cut.split.sum ∷ cut.split.min ∷ cut.split.max ∷ [] ≡ pos 9 ∷ pos 2 ∷ pos 4 ∷ []
+unfolding cut window
+cut-values = refl
+
+-- it has as many values as its positions say, and figures of a window that a range may split
+IsCut-span : (one : Cut) → IsCut one → IsSplit one.split × (one.first + one.split.count ≡ one.last + 1)
+IsCut-span one is = (is.split, is.span)
+
+HasCuts-both : (seen : Seen) → HasCuts seen → IfSome seen.left IsCut × IfSome seen.right IsCut
+HasCuts-both seen cuts = (cuts.left, cuts.right)
+
+-- of two windows, at the times 10 to 30 and 50 to 60, and a landmark's value: the range from 20 cuts the first, and the second is whole;
+-- the range to 55 cuts both, and that from 42 to 49 none
+one_stream : Stream
+one_stream = record {
+  number = 0;
+  name = 97 ∷ [];
+  params = Exp 2 1 1;
+  windows = window 1 3 ∷ record { first = 4; summary = record { count = 2; sum = pos 8; min = pos 3; max = pos 5; t_first = 50; t_last = 60 } } ∷ [];
+  landmarks = record { start = 40; finish = Some 44; values = record { t = 41; v = pos 7 } ∷ [] } ∷ [];
+}
+
+-- the positions of the windows that a range cuts, and how many values the whole ones and the landmarks in it have
+ends_of : Option Cut → List ℕ
+ends_of None = []
+ends_of (Some one) = one.first ∷ one.last ∷ []
+
+found : ℕ → ℕ → List (List ℕ)
+found from to =
+    let seen = seen_of from to one_stream in
+    ends_of seen.left ∷ ends_of seen.right ∷ (option_map_or (λ (f : Figures). f.count) seen.whole 0 ∷ seen.marked.count ∷ []) ∷ []
+
+seen-one : found 20 70 ≡ (1 ∷ 3 ∷ []) ∷ [] ∷ (2 ∷ 1 ∷ []) ∷ []
+unfolding found ends_of one_stream window
+seen-one = refl
+
+seen-both : found 20 55 ≡ (1 ∷ 3 ∷ []) ∷ (4 ∷ 5 ∷ []) ∷ (0 ∷ 1 ∷ []) ∷ []
+unfolding found ends_of one_stream window
+seen-both = refl
+
+seen-none : found 42 49 ≡ [] ∷ [] ∷ (0 ∷ 0 ∷ []) ∷ []
+unfolding found ends_of one_stream window
+seen-none = refl
+
 -- which position and time come next
 next-taken : (known 10).taken ≡ 3
 unfolding known window marked
@@ -152,6 +209,9 @@ window-count part entry summary is = is.count
 module _ (part : StreamParts) (was is : RecordsState) (slot : ℕ) (old new : Told) where
   reads-changed : (entry : Entry) → ReadsWindow part entry was is (Err (error.Changed slot)) old new → AreKept is new.content
   reads-changed entry reads = reads.kept
+
+  sees-changed : (query : Query) → SeesStream part query was is (Err (error.Changed slot)) old new → AreKept is new.content
+  sees-changed query sees = sees.kept
 
   answers-changed : (query : Query) → AnswersStream part query was is (Err (error.Changed slot)) old new → AreKept is new.content
   answers-changed query answers = answers.kept

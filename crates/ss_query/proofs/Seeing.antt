@@ -1,58 +1,53 @@
 -- What is known of a range of times once the windows are read is what their answer is made of.
 use Rattle.std.proofs.Common.{◌≡◌, ◌∙◌, ℕ, ◌+◌, ◌<◌, ◌≤◌, Bool, true, false, List, [], ◌∷◌, ◌++◌, map, refl, sym, ap, ap₂, subst}
 use Rattle.std.proofs.Common.{arith, Option, Some, None, inl, inr, append-nil, append_assoc}
-use Rattle.std.specs.Prelude.{◌&&◌, ◌||◌, not, nat_le, nat_lt, if◌then◌else◌, ℤ, pos, ◌+ℤ◌, sum_by, option_map, IfSome}
+use Rattle.std.specs.Prelude.{◌&&◌, ◌||◌, not, nat_le, nat_lt, if◌then◌else◌, ℤ, pos, ◌+ℤ◌, fold, sum_by, option_map, IfSome}
 use Rattle.std.specs.List.{filter}
 use Rattle.std.specs.Option.{option_map_or}
 use Rattle.std.specs.Int.{int_max, int_min}
-use Rattle.std.proofs.lemmas.Bool.{cases_Bool, cases_lt}
+use Rattle.std.proofs.lemmas.Bool.{cases_Bool, cases_lt, cond-false, cond-true}
 use Rattle.std.proofs.lemmas.Bool.Decides.{nat_tests}
 use Rattle.std.proofs.lemmas.Int.{ints}
 use Rattle.std.proofs.lemmas.List.{map-append}
 use Rattle.std.proofs.lemmas.List.Elements.{filter-append}
-use Rattle.std.proofs.lemmas.List.Sums.{sum_by-cons, sum_by_push}
+use Rattle.std.proofs.lemmas.List.Sums.{sum_by_push}
 use Rattle.ss_bounds.specs.Either.{either, greatest_in, least_in}
-use Rattle.ss_bounds.specs.Extremes.{listed, max_interval, min_interval}
-use Rattle.ss_bounds.specs.Split.{SplitFigures, greatest_count, least_count, sum_interval}
-use Rattle.ss_bounds.specs.Truth.{asked, total}
+use Rattle.ss_bounds.specs.Extremes.{listed}
+use Rattle.ss_bounds.specs.Truth.{total}
 use Rattle.ss_bounds.proofs.ChoiceLemmas.{IsChoice-max, IsChoice-min, choice_in-append}
-use Rattle.ss_catalog.specs.declared.query.Kind.{Kind}
-use Rattle.ss_catalog.specs.declared.query.Kind.TheVariants as kinds
-use Rattle.ss_landmarks.specs.Free.{is_free}
 use Rattle.ss_landmarks.specs.Landmark.{Landmark}
 use Rattle.ss_landmarks.specs.ValuesIn.{tally_of, values_in}
 use Rattle.ss_landmarks.specs.declared.tally.Tally.{Tally}
-use Rattle.ss_model.specs.Answers.{IsOfKind, answer_of_kind}
-use Rattle.ss_model.specs.Interval.{is_apart, is_split, is_whole, known_maxs, known_mins, split_figures, split_windows, whole_windows}
-use Rattle.ss_model.specs.Marks.{marked_values}
+use Rattle.ss_model.specs.Interval.{is_apart, is_split, is_whole, whole_windows}
+use Rattle.ss_model.specs.Standing.{IsStream}
+use Rattle.ss_model.specs.State.{Stream}
 use Rattle.ss_model.specs.Tiling.{StandFrom}
-use Rattle.ss_model.specs.declared.outcome.Outcome.TheVariants.{Count, Max, Min, Sum}
 use Rattle.ss_model.specs.declared.types.Window.{Window}
 use Rattle.ss_summary.specs.Figures.{Figures}
-use Rattle.ss_query.specs.Asked.{counts_of, joined_with, known_max, known_min, known_sum, left_with, marks_seen, outcome_seen}
-use Rattle.ss_query.specs.Asked.{right_with, seen_with, sums_of, whole_with}
+use Rattle.ss_query.specs.Asked.{cut_of, joined_with, left_with, marks_seen}
+use Rattle.ss_query.specs.Asked.{right_with, seen_after, seen_of, seen_with, whole_with}
 use Rattle.ss_query.specs.declared.asking.Seen.{Seen}
-use Rattle.ss_query.proofs.MarkedTallies.{greatest-asked, least-asked, length-asked, total-asked}
+use Rattle.ss_query.specs.declared.cut.Cut.{Cut}
 
 -- how many values the whole windows have, and their sum
-abbrev whole_count : Option Figures → ℕ
+abbrev pub whole_count : Option Figures → ℕ
 whole_count whole = option_map_or (λ (f : Figures). f.count) whole 0
 
-abbrev whole_sum : Option Figures → ℤ
+abbrev pub whole_sum : Option Figures → ℤ
 whole_sum whole = option_map_or (λ (f : Figures). f.sum) whole (pos 0)
 
 -- the figures of whole windows that are known together
-record AreKnown (whole : Option Figures) (ws : List Window) : Type 0 where
-  count : whole_count whole ≡ sum_by (λ (w : Window). w.summary.count) ws
-  sum : whole_sum whole ≡ total (map (λ (w : Window). w.summary.sum) ws)
-  least : option_map (λ (f : Figures). f.min) whole ≡ least_in (map (λ (w : Window). w.summary.min) ws)
-  greatest : option_map (λ (f : Figures). f.max) whole ≡ greatest_in (map (λ (w : Window). w.summary.max) ws)
+pub record AreKnown (whole : Option Figures) (ws : List Window) : Type 0 where
+  pub count : whole_count whole ≡ sum_by (λ (w : Window). w.summary.count) ws
+  pub sum : whole_sum whole ≡ total (map (λ (w : Window). w.summary.sum) ws)
+  pub least : option_map (λ (f : Figures). f.min) whole ≡ least_in (map (λ (w : Window). w.summary.min) ws)
+  pub greatest : option_map (λ (f : Figures). f.max) whole ≡ greatest_in (map (λ (w : Window). w.summary.max) ws)
 
 -- what is known of a range once these windows are read
 pub record IsSeen (landmarks : List Landmark) (from to : ℕ) (seen : Seen) (ws : List Window) : Type 0 where
   pub marked : seen.marked ≡ tally_of (values_in landmarks from to)
-  known : AreKnown seen.whole (whole_windows from to ws)
-  splits : listed seen.left seen.right ≡ split_windows (is_free landmarks) from to ws
+  pub known : AreKnown seen.whole (whole_windows from to ws)
+  pub cuts : listed seen.left seen.right ≡ map (cut_of landmarks from to) (filter (is_split from to) ws)
   left_behind : IfSome seen.left (λ s. from < seen.next_time)
   right_behind : IfSome seen.right (λ s. to + 1 < seen.next_time)
   pub whole_behind : IfSome seen.whole (λ f. f.t_last < seen.next_time)
@@ -62,7 +57,7 @@ pub IsSeen-none : (landmarks : List Landmark) (from to : ℕ) (marked : Tally) �
 IsSeen-none landmarks from to marked is = record {
   marked = is;
   known = record { count = refl; sum = refl; least = refl; greatest = refl };
-  splits = refl;
+  cuts = refl;
   left_behind = tt;
   right_behind = tt;
   whole_behind = tt;
@@ -87,7 +82,7 @@ IsSeen-skip landmarks from to seen ws w apart order is =
     record {
       marked = is.marked;
       known = subst (λ (vs : List Window). AreKnown seen.whole vs) (sym (filter-same (is_whole from to) ws w not_whole)) is.known;
-      splits = is.splits ∙ sym (ap (map (split_figures (is_free landmarks) from to)) (filter-same (is_split from to) ws w not_split));
+      cuts = is.cuts ∙ sym (ap (map (cut_of landmarks from to)) (filter-same (is_split from to) ws w not_split));
       left_behind = is.left_behind;
       right_behind = is.right_behind;
       whole_behind = is.whole_behind;
@@ -101,18 +96,17 @@ pub apart-late : (from to first last : ℕ) → to < first → (nat_lt last from
 apart-late from to first last late = grind (arith, nat_tests)
 
 -- windows that begin after the range change nothing
-pub IsSeen-late : (landmarks : List Landmark) (from to : ℕ) (seen : Seen) (gone : List Window) (first time : ℕ) (ws : List Window) → StandFrom first time ws →
-    to < time → IsSeen landmarks from to seen gone → IsSeen landmarks from to seen (gone ++ ws)
-IsSeen-late landmarks from to seen gone first time [] stand late is = subst (λ ws. IsSeen landmarks from to seen ws) (sym (append-nil gone)) is
-IsSeen-late landmarks from to seen gone first time (w ∷ ws) stand late is =
+pub fold-late : (landmarks : List Landmark) (from to : ℕ) (seen : Seen) (first time : ℕ) (ws : List Window) → StandFrom first time ws → to < time →
+    fold (seen_after landmarks from to) seen ws ≡ seen
+fold-late landmarks from to seen first time [] stand late = refl
+fold-late landmarks from to seen first time (w ∷ ws) stand late =
     let possible = stand.1 in
     let some = possible.count_low in
     let long = possible.times in
     let begins = stand.2 in
-    let apart = apart-late from to w.summary.t_first w.summary.t_last (omega (arith, begins, late)) in
-    let one = IsSeen-skip landmarks from to seen gone w apart (omega (arith, some, long)) is in
-    subst (λ vs. IsSeen landmarks from to seen vs) (append_assoc gone (w ∷ []) ws)
-    (IsSeen-late landmarks from to seen (gone ++ w ∷ []) (first + w.summary.count) (w.summary.t_last + 1) ws stand.3 (omega (arith, begins, late, some, long)) one)
+    let apart : is_apart from to w ≡ true = apart-late from to w.summary.t_first w.summary.t_last (omega (arith, begins, late)) in
+    ap (λ (s : Seen). fold (seen_after landmarks from to) s ws) (cond-true (is_apart from to w) seen (seen_with landmarks from to seen w) apart)
+    ∙ fold-late landmarks from to seen (first + w.summary.count) (w.summary.t_last + 1) ws stand.3 (omega (arith, begins, late, some, long))
 
 total-push : (vs : List ℤ) (v : ℤ) → total (vs ++ v ∷ []) ≡ (total vs +ℤ v)
 total-push [] v = omega (arith, ints)
@@ -156,12 +150,12 @@ known-with from to whole ws w known = elim (cases_Bool (is_whole from to w)) [
   | inr not_is ↦ rw (not_is, filter-same (is_whole from to) ws w not_is) known
 ]
 
-listed-first : (left right : Option SplitFigures) (s : SplitFigures) → left ≡ None → right ≡ None → listed (Some s) right ≡ listed left right ++ s ∷ []
+listed-first : (left right : Option Cut) (s : Cut) → left ≡ None → right ≡ None → listed (Some s) right ≡ listed left right ++ s ∷ []
 listed-first None None s none_left none_right = refl
 listed-first None (Some r) s none_left none_right = absurd (cc)
 listed-first (Some l) right s none_left none_right = absurd (cc)
 
-listed-second : (left right : Option SplitFigures) (s : SplitFigures) → right ≡ None → listed left (Some s) ≡ listed left right ++ s ∷ []
+listed-second : (left right : Option Cut) (s : Cut) → right ≡ None → listed left (Some s) ≡ listed left right ++ s ∷ []
 listed-second None None s none = refl
 listed-second (Some l) None s none = refl
 listed-second left (Some r) s none = absurd (cc)
@@ -201,37 +195,37 @@ second-false false b second = refl
 first-false : (a b : Bool) → a ≡ false → (a && b) ≡ false
 first-false a b first = rw first refl
 
-module _ (landmarks : List Landmark) (from to : ℕ) (left right : Option SplitFigures) (w : Window) where
+module _ (landmarks : List Landmark) (from to : ℕ) (left right : Option Cut) (w : Window) where
   left-here : is_split from to w ≡ true → nat_lt w.summary.t_first from ≡ true →
-      left_with landmarks from to left w ≡ Some (split_figures (is_free landmarks) from to w)
+      left_with landmarks from to left w ≡ Some (cut_of landmarks from to w)
   left-here split early =
-      choosing (is_split from to w && nat_lt w.summary.t_first from) true (Some (split_figures (is_free landmarks) from to w)) left
+      choosing (is_split from to w && nat_lt w.summary.t_first from) true (Some (cut_of landmarks from to w)) left
       (both-true (is_split from to w) (nat_lt w.summary.t_first from) split early)
 
   left-late : nat_lt w.summary.t_first from ≡ false → left_with landmarks from to left w ≡ left
   left-late late =
-      choosing (is_split from to w && nat_lt w.summary.t_first from) false (Some (split_figures (is_free landmarks) from to w)) left
+      choosing (is_split from to w && nat_lt w.summary.t_first from) false (Some (cut_of landmarks from to w)) left
       (second-false (is_split from to w) (nat_lt w.summary.t_first from) late)
 
   left-unsplit : is_split from to w ≡ false → left_with landmarks from to left w ≡ left
   left-unsplit unsplit =
-      choosing (is_split from to w && nat_lt w.summary.t_first from) false (Some (split_figures (is_free landmarks) from to w)) left
+      choosing (is_split from to w && nat_lt w.summary.t_first from) false (Some (cut_of landmarks from to w)) left
       (first-false (is_split from to w) (nat_lt w.summary.t_first from) unsplit)
 
   right-here : is_split from to w ≡ true → nat_le from w.summary.t_first ≡ true →
-      right_with landmarks from to right w ≡ Some (split_figures (is_free landmarks) from to w)
+      right_with landmarks from to right w ≡ Some (cut_of landmarks from to w)
   right-here split late =
-      choosing (is_split from to w && nat_le from w.summary.t_first) true (Some (split_figures (is_free landmarks) from to w)) right
+      choosing (is_split from to w && nat_le from w.summary.t_first) true (Some (cut_of landmarks from to w)) right
       (both-true (is_split from to w) (nat_le from w.summary.t_first) split late)
 
   right-early : nat_le from w.summary.t_first ≡ false → right_with landmarks from to right w ≡ right
   right-early early =
-      choosing (is_split from to w && nat_le from w.summary.t_first) false (Some (split_figures (is_free landmarks) from to w)) right
+      choosing (is_split from to w && nat_le from w.summary.t_first) false (Some (cut_of landmarks from to w)) right
       (second-false (is_split from to w) (nat_le from w.summary.t_first) early)
 
   right-unsplit : is_split from to w ≡ false → right_with landmarks from to right w ≡ right
   right-unsplit unsplit =
-      choosing (is_split from to w && nat_le from w.summary.t_first) false (Some (split_figures (is_free landmarks) from to w)) right
+      choosing (is_split from to w && nat_le from w.summary.t_first) false (Some (cut_of landmarks from to w)) right
       (first-false (is_split from to w) (nat_le from w.summary.t_first) unsplit)
 
 is_early : (from first : ℕ) → first < from → (nat_lt first from ≡ true) × (nat_le from first ≡ false)
@@ -260,8 +254,8 @@ whole-behind whole w false behind = behind
 module _ (landmarks : List Landmark) (from to : ℕ) (seen : Seen) (ws : List Window) (w : Window) (is : IsSeen landmarks from to seen ws)
     (later : seen.next_time ≤ w.summary.t_first)
     (rises : w.summary.t_first ≤ w.summary.t_last) where
-  figures : SplitFigures
-  figures = split_figures (is_free landmarks) from to w
+  cut : Cut
+  cut = cut_of landmarks from to w
 
   left_early : w.summary.t_first < from → seen.left ≡ None
   left_early early = ruled_out seen.left (from < seen.next_time) is.left_behind (λ behind. omega arith)
@@ -269,18 +263,18 @@ module _ (landmarks : List Landmark) (from to : ℕ) (seen : Seen) (ws : List Wi
   right_early : w.summary.t_first ≤ to → seen.right ≡ None
   right_early early = ruled_out seen.right (to + 1 < seen.next_time) is.right_behind (λ behind. omega arith)
 
-  splits-push : is_split from to w ≡ true → listed seen.left seen.right ++ figures ∷ [] ≡ split_windows (is_free landmarks) from to (ws ++ w ∷ [])
-  unfolding figures
-  splits-push split =
-      ap (λ l. l ++ figures ∷ []) is.splits ∙ sym (map-append (split_figures (is_free landmarks) from to) (filter (is_split from to) ws) (w ∷ []))
-      ∙ sym (ap (map (split_figures (is_free landmarks) from to)) (filter-push (is_split from to) ws w split))
+  cuts-push : is_split from to w ≡ true → listed seen.left seen.right ++ cut ∷ [] ≡ map (cut_of landmarks from to) (filter (is_split from to) (ws ++ w ∷ []))
+  unfolding cut
+  cuts-push split =
+      ap (λ l. l ++ cut ∷ []) is.cuts ∙ sym (map-append (cut_of landmarks from to) (filter (is_split from to) ws) (w ∷ []))
+      ∙ sym (ap (map (cut_of landmarks from to)) (filter-push (is_split from to) ws w split))
 
-  splits-same : is_split from to w ≡ false → listed seen.left seen.right ≡ split_windows (is_free landmarks) from to (ws ++ w ∷ [])
-  splits-same unsplit = is.splits ∙ sym (ap (map (split_figures (is_free landmarks) from to)) (filter-same (is_split from to) ws w unsplit))
+  cuts-same : is_split from to w ≡ false → listed seen.left seen.right ≡ map (cut_of landmarks from to) (filter (is_split from to) (ws ++ w ∷ []))
+  cuts-same unsplit = is.cuts ∙ sym (ap (map (cut_of landmarks from to)) (filter-same (is_split from to) ws w unsplit))
 
-  record Splits : Type 0 where
+  record Cuts : Type 0 where
     all : listed (left_with landmarks from to seen.left w) (right_with landmarks from to seen.right w)
-        ≡ split_windows (is_free landmarks) from to (ws ++ w ∷ [])
+        ≡ map (cut_of landmarks from to) (filter (is_split from to) (ws ++ w ∷ []))
     left_behind : IfSome (left_with landmarks from to seen.left w) (λ s. from < w.summary.t_last + 1)
     right_behind : IfSome (right_with landmarks from to seen.right w) (λ s. to + 1 < w.summary.t_last + 1)
 
@@ -290,47 +284,47 @@ module _ (landmarks : List Landmark) (from to : ℕ) (seen : Seen) (ws : List Wi
   right_stays : IfSome seen.right (λ s. to + 1 < w.summary.t_last + 1)
   right_stays = if_weaker seen.right (to + 1 < seen.next_time) (to + 1 < w.summary.t_last + 1) (λ behind. omega arith) is.right_behind
 
-  splits-early : is_split from to w ≡ true → w.summary.t_first < from → Splits
-  unfolding figures
-  splits-early split early =
+  cuts-early : is_split from to w ≡ true → w.summary.t_first < from → Cuts
+  unfolding cut
+  cuts-early split early =
       let place = lies from to w.summary.t_first w.summary.t_last split in
       let tests = is_early from w.summary.t_first early in
       let now = left-here landmarks from to seen.left seen.right w split tests.0 in
       let same = right-early landmarks from to seen.left seen.right w tests.1 in
       record {
-        all = ap₂ listed now same ∙ listed-first seen.left seen.right figures (left_early early) (right_early place.begins) ∙ splits-push split;
+        all = ap₂ listed now same ∙ listed-first seen.left seen.right cut (left_early early) (right_early place.begins) ∙ cuts-push split;
         left_behind = subst (λ o. IfSome o (λ s. from < w.summary.t_last + 1)) (sym now) (omega (arith, place.ends));
         right_behind = subst (λ o. IfSome o (λ s. to + 1 < w.summary.t_last + 1)) (sym same) right_stays;
       }
 
-  splits-late : is_split from to w ≡ true → from ≤ w.summary.t_first → Splits
-  unfolding figures
-  splits-late split late =
+  cuts-late : is_split from to w ≡ true → from ≤ w.summary.t_first → Cuts
+  unfolding cut
+  cuts-late split late =
       let place = lies from to w.summary.t_first w.summary.t_last split in
       let tests = is_late from w.summary.t_first late in
       let same = left-late landmarks from to seen.left seen.right w tests.0 in
       let now = right-here landmarks from to seen.left seen.right w split tests.1 in
       let out : to < w.summary.t_last = past from to w.summary.t_first w.summary.t_last late place.out in
       record {
-        all = ap₂ listed same now ∙ listed-second seen.left seen.right figures (right_early place.begins) ∙ splits-push split;
+        all = ap₂ listed same now ∙ listed-second seen.left seen.right cut (right_early place.begins) ∙ cuts-push split;
         left_behind = subst (λ o. IfSome o (λ s. from < w.summary.t_last + 1)) (sym same) left_stays;
         right_behind = subst (λ o. IfSome o (λ s. to + 1 < w.summary.t_last + 1)) (sym now) (omega (arith, out));
       }
 
-  splits-none : is_split from to w ≡ false → Splits
-  splits-none unsplit =
+  cuts-none : is_split from to w ≡ false → Cuts
+  cuts-none unsplit =
       let left = left-unsplit landmarks from to seen.left seen.right w unsplit in
       let right = right-unsplit landmarks from to seen.left seen.right w unsplit in
       record {
-        all = ap₂ listed left right ∙ splits-same unsplit;
+        all = ap₂ listed left right ∙ cuts-same unsplit;
         left_behind = subst (λ o. IfSome o (λ s. from < w.summary.t_last + 1)) (sym left) left_stays;
         right_behind = subst (λ o. IfSome o (λ s. to + 1 < w.summary.t_last + 1)) (sym right) right_stays;
       }
 
-  splits-more : Splits
-  splits-more = elim (cases_Bool (is_split from to w)) [
-    | inl split ↦ elim (cases_lt w.summary.t_first from) [ inl early ↦ splits-early split early | inr late ↦ splits-late split late ]
-    | inr unsplit ↦ splits-none unsplit
+  cuts-more : Cuts
+  cuts-more = elim (cases_Bool (is_split from to w)) [
+    | inl split ↦ elim (cases_lt w.summary.t_first from) [ inl early ↦ cuts-early split early | inr late ↦ cuts-late split late ]
+    | inr unsplit ↦ cuts-none unsplit
   ]
 
   whole_behind-more : IfSome (whole_with from to seen.whole w) (λ f. f.t_last < w.summary.t_last + 1)
@@ -342,70 +336,41 @@ module _ (landmarks : List Landmark) (from to : ℕ) (seen : Seen) (ws : List Wi
   IsSeen-more = record {
     marked = is.marked;
     known = known-with from to seen.whole ws w is.known;
-    splits = splits-more.all;
-    left_behind = splits-more.left_behind;
-    right_behind = splits-more.right_behind;
+    cuts = cuts-more.all;
+    left_behind = cuts-more.left_behind;
+    right_behind = cuts-more.right_behind;
     whole_behind = whole_behind-more;
   }
 
-counts-listed : (left right : Option SplitFigures) →
-    ((counts_of left).0 + (counts_of right).0 ≡ sum_by least_count (listed left right))
-    × ((counts_of left).1 + (counts_of right).1 ≡ sum_by greatest_count (listed left right))
-counts-listed None None = (refl, refl)
-counts-listed None (Some r) =
-    (omega (arith, sum_by-cons least_count r []), omega (arith, sum_by-cons greatest_count r []))
-counts-listed (Some l) None =
-    (omega (arith, sum_by-cons least_count l []), omega (arith, sum_by-cons greatest_count l []))
-counts-listed (Some l) (Some r) = (
-  omega (arith, sum_by-cons least_count l (r ∷ []), sum_by-cons least_count r []),
-  omega (arith, sum_by-cons greatest_count l (r ∷ []), sum_by-cons greatest_count r []),
-)
+-- what is known of a stream, of its landmarks and of the windows one after the other
+pub IsSeen-after : (landmarks : List Landmark) (from to : ℕ) (seen : Seen) (ws : List Window) (w : Window) → IsSeen landmarks from to seen ws →
+    seen.next_time ≤ w.summary.t_first → w.summary.t_first ≤ w.summary.t_last →
+    IsSeen landmarks from to (seen_after landmarks from to seen w) (ws ++ w ∷ []) × ((seen_after landmarks from to seen w).next_time ≤ w.summary.t_last + 1)
+IsSeen-after landmarks from to seen ws w is later rises =
+    let P : Seen → Type 0 = λ now. IsSeen landmarks from to now (ws ++ w ∷ []) × (now.next_time ≤ w.summary.t_last + 1) in
+    elim (cases_Bool (is_apart from to w)) [
+      | inl apart ↦
+          subst P (sym (cond-true (is_apart from to w) seen (seen_with landmarks from to seen w) apart))
+          (IsSeen-skip landmarks from to seen ws w apart rises is, omega (arith, later, rises))
+      | inr meets ↦
+          subst P (sym (cond-false (is_apart from to w) seen (seen_with landmarks from to seen w) meets))
+          (IsSeen-more landmarks from to seen ws w is later rises, omega arith)
+    ]
 
-abbrev lows : List SplitFigures → ℤ
-lows splits = total (map (λ (s : ℤ × ℤ). s.0) (map sum_interval splits))
+IsSeen-fold : (landmarks : List Landmark) (from to : ℕ) (seen : Seen) (gone : List Window) (first time : ℕ) (ws : List Window) → StandFrom first time ws →
+    seen.next_time ≤ time → IsSeen landmarks from to seen gone → IsSeen landmarks from to (fold (seen_after landmarks from to) seen ws) (gone ++ ws)
+IsSeen-fold landmarks from to seen gone first time [] stand soon is = subst (λ ws. IsSeen landmarks from to seen ws) (sym (append-nil gone)) is
+IsSeen-fold landmarks from to seen gone first time (w ∷ ws) stand soon is =
+    let possible = stand.1 in
+    let some = possible.count_low in
+    let long = possible.times in
+    let begins = stand.2 in
+    let next = seen_after landmarks from to seen w in
+    let one = IsSeen-after landmarks from to seen gone w is (omega (arith, soon, begins)) (omega (arith, some, long)) in
+    subst (λ vs. IsSeen landmarks from to (fold (seen_after landmarks from to) next ws) vs) (append_assoc gone (w ∷ []) ws)
+    (IsSeen-fold landmarks from to next (gone ++ w ∷ []) (first + w.summary.count) (w.summary.t_last + 1) ws stand.3 one.1 one.0)
 
-abbrev highs : List SplitFigures → ℤ
-highs splits = total (map (λ (s : ℤ × ℤ). s.1) (map sum_interval splits))
-
-sums-listed : (known : ℤ) (left right : Option SplitFigures) →
-    ((known +ℤ (sums_of left).0) +ℤ (sums_of right).0 ≡ (known +ℤ lows (listed left right)))
-    × ((known +ℤ (sums_of left).1) +ℤ (sums_of right).1 ≡ (known +ℤ highs (listed left right)))
-sums-listed known None None = (omega (arith, ints), omega (arith, ints))
-sums-listed known None (Some r) = (omega (arith, ints), omega (arith, ints))
-sums-listed known (Some l) None = (omega (arith, ints), omega (arith, ints))
-sums-listed known (Some l) (Some r) = (omega (arith, ints), omega (arith, ints))
-
--- what is answered from what is known is the answer of the windows and of the values of landmarks
-module _ (landmarks : List Landmark) (from to : ℕ) (seen : Seen) (ws : List Window) (is : IsSeen landmarks from to seen ws) where
-  least-seen : known_min seen.whole seen.marked ≡ least_in (known_mins from to ws (marked_values landmarks))
-  least-seen =
-      ap₂ (either int_min) is.known.least (ap (λ (t : Tally). t.least) is.marked ∙ least-asked landmarks from to)
-      ∙ sym (choice_in-append IsChoice-min (map (λ (w : Window). w.summary.min) (whole_windows from to ws)) (asked from to (marked_values landmarks)))
-
-  greatest-seen : known_max seen.whole seen.marked ≡ greatest_in (known_maxs from to ws (marked_values landmarks))
-  greatest-seen =
-      ap₂ (either int_max) is.known.greatest (ap (λ (t : Tally). t.greatest) is.marked ∙ greatest-asked landmarks from to)
-      ∙ sym (choice_in-append IsChoice-max (map (λ (w : Window). w.summary.max) (whole_windows from to ws)) (asked from to (marked_values landmarks)))
-
-  pub outcome-seen : (kind : Kind) →
-      outcome_seen kind seen ≡ answer_of_kind kind (is_free landmarks) from to ws (marked_values landmarks)
-  outcome-seen kinds.Count =
-      let both = counts-listed seen.left seen.right in
-      let least = both.0 ∙ ap (sum_by least_count) is.splits in
-      let greatest = both.1 ∙ ap (sum_by greatest_count) is.splits in
-      let marked = ap (λ (t : Tally). t.count) is.marked ∙ length-asked landmarks from to in
-      ap₂ Count (omega (arith, is.known.count, marked, least)) (omega (arith, is.known.count, marked, greatest))
-  outcome-seen kinds.Sum =
-      let both = sums-listed (known_sum seen.whole seen.marked) seen.left seen.right in
-      let marked = ap (λ (t : Tally). t.sum) is.marked ∙ total-asked landmarks from to in
-      let known = ap₂ (λ p q. p +ℤ q) is.known.sum marked in
-      ap₂ Sum (both.0 ∙ ap₂ (λ p q. p +ℤ q) known (ap lows is.splits)) (both.1 ∙ ap₂ (λ p q. p +ℤ q) known (ap highs is.splits))
-  outcome-seen kinds.Min = ap Min (ap₂ min_interval least-seen is.splits)
-  outcome-seen kinds.Max = ap Max (ap₂ max_interval greatest-seen is.splits)
-
--- and it is to what was asked for
-pub outcome-kind : (kind : Kind) (seen : Seen) → IsOfKind kind (outcome_seen kind seen)
-outcome-kind kinds.Count seen = refl
-outcome-kind kinds.Sum seen = refl
-outcome-kind kinds.Min seen = refl
-outcome-kind kinds.Max seen = refl
+pub IsSeen-seen_of : (from to : ℕ) (s : Stream) → IsStream s → IsSeen s.landmarks from to (seen_of from to s) s.windows
+IsSeen-seen_of from to s is =
+    let marked = tally_of (values_in s.landmarks from to) in
+    IsSeen-fold s.landmarks from to (marks_seen marked) [] 1 0 s.windows is.windows.stand (omega arith) (IsSeen-none s.landmarks from to marked refl)

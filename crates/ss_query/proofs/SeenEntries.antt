@@ -3,7 +3,6 @@ use Rattle.std.proofs.Common.{◌≡◌, ◌∙◌, ℕ, ◌≤◌, false, Ok, E
 use Rattle.std.specs.Prelude.{◌||◌, nat_lt}
 use Rattle.std.proofs.lemmas.Bool.{cond-false}
 use Rattle.std.proofs.lemmas.Bool.Decides.{nat_tests}
-use Rattle.ss_codec.specs.declared.record.Record.{Record}
 use Rattle.ss_line.specs.declared.entry.Entry.{Entry}
 use Rattle.ss_model.specs.Interval.{is_apart}
 use Rattle.ss_model.specs.declared.types.Window.{Window}
@@ -12,7 +11,7 @@ use Rattle.ss_outside.specs.Disk.{DiskView}
 use Rattle.ss_outside.specs.Step.{Step}
 use Rattle.ss_outside.specs.Verdict.{UnlessFailed, changed, fine}
 use Rattle.ss_records.specs.Kept.{AreKept, RecordsState}
-use Rattle.ss_recover.specs.Held.{span_held, span_of, times_held, times_of}
+use Rattle.ss_recover.specs.Held.{span_held, span_of}
 use Rattle.ss_recover.specs.declared.parts.StreamParts.{StreamParts}
 use Rattle.ss_summary.specs.Figures.{Figures}
 use Rattle.ss_query.specs.Answered.{IsSeenAs, SeesEntry}

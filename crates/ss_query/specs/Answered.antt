@@ -16,7 +16,7 @@ use Rattle.ss_model.specs.declared.outcome.Outcome.{Outcome}
 use Rattle.ss_model.specs.declared.types.Window.{Window}
 use Rattle.ss_recover.specs.Held.{entries_of, span_held, span_of, times_held, times_of, window_record}
 use Rattle.ss_recover.specs.declared.parts.StreamParts.{StreamParts}
-use Rattle.ss_query.specs.Asked.{Follows, seen_after}
+use Rattle.ss_query.specs.Asked.{Follows, seen_after, seen_of}
 use Rattle.ss_query.specs.Held.{IsHeldIn}
 use Rattle.ss_query.specs.Slots.{HasRecords}
 use Rattle.ss_query.specs.declared.asking.Seen.{Seen}
@@ -54,7 +54,7 @@ pub record BeginsNear (entries : List (At × Entry)) (from : ℕ) (start : Optio
 abbrev pub begun_in : ℕ → ℕ → List (At × Entry) → ℕ
 begun_in from to entries = count_by (λ (e : At × Entry). nat_lt from e.1.t_first && nat_le e.1.t_first to) entries
 
--- what looking at an entry tells, on a disk that tells: what is known with its window, unless the disk fails
+-- what looking tells, on a disk that tells: this is known, unless the disk fails
 abbrev pub IsSeenAs : Seen → Result Seen ReadError → Type 0
 IsSeenAs seen (Ok now) = now ≡ seen
 IsSeenAs seen (Err Disk) = ⊤
@@ -69,6 +69,15 @@ pub record SeesEntry (part : StreamParts) (from to : ℕ) (entry : Entry) (seen 
       HasRecords ((entry.slot, Some (window_record part.id.0 w)) ∷ others) (shown_by was old.content) →
       span_held entry ≡ span_of w → times_held entry ≡ times_of w → IsTrue (lies_free part.landmarks.landmarks w) → Follows seen w →
       IsSeenAs (seen_after part.landmarks.landmarks from to seen w) result
+  pub kept : UnlessFailed (verdict_of_read result) (AreKept is new.content)
+  pub reads : OnlyReads old new
+
+-- A stream is looked at, by records that are others then, of what they show. Content and images stay.
+pub record SeesStream (part : StreamParts) (query : Query) (was is : RecordsState) (result : Result Seen ReadError) (old new : Told) :
+    Type 0 where
+  -- what is known of the stream, whatever lies beside it
+  pub seen : (others : List (ℕ × Option Record)) (s : Stream) → IsHeldIn others part s (shown_by was old.content) →
+      IsSeenAs (seen_of query.from query.to s) result
   pub kept : UnlessFailed (verdict_of_read result) (AreKept is new.content)
   pub reads : OnlyReads old new
 

@@ -1,15 +1,19 @@
 -- What a query makes of the landmarks of a stream, and of its windows, read one after the other.
-use Rattle.std.specs.Prelude.{◌≡◌, ℕ, ◌+◌, ◌^◌, ◌<◌, ◌≤◌, ◌&&◌, nat_le, nat_lt, if◌then◌else◌, ℤ, pos, ◌+ℤ◌, unsigned_abs, List, IfSome, Option, None, Some}
+use Rattle.std.specs.Prelude.{◌≡◌, ℕ, ◌+◌, ◌^◌, ◌<◌, ◌≤◌, ◌&&◌, nat_le, nat_lt, if◌then◌else◌, ℤ, pos, ◌+ℤ◌, unsigned_abs}
+use Rattle.std.specs.Prelude.{List, fold, IfSome, Option, None, Some}
 use Rattle.std.specs.Option.{option_map, option_map_or}
 use Rattle.ss_bounds.specs.Either.{greater, lesser}
 use Rattle.ss_bounds.specs.Extremes.{listed, max_interval, min_interval}
-use Rattle.ss_bounds.specs.Split.{SplitFigures, count_interval, sum_interval}
+use Rattle.ss_bounds.specs.Split.{IsSplit, SplitFigures, count_interval, sum_interval}
 use Rattle.ss_landmarks.specs.Free.{is_free}
 use Rattle.ss_landmarks.specs.Landmark.{Landmark}
+use Rattle.ss_landmarks.specs.ValuesIn.{tally_of, values_in}
 use Rattle.ss_landmarks.specs.declared.tally.Tally.{Tally}
 use Rattle.ss_catalog.specs.declared.query.Kind.{Kind}
 use Rattle.ss_catalog.specs.declared.query.Kind.TheVariants as kinds
+use Rattle.ss_model.specs.Closed.{last_position}
 use Rattle.ss_model.specs.Interval.{is_apart, is_split, is_whole, split_figures}
+use Rattle.ss_model.specs.State.{Stream}
 use Rattle.ss_model.specs.declared.outcome.Outcome.{Outcome}
 use Rattle.ss_model.specs.declared.outcome.Outcome.TheVariants.{Count, Sum, Min, Max}
 use Rattle.ss_model.specs.declared.types.Window.{Window}
@@ -17,6 +21,7 @@ use Rattle.ss_summary.specs.Figures.{Figures}
 use Rattle.ss_summary.specs.Summaries.{joined}
 use Rattle.ss_summary.specs.declared.summary.TheConstants.{GREATEST_COUNT}
 use Rattle.ss_query.specs.declared.asking.Seen.{Seen}
+use Rattle.ss_query.specs.declared.cut.Cut.{Cut}
 
 -- before any window was read: what the values of landmarks in the range add up to
 abbrev pub marks_seen : Tally → Seen
@@ -34,17 +39,19 @@ abbrev pub joined_with : Option Figures → Figures → Option Figures
 joined_with None summary = Some summary
 joined_with (Some older) summary = Some (joined older summary)
 
+-- a window that the range splits, as it is cut: its first and last position, and its figures
+abbrev pub cut_of : List Landmark → ℕ → ℕ → Window → Cut
+cut_of landmarks from to w = record { first = w.first; last = last_position w; split = split_figures (is_free landmarks) from to w }
+
 -- the whole windows with one more, if it is one; and the split windows, the one that begins before the range, and the other
 abbrev pub whole_with : ℕ → ℕ → Option Figures → Window → Option Figures
 whole_with from to whole w = if is_whole from to w then joined_with whole w.summary else whole
 
-abbrev pub left_with : List Landmark → ℕ → ℕ → Option SplitFigures → Window → Option SplitFigures
-left_with landmarks from to left w =
-    if is_split from to w && nat_lt w.summary.t_first from then Some (split_figures (is_free landmarks) from to w) else left
+abbrev pub left_with : List Landmark → ℕ → ℕ → Option Cut → Window → Option Cut
+left_with landmarks from to left w = if is_split from to w && nat_lt w.summary.t_first from then Some (cut_of landmarks from to w) else left
 
-abbrev pub right_with : List Landmark → ℕ → ℕ → Option SplitFigures → Window → Option SplitFigures
-right_with landmarks from to right w =
-    if is_split from to w && nat_le from w.summary.t_first then Some (split_figures (is_free landmarks) from to w) else right
+abbrev pub right_with : List Landmark → ℕ → ℕ → Option Cut → Window → Option Cut
+right_with landmarks from to right w = if is_split from to w && nat_le from w.summary.t_first then Some (cut_of landmarks from to w) else right
 
 -- a window may come next: it has no more values than a stream can have besides those so far, and its times are behind theirs
 abbrev pub Follows : Seen → Window → Type 0
@@ -65,19 +72,37 @@ seen_with landmarks from to seen w = record {
 abbrev pub seen_after : List Landmark → ℕ → ℕ → Seen → Window → Seen
 seen_after landmarks from to seen w = if is_apart from to w then seen else seen_with landmarks from to seen w
 
+-- what is known of a stream: of its landmarks, and of all its windows, oldest first
+abbrev pub seen_of : ℕ → ℕ → Stream → Seen
+seen_of from to s = fold (seen_after s.landmarks from to) (marks_seen (tally_of (values_in s.landmarks from to))) s.windows
+
 -- the values so far are no more than a stream can have, and the whole windows among them lie before the time of the next one
 pub record HasRoom (seen : Seen) : Type 0 where
   pub few : seen.taken ≤ GREATEST_COUNT
   pub whole : IfSome seen.whole (λ f. (f.t_last < seen.next_time) × (f.count ≤ seen.taken))
 
--- from how many to how many values of a split window lie in the range, and from which to which sum; zeros where there is none
-abbrev pub counts_of : Option SplitFigures → ℕ × ℕ
-counts_of None = (0, 0)
-counts_of (Some s) = count_interval s
+-- the figures of a cut window are those of one that a range may split, and it has as many values as its positions say
+pub record IsCut (cut : Cut) : Type 0 where
+  pub split : IsSplit cut.split
+  pub span : cut.first + cut.split.count ≡ cut.last + 1
 
-abbrev pub sums_of : Option SplitFigures → ℤ × ℤ
+-- so it is of both cut windows, where there are any
+pub record HasCuts (seen : Seen) : Type 0 where
+  pub left : IfSome seen.left IsCut
+  pub right : IfSome seen.right IsCut
+
+-- from how many to how many values of a cut window lie in the range, and from which to which sum; zeros where there is none
+abbrev pub counts_of : Option Cut → ℕ × ℕ
+counts_of None = (0, 0)
+counts_of (Some cut) = count_interval cut.split
+
+abbrev pub sums_of : Option Cut → ℤ × ℤ
 sums_of None = (pos 0, pos 0)
-sums_of (Some s) = sum_interval s
+sums_of (Some cut) = sum_interval cut.split
+
+-- its figures, where there is one
+abbrev pub figures_of : Option Cut → Option SplitFigures
+figures_of cut = option_map (λ (c : Cut). c.split) cut
 
 -- of the windows that lie whole in the range and of the values of landmarks in it: how many values, their sum, the least and the
 -- greatest
@@ -110,5 +135,5 @@ outcome_seen kinds.Count seen =
 outcome_seen kinds.Sum seen =
     let known = known_sum seen.whole seen.marked in
     Sum (known +ℤ (sums_of seen.left).0 +ℤ (sums_of seen.right).0) (known +ℤ (sums_of seen.left).1 +ℤ (sums_of seen.right).1)
-outcome_seen kinds.Min seen = Min (min_interval (known_min seen.whole seen.marked) (listed seen.left seen.right))
-outcome_seen kinds.Max seen = Max (max_interval (known_max seen.whole seen.marked) (listed seen.left seen.right))
+outcome_seen kinds.Min seen = Min (min_interval (known_min seen.whole seen.marked) (listed (figures_of seen.left) (figures_of seen.right)))
+outcome_seen kinds.Max seen = Max (max_interval (known_max seen.whole seen.marked) (listed (figures_of seen.left) (figures_of seen.right)))

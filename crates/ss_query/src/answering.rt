@@ -9,56 +9,18 @@ ghost use Rattle.ss_journal.specs.declared.format.TheConstants.{MOST_SLOTS};
 ghost use Rattle.ss_records.specs.Kept.{AreKept};
 ghost use Rattle.ss_model.specs.Answers.{IsOfKind};
 ghost use Rattle.ss_steps.specs.Steps.{IsFresh};
-ghost use Rattle.ss_query.specs.Answered.{AnswersStream, BeginsAt, BeginsNear, SeesEntry, begun_in, window_slots_of};
-ghost use Rattle.ss_query.specs.Asked.{HasRoom};
+ghost use Rattle.ss_query.specs.Answered.{AnswersStream, BeginsAt, BeginsNear, begun_in, window_slots_of};
 ghost use Rattle.ss_query.specs.Reading.{KeepsRecords, verdict_of_read};
 
-use crate::asking::{Seen, follows, nothing_seen, outcome_seen, with_window};
-use crate::{Outcome, ReadError, read_window};
+use crate::{Outcome, ReadError, outcome_seen, see_from};
 use ss_catalog::Query;
-use ss_line::{At, Entry};
-use ss_model::Window;
+use ss_line::At;
 use ss_outside::Disk;
 use ss_records::Records;
 use ss_recover::StreamParts;
 use ss_steps::Steps;
 use std::marker::Brand;
 use std::sync::ledger::{Blank, Ledger};
-
-// What is known with the window of an entry that begins by the end of the range. Its record is read only where it doesn't end
-// before the range.
-fn see_entry<D: Disk>(
-    records: &mut Records,
-    disk: &mut D,
-    part: &StreamParts,
-    query: &Query,
-    entry: Entry,
-    seen: Seen,
-) -> Result<Seen, ReadError>
-    requires order { query.now.from ≤ query.now.to }
-    requires begins { entry.t_first ≤ query.now.to }
-    requires room { HasRoom seen }
-    requires running { IsRunning records.old.journal }
-    requires slot { entry.slot < MOST_SLOTS }
-    requires one_disk { OfContent (D.seen disk.old) (AreKept records.old) }
-    ensures sees { Step (verdict_of_read result) (D.seen disk.old) (D.seen disk.new)
-        (SeesEntry part.now query.now.from query.now.to entry seen records.old records.new result) }
-    ensures room { IfOk result (λ now. HasRoom now × (now.marked ≡ seen.marked)) }
-    ensures changed { IfChanged (verdict_of_read result) (λ slot. slot ≡ entry.slot) }
-    ensures records { KeepsRecords (verdict_of_read result) records.old records.new }
-{
-    if entry.t_last < query.from {
-        return Ok(seen);
-    }
-    let window = Window {
-        first: entry.first,
-        summary: read_window(records, disk, part, entry)?,
-    };
-    if !follows(seen, &window) {
-        return Err(ReadError::Changed { slot: entry.slot });
-    }
-    Ok(with_window(seen, query, &part.landmarks, &window))
-}
 
 /// What a stream answers to a query: it tallies the values of landmarks in the range, and reads the records of those windows,
 /// oldest first, that have times in the range. It looks at each window from the first one on, up to the first that begins after
@@ -131,17 +93,6 @@ pub fn answer_from<D: Disk, L: Ledger>(
     ensures looks { BeginsNear part.now.line.entries query.now.from start
         → steps.new ≤ steps.old + 2 * begun_in query.now.from query.now.to part.now.line.entries + 3 }
 {
-    let _len = part.line.len();
-    let _known = part.landmarks.count();
-    let mut seen = nothing_seen(part.landmarks.values_in(query.from, query.to));
-    let mut next = start;
-    while let Some(at) = next {
-        let entry = part.line.get(at, steps);
-        if query.to < entry.t_first {
-            return Ok(outcome_seen(seen, query.kind));
-        }
-        seen = see_entry(records, disk, part, query, entry, seen)?;
-        next = part.line.neighbours(at, steps).1;
-    }
+    let seen = see_from(part, start, records, disk, query, steps)?;
     Ok(outcome_seen(seen, query.kind))
 }

@@ -1,31 +1,35 @@
 // What the windows of a stream say of a range of times, one after the other.
-ghost use Rattle.std.specs.Prelude.{◌≡◌, ◌↔◌, ◌+◌, ◌*◌, ◌<◌, ◌≤◌, Some, IsTrue, IfSome};
+ghost use Rattle.std.specs.Prelude.{◌≡◌, ◌↔◌, ◌+◌, ◌*◌, ◌^◌, ◌<◌, ◌≤◌, Some, IsTrue, IfSome};
 ghost use Rattle.ss_bounds.specs.Times.{ends_in, times_inside};
 ghost use Rattle.ss_landmarks.specs.Free.{is_free};
+ghost use Rattle.ss_model.specs.Closed.{last_position};
 ghost use Rattle.ss_model.specs.Interval.{is_apart, is_split, is_whole, split_figures};
 ghost use Rattle.ss_model.specs.Marks.{lies_free};
 ghost use Rattle.ss_summary.specs.declared.summary.TheConstants.{GREATEST_COUNT};
-ghost use Rattle.ss_query.specs.Asked.{Follows, IsFewMarked, IsNear, counts_of, joined_with, known_count, known_sum, left_with, marks_seen};
-ghost use Rattle.ss_query.specs.Asked.{outcome_seen, right_with, seen_with, sums_of, whole_with};
+ghost use Rattle.ss_query.specs.Asked.{Follows, HasCuts, IsCut, IsFewMarked, IsNear, counts_of, cut_of, figures_of, joined_with, known_count};
+ghost use Rattle.ss_query.specs.Asked.{known_sum, left_with, marks_seen, outcome_seen, right_with, seen_with, sums_of, whole_with};
 
+use crate::Cut;
 use ss_bounds::{Split, count_bounds, greater, lesser, max_bounds, min_bounds, sum_bounds};
 use ss_catalog::{Kind, LAST_TIME, Query};
 use ss_landmarks::{Landmarks, Tally};
 use ss_model::{Outcome, Window};
 use ss_summary::{GREATEST_COUNT, Summary};
 
-// What the landmarks and the windows that were read so far say of a range of times.
-#[derive(Clone, Copy)]
+/// What the landmarks and the windows that were read so far say of a range of times.
+#[derive(Clone, Copy, Debug)]
 pub struct Seen {
-    // The values of landmarks in the range.
+    /// The values of landmarks in the range.
     pub marked: Tally,
-    // Those that lie whole in the range, as one.
+    /// The windows that lie whole in the range, as one.
     pub whole: Option<Summary>,
-    // The one that the range splits and that begins before it, and the one that begins in it.
-    pub left: Option<Split>,
-    pub right: Option<Split>,
-    // How many values all of them have, and the least time at which the next one may begin.
+    /// The window that the range splits and that begins before it.
+    pub left: Option<Cut>,
+    /// The window that the range splits and that begins in it.
+    pub right: Option<Cut>,
+    /// How many values the windows have that were read.
     pub taken: u64,
+    /// The least time at which the next window may begin.
     pub next_time: u64,
 }
 
@@ -115,6 +119,23 @@ fn split_of(query: &Query, landmarks: &Landmarks, window: &Window) -> Split
     }
 }
 
+// A window that the range splits, as it is cut.
+fn cut_of(query: &Query, landmarks: &Landmarks, window: &Window) -> Cut
+    requires order { query.now.from ≤ query.now.to }
+    requires split { IsTrue (is_split query.now.from query.now.to window.now) }
+    requires free { IsTrue (lies_free landmarks.now.landmarks window.now) }
+    requires place { last_position window.now < 2 ^ 64 }
+    ensures value { result ≡ cut_of landmarks.now.landmarks query.now.from query.now.to window.now }
+    ensures cut { IsCut result }
+{
+    let split = split_of(query, landmarks, window);
+    Cut {
+        first: window.first,
+        last: window.first + (split.count - 1),
+        split,
+    }
+}
+
 // A summary with the values of one more window.
 fn joined(whole: Option<Summary>, summary: Summary) -> Summary
     requires { IfSome whole (λ older. (older.t_last < summary.t_first) × (older.count + summary.count ≤ GREATEST_COUNT)) }
@@ -141,17 +162,20 @@ fn whole_with(whole: Option<Summary>, query: &Query, window: &Window) -> Option<
 
 // The split window that begins before the range, if this is the one.
 fn left_with(
-    left: Option<Split>,
+    left: Option<Cut>,
     query: &Query,
     landmarks: &Landmarks,
     window: &Window,
-) -> Option<Split>
+) -> Option<Cut>
     requires order { query.now.from ≤ query.now.to }
     requires free { IsTrue (lies_free landmarks.now.landmarks window.now) }
-    ensures { result ≡ left_with landmarks.now.landmarks query.now.from query.now.to left window.now }
+    requires place { last_position window.now < 2 ^ 64 }
+    requires cut { IfSome left IsCut }
+    ensures value { result ≡ left_with landmarks.now.landmarks query.now.from query.now.to left window.now }
+    ensures cut { IfSome result IsCut }
 {
     if is_split(query, window) && window.summary.t_first < query.from {
-        Some(split_of(query, landmarks, window))
+        Some(cut_of(query, landmarks, window))
     } else {
         left
     }
@@ -159,17 +183,20 @@ fn left_with(
 
 // The split window that begins in the range, if this is the one.
 fn right_with(
-    right: Option<Split>,
+    right: Option<Cut>,
     query: &Query,
     landmarks: &Landmarks,
     window: &Window,
-) -> Option<Split>
+) -> Option<Cut>
     requires order { query.now.from ≤ query.now.to }
     requires free { IsTrue (lies_free landmarks.now.landmarks window.now) }
-    ensures { result ≡ right_with landmarks.now.landmarks query.now.from query.now.to right window.now }
+    requires place { last_position window.now < 2 ^ 64 }
+    requires cut { IfSome right IsCut }
+    ensures value { result ≡ right_with landmarks.now.landmarks query.now.from query.now.to right window.now }
+    ensures cut { IfSome result IsCut }
 {
     if is_split(query, window) && query.from <= window.summary.t_first {
-        Some(split_of(query, landmarks, window))
+        Some(cut_of(query, landmarks, window))
     } else {
         right
     }
@@ -182,7 +209,10 @@ pub fn with_window(seen: Seen, query: &Query, landmarks: &Landmarks, window: &Wi
     requires free { IsTrue (lies_free landmarks.now.landmarks window.now) }
     requires whole { IfSome seen.whole (λ older. (older.t_last < window.now.summary.t_first)
         × (older.count + window.now.summary.count ≤ GREATEST_COUNT)) }
-    ensures { result ≡ seen_with landmarks.now.landmarks query.now.from query.now.to seen window.now }
+    requires place { last_position window.now < 2 ^ 64 }
+    requires cuts { HasCuts seen }
+    ensures value { result ≡ seen_with landmarks.now.landmarks query.now.from query.now.to seen window.now }
+    ensures cuts { HasCuts result }
 {
     Seen {
         marked: seen.marked,
@@ -218,28 +248,39 @@ fn known_sum(whole: Option<Summary>, marked: Tally) -> i128
     }
 }
 
-// How many values of a split window may lie in the range, where there is one.
-fn counts_of(split: Option<Split>) -> (u64, u64)
-    ensures value { result ≡ counts_of split }
+// How many values of a cut window may lie in the range, where there is one.
+fn counts_of(cut: Option<Cut>) -> (u64, u64)
+    ensures value { result ≡ counts_of cut }
     ensures few { (result.0 ≤ GREATEST_COUNT) × (result.1 ≤ GREATEST_COUNT) }
 {
-    match split {
+    match cut {
         None => (0, 0),
-        Some(split) => count_bounds(split),
+        Some(cut) => count_bounds(cut.split),
     }
 }
 
 // Which sums they may have.
-fn sums_of(split: Option<Split>) -> (i128, i128)
-    ensures value { result ≡ sums_of split }
+fn sums_of(cut: Option<Cut>) -> (i128, i128)
+    ensures value { result ≡ sums_of cut }
     ensures near { IsNear result.0 × IsNear result.1 }
 {
-    match split {
+    match cut {
         None => (0, 0),
-        Some(split) => {
+        Some(cut) => {
+            let split = cut.split;
             let _count = split.count;
             sum_bounds(split)
         }
+    }
+}
+
+// Its figures, where there is one.
+fn figures_of(cut: Option<Cut>) -> Option<Split>
+    ensures { result ≡ figures_of cut }
+{
+    match cut {
+        None => None,
+        Some(cut) => Some(cut.split),
     }
 }
 
@@ -279,7 +320,9 @@ fn least_seen(seen: Seen) -> Outcome
         None => None,
         Some(summary) => Some(summary.min),
     };
-    Outcome::Min(min_bounds(lesser(whole, seen.marked.least), seen.left, seen.right))
+    let left = figures_of(seen.left);
+    let right = figures_of(seen.right);
+    Outcome::Min(min_bounds(lesser(whole, seen.marked.least), left, right))
 }
 
 // What the greatest of them is.
@@ -290,10 +333,12 @@ fn greatest_seen(seen: Seen) -> Outcome
         None => None,
         Some(summary) => Some(summary.max),
     };
-    Outcome::Max(max_bounds(greater(whole, seen.marked.greatest), seen.left, seen.right))
+    let left = figures_of(seen.left);
+    let right = figures_of(seen.right);
+    Outcome::Max(max_bounds(greater(whole, seen.marked.greatest), left, right))
 }
 
-// What is answered from what is known.
+/// What is answered from what is known.
 pub fn outcome_seen(seen: Seen, kind: Kind) -> Outcome
     requires { IsFewMarked seen.marked }
     ensures { result ≡ outcome_seen kind seen }

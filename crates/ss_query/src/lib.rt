@@ -3,10 +3,15 @@
 
 mod answering;
 mod asking;
+mod cut;
 mod read_error;
 mod reading;
+mod walking;
 
 pub use answering::{answer, answer_from};
+pub use asking::{Seen, outcome_seen};
+pub use cut::Cut;
 pub use read_error::ReadError;
 pub use reading::read_window;
 pub use ss_model::Outcome;
+pub use walking::see_from;

@@ -8,19 +8,19 @@ use Rattle.ss_catalog.specs.declared.query.Query.{Query}
 use Rattle.ss_catalog.specs.declared.refusal.Refusal.TheVariants.{Range, Unknown}
 use Rattle.ss_catalog.specs.declared.stream_id.StreamId.{StreamId}
 use Rattle.ss_records.specs.Kept.{RecordsState, shown_by}
-use Rattle.ss_model.specs.Answers.{answer_of, outcome_of, refuses_query}
+use Rattle.ss_model.specs.Answers.{refuses_query}
 use Rattle.ss_model.specs.Refusals.{first_that_applies}
-use Rattle.ss_model.specs.State.{Stream, state, stream_named}
-use Rattle.ss_model.specs.declared.outcome.Outcome.{Outcome}
-use Rattle.ss_model.proofs.AnswerLemmas.{answer-exact, answer-holds}
+use Rattle.ss_model.specs.State.{Stream, stream_named}
 use Rattle.ss_recover.specs.Held.{AllAgree}
 use Rattle.ss_recover.specs.declared.parts.StreamParts.{StreamParts}
-use Rattle.ss_query.specs.Answered.{AnswersStream, IsAnswered}
+use Rattle.ss_query.specs.Answered.{IsSeenAs, SeesStream}
+use Rattle.ss_query.specs.Asked.{seen_of}
 use Rattle.ss_query.specs.Held.{IsHeldIn}
 use Rattle.ss_query.specs.Reading.{verdict_of_read}
+use Rattle.ss_query.specs.declared.asking.Seen.{Seen}
 use Rattle.ss_query.specs.declared.read_error.ReadError.{ReadError}
 use Rattle.ss_query.specs.declared.read_error.ReadError.TheVariants as error
-use Rattle.ss_store.specs.Applied.{Answers}
+use Rattle.ss_store.specs.Applied.{Sees}
 use Rattle.ss_store.specs.Asked.{refuses_query_held}
 use Rattle.ss_store.specs.Kept.{SomeAgree, StoreIsIn, StoreIsKept, StoreState, part_named}
 use Rattle.ss_store.specs.Recover.{Recovers}
@@ -29,64 +29,57 @@ use Rattle.ss_store.proofs.HeldCounts.{SomeAgree-named}
 use Rattle.ss_store.proofs.KeptStates.{Recovers-StoreIsIn, Recovers-same}
 use Rattle.ss_store.proofs.Named.{AreFound-named}
 
-IsFirm-answered : (outcome : Outcome) (why : ReadError) → IsAnswered outcome (Err why) → IsFirm (verdict_of_read {T = Outcome} (Err why))
-IsFirm-answered outcome error.Disk answered = tt
-IsFirm-answered outcome (error.Changed slot) answered = answered
+IsFirm-seen : (seen : Seen) (why : ReadError) → IsSeenAs seen (Err why) → IsFirm (verdict_of_read {T = Seen} (Err why))
+IsFirm-seen seen error.Disk is = tt
+IsFirm-seen seen (error.Changed slot) is = is
 
 -- the stream that is asked, in the state that is kept
-record IsAsked (query : Query) (streams : List Stream) (result : Result Outcome ReadError) : Type 0 where
+record IsAsked (query : Query) (streams : List Stream) (result : Result Seen ReadError) : Type 0 where
   stream : Stream
   found : stream_named query.name streams ≡ Some stream
-  answered : IsAnswered (answer_of query stream) result
+  seen : IsSeenAs (seen_of query.from query.to stream) result
 
 module _ {query : Query} {part : StreamParts} {is : RecordsState} (store : StoreState)
     (named : part_named query.name store.streams ≡ Some part) where
-  stream-asked : (old new : Told) (result : Result Outcome ReadError) (kept : StoreIsIn store (shown_by store.records old.content)) →
-      AnswersStream part query store.records is result old new → IsAsked query kept.streams result
-  stream-asked old new result kept answers =
+  stream-asked : (old new : Told) (result : Result Seen ReadError) (kept : StoreIsIn store (shown_by store.records old.content)) →
+      SeesStream part query store.records is result old new → IsAsked query kept.streams result
+  stream-asked old new result kept sees =
       let found = AreFound-named store.streams kept.streams query.name part kept.agree kept.state named in
       let others = others_of found.place store.streams kept.streams in
       let held = IsHeldIn-at store.streams kept.streams found.place part found.stream (shown_by store.records old.content) kept.agree kept.state found.at found.here kept.held in
       record {
         stream = found.stream;
         found = found.found_is;
-        answered = answers.answer others found.stream held;
+        seen = sees.seen others found.stream held;
       }
 
-  -- the answer of the state that is shown
-  outcome-kept : (old new : Told) (outcome : Outcome) → StoreIsIn store (shown_by store.records old.content) →
-      AnswersStream part query store.records is (Ok outcome) old new →
-      (streams : List Stream) → Recovers streams (shown_by store.records old.content) → outcome_of streams query ≡ Some outcome
-  unfolding outcome_of
-  outcome-kept old new outcome kept answers streams recovers =
-      let is = stream-asked old new (Ok outcome) kept answers in
+  -- what is known in the state that is shown
+  seen-kept : (old new : Told) (seen : Seen) → StoreIsIn store (shown_by store.records old.content) →
+      SeesStream part query store.records is (Ok seen) old new → (streams : List Stream) → Recovers streams (shown_by store.records old.content) →
+      option_map (seen_of query.from query.to) (stream_named query.name streams) ≡ Some seen
+  seen-kept old new seen kept sees streams recovers =
+      let is = stream-asked old new (Ok seen) kept sees in
       let same = Recovers-same kept.streams streams (shown_by store.records old.content) (Recovers-StoreIsIn store (shown_by store.records old.content) kept) recovers in
       let found : stream_named query.name streams ≡ Some is.stream = ap (λ l. stream_named query.name l) (sym same) ∙ is.found in
-      ap (option_map (λ (s : Stream). answer_of query s)) found ∙ ap (λ (o : Outcome). Some o) (sym is.answered)
+      ap (option_map (λ (s : Stream). seen_of query.from query.to s)) found ∙ ap (λ (now : Seen). Some now) (sym is.seen)
 
   module _ {before after : DiskView} (kept : OfContent before (StoreIsKept store)) where
-    pub answers-kept : (outcome : Outcome) → Step fine before after (AnswersStream part query store.records is (Ok outcome)) →
-        Step fine before after (Answers store.records query (Ok outcome))
-    answers-kept outcome step = record {
+    pub sees-kept : (seen : Seen) → Step fine before after (SeesStream part query store.records is (Ok seen)) →
+        Step fine before after (Sees store.records query (Ok seen))
+    sees-kept seen step = record {
       tells = step.tells;
       counted = step.counted;
       told = λ told.
-          let answers = step.told told in
-          let answer = outcome-kept before.told after.told outcome (kept told).shown answers in
-          record {
-            answer = answer;
-            truth = λ history stands. answer-holds history query outcome stands.is_history (answer (state history) stands.state);
-            exact = λ streams recovers unsplit. answer-exact streams query outcome (answer streams recovers) unsplit;
-            reads = answers.reads;
-          };
+          let sees = step.told told in
+          record { seen = seen-kept before.told after.told seen (kept told).shown sees; reads = sees.reads };
     }
 
     -- no slot has changed on a disk that tells
-    pub IsFirm-kept : (why : ReadError) → Step (verdict_of_read {T = Outcome} (Err why)) before after (AnswersStream part query store.records is (Err why)) →
-        IsTrue before.tells → IsFirm (verdict_of_read {T = Outcome} (Err why))
+    pub IsFirm-kept : (why : ReadError) → Step (verdict_of_read {T = Seen} (Err why)) before after (SeesStream part query store.records is (Err why)) →
+        IsTrue before.tells → IsFirm (verdict_of_read {T = Seen} (Err why))
     IsFirm-kept why step told =
         let is = stream-asked before.told after.told (Err why) (kept told).shown (step.told told) in
-        IsFirm-answered (answer_of query is.stream) why is.answered
+        IsFirm-seen (seen_of query.from query.to is.stream) why is.seen
 
 known-alike : (part : Option StreamParts) (s : Option Stream) → SomeAgree part s → is_some part ≡ is_some s
 known-alike None None agree = refl

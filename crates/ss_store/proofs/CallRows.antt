@@ -1,7 +1,7 @@
 -- What some definitions come to at one answer each, where nothing else would tell if they said less.
 use Rattle.std.proofs.Common.{◌≡◌, ◌⊎◌, ℕ, ◌+◌, ◌*◌, ◌≤◌, Bool, true, false, List, [], ◌∷◌, ◌++◌, map, length, Err, None, Ok, Some, pos, refl}
-use Rattle.std.specs.Prelude.{Contains, IfSome, flat_map, max}
-use Rattle.ss_outside.specs.Crash.{LeavesOnly}
+use Rattle.std.specs.Prelude.{Contains, IfSome, flat_map, max, option_map}
+use Rattle.ss_outside.specs.Crash.{LeavesOnly, OnlyReads}
 use Rattle.ss_outside.specs.Disk.{DiskView, NothingPending, Told}
 use Rattle.ss_outside.specs.Verdict as verdicts
 use Rattle.ss_outside.specs.Verdict.{Verdict}
@@ -16,17 +16,19 @@ use Rattle.ss_line.specs.declared.entry.At.{At}
 use Rattle.ss_model.specs.Answers.{IsExactOutcome, split_by}
 use Rattle.ss_model.specs.Decay.{IsReadWithinTarget, cover}
 use Rattle.ss_model.specs.Refusals.{refuses}
-use Rattle.ss_model.specs.State.{Stream, state, stream_numbered, values_in}
+use Rattle.ss_model.specs.State.{Stream, state, stream_named, stream_numbered, values_in}
 use Rattle.ss_model.specs.declared.outcome.Outcome.{Outcome}
 use Rattle.ss_model.specs.declared.types.Ack.{Ack}
 use Rattle.ss_model.specs.declared.types.Placed.{Placed}
 use Rattle.ss_query.specs.Answered.{window_slots_of}
+use Rattle.ss_query.specs.Asked.{seen_of}
+use Rattle.ss_query.specs.declared.asking.Seen.{Seen}
 use Rattle.ss_records.specs.Kept.{RecordsState, shown_by}
 use Rattle.ss_recover.specs.Held.{slots_held}
 use Rattle.ss_recover.specs.declared.parts.StreamParts.{StreamParts}
 use Rattle.ss_target.specs.Lengths.{lengths_of}
 use Rattle.ss_target.specs.Targets.{params_of}
-use Rattle.ss_store.specs.Applied.{Answers, Applies, IsFew, Looks, SealsStore, ShowsWindow, is_creation, is_plain_value}
+use Rattle.ss_store.specs.Applied.{Answers, Applies, IsFew, Looks, SealsStore, Sees, ShowsWindow, is_creation, is_plain_value}
 use Rattle.ss_store.specs.Calls.{StagesEvent, StandsForEither}
 use Rattle.ss_store.specs.Errors.{stopped_after, verdict_of_apply, verdict_of_opening}
 use Rattle.ss_store.specs.Kept.{SameButSpare, StoreState, is_of_landmark, part_named, without_spare}
@@ -125,8 +127,13 @@ module _ (event : Event) (old new : StoreState) (before after : DiskView) where
   looks-journal : Looks verdicts.fine old new before after → new.records.journal ≡ old.records.journal
   looks-journal looks = looks.journal
 
--- what an answer and a window that is shown say
+-- what a look, an answer and a window that is shown say
 module _ (old new : Told) where
+  sees-reads : (was : RecordsState) (query : Query) (seen : Seen) → Sees was query (Ok seen) old new →
+      ((streams : List Stream) → Recovers streams (shown_by was old.content) →
+      option_map (seen_of query.from query.to) (stream_named query.name streams) ≡ Some seen) × OnlyReads old new
+  sees-reads was query seen sees = (sees.seen, sees.reads)
+
   answers-exact : (was : RecordsState) (query : Query) (outcome : Outcome) → Answers was query (Ok outcome) old new →
       (streams : List Stream) → Recovers streams (shown_by was old.content) → split_by streams query ≡ [] → IsExactOutcome outcome
   answers-exact was query outcome answers = answers.exact

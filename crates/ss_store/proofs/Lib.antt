@@ -39,6 +39,7 @@ pub mod Decays
 pub mod Looking
 pub mod WindowsRead
 pub mod AskedStreams
+pub mod AnsweredQueries
 mod Rows
 mod AskRows
 mod CallRows

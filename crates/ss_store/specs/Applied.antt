@@ -1,6 +1,6 @@
 -- What an event does to a store and its disk, and what a look does.
 use Rattle.std.specs.Prelude.{◌≡◌, ◌↔◌, ℕ, ◌+◌, ◌*◌, ◌≤◌, Bool, true, false, not, List, [], length, flat_map, map, max, slice_get, Contains, Result}
-use Rattle.std.specs.Prelude.{Err, Some, IfOk, IfSome, OnOk, IsTrue}
+use Rattle.std.specs.Prelude.{Err, Some, IfOk, IfSome, OnOk, IsTrue, option_map}
 use Rattle.ss_outside.specs.Crash.{OnlyReads}
 use Rattle.ss_outside.specs.Disk.{DiskView, Told, OfContent}
 use Rattle.ss_outside.specs.Step.{Step}
@@ -19,7 +19,7 @@ use Rattle.ss_model.specs.Answers.{HoldsTruth, IsExactOutcome, outcome_of, split
 use Rattle.ss_model.specs.Decay.{IsReadWithinTarget, cover}
 use Rattle.ss_model.specs.History.{marked_of, values_of}
 use Rattle.ss_model.specs.Shown.{placed_of}
-use Rattle.ss_model.specs.State.{Stream, state, stream_numbered, values_in}
+use Rattle.ss_model.specs.State.{Stream, state, stream_named, stream_numbered, values_in}
 use Rattle.ss_model.specs.declared.outcome.Outcome.{Outcome}
 use Rattle.ss_model.specs.declared.types.Ack.{Ack}
 use Rattle.ss_model.specs.declared.types.Placed.{Placed}
@@ -29,6 +29,8 @@ use Rattle.ss_records.specs.Kept.{RecordsState, shown_by}
 use Rattle.ss_store.specs.Calls.{KeepsHistory, KeepsState, SealsHistory, StepsState, TurnsShown}
 use Rattle.ss_store.specs.Causes.{OpensAs, said_of_held}
 use Rattle.ss_query.specs.Answered.{window_slots_of}
+use Rattle.ss_query.specs.Asked.{seen_of}
+use Rattle.ss_query.specs.declared.asking.Seen.{Seen}
 use Rattle.ss_store.specs.Errors.{stopped_after, verdict_of_apply, verdict_of_opening}
 use Rattle.ss_store.specs.Kept.{SameButSpare, StoreIsKept, StoreState, is_of_landmark, part_named, part_numbered, refuses_held}
 use Rattle.ss_store.specs.Recover.{Recovers, Stands}
@@ -100,6 +102,13 @@ pub record Looks (v : Verdict) (old new : StoreState) (before after : DiskView) 
   pub journal : OnFine v (new.records.journal ≡ old.records.journal)
   pub stops : new.stopped ≡ stopped_after old.stopped v
   pub firm : IsTrue before.tells → IsFirm v
+
+-- A stream is looked at for a query, of what records show. Content and images stay.
+pub record Sees (was : RecordsState) (query : Query) (result : Result Seen AskError) (old new : Told) : Type 0 where
+  -- what is known of the stream, in the state that they show
+  pub seen : (streams : List Stream) → Recovers streams (shown_by was old.content) →
+      IfOk result (λ seen. option_map (seen_of query.from query.to) (stream_named query.name streams) ≡ Some seen)
+  pub reads : OnlyReads old new
 
 -- A query is answered, of what records show. Content and images stay.
 pub record Answers (was : RecordsState) (query : Query) (result : Result Outcome AskError) (old new : Told) : Type 0 where

@@ -3,10 +3,12 @@ mod append;
 mod apply;
 mod ask;
 mod create;
+mod landmarks;
 mod list;
 mod mark;
 mod open;
 mod read;
+mod see;
 mod times;
 
 use crate::index::Index;

@@ -1,73 +1,23 @@
 // Answering a query.
-ghost use Rattle.std.specs.Prelude.{◌≡◌, ◌+◌, ◌*◌, ◌<◌, ◌≤◌, All, IfOk};
-ghost use Rattle.std.specs.List.{Contains};
-ghost use Rattle.ss_outside.specs.Disk.{OfContent};
-ghost use Rattle.ss_outside.specs.Step.{Step};
-ghost use Rattle.ss_outside.specs.Verdict.{IfChanged};
-ghost use Rattle.ss_journal.specs.Kept.{IsRunning};
-ghost use Rattle.ss_journal.specs.declared.format.TheConstants.{MOST_SLOTS};
-ghost use Rattle.ss_model.specs.Answers.{IsOfKind};
-ghost use Rattle.ss_query.specs.Answered.{AnswersStream, begun_in, window_slots_of};
-ghost use Rattle.ss_query.specs.Reading.{KeepsRecords, verdict_of_read};
-ghost use Rattle.ss_records.specs.Kept.{AreKept};
-ghost use Rattle.ss_recover.specs.Held.{RiseToLast};
-ghost use Rattle.ss_store.specs.Indexed.{IsTimed};
-
 use super::Store;
 use crate::AskError;
-use crate::index::Index;
-use crate::place::place_of;
-use ss_catalog::{Query, Refusal, StreamId};
+use ss_catalog::Query;
 use ss_model::Outcome;
 use ss_outside::Disk;
-use ss_query::{ReadError, answer_from};
-use ss_records::Records;
-use ss_recover::StreamParts;
-use ss_steps::Steps;
-use std::marker::Brand;
-use std::sync::ledger::{Blank, Ledger};
-
-// What a stream answers to a query, from where its index says that the range begins.
-fn answer_indexed<D: Disk, L: Ledger>(
-    part: &StreamParts,
-    index: &Index,
-    records: &mut Records,
-    disk: &mut D,
-    query: &Query,
-    steps: &mut Steps<L>,
-) -> Result<Outcome, ReadError>
-    requires timed { IsTimed part.now.line.entries index.now.times }
-    requires times { RiseToLast part.now }
-    requires order { query.now.from ≤ query.now.to }
-    requires running { IsRunning records.old.journal }
-    requires slots { All (λ slot. slot < MOST_SLOTS) (window_slots_of part.now) }
-    requires one_disk { OfContent (D.seen disk.old) (AreKept records.old) }
-    ensures answers { Step (verdict_of_read result) (D.seen disk.old) (D.seen disk.new)
-        (AnswersStream part.now query.now records.old records.new result) }
-    ensures kind { IfOk result (IsOfKind query.now.kind) }
-    ensures changed { IfChanged (verdict_of_read result) (Contains (window_slots_of part.now)) }
-    ensures records { KeepsRecords (verdict_of_read result) records.old records.new }
-    // It looks at the line twice for each window that begins in the range, and at most three times besides.
-    ensures looks { steps.new ≤ steps.old + 2 * begun_in query.now.from query.now.to part.now.line.entries + 3 }
-{
-    let start = index.start(part, query.from);
-    answer_from(part, start, records, disk, query, steps)
-}
+use ss_query::outcome_seen;
 
 impl Store {
-    ghost use Rattle.std.specs.Prelude.{◌≡◌, ◌≢◌, ◌≤◌, ◌↔◌, true, false, Some, IsSome, IfOk, IfSome, OnOk, IfErr, Err, None};
+    ghost use Rattle.std.specs.Prelude.{◌≡◌, ◌↔◌, true, false, Some, IfOk, IfSome, Err};
     ghost use Rattle.std.specs.List.{Contains};
-    ghost use Rattle.ss_outside.specs.Disk.{OfContent};
     ghost use Rattle.ss_outside.specs.Step.{Step};
     ghost use Rattle.ss_outside.specs.Verdict.{IfChanged, IfUndone};
     ghost use Rattle.ss_catalog.specs.declared.refusal.Refusal.{Refusal};
     ghost use Rattle.ss_model.specs.Answers.{IsOfKind};
-    ghost use Rattle.ss_steps.specs.Steps.{IsFresh};
     ghost use Rattle.ss_query.specs.Answered.{window_slots_of};
     ghost use Rattle.ss_store.specs.Applied.{Answers, Looks, StandsOn};
     ghost use Rattle.ss_store.specs.Asked.{refuses_query_held};
     ghost use Rattle.ss_store.specs.Errors.{verdict_of_ask};
-    ghost use Rattle.ss_store.specs.Kept.{StoreIsKept, part_named, part_numbered};
+    ghost use Rattle.ss_store.specs.Kept.{part_named};
 
     /// Answers a query, by what the windows of its stream say that have times in the range. It writes nothing, and takes no
     /// memory. A refusal is the first that applies, and makes no call of the disk.
@@ -89,70 +39,7 @@ impl Store {
         ensures same { IfUndone (verdict_of_ask result) (self.new ≡ self.old) }
         ensures idle { self.old.stopped ≡ true → (self.new ≡ self.old) × (disk.new ≡ disk.old) }
     {
-        if self.stopped {
-            return Err(AskError::Stopped);
-        }
-        match self.asked(query) {
-            Ok(id) => self.query_stream::<D, Brand>(disk, query, id, Blank::new(1)),
-            Err(refusal) => Err(AskError::Refused(refusal)),
-        }
-    }
-
-    // The number of the stream that a query asks, or why it is refused.
-    fn asked(&self, query: &Query) -> Result<StreamId, Refusal>
-        ensures refused { IfErr result (λ r. refuses_query_held self.now.streams query.now ≡ Some r) }
-        ensures accepted { OnOk result (refuses_query_held self.now.streams query.now ≡ None) }
-        ensures order { OnOk result (query.now.from ≤ query.now.to) }
-        ensures stands { IfOk result (λ id. IsSome (part_numbered id.0 self.now.streams)) }
-        ensures same { IfOk result (λ id. part_numbered id.0 self.now.streams ≡ part_named query.now.name self.now.streams) }
-    {
-        let Some(id) = self.find(&query.name) else {
-            return Err(Refusal::Unknown);
-        };
-        if query.to < query.from {
-            return Err(Refusal::Range);
-        }
-        Ok(id)
-    }
-
-    // Answers a query to the stream of a number, where the store hasn't stopped.
-    fn query_stream<D: Disk, L: Ledger>(
-        &mut self,
-        disk: &mut D,
-        query: &Query,
-        id: StreamId,
-        blank: Blank,
-    ) -> Result<Outcome, AskError>
-        requires fresh { IsFresh L.name L.parts blank }
-        requires order { query.now.from ≤ query.now.to }
-        requires stands { IsSome (part_numbered id.0 self.old.streams) }
-        requires same { part_numbered id.0 self.old.streams ≡ part_named query.now.name self.old.streams }
-        requires runs { self.old.stopped ≡ false }
-        requires one_disk { OfContent (D.seen disk.old) (StoreIsKept self.old) }
-        ensures answers { Step (verdict_of_ask result) (D.seen disk.old) (D.seen disk.new) (Answers self.old.records query.now result) }
-        ensures looks { Looks (verdict_of_ask result) self.old self.new (D.seen disk.old) (D.seen disk.new) }
-        ensures kind { IfOk result (IsOfKind query.now.kind) }
-        ensures changed { IfChanged (verdict_of_ask result) (λ slot. IfSome (part_named query.now.name self.old.streams) (λ part.
-            Contains (window_slots_of part) slot)) }
-        ensures running { result ≢ Err AskError.Stopped }
-        ensures unrefused { (r : Refusal) → result ≢ Err (AskError.Refused r) }
-    {
-        let _live = self.records.live();
-        let place = place_of(&self.streams, id);
-        let mut steps = Steps::<L>::new(blank);
-        match answer_indexed(
-            &self.streams[place],
-            &self.indexes[place],
-            &mut self.records,
-            disk,
-            query,
-            &mut steps,
-        ) {
-            Ok(outcome) => Ok(outcome),
-            Err(error) => {
-                self.stopped = true;
-                Err(AskError::from(error))
-            }
-        }
+        let seen = self.see(disk, query)?;
+        Ok(outcome_seen(seen, query.kind))
     }
 }

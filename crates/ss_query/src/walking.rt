@@ -1,0 +1,104 @@
+// A walk over the windows of one stream, for a query.
+ghost use Rattle.std.specs.Prelude.{◌≡◌, ◌+◌, ◌*◌, ◌<◌, ◌≤◌, All, IfOk};
+ghost use Rattle.std.specs.List.{Contains};
+ghost use Rattle.ss_outside.specs.Disk.{OfContent};
+ghost use Rattle.ss_outside.specs.Step.{Step};
+ghost use Rattle.ss_outside.specs.Verdict.{IfChanged};
+ghost use Rattle.ss_journal.specs.Kept.{IsRunning};
+ghost use Rattle.ss_journal.specs.declared.format.TheConstants.{MOST_SLOTS};
+ghost use Rattle.ss_records.specs.Kept.{AreKept};
+ghost use Rattle.ss_query.specs.Answered.{BeginsAt, BeginsNear, SeesEntry, SeesStream, begun_in, window_slots_of};
+ghost use Rattle.ss_query.specs.Asked.{HasCuts, HasRoom, IsFewMarked};
+ghost use Rattle.ss_query.specs.Reading.{KeepsRecords, verdict_of_read};
+
+use crate::asking::{follows, nothing_seen, with_window};
+use crate::{ReadError, Seen, read_window};
+use ss_catalog::Query;
+use ss_line::{At, Entry};
+use ss_model::Window;
+use ss_outside::Disk;
+use ss_records::Records;
+use ss_recover::StreamParts;
+use ss_steps::Steps;
+use std::sync::ledger::Ledger;
+
+// What is known with the window of an entry that begins by the end of the range. Its record is read only where it doesn't end
+// before the range.
+fn see_entry<D: Disk>(
+    records: &mut Records,
+    disk: &mut D,
+    part: &StreamParts,
+    query: &Query,
+    entry: Entry,
+    seen: Seen,
+) -> Result<Seen, ReadError>
+    requires order { query.now.from ≤ query.now.to }
+    requires begins { entry.t_first ≤ query.now.to }
+    requires room { HasRoom seen }
+    requires cuts { HasCuts seen }
+    requires running { IsRunning records.old.journal }
+    requires slot { entry.slot < MOST_SLOTS }
+    requires one_disk { OfContent (D.seen disk.old) (AreKept records.old) }
+    ensures sees { Step (verdict_of_read result) (D.seen disk.old) (D.seen disk.new)
+        (SeesEntry part.now query.now.from query.now.to entry seen records.old records.new result) }
+    ensures room { IfOk result (λ now. HasRoom now × (now.marked ≡ seen.marked)) }
+    ensures cuts { IfOk result HasCuts }
+    ensures changed { IfChanged (verdict_of_read result) (λ slot. slot ≡ entry.slot) }
+    ensures records { KeepsRecords (verdict_of_read result) records.old records.new }
+{
+    if entry.t_last < query.from {
+        return Ok(seen);
+    }
+    let window = Window {
+        first: entry.first,
+        summary: read_window(records, disk, part, entry)?,
+    };
+    if !follows(seen, &window) {
+        return Err(ReadError::Changed { slot: entry.slot });
+    }
+    Ok(with_window(seen, query, &part.landmarks, &window))
+}
+
+/// What is known of a stream for a query: it tallies the values of landmarks in the range, and reads the records of those
+/// windows, oldest first, that have times in the range. It begins at a place before which each window ends before the range,
+/// and looks at each window from there on, up to the first that begins after the range. It writes nothing, and takes no memory.
+pub fn see_from<D: Disk, L: Ledger>(
+    part: &StreamParts,
+    start: Option<At>,
+    records: &mut Records,
+    disk: &mut D,
+    query: &Query,
+    steps: &mut Steps<L>,
+) -> Result<Seen, ReadError>
+    requires begins { BeginsAt part.now.line.entries query.now.from start }
+    requires order { query.now.from ≤ query.now.to }
+    requires running { IsRunning records.old.journal }
+    requires slots { All (λ slot. slot < MOST_SLOTS) (window_slots_of part.now) }
+    requires one_disk { OfContent (D.seen disk.old) (AreKept records.old) }
+    // What is known of the stream whose records the content has, each in the slot where it is held.
+    ensures sees { Step (verdict_of_read result) (D.seen disk.old) (D.seen disk.new)
+        (SeesStream part.now query.now records.old records.new result) }
+    // Over every disk the values of landmarks are few, and the cut windows are such as a range may split.
+    ensures marked { IfOk result (λ seen. IsFewMarked seen.marked) }
+    ensures cuts { IfOk result HasCuts }
+    // A slot that has changed is that of a window.
+    ensures changed { IfChanged (verdict_of_read result) (Contains (window_slots_of part.now)) }
+    ensures records { KeepsRecords (verdict_of_read result) records.old records.new }
+    // Two looks at the first window, two at each other one that begins in the range, and one at the one after these.
+    ensures looks { BeginsNear part.now.line.entries query.now.from start
+        → steps.new ≤ steps.old + 2 * begun_in query.now.from query.now.to part.now.line.entries + 3 }
+{
+    let _len = part.line.len();
+    let _known = part.landmarks.count();
+    let mut seen = nothing_seen(part.landmarks.values_in(query.from, query.to));
+    let mut next = start;
+    while let Some(at) = next {
+        let entry = part.line.get(at, steps);
+        if query.to < entry.t_first {
+            return Ok(seen);
+        }
+        seen = see_entry(records, disk, part, query, entry, seen)?;
+        next = part.line.neighbours(at, steps).1;
+    }
+    Ok(seen)
+}

@@ -1,0 +1,160 @@
+// What is known for a query.
+ghost use Rattle.std.specs.Prelude.{◌≡◌, ◌+◌, ◌*◌, ◌<◌, ◌≤◌, All, IfOk};
+ghost use Rattle.std.specs.List.{Contains};
+ghost use Rattle.ss_outside.specs.Disk.{OfContent};
+ghost use Rattle.ss_outside.specs.Step.{Step};
+ghost use Rattle.ss_outside.specs.Verdict.{IfChanged};
+ghost use Rattle.ss_journal.specs.Kept.{IsRunning};
+ghost use Rattle.ss_journal.specs.declared.format.TheConstants.{MOST_SLOTS};
+ghost use Rattle.ss_query.specs.Answered.{SeesStream, begun_in, window_slots_of};
+ghost use Rattle.ss_query.specs.Asked.{HasCuts, IsFewMarked};
+ghost use Rattle.ss_query.specs.Reading.{KeepsRecords, verdict_of_read};
+ghost use Rattle.ss_records.specs.Kept.{AreKept};
+ghost use Rattle.ss_recover.specs.Held.{RiseToLast};
+ghost use Rattle.ss_store.specs.Indexed.{IsTimed};
+
+use super::Store;
+use crate::AskError;
+use crate::index::Index;
+use crate::place::place_of;
+use ss_catalog::{Query, Refusal, StreamId};
+use ss_outside::Disk;
+use ss_query::{ReadError, Seen, see_from};
+use ss_records::Records;
+use ss_recover::StreamParts;
+use ss_steps::Steps;
+use std::marker::Brand;
+use std::sync::ledger::{Blank, Ledger};
+
+// What is known of a stream for a query, from where its index says that the range begins.
+fn see_indexed<D: Disk, L: Ledger>(
+    part: &StreamParts,
+    index: &Index,
+    records: &mut Records,
+    disk: &mut D,
+    query: &Query,
+    steps: &mut Steps<L>,
+) -> Result<Seen, ReadError>
+    requires timed { IsTimed part.now.line.entries index.now.times }
+    requires times { RiseToLast part.now }
+    requires order { query.now.from ≤ query.now.to }
+    requires running { IsRunning records.old.journal }
+    requires slots { All (λ slot. slot < MOST_SLOTS) (window_slots_of part.now) }
+    requires one_disk { OfContent (D.seen disk.old) (AreKept records.old) }
+    ensures sees { Step (verdict_of_read result) (D.seen disk.old) (D.seen disk.new)
+        (SeesStream part.now query.now records.old records.new result) }
+    ensures marked { IfOk result (λ seen. IsFewMarked seen.marked) }
+    ensures cuts { IfOk result HasCuts }
+    ensures changed { IfChanged (verdict_of_read result) (Contains (window_slots_of part.now)) }
+    ensures records { KeepsRecords (verdict_of_read result) records.old records.new }
+    // It looks at the line twice for each window that begins in the range, and at most three times besides.
+    ensures looks { steps.new ≤ steps.old + 2 * begun_in query.now.from query.now.to part.now.line.entries + 3 }
+{
+    let start = index.start(part, query.from);
+    see_from(part, start, records, disk, query, steps)
+}
+
+impl Store {
+    ghost use Rattle.std.specs.Prelude.{◌≡◌, ◌≢◌, ◌≤◌, ◌↔◌, true, false, Some, IsSome, IfOk, IfSome, OnOk, IfErr, Err, None};
+    ghost use Rattle.std.specs.List.{Contains};
+    ghost use Rattle.ss_outside.specs.Disk.{OfContent};
+    ghost use Rattle.ss_outside.specs.Step.{Step};
+    ghost use Rattle.ss_outside.specs.Verdict.{IfChanged, IfUndone};
+    ghost use Rattle.ss_catalog.specs.declared.refusal.Refusal.{Refusal};
+    ghost use Rattle.ss_steps.specs.Steps.{IsFresh};
+    ghost use Rattle.ss_query.specs.Answered.{window_slots_of};
+    ghost use Rattle.ss_query.specs.Asked.{HasCuts, IsFewMarked};
+    ghost use Rattle.ss_store.specs.Applied.{Looks, Sees, StandsOn};
+    ghost use Rattle.ss_store.specs.Asked.{refuses_query_held};
+    ghost use Rattle.ss_store.specs.Errors.{verdict_of_ask};
+    ghost use Rattle.ss_store.specs.Kept.{StoreIsKept, part_named, part_numbered};
+
+    /// What is known for a query, by the windows of its stream that have times in the range: `ask` answers by it. It writes
+    /// nothing, and takes no memory. A refusal is the first that applies, and makes no call of the disk.
+    pub fn see<D: Disk>(&mut self, disk: &mut D, query: &Query) -> Result<Seen, AskError>
+        requires one_disk { StandsOn self.old (D.seen disk.old) }
+        // What is known of the stream in the state that is shown, with what is staged.
+        ensures sees { Step (verdict_of_ask result) (D.seen disk.old) (D.seen disk.new) (Sees self.old.records query.now result) }
+        ensures looks { Looks (verdict_of_ask result) self.old self.new (D.seen disk.old) (D.seen disk.new) }
+        // Over every disk the values of landmarks are few, and the cut windows are such as a range may split.
+        ensures marked { IfOk result (λ seen. IsFewMarked seen.marked) }
+        ensures cuts { IfOk result HasCuts }
+        // A slot that has changed is that of a window of the stream.
+        ensures changed { IfChanged (verdict_of_ask result) (λ slot. IfSome (part_named query.now.name self.old.streams) (λ part.
+            Contains (window_slots_of part) slot)) }
+        // Stopped comes first, exactly where the store had stopped, and then each refusal exactly where it applies.
+        ensures stopped { (result ≡ Err AskError.Stopped) ↔ (self.old.stopped ≡ true) }
+        ensures refused { self.old.stopped ≡ false → (r : Refusal) →
+            (result ≡ Err (AskError.Refused r)) ↔ (refuses_query_held self.old.streams query.now ≡ Some r) }
+        ensures uncalled { IfUndone (verdict_of_ask result) (disk.new ≡ disk.old) }
+        ensures same { IfUndone (verdict_of_ask result) (self.new ≡ self.old) }
+        ensures idle { self.old.stopped ≡ true → (self.new ≡ self.old) × (disk.new ≡ disk.old) }
+    {
+        if self.stopped {
+            return Err(AskError::Stopped);
+        }
+        match self.asked(query) {
+            Ok(id) => self.see_stream::<D, Brand>(disk, query, id, Blank::new(1)),
+            Err(refusal) => Err(AskError::Refused(refusal)),
+        }
+    }
+
+    // The number of the stream that a query asks, or why it is refused.
+    fn asked(&self, query: &Query) -> Result<StreamId, Refusal>
+        ensures refused { IfErr result (λ r. refuses_query_held self.now.streams query.now ≡ Some r) }
+        ensures accepted { OnOk result (refuses_query_held self.now.streams query.now ≡ None) }
+        ensures order { OnOk result (query.now.from ≤ query.now.to) }
+        ensures stands { IfOk result (λ id. IsSome (part_numbered id.0 self.now.streams)) }
+        ensures same { IfOk result (λ id. part_numbered id.0 self.now.streams ≡ part_named query.now.name self.now.streams) }
+    {
+        let Some(id) = self.find(&query.name) else {
+            return Err(Refusal::Unknown);
+        };
+        if query.to < query.from {
+            return Err(Refusal::Range);
+        }
+        Ok(id)
+    }
+
+    // What is known of the stream of a number, where the store hasn't stopped.
+    fn see_stream<D: Disk, L: Ledger>(
+        &mut self,
+        disk: &mut D,
+        query: &Query,
+        id: StreamId,
+        blank: Blank,
+    ) -> Result<Seen, AskError>
+        requires fresh { IsFresh L.name L.parts blank }
+        requires order { query.now.from ≤ query.now.to }
+        requires stands { IsSome (part_numbered id.0 self.old.streams) }
+        requires same { part_numbered id.0 self.old.streams ≡ part_named query.now.name self.old.streams }
+        requires runs { self.old.stopped ≡ false }
+        requires one_disk { OfContent (D.seen disk.old) (StoreIsKept self.old) }
+        ensures sees { Step (verdict_of_ask result) (D.seen disk.old) (D.seen disk.new) (Sees self.old.records query.now result) }
+        ensures looks { Looks (verdict_of_ask result) self.old self.new (D.seen disk.old) (D.seen disk.new) }
+        ensures marked { IfOk result (λ seen. IsFewMarked seen.marked) }
+        ensures cuts { IfOk result HasCuts }
+        ensures changed { IfChanged (verdict_of_ask result) (λ slot. IfSome (part_named query.now.name self.old.streams) (λ part.
+            Contains (window_slots_of part) slot)) }
+        ensures running { result ≢ Err AskError.Stopped }
+        ensures unrefused { (r : Refusal) → result ≢ Err (AskError.Refused r) }
+    {
+        let _live = self.records.live();
+        let place = place_of(&self.streams, id);
+        let mut steps = Steps::<L>::new(blank);
+        match see_indexed(
+            &self.streams[place],
+            &self.indexes[place],
+            &mut self.records,
+            disk,
+            query,
+            &mut steps,
+        ) {
+            Ok(seen) => Ok(seen),
+            Err(error) => {
+                self.stopped = true;
+                Err(AskError::from(error))
+            }
+        }
+    }
+}
