@@ -14,19 +14,21 @@ use Rattle.std.specs.List.{All, list_all}
 use Rattle.ss_fields.proofs.WordLemmas.{signed_of-signed_decimal, unsigned_of-decimal}
 use Rattle.ss_catalog.proofs.NameLemmas.{length-is_name}
 use Rattle.ss_catalog.specs.Names.{is_name, is_name_byte}
-use Rattle.ss_catalog.specs.Queries.{kind_name}
+use Rattle.ss_catalog.specs.Queries.{adds_up, end_name, kind_name}
 use Rattle.ss_catalog.specs.Series.{IsSeriesInRange, rows_in}
 use Rattle.ss_catalog.specs.declared.TheConstants.{LAST_TIME, MOST_ROWS}
 use Rattle.ss_catalog.specs.declared.series.Series.{Series}
 use Rattle.ss_catalog.specs.declared.event.Event.TheVariants.{Create, Value, Open, Close}
 use Rattle.ss_catalog.specs.declared.params.Params.TheVariants.{Exp, Power}
+use Rattle.ss_catalog.specs.declared.query.End.{End}
+use Rattle.ss_catalog.specs.declared.query.End.TheVariants as ends
 use Rattle.ss_catalog.specs.declared.query.Kind.{Kind}
 use Rattle.ss_catalog.specs.declared.query.Kind.TheVariants as kinds
 use Rattle.ss_command.proofs.GrammarLemmas.{meaning-words}
 use Rattle.ss_command.proofs.NumberLemmas.{or_number-Ok}
 use Rattle.ss_command.proofs.PutLemmas.{length-decimal_32, length-decimal_64, length-signed_64, length-with_word}
 use Rattle.ss_command.proofs.WordLemmas.{words-blank, words-one}
-use Rattle.ss_command.specs.Grammar.{is_comment, kind_of, meaning, meaning_of_words, name_of, or_number, parameter_of, step_of, time_of, value_of}
+use Rattle.ss_command.specs.Grammar.{added_of, end_of, is_comment, kind_of, meaning, meaning_of_words, name_of, or_number, parameter_of, step_of, time_of, value_of}
 use Rattle.ss_command.specs.Printed.{IsSayable, printed, spaced, target_words, with_word}
 use Rattle.ss_command.specs.Words.{is_blank, words}
 use Rattle.ss_command.specs.declared.command.Command.{Command}
@@ -294,6 +296,48 @@ meaning-windows name is =
     meaning-spaced (codes "windows") rest (literal (codes "windows") refl) (IsWord-name name is, tt) short refl
     ∙ rw (name_of-name name is) refl
 
+-- the name of what adds up, and that of an end
+added_of-name : (kind : Kind) → adds_up kind ≡ true → added_of (kind_name kind) ≡ Ok kind
+added_of-name kinds.Count added = refl
+added_of-name kinds.Sum added = refl
+added_of-name kinds.Min added = cc
+added_of-name kinds.Max added = cc
+
+IsWord-end : (end : End) → IsWord (end_name end)
+IsWord-end ends.Lo = literal (codes "lo") refl
+IsWord-end ends.Hi = literal (codes "hi") refl
+
+length-end : (end : End) → length (end_name end) ≤ 2
+length-end ends.Lo = omega arith
+length-end ends.Hi = omega arith
+
+end_of-name : (end : End) → end_of (end_name end) ≡ Ok end
+end_of-name ends.Lo = refl
+end_of-name ends.Hi = refl
+
+meaning-certify : (name : List ℕ) (kind : Kind) (end : End) (from to : ℕ) → is_name name ≡ true → from ≤ LAST_TIME → to ≤ LAST_TIME →
+    adds_up kind ≡ true →
+    meaning (spaced (codes "certify") (name ∷ kind_name kind ∷ end_name end ∷ decimal from ∷ decimal to ∷ [])) ≡ Ok
+    (Some (commands.Certify (record { name = name; kind = kind; from = from; to = to }) end))
+meaning-certify name kind end from to is early late added =
+    let rest = name ∷ kind_name kind ∷ end_name end ∷ decimal from ∷ decimal to ∷ [] in
+    let all : AreWords rest = (
+      IsWord-name name is,
+      (IsWord-kind kind, (IsWord-end end, (IsWord-decimal from (omega arith), (IsWord-decimal to (omega arith), tt)))),
+    ) in
+    let short : length (spaced (codes "certify") rest) ≤ 256 =
+    omega (
+      arith,
+      length-spaced rest (codes "certify"),
+      length-is_name name is,
+      length-kind kind,
+      length-end end,
+      length-decimal_64 from (omega arith),
+      length-decimal_64 to (omega arith),
+    ) in
+    meaning-spaced (codes "certify") rest (literal (codes "certify") refl) all short refl
+    ∙ rw (added_of-name kind added, end_of-name end, time_of-decimal from early, time_of-decimal to late, name_of-name name is) refl
+
 -- a printed command means that command
 pub meaning-printed : (command : Command) → IsSayable command → meaning (printed command) ≡ Ok (Some command)
 unfolding printed
@@ -305,4 +349,6 @@ meaning-printed (commands.Do (Close name t)) sayable = meaning-close name t saya
 meaning-printed (commands.Ask query) sayable = meaning-query query.name query.kind query.from query.to sayable.0 sayable.1.0 sayable.1.1
 meaning-printed (commands.Series series) sayable = meaning-series series sayable.0 sayable.1
 meaning-printed (commands.Windows name) sayable = meaning-windows name sayable
+meaning-printed (commands.Certify query end) sayable =
+    meaning-certify query.name query.kind end query.from query.to sayable.0 sayable.1.0 sayable.1.1 sayable.2
 meaning-printed commands.List sayable = meaning-spaced (codes "list") [] (literal (codes "list") refl) tt (omega arith) refl

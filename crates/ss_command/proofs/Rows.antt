@@ -6,6 +6,7 @@ use Rattle.ss_fields.specs.Words.{is_number, number_of, number_up_to, signed_of}
 use Rattle.ss_catalog.specs.Names.{is_name}
 use Rattle.ss_catalog.specs.declared.event.Event.TheVariants.{Create, Value, Open, Close}
 use Rattle.ss_catalog.specs.declared.params.Params.TheVariants.{Exp, Power}
+use Rattle.ss_catalog.specs.declared.query.End.TheVariants as ends
 use Rattle.ss_catalog.specs.declared.query.Kind.TheVariants as kinds
 use Rattle.ss_catalog.specs.declared.refusal.Refusal.{Refusal}
 use Rattle.ss_catalog.specs.declared.refusal.Refusal.TheVariants as refusals
@@ -180,3 +181,31 @@ means-series_refused = refl
 printed-series : printed (commands.Series (record { name = codes "a"; kind = kinds.Min; from = 45; to = 65; step = 7 })) ≡ codes "series a min 45 65 7"
 unfolding printed digits
 printed-series = refl
+
+means-certificates :
+    map meaning (codes "certify a count lo 10 40" ∷ codes "certify a sum hi 00 4611686018427387904" ∷ codes " certify a\tsum lo 5 4 " ∷ [])
+    ≡ Ok (Some (commands.Certify (record { name = codes "a"; kind = kinds.Count; from = 10; to = 40 }) ends.Lo))
+    ∷ Ok (Some (commands.Certify (record { name = codes "a"; kind = kinds.Sum; from = 0; to = 4611686018427387904 }) ends.Hi))
+    ∷ Ok (Some (commands.Certify (record { name = codes "a"; kind = kinds.Sum; from = 5; to = 4 }) ends.Lo))
+    ∷ []
+unfolding meaning words is_number number_of number_up_to signed_of is_name
+means-certificates = refl
+
+-- the order of the refusals; a kind that doesn't add up, and a word that is no end
+means-certificates_refused :
+    map meaning (codes "certify a count lo 1" ∷ codes "certify a count lo 1 2 3" ∷ codes "certify x! min lo y 2" ∷ codes "certify x! max hi y 2"
+    ∷ codes "certify x! mean lo y 2" ∷ codes "certify x! sum LO y 2" ∷ codes "certify x! sum low y 2" ∷ codes "certify x! sum lo y 2"
+    ∷ codes "certify x! sum hi 1 y" ∷ codes "certify a sum hi 1 4611686018427387905" ∷ codes "certify a sum hi 4611686018427387905 1"
+    ∷ codes "certify x! sum lo 1 2" ∷ [])
+    ≡ map refused (refusals.Syntax ∷ refusals.Syntax ∷ refusals.Syntax ∷ refusals.Syntax ∷ refusals.Syntax ∷ refusals.Syntax ∷ refusals.Syntax
+    ∷ refusals.Number ∷ refusals.Number ∷ refusals.Number ∷ refusals.Number ∷ refusals.Name ∷ [])
+unfolding meaning words is_number number_of number_up_to signed_of is_name
+means-certificates_refused = refl
+
+printed-certificates :
+    map printed
+    (commands.Certify (record { name = codes "a"; kind = kinds.Count; from = 45; to = 65 }) ends.Hi
+    ∷ commands.Certify (record { name = codes "a"; kind = kinds.Sum; from = 0; to = 4611686018427387904 }) ends.Lo ∷ [])
+    ≡ codes "certify a count hi 45 65" ∷ codes "certify a sum lo 0 4611686018427387904" ∷ []
+unfolding printed digits
+printed-certificates = refl

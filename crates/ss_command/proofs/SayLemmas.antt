@@ -7,13 +7,16 @@ use Rattle.std.specs.Int.{w64}
 use Rattle.ss_fields.specs.Words.{as_negative, as_positive, number_up_to, signed_of}
 use Rattle.ss_fields.specs.declared.number_error.NumberError.{NumberError}
 use Rattle.ss_catalog.specs.Names.{is_name}
+use Rattle.ss_catalog.specs.Queries.{adds_up}
 use Rattle.ss_catalog.specs.Series.{rows_in}
 use Rattle.ss_catalog.specs.declared.TheConstants.{LAST_TIME, MOST_ROWS}
 use Rattle.ss_catalog.specs.declared.event.Event.TheVariants.{Create, Value, Open, Close}
 use Rattle.ss_catalog.specs.declared.params.Params.TheVariants.{Exp, Power}
+use Rattle.ss_catalog.specs.declared.query.Kind.{Kind}
 use Rattle.ss_catalog.specs.declared.refusal.Refusal.{Refusal}
 use Rattle.ss_command.specs.declared.TheConstants.{LONGEST_LINE}
-use Rattle.ss_command.specs.Grammar.{◌>>=◌, append_of, close_of, command_of, create_of, exp_of, is_comment, landmark_of, list_of, meaning}
+use Rattle.ss_command.specs.Grammar.{◌>>=◌, added_of, append_of, certify_of, close_of, command_of, create_of, end_of, exp_of, is_comment, landmark_of}
+use Rattle.ss_command.specs.Grammar.{list_of, meaning}
 use Rattle.ss_command.specs.Grammar.{meaning_of_words, kind_of, name_of, open_of, or_number, parameter_of, power_of, query_of, series_of, step_of, time_of, value_of}
 use Rattle.ss_command.specs.Grammar.{windows_of}
 use Rattle.ss_command.specs.Printed.{IsSayable}
@@ -206,6 +209,28 @@ list-sayable : (ws : List (List ℕ)) (c : Command) → list_of ws ≡ Ok c → 
 list-sayable [] c same = let is : commands.List ≡ c = cc in subst IsSayable is tt
 list-sayable (more ∷ rest) c same = cc
 
+-- what is asked for where it is to add up does so
+added-adds_up : (word : List ℕ) (kind : Kind) → added_of word ≡ Ok kind → adds_up kind ≡ true
+added-adds_up word kind same =
+    let read = bind-Ok (kind_of word) _ kind same in
+    grind arith
+
+certify-sayable : (ws : List (List ℕ)) (c : Command) → certify_of ws ≡ Ok c → IsSayable c
+certify-sayable [] c same = cc
+certify-sayable (name ∷ []) c same = cc
+certify-sayable (name ∷ asked ∷ []) c same = cc
+certify-sayable (name ∷ asked ∷ side ∷ []) c same = cc
+certify-sayable (name ∷ asked ∷ side ∷ first ∷ []) c same = cc
+certify-sayable (name ∷ asked ∷ side ∷ first ∷ last ∷ []) c same =
+    let kind = bind-Ok (added_of asked) _ c same in
+    let end = bind-Ok (end_of side) _ c kind.2 in
+    let from = bind-Ok (time_of first) _ c end.2 in
+    let to = bind-Ok (time_of last) _ c from.2 in
+    let stream = bind-Ok (name_of name) _ c to.2 in
+    let is : commands.Certify (record { name = stream.0; kind = kind.0; from = from.0; to = to.0 }) end.0 ≡ c = cc (stream.2) in
+    subst IsSayable is (name-is name stream.0 stream.1, (time-le first from.0 from.1, time-le last to.0 to.1), added-adds_up asked kind.0 kind.1)
+certify-sayable (name ∷ asked ∷ side ∷ first ∷ last ∷ more ∷ rest) c same = cc
+
 command-sayable : (verb : List ℕ) (rest : List (List ℕ)) (c : Command) → command_of verb rest ≡ Ok c → IsSayable c
 command-sayable verb rest c same =
     choice (IsSayable c) (is_word verb (codes "create")) _ _ c (create-sayable rest c)
@@ -214,7 +239,8 @@ command-sayable verb rest c same =
     (choice (IsSayable c) (is_word verb (codes "query")) _ _ c (query-sayable rest c)
     (choice (IsSayable c) (is_word verb (codes "series")) _ _ c (series-sayable rest c)
     (choice (IsSayable c) (is_word verb (codes "windows")) _ _ c (windows-sayable rest c)
-    (choice (IsSayable c) (is_word verb (codes "list")) _ _ c (list-sayable rest c) (λ wrong. cc (wrong))))))))
+    (choice (IsSayable c) (is_word verb (codes "list")) _ _ c (list-sayable rest c)
+    (choice (IsSayable c) (is_word verb (codes "certify")) _ _ c (certify-sayable rest c) (λ wrong. cc (wrong)))))))))
     same
 
 words-sayable : (ws : List (List ℕ)) (c : Command) → meaning_of_words ws ≡ Ok (Some c) → IsSayable c

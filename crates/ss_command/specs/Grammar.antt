@@ -3,10 +3,13 @@ use Rattle.std.specs.Prelude.{ℕ, ◌^◌, ◌-◌, Bool, ◌==◌, ◌&&◌, n
 use Rattle.ss_fields.specs.Words.{number_up_to, signed_of}
 use Rattle.ss_fields.specs.declared.number_error.NumberError.{NumberError}
 use Rattle.ss_catalog.specs.Names.{is_name}
+use Rattle.ss_catalog.specs.Queries.{adds_up}
 use Rattle.ss_catalog.specs.Series.{rows_in}
 use Rattle.ss_catalog.specs.declared.TheConstants.{LAST_TIME, MOST_ROWS}
 use Rattle.ss_catalog.specs.declared.event.Event.TheVariants.{Create, Value, Open, Close}
 use Rattle.ss_catalog.specs.declared.params.Params.TheVariants.{Exp, Power}
+use Rattle.ss_catalog.specs.declared.query.End.{End}
+use Rattle.ss_catalog.specs.declared.query.End.TheVariants as ends
 use Rattle.ss_catalog.specs.declared.query.Kind.{Kind}
 use Rattle.ss_catalog.specs.declared.query.Kind.TheVariants as kinds
 use Rattle.ss_catalog.specs.declared.refusal.Refusal.{Refusal}
@@ -151,6 +154,30 @@ abbrev pub list_of : List (List ℕ) → Result Command Refusal
 list_of [] = Ok commands.List
 list_of _ = Err refusals.Syntax
 
+-- what is asked for, where that adds up: `count` or `sum`
+abbrev pub added_of : List ℕ → Result Kind Refusal
+added_of word = do
+  kind ← kind_of word
+  if adds_up kind then Ok kind else Err refusals.Syntax
+
+-- an end of an interval: one of these words
+abbrev pub end_of : List ℕ → Result End Refusal
+end_of word =
+    if is_word word (codes "lo") then Ok ends.Lo
+    else (if is_word word (codes "hi") then Ok ends.Hi
+    else Err refusals.Syntax)
+
+-- `certify NAME count lo T1 T2`, from its name on; also with `sum`, and with `hi`
+abbrev pub certify_of : List (List ℕ) → Result Command Refusal
+certify_of (name ∷ asked ∷ side ∷ first ∷ last ∷ []) = do
+  kind ← added_of asked
+  end ← end_of side
+  from ← time_of first
+  to ← time_of last
+  stream ← name_of name
+  Ok (commands.Certify (record { name = stream; kind = kind; from = from; to = to }) end)
+certify_of _ = Err refusals.Syntax
+
 -- the forms of a command: its first word says which one the words after it are to have
 abbrev pub command_of : List ℕ → List (List ℕ) → Result Command Refusal
 command_of verb rest =
@@ -161,7 +188,8 @@ command_of verb rest =
     else (if is_word verb (codes "series") then series_of rest
     else (if is_word verb (codes "windows") then windows_of rest
     else (if is_word verb (codes "list") then list_of rest
-    else Err refusals.Syntax))))))
+    else (if is_word verb (codes "certify") then certify_of rest
+    else Err refusals.Syntax)))))))
 
 -- what words mean: nothing, where there are none, or a command
 abbrev pub meaning_of_words : List (List ℕ) → Result (Option Command) Refusal

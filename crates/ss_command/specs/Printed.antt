@@ -4,7 +4,7 @@ use Rattle.std.specs.Fmt.{decimal, signed_decimal}
 use Rattle.std.specs.Int.{w64}
 use Rattle.ss_catalog.specs.Events.{IsInTime}
 use Rattle.ss_catalog.specs.Names.{is_name}
-use Rattle.ss_catalog.specs.Queries.{IsQueryInTime, kind_name}
+use Rattle.ss_catalog.specs.Queries.{IsQueryInTime, adds_up, end_name, kind_name}
 use Rattle.ss_catalog.specs.Series.{IsSeriesInRange}
 use Rattle.ss_catalog.specs.declared.TheConstants.{LAST_TIME}
 use Rattle.ss_catalog.specs.declared.event.Event.TheVariants.{Create, Value, Open, Close}
@@ -37,13 +37,15 @@ printed (commands.Series series) =
     spaced (codes "series") (series.name ∷ kind_name series.kind ∷ decimal series.from ∷ decimal series.to ∷ decimal series.step ∷ [])
 printed (commands.Windows name) = spaced (codes "windows") (name ∷ [])
 printed commands.List = codes "list"
+printed (commands.Certify query end) =
+    spaced (codes "certify") (query.name ∷ kind_name query.kind ∷ end_name end ∷ decimal query.from ∷ decimal query.to ∷ [])
 
 -- the parameters fit 32 bits
 abbrev pub HasParameters : Params → Type 0
 HasParameters (Exp b r s) = (b < 2 ^ 32) × (r < 2 ^ 32) × (s < 2 ^ 32)
 HasParameters (Power p q r s) = (p < 2 ^ 32) × (q < 2 ^ 32) × (r < 2 ^ 32) × (s < 2 ^ 32)
 
--- a command that a line can say: its name is one, its numbers are in their ranges
+-- a command that a line can say: its name is one, its numbers are in their ranges, and what is certified adds up
 abbrev pub IsSayable : Command → Type 0
 IsSayable (commands.Do (Create name params)) = (is_name name ≡ true) × HasParameters params
 IsSayable (commands.Do (Value name t v)) = (is_name name ≡ true) × (t ≤ LAST_TIME) × FitsSigned w64 v
@@ -53,11 +55,13 @@ IsSayable (commands.Ask query) = (is_name query.name ≡ true) × IsQueryInTime 
 IsSayable (commands.Series series) = (is_name series.name ≡ true) × IsSeriesInRange series
 IsSayable (commands.Windows name) = is_name name ≡ true
 IsSayable commands.List = Unit {0}
+IsSayable (commands.Certify query end) = (is_name query.name ≡ true) × IsQueryInTime query × (adds_up query.kind ≡ true)
 
--- a command has no time above the greatest one, and a series no more rows than one may have
+-- a command has no time above the greatest one, a series no more rows than one may have, and what is certified adds up
 abbrev pub IsCommandInTime : Command → Type 0
 IsCommandInTime (commands.Do event) = IsInTime event
 IsCommandInTime (commands.Ask query) = IsQueryInTime query
 IsCommandInTime (commands.Series series) = IsSeriesInRange series
 IsCommandInTime (commands.Windows name) = Unit {0}
 IsCommandInTime commands.List = Unit {0}
+IsCommandInTime (commands.Certify query end) = IsQueryInTime query × (adds_up query.kind ≡ true)

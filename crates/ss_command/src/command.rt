@@ -1,5 +1,5 @@
 // What a line asks for.
-use ss_catalog::{Event, Name, Query, Series};
+use ss_catalog::{End, Event, Name, Query, Series};
 
 /// What a line asks for. docs/GUIDE.md ("Commands") has the forms.
 #[derive(Clone, Copy, Debug, PartialEq, Eq)]
@@ -14,4 +14,6 @@ pub enum Command {
     Windows(Name),
     /// All streams.
     List,
+    /// Why an end of what a query answers is no narrower. What it asks for adds up.
+    Certify { query: Query, end: End },
 }

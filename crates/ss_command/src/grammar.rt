@@ -1,6 +1,8 @@
 // What a line means.
-ghost use Rattle.std.specs.Prelude.{◌≡◌, ◌≤◌, length, codes, IfOk, IfSome};
-ghost use Rattle.ss_command.specs.Grammar.{append_of, close_of, command_of, create_of, exp_of, is_comment, kind_of, landmark_of, list_of, meaning};
+ghost use Rattle.std.specs.Prelude.{◌≡◌, ◌≤◌, length, codes, true, IfOk, IfSome};
+ghost use Rattle.ss_catalog.specs.Queries.{adds_up};
+ghost use Rattle.ss_command.specs.Grammar.{added_of, append_of, certify_of, close_of, command_of, create_of, end_of, exp_of, is_comment, kind_of};
+ghost use Rattle.ss_command.specs.Grammar.{landmark_of, list_of, meaning};
 ghost use Rattle.ss_command.specs.Grammar.{open_of, power_of, query_of, series_of, windows_of};
 ghost use Rattle.ss_command.specs.Printed.{IsCommandInTime, IsSayable};
 
@@ -8,7 +10,7 @@ use crate::command::Command;
 use crate::numbers::{read_name, read_parameter, read_step, read_time, read_value};
 use crate::words::{Words, is_word};
 use crate::{COMMENT, LONGEST_LINE};
-use ss_catalog::{Event, Kind, Params, Query, Refusal, Series};
+use ss_catalog::{End, Event, Kind, Params, Query, Refusal, Series};
 
 // Reads `create NAME exp B R S`, from B on.
 fn exp(name: &[u8], mut words: Words) -> Result<Command, Refusal>
@@ -197,6 +199,57 @@ fn list(words: Words) -> Result<Command, Refusal>
     Ok(Command::List)
 }
 
+// What is asked for, where that adds up.
+fn added(word: &[u8]) -> Result<Kind, Refusal>
+    ensures value { result ≡ added_of word.now }
+    ensures added { IfOk result (λ kind. adds_up kind ≡ true) }
+{
+    let kind = kind(word)?;
+    if kind.adds_up() {
+        Ok(kind)
+    } else {
+        Err(Refusal::Syntax)
+    }
+}
+
+// An end of an interval.
+fn end(word: &[u8]) -> Result<End, Refusal>
+    ensures { result ≡ end_of word.now }
+{
+    if is_word(word, "lo") {
+        Ok(End::Lo)
+    } else if is_word(word, "hi") {
+        Ok(End::Hi)
+    } else {
+        Err(Refusal::Syntax)
+    }
+}
+
+// Reads `certify NAME count lo T1 T2` and its like, from its name on.
+fn certify(mut words: Words) -> Result<Command, Refusal>
+    ensures meaning { result ≡ certify_of words.entry }
+    ensures time { IfOk result IsCommandInTime }
+{
+    let name = words.word()?;
+    let asked = words.word()?;
+    let side = words.word()?;
+    let first = words.word()?;
+    let last = words.word()?;
+    words.end()?;
+    let kind = added(asked)?;
+    let end = end(side)?;
+    let from = read_time(first)?;
+    let to = read_time(last)?;
+    let name = read_name(name)?;
+    let query = Query {
+        name,
+        kind,
+        from,
+        to,
+    };
+    Ok(Command::Certify { query, end })
+}
+
 // Reads a command from its first word and those after it.
 fn command(verb: &[u8], words: Words) -> Result<Command, Refusal>
     ensures meaning { result ≡ command_of verb.now words.entry }
@@ -216,6 +269,8 @@ fn command(verb: &[u8], words: Words) -> Result<Command, Refusal>
         windows(words)
     } else if is_word(verb, "list") {
         list(words)
+    } else if is_word(verb, "certify") {
+        certify(words)
     } else {
         Err(Refusal::Syntax)
     }

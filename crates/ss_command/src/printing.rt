@@ -1,16 +1,16 @@
 // How a command is printed.
-ghost use Rattle.std.specs.Prelude.{◌≡◌, [], Ok, Some};
+ghost use Rattle.std.specs.Prelude.{◌≡◌, [], true, Ok, Some};
 ghost use Rattle.ss_catalog.specs.Events.{IsInTime};
-ghost use Rattle.ss_catalog.specs.Queries.{IsQueryInTime};
+ghost use Rattle.ss_catalog.specs.Queries.{IsQueryInTime, adds_up};
 ghost use Rattle.ss_catalog.specs.Series.{IsSeriesInRange};
 ghost use Rattle.ss_command.specs.Grammar.{meaning};
 ghost use Rattle.ss_command.specs.Printed.{IsCommandInTime, IsSayable, printed};
 ghost use Rattle.ss_command.specs.declared.command.Command.TheVariants as commands;
 
 use crate::command::Command;
-use crate::put::{put_kind, put_name, put_number, put_target, put_value};
+use crate::put::{put_end, put_kind, put_name, put_number, put_target, put_value};
 use arrayvec::ArrayString;
-use ss_catalog::{Event, Query, Series};
+use ss_catalog::{End, Event, Query, Series};
 
 // Writes an event into an empty text.
 fn print_event(event: &Event, out: &mut ArrayString<256>)
@@ -75,6 +75,22 @@ fn print_series(series: &Series, out: &mut ArrayString<256>)
     put_number(series.step, out);
 }
 
+// Writes a question for a certificate into an empty text.
+fn print_certify(query: &Query, end: End, out: &mut ArrayString<256>)
+    requires empty { out.old.bytes ≡ [] }
+    requires time { IsQueryInTime query.now }
+    requires added { adds_up query.now.kind ≡ true }
+    ensures text { out.new.bytes ≡ printed (commands.Certify query.now end) }
+    ensures sayable { IsSayable (commands.Certify query.now end) }
+{
+    out.push_str("certify");
+    put_name(&query.name, out);
+    put_kind(query.kind, out);
+    put_end(end, out);
+    put_number(query.from, out);
+    put_number(query.to, out);
+}
+
 /// Writes a command into an empty text: its words with one space between them, numbers without leading zeros. `parse`
 /// reads it as the same command.
 pub fn print(command: &Command, out: &mut ArrayString<256>)
@@ -93,5 +109,6 @@ pub fn print(command: &Command, out: &mut ArrayString<256>)
             put_name(name, out);
         }
         Command::List => out.push_str("list"),
+        Command::Certify { query, end } => print_certify(query, *end, out),
     }
 }

@@ -2,11 +2,11 @@
 ghost use Rattle.std.specs.Prelude.{◌≡◌, ◌≤◌, ◌+◌, length, true};
 ghost use Rattle.std.specs.Fmt.{decimal, signed_decimal};
 ghost use Rattle.ss_catalog.specs.Names.{is_name};
-ghost use Rattle.ss_catalog.specs.Queries.{kind_name};
+ghost use Rattle.ss_catalog.specs.Queries.{end_name, kind_name};
 ghost use Rattle.ss_command.specs.Printed.{HasParameters, spaced, target_words, with_word};
 
 use arrayvec::ArrayString;
-use ss_catalog::{Kind, Name, Params};
+use ss_catalog::{End, Kind, Name, Params};
 use ss_fields::{print_i64, print_i128, print_u64};
 
 /// Adds a space and a name.
@@ -28,6 +28,16 @@ pub fn put_kind(kind: Kind, out: &mut ArrayString<256>)
 {
     out.push_str(" ");
     out.push_str(kind.text());
+}
+
+/// Adds a space and the name of an end.
+pub fn put_end(end: End, out: &mut ArrayString<256>)
+    requires { length out.old.bytes + 3 ≤ 256 }
+    ensures bytes { out.new.bytes ≡ with_word out.old.bytes (end_name end) }
+    ensures short { length out.new.bytes ≤ length out.old.bytes + 3 }
+{
+    out.push_str(" ");
+    out.push_str(end.text());
 }
 
 /// Adds a space and a number.

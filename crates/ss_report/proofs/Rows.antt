@@ -1,13 +1,15 @@
 -- Worked rows, each computed.
-use Rattle.std.proofs.Common.{◌≡◌, ℕ, List, [], ◌∷◌, ◌++◌, map, refl}
-use Rattle.std.specs.Prelude.{codes, pos, negsuc}
+use Rattle.std.proofs.Common.{◌≡◌, ℕ, List, [], ◌∷◌, ◌++◌, map, true, false, refl}
+use Rattle.std.specs.Prelude.{ℤ, codes, pos, negsuc}
 use Rattle.std.specs.Fmt.{digits}
 use Rattle.ss_bounds.specs.declared.extreme.Extreme.TheVariants.{Nothing, Sure, Maybe}
 use Rattle.ss_catalog.specs.declared.params.Params.TheVariants.{Exp}
 use Rattle.ss_catalog.specs.declared.refusal.Refusal.TheVariants as refusals
 use Rattle.ss_model.specs.declared.outcome.Outcome.TheVariants.{Count, Sum, Min, Max}
 use Rattle.ss_report.specs.Text.{reply_line}
+use Rattle.ss_model.specs.declared.types.Run.{Run}
 use Rattle.ss_report.specs.declared.reply.Reply.TheVariants.{Done, Answered, Refused, SeriesHead, Row, WindowsHead, Window, ListHead, Stream}
+use Rattle.ss_report.specs.declared.reply.Reply.TheVariants.{CertifyHead, Side}
 
 -- a text as a line
 abbrev ended : List ℕ → List ℕ
@@ -66,3 +68,23 @@ replies-places :
     ≡ map ended (codes "5 6 2 11 3 8 50 60" ∷ codes "a exp 2 1 1 7 3 4 5" ∷ [])
 unfolding digits
 replies-places = refl
+
+abbrev run : ℤ → ℕ → Run
+run value times = record { value = value; times = times }
+
+-- a run without values is left out wherever it stands
+replies-certificates :
+    map reply_line
+    (CertifyHead (negsuc 4) (pos 0) 1
+    ∷ Side (record { inner = true; first = 1; last = 4; values = 2; runs = run (negsuc 2) 1 ∷ run (negsuc 1) 1 ∷ run (pos 8) 0 ∷ [] })
+    ∷ Side (record { inner = false; first = 1; last = 4; values = 2; runs = run (negsuc 2) 0 ∷ run (pos 0) 0 ∷ run (pos 8) 2 ∷ [] })
+    ∷ CertifyHead (pos 25) (pos 7) 2
+    ∷ Side (record { inner = false; first = 5; last = 9; values = 5; runs = run (pos 2) 1 ∷ run (pos 0) 0 ∷ run (pos 8) 4 ∷ [] })
+    ∷ Side (record { inner = true; first = 5; last = 9; values = 3; runs = run (pos 2) 1 ∷ run (pos 3) 1 ∷ run (pos 8) 1 ∷ [] })
+    ∷ Side (record { inner = true; first = 5; last = 9; values = 0; runs = run (pos 0) 0 ∷ run (pos 0) 0 ∷ run (pos 0) 0 ∷ [] })
+    ∷ [])
+    ≡ map ended
+    (codes "certify -5 0 1" ∷ codes "inside 1 4 2 -3*1 -2*1" ∷ codes "outside 1 4 2 8*2" ∷ codes "certify 25 7 2"
+    ∷ codes "outside 5 9 5 2*1 8*4" ∷ codes "inside 5 9 3 2*1 3*1 8*1" ∷ codes "inside 5 9 0" ∷ [])
+unfolding digits
+replies-certificates = refl

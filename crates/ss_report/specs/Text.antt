@@ -1,5 +1,5 @@
 -- The text of a reply.
-use Rattle.std.specs.Prelude.{ℕ, List, [], ◌∷◌, ◌++◌, codes}
+use Rattle.std.specs.Prelude.{ℕ, List, [], ◌∷◌, ◌++◌, codes, filter, if◌then◌else◌, map, nat_lt}
 use Rattle.std.specs.Fmt.{decimal, signed_decimal}
 use Rattle.ss_bounds.specs.declared.extreme.Extreme.{Extreme}
 use Rattle.ss_bounds.specs.declared.extreme.Extreme.TheVariants.{Nothing, Sure, Maybe}
@@ -8,8 +8,10 @@ use Rattle.ss_command.specs.Printed.{spaced, target_words}
 use Rattle.ss_command.specs.declared.TheConstants.{LINE_END}
 use Rattle.ss_model.specs.declared.outcome.Outcome.{Outcome}
 use Rattle.ss_model.specs.declared.outcome.Outcome.TheVariants.{Count, Sum, Min, Max}
+use Rattle.ss_model.specs.declared.types.Run.{Run}
 use Rattle.ss_report.specs.declared.reply.Reply.{Reply}
 use Rattle.ss_report.specs.declared.reply.Reply.TheVariants.{Done, Answered, Refused, SeriesHead, Row, WindowsHead, Window, ListHead, Stream}
+use Rattle.ss_report.specs.declared.reply.Reply.TheVariants.{CertifyHead, Side}
 
 -- a line of words with one space between them, with its line end
 abbrev pub line_of : List ℕ → List (List ℕ) → List ℕ
@@ -35,6 +37,14 @@ answer_words (Sum lo hi) = signed_decimal lo ∷ signed_decimal hi ∷ []
 answer_words (Min extreme) = extreme_words extreme
 answer_words (Max extreme) = extreme_words extreme
 
+-- a run as a word: its value, and how many of it
+abbrev pub run_word : Run → List ℕ
+run_word run = signed_decimal run.value ++ codes "*" ++ decimal run.times
+
+-- the words of runs, but for those without values
+abbrev pub run_words : List Run → List (List ℕ)
+run_words runs = map run_word (filter (λ run. nat_lt 0 run.times) runs)
+
 -- the line of a reply, with its line end
 abbrev pub reply_line : Reply → List ℕ
 reply_line (Done ack) = line_of (codes "ok") (decimal ack.n ∷ decimal ack.k ∷ [])
@@ -49,3 +59,6 @@ reply_line (Window w) =
 reply_line (ListHead count) = line_of (codes "list") (decimal count ∷ [])
 reply_line (Stream row) =
     line_of row.name (target_words row.params ++ decimal row.n ∷ decimal row.k ∷ decimal row.landmarks ∷ decimal row.values ∷ [])
+reply_line (CertifyHead answer base count) = line_of (codes "certify") (signed_decimal answer ∷ signed_decimal base ∷ decimal count ∷ [])
+reply_line (Side side) =
+    line_of (if side.inner then codes "inside" else codes "outside") (decimal side.first ∷ decimal side.last ∷ decimal side.values ∷ run_words side.runs)

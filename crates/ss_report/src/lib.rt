@@ -4,5 +4,5 @@
 mod reply;
 mod text;
 
-pub use reply::Reply;
+pub use reply::{Reply, Side};
 pub use text::reply_text;

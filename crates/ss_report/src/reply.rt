@@ -1,6 +1,17 @@
 // What is replied to a line.
 use ss_catalog::Refusal;
-use ss_model::{Ack, Outcome, Placed, StreamRow};
+use ss_model::{Ack, Outcome, Placed, Run, StreamRow};
+
+/// Values that a window which a range splits may have had, all those inside the range or all those outside it: the
+/// positions of its first and last value, how many values these are, and the values. A run without values isn't printed.
+#[derive(Clone, Copy, Debug)]
+pub struct Side {
+    pub inner: bool,
+    pub first: u64,
+    pub last: u64,
+    pub values: u64,
+    pub runs: [Run; 3],
+}
 
 /// One line of a reply: the whole reply, or a head or a row of one that has rows. docs/GUIDE.md ("Replies") says which
 /// comes when.
@@ -15,7 +26,10 @@ pub enum Reply {
     /// So many rows of a series follow.
     SeriesHead(u32),
     /// A row of a series: the time at which it begins, and the answer to its query.
-    Row { at: u64, outcome: Outcome },
+    Row {
+        at: u64,
+        outcome: Outcome,
+    },
     /// So many windows follow.
     WindowsHead(u32),
     /// A window.
@@ -24,6 +38,14 @@ pub enum Reply {
     ListHead(u32),
     /// A stream.
     Stream(StreamRow),
+    /// The end that is certified, what is in the range for sure, and how many windows it splits. Two lines of each follow.
+    CertifyHead {
+        answer: i128,
+        base: i128,
+        count: u32,
+    },
+    /// Values that a split window may have had.
+    Side(Side),
 }
 
 impl Default for Reply {

@@ -23,6 +23,7 @@ fn number_at(verb: &str, place: usize) -> Option<Number> {
         Some(Number::Step)
     } else if verb == "append" && place == 2
         || (verb == "landmark" || verb == "query" || verb == "series") && place >= 3
+        || verb == "certify" && place >= 4
     {
         Some(Number::Time)
     } else {

@@ -92,6 +92,7 @@ fn stream_of(command: &Command) -> &str {
         Command::Series(series) => series.name.as_str(),
         Command::Windows(name) => name.as_str(),
         Command::List => "",
+        Command::Certify { query, .. } => query.name.as_str(),
     }
 }
 
@@ -148,6 +149,7 @@ fn of_command(
         (_, Command::Do(event)) => of_event(alloc, event, last),
         (_, Command::Ask(query)) => range(alloc, query.from, query.to),
         (_, Command::Series(series)) => range(alloc, series.from, series.to),
+        (_, Command::Certify { query, .. }) => range(alloc, query.from, query.to),
         _ => String::from_str(alloc, "it can't be done"),
     }
 }

@@ -35,15 +35,17 @@ fn refusal_named(name: &str) -> Option<Refusal> {
         .find(|refusal| refusal.text() == name)
 }
 
-// How many rows follow after a head.
+// How many rows follow after a head: as many as its last word says, and of certificates two for each.
 fn rows_after(head: &str) -> u64 {
-    let count = head
-        .strip_prefix("windows ")
-        .or(head.strip_prefix("list "))
-        .or(head.strip_prefix("series "));
-    match count {
-        Some(count) => count.parse::<u64>().unwrap_or(0),
-        None => 0,
+    let mut words = head.split(' ');
+    let first = words.next().unwrap_or("");
+    let count = words.last().unwrap_or("").parse::<u64>().unwrap_or(0);
+    if first == "windows" || first == "list" || first == "series" {
+        count
+    } else if first == "certify" {
+        count.saturating_mul(2)
+    } else {
+        0
     }
 }
 

@@ -5,8 +5,8 @@ use std::alloc::{AllocError, Global};
 const CREATE: &str = "create NAME exp B R S, or create NAME power P Q R S";
 
 // The first words of the commands.
-const VERBS: [&str; 7] = [
-    "create", "append", "landmark", "query", "series", "windows", "list",
+const VERBS: [&str; 8] = [
+    "create", "append", "landmark", "query", "series", "windows", "list", "certify",
 ];
 
 // Whether a word is the first of a command, but for its capitals.
@@ -84,6 +84,22 @@ fn asked(alloc: Global, form: &str, wanted: usize, words: &[&str]) -> Result<Str
     unlike(alloc, form, wanted, words, none.as_str())
 }
 
+fn certify(alloc: Global, words: &[&str]) -> Result<String, AllocError> {
+    let (kind, end) = (word_at(words, 2), word_at(words, 3));
+    let neither = if kind == "count" || kind == "sum" {
+        format!(in alloc; "\"{end}\" is neither lo nor hi")?
+    } else {
+        format!(in alloc; "\"{kind}\" is neither count nor sum")?
+    };
+    unlike(
+        alloc,
+        "certify NAME count lo T1 T2, or sum, or hi,",
+        6,
+        words,
+        neither.as_str(),
+    )
+}
+
 /// Why these words fit no form.
 pub fn syntax(alloc: Global, words: &[&str]) -> Result<String, AllocError> {
     let verb = word_at(words, 0);
@@ -111,6 +127,8 @@ pub fn syntax(alloc: Global, words: &[&str]) -> Result<String, AllocError> {
         unlike(alloc, "windows NAME", 2, words, "")
     } else if verb == "list" {
         unlike(alloc, "list", 1, words, "")
+    } else if verb == "certify" {
+        certify(alloc, words)
     } else {
         no_command(alloc, verb)
     }

@@ -108,6 +108,11 @@ fn forms(rt: HostRuntime) -> Result<(), Fail> {
         series a sum 1 2/>refused SYNTAX/=1 SYNTAX: series NAME count T1 T2 STEP, or sum, min or max, has 6 words, \
         and this line has 5;\n\
         series a mean 1 2 3/>refused SYNTAX/=1 SYNTAX: \"mean\" is none of count, sum, min and max;\n\
+        certify a sum lo 1/>refused SYNTAX/=1 SYNTAX: certify NAME count lo T1 T2, or sum, or hi, has 6 words, \
+        and this line has 5;\n\
+        certify a min lo 1 2/>refused SYNTAX/=1 SYNTAX: \"min\" is neither count nor sum;\n\
+        certify a sum low 1 2/>refused SYNTAX/=1 SYNTAX: \"low\" is neither lo nor hi;\n\
+        Certify/>refused SYNTAX/=1 SYNTAX: no command begins with \"Certify\": commands are in small letters;\n\
         Series/>refused SYNTAX/=1 SYNTAX: no command begins with \"Series\": commands are in small letters;\n",
     ))
 }
@@ -129,6 +134,9 @@ fn words(rt: HostRuntime) -> Result<(), Fail> {
         series a sum 1 2 0/>refused NUMBER/=1 NUMBER: 0 isn't within 1 to 4611686018427387904, as steps are;\n\
         series a sum 0 100000 1/>refused NUMBER/=1 NUMBER: \
         from 0 to 100000 there are more than 100000 rows of the step 1;\n\
+        certify a sum lo 1 now/>refused NUMBER/=1 NUMBER: now isn't a whole number;\n\
+        certify a count hi -1 now/>refused NUMBER/=1 NUMBER: -1 isn't within 0 to 4611686018427387904, as times are;\n\
+        certify x! sum lo 1 2/>refused NAME/=1 NAME: the name x! has more in it than letters, digits, _, - and .;\n\
         create a exp 2 1 4294967296/>refused NUMBER/=1 NUMBER: 4294967296 isn't within \
         0 to 4294967295, as parameters are;\n\
         append x! 1 1/>refused NAME/=1 NAME: the name x! has more in it than letters, digits, _, - and .;\n\
@@ -155,6 +163,8 @@ fn states(rt: HostRuntime) -> Result<(), Fail> {
         query a sum 5 4/>refused RANGE/=1 RANGE: the range ends before it begins: 5 is later than 4;\n\
         series a sum 5 4 1/>refused RANGE/=1 RANGE: the range ends before it begins: 5 is later than 4;\n\
         series rom sum 4 5 1/>refused UNKNOWN/=1 UNKNOWN: no stream is named rom;\n\
+        certify a sum lo 5 4/>refused RANGE/=1 RANGE: the range ends before it begins: 5 is later than 4;\n\
+        certify rom sum lo 4 5/>refused UNKNOWN/=1 UNKNOWN: no stream is named rom;\n\
         append a 1 1/>refused STREAM_FULL/=1 STREAM_FULL: a takes no more values outside landmarks;\n\
         append a 1 1/>refused STORE_FULL/=1 STORE_FULL: the store takes no more records;\n\
         append a 50 1/>refused TIME/=1 TIME: 50 isn't later than the last time of a;\n\
@@ -177,6 +187,9 @@ fn lines_and_replies(rt: HostRuntime) -> Result<(), Fail> {
         1 SYNTAX: no command begins with \"x\";2 SYNTAX: no command begins with \"y\";\n\
         list/x>list 0/refused SYNTAX/=2 SYNTAX: no command begins with \"x\";\n\
         series a sum 1 9 5/x>series 2/1 0 4/6 refused SYNTAX/refused SYNTAX/=2 SYNTAX: no command begins with \"x\";\n\
+        certify a sum lo 1 9/x>certify -5 0 1/inside 1 4 2 -3*1 -2*1/outside 1 4 2 8*2/refused SYNTAX/=\
+        2 SYNTAX: no command begins with \"x\";\n\
+        certify a count lo 1 9/x>certify 4 4 0/refused SYNTAX/=2 SYNTAX: no command begins with \"x\";\n\
         >sum 1 1/refused SYNTAX/=\n",
     ))
 }

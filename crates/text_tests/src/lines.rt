@@ -65,6 +65,14 @@ fn lines_without_a_command() -> Result<(), Fail> {
         series a sum 1 2 3 4=SYNTAX\n\
         series a mean 1 2 3=SYNTAX\n\
         series x! Sum y 2 0=SYNTAX\n\
+        certify a sum lo 1=SYNTAX\n\
+        certify a sum lo 1 2 3=SYNTAX\n\
+        certify a min lo 1 2=SYNTAX\n\
+        certify a max hi 1 2=SYNTAX\n\
+        certify a mean hi 1 2=SYNTAX\n\
+        certify a sum Lo 1 2=SYNTAX\n\
+        certify a lo sum 1 2=SYNTAX\n\
+        certify x! count low y 2=SYNTAX\n\
         append x! y 1=NUMBER\n\
         landmark x! open y=NUMBER\n\
         landmark a open 4611686018427387905=NUMBER\n\
@@ -79,6 +87,9 @@ fn lines_without_a_command() -> Result<(), Fail> {
         series a sum 1 2 4611686018427387905=NUMBER\n\
         series a sum 0 100000 1=NUMBER\n\
         series x! sum 0 200000 2=NUMBER\n\
+        certify x! sum lo 1 y=NUMBER\n\
+        certify a sum hi -1 2=NUMBER\n\
+        certify a count hi 0 4611686018427387905=NUMBER\n\
         append a 1 +1=NUMBER\n\
         append a -1 1=NUMBER\n\
         append a 1 --1=NUMBER\n\
@@ -93,6 +104,7 @@ fn lines_without_a_command() -> Result<(), Fail> {
         landmark x! close 1=NAME\n\
         query x! sum 1 2=NAME\n\
         series x! sum 0 199999 2=NAME\n\
+        certify x! count lo 1 2=NAME\n\
         windows a/b=NAME\n\
         windows a\0=NAME\n\
         windows abcdefghijklmnopqrstuvwxyz0123456=NAME\n\
@@ -136,6 +148,9 @@ fn commands_are_printed() -> Result<(), Fail> {
         series a sum 0 4611686018427387904 4611686018427387904\n\
         series a min 5 4 1=series a min 5 4 1\n\
         series a max 0 99999 1=series a max 0 99999 1\n\
+        certify a count lo 10 040=certify a count lo 10 40\n\
+        \x20certify\ta sum hi 0 4611686018427387904=certify a sum hi 0 4611686018427387904\n\
+        certify abcdefghijklmnopqrstuvwxyz012345 sum lo 5 4=certify abcdefghijklmnopqrstuvwxyz012345 sum lo 5 4\n\
         append a 007 -0=append a 7 0\n\
         append a 0000000000000000000000000000000000000000001 -0000000000000000000000000000009=append a 1 -9\n\
         append a 4611686018427387904 -9223372036854775808=append a 4611686018427387904 -9223372036854775808\n\

@@ -3,8 +3,8 @@ use crate::tables::{Subject, Text, numbers_of, show, test};
 use arrayvec::ArrayString;
 use ss_bounds::Extreme;
 use ss_catalog::{LAST_TIME, Name, Params, Refusal, StreamId};
-use ss_model::{Ack, Outcome, Placed, StreamRow};
-use ss_report::{Reply, reply_text};
+use ss_model::{Ack, Outcome, Placed, Run, StreamRow};
+use ss_report::{Reply, Side, reply_text};
 use ss_summary::Summary;
 use std::test::Fail;
 
@@ -95,6 +95,61 @@ fn write_series_row(row: u64, out: &mut Text) {
     write_reply(&Reply::Row { at, outcome }, out);
 }
 
+// A side of a window of six values: as many as the runs have.
+fn write_side(inner: bool, values: u64, runs: [Run; 3], out: &mut Text) {
+    let side = Side {
+        inner,
+        first: 3,
+        last: 8,
+        values,
+        runs,
+    };
+    write_reply(&Reply::Side(side), out);
+}
+
+// The side with the longest line.
+fn write_longest_side(out: &mut Text) {
+    let most = u64::MAX;
+    let run = Run {
+        value: i64::MIN,
+        times: most,
+    };
+    let side = Side {
+        inner: false,
+        first: most,
+        last: most,
+        values: most,
+        runs: [run; 3],
+    };
+    write_reply(&Reply::Side(side), out);
+}
+
+fn run(value: i64, times: u64) -> Run {
+    Run { value, times }
+}
+
+// The replies to a certify: runs without values are left out.
+fn write_certificate(row: u64, out: &mut Text) {
+    match row {
+        30 => {
+            let (answer, base, count) = (i128::MIN, i128::MAX, 2);
+            write_reply(
+                &Reply::CertifyHead {
+                    answer,
+                    base,
+                    count,
+                },
+                out,
+            );
+        }
+        31 => write_side(true, 3, [run(-3, 1), run(0, 1), run(8, 1)], out),
+        32 => write_side(false, 3, [run(-3, 0), run(7, 1), run(8, 2)], out),
+        33 => write_side(true, 6, [run(-3, 5), run(0, 0), run(8, 1)], out),
+        34 => write_side(false, 0, [run(0, 0), run(0, 0), run(0, 0)], out),
+        _ => write_longest_side(out),
+    }
+}
+
 fn write_row(row: u64, out: &mut Text) {
     match row {
         1 => write_reply(&Reply::Done(Ack { n: 7, k: 3 }), out),
@@ -107,6 +162,7 @@ fn write_row(row: u64, out: &mut Text) {
         8 => write_window(out),
         19 => write_reply(&Reply::SeriesHead(100_000), out),
         20..=29 => write_series_row(row - 11, out),
+        30..=35 => write_certificate(row, out),
         _ => write_reply(&Reply::Answered(outcome_at(row)), out),
     }
 }
@@ -149,7 +205,15 @@ fn each_reply_has_its_line() -> Result<(), Fail> {
         26=15 none/\n\
         27=16 -3 8/\n\
         28=17 -9223372036854775808 9223372036854775807 maybe-none/\n\
-        29=18 none/\n"
+        29=18 none/\n\
+        30=certify -170141183460469231731687303715884105728 170141183460469231731687303715884105727 2/\n\
+        31=inside 3 8 3 -3*1 0*1 8*1/\n\
+        32=outside 3 8 3 7*1 8*2/\n\
+        33=inside 3 8 6 -3*5 8*1/\n\
+        34=outside 3 8 0/\n\
+        35=outside 18446744073709551615 18446744073709551615 18446744073709551615 \
+        -9223372036854775808*18446744073709551615 -9223372036854775808*18446744073709551615 \
+        -9223372036854775808*18446744073709551615/\n"
             .as_bytes(),
     )
 }

@@ -20,6 +20,12 @@ returns-in-Series-clause-reads_back c =
     ap meaning c.print_series.ensures.text ∙ meaning-printed (commands.Series c.in-Series.series) c.print_series.ensures.sayable ∙
     ap (λ command. Ok (Some command)) (sym c.in-Series.is)
 
+pub returns-in-Certify-clause-reads_back : goal.returns-in-Certify-clause-reads_back
+returns-in-Certify-clause-reads_back c =
+    ap meaning c.print_certify.ensures.text ∙
+    meaning-printed (commands.Certify c.in-Certify.query c.in-Certify.end) c.print_certify.ensures.sayable ∙
+    ap (λ command. Ok (Some command)) (sym c.in-Certify.is)
+
 pub returns-in-Windows-clause-text : goal.returns-in-Windows-clause-text
 unfolding printed
 returns-in-Windows-clause-text c = search rules
