@@ -7,6 +7,8 @@ mod applying;
 #[cfg(test)]
 mod asking;
 #[cfg(test)]
+mod certificates;
+#[cfg(test)]
 mod changed;
 #[cfg(test)]
 mod damaged;
@@ -22,6 +24,8 @@ mod passing;
 mod rebuilding;
 #[cfg(test)]
 mod running;
+#[cfg(test)]
+mod seeing;
 #[cfg(test)]
 mod silent;
 #[cfg(test)]

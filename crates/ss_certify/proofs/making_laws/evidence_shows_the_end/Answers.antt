@@ -1,0 +1,17 @@
+use Rattle.ss_query.specs.Asked.{seen_of}
+use Rattle.ss_certify.proofs.FillLemmas.{Fills-fill}
+use Rattle.ss_certify.proofs.MadeLemmas.{Certifies-certificate_of, IsEvidence-evidence_of}
+use Rattle.ss_certify.proofs.SharpLemmas.{HasCuts-seen_of}
+use Rattle.ss_certify.proofs.making_laws.evidence_shows_the_end.Goals as goal
+
+pub returns-clause-window : goal.returns-clause-window
+returns-clause-window c = λ kind end cut is. Certifies-certificate_of kind end cut is
+
+pub returns-clause-answer : goal.returns-clause-answer
+returns-clause-answer c = λ kind end seen adds has. IsEvidence-evidence_of kind end seen adds has
+
+pub returns-clause-stream : goal.returns-clause-stream
+returns-clause-stream c = λ kind end from to s adds is. IsEvidence-evidence_of kind end (seen_of from to s) adds (HasCuts-seen_of from to s is)
+
+pub returns-clause-fill : goal.returns-clause-fill
+returns-clause-fill c = λ k s m M order low high. Fills-fill k s m M order low high

@@ -1,0 +1,7 @@
+pub mod Runs
+pub mod Fill
+pub mod Checked
+pub mod Evidence
+pub mod Made
+pub mod Called
+pub mod Told

@@ -1,0 +1,29 @@
+-- How evidence is told: a line of its end, and two of each window that the range splits.
+use Rattle.std.specs.Prelude.{◌-◌, Bool, true, false, if◌then◌else◌, pos, List, [], ◌∷◌, ◌++◌, length, flat_map, replicate, take}
+use Rattle.ss_model.specs.declared.types.Run.{Run}
+use Rattle.ss_report.specs.declared.reply.Reply.{Reply}
+use Rattle.ss_report.specs.declared.reply.Reply.TheVariants.{CertifyHead, Side}
+use Rattle.ss_certify.specs.declared.evidence.Cert.{Cert}
+use Rattle.ss_certify.specs.declared.evidence.Evidence.{Evidence}
+
+-- three runs: these, and behind them runs of no values
+abbrev pub padded : List Run → List Run
+padded runs = take 3 (runs ++ replicate 3 (record { value = pos 0; times = 0 }))
+
+-- the values of a certificate inside the range, or those outside it
+abbrev pub side_of : Cert → Bool → Reply
+side_of c inner = Side (record {
+  inner = inner;
+  first = c.first;
+  last = c.last;
+  values = if inner then c.x else c.split.count - c.x;
+  runs = padded (if inner then c.inside.items else c.outside.items);
+})
+
+-- the end, what is known exactly, and how many windows the range splits
+abbrev pub head_of : Evidence → Reply
+head_of w = CertifyHead w.answer w.base (length w.certs.items)
+
+-- the lines of evidence, in order
+abbrev pub told : Evidence → List Reply
+told w = head_of w ∷ flat_map (λ c. side_of c true ∷ side_of c false ∷ []) w.certs.items

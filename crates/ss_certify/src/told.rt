@@ -1,0 +1,90 @@
+// Evidence as text.
+ghost use Rattle.std.specs.Prelude.{◌≡◌, ◌-◌, ◌≤◌, [], get_or, if◌then◌else◌, pos};
+ghost use Rattle.ss_report.specs.Text.{reply_line};
+ghost use Rattle.ss_certify.specs.Told.{head_of, padded, side_of};
+
+use crate::{Cert, Evidence};
+use arrayvec::ArrayString;
+use ss_model::Run;
+use ss_report::{Reply, Side, reply_text};
+
+// The run at a place, or one of no values behind the last.
+fn run_at(runs: &[Run], place: usize) -> Run
+    ensures { result ≡ get_or runs.now place (record { value = pos 0; times = 0 }) }
+{
+    if place < runs.len() {
+        return runs[place];
+    }
+    Run { value: 0, times: 0 }
+}
+
+// Three runs: these, and behind them runs of no values.
+fn padded(runs: &[Run]) -> [Run; 3]
+    ensures { result ≡ padded runs.now }
+{
+    [run_at(runs, 0), run_at(runs, 1), run_at(runs, 2)]
+}
+
+// The runs inside the range, or those outside it.
+fn runs(cert: &Cert, inner: bool) -> [Run; 3]
+    ensures { result ≡ padded (if inner then cert.now.inside.items else cert.now.outside.items) }
+{
+    if inner {
+        padded(cert.inside.as_slice())
+    } else {
+        padded(cert.outside.as_slice())
+    }
+}
+
+// How many values these are.
+fn values(cert: &Cert, inner: bool) -> u64
+    ensures { result ≡ (if inner then cert.now.x else cert.now.split.count - cert.now.x) }
+{
+    if inner {
+        cert.x
+    } else {
+        cert.split.count.saturating_sub(cert.x)
+    }
+}
+
+/// The line of an end of an answer: this end, what is known exactly, and how many windows the range splits.
+pub fn head(w: &Evidence) -> Reply
+    ensures { result ≡ head_of w.now }
+{
+    Reply::CertifyHead {
+        answer: w.answer,
+        base: w.base,
+        count: w.certs.len() as u32,
+    }
+}
+
+/// The line of the values of a certificate in the range, or of those outside it.
+pub fn side(cert: &Cert, inner: bool) -> Reply
+    ensures { result ≡ side_of cert.now inner }
+{
+    Reply::Side(Side {
+        inner,
+        first: cert.first,
+        last: cert.last,
+        values: values(cert, inner),
+        runs: runs(cert, inner),
+    })
+}
+
+/// Writes the line of an end of an answer, with its line end, into an empty text: `certify ANSWER BASE COUNT`.
+pub fn head_text(w: &Evidence, out: &mut ArrayString<256>)
+    requires { out.old.bytes ≡ [] }
+    ensures { out.new.bytes ≡ reply_line (head_of w.now) }
+{
+    reply_text(&head(w), out);
+}
+
+/// Writes the line of a certificate's values in the range (`inside FIRST LAST X`) or outside it (`outside FIRST LAST Y`), each
+/// followed by its runs as `V*TIMES`, with its line end, into an empty text.
+pub fn side_text(c: &Cert, inner: bool, out: &mut ArrayString<256>)
+    requires some { c.now.x ≤ c.now.split.count }
+    requires empty { out.old.bytes ≡ [] }
+    ensures { out.new.bytes ≡ reply_line (side_of c.now inner) }
+{
+    reply_text(&side(c, inner), out);
+}
