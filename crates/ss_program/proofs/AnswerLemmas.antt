@@ -31,12 +31,12 @@ use Rattle.std.proofs.Common.{
   inl,
   inr,
 }
-use Rattle.std.proofs.Math.Seq.{take-append-add}
 use Rattle.std.proofs.lemmas.Bool.{cases_lt, cond-true, cond-false, le-leb, lt-leb, lt-ltb}
-use Rattle.std.proofs.lemmas.List.{append-nil, length-append, take-append-le}
+use Rattle.std.proofs.lemmas.List.{append-nil, length-append}
 use Rattle.std.specs.List.{flat_map}
-use Rattle.std.specs.Prelude.{nat_le, IsTrue}
+use Rattle.std.specs.Prelude.{if◌then◌else◌, nat_le, IsTrue}
 use Rattle.ss_catalog.specs.declared.event.Event.{Event}
+use Rattle.ss_catalog.specs.declared.query.End.{End}
 use Rattle.ss_catalog.specs.declared.query.Query.{Query}
 use Rattle.ss_catalog.specs.declared.series.Series.{Series}
 use Rattle.ss_catalog.specs.declared.refusal.Refusal.{Refusal}
@@ -45,7 +45,7 @@ use Rattle.ss_command.specs.Grammar.{meaning}
 use Rattle.ss_command.specs.LineState.{unless_long}
 use Rattle.ss_command.specs.declared.TheConstants.{LONGEST_LINE}
 use Rattle.ss_command.specs.declared.command.Command.{Command}
-use Rattle.ss_command.specs.declared.command.Command.TheVariants.{Do, Ask, Series as AskRows, Windows, List as ListAll}
+use Rattle.ss_command.specs.declared.command.Command.TheVariants.{Do, Ask, Certify, Series as AskRows, Windows, List as ListAll}
 use Rattle.ss_catalog.specs.Events.{event_name}
 use Rattle.ss_model.proofs.AnswerLemmas.{answer-known}
 use Rattle.ss_model.specs.Answers.{outcome_of, refuses_query}
@@ -60,9 +60,21 @@ use Rattle.std.specs.Fmt.{decimal, signed_decimal}
 use Rattle.ss_catalog.specs.Refusal.{refusal_name}
 use Rattle.ss_command.specs.Printed.{spaced, target_words}
 use Rattle.ss_command.specs.declared.TheConstants.{LINE_END}
-use Rattle.ss_report.specs.Text.{answer_kind, answer_words, line_of, reply_line}
+use Rattle.ss_report.specs.Text.{answer_kind, answer_words, line_of, reply_line, run_words}
 use Rattle.ss_report.specs.declared.reply.Reply.{Reply}
-use Rattle.ss_report.specs.declared.reply.Reply.TheVariants.{Done as AckLine, Answered, Refused, SeriesHead, Row, WindowsHead, Window, ListHead, Stream as StreamRow}
+use Rattle.ss_report.specs.declared.reply.Reply.TheVariants.{
+  Done as AckLine,
+  Answered,
+  Refused,
+  SeriesHead,
+  Row,
+  WindowsHead,
+  Window,
+  ListHead,
+  Stream as StreamRow,
+  CertifyHead,
+  Side,
+}
 use Rattle.ss_outside.proofs.CrashLemmas.{reads-none}
 use Rattle.ss_outside.specs.Crash.{KnowsNow, OnlyReads}
 use Rattle.ss_outside.specs.Disk.{DiskView, Told}
@@ -114,7 +126,7 @@ use Rattle.ss_program.specs.declared.status.Status.TheVariants.{
   InputLimit,
   RecordChanged,
 }
-use Rattle.ss_program.proofs.SendLemmas.{appended-appended, appended-nil}
+use Rattle.ss_program.proofs.SendLemmas.{AppendsLess-none}
 
 -- a line to which no event comes: the history after it is the one before
 pub history-still : (history : History) (brought : Brought) → brought.event ≡ None → history_after history brought ≡ history
@@ -151,6 +163,9 @@ windows-event history name = unless_refused-event (refuses_reading (state histor
 
 pub ask-event : (history : History) (query : Query) → (command_brings history (Ask query)).event ≡ None
 ask-event history query = unless_refused-event (refuses_query (state history) query) _
+
+pub certify-event : (history : History) (query : Query) (end : End) → (command_brings history (Certify query end)).event ≡ None
+certify-event history query end = unless_refused-event (refuses_query (state history) query) _
 
 pub series-event : (history : History) (series : Series) → (command_brings history (AskRows series)).event ≡ None
 series-event history series = unless_refused-event (refuses_series (state history) series) _
@@ -260,10 +275,6 @@ IsStop-apply tells SourceFault stop = absurd stop
 IsStop-apply tells SinkFault stop = absurd stop
 IsStop-apply tells InputLimit stop = absurd stop
 
--- nothing was sent of a text that isn't empty
-pub AppendsLess-none : (held : Option (List ℕ)) (text : List ℕ) → 0 < length text → AppendsLess held held text
-AppendsLess-none held text some = (0, some, sym (appended-nil held))
-
 -- a line of words isn't empty
 line_of-some : (first : List ℕ) (rest : List (List ℕ)) → 0 < length (line_of first rest)
 line_of-some first rest = omega (arith, length-append (spaced first rest) (LINE_END ∷ []))
@@ -279,6 +290,11 @@ reply_line-some (Window w) = line_of-some (decimal w.first)
     (decimal w.last ∷ decimal w.summary.count ∷ signed_decimal w.summary.sum ∷ signed_decimal w.summary.min ∷ signed_decimal w.summary.max ∷ decimal
     w.summary.t_first ∷ decimal w.summary.t_last ∷ [])
 reply_line-some (ListHead count) = line_of-some (codes "list") (decimal count ∷ [])
+reply_line-some (CertifyHead answer base count) =
+    line_of-some (codes "certify") (signed_decimal answer ∷ signed_decimal base ∷ decimal count ∷ [])
+reply_line-some (Side side) =
+    line_of-some (if side.inner then codes "inside" else codes "outside")
+    (decimal side.first ∷ decimal side.last ∷ decimal side.values ∷ run_words side.runs)
 reply_line-some (StreamRow row) = line_of-some row.name (target_words row.params ++ decimal row.n ∷ decimal row.k ∷ decimal row.landmarks ∷ decimal
     row.values ∷ [])
 
@@ -345,6 +361,7 @@ meaning-some history (Err refusal) some = cc
 meaning-some history (Ok None) some = cc
 meaning-some history (Ok (Some (Do event))) some = event-some history event (refuses (state history) event) some
 meaning-some history (Ok (Some (Ask query))) some = let none = ask-event history query in cc
+meaning-some history (Ok (Some (Certify query end))) some = let none = certify-event history query end in cc
 meaning-some history (Ok (Some (AskRows series))) some = let none = series-event history series in cc
 meaning-some history (Ok (Some (Windows name))) some = let none = windows-event history name in cc
 meaning-some history (Ok (Some ListAll)) some = cc
@@ -378,14 +395,3 @@ Adds-applied history event old new result accepted turns =
     (Stands (history_after history brought)) old new result (λ has. has)
     (λ has image either. ⊎_elim (λ is. inl is) (λ is. inr (subst (λ h. Stands h image) (after has) is)) either)
     (λ has image is. subst (λ h. Stands h image) (after has) is) turns
-
--- less than a text that comes after others was sent
-pub AppendsLess-after : (before held after : Option (List ℕ)) (a b c : List ℕ) → held ≡ appended before a → AppendsLess held after b →
-    AppendsLess before after (a ++ (b ++ c))
-AppendsLess-after before held after a b c is less = (
-  length a + less.0,
-  omega (arith, less.1, length-append a (b ++ c), length-append b c),
-  less.2 ∙ ap (λ o. appended o (take less.0 b)) is ∙ appended-appended before a (take less.0 b)
-      ∙ ap (λ bs. appended before bs) (ap (λ bs. a ++ bs) (sym (take-append-le less.0 b c (omega (arith, less.1))))
-      ∙ sym (take-append-add a (b ++ c) less.0)),
-)

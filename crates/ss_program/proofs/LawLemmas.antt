@@ -1,19 +1,25 @@
 -- What a session makes of a history: another one, over which its queries are answered.
-use Rattle.std.proofs.Common.{◌≡◌, ◌∙◌, ◌++◌, List, [], ◌∷◌, ℕ, map, Option, Some, None, IsSome, Result, Ok, Err, refl, sym, ap, subst}
+use Rattle.std.proofs.Common.{◌≡◌, ◌∙◌, ◌++◌, List, [], ◌∷◌, ℕ, map, Option, Some, None, IsSome, true, Result, Ok, Err, refl, sym, ap, subst}
 use Rattle.std.proofs.lemmas.List.{append-nil}
 use Rattle.ss_catalog.specs.declared.event.Event.{Event}
 use Rattle.ss_catalog.specs.declared.event.Event.TheVariants.{Create, Value, Open, Close}
+use Rattle.ss_catalog.specs.Queries.{adds_up}
+use Rattle.ss_catalog.specs.declared.query.End.{End}
 use Rattle.ss_catalog.specs.declared.query.Query.{Query}
 use Rattle.ss_catalog.specs.declared.refusal.Refusal.{Refusal}
 use Rattle.ss_catalog.specs.declared.series.Series.{Series}
 use Rattle.ss_catalog.specs.Series.{row_count, row_start, rows_of}
+use Rattle.ss_certify.proofs.SharpLemmas.{MayBeTrue-answer, end_asked-answer}
+use Rattle.ss_certify.specs.Called.{evidence_in}
+use Rattle.ss_certify.specs.Told.{told}
+use Rattle.ss_certify.specs.declared.evidence.Evidence.{Evidence}
 use Rattle.ss_command.proofs.SayLemmas.{meant-sayable}
 use Rattle.ss_command.specs.Grammar.{meaning}
 use Rattle.ss_command.specs.Printed.{IsSayable}
 use Rattle.ss_command.specs.declared.command.Command.{Command}
-use Rattle.ss_command.specs.declared.command.Command.TheVariants.{Do, Ask, Series as AskRows, Windows, List as ListAll}
+use Rattle.ss_command.specs.declared.command.Command.TheVariants.{Do, Ask, Certify, Series as AskRows, Windows, List as ListAll}
 use Rattle.ss_model.proofs.AnswerLemmas.{answer-holds, answer-known}
-use Rattle.ss_model.proofs.HistoryLemmas.{IsHistory_push}
+use Rattle.ss_model.proofs.HistoryLemmas.{IsHistory_push, IsState-state}
 use Rattle.ss_model.proofs.RowLemmas.{row-answered}
 use Rattle.ss_model.specs.Answers.{HoldsTruth, outcome_of, refuses_query}
 use Rattle.ss_model.specs.History.{CanBeSaid, marked_of, values_of}
@@ -23,6 +29,7 @@ use Rattle.ss_model.specs.State.{state}
 use Rattle.ss_model.specs.declared.outcome.Outcome.{Outcome}
 use Rattle.ss_report.specs.declared.reply.Reply.{Reply}
 use Rattle.ss_report.specs.declared.reply.Reply.TheVariants.{Answered, SeriesHead, Row}
+use Rattle.ss_program.specs.Certifying.{IsSharp}
 use Rattle.ss_program.specs.Line.{
   Brought,
   History,
@@ -37,7 +44,8 @@ use Rattle.ss_program.specs.Line.{
   unless_refused,
 }
 use Rattle.ss_program.specs.Session.{after_line, after_lines, replies}
-use Rattle.ss_program.proofs.AnswerLemmas.{ask-event, brings-answered, history-still, series-event, windows-event}
+use Rattle.ss_program.proofs.AnswerLemmas.{ask-event, brings-answered, certify-event, history-still, series-event, windows-event}
+use Rattle.ss_program.proofs.CertifyLemmas.{brings-certified, evidence-known, evidence-right}
 use Rattle.ss_program.proofs.SeriesLemmas.{brings-series, series_rows-map}
 use Rattle.ss_program.proofs.SessionLemmas.{replies-append}
 
@@ -62,6 +70,8 @@ command-leaves : (history : History) (command : Command) → IsSayable command �
 command-leaves history (Do event) sayable whole =
     event-leaves history event (refuses (state history) event) refl (sayable-said event sayable) whole
 command-leaves history (Ask query) sayable whole = still history (command_brings history (Ask query)) (ask-event history query) whole
+command-leaves history (Certify query end) sayable whole =
+    still history (command_brings history (Certify query end)) (certify-event history query end) whole
 command-leaves history (AskRows series) sayable whole = still history (command_brings history (AskRows series)) (series-event history series) whole
 command-leaves history (Windows name) sayable whole = still history (command_brings history (Windows name)) (windows-event history name) whole
 command-leaves history ListAll sayable whole = still history (command_brings history ListAll) refl whole
@@ -109,6 +119,38 @@ answered-series history line series whole means none =
       ap (λ m. meaning_brings history m) means ∙ brings-series history series none
           ∙ ap (λ rows. shown (SeriesHead (row_count series) ∷ rows)) (series_rows-map (state history) series answers (λ row. (each row).is)),
       each,
+    )
+
+-- the evidence of a stream after a history is sharp
+sharp-evidence : (history : History) (query : Query) (end : End) (w : Evidence) (outcome : Outcome) → IsHistory history → adds_up query.kind ≡ true →
+    evidence_in (state history) query end ≡ Some w → outcome_of (state history) query ≡ Some outcome → IsSharp history query end w
+sharp-evidence history query end w outcome whole adds has answered =
+    let streams = state history in
+    let right = evidence-right streams query end w (IsState-state history whole) adds has in
+    record {
+      stream = right.0;
+      outcome = outcome;
+      named = right.1;
+      evidence = right.3;
+      attained = MayBeTrue-answer streams query right.0 end w right.1 right.3 history right.0 whole refl right.1;
+      answered = answered;
+      asked = end_asked-answer streams query right.0 end w right.1 right.3 right.2 outcome answered;
+    }
+
+some-outcome : (o : Option Outcome) → IsSome o → (outcome : Outcome) × (o ≡ Some outcome)
+some-outcome None some = cc
+some-outcome (Some outcome) some = (outcome, refl)
+
+-- and a line that asks for it brings its lines
+pub certified-line : (history : History) (line : List ℕ) (query : Query) (end : End) → IsHistory history → meaning line ≡ Ok (Some (Certify query end)) →
+    refuses_query (state history) query ≡ None → (w : Evidence) × (brings history line ≡ shown (told w)) × IsSharp history query end w
+certified-line history line query end whole means none =
+    let known = evidence-known (state history) query end none in
+    let answered = some-outcome (outcome_of (state history) query) (answer-known (state history) query none) in
+    let sayable = meant-sayable line (Certify query end) means in (
+      known.0,
+      ap (λ m. meaning_brings history m) means ∙ brings-certified history query end known.0 none known.1,
+      sharp-evidence history query end known.0 answered.0 whole sayable.2 known.1 answered.1,
     )
 
 -- a line to which replies come and no event, among other lines

@@ -6,6 +6,7 @@ pub mod AnswerLemmas
 pub mod TakesLemmas
 pub mod RowLemmas
 pub mod SeriesLemmas
+pub mod CertifyLemmas
 pub mod HeldLemmas
 pub mod ReadLemmas
 pub mod HoldsLemmas
@@ -24,3 +25,4 @@ pub mod SharedLines
 pub mod SharedStaging
 pub mod SharedInput
 pub mod SeriesRows
+pub mod CertifyRows

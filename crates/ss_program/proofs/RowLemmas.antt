@@ -52,8 +52,8 @@ use Rattle.ss_report.specs.declared.reply.Reply.TheVariants.{Refused, WindowsHea
 use Rattle.ss_program.specs.Line.{Brought, History, command_brings, stream_rows, text_brought, window_rows}
 use Rattle.ss_program.specs.Sent.{appended, AppendsLess, Sends}
 use Rattle.ss_outside.specs.declared.source.Failed.{Failed}
-use Rattle.ss_program.proofs.SendLemmas.{appended-appended, appended-nil}
-use Rattle.ss_program.proofs.AnswerLemmas.{AppendsLess-after, AppendsLess-none, brings-unknown, brings-windows, reply_line-some}
+use Rattle.ss_program.proofs.SendLemmas.{AppendsLess-after, AppendsLess-none, appended-appended, appended-nil}
+use Rattle.ss_program.proofs.AnswerLemmas.{brings-unknown, brings-windows, reply_line-some}
 
 -- one reply alone
 pub Sends-one : (before after : Option (List ℕ)) {E : Type 0} (reply : Reply) (sent : Result (Unit {0}) E) → Sends before after (reply_line reply) sent →

@@ -5,6 +5,7 @@ use Rattle.std.proofs.Common.{
   ◌+◌,
   ◌++◌,
   ◌-◌,
+  ◌<◌,
   ◌≤◌,
   List,
   [],
@@ -31,10 +32,10 @@ use Rattle.std.proofs.Common.{
 }
 use Rattle.std.proofs.Math.Seq.{take-add, take-append-add}
 use Rattle.std.proofs.lemmas.Bool.{cases_lt}
-use Rattle.std.proofs.lemmas.List.{append-nil, take-append-le}
+use Rattle.std.proofs.lemmas.List.{append-nil, length-append, take-append-le}
 use Rattle.ss_outside.specs.Sink.{Appends}
 use Rattle.ss_outside.specs.declared.source.Failed.{Failed}
-use Rattle.ss_program.specs.Sent.{appended, AppendsFront, Puts, SaysLine, Sends}
+use Rattle.ss_program.specs.Sent.{appended, AppendsFront, AppendsLess, Puts, SaysLine, Sends}
 
 appends : (held after : Option (List ℕ)) (piece : List ℕ) (k : ℕ) → Appends held after (Ok k) piece → after ≡ appended held (take k piece)
 appends None after piece k is = is
@@ -98,3 +99,18 @@ pub SaysLine-sent : (before after : Option (List ℕ)) (line : List ℕ) (had ha
     Puts line before had after has result → SaysLine line before after had has
 SaysLine-sent before after line had has (Ok u) puts = record { front = AppendsFront-all before after line puts.sends; whole = λ _. puts.sends }
 SaysLine-sent before after line had has (Err e) puts = record { front = (puts.sends.0, puts.sends.2); whole = λ calm. absurd (calm puts.counted.1) }
+
+-- nothing was sent of a text that isn't empty
+pub AppendsLess-none : (held : Option (List ℕ)) (text : List ℕ) → 0 < length text → AppendsLess held held text
+AppendsLess-none held text some = (0, some, sym (appended-nil held))
+
+-- less than a text that comes after others was sent
+pub AppendsLess-after : (before held after : Option (List ℕ)) (a b c : List ℕ) → held ≡ appended before a → AppendsLess held after b →
+    AppendsLess before after (a ++ (b ++ c))
+AppendsLess-after before held after a b c is less = (
+  length a + less.0,
+  omega (arith, less.1, length-append a (b ++ c), length-append b c),
+  less.2 ∙ ap (λ o. appended o (take less.0 b)) is ∙ appended-appended before a (take less.0 b)
+      ∙ ap (λ bs. appended before bs) (ap (λ bs. a ++ bs) (sym (take-append-le less.0 b c (omega (arith, less.1))))
+      ∙ sym (take-append-add a (b ++ c) less.0)),
+)

@@ -7,7 +7,8 @@ use Rattle.ss_outside.specs.Crash.{LeavesOnly}
 use Rattle.ss_outside.specs.Disk.{NothingPending, Told}
 use Rattle.ss_report.specs.Text.{reply_line}
 use Rattle.ss_report.specs.declared.reply.Reply.{Reply}
-use Rattle.ss_report.specs.declared.reply.Reply.TheVariants.{Done as AckLine, Answered, Refused, SeriesHead, Row, WindowsHead, Window, ListHead, Stream}
+use Rattle.ss_report.specs.declared.reply.Reply.TheVariants.{Done as AckLine, Answered, Refused, SeriesHead, Row, WindowsHead, Window}
+use Rattle.ss_report.specs.declared.reply.Reply.TheVariants.{ListHead, Stream, CertifyHead, Side}
 use Rattle.ss_store.specs.Recover.{Stands}
 use Rattle.ss_program.specs.Held.{StandsForFirst}
 use Rattle.ss_program.specs.Line.{History}
@@ -31,6 +32,8 @@ is_done (WindowsHead count) = false
 is_done (Window placed) = false
 is_done (ListHead count) = false
 is_done (Stream row) = false
+is_done (CertifyHead answer base count) = false
+is_done (Side side) = false
 
 abbrev pub is_refused : Reply → Bool
 is_refused (AckLine ack) = false
@@ -42,6 +45,8 @@ is_refused (WindowsHead count) = false
 is_refused (Window placed) = false
 is_refused (ListHead count) = false
 is_refused (Stream row) = false
+is_refused (CertifyHead answer base count) = false
+is_refused (Side side) = false
 
 -- a line of a word and a number
 abbrev pub counted_line : List ℕ → ℕ → List ℕ

@@ -5,6 +5,7 @@ pub mod Devices
 pub mod Progress
 pub mod Answer
 pub mod Series
+pub mod Certifying
 pub mod Shared
 pub mod Words
 pub mod Status

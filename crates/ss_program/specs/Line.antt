@@ -6,9 +6,12 @@ use Rattle.ss_catalog.specs.declared.event.Event.{Event}
 use Rattle.ss_catalog.specs.declared.refusal.Refusal.{Refusal}
 use Rattle.ss_catalog.specs.declared.refusal.Refusal.TheVariants.{Line}
 use Rattle.ss_catalog.specs.declared.series.Series.{Series}
+use Rattle.ss_certify.specs.Called.{evidence_in}
+use Rattle.ss_certify.specs.Told.{told}
+use Rattle.ss_certify.specs.declared.evidence.Evidence.{Evidence}
 use Rattle.ss_command.specs.Grammar.{meaning}
 use Rattle.ss_command.specs.declared.command.Command.{Command}
-use Rattle.ss_command.specs.declared.command.Command.TheVariants.{Do, Ask, Series as AskRows, Windows, List as ListAll}
+use Rattle.ss_command.specs.declared.command.Command.TheVariants.{Do, Ask, Certify, Series as AskRows, Windows, List as ListAll}
 use Rattle.ss_model.specs.Answers.{outcome_of, refuses_query}
 use Rattle.ss_model.specs.Refusals.{refuses, refuses_reading}
 use Rattle.ss_model.specs.Series.{refuses_series}
@@ -67,6 +70,11 @@ row_shown at (Some outcome) = Row at outcome ∷ []
 abbrev pub series_rows : List Stream → Series → List Reply
 series_rows streams series = flat_map (λ row. row_shown (row_start series row) (outcome_of streams (row_query series row))) (rows_of series)
 
+-- the lines of evidence; nothing of a stream that doesn't stand
+abbrev pub certified : Option Evidence → List Reply
+certified None = []
+certified (Some w) = told w
+
 -- the rows of a stream's windows, oldest first
 abbrev pub window_rows : Stream → List Reply
 window_rows s = map (λ w. Window (placed_of w)) s.windows
@@ -85,6 +93,8 @@ abbrev pub command_brings : History → Command → Brought
 command_brings history (Do event) = unless_refused (refuses (state history) event) (accepted_event history event)
 command_brings history (Ask query) =
     unless_refused (refuses_query (state history) query) (shown (answered (outcome_of (state history) query)))
+command_brings history (Certify query end) =
+    unless_refused (refuses_query (state history) query) (shown (certified (evidence_in (state history) query end)))
 command_brings history (AskRows series) =
     unless_refused (refuses_series (state history) series) (shown (SeriesHead (row_count series) ∷ series_rows (state history) series))
 command_brings history (Windows name) =

@@ -17,6 +17,7 @@ use Rattle.ss_program.specs.declared.status.Status.{Status}
 abbrev pub IsSingle : Command → Type 0
 IsSingle (commands.Do event) = ⊤
 IsSingle (commands.Ask query) = ⊤
+IsSingle (commands.Certify query end) = ⊥
 IsSingle (commands.Series series) = ⊥
 IsSingle (commands.Windows name) = ⊥
 IsSingle commands.List = ⊥

@@ -18,6 +18,7 @@ ghost use Rattle.ss_program.specs.declared.status.Status.{Status};
 ghost use Rattle.ss_program.specs.Status.{disk_verdict, ended, IsApplyStop, IsDiskStop};
 ghost use Rattle.ss_command.specs.declared.command.Command.TheVariants.{Do, Ask, Windows, List as ListAll};
 
+use crate::certifying::show_certificate;
 use crate::sending::send;
 use crate::series::show_series;
 use crate::status::Status;
@@ -47,6 +48,16 @@ pub fn send_reply<K: Sink>(reply: &Reply, sink: &mut K) -> Result<(), Failed>
     let mut text = ArrayString::new();
     reply_text(reply, &mut text);
     send(sink, text.as_str().as_bytes())
+}
+
+/// Sends some replies, each as one piece.
+pub fn send_replies<K: Sink>(replies: &[Reply], sink: &mut K) -> Result<(), Failed>
+    ensures { Puts (flat_map reply_line replies.now) (K.held sink.old) (K.faults sink.old) (K.held sink.new) (K.faults sink.new) result }
+{
+    for reply in replies {
+        send_reply(reply, sink)?;
+    }
+    Ok(())
 }
 
 // Reads a window.
@@ -214,6 +225,7 @@ pub fn obey<D: Disk, K: Sink>(
     match command {
         Command::Do(event) => take(store, event, disk, sink),
         Command::Ask(query) => show_answer(store, query, disk, sink),
+        Command::Certify { query, end } => show_certificate(store, query, *end, disk, sink),
         Command::Series(series) => show_series(store, series, disk, sink),
         Command::Windows(name) => show_windows(store, name, disk, sink),
         Command::List => at_sink(list(store, sink)),

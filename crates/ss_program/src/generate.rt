@@ -1,12 +1,11 @@
 // A run over a generated command file.
 ghost use Rattle.std.specs.Prelude.{◌≡◌, ◌⊎◌, ◌+◌, ◌-◌, ◌^◌, ◌<◌, ◌≤◌, ◌++◌, ℕ, List, []};
-ghost use Rattle.std.specs.Prelude.{◌∷◌, flat_map, length, IfErr, OnOk};
+ghost use Rattle.std.specs.Prelude.{◌∷◌, length, IfErr, OnOk};
 ghost use Rattle.ss_command.specs.Printed.{IsCommandInTime};
 ghost use Rattle.ss_generator.specs.declared.TheConstants.{MOST_COUNT};
 ghost use Rattle.ss_outside.specs.Disk.{Between};
 ghost use Rattle.ss_outside.specs.Step.{Step};
 ghost use Rattle.ss_outside.specs.Verdict.{Counted, verdict};
-ghost use Rattle.ss_report.specs.Text.{reply_line};
 ghost use Rattle.ss_program.specs.Answer.{DoesCommand, IsOpen};
 ghost use Rattle.ss_program.specs.Devices.{over};
 ghost use Rattle.ss_program.specs.Ending.{Ends, IsUnfed};
@@ -16,7 +15,7 @@ ghost use Rattle.ss_program.specs.Sent.{Puts, Sends};
 ghost use Rattle.ss_program.specs.Status.{disk_verdict, ended, sink_verdict, IsApplyStop, IsStop};
 ghost use Rattle.ss_program.specs.Tally.{IsSingle, RunsAll, Tallies};
 
-use crate::answer::{apply, ask, send_reply};
+use crate::answer::{apply, ask, send_replies};
 use crate::refuse::refuse;
 use crate::sending::send;
 use crate::status::Status;
@@ -97,7 +96,9 @@ fn reply_to<D: Disk>(store: &mut Store, command: &Command, disk: &mut D) -> Resu
     match command {
         Command::Do(event) => apply(store, event, disk),
         Command::Ask(query) => ask(store, query, disk),
-        Command::Series(_) | Command::Windows(_) | Command::List => unreachable!(),
+        Command::Certify { .. } | Command::Series(_) | Command::Windows(_) | Command::List => {
+            unreachable!()
+        }
     }
 }
 
@@ -144,16 +145,6 @@ fn send_counts<K: Sink>(seed: u64, count: u32, tally: &Tally, sink: &mut K) -> R
     put_line("ok", tally.done, &mut text);
     put_line("refused", tally.refused, &mut text);
     send(sink, text.as_str().as_bytes())
-}
-
-// Sends some replies.
-fn send_replies<K: Sink>(replies: &[Reply], sink: &mut K) -> Result<(), Failed>
-    ensures { Puts (flat_map reply_line replies.now) (K.held sink.old) (K.faults sink.old) (K.held sink.new) (K.faults sink.new) result }
-{
-    for reply in replies {
-        send_reply(reply, sink)?;
-    }
-    Ok(())
 }
 
 // Sends the summary.

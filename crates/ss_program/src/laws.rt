@@ -1,10 +1,13 @@
 // Laws of what lines bring, each the contract of a function that does nothing.
 ghost use Rattle.std.specs.Prelude.{◌≡◌, ◌++◌, ◌∷◌, ℕ, List, map, Some, None, Ok};
 ghost use Rattle.ss_catalog.specs.Series.{row_count, row_start, rows_of};
+ghost use Rattle.ss_catalog.specs.declared.query.End.{End};
 ghost use Rattle.ss_catalog.specs.declared.query.Query.{Query};
 ghost use Rattle.ss_catalog.specs.declared.series.Series.{Series};
+ghost use Rattle.ss_certify.specs.Told.{told};
+ghost use Rattle.ss_certify.specs.declared.evidence.Evidence.{Evidence};
 ghost use Rattle.ss_command.specs.Grammar.{meaning};
-ghost use Rattle.ss_command.specs.declared.command.Command.TheVariants.{Ask, Series as AskRows};
+ghost use Rattle.ss_command.specs.declared.command.Command.TheVariants.{Ask, Certify, Series as AskRows};
 ghost use Rattle.ss_model.specs.Answers.{HoldsTruth, refuses_query};
 ghost use Rattle.ss_model.specs.History.{marked_of, values_of};
 ghost use Rattle.ss_model.specs.Refusals.{IsHistory};
@@ -12,6 +15,7 @@ ghost use Rattle.ss_model.specs.Series.{AnswersRow, refuses_series};
 ghost use Rattle.ss_model.specs.State.{state};
 ghost use Rattle.ss_model.specs.declared.outcome.Outcome.{Outcome};
 ghost use Rattle.ss_report.specs.declared.reply.Reply.TheVariants.{Answered, SeriesHead, Row};
+ghost use Rattle.ss_program.specs.Certifying.{IsSharp};
 ghost use Rattle.ss_program.specs.Line.{History};
 ghost use Rattle.ss_program.specs.Session.{after_lines, replies};
 
@@ -44,4 +48,16 @@ pub fn series_hold_the_truth()
         ++ (SeriesHead (row_count series) ∷ map (λ row. Row (row_start series row) (answers row)) (rows_of series))
         ++ replies (after_lines history before) after)
         × ((row : ℕ) → AnswersRow (after_lines history before) series row (answers row)) }
+{}
+
+/// Each line of a session that asks why an end of an answer can't be narrower, and isn't refused then, has the lines of some
+/// evidence as replies, in their place among the others. What the evidence shows is the asked end of what the query would be
+/// answered there, and the true answer of contents like those of the stream after the history and the lines before.
+pub fn certificates_are_sharp()
+    ensures { (history : History) (ls before after : List (List ℕ)) (line : List ℕ) (query : Query) (end : End) → IsHistory history →
+        ls ≡ before ++ line ∷ after → meaning line ≡ Ok (Some (Certify query end)) →
+        refuses_query (state (after_lines history before)) query ≡ None →
+        (w : Evidence)
+        × (replies history ls ≡ replies history before ++ told w ++ replies (after_lines history before) after)
+        × IsSharp (after_lines history before) query end w }
 {}

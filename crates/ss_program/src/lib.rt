@@ -3,6 +3,7 @@
 #![tactic(auto)]
 
 mod answer;
+mod certifying;
 mod check;
 mod each;
 mod generate;
@@ -19,7 +20,9 @@ mod shared;
 mod staging;
 mod status;
 
-pub use laws::{queries_hold_the_truth, series_hold_the_truth, sessions_leave_a_history};
+pub use laws::{
+    certificates_are_sharp, queries_hold_the_truth, series_hold_the_truth, sessions_leave_a_history,
+};
 pub use promises::run_store;
 pub use running::{LONGEST_INPUT, run};
 pub use sending::send;

@@ -17,17 +17,29 @@ use ss_outside::{Disk, Sink};
 use ss_report::Reply;
 use ss_store::{AskError, Store};
 
-// Why a series is refused, where it is.
-fn refusal_of(store: &Store, series: &Series) -> Option<Refusal>
-    ensures { result ≡ refuses_query_held store.now.streams (whole_query series.now) }
+/// Why a query is refused, where it is.
+pub fn refusal_of(store: &Store, query: &Query) -> Option<Refusal>
+    ensures { result ≡ refuses_query_held store.now.streams query.now }
 {
-    if store.find(&series.name).is_none() {
+    if store.find(&query.name).is_none() {
         return Some(Refusal::Unknown);
     }
-    if series.to < series.from {
+    if query.to < query.from {
         return Some(Refusal::Range);
     }
     None
+}
+
+// The query of the whole range of a series.
+fn whole_query(series: &Series) -> Query
+    ensures { result ≡ whole_query series.now }
+{
+    Query {
+        name: series.name,
+        kind: series.kind,
+        from: series.from,
+        to: series.to,
+    }
 }
 
 // Asks a query that isn't refused.
@@ -85,7 +97,7 @@ pub fn show_series<D: Disk, K: Sink>(
     ensures { Shows (IsTextBrought (AskRows series.now)) (over (D.seen disk.old) (K.held sink.old) (K.faults sink.old))
         (over (D.seen disk.new) (K.held sink.new) (K.faults sink.new)) store.new result }
 {
-    if let Some(refusal) = refusal_of(store, series) {
+    if let Some(refusal) = refusal_of(store, &whole_query(series)) {
         return at_sink(send_reply(&Reply::Refused(refusal), sink));
     }
     at_sink(send_reply(&Reply::SeriesHead(series.rows()), sink))?;

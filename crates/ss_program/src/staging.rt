@@ -188,7 +188,7 @@ fn take_command<D: Disk, K: Sink>(
     match command {
         Command::Do(event) => take_event(store, waiting, event, disk, sink),
         Command::Ask(query) => take_query(store, waiting, query, disk),
-        Command::Series(_) | Command::Windows(_) | Command::List => {
+        Command::Certify { .. } | Command::Series(_) | Command::Windows(_) | Command::List => {
             show_rows(store, waiting, command, disk, sink)
         }
     }

@@ -7,7 +7,7 @@ use Rattle.std.specs.Prelude.{IsFalse, IsTrue, codes}
 use Rattle.std.specs.declared.io.Error.{Error}
 use Rattle.std.specs.declared.io.ErrorKind.TheVariants.{InvalidInput, Other, ReadOnlyFilesystem}
 use Rattle.ss_journal.specs.Format.{is_unborn}
-use Rattle.summarystore.specs.FileDisk.{KeepsFile, untold}
+use Rattle.summarystore.specs.FileDisk.{EndsAfterFault, KeepsFile, LooksAtFile, untold}
 use Rattle.summarystore.specs.Opening.{IsBlank, IsHeldAs, IsLockedAs, IsNative, IsSettledAs, MayHold, StaysHeld, StaysUnmade, is_writable}
 use Rattle.summarystore.specs.Opening.{missing_for}
 use Rattle.summarystore.specs.System.{Apart, Durable, Fact, IsUnsyncable, Keeps, KeepsAll, LockedBy, OpenFor, RegularFile, Synced, Unmade, Unsyncable, Unwritten}
@@ -120,6 +120,21 @@ keeps-held was is opened opened_now holds holds_now keeps held = keeps.held held
 keeps-unmade : (is : Missing) (opened opened_now : Option Opened) (holds holds_now : Fact → Type 0) →
     KeepsFile missing.ReadEmpty opened holds is opened_now holds_now → holds Unmade → holds_now Unmade
 keeps-unmade is opened opened_now holds holds_now keeps was = keeps.unmade refl was
+
+looks-keeps : (was is : Missing) (opened opened_now : Option Opened) (holds holds_now : Fact → Type 0) →
+    LooksAtFile was opened holds is opened_now holds_now → KeepsFile was opened holds is opened_now holds_now
+looks-keeps was is opened opened_now holds holds_now looks = looks.keeps
+
+looks-unwritten : (was is : Missing) (opened opened_now : Option Opened) (holds holds_now : Fact → Type 0) →
+    LooksAtFile was opened holds is opened_now holds_now → holds Unwritten → holds_now Unwritten
+looks-unwritten was is opened opened_now holds holds_now looks unwritten = looks.unwritten unwritten
+
+-- what a fault leaves of the calls after it
+ends-faults : (failed same : Type 0) (is : ℕ) → EndsAfterFault 1 is failed same → is ≡ 1
+ends-faults failed same is ends = ends.faults
+
+ends-first : (failed same : Type 0) (is : ℕ) → EndsAfterFault 1 is failed same → failed × same
+ends-first failed same is ends = ends.ends (omega arith)
 
 writable-each :
     map is_writable (None ∷ Some Nothing ∷ Some ReadOnly ∷ Some Writable ∷ Some Made ∷ [])

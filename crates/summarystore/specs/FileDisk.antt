@@ -1,8 +1,8 @@
 -- What a file tells as a disk, and what each call of the disk leaves of it.
-use Rattle.std.specs.Prelude.{◌≡◌, ℕ, Option, [], false}
+use Rattle.std.specs.Prelude.{◌≡◌, ◌<◌, ℕ, Option, [], false}
 use Rattle.ss_outside.specs.Disk.{DiskView}
 use Rattle.summarystore.specs.Opening.{StaysHeld, StaysUnmade}
-use Rattle.summarystore.specs.System.{Fact}
+use Rattle.summarystore.specs.System.{Fact, Unwritten}
 use Rattle.summarystore.specs.declared.opening.Missing.{Missing}
 use Rattle.summarystore.specs.declared.opening.Opened.{Opened}
 
@@ -21,3 +21,14 @@ pub record KeepsFile (was : Missing) (opened : Option Opened) (holds : Fact → 
   pub missing : is ≡ was
   pub held : StaysHeld was opened holds → StaysHeld is opened_now holds_now
   pub unmade : StaysUnmade was holds holds_now
+
+-- A call that doesn't write leaves of a file what any call does, and where nothing was written, nothing is.
+pub record LooksAtFile (was : Missing) (opened : Option Opened) (holds : Fact → Type 0) (is : Missing) (opened_now : Option Opened)
+    (holds_now : Fact → Type 0) : Type 0 where
+  pub keeps : KeepsFile was opened holds is opened_now holds_now
+  pub unwritten : holds Unwritten → holds_now Unwritten
+
+-- A call leaves the count of faults to its caller. After a fault it fails, and all is as it was.
+pub record EndsAfterFault (was is : ℕ) (failed same : Type 0) : Type 0 where
+  pub faults : is ≡ was
+  pub ends : 0 < was → failed × same

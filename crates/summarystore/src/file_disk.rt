@@ -1,7 +1,7 @@
 // The real disk: a file. It tells nothing of its bytes.
 ghost use Rattle.std.specs.Prelude.{◌≡◌, ◌+◌, ◌<◌, ◌^◌, ℕ, List, length, None, Some, IsErr, IsFalse, IfOk, OnOk};
 ghost use Rattle.ss_outside.specs.Disk.{IsReadFrom};
-ghost use Rattle.summarystore.specs.FileDisk.{KeepsFile};
+ghost use Rattle.summarystore.specs.FileDisk.{EndsAfterFault, KeepsFile, LooksAtFile};
 ghost use Rattle.summarystore.specs.Opening.{IsNative, IsSettledAs, MayHold, StaysHeld, is_writable};
 ghost use Rattle.summarystore.specs.System.{Synced, Unwritten};
 
@@ -78,16 +78,14 @@ impl<S: System> FileDisk<S> {
 
     // Opens the file at the first call. After a fault nothing is done any more.
     fn ready(&mut self) -> Result<Opened, Reason>
-        ensures faults { self.new.faults ≡ self.old.faults }
-        ensures ends { 0 < self.old.faults → IsErr result × (self.new ≡ self.old) }
+        ensures ends { EndsAfterFault self.old.faults self.new.faults (IsErr result) (self.new ≡ self.old) }
         ensures opens { IfOk result (λ opened. self.new.opened ≡ Some opened) }
         ensures settled { self.old.opened ≡ None →
             IfOk result (λ opened. IsSettledAs opened (S.holds self.new.system)) }
         ensures native { self.old.opened ≡ None → OnOk result ((image : List ℕ) →
             MayHold self.new.opened (S.fits self.new.system) image → IsNative image) }
-        ensures keeps { KeepsFile self.old.missing self.old.opened (S.holds self.old.system)
+        ensures looks { LooksAtFile self.old.missing self.old.opened (S.holds self.old.system)
             self.new.missing self.new.opened (S.holds self.new.system) }
-        ensures unwritten { S.holds self.old.system Unwritten → S.holds self.new.system Unwritten }
     {
         if self.faults > 0 {
             return Err(Reason::own(Trouble::FailedBefore));
@@ -101,13 +99,11 @@ impl<S: System> FileDisk<S> {
     }
 
     fn try_len(&mut self) -> Result<u64, Reason>
-        ensures faults { self.new.faults ≡ self.old.faults }
-        ensures ends { 0 < self.old.faults → IsErr result × (self.new ≡ self.old) }
+        ensures ends { EndsAfterFault self.old.faults self.new.faults (IsErr result) (self.new ≡ self.old) }
         ensures measures { IfOk result (λ answer. (image : List ℕ) →
             MayHold self.new.opened (S.fits self.new.system) image → answer ≡ length image) }
-        ensures keeps { KeepsFile self.old.missing self.old.opened (S.holds self.old.system)
+        ensures looks { LooksAtFile self.old.missing self.old.opened (S.holds self.old.system)
             self.new.missing self.new.opened (S.holds self.new.system) }
-        ensures unwritten { S.holds self.old.system Unwritten → S.holds self.new.system Unwritten }
     {
         if self.ready()? == Opened::Nothing {
             return Ok(0);
@@ -119,13 +115,11 @@ impl<S: System> FileDisk<S> {
     }
 
     fn try_read(&mut self, at: u64, into: &mut [u8]) -> Result<(), Reason>
-        ensures faults { self.new.faults ≡ self.old.faults }
-        ensures ends { 0 < self.old.faults → IsErr result × (self.new ≡ self.old) }
+        ensures ends { EndsAfterFault self.old.faults self.new.faults (IsErr result) (self.new ≡ self.old) }
         ensures reads { at + length into.old < 2 ^ 64 → OnOk result ((image : List ℕ) →
             MayHold self.new.opened (S.fits self.new.system) image → IsReadFrom image at into.new) }
-        ensures keeps { KeepsFile self.old.missing self.old.opened (S.holds self.old.system)
+        ensures looks { LooksAtFile self.old.missing self.old.opened (S.holds self.old.system)
             self.new.missing self.new.opened (S.holds self.new.system) }
-        ensures unwritten { S.holds self.old.system Unwritten → S.holds self.new.system Unwritten }
     {
         if self.ready()? == Opened::Nothing {
             into.fill(0);
@@ -138,8 +132,7 @@ impl<S: System> FileDisk<S> {
     }
 
     fn try_write(&mut self, at: u64, bytes: &[u8]) -> Result<(), Reason>
-        ensures faults { self.new.faults ≡ self.old.faults }
-        ensures ends { 0 < self.old.faults → IsErr result × (self.new ≡ self.old) }
+        ensures ends { EndsAfterFault self.old.faults self.new.faults (IsErr result) (self.new ≡ self.old) }
         ensures writes { at + length bytes.now < 2 ^ 64 →
             OnOk result (S.has_written self.new.system at bytes.now) }
         ensures refused { IsFalse (is_writable self.new.opened) →
@@ -159,12 +152,10 @@ impl<S: System> FileDisk<S> {
     }
 
     fn try_sync(&mut self) -> Result<(), Reason>
-        ensures faults { self.new.faults ≡ self.old.faults }
-        ensures ends { 0 < self.old.faults → IsErr result × (self.new ≡ self.old) }
+        ensures ends { EndsAfterFault self.old.faults self.new.faults (IsErr result) (self.new ≡ self.old) }
         ensures synced { OnOk result (S.holds self.new.system Synced) }
-        ensures keeps { KeepsFile self.old.missing self.old.opened (S.holds self.old.system)
+        ensures looks { LooksAtFile self.old.missing self.old.opened (S.holds self.old.system)
             self.new.missing self.new.opened (S.holds self.new.system) }
-        ensures unwritten { S.holds self.old.system Unwritten → S.holds self.new.system Unwritten }
     {
         self.ready()?;
         match self.system.sync_data() {
@@ -188,9 +179,8 @@ impl<S: System> Disk for FileDisk<S> {
         ensures step { Step (verdict result) (untold self.old.faults) (untold self.new.faults) (Measures result) }
         ensures measures { IfOk result (λ answer. (image : List ℕ) →
             MayHold self.new.opened (S.fits self.new.system) image → answer ≡ length image) }
-        ensures keeps { KeepsFile self.old.missing self.old.opened (S.holds self.old.system)
+        ensures looks { LooksAtFile self.old.missing self.old.opened (S.holds self.old.system)
             self.new.missing self.new.opened (S.holds self.new.system) }
-        ensures unwritten { S.holds self.old.system Unwritten → S.holds self.new.system Unwritten }
     {
         let answer = self.try_len();
         judge(answer, &mut self.faults, &mut self.why)
@@ -200,9 +190,8 @@ impl<S: System> Disk for FileDisk<S> {
         ensures step { Step (verdict result) (untold self.old.faults) (untold self.new.faults) (ReadsAt at into.new result) }
         ensures reads { at + length into.old < 2 ^ 64 → OnOk result ((image : List ℕ) →
             MayHold self.new.opened (S.fits self.new.system) image → IsReadFrom image at into.new) }
-        ensures keeps { KeepsFile self.old.missing self.old.opened (S.holds self.old.system)
+        ensures looks { LooksAtFile self.old.missing self.old.opened (S.holds self.old.system)
             self.new.missing self.new.opened (S.holds self.new.system) }
-        ensures unwritten { S.holds self.old.system Unwritten → S.holds self.new.system Unwritten }
     {
         let answer = self.try_read(at, into);
         judge(answer, &mut self.faults, &mut self.why)
@@ -224,9 +213,8 @@ impl<S: System> Disk for FileDisk<S> {
     fn sync(&mut self) -> Result<(), Failed>
         ensures step { Step (verdict result) (untold self.old.faults) (untold self.new.faults) (Syncs result) }
         ensures synced { OnOk result (S.holds self.new.system Synced) }
-        ensures keeps { KeepsFile self.old.missing self.old.opened (S.holds self.old.system)
+        ensures looks { LooksAtFile self.old.missing self.old.opened (S.holds self.old.system)
             self.new.missing self.new.opened (S.holds self.new.system) }
-        ensures unwritten { S.holds self.old.system Unwritten → S.holds self.new.system Unwritten }
     {
         let answer = self.try_sync();
         judge(answer, &mut self.faults, &mut self.why)

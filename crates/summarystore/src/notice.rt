@@ -30,6 +30,9 @@ is on the disk before it is printed. One program at a time can use a store.
   series NAME count|sum|min|max T1 T2 STEP
                          the same in rows of STEP times each, at most 100000:
                          the first time of a row, and what is known of it
+  certify NAME count|sum lo|hi T1 T2
+                         values that the windows may have had, by which the
+                         answer is just the lo, or the hi, that query prints
   windows NAME           the windows of a stream, oldest first
   list                   all streams, in order of creation
 

@@ -1,10 +1,10 @@
 use Rattle.std.proofs.Common.{refl, subst}
-use Rattle.ss_command.specs.declared.command.Command.TheVariants.{Ask, Series as AskRows, Windows, List as ListAll}
+use Rattle.ss_command.specs.declared.command.Command.TheVariants.{Ask, Certify, Series as AskRows, Windows, List as ListAll}
 use Rattle.ss_program.specs.Answer.{IsTextBrought}
 use Rattle.ss_program.specs.Devices.{over}
 use Rattle.ss_program.specs.Line.{command_brings}
 use Rattle.ss_program.specs.Sent.{Sends}
-use Rattle.ss_program.proofs.AnswerLemmas.{StoreIsIn-open, ask-event, series-event, windows-event}
+use Rattle.ss_program.proofs.AnswerLemmas.{StoreIsIn-open, ask-event, certify-event, series-event, windows-event}
 use Rattle.ss_program.proofs.TakesLemmas.{Shows-sent, TakesLine-shown, still}
 use Rattle.std.proofs.Common.{sym}
 use Rattle.ss_program.proofs.answer.obey.Goals as goal
@@ -16,6 +16,16 @@ returns-in-Ask g c = rw c.in-Ask.is
     (over (g.D.Disk.seen c.show_answer.new.disk) (g.K.Sink.held c.show_answer.new.sink) (g.K.Sink.faults c.show_answer.new.sink))
     c.show_answer.new.store c.show_answer.result (g.met.D.Disk.knows_now c.args.disk.now) (λ history. ask-event history c.in-Ask.query) (λ history. refl)
     c.show_answer.ensures)
+
+pub returns-in-Certify : goal.returns-in-Certify
+returns-in-Certify g c = rw c.in-Certify.is
+    (TakesLine-shown (λ history. command_brings history (Certify c.in-Certify.query c.in-Certify.end)) (IsTextBrought (Certify c.in-Certify.query c.in-Certify.end))
+    (over (g.D.Disk.seen c.args.disk.now) (g.K.Sink.held c.args.sink.now) (g.K.Sink.faults c.args.sink.now))
+    (over (g.D.Disk.seen c.show_certificate.new.disk) (g.K.Sink.held c.show_certificate.new.sink) (g.K.Sink.faults c.show_certificate.new.sink))
+    c.show_certificate.new.store c.show_certificate.result (g.met.D.Disk.knows_now c.args.disk.now)
+    (λ history. certify-event history c.in-Certify.query c.in-Certify.end)
+    (λ history. refl)
+    c.show_certificate.ensures)
 
 pub returns-in-Series : goal.returns-in-Series
 returns-in-Series g c = rw c.in-Series.is

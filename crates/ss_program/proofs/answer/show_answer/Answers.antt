@@ -13,7 +13,8 @@ use Rattle.ss_program.specs.Devices.{over}
 use Rattle.ss_program.specs.Line.{command_brings, text_brought}
 use Rattle.ss_program.specs.Sent.{AppendsLess}
 use Rattle.ss_program.specs.Status.{disk_verdict}
-use Rattle.ss_program.proofs.AnswerLemmas.{AppendsLess-none, Stands-shown, ask-some}
+use Rattle.ss_program.proofs.AnswerLemmas.{Stands-shown, ask-some}
+use Rattle.ss_program.proofs.SendLemmas.{AppendsLess-none}
 use Rattle.ss_program.proofs.TakesLemmas.{Shows-reply, Shows-stopped}
 use Rattle.ss_program.proofs.answer.show_answer.Goals as goal
 

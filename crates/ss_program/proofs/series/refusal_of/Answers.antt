@@ -1,7 +1,6 @@
 use Rattle.std.proofs.Common.{◌≡◌, ◌∙◌, Bool, true, false, Option, Some, None, refl, sym}
 use Rattle.std.proofs.lemmas.Bool.{le-ltb, lt-ltb}
 use Rattle.std.specs.Prelude.{is_some, not}
-use Rattle.ss_catalog.specs.Series.{whole_query}
 use Rattle.ss_catalog.specs.declared.stream_id.StreamId.{StreamId}
 use Rattle.ss_store.specs.Kept.{part_named}
 use Rattle.ss_store.proofs.AskedStreams.{named-found, named-missing, refuses_query_held-known, refuses_query_held-unknown}
@@ -18,20 +17,20 @@ present (Some id) b is some = (id, refl)
 
 pub returns-then-is_none : goal.returns-then-is_none
 returns-then-is_none c =
-    sym (refuses_query_held-unknown c.args.store.now.streams (whole_query c.args.series.now)
-    (named-missing (part_named c.args.series.now.name c.args.store.now.streams)
+    sym (refuses_query_held-unknown c.args.store.now.streams c.args.query.now
+    (named-missing (part_named c.args.query.now.name c.args.store.now.streams)
     (sym c.find.ensures.number ∙ absent c.find.result c.is_none.result c.is_none.ensures c.if-is_none.true)))
 
-pub returns-then-series : goal.returns-then-series
-returns-then-series c =
+pub returns-then-query : goal.returns-then-query
+returns-then-query c =
     let id = present c.find.result c.is_none.result c.is_none.ensures c.if-is_none.false in
-    let part = named-found (part_named c.args.series.now.name c.args.store.now.streams) id.0 (sym c.find.ensures.number ∙ id.1) in
-    sym (refuses_query_held-known c.args.store.now.streams (whole_query c.args.series.now) part.0 true part.1
-    (lt-ltb c.args.series.now.to c.args.series.now.from c.if-series.true))
+    let part = named-found (part_named c.args.query.now.name c.args.store.now.streams) id.0 (sym c.find.ensures.number ∙ id.1) in
+    sym (refuses_query_held-known c.args.store.now.streams c.args.query.now part.0 true part.1
+    (lt-ltb c.args.query.now.to c.args.query.now.from c.if-query.true))
 
 pub returns : goal.returns
 returns c =
     let id = present c.find.result c.is_none.result c.is_none.ensures c.if-is_none.false in
-    let part = named-found (part_named c.args.series.now.name c.args.store.now.streams) id.0 (sym c.find.ensures.number ∙ id.1) in
-    sym (refuses_query_held-known c.args.store.now.streams (whole_query c.args.series.now) part.0 false part.1
-    (le-ltb c.args.series.now.to c.args.series.now.from c.if-series.false))
+    let part = named-found (part_named c.args.query.now.name c.args.store.now.streams) id.0 (sym c.find.ensures.number ∙ id.1) in
+    sym (refuses_query_held-known c.args.store.now.streams c.args.query.now part.0 false part.1
+    (le-ltb c.args.query.now.to c.args.query.now.from c.if-query.false))

@@ -7,6 +7,7 @@ use Rattle.ss_model.specs.State.{state}
 use Rattle.ss_outside.specs.Verdict.{Counted}
 use Rattle.ss_report.specs.Text.{reply_line}
 use Rattle.ss_report.specs.declared.reply.Reply.TheVariants.{Refused, SeriesHead}
+use Rattle.ss_store.specs.Asked.{refuses_query_held}
 use Rattle.ss_program.specs.Answer.{IsTextBrought, Shows}
 use Rattle.ss_program.specs.Devices.{over}
 use Rattle.ss_program.specs.Line.{command_brings, series_rows, text_brought}
@@ -22,13 +23,14 @@ returns-in-Some g c =
     let store = c.args.store.now in
     let series = c.args.series.now in
     let disk = g.D.Disk.seen c.args.disk.now in
+    let judged = c.in-Some.ensures ∙ ap (λ q. refuses_query_held store.streams q) c.whole_query.ensures in
     rw c.at_sink.ensures
     (Shows-reply (IsTextBrought (AskRows series)) disk disk store (g.K.Sink.held c.args.sink.now) (g.K.Sink.held c.send_reply.new.sink)
     (g.K.Sink.faults c.args.sink.now) (g.K.Sink.faults c.send_reply.new.sink) (Refused c.in-Some.refusal) c.send_reply.result (still disk) c.requires.open
     c.send_reply.ensures
     (λ told history stands bytes is. is
     ∙ ap (λ b. text_brought b) (brings-refused_series history series c.in-Some.refusal
-    (refuses_query-kept store disk.told.content history (whole_query series) (StoreIsIn-open disk store c.requires.open told) stands ∙ sym c.in-Some.ensures))
+    (refuses_query-kept store disk.told.content history (whole_query series) (StoreIsIn-open disk store c.requires.open told) stands ∙ sym judged))
     ∙ append-nil (reply_line (Refused c.in-Some.refusal))))
 
 pub returns-in_err-at_sink : goal.returns-in_err-at_sink
@@ -36,6 +38,7 @@ returns-in_err-at_sink g c =
     let store = c.args.store.now in
     let series = c.args.series.now in
     let disk = g.D.Disk.seen c.args.disk.now in
+    let judged = c.in_default.ensures ∙ ap (λ q. refuses_query_held store.streams q) c.whole_query.ensures in
     let before = g.K.Sink.held c.args.sink.now in
     let after = g.K.Sink.held c.send_reply-2.new.sink in
     let had = g.K.Sink.faults c.args.sink.now in
@@ -49,7 +52,7 @@ returns-in_err-at_sink g c =
     (λ told history stands bytes is. subst (λ bs. Sends before after bs sent) (sym is)
     (sends-less before after (text_brought (command_brings history (AskRows series))) sent failed
     (series-head history series before after
-    (refuses_query-kept store disk.told.content history (whole_query series) (StoreIsIn-open disk store c.requires.open told) stands ∙ sym c.in_default.ensures)
+    (refuses_query-kept store disk.told.content history (whole_query series) (StoreIsIn-open disk store c.requires.open told) stands ∙ sym judged)
     (subst (λ n. AppendsLess before after (reply_line (SeriesHead n))) c.rows.ensures
     (less-sent before after (reply_line (SeriesHead c.rows.result)) sent failed c.send_reply-2.ensures.sends))))))
 
@@ -58,6 +61,7 @@ returns g c =
     let store = c.args.store.now in
     let series = c.args.series.now in
     let disk = g.D.Disk.seen c.args.disk.now in
+    let judged = c.in_default.ensures ∙ ap (λ q. refuses_query_held store.streams q) c.whole_query.ensures in
     let before = g.K.Sink.held c.args.sink.now in
     let held = g.K.Sink.held c.send_reply-2.new.sink in
     let after = g.K.Sink.held c.send_rows.new.sink in
@@ -68,7 +72,7 @@ returns g c =
       reads = shows.reads;
       sends = λ told history stands bytes is. subst (λ bs. Sends before after bs result) (sym is)
           (series-sent history series before held after result
-          (refuses_query-kept store disk.told.content history (whole_query series) (StoreIsIn-open disk store c.requires.open told) stands ∙ sym c.in_default.ensures)
+          (refuses_query-kept store disk.told.content history (whole_query series) (StoreIsIn-open disk store c.requires.open told) stands ∙ sym judged)
           (subst (λ n. held ≡ appended before (reply_line (SeriesHead n))) c.rows.ensures sent.0)
           (shows.sends told history stands (flat_map reply_line (series_rows (state history) series)) refl));
       counted = subst (λ n. Counted (sink_verdict (ended result)) n (g.K.Sink.faults c.send_rows.new.sink)) sent.1 shows.counted;

@@ -1,0 +1,134 @@
+-- What a certificate brings, and that the evidence that is made for it is right.
+use Rattle.std.proofs.Common.{◌≡◌, ℕ, ◌<◌, true, false, ◌↔◌, List, [], ◌∷◌, length, Ok, Option, Some, None, IsTrue, refl, sym, ap, ◌∙◌, subst, arith}
+use Rattle.std.proofs.Common.{inl, inr}
+use Rattle.std.proofs.lemmas.Bool.{cases_Bool}
+use Rattle.std.proofs.lemmas.List.{length-append}
+use Rattle.std.specs.List.{flat_map}
+use Rattle.std.specs.Prelude.{get_or, is_some, option_map, pos}
+use Rattle.ss_catalog.specs.Queries.{adds_up}
+use Rattle.ss_catalog.specs.declared.query.End.{End}
+use Rattle.ss_catalog.specs.declared.query.Query.{Query}
+use Rattle.ss_catalog.specs.declared.refusal.Refusal.{Refusal}
+use Rattle.ss_certify.proofs.MadeLemmas.{IsEvidence-evidence_of}
+use Rattle.ss_certify.proofs.SharpLemmas.{All-named, HasCuts-seen_of}
+use Rattle.ss_certify.specs.Called.{Checks, evidence_in}
+use Rattle.ss_certify.specs.Evidence.{IsEvidence}
+use Rattle.ss_certify.specs.Made.{evidence_of}
+use Rattle.ss_certify.specs.Told.{head_of, padded, side_of, told}
+use Rattle.ss_certify.specs.declared.evidence.Cert.{Cert}
+use Rattle.ss_certify.specs.declared.evidence.Evidence.{Evidence}
+use Rattle.ss_command.specs.declared.command.Command.TheVariants.{Certify}
+use Rattle.ss_model.specs.Answers.{refuses_query}
+use Rattle.ss_model.specs.Refusals.{stands}
+use Rattle.ss_model.specs.Standing.{IsState, IsStream}
+use Rattle.ss_model.specs.State.{Stream, state, stream_named}
+use Rattle.ss_model.specs.declared.types.Run.{Run}
+use Rattle.ss_journal.proofs.ShownLemmas.{shown-sealed}
+use Rattle.ss_journal.specs.Kept.{IsSealed}
+use Rattle.ss_outside.specs.Disk.{DiskView, OfContent, Told}
+use Rattle.ss_query.specs.Asked.{seen_of}
+use Rattle.ss_records.specs.Kept.{RecordsState, shown_by}
+use Rattle.ss_report.specs.Text.{reply_line}
+use Rattle.ss_report.specs.declared.reply.Reply.{Reply}
+use Rattle.ss_report.specs.declared.reply.Reply.TheVariants.{Refused}
+use Rattle.ss_store.specs.Kept.{StoreState}
+use Rattle.ss_store.specs.Recover.{Recovers}
+use Rattle.ss_store.proofs.KeptStates.{Recovers-StoreIsIn}
+use Rattle.ss_program.specs.Answer.{IsOpen}
+use Rattle.ss_program.specs.Certifying.{HasEvidence}
+use Rattle.ss_program.specs.Line.{Brought, History, certified, command_brings, refused, shown, text_brought, unless_refused}
+use Rattle.ss_program.proofs.AnswerLemmas.{StoreIsIn-open, reply_line-some}
+
+-- ---- the evidence that a state has
+
+-- where there is evidence, its stream stands
+mapped : {A B : Type 0} (f : A → B) (o : Option A) (b : B) → option_map f o ≡ Some b → (a : A) × (o ≡ Some a) × (f a ≡ b)
+mapped f None b same = cc
+mapped f (Some a) b same = (a, refl, cc)
+
+-- a query that isn't refused asks a stream that stands
+pub query-stands : (streams : List Stream) (query : Query) → refuses_query streams query ≡ None → stands query.name streams ≡ true
+unfolding refuses_query
+query-stands streams query none = elim (cases_Bool (stands query.name streams)) [
+  | inl known ↦ known
+  | inr unknown ↦ (let wrong = rw unknown at none in cc)
+]
+
+-- so it has evidence
+some-mapped : {A B : Type 0} (f : A → B) (o : Option A) → is_some o ≡ true → (b : B) × (option_map f o ≡ Some b)
+some-mapped f None known = (let wrong : false ≡ true = known in cc)
+some-mapped f (Some a) known = (f a, refl)
+
+pub evidence-known : (streams : List Stream) (query : Query) (end : End) → refuses_query streams query ≡ None →
+    (w : Evidence) × (evidence_in streams query end ≡ Some w)
+evidence-known streams query end none =
+    some-mapped (λ s. evidence_of query.kind end (seen_of query.from query.to s)) (stream_named query.name streams) (query-stands streams query none)
+
+-- and that is right
+pub evidence-right : (streams : List Stream) (query : Query) (end : End) (w : Evidence) → IsState streams → adds_up query.kind ≡ true →
+    evidence_in streams query end ≡ Some w →
+    (s : Stream) × (stream_named query.name streams ≡ Some s) × IsStream s × IsEvidence query.kind end (seen_of query.from query.to s) w
+evidence-right streams query end w is adds has =
+    let found = mapped (λ s. evidence_of query.kind end (seen_of query.from query.to s)) (stream_named query.name streams) w has in
+    let sound = All-named IsStream query.name streams found.0 is.each found.1 in
+    let seen = seen_of query.from query.to found.0 in (
+      found.0,
+      found.1,
+      sound,
+      subst (λ e. IsEvidence query.kind end seen e) found.2
+          (IsEvidence-evidence_of query.kind end seen adds (HasCuts-seen_of query.from query.to found.0 sound)),
+    )
+
+-- where nothing is staged the content is what is shown
+pub Recovers-shown : (records : RecordsState) (content : List ℕ) (streams : List Stream) → IsSealed records.journal → Recovers streams content →
+    Recovers streams (shown_by records content)
+Recovers-shown records content streams sealed recovers = subst (Recovers streams) (sym (shown-sealed records.journal content sealed)) recovers
+
+-- so what a store makes isn't found wrong, on a disk that tells
+pub never-wrong : (store : StoreState) (disk : DiskView) (query : Query) (end : End) (w : Evidence) (new : Told) → IsOpen disk store →
+    adds_up query.kind ≡ true → OfContent disk (HasEvidence query end w) →
+    (IsTrue disk.tells → Checks store.records query end w (Ok false) disk.told new) → IsTrue disk.tells → ⊥
+never-wrong store disk query end w new opens adds made checks told =
+    let content = disk.told.content in
+    let kept = StoreIsIn-open disk store opens told in
+    let recovers = Recovers-StoreIsIn store content kept in
+    let right = evidence-right kept.streams query end w kept.state adds (made told kept.streams recovers) in
+    let checked = (checks told).checked kept.streams (Recovers-shown store.records content kept.streams opens.sealed recovers) in
+    let found : IsTrue false ↔ IsEvidence query.kind end (seen_of query.from query.to right.0) w = rw right.1 at checked in
+    let wrong : false ≡ true = found.1 right.3 in
+    cc
+
+-- ---- what a line of it brings
+
+-- a query whose certificate is asked for that is refused brings its refusal
+pub brings-refused_certify : (history : History) (query : Query) (end : End) (refusal : Refusal) → refuses_query (state history) query ≡ Some refusal →
+    command_brings history (Certify query end) ≡ refused refusal
+brings-refused_certify history query end refusal is =
+    ap (λ r. unless_refused r (shown (certified (evidence_in (state history) query end)))) is
+
+-- and one that isn't brings the lines of its evidence
+pub brings-certified : (history : History) (query : Query) (end : End) (w : Evidence) → refuses_query (state history) query ≡ None →
+    evidence_in (state history) query end ≡ Some w → command_brings history (Certify query end) ≡ shown (told w)
+brings-certified history query end w none is =
+    ap (λ r. unless_refused r (shown (certified (evidence_in (state history) query end)))) none ∙ ap (λ o. shown (certified o)) is
+
+-- so it brings a reply
+head-some : (head : Reply) (rows : List Reply) → 0 < length (flat_map reply_line (head ∷ rows))
+head-some head rows = omega (arith, reply_line-some head, length-append (reply_line head) (flat_map reply_line rows))
+
+pub certified-some : (history : History) (query : Query) (end : End) → refuses_query (state history) query ≡ None →
+    0 < length (text_brought (command_brings history (Certify query end)))
+certified-some history query end none =
+    let known = evidence-known (state history) query end none in
+    subst (λ (b : Brought). 0 < length (text_brought b)) (sym (brings-certified history query end known.0 none known.1))
+    (head-some (head_of known.0) (flat_map (λ c. side_of c true ∷ side_of c false ∷ []) known.0.certs.items))
+
+-- ---- its lines
+
+-- three runs, one by one
+pub three-padded : (runs : List Run) (none : Run) → none ≡ record { value = pos 0; times = 0 } →
+    get_or runs 0 none ∷ get_or runs 1 none ∷ get_or runs 2 none ∷ [] ≡ padded runs
+three-padded [] none is = rw is refl
+three-padded (a ∷ []) none is = rw is refl
+three-padded (a ∷ b ∷ []) none is = rw is refl
+three-padded (a ∷ b ∷ c ∷ rest) none is = refl

@@ -1,0 +1,30 @@
+use Rattle.std.proofs.Common.{Err, ap}
+use Rattle.ss_program.proofs.CertifyLemmas.{Recovers-shown}
+use Rattle.ss_program.proofs.certifying.make_evidence.Goals as goal
+
+pub returns-in-Ok-clause-finds : goal.returns-in-Ok-clause-finds
+returns-in-Ok-clause-finds g c =
+    let makes = c.in-Ok.ensures.makes in
+    record {
+      tells = makes.tells;
+      counted = makes.counted;
+      told = λ told. record {
+        evidence = λ streams recovers. (makes.told told).made streams
+            (Recovers-shown c.args.store.now.records (g.D.Disk.seen c.args.disk.now).told.content streams c.requires.open.sealed recovers);
+        reads = (makes.told told).reads;
+      };
+    }
+
+pub returns-in-Err-Disk-clause-finds : goal.returns-in-Err-Disk-clause-finds
+returns-in-Err-Disk-clause-finds g c =
+    let makes = rw c.in-Err-Disk.field-0-is at c.in-Err-Disk.ensures.makes in
+    record {
+      tells = makes.tells;
+      counted = makes.counted;
+      told = λ told. record { evidence = tt; reads = (makes.told told).reads };
+    }
+
+pub unreachable-requires : goal.unreachable-requires
+unreachable-requires g c =
+    let refused = (c.in-Err-Refused.ensures.refused c.requires.open.serves.runs _).0 (ap (λ e. Err e) c.in-Err-Refused.field-0-is) in
+    cc (refused, c.requires.taken)

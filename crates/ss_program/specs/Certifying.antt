@@ -1,0 +1,38 @@
+-- What showing a certificate does, and what is said of its evidence.
+use Rattle.std.specs.Prelude.{◌≡◌, ℕ, List, IfOk, Result, Some}
+use Rattle.ss_catalog.specs.declared.query.End.{End}
+use Rattle.ss_catalog.specs.declared.query.Query.{Query}
+use Rattle.ss_certify.specs.Called.{evidence_in}
+use Rattle.ss_certify.specs.Evidence.{end_asked, IsEvidence}
+use Rattle.ss_certify.specs.declared.evidence.Evidence.{Evidence}
+use Rattle.ss_contents.specs.Attained.{IsTruthOfLike}
+use Rattle.ss_contents.specs.Contents.{contents_of}
+use Rattle.ss_model.specs.Answers.{outcome_of}
+use Rattle.ss_model.specs.State.{Stream, state, stream_named}
+use Rattle.ss_model.specs.declared.outcome.Outcome.{Outcome}
+use Rattle.ss_outside.specs.Crash.{OnlyReads}
+use Rattle.ss_outside.specs.Disk.{Told}
+use Rattle.ss_query.specs.Asked.{seen_of}
+use Rattle.ss_store.specs.Recover.{Recovers}
+use Rattle.ss_program.specs.Line.{History}
+use Rattle.ss_program.specs.declared.status.Status.{Status}
+
+-- the content has this evidence: it is that of each state to which it recovers
+abbrev pub HasEvidence : Query → End → Evidence → List ℕ → Type 0
+HasEvidence query end w content = (streams : List Stream) → Recovers streams content → evidence_in streams query end ≡ Some w
+
+-- Evidence for an end of the answer to a query that isn't refused is found. Content and images stay.
+pub record FindsEvidence (query : Query) (end : End) (result : Result Evidence Status) (old new : Told) : Type 0 where
+  pub evidence : IfOk result (λ w. HasEvidence query end w old.content)
+  pub reads : OnlyReads old new
+
+-- After a history, evidence shows of a stream that this end of the answer can't be narrower: contents like those of the stream have
+-- it as their true answer.
+pub record IsSharp (history : History) (query : Query) (end : End) (w : Evidence) : Type 0 where
+  pub stream : Stream
+  pub outcome : Outcome
+  pub named : stream_named query.name (state history) ≡ Some stream
+  pub evidence : IsEvidence query.kind end (seen_of query.from query.to stream) w
+  pub attained : IsTruthOfLike (contents_of history stream) query w.answer
+  pub answered : outcome_of (state history) query ≡ Some outcome
+  pub asked : end_asked end outcome ≡ Some w.answer
