@@ -1,5 +1,5 @@
 // What a store holds after runs that stop with the disk.
-use crate::devices::{CHECK, GEN, READINGS, RUN, answer_on, disk_of, front};
+use crate::devices::{BATCH, CHECK, GEN, READINGS, RUN, answer_on, disk_of, front};
 use crate::images::{shown, shown_at, shows};
 use crate::scripts::{ASKS, SEVEN, SIX};
 use ss_outside::{Choice, MemDisk};
@@ -38,17 +38,19 @@ fn call_after(alloc: Global, syncs: u64) -> Result<u64, AllocError> {
 const SEVENTH_GATE: u64 = 3 + 2 * (1 + 7);
 
 // How many good syncs a run over an input makes of a disk that holds nothing.
-fn syncs_over(alloc: Global, input: &str) -> Result<u64, AllocError> {
+fn syncs_over(alloc: Global, words: &[&str], input: &str) -> Result<u64, AllocError> {
     let mut disk = disk_of(alloc, &[])?;
-    let _ = answer_on(alloc, RUN, &mut disk, input)?;
+    let _ = answer_on(alloc, words, &mut disk, input)?;
     Ok(disk.syncs())
 }
 
-// A birth makes 3 syncs, and each of the worked row's 8 events 2, with the 4 merges that they make.
+// A birth makes 3 syncs, and each of the worked row's 8 events 2, with the 4 merges that they make. In a batch that is read at once
+// all of them make 2.
 #[test]
 fn each_event_with_its_merges_is_two_syncs(rt: HostRuntime) -> Result<(), Fail> {
-    for (input, syncs) in [("", 3), (READINGS, 19), ("list\n", 3)] {
-        assert_eq!(rt; syncs_over(rt.alloc(), input)?, syncs, "{input}");
+    for (input, each, shared) in [("", 3, 3), (READINGS, 19, 5), ("list\n", 3, 3)] {
+        assert_eq!(rt; syncs_over(rt.alloc(), RUN, input)?, each, "{input}");
+        assert_eq!(rt; syncs_over(rt.alloc(), BATCH, input)?, shared, "{input}");
     }
     Ok(())
 }

@@ -20,6 +20,8 @@ pub fn front(replies: usize) -> &'static [u8] {
 
 pub const RUN: &[&str] = &["summarystore", "readings.store"];
 
+pub const BATCH: &[&str] = &["summarystore", "readings.store", "batch"];
+
 pub const CHECK: &[&str] = &["summarystore", "readings.store", "check"];
 
 pub const GEN: &[&str] = &["summarystore", "readings.store", "gen", "0", "1"];
@@ -63,17 +65,28 @@ pub fn run_on<S: Source, K: Sink>(
     Ok(run(alloc, &words, disk, source, sink))
 }
 
-// The status of a run on a disk, over an input, and what was written.
+// The status of a run on a disk, over an input of which each read gives so many bytes, and what was written.
+pub fn answer_in_pieces(
+    alloc: Global,
+    words: &[&str],
+    disk: &mut MemDisk,
+    input: &str,
+    piece: usize,
+) -> Result<(u8, Vec<u8>), AllocError> {
+    let mut source = source_of(alloc, input, piece.max(1), &[])?;
+    let mut sink = MemSink::new(alloc);
+    let status = run_on(alloc, words, disk, &mut source, &mut sink)?;
+    Ok((status, sink.held().to_vec(alloc)?))
+}
+
+// The same of one that is read at once, where it has at most 4096 bytes.
 pub fn answer_on(
     alloc: Global,
     words: &[&str],
     disk: &mut MemDisk,
     input: &str,
 ) -> Result<(u8, Vec<u8>), AllocError> {
-    let mut source = source_of(alloc, input, 4096, &[])?;
-    let mut sink = MemSink::new(alloc);
-    let status = run_on(alloc, words, disk, &mut source, &mut sink)?;
-    Ok((status, sink.held().to_vec(alloc)?))
+    answer_in_pieces(alloc, words, disk, input, 4096)
 }
 
 // The program on a disk that holds nothing.

@@ -1,7 +1,9 @@
 // Reports of inputs, in whatever pieces they are read and written.
 ghost use Rattle.std.specs.Prelude.{◌<◌, Some};
 
-use crate::devices::{READINGS, REPORT, RUN, disk_of, ends_in, front, run_anew, run_on, source_of};
+use crate::devices::{
+    BATCH, READINGS, REPORT, RUN, disk_of, ends_in, front, run_anew, run_on, source_of,
+};
 use ss_outside::{Failed, MemDisk, MemSink, Sink, SteadySink, SteadySource};
 use ss_program::complaint;
 use std::alloc::{AllocError, Global};
@@ -109,17 +111,25 @@ const MARKED_REPORT: &str = "ok 0 0\nok 0 0\nok 0 0\nok 0 0\nrefused TIME\nok 1 
 const USAGE: &str = "usage: summarystore STORE [run | check | gen SEED COUNT]\n";
 
 // Whether an input in pieces has this report.
-fn has_report(alloc: Global, input: &str, piece: usize, report: &str) -> Result<bool, AllocError>
+fn has_report(
+    alloc: Global,
+    words: &[&str],
+    input: &str,
+    piece: usize,
+    report: &str,
+) -> Result<bool, AllocError>
     requires { 0 < piece }
 {
     let mut source = source_of(alloc, input, piece, &[])?;
-    ends_in(alloc, RUN, &mut source, &[], 0, report.as_bytes())
+    ends_in(alloc, words, &mut source, &[], 0, report.as_bytes())
 }
 
-// The same, in whatever pieces.
+// The same, in whatever pieces, and also in a batch.
 fn is_reported(alloc: Global, input: &str, report: &str) -> Result<bool, AllocError> {
-    for piece in [1, 3, 4096] {
-        if !has_report(alloc, input, piece, report)? {
+    for piece in [1, 3, 64, 4096] {
+        if !has_report(alloc, RUN, input, piece, report)?
+            || !has_report(alloc, BATCH, input, piece, report)?
+        {
             return Ok(false);
         }
     }
@@ -204,7 +214,7 @@ fn created(alloc: Global) -> Result<String, AllocError> {
 fn so_many_streams_stand_and_no_more(rt: HostRuntime) -> Result<(), Fail> {
     let input = creates(rt.alloc(), 4097)?;
     let report = created(rt.alloc())?;
-    assert!(rt; has_report(rt.alloc(), &input, 4096, &report)?);
+    assert!(rt; has_report(rt.alloc(), RUN, &input, 4096, &report)?);
     Ok(())
 }
 
@@ -212,17 +222,21 @@ fn so_many_streams_stand_and_no_more(rt: HostRuntime) -> Result<(), Fail> {
 const REPLIES: [usize; 15] = [0, 0, 0, 1, 2, 2, 3, 4, 4, 5, 6, 6, 7, 7, 8];
 
 // Whether the worked row ends at a read that fails.
-fn ends_at_read(alloc: Global, call: usize) -> Result<bool, AllocError>
+fn ends_at_read(alloc: Global, words: &[&str], call: usize) -> Result<bool, AllocError>
     requires { call < 15 }
 {
     let mut source = source_of(alloc, READINGS, 9, &[call as u64])?;
-    ends_in(alloc, RUN, &mut source, &[], 5, front(REPLIES[call]))
+    ends_in(alloc, words, &mut source, &[], 5, front(REPLIES[call]))
 }
 
 #[test]
 fn each_failing_read_ends_the_run(rt: HostRuntime) -> Result<(), Fail> {
     for call in 0..15 {
-        assert!(rt; ends_at_read(rt.alloc(), call)?, "read {call}");
+        assert!(rt; ends_at_read(rt.alloc(), RUN, call)?, "read {call}");
+        assert!(rt;
+            ends_at_read(rt.alloc(), BATCH, call)?,
+            "read {call} of a batch"
+        );
     }
     Ok(())
 }

@@ -22,6 +22,20 @@ impl Script {
             None => &[],
         }
     }
+
+    // What is shown after each number of events from the first to the last of these.
+    pub fn between(
+        &self,
+        alloc: Global,
+        first: usize,
+        last: usize,
+    ) -> Result<Vec<&[u8]>, AllocError> {
+        let mut texts = Vec::new(alloc);
+        for events in first..=last {
+            texts.push(self.after(events))?;
+        }
+        Ok(texts)
+    }
 }
 
 pub const ASKS: &str = "windows a\nlist\n";

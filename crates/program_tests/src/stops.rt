@@ -1,5 +1,7 @@
 // What runs leave that end at a call of a device.
-use crate::devices::{READINGS, RUN, answer_on, disk_of, front, run_on, source_of};
+use crate::devices::{
+    BATCH, READINGS, RUN, answer_in_pieces, answer_on, disk_of, front, run_on, source_of,
+};
 use crate::images::{CRASHES, is_like_lost, shown_at, shows};
 use crate::scripts::{ASKS, Script, counting, readings, spanned};
 use ss_outside::{Choice, MemDisk, MemSink};
@@ -20,22 +22,66 @@ fn lines_of(written: &[u8]) -> usize {
     lines
 }
 
+// How a script is run.
+#[derive(Drop)]
+struct Way {
+    words: &'static [&'static str],
+    // How many bytes a read gives.
+    piece: usize,
+    // How many events may stand beyond those whose replies were written.
+    ahead: usize,
+}
+
+// Each event is sealed and replied to before the next one is read.
+const PLAIN: Way = Way {
+    words: RUN,
+    piece: 4096,
+    ahead: 1,
+};
+
+// A batch of the worked row, of which each read gives four lines: the fourth ends at byte 62, and the last at 118.
+const FOURS: Way = Way {
+    words: BATCH,
+    piece: 64,
+    ahead: 4,
+};
+
+// A batch of which all is read at once.
+fn at_once(script: &Script) -> Way {
+    Way {
+        words: BATCH,
+        piece: 4096,
+        ahead: lines_of(script.report.as_bytes()),
+    }
+}
+
+// Whether each crash shows what stands after `from` events of a script, or after at most `ahead` more.
+fn shows_events(
+    alloc: Global,
+    script: &Script,
+    disk: &MemDisk,
+    from: usize,
+    ahead: usize,
+) -> Result<bool, AllocError> {
+    let texts = script.between(alloc, from, from.saturating_add(ahead))?;
+    shows(alloc, disk, script.asks, texts.as_slice())
+}
+
 // Whether a run over a script came to its end, or `None` where it ended otherwise than it should, or a crash doesn't show what it
-// acknowledged or one event more.
+// acknowledged or what it may have made beyond that.
 fn kept_its_word(
     alloc: Global,
     script: &Script,
+    way: &Way,
     disk: &MemDisk,
     answer: &(u8, Vec<u8>),
 ) -> Result<Option<bool>, AllocError> {
     let (status, written) = answer;
     let written = written.as_slice();
     let is_whole = written == script.report.as_bytes();
-    let events = lines_of(written);
-    let texts = [script.after(events), script.after(events.saturating_add(1))];
     let is_front = script.report.as_bytes().starts_with(written);
     let is_right = is_front && *status == if is_whole { 0 } else { 4 };
-    if is_right && shows(alloc, disk, script.asks, &texts)? {
+    if is_right && shows_events(alloc, script, disk, lines_of(written), way.ahead)? {
         Ok(Some(is_whole))
     } else {
         Ok(None)
@@ -43,9 +89,15 @@ fn kept_its_word(
 }
 
 // The same of a run over this disk.
-fn ends_on(alloc: Global, script: &Script, disk: &mut MemDisk) -> Result<Option<bool>, AllocError> {
-    let answer = answer_on(alloc, RUN, disk, script.input.as_str())?;
-    kept_its_word(alloc, script, disk, &answer)
+fn ends_on(
+    alloc: Global,
+    script: &Script,
+    way: &Way,
+    disk: &mut MemDisk,
+) -> Result<Option<bool>, AllocError> {
+    let input = script.input.as_str();
+    let answer = answer_in_pieces(alloc, way.words, disk, input, way.piece)?;
+    kept_its_word(alloc, script, way, disk, &answer)
 }
 
 // A disk that holds nothing, on which this call fails, or all from this one on.
@@ -61,10 +113,15 @@ fn failing_at(alloc: Global, call: u64, all: bool) -> Result<MemDisk, AllocError
 
 // The first of the calls that a run over a script makes after whose failure something is lost. It fails alone, or with all later
 // ones.
-fn first_lost(alloc: Global, script: &Script, all: bool) -> Result<Option<u64>, AllocError> {
+fn first_lost(
+    alloc: Global,
+    script: &Script,
+    way: &Way,
+    all: bool,
+) -> Result<Option<u64>, AllocError> {
     for call in 0..MOST {
         let mut disk = failing_at(alloc, call, all)?;
-        match ends_on(alloc, script, &mut disk)? {
+        match ends_on(alloc, script, way, &mut disk)? {
             None => return Ok(Some(call)),
             Some(true) => return Ok(None),
             Some(false) => {}
@@ -80,7 +137,11 @@ fn each_stop_leaves_what_was_acknowledged(rt: HostRuntime) -> Result<(), Fail> {
         spanned(rt.alloc())?,
         counting(rt.alloc())?,
     ] {
-        assert_eq!(rt; first_lost(rt.alloc(), &script, true)?, None);
+        assert_eq!(rt; first_lost(rt.alloc(), &script, &PLAIN, true)?, None);
+        assert_eq!(rt;
+            first_lost(rt.alloc(), &script, &at_once(&script), true)?,
+            None
+        );
     }
     Ok(())
 }
@@ -88,7 +149,9 @@ fn each_stop_leaves_what_was_acknowledged(rt: HostRuntime) -> Result<(), Fail> {
 #[test]
 fn each_failing_call_leaves_what_was_acknowledged(rt: HostRuntime) -> Result<(), Fail> {
     let script = readings(rt.alloc())?;
-    assert_eq!(rt; first_lost(rt.alloc(), &script, false)?, None);
+    assert_eq!(rt; first_lost(rt.alloc(), &script, &PLAIN, false)?, None);
+    assert_eq!(rt; first_lost(rt.alloc(), &script, &FOURS, false)?, None);
+    assert_eq!(rt; first_lost(rt.alloc(), &script, &FOURS, true)?, None);
     Ok(())
 }
 
@@ -241,22 +304,65 @@ const FAULTS: [Fault; 11] = [
     },
 ];
 
+// The same of a batch, where each put has the replies of all lines that a read gave.
+const BATCH_FAULTS: [Fault; 5] = [
+    Fault {
+        reads: &[0],
+        puts: &[],
+        status: 5,
+        replies: 0,
+        events: 0,
+    },
+    Fault {
+        reads: &[1],
+        puts: &[],
+        status: 5,
+        replies: 4,
+        events: 4,
+    },
+    Fault {
+        reads: &[2],
+        puts: &[],
+        status: 5,
+        replies: 8,
+        events: 8,
+    },
+    Fault {
+        reads: &[],
+        puts: &[0],
+        status: 6,
+        replies: 0,
+        events: 4,
+    },
+    Fault {
+        reads: &[],
+        puts: &[1],
+        status: 6,
+        replies: 4,
+        events: 8,
+    },
+];
+
 // Whether it ends the run so.
-fn ends_by(alloc: Global, fault: &Fault, shown: &[u8]) -> Result<bool, AllocError> {
+fn ends_by(alloc: Global, words: &[&str], fault: &Fault, shown: &[u8]) -> Result<bool, AllocError> {
     let mut disk = disk_of(alloc, &[])?;
     let mut source = source_of(alloc, READINGS, 64, fault.reads)?;
     let mut sink = MemSink::new(alloc);
     sink.fail_at(fault.puts.to_vec(alloc)?);
-    let status = run_on(alloc, RUN, &mut disk, &mut source, &mut sink)?;
+    let status = run_on(alloc, words, &mut disk, &mut source, &mut sink)?;
     let is_told = status == fault.status && sink.held() == front(fault.replies);
     Ok(is_told && shows(alloc, &disk, ASKS, &[shown])?)
 }
 
 // The first of the faults that doesn't.
-fn first_other(alloc: Global) -> Result<Option<usize>, AllocError> {
+fn first_other(
+    alloc: Global,
+    words: &[&str],
+    faults: &[Fault],
+) -> Result<Option<usize>, AllocError> {
     let script = readings(alloc)?;
-    for (k, fault) in FAULTS.iter().enumerate() {
-        if !ends_by(alloc, fault, script.after(fault.events))? {
+    for (k, fault) in faults.iter().enumerate() {
+        if !ends_by(alloc, words, fault, script.after(fault.events))? {
             return Ok(Some(k));
         }
     }
@@ -265,6 +371,7 @@ fn first_other(alloc: Global) -> Result<Option<usize>, AllocError> {
 
 #[test]
 fn each_fault_of_source_and_sink_leaves_what_came_before(rt: HostRuntime) -> Result<(), Fail> {
-    assert_eq!(rt; first_other(rt.alloc())?, None);
+    assert_eq!(rt; first_other(rt.alloc(), RUN, &FAULTS)?, None);
+    assert_eq!(rt; first_other(rt.alloc(), BATCH, &BATCH_FAULTS)?, None);
     Ok(())
 }
