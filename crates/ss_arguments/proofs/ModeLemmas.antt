@@ -8,7 +8,7 @@ use Rattle.std.specs.Str.Parse.{starts_with_minus}
 use Rattle.ss_generator.specs.declared.TheConstants.{MOST_COUNT}
 use Rattle.ss_arguments.specs.declared.mode.Mode.{Mode}
 use Rattle.ss_arguments.specs.declared.mode.Mode.TheVariants.{Run, Batch, Check, Gen}
-use Rattle.ss_arguments.specs.Modes.{asked, count_of, gen_of, mode_of, named, seed_of, words_of}
+use Rattle.ss_arguments.specs.Modes.{mode_asked, count_of, gen_of, mode_of, named, seed_of, words_of}
 use Rattle.ss_arguments.proofs.NumberLemmas.{number_between-in_range, number_between-option}
 
 -- a word that begins with `-` is no name of a mode
@@ -34,7 +34,7 @@ either_way false mode e = refl
 
 option_among_three : (a b d : List ℕ) (p q r : Bool) → starts_with_minus a ≡ p → starts_with_minus b ≡ q → starts_with_minus d ≡ r →
     (p || (q || (r || false))) ≡ true
-    → asked (a ∷ b ∷ d ∷ []) ≡ None
+    → mode_asked (a ∷ b ∷ d ∷ []) ≡ None
 option_among_three a b d true q r ea eb ed some = rw (gen-option a ea) refl
 option_among_three a b d false true r ea eb ed some = either_way _ _ (ap (λ seed. gen_of seed (count_of d)) (number_between-option 0 (2 ^ 64 - 1) b eb))
 option_among_three a b d false false true ea eb ed some =
@@ -46,18 +46,18 @@ or_false true e = refl
 or_false false e = e
 
 -- words of which one begins with `-` ask for nothing
-pub asked-option : (words : List (List ℕ)) → list_any starts_with_minus words ≡ true → asked words ≡ None
-asked-option [] some = cc
-asked-option (a ∷ []) some = named-option a (or_false _ some)
-asked-option (a ∷ b ∷ []) some = refl
-asked-option (a ∷ b ∷ d ∷ []) some = option_among_three a b d _ _ _ refl refl refl some
-asked-option (a ∷ b ∷ d ∷ e ∷ rest) some = refl
+pub mode_asked-option : (words : List (List ℕ)) → list_any starts_with_minus words ≡ true → mode_asked words ≡ None
+mode_asked-option [] some = cc
+mode_asked-option (a ∷ []) some = named-option a (or_false _ some)
+mode_asked-option (a ∷ b ∷ []) some = refl
+mode_asked-option (a ∷ b ∷ d ∷ []) some = option_among_three a b d _ _ _ refl refl refl some
+mode_asked-option (a ∷ b ∷ d ∷ e ∷ rest) some = refl
 
 -- so do all the words, where it stands after the path
 pub mode_of-option : (words : List (List ℕ)) → list_any starts_with_minus (drop 2 words) ≡ true → mode_of words ≡ None
 mode_of-option [] some = refl
 mode_of-option (program ∷ []) some = refl
-mode_of-option (program ∷ path ∷ arguments) some = asked-option arguments some
+mode_of-option (program ∷ path ∷ arguments) some = mode_asked-option arguments some
 
 -- the numbers of `gen` are in their ranges
 abbrev pub AreInRange : ℕ → ℕ → Type 0
@@ -85,20 +85,20 @@ chosen_gen : (b : Bool) (mode : Option Mode) (seed count : ℕ) → cond b mode 
 chosen_gen true mode seed count e = e
 chosen_gen false mode seed count e = cc
 
-asked-gen : (words : List (List ℕ)) (seed count : ℕ) → asked words ≡ Some (Gen seed count) → AreInRange seed count
-asked-gen [] seed count e = cc
-asked-gen (a ∷ []) seed count e = named-gen _ _ _ seed count e
-asked-gen (a ∷ b ∷ []) seed count e = cc
-asked-gen (a ∷ b ∷ d ∷ []) seed count e = gen_of-in_range b d _ _ seed count refl refl (chosen_gen _ _ seed count e)
-asked-gen (a ∷ b ∷ d ∷ f ∷ rest) seed count e = cc
+mode_asked-gen : (words : List (List ℕ)) (seed count : ℕ) → mode_asked words ≡ Some (Gen seed count) → AreInRange seed count
+mode_asked-gen [] seed count e = cc
+mode_asked-gen (a ∷ []) seed count e = named-gen _ _ _ seed count e
+mode_asked-gen (a ∷ b ∷ []) seed count e = cc
+mode_asked-gen (a ∷ b ∷ d ∷ []) seed count e = gen_of-in_range b d _ _ seed count refl refl (chosen_gen _ _ seed count e)
+mode_asked-gen (a ∷ b ∷ d ∷ f ∷ rest) seed count e = cc
 
 pub mode_of-gen : (words : List (List ℕ)) (seed count : ℕ) → mode_of words ≡ Some (Gen seed count) → AreInRange seed count
 mode_of-gen [] seed count e = cc
 mode_of-gen (program ∷ []) seed count e = cc
-mode_of-gen (program ∷ path ∷ arguments) seed count e = asked-gen arguments seed count e
+mode_of-gen (program ∷ path ∷ arguments) seed count e = mode_asked-gen arguments seed count e
 
 -- the mode by what stands after the path
-pub mode_of-drop : {A : Type 0} (words : List (String A)) → 2 ≤ length words → mode_of (words_of words) ≡ asked (words_of (drop 2 words))
+pub mode_of-drop : {A : Type 0} (words : List (String A)) → 2 ≤ length words → mode_of (words_of words) ≡ mode_asked (words_of (drop 2 words))
 mode_of-drop [] some = absurd (omega arith)
 mode_of-drop (program ∷ []) some = absurd (omega arith)
 mode_of-drop (program ∷ path ∷ arguments) some = refl

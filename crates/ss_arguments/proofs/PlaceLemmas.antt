@@ -20,7 +20,7 @@ use Rattle.clap.specs.declared.parser.matches.ArgMatches.{ArgMatches}
 use Rattle.clap.specs.Matches.{first_value, found_of}
 use Rattle.clap.specs.Values.{kind_of}
 use Rattle.clap.proofs.WalkLemmas.{first_value-rows}
-use Rattle.ss_arguments.specs.Modes.{asked}
+use Rattle.ss_arguments.specs.Modes.{mode_asked}
 use Rattle.ss_arguments.specs.Places.{by_place, three_words}
 use Rattle.ss_arguments.specs.declared.mode.Mode.{Mode}
 
@@ -162,22 +162,22 @@ neither false q e = (refl, e)
 neither true q e = cc
 
 -- where the command takes the words, its matches ask for what the words ask for
-pub asked-taken : (words : List Text) → list_any starts_with_minus words ≡ false → fault_of three_words words ≡ [] →
-    mode_by_rows (matches_of three_words words) ≡ asked words
-asked-taken [] plain taken = refl
-asked-taken (a ∷ []) plain taken =
+pub mode_asked-taken : (words : List Text) → list_any starts_with_minus words ≡ false → fault_of three_words words ≡ [] →
+    mode_by_rows (matches_of three_words words) ≡ mode_asked words
+mode_asked-taken [] plain taken = refl
+mode_asked-taken (a ∷ []) plain taken =
     let p = neither _ _ plain in
     ap mode_by_walk (walk_1 a p.0)
-asked-taken (a ∷ b ∷ []) plain taken =
+mode_asked-taken (a ∷ b ∷ []) plain taken =
     let p = neither _ _ plain in
     let q = neither _ _ p.1 in
     ap mode_by_walk (walk_2 a b p.0 q.0)
-asked-taken (a ∷ b ∷ d ∷ []) plain taken =
+mode_asked-taken (a ∷ b ∷ d ∷ []) plain taken =
     let p = neither _ _ plain in
     let q = neither _ _ p.1 in
     let r = neither _ _ q.1 in
     ap mode_by_walk (walk_3 a b d p.0 q.0 r.0)
-asked-taken (a ∷ b ∷ d ∷ e ∷ rest) plain taken =
+mode_asked-taken (a ∷ b ∷ d ∷ e ∷ rest) plain taken =
     let p = neither _ _ plain in
     let q = neither _ _ p.1 in
     let r = neither _ _ q.1 in
@@ -186,29 +186,29 @@ asked-taken (a ∷ b ∷ d ∷ e ∷ rest) plain taken =
     cc
 
 -- where it refuses them, they ask for nothing
-pub asked-refused : (words : List Text) (kind : ErrorKind) → list_any starts_with_minus words ≡ false → IsAmong kind (fault_of three_words words) →
-    asked words ≡ None
-asked-refused [] kind plain among = absurd (rw fault_of-0 at among)
-asked-refused (a ∷ []) kind plain among =
+pub mode_asked-refused : (words : List Text) (kind : ErrorKind) → list_any starts_with_minus words ≡ false → IsAmong kind (fault_of three_words words) →
+    mode_asked words ≡ None
+mode_asked-refused [] kind plain among = absurd (rw fault_of-0 at among)
+mode_asked-refused (a ∷ []) kind plain among =
     let p = neither _ _ plain in
     absurd (rw (fault_of-1 a p.0) at among)
-asked-refused (a ∷ b ∷ []) kind plain among =
+mode_asked-refused (a ∷ b ∷ []) kind plain among =
     let p = neither _ _ plain in
     let q = neither _ _ p.1 in
     absurd (rw (fault_of-2 a b p.0 q.0) at among)
-asked-refused (a ∷ b ∷ d ∷ []) kind plain among =
+mode_asked-refused (a ∷ b ∷ d ∷ []) kind plain among =
     let p = neither _ _ plain in
     let q = neither _ _ p.1 in
     let r = neither _ _ q.1 in
     absurd (rw (fault_of-3 a b d p.0 q.0 r.0) at among)
-asked-refused (a ∷ b ∷ d ∷ e ∷ rest) kind plain among = refl
+mode_asked-refused (a ∷ b ∷ d ∷ e ∷ rest) kind plain among = refl
 
 -- a parse that succeeds, by the values of its matches
-pub asked-matches : (app : App) (words : List Text) (matches : ArgMatches) → app ≡ three_words → list_any starts_with_minus words ≡ false
+pub mode_asked-matches : (app : App) (words : List Text) (matches : ArgMatches) → app ≡ three_words → list_any starts_with_minus words ≡ false
     → (is_simple_and_free app ≡ true → fault_of app words ≡ []) → HasMatchesOf app words matches
     → by_place (first_value (found_of matches) (codes "mode")) (first_value (found_of matches) (codes "seed"))
-    (first_value (found_of matches) (codes "count")) ≡ asked words
-asked-matches app words matches is plain kinds has =
+    (first_value (found_of matches) (codes "count")) ≡ mode_asked words
+mode_asked-matches app words matches is plain kinds has =
     let rows : rows_of (found_of matches) ≡ matches_of three_words words = (has (ap is_simple is)).0 ∙ ap (λ a. matches_of a words) is in
     let taken : fault_of three_words words ≡ [] = ap (λ a. fault_of a words) (sym is) ∙ kinds (ap is_simple_and_free is) in
     rw (
@@ -217,13 +217,13 @@ asked-matches app words matches is plain kinds has =
       first_value-rows (found_of matches)
           (codes "count"),
     )
-    (ap mode_by_rows rows ∙ asked-taken words plain taken)
+    (ap mode_by_rows rows ∙ mode_asked-taken words plain taken)
 
 -- a parse that fails, though not by memory
-pub asked-error : (app : App) (words : List Text) (error : Error) → app ≡ three_words → list_any starts_with_minus words ≡ false
-    → (is_simple_and_free app ≡ true → HasKind (fault_of app words) error) → (kind_of error ≡ OutOfMemory → ⊥) → asked words ≡ None
-asked-error app words error is plain kinds other = go (kinds (ap is_simple_and_free is))
+pub mode_asked-error : (app : App) (words : List Text) (error : Error) → app ≡ three_words → list_any starts_with_minus words ≡ false
+    → (is_simple_and_free app ≡ true → HasKind (fault_of app words) error) → (kind_of error ≡ OutOfMemory → ⊥) → mode_asked words ≡ None
+mode_asked-error app words error is plain kinds other = go (kinds (ap is_simple_and_free is))
   where
-    go : HasKind (fault_of app words) error → asked words ≡ None
+    go : HasKind (fault_of app words) error → mode_asked words ≡ None
     go (inl memory) = absurd (other memory)
-    go (inr among) = asked-refused words (kind_of error) plain (subst (λ a. IsAmong (kind_of error) (fault_of a words)) is among)
+    go (inr among) = mode_asked-refused words (kind_of error) plain (subst (λ a. IsAmong (kind_of error) (fault_of a words)) is among)

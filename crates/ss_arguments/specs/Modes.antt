@@ -47,15 +47,15 @@ named word =
     else None))
 
 -- the mode by what stands after the path: nothing, `run`, `batch`, `check`, or `gen SEED COUNT`
-abbrev pub asked : List (List ℕ) → Option Mode
-asked [] = Some Run
-asked (mode ∷ []) = named mode
-asked (mode ∷ seed ∷ count ∷ []) = if bytes_eq mode (codes "gen") then gen_of (seed_of seed) (count_of count) else None
-asked _ = None
+abbrev pub mode_asked : List (List ℕ) → Option Mode
+mode_asked [] = Some Run
+mode_asked (mode ∷ []) = named mode
+mode_asked (mode ∷ seed ∷ count ∷ []) = if bytes_eq mode (codes "gen") then gen_of (seed_of seed) (count_of count) else None
+mode_asked _ = None
 
 -- the mode by all the words: the program's name, the store's path, and what asks for a mode
 abbrev pub mode_of : List (List ℕ) → Option Mode
-mode_of (program ∷ path ∷ arguments) = asked arguments
+mode_of (program ∷ path ∷ arguments) = mode_asked arguments
 mode_of _ = None
 
 -- whether the words are refused at a glance: no path stands among them, or a word after it begins with `-`

@@ -3,7 +3,7 @@ ghost use Rattle.std.specs.Prelude.{◌≡◌, ◌-◌, ◌^◌, true, false, co
 ghost use Rattle.std.specs.List.{list_any};
 ghost use Rattle.std.specs.Str.Parse.{starts_with_minus};
 ghost use Rattle.clap.specs.Words.{app_of};
-ghost use Rattle.ss_arguments.specs.Modes.{are_refused_at_once, asked, count_of, gen_of, mode_of, named, seed_of, words_of};
+ghost use Rattle.ss_arguments.specs.Modes.{are_refused_at_once, mode_asked, count_of, gen_of, mode_of, named, seed_of, words_of};
 ghost use Rattle.ss_arguments.specs.Places.{by_place, three_words};
 
 use crate::{MOST_DIGITS, Mode};
@@ -99,7 +99,7 @@ fn three_words<'a>(alloc: Global) -> Result<Command<'a>, AllocError>
 // The mode of the words after the store's path, none of which begins with `-`.
 fn read_words(alloc: Global, words: &[String]) -> Result<Option<Mode>, AllocError>
     requires { list_any starts_with_minus (words_of words.now) ≡ false }
-    ensures { IfOk result (λ mode. mode ≡ asked (words_of words.now)) }
+    ensures { IfOk result (λ mode. mode ≡ mode_asked (words_of words.now)) }
 {
     match three_words(alloc)?.try_get_matches_from(words) {
         Ok(matches) => Ok(read_places(

@@ -5,7 +5,7 @@ use Rattle.std.specs.Option.{option_map, option_zip}
 use Rattle.std.proofs.Common.{ap, refl, ◌∙◌, sym}
 use Rattle.ss_bounds.specs.Split.{SplitFigures}
 use Rattle.ss_bounds.specs.Extremes.{listed, min_table, max_table, min_interval, max_interval, can_hold, must_hold, min_of, max_of}
-use Rattle.ss_bounds.specs.Either.{passing, lesser, greater, least_in, greatest_in, values_of, extreme_of}
+use Rattle.ss_bounds.specs.Either.{passing, lesser, greater, least_in, greatest_in, extremes_of, extreme_of}
 
 -- those of two that pass a test are what passes of each
 filter-one : {A : Type 0} (test : A → Bool) (a : A) (b : Bool) → (if b then a ∷ [] else []) ≡ listed (if b then Some a else None) None
@@ -74,20 +74,20 @@ option_map-map g f (Some a) = refl
 -- the code's least and greatest values of the windows that can hold a value, or must
 -- of two windows, those that pass a test, by one of their values
 abbrev pub parts : (ℤ × ℤ → ℤ) → (SplitFigures → Bool) → Option SplitFigures → Option ℤ
-parts part test split = option_map part (option_map values_of (passing test split))
+parts part test split = option_map part (option_map extremes_of (passing test split))
 
 module _ (part : ℤ × ℤ → ℤ) (test : SplitFigures → Bool) (left right : Option SplitFigures) where
-  lesser-parts : lesser (parts part test left) (parts part test right) ≡ least_in (map (λ s. part (values_of s)) (filter test (listed left right)))
+  lesser-parts : lesser (parts part test left) (parts part test right) ≡ least_in (map (λ s. part (extremes_of s)) (filter test (listed left right)))
   lesser-parts =
-      rw (option_map-map part values_of (passing test left), option_map-map part values_of (passing test right))
-      (lesser-listed (λ s. part (values_of s)) (passing test left) (passing test right)
-      ∙ ap (λ z. least_in (map (λ s. part (values_of s)) z)) (sym (filter-listed test left right)))
+      rw (option_map-map part extremes_of (passing test left), option_map-map part extremes_of (passing test right))
+      (lesser-listed (λ s. part (extremes_of s)) (passing test left) (passing test right)
+      ∙ ap (λ z. least_in (map (λ s. part (extremes_of s)) z)) (sym (filter-listed test left right)))
 
-  greater-parts : greater (parts part test left) (parts part test right) ≡ greatest_in (map (λ s. part (values_of s)) (filter test (listed left right)))
+  greater-parts : greater (parts part test left) (parts part test right) ≡ greatest_in (map (λ s. part (extremes_of s)) (filter test (listed left right)))
   greater-parts =
-      rw (option_map-map part values_of (passing test left), option_map-map part values_of (passing test right))
-      (greater-listed (λ s. part (values_of s)) (passing test left) (passing test right)
-      ∙ ap (λ z. greatest_in (map (λ s. part (values_of s)) z)) (sym (filter-listed test left right)))
+      rw (option_map-map part extremes_of (passing test left), option_map-map part extremes_of (passing test right))
+      (greater-listed (λ s. part (extremes_of s)) (passing test left) (passing test right)
+      ∙ ap (λ z. greatest_in (map (λ s. part (extremes_of s)) z)) (sym (filter-listed test left right)))
 
 abbrev pub first : ℤ × ℤ → ℤ
 first v = v.0

@@ -10,7 +10,7 @@ use Rattle.std.proofs.lemmas.Option.{none-some}
 use Rattle.ss_bounds.specs.Split.{SplitFigures}
 use Rattle.ss_bounds.specs.Extremes.{can_hold, must_hold, chosen, min_of, max_of, min_interval, max_interval}
 use Rattle.ss_bounds.specs.Either.{either, choice_in, lesser, greater, least_in, greatest_in, extreme_of}
-use Rattle.ss_bounds.specs.Truth.{AllBetween, MayLieThere, MayAllLieThere, windows_of, values_of_all, Holds}
+use Rattle.ss_bounds.specs.Truth.{AllBetween, MayLieThere, MayAllLieThere, windows_alone, values_of_all, HoldsExtreme}
 use Rattle.ss_bounds.proofs.ChoiceLemmas.{IsChoice, IsChoice-min, IsChoice-max, AtMost, AtLeast, IsBetter, IsBetter-either, IsBetter-choice_of}
 use Rattle.ss_bounds.proofs.ChoiceLemmas.{choice_of, choice_of-flat_map, choice_in-cons}
 use Rattle.ss_bounds.proofs.EitherLemmas.{min_table-found, max_table-found}
@@ -26,10 +26,10 @@ module _ {choice : ℤ → ℤ → ℤ} {Better : ℤ → ℤ → Type 0} (is : 
   next-single s ss false = refl
 
   choice_of-single : (ws : List (SplitFigures × List ℤ))
-      → choice_of is (λ w. single f test w.0) ws ≡ choice_in choice (map f (filter test (windows_of ws)))
+      → choice_of is (λ w. single f test w.0) ws ≡ choice_in choice (map f (filter test (windows_alone ws)))
   choice_of-single [] = refl
   choice_of-single (w ∷ ws) =
-      ap (either choice (single f test w.0)) (choice_of-single ws) ∙ next-single w.0 (filter test (windows_of ws)) (test w.0)
+      ap (either choice (single f test w.0)) (choice_of-single ws) ∙ next-single w.0 (filter test (windows_alone ws)) (test w.0)
 
 -- the least and the greatest of values from m to M
 chosen-between : (m M v : ℤ) (vs : List ℤ) → AllBetween m M (v ∷ vs)
@@ -79,12 +79,12 @@ module _ {choice : ℤ → ℤ → ℤ} {Better : ℤ → ℤ → Type 0} (is : 
     (ws : List (SplitFigures × List ℤ)) (may : MayAllLieThere ws) where
   -- of the windows that pass a test, one value each is better than all values in the range, or the other way round
   windows-better : ((s : SplitFigures) (vs : List ℤ) → MayLieThere s vs → IsBetter Better (single f test s) (choice_in choice vs))
-      → IsBetter Better (choice_in choice (map f (filter test (windows_of ws)))) (choice_in choice (values_of_all ws))
+      → IsBetter Better (choice_in choice (map f (filter test (windows_alone ws)))) (choice_in choice (values_of_all ws))
   windows-better each = IsBetter-same Better _ _ _ _ (choice_of-single is f test ws) (choice_of-flat_map is (λ w. w.1) ws)
       (IsBetter-choice_of is (λ w. single f test w.0) (λ w. choice_in choice w.1) MayAllLieThere (λ w rest all. (each w.0 w.1 all.0, all.1)) ws may)
 
   values-better : ((s : SplitFigures) (vs : List ℤ) → MayLieThere s vs → IsBetter Better (choice_in choice vs) (single f test s))
-      → IsBetter Better (choice_in choice (values_of_all ws)) (choice_in choice (map f (filter test (windows_of ws))))
+      → IsBetter Better (choice_in choice (values_of_all ws)) (choice_in choice (map f (filter test (windows_alone ws))))
   values-better each = IsBetter-same Better _ _ _ _ (choice_of-flat_map is (λ w. w.1) ws) (choice_of-single is f test ws)
       (IsBetter-choice_of is (λ w. choice_in choice w.1) (λ w. single f test w.0) MayAllLieThere (λ w rest all. (each w.0 w.1 all.0, all.1)) ws may)
 
@@ -101,7 +101,7 @@ least_in-greatest_in (v ∷ vs) = least-greatest v vs
 -- the least value, from one at most it, one at least it if that is sure, and one at least it in any case
 holds-min : (truth lo sure hi : Option ℤ) → IsBetter AtMost lo truth → IsBetter AtMost truth sure
     → MatchOption sure (MatchOption truth (Unit {0}) (λ v. MatchOption hi ⊥ (λ w. v ≤ℤ w))) (λ _. Unit {0})
-    → Holds (extreme_of (option_zip lo sure) (option_zip lo hi)) truth
+    → HoldsExtreme (extreme_of (option_zip lo sure) (option_zip lo hi)) truth
 holds-min None None sure hi above below upper = tt
 holds-min (Some v) None sure hi above below upper = absurd above
 holds-min None (Some l) None None above below upper = tt
@@ -113,7 +113,7 @@ holds-min (Some v) (Some l) (Some u) hi above below upper = (above, below)
 
 holds-max : (truth hi sure lo : Option ℤ) → IsBetter AtLeast hi truth → IsBetter AtLeast truth sure
     → MatchOption sure (MatchOption truth (Unit {0}) (λ v. MatchOption lo ⊥ (λ w. w ≤ℤ v))) (λ _. Unit {0})
-    → Holds (extreme_of (option_zip sure hi) (option_zip lo hi)) truth
+    → HoldsExtreme (extreme_of (option_zip sure hi) (option_zip lo hi)) truth
 holds-max None None None None below above lower = tt
 holds-max None None None (Some l) below above lower = tt
 holds-max None None (Some u) lo below above lower = absurd above
@@ -156,10 +156,10 @@ choice-better is same e a b better = IsBetter-either is e e a b (IsBetter-refl i
 
 module _ (ws : List (SplitFigures × List ℤ)) (may : MayAllLieThere ws) where
   abbrev can : List SplitFigures
-  can = filter can_hold (windows_of ws)
+  can = filter can_hold (windows_alone ws)
 
   abbrev must : List SplitFigures
-  must = filter must_hold (windows_of ws)
+  must = filter must_hold (windows_alone ws)
 
   least-low : IsBetter AtMost (least_in (map min_of can)) (least_in (values_of_all ws))
   least-low = windows-better IsChoice-min min_of can_hold ws may (λ s vs each. can-min s vs each (can_hold s) refl)
@@ -173,10 +173,10 @@ module _ (ws : List (SplitFigures × List ℤ)) (may : MayAllLieThere ws) where
   greatest-sure : IsBetter AtLeast (greatest_in (values_of_all ws)) (greatest_in (map min_of must))
   greatest-sure = values-better IsChoice-max min_of must_hold ws may (λ s vs each. must-max s vs each (must_hold s) refl)
 
-  pub min_interval-Holds : (exact : Option ℤ) → Holds (min_interval exact (windows_of ws)) (lesser exact (least_in (values_of_all ws)))
-  min_interval-Holds exact =
+  pub min_interval-HoldsExtreme : (exact : Option ℤ) → HoldsExtreme (min_interval exact (windows_alone ws)) (lesser exact (least_in (values_of_all ws)))
+  min_interval-HoldsExtreme exact =
       let all = values_of_all ws in
-      subst (λ z. Holds z (lesser exact (least_in all))) (sym (min_table-found exact can must))
+      subst (λ z. HoldsExtreme z (lesser exact (least_in all))) (sym (min_table-found exact can must))
       (holds-min (lesser exact (least_in all)) (lesser exact (least_in (map min_of can))) (lesser exact (least_in (map max_of must)))
       (greatest_in (map max_of can))
       (choice-better IsChoice-min (λ a. omega (arith, ints)) exact _ _ least-low)
@@ -184,10 +184,10 @@ module _ (ws : List (SplitFigures × List ℤ)) (may : MayAllLieThere ws) where
       (unless-sure int_min exact (least_in (map max_of must)) (least_in all) (λ v. MatchOption (greatest_in (map max_of can)) ⊥ (λ w. v ≤ℤ w))
       (upper-of (least_in all) (greatest_in all) (greatest_in (map max_of can)) (least_in-greatest_in all) greatest-high)))
 
-  pub max_interval-Holds : (exact : Option ℤ) → Holds (max_interval exact (windows_of ws)) (greater exact (greatest_in (values_of_all ws)))
-  max_interval-Holds exact =
+  pub max_interval-HoldsExtreme : (exact : Option ℤ) → HoldsExtreme (max_interval exact (windows_alone ws)) (greater exact (greatest_in (values_of_all ws)))
+  max_interval-HoldsExtreme exact =
       let all = values_of_all ws in
-      subst (λ z. Holds z (greater exact (greatest_in all))) (sym (max_table-found exact can must))
+      subst (λ z. HoldsExtreme z (greater exact (greatest_in all))) (sym (max_table-found exact can must))
       (holds-max (greater exact (greatest_in all)) (greater exact (greatest_in (map max_of can))) (greater exact (greatest_in (map min_of must)))
       (least_in (map min_of can))
       (choice-better IsChoice-max (λ a. omega (arith, ints)) exact _ _ greatest-high)

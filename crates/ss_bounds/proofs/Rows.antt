@@ -8,7 +8,7 @@ use Rattle.ss_bounds.specs.Split.{SplitFigures, count_interval, low_sum, high_su
 use Rattle.ss_bounds.specs.Attained.{first_at, least_sum_at, greatest_sum_at, IsFirstLeast, IsFirstGreatest}
 use Rattle.ss_bounds.specs.Parted.{CanMake, CanHoldLeast, CanHoldGreatest, CanBeParted}
 use Rattle.ss_bounds.specs.Times.{lies_in, split_of}
-use Rattle.ss_bounds.specs.Truth.{asked, Holds, RiseFree, AreSplit}
+use Rattle.ss_bounds.specs.Truth.{asked, HoldsExtreme, RiseFree, AreSplit}
 use Rattle.ss_bounds.specs.Extremes.{min_interval, max_interval}
 
 most_values : MOST_VALUES ≡ 2 ^ 40
@@ -169,22 +169,22 @@ unfolding sum_interval
 sum-least_and_greatest = refl
 
 -- what is known of a least or a greatest value doesn't hold of one just past either end, nor of none where one is sure
-holds-maybe_above : Holds (Maybe (pos 1) (pos 2)) (Some (pos 3)) → ⊥
+holds-maybe_above : HoldsExtreme (Maybe (pos 1) (pos 2)) (Some (pos 3)) → ⊥
 holds-maybe_above holds = omega (arith, ints, holds.1)
 
-holds-maybe_below : Holds (Maybe (pos 1) (pos 2)) (Some (pos 0)) → ⊥
+holds-maybe_below : HoldsExtreme (Maybe (pos 1) (pos 2)) (Some (pos 0)) → ⊥
 holds-maybe_below holds = omega (arith, ints, holds.0)
 
-holds-sure_above : Holds (Sure (pos 1) (pos 2)) (Some (pos 3)) → ⊥
+holds-sure_above : HoldsExtreme (Sure (pos 1) (pos 2)) (Some (pos 3)) → ⊥
 holds-sure_above holds = omega (arith, ints, holds.1)
 
-holds-sure_below : Holds (Sure (pos 1) (pos 2)) (Some (pos 0)) → ⊥
+holds-sure_below : HoldsExtreme (Sure (pos 1) (pos 2)) (Some (pos 0)) → ⊥
 holds-sure_below holds = omega (arith, ints, holds.0)
 
-holds-sure_none : Holds (Sure (pos 1) (pos 2)) None → ⊥
+holds-sure_none : HoldsExtreme (Sure (pos 1) (pos 2)) None → ⊥
 holds-sure_none holds = holds
 
-holds-nothing : Holds Nothing (Some (pos 1)) → ⊥
+holds-nothing : HoldsExtreme Nothing (Some (pos 1)) → ⊥
 holds-nothing holds = holds
 
 -- with times between them, but without a value to spare, a window of two values can't hold one there

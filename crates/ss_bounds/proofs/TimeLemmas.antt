@@ -5,7 +5,7 @@ use Rattle.std.proofs.Common.{ap, arith, refl, sym, ◌∙◌, subst, zero-add}
 use Rattle.std.proofs.lemmas.List.Sums.{sum_by-cons}
 use Rattle.ss_bounds.specs.Split.{SplitFigures, least_count, greatest_count}
 use Rattle.ss_bounds.specs.Times.{lies_in}
-use Rattle.ss_summary.specs.Summaries.{last_time}
+use Rattle.ss_summary.specs.Summaries.{time_at_end}
 use Rattle.ss_bounds.specs.Truth.{asked, values_alone, RiseFree, AreSplit}
 
 -- 1 for what is true
@@ -36,27 +36,27 @@ count_by-at test a t end from before =
     (count_by-from test a (t - a) end (omega arith))
 
 -- no time of rising ones is after the last
-last_time-after : (free : ℕ → Bool) (m M : ℤ) (start : ℕ) (q : ℕ × ℤ) (qs : List (ℕ × ℤ)) → RiseFree free m M start (q ∷ qs)
-    → q.0 + length qs ≤ last_time q.0 qs
-last_time-after free m M start q [] rising = omega arith
-last_time-after free m M start q (r ∷ rs) rising =
-    let rest = last_time-after free m M (q.0 + 1) r rs rising.4 in
+time_at_end-after : (free : ℕ → Bool) (m M : ℤ) (start : ℕ) (q : ℕ × ℤ) (qs : List (ℕ × ℤ)) → RiseFree free m M start (q ∷ qs)
+    → q.0 + length qs ≤ time_at_end q.0 qs
+time_at_end-after free m M start q [] rising = omega arith
+time_at_end-after free m M start q (r ∷ rs) rising =
+    let rest = time_at_end-after free m M (q.0 + 1) r rs rising.4 in
     omega (arith, rest, rising.4.0)
 
 module _ (free : ℕ → Bool) (from to : ℕ) (m M : ℤ) where
   -- of the values after the first of a window, the last one and others: how many of the others lie in the range
   record Others (start : ℕ) (q : ℕ × ℤ) (qs : List (ℕ × ℤ)) : Type 0 where
     many : ℕ
-    all : length (asked from to (q ∷ qs)) ≡ many + one_if (lies_in from to (last_time q.0 qs))
+    all : length (asked from to (q ∷ qs)) ≡ many + one_if (lies_in from to (time_at_end q.0 qs))
     some : many ≤ length qs
-    in_range : many ≤ count_by (λ t. free t && lies_in from to t) (range_with_len start (last_time q.0 qs - start))
-    not_in_range : length qs ≤ many + count_by (λ t. free t && not (lies_in from to t)) (range_with_len start (last_time q.0 qs - start))
+    in_range : many ≤ count_by (λ t. free t && lies_in from to t) (range_with_len start (time_at_end q.0 qs - start))
+    not_in_range : length qs ≤ many + count_by (λ t. free t && not (lies_in from to t)) (range_with_len start (time_at_end q.0 qs - start))
 
-  others-next : (start : ℕ) (q r : ℕ × ℤ) (rs : List (ℕ × ℤ)) → start ≤ q.0 → free q.0 ≡ true → q.0 < last_time r.0 rs
+  others-next : (start : ℕ) (q r : ℕ × ℤ) (rs : List (ℕ × ℤ)) → start ≤ q.0 → free q.0 ≡ true → q.0 < time_at_end r.0 rs
       → Others (q.0 + 1) r rs → (b : Bool) → lies_in from to q.0 ≡ b → Others start q (r ∷ rs)
   others-next start q r rs late is_free before rest true is =
-      let at_inside = count_by-at (λ t. free t && lies_in from to t) start q.0 (last_time r.0 rs) late before in
-      let at_outside = count_by-at (λ t. free t && not (lies_in from to t)) start q.0 (last_time r.0 rs) late before in
+      let at_inside = count_by-at (λ t. free t && lies_in from to t) start q.0 (time_at_end r.0 rs) late before in
+      let at_outside = count_by-at (λ t. free t && not (lies_in from to t)) start q.0 (time_at_end r.0 rs) late before in
       let at_inside = rw (is_free, is) at at_inside in
       let at_outside = rw (is_free, is) at at_outside in
       record {
@@ -67,8 +67,8 @@ module _ (free : ℕ → Bool) (from to : ℕ) (m M : ℤ) where
         not_in_range = omega (arith, rest.not_in_range);
       }
   others-next start q r rs late is_free before rest false is =
-      let at_inside = count_by-at (λ t. free t && lies_in from to t) start q.0 (last_time r.0 rs) late before in
-      let at_outside = count_by-at (λ t. free t && not (lies_in from to t)) start q.0 (last_time r.0 rs) late before in
+      let at_inside = count_by-at (λ t. free t && lies_in from to t) start q.0 (time_at_end r.0 rs) late before in
+      let at_outside = count_by-at (λ t. free t && not (lies_in from to t)) start q.0 (time_at_end r.0 rs) late before in
       let at_inside = rw (is_free, is) at at_inside in
       let at_outside = rw (is_free, is) at at_outside in
       record {
@@ -92,7 +92,7 @@ module _ (free : ℕ → Bool) (from to : ℕ) (m M : ℤ) where
     not_in_range = omega arith;
   }
   others start q (r ∷ rs) rising =
-      let before = last_time-after free m M (q.0 + 1) r rs rising.4 in
+      let before = time_at_end-after free m M (q.0 + 1) r rs rising.4 in
       others-next start q r rs rising.0 rising.1 (omega (arith, rising.4.0)) (others (q.0 + 1) r rs rising.4) (lies_in from to q.0) refl
 
 -- a value is among those in the range where its time is
@@ -107,12 +107,12 @@ asked-counts free from to p [] s split = absurd (omega (arith, split.more))
 asked-counts free from to p (q ∷ qs) s split =
     let rising = split.rising in
     let rest = others free from to s.min s.max (p.0 + 1) q qs rising.4 in
-    let after = last_time-after free s.min s.max (p.0 + 1) q qs rising.4 in
+    let after = time_at_end-after free s.min s.max (p.0 + 1) q qs rising.4 in
     let count = ap (λ (f : SplitFigures). f.count) split.is in
     let ends = ap (λ (f : SplitFigures). f.ends) split.is in
     let inside = ap (λ (f : SplitFigures). f.inside) split.is in
     let outside = ap (λ (f : SplitFigures). f.outside) split.is in
-    let more : last_time q.0 qs - 1 + 1 ≡ last_time q.0 qs = omega (arith, rising.4.0) in
+    let more : time_at_end q.0 qs - 1 + 1 ≡ time_at_end q.0 qs = omega (arith, rising.4.0) in
     let inside = rw more at inside in
     let outside = rw more at outside in
     let first = asked-next p (filter (λ v. lies_in from to v.0) (q ∷ qs)) (lies_in from to p.0) in

@@ -37,8 +37,8 @@ passing test None = None
 passing test (Some a) = if test a then Some a else None
 
 -- the least and the greatest value of a window
-abbrev pub values_of : SplitFigures → ℤ × ℤ
-values_of s = (s.min, s.max)
+abbrev pub extremes_of : SplitFigures → ℤ × ℤ
+extremes_of s = (s.min, s.max)
 
 -- the interval that is sure, if there is one, or else the one that may be
 abbrev pub extreme_of : Option (ℤ × ℤ) → Option (ℤ × ℤ) → Extreme

@@ -1,7 +1,7 @@
 -- What is true of the values of split windows, which a store no longer has one by one. Values are a list of (time, value).
 use Rattle.std.specs.Prelude.{◌≡◌, ℕ, ◌+◌, ◌≤◌, Bool, true, ℤ, pos, ◌+ℤ◌, ◌≤ℤ◌, List, [], ◌∷◌, length, map, Option, MatchOption}
 use Rattle.std.specs.List.{filter, flat_map}
-use Rattle.ss_summary.specs.Summaries.{last_time}
+use Rattle.ss_summary.specs.Summaries.{time_at_end}
 use Rattle.ss_bounds.specs.declared.extreme.Extreme.{Extreme}
 use Rattle.ss_bounds.specs.declared.extreme.Extreme.TheVariants.{Nothing, Sure, Maybe}
 use Rattle.ss_bounds.specs.Split.{SplitFigures, least_count, greatest_count}
@@ -29,7 +29,7 @@ RiseFree free m M start (p ∷ ps) =
 pub record AreSplit (free : ℕ → Bool) (from to : ℕ) (p : ℕ × ℤ) (ps : List (ℕ × ℤ)) (s : SplitFigures) : Type 0 where
   pub more : 1 ≤ length ps
   pub rising : RiseFree free s.min s.max 0 (p ∷ ps)
-  pub is : s ≡ split_of free from to (length (p ∷ ps)) (total (values_alone (p ∷ ps))) s.min s.max p.0 (last_time p.0 ps)
+  pub is : s ≡ split_of free from to (length (p ∷ ps)) (total (values_alone (p ∷ ps))) s.min s.max p.0 (time_at_end p.0 ps)
 
 -- each value is one of m to M
 abbrev pub AllBetween : ℤ → ℤ → List ℤ → Type 0
@@ -44,10 +44,10 @@ pub record MayLieThere (s : SplitFigures) (values : List ℤ) : Type 0 where
   pub between : AllBetween s.min s.max values
 
 -- what is known of a least or a greatest value is true of it, or of there being none
-abbrev pub Holds : Extreme → Option ℤ → Type 0
-Holds Nothing truth = MatchOption truth (Unit {0}) (λ v. ⊥)
-Holds (Sure lo hi) truth = MatchOption truth ⊥ (λ v. (lo ≤ℤ v) × (v ≤ℤ hi))
-Holds (Maybe lo hi) truth = MatchOption truth (Unit {0}) (λ v. (lo ≤ℤ v) × (v ≤ℤ hi))
+abbrev pub HoldsExtreme : Extreme → Option ℤ → Type 0
+HoldsExtreme Nothing truth = MatchOption truth (Unit {0}) (λ v. ⊥)
+HoldsExtreme (Sure lo hi) truth = MatchOption truth ⊥ (λ v. (lo ≤ℤ v) × (v ≤ℤ hi))
+HoldsExtreme (Maybe lo hi) truth = MatchOption truth (Unit {0}) (λ v. (lo ≤ℤ v) × (v ≤ℤ hi))
 
 -- each split window comes with values that may be those in the range
 abbrev pub MayAllLieThere : List (SplitFigures × List ℤ) → Type 0
@@ -55,8 +55,8 @@ MayAllLieThere [] = Unit {0}
 MayAllLieThere (w ∷ ws) = MayLieThere w.0 w.1 × MayAllLieThere ws
 
 -- the windows, and the values of all of them
-abbrev pub windows_of : List (SplitFigures × List ℤ) → List SplitFigures
-windows_of windows = map (λ w. w.0) windows
+abbrev pub windows_alone : List (SplitFigures × List ℤ) → List SplitFigures
+windows_alone windows = map (λ w. w.0) windows
 
 abbrev pub values_of_all : List (SplitFigures × List ℤ) → List ℤ
 values_of_all windows = flat_map (λ w. w.1) windows

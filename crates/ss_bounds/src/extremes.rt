@@ -1,7 +1,7 @@
 // The least and the greatest value in a range.
 ghost use Rattle.std.specs.Prelude.{◌≡◌};
 ghost use Rattle.std.specs.Option.{option_map};
-ghost use Rattle.ss_bounds.specs.Either.{extreme_of, greater, lesser, passing, values_of};
+ghost use Rattle.ss_bounds.specs.Either.{extreme_of, greater, lesser, passing, extremes_of};
 ghost use Rattle.ss_bounds.specs.Extremes.{can_hold, listed, max_interval, min_interval, must_hold};
 
 use crate::bounds::count_bounds;
@@ -38,7 +38,7 @@ type Values = (i64, i64);
 
 // The window's values, if it can hold a value in the range, and if it must.
 fn values(split: Option<Split>) -> (Option<Values>, Option<Values>)
-    ensures { result ≡ (option_map values_of (passing can_hold split), option_map values_of (passing must_hold split)) }
+    ensures { result ≡ (option_map extremes_of (passing can_hold split), option_map extremes_of (passing must_hold split)) }
 {
     let Some(split) = split else {
         return (None, None);

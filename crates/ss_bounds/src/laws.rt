@@ -6,7 +6,7 @@ ghost use Rattle.ss_bounds.specs.Parted.{CanBeParted};
 ghost use Rattle.ss_bounds.specs.Times.{times, times_inside, times_outside};
 ghost use Rattle.ss_bounds.specs.Extremes.{min_interval, max_interval};
 ghost use Rattle.ss_bounds.specs.Either.{greater, greatest_in, least_in, lesser};
-ghost use Rattle.ss_bounds.specs.Truth.{AreSplit, asked, Holds, MayAllLieThere, MayLieThere, total, values_of_all, windows_of};
+ghost use Rattle.ss_bounds.specs.Truth.{AreSplit, asked, HoldsExtreme, MayAllLieThere, MayLieThere, total, values_of_all, windows_alone};
 
 /// The values of a split window that lie in the range: how many they are, and each of them, is as the window allows, and
 /// their sum lies in the interval of sums.
@@ -30,9 +30,9 @@ pub fn free_times_are_parted()
 /// the one among all values that aren't of split windows.
 pub fn extremes_hold_the_truth()
     ensures least { (exact : Option ℤ) (windows : List (SplitFigures × List ℤ)) → MayAllLieThere windows
-        → Holds (min_interval exact (windows_of windows)) (lesser exact (least_in (values_of_all windows))) }
+        → HoldsExtreme (min_interval exact (windows_alone windows)) (lesser exact (least_in (values_of_all windows))) }
     ensures greatest { (exact : Option ℤ) (windows : List (SplitFigures × List ℤ)) → MayAllLieThere windows
-        → Holds (max_interval exact (windows_of windows)) (greater exact (greatest_in (values_of_all windows))) }
+        → HoldsExtreme (max_interval exact (windows_alone windows)) (greater exact (greatest_in (values_of_all windows))) }
 {}
 
 /// The ends of the interval of sums are attained, at the numbers of values that `least_sum_at` and `greatest_sum_at` give and

@@ -18,7 +18,7 @@ abbrev pub padded : List ℕ → List ℕ
 padded word = word ++ replicate (LONGEST_NAME - length word) 0
 
 -- a name as it is held: so many bytes, and zeros after them
-pub record IsHeld (bytes : List ℕ) (len : ℕ) : Type 0 where
+pub record IsPaddedName (bytes : List ℕ) (len : ℕ) : Type 0 where
   pub length : length (take len bytes) ≡ len
   pub name : is_name (take len bytes) ≡ true
   pub whole : padded (take len bytes) ≡ bytes

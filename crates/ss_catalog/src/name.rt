@@ -22,14 +22,14 @@ pub struct Name {
 
 impl Model for Name {
     ghost use Rattle.std.specs.Prelude.{List, ℕ, take, length};
-    ghost use Rattle.ss_catalog.specs.Names.{padded, IsHeld};
+    ghost use Rattle.ss_catalog.specs.Names.{padded, IsPaddedName};
     ghost use Rattle.ss_catalog.specs.NameLaws.{held-again};
 
     ghost Value = { List ℕ };
 
     ghost view = { λ n. take n.len n.bytes };
 
-    ghost invariant = { λ n. IsHeld n.bytes n.len };
+    ghost invariant = { λ n. IsPaddedName n.bytes n.len };
 
     ghost inverse = { λ word. record {
       bytes = padded word;

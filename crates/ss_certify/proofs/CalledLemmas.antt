@@ -19,7 +19,7 @@ use Rattle.ss_store.specs.Applied.{Sees, StandsOn}
 use Rattle.ss_store.specs.Kept.{StoreState}
 use Rattle.ss_store.specs.declared.error.AskError.{AskError}
 use Rattle.ss_store.proofs.KeptStates.{AllAgree-recovered}
-use Rattle.ss_certify.specs.Called.{Checks, Makes}
+use Rattle.ss_certify.specs.Called.{ChecksEvidence, MakesEvidence}
 use Rattle.ss_certify.specs.Evidence.{IsEvidence, end_asked}
 use Rattle.ss_certify.specs.Made.{evidence_of}
 use Rattle.ss_certify.specs.declared.evidence.Evidence.{Evidence}
@@ -62,7 +62,7 @@ module _ (query : Query) (end : End) (w : Evidence) (seen : Seen) (right : Bool)
       end_asked-answer streams query s end w found evidence (All-named IsStream query.name streams s state.each found) outcome answered
 
   pub checks-seen : {before after : DiskView} (store : StoreState) → StandsOn store before → store.stopped ≡ false →
-      Step fine before after (Sees store.records query (Ok seen)) → Step fine before after (Checks store.records query end w (Ok right))
+      Step fine before after (Sees store.records query (Ok seen)) → Step fine before after (ChecksEvidence store.records query end w (Ok right))
   checks-seen {before} store kept runs step = record {
     tells = step.tells;
     counted = step.counted;
@@ -96,7 +96,7 @@ module _ (query : Query) (end : End) (w : Evidence) (seen : Seen) (made : w ≡ 
       subst (λ (k : Seen). IsEvidence query.kind end k w) (sym same) shown
 
   pub makes-seen : {before after : DiskView} (was : RecordsState) → adds_up query.kind ≡ true → HasCuts seen →
-      Step fine before after (Sees was query (Ok seen)) → Step fine before after (Makes was query end (Ok w))
+      Step fine before after (Sees was query (Ok seen)) → Step fine before after (MakesEvidence was query end (Ok w))
   makes-seen was adds has step =
       let shown = subst (IsEvidence query.kind end seen) (sym made) (IsEvidence-evidence_of query.kind end seen adds has) in
       record {

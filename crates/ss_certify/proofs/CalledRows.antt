@@ -10,11 +10,11 @@ use Rattle.ss_outside.specs.Disk.{Told}
 use Rattle.ss_query.specs.Asked.{seen_of}
 use Rattle.ss_records.specs.Kept.{RecordsState, shown_by}
 use Rattle.ss_store.specs.Recover.{Recovers}
-use Rattle.ss_certify.specs.Called.{Checks, Makes, evidence_in}
+use Rattle.ss_certify.specs.Called.{ChecksEvidence, MakesEvidence, evidence_in}
 use Rattle.ss_certify.specs.Evidence.{IsEvidence, end_asked}
 use Rattle.ss_certify.specs.declared.evidence.Evidence.{Evidence}
 
-module _ {old new : Told} (was : RecordsState) (query : Query) (end : End) (w : Evidence) (makes : Makes was query end (Ok w) old new) where
+module _ {old new : Told} (was : RecordsState) (query : Query) (end : End) (w : Evidence) (makes : MakesEvidence was query end (Ok w) old new) where
   makes-made : (streams : List Stream) → Recovers streams (shown_by was old.content) → evidence_in streams query end ≡ Some w
   makes-made = makes.made
 
@@ -26,7 +26,7 @@ module _ {old new : Told} (was : RecordsState) (query : Query) (end : End) (w : 
   makes-reads = makes.reads
 
 module _ {old new : Told} (was : RecordsState) (query : Query) (end : End) (w : Evidence) (right : Bool)
-    (checks : Checks was query end w (Ok right) old new) where
+    (checks : ChecksEvidence was query end w (Ok right) old new) where
   checks-checked : (streams : List Stream) → Recovers streams (shown_by was old.content) →
       IfSome (stream_named query.name streams) (λ s. IsTrue right ↔ IsEvidence query.kind end (seen_of query.from query.to s) w)
   checks-checked = checks.checked

@@ -23,7 +23,7 @@ use Rattle.ss_query.specs.declared.cut.Cut.{Cut}
 use Rattle.ss_certify.specs.Checked.{Certifies, inside_of, outside_of}
 use Rattle.ss_certify.specs.Evidence.{AllCertify, IsEvidence, base_of, cuts_of, end_asked, part_of, parts_of}
 use Rattle.ss_certify.specs.Fill.{Fills, RiseBetween, fill}
-use Rattle.ss_certify.specs.Made.{attaining, certificate_of, certificate_with, evidence_of, sum_inside}
+use Rattle.ss_certify.specs.Made.{attaining, certificate_of, certificate_with, evidence_of, inside_sum}
 use Rattle.ss_certify.specs.Runs.{HaveValues, values_of_runs}
 use Rattle.ss_certify.specs.declared.evidence.Cert.{Cert}
 use Rattle.ss_certify.specs.declared.evidence.Evidence.{Evidence}
@@ -62,15 +62,15 @@ attaining-between Min Hi s split = let room = split.room in (omega arith, omega 
 attaining-between Max Lo s split = let room = split.room in (omega arith, omega arith)
 attaining-between Max Hi s split = let room = split.room in (omega arith, omega arith)
 
-pub CanBeParted-sum_inside : (kind : Kind) (end : End) (s : SplitFigures) (x : ℕ) → IsSplit s → x < s.count → CanBeParted s x (sum_inside kind end s x)
-CanBeParted-sum_inside Count Lo s x split few = CanBeParted-low_sum s split x few
-CanBeParted-sum_inside Count Hi s x split few = CanBeParted-low_sum s split x few
-CanBeParted-sum_inside Sum Lo s x split few = CanBeParted-low_sum s split x few
-CanBeParted-sum_inside Sum Hi s x split few = CanBeParted-high_sum s split x few
-CanBeParted-sum_inside Min Lo s x split few = CanBeParted-low_sum s split x few
-CanBeParted-sum_inside Min Hi s x split few = CanBeParted-low_sum s split x few
-CanBeParted-sum_inside Max Lo s x split few = CanBeParted-low_sum s split x few
-CanBeParted-sum_inside Max Hi s x split few = CanBeParted-low_sum s split x few
+pub CanBeParted-inside_sum : (kind : Kind) (end : End) (s : SplitFigures) (x : ℕ) → IsSplit s → x < s.count → CanBeParted s x (inside_sum kind end s x)
+CanBeParted-inside_sum Count Lo s x split few = CanBeParted-low_sum s split x few
+CanBeParted-inside_sum Count Hi s x split few = CanBeParted-low_sum s split x few
+CanBeParted-inside_sum Sum Lo s x split few = CanBeParted-low_sum s split x few
+CanBeParted-inside_sum Sum Hi s x split few = CanBeParted-high_sum s split x few
+CanBeParted-inside_sum Min Lo s x split few = CanBeParted-low_sum s split x few
+CanBeParted-inside_sum Min Hi s x split few = CanBeParted-low_sum s split x few
+CanBeParted-inside_sum Max Lo s x split few = CanBeParted-low_sum s split x few
+CanBeParted-inside_sum Max Hi s x split few = CanBeParted-low_sum s split x few
 
 pub attaining-few : (kind : Kind) (end : End) (s : SplitFigures) → IsSplit s → attaining kind end s < s.count
 attaining-few kind end s split = let few = greatest_count-few s split in let most = (attaining-between kind end s split).1 in omega arith
@@ -125,9 +125,9 @@ pub Certifies-certificate_of : (kind : Kind) (end : End) (cut : Cut) → IsCut c
 Certifies-certificate_of kind end cut is =
     let s = cut.split in
     let x = attaining kind end s in
-    let can = CanBeParted-sum_inside kind end s x is.split (attaining-few kind end s is.split) in
+    let can = CanBeParted-inside_sum kind end s x is.split (attaining-few kind end s is.split) in
     let between = attaining-between kind end s is.split in
-    Certifies-certificate_with cut x (sum_inside kind end s x) is.split can between.0 between.1
+    Certifies-certificate_with cut x (inside_sum kind end s x) is.split can between.0 between.1
 
 -- of all windows that the range splits
 AllCertify-listed : (kind : Kind) (end : End) (left right : Option Cut) → IfSome left IsCut → IfSome right IsCut
@@ -140,12 +140,12 @@ AllCertify-listed kind end (Some a) (Some b) first second =
 
 -- what the values in the range of a certificate that is made add up to
 total-inside_of : (kind : Kind) (end : End) (cut : Cut) → IsCut cut
-    → total (inside_of (certificate_of kind end cut)) ≡ sum_inside kind end cut.split (attaining kind end cut.split)
+    → total (inside_of (certificate_of kind end cut)) ≡ inside_sum kind end cut.split (attaining kind end cut.split)
 total-inside_of kind end cut is =
     let s = cut.split in
     let x = attaining kind end s in
-    let can = CanBeParted-sum_inside kind end s x is.split (attaining-few kind end s is.split) in
-    (inside-fills cut x (sum_inside kind end s x) is.split can).sum
+    let can = CanBeParted-inside_sum kind end s x is.split (attaining-few kind end s is.split) in
+    (inside-fills cut x (inside_sum kind end s x) is.split can).sum
 
 -- so each adds what its window adds to the end
 module _ (kind : Kind) (end : End) (share : Option Cut → ℤ) (none : share None ≡ pos 0)

@@ -37,7 +37,7 @@ use Rattle.ss_model.proofs.HistoryLemmas.{IsState-state}
 use Rattle.ss_query.specs.Asked.{HasCuts, IsCut, cut_of, outcome_seen, seen_of}
 use Rattle.ss_query.specs.declared.asking.Seen.{Seen}
 use Rattle.ss_query.specs.declared.cut.Cut.{Cut}
-use Rattle.ss_query.proofs.Outcomes.{known_count-seen, known_sum-seen, outcome_seen-seen_of}
+use Rattle.ss_query.proofs.Outcomes.{seen_count-seen, seen_sum-seen, outcome_seen-seen_of}
 use Rattle.ss_query.proofs.Seeing.{IsSeen-seen_of}
 use Rattle.ss_query.proofs.SplitLemmas.{IsSplit-window}
 use Rattle.ss_summary.specs.Figures.{IsPossible}
@@ -153,10 +153,10 @@ module _ (from to : ℕ) (s : Stream) (is : IsStream s) where
   figures-seen_of = ap (map (λ (cut : Cut). cut.split)) cuts_of-seen_of ∙ figures-cuts split
 
   pub base_of-Count : base_of kinds.Count (seen_of from to s) ≡ pos (intervals.known_count from to s.windows (marked_values s.landmarks))
-  base_of-Count = ap pos (known_count-seen s.landmarks from to (seen_of from to s) s.windows (IsSeen-seen_of from to s is))
+  base_of-Count = ap pos (seen_count-seen s.landmarks from to (seen_of from to s) s.windows (IsSeen-seen_of from to s is))
 
   pub base_of-Sum : base_of kinds.Sum (seen_of from to s) ≡ intervals.known_sum from to s.windows (marked_values s.landmarks)
-  base_of-Sum = known_sum-seen s.landmarks from to (seen_of from to s) s.windows (IsSeen-seen_of from to s is)
+  base_of-Sum = seen_sum-seen s.landmarks from to (seen_of from to s) s.windows (IsSeen-seen_of from to s is)
 
   -- certificates of the cut windows have values that fit those that the range splits
   pub AllFit-seen_of : (certs : List Cert) → AllCertify (cuts_of (seen_of from to s)) certs

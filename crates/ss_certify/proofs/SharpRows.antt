@@ -4,7 +4,7 @@ use Rattle.std.proofs.Common.{◌≤◌, ◌∙◌, ap, arith, length, lit≤, r
 use Rattle.std.proofs.lemmas.Int.{ints}
 use Rattle.std.proofs.lemmas.List.Elements.{All-cons, All-head, All-nil, All-tail}
 use Rattle.ss_bounds.specs.Split.{SplitFigures, sum_interval}
-use Rattle.ss_windowing.specs.Windowing.{index_of}
+use Rattle.ss_windowing.specs.Windowing.{window_index}
 use Rattle.ss_catalog.specs.declared.event.Event.{Event}
 use Rattle.ss_catalog.specs.declared.event.Event.TheVariants.{Create, Value}
 use Rattle.ss_catalog.specs.declared.params.Params.TheVariants.{Exp}
@@ -52,7 +52,7 @@ readings = record {
 }
 
 state-history : state history ≡ readings ∷ []
-unfolding state index_of
+unfolding state window_index
 state-history = refl
 
 abbrev query : Kind → ℕ → ℕ → Query
@@ -159,7 +159,7 @@ IsEvidence-other_runs = record {
 
 -- and it may be the true one
 MayBeTrue-least : MayBeTrue (state history) (query kinds.Sum 10 25) (negsuc 4)
-unfolding state index_of
+unfolding state window_index
 MayBeTrue-least =
     MayBeTrue-answer (state history) (query kinds.Sum 10 25) readings Lo (evidence (negsuc 4) (pos 0) (least ∷ [])) refl IsEvidence-least
 
@@ -231,20 +231,20 @@ exchanged answer base earlier later one five is = let first = is.certificates.0.
 -- from 25 to 55 two windows are split: 2 to 4 of their values lie there, of a sum from -3 to 25, and each end may be the true answer
 answers-readings : map (λ kind. outcome_of (state history) (query kind 25 55)) (kinds.Count ∷ kinds.Sum ∷ [])
     ≡ Some (Count 2 4) ∷ Some (Sum (negsuc 2) (pos 25)) ∷ []
-unfolding outcome_of state index_of sum_interval
+unfolding outcome_of state window_index sum_interval
 answers-readings = refl
 
 counts-25-55 : MayBeTrue (state history) (query kinds.Count 25 55) (pos 2) × MayBeTrue (state history) (query kinds.Count 25 55) (pos 4)
-unfolding outcome_of state index_of
+unfolding outcome_of state window_index
 counts-25-55 = MayBeTrue-counts (state history) (query kinds.Count 25 55) 2 4 refl
 
 sums-25-55 : MayBeTrue (state history) (query kinds.Sum 25 55) (negsuc 2) × MayBeTrue (state history) (query kinds.Sum 25 55) (pos 25)
-unfolding outcome_of state index_of sum_interval
+unfolding outcome_of state window_index sum_interval
 sums-25-55 = MayBeTrue-sums (state history) (query kinds.Sum 25 55) (negsuc 2) (pos 25) refl
 
 -- nothing outside an answer may be true
 sum-outside : IsHistory history → MayBeTrue (state history) (query kinds.Sum 25 55) (pos 26) → ⊥
-unfolding state index_of sum_interval
+unfolding state window_index sum_interval
 sum-outside whole may =
     let like = may history readings whole refl refl in
     let high : sum_in 25 55 like.contents ≤ℤ pos 25 = (sum_in-lies (contents_of history readings) like.contents 25 55 like.sound like.like).1 in

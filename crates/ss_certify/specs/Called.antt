@@ -22,7 +22,7 @@ evidence_in streams query end =
     option_map (λ s. evidence_of query.kind end (seen_of query.from query.to s)) (stream_named query.name streams)
 
 -- Evidence is made, of what records show. Content and images stay.
-pub record Makes (was : RecordsState) (query : Query) (end : End) (result : Result Evidence AskError) (old new : Told) : Type 0 where
+pub record MakesEvidence (was : RecordsState) (query : Query) (end : End) (result : Result Evidence AskError) (old new : Told) : Type 0 where
   -- that of the state that they show
   pub made : (streams : List Stream) → Recovers streams (shown_by was old.content) → IfOk result (λ w. evidence_in streams query end ≡ Some w)
   -- which shows the end that is asked for
@@ -31,7 +31,7 @@ pub record Makes (was : RecordsState) (query : Query) (end : End) (result : Resu
   pub reads : OnlyReads old new
 
 -- Evidence is checked, by what records show. Content and images stay.
-pub record Checks (was : RecordsState) (query : Query) (end : End) (w : Evidence) (result : Result Bool AskError) (old new : Told) : Type 0 where
+pub record ChecksEvidence (was : RecordsState) (query : Query) (end : End) (w : Evidence) (result : Result Bool AskError) (old new : Told) : Type 0 where
   -- it is right exactly where it is evidence in the state that they show
   pub checked : (streams : List Stream) → Recovers streams (shown_by was old.content) → IfOk result (λ right.
       IfSome (stream_named query.name streams) (λ s. IsTrue right ↔ IsEvidence query.kind end (seen_of query.from query.to s) w))

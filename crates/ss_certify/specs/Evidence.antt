@@ -8,7 +8,7 @@ use Rattle.ss_catalog.specs.declared.query.Kind.{Kind}
 use Rattle.ss_catalog.specs.declared.query.Kind.TheVariants as kinds
 use Rattle.ss_model.specs.declared.outcome.Outcome.{Outcome}
 use Rattle.ss_model.specs.declared.outcome.Outcome.TheVariants.{Count, Sum, Min, Max}
-use Rattle.ss_query.specs.Asked.{known_count, known_sum, outcome_seen}
+use Rattle.ss_query.specs.Asked.{seen_count, seen_sum, outcome_seen}
 use Rattle.ss_query.specs.declared.asking.Seen.{Seen}
 use Rattle.ss_query.specs.declared.cut.Cut.{Cut}
 use Rattle.ss_certify.specs.Checked.{Certifies, inside_of}
@@ -21,8 +21,8 @@ cuts_of seen = listed seen.left seen.right
 
 -- what is known exactly: how many values lie in the range, or their sum
 abbrev pub base_of : Kind → Seen → ℤ
-base_of kinds.Count seen = pos (known_count seen.whole seen.marked)
-base_of kinds.Sum seen = known_sum seen.whole seen.marked
+base_of kinds.Count seen = pos (seen_count seen.whole seen.marked)
+base_of kinds.Sum seen = seen_sum seen.whole seen.marked
 base_of kinds.Min seen = pos 0
 base_of kinds.Max seen = pos 0
 

@@ -21,9 +21,9 @@ attaining kind Lo s = least_count s
 attaining kind Hi s = greatest_count s
 
 -- what x of its values in the range then add up to: the least sum, or for the greatest one this
-abbrev pub sum_inside : Kind → End → SplitFigures → ℕ → ℤ
-sum_inside Sum Hi s x = high_sum s x
-sum_inside kind end s x = low_sum s x
+abbrev pub inside_sum : Kind → End → SplitFigures → ℕ → ℤ
+inside_sum Sum Hi s x = high_sum s x
+inside_sum kind end s x = low_sum s x
 
 -- the certificate of a window with x values in the range, which add up to `sum`
 abbrev pub certificate_with : Cut → ℕ → ℤ → Cert
@@ -40,7 +40,7 @@ certificate_with cut x sum = record {
 abbrev pub certificate_of : Kind → End → Cut → Cert
 certificate_of kind end cut =
     let x = attaining kind end cut.split in
-    certificate_with cut x (sum_inside kind end cut.split x)
+    certificate_with cut x (inside_sum kind end cut.split x)
 
 -- what is known exactly, the certificates of the windows that the range splits, and what they add up to
 abbrev pub evidence_of : Kind → End → Seen → Evidence

@@ -7,8 +7,8 @@ use Rattle.ss_certify.specs.declared.evidence.Cert.{Cert}
 use Rattle.ss_certify.specs.declared.evidence.Evidence.{Evidence}
 
 -- three runs: these, and behind them runs of no values
-abbrev pub padded : List Run → List Run
-padded runs = take 3 (runs ++ replicate 3 (record { value = pos 0; times = 0 }))
+abbrev pub three_runs : List Run → List Run
+three_runs runs = take 3 (runs ++ replicate 3 (record { value = pos 0; times = 0 }))
 
 -- the values of a certificate inside the range, or those outside it
 abbrev pub side_of : Cert → Bool → Reply
@@ -17,7 +17,7 @@ side_of c inner = Side (record {
   first = c.first;
   last = c.last;
   values = if inner then c.x else c.split.count - c.x;
-  runs = padded (if inner then c.inside.items else c.outside.items);
+  runs = three_runs (if inner then c.inside.items else c.outside.items);
 })
 
 -- the end, what is known exactly, and how many windows the range splits

@@ -11,7 +11,7 @@ ghost use Rattle.ss_store.specs.Asked.{refuses_query_held};
 ghost use Rattle.ss_store.specs.Errors.{verdict_of_ask};
 ghost use Rattle.ss_store.specs.Kept.{part_named};
 ghost use Rattle.ss_store.specs.declared.error.AskError.{AskError};
-ghost use Rattle.ss_certify.specs.Called.{Checks, Makes};
+ghost use Rattle.ss_certify.specs.Called.{ChecksEvidence, MakesEvidence};
 
 use crate::Evidence;
 use crate::making::evidence;
@@ -31,7 +31,7 @@ pub fn make<D: Disk>(
     requires kind { IsTrue (adds_up query.now.kind) }
     requires one_disk { StandsOn store.old (D.seen disk.old) }
     // The evidence of the state that is shown, with what is staged.
-    ensures makes { Step (verdict_of_ask result) (D.seen disk.old) (D.seen disk.new) (Makes store.old.records query.now end result) }
+    ensures makes { Step (verdict_of_ask result) (D.seen disk.old) (D.seen disk.new) (MakesEvidence store.old.records query.now end result) }
     ensures looks { Looks (verdict_of_ask result) store.old store.new (D.seen disk.old) (D.seen disk.new) }
     // A slot that has changed is that of a window of the stream.
     ensures changed { IfChanged (verdict_of_ask result) (λ slot. IfSome (part_named query.now.name store.old.streams) (λ part.
@@ -60,7 +60,7 @@ pub fn check<D: Disk>(
     requires kind { IsTrue (adds_up query.now.kind) }
     requires one_disk { StandsOn store.old (D.seen disk.old) }
     // What the state that is shown has, with what is staged. Where it is right the end that it shows may be the truth.
-    ensures checks { Step (verdict_of_ask result) (D.seen disk.old) (D.seen disk.new) (Checks store.old.records query.now end w.now result) }
+    ensures checks { Step (verdict_of_ask result) (D.seen disk.old) (D.seen disk.new) (ChecksEvidence store.old.records query.now end w.now result) }
     ensures looks { Looks (verdict_of_ask result) store.old store.new (D.seen disk.old) (D.seen disk.new) }
     // A slot that has changed is that of a window of the stream.
     ensures changed { IfChanged (verdict_of_ask result) (λ slot. IfSome (part_named query.now.name store.old.streams) (λ part.

@@ -6,7 +6,7 @@ ghost use Rattle.ss_bounds.specs.Parted.{CanBeParted};
 ghost use Rattle.ss_query.specs.Asked.{IsFewMarked, IsNear};
 ghost use Rattle.ss_certify.specs.Checked.{HasFewInside};
 ghost use Rattle.ss_certify.specs.Evidence.{parts_of};
-ghost use Rattle.ss_certify.specs.Made.{attaining, certificate_of, certificate_with, evidence_of, sum_inside};
+ghost use Rattle.ss_certify.specs.Made.{attaining, certificate_of, certificate_with, evidence_of, inside_sum};
 
 use crate::base::{base, part};
 use crate::fill::fill;
@@ -33,7 +33,7 @@ fn attaining(kind: Kind, end: End, split: Split) -> u64
 // What x values in the range add up to.
 fn sum_inside(kind: Kind, end: End, split: Split, x: u64) -> i128
     requires { x ≤ split.count }
-    ensures { result ≡ sum_inside kind end split x }
+    ensures { result ≡ inside_sum kind end split x }
 {
     match (kind, end) {
         (Kind::Sum, End::Hi) => high_sum(split, x),

@@ -1,7 +1,7 @@
 // Evidence as text.
 ghost use Rattle.std.specs.Prelude.{◌≡◌, ◌-◌, ◌≤◌, [], get_or, if◌then◌else◌, pos};
 ghost use Rattle.ss_report.specs.Text.{reply_line};
-ghost use Rattle.ss_certify.specs.Told.{head_of, padded, side_of};
+ghost use Rattle.ss_certify.specs.Told.{head_of, three_runs, side_of};
 
 use crate::{Cert, Evidence};
 use arrayvec::ArrayString;
@@ -20,14 +20,14 @@ fn run_at(runs: &[Run], place: usize) -> Run
 
 // Three runs: these, and behind them runs of no values.
 fn padded(runs: &[Run]) -> [Run; 3]
-    ensures { result ≡ padded runs.now }
+    ensures { result ≡ three_runs runs.now }
 {
     [run_at(runs, 0), run_at(runs, 1), run_at(runs, 2)]
 }
 
 // The runs inside the range, or those outside it.
 fn runs(cert: &Cert, inner: bool) -> [Run; 3]
-    ensures { result ≡ padded (if inner then cert.now.inside.items else cert.now.outside.items) }
+    ensures { result ≡ three_runs (if inner then cert.now.inside.items else cert.now.outside.items) }
 {
     if inner {
         padded(cert.inside.as_slice())

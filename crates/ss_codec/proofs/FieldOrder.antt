@@ -7,7 +7,7 @@ use Rattle.ss_fields.proofs.FieldLemmas.{length-number_bytes}
 use Rattle.ss_summary.specs.Figures.{Figures}
 use Rattle.ss_catalog.specs.declared.params.Params.{Params}
 use Rattle.ss_codec.specs.declared.record.Record.TheVariants.{Stream, Window, Landmark, Value}
-use Rattle.ss_codec.specs.Record.{family, parameters, state, closing, fields}
+use Rattle.ss_codec.specs.Record.{family, parameters, state_number, closing_time, fields}
 use Rattle.ss_codec.proofs.FieldLemmas.{IsWithin, AreInOrder}
 
 -- a field of a number lies within a slot
@@ -102,7 +102,7 @@ landmark-in_order id number values start finish = (
   byte-within 0 3 (lit≤ tt),
   (
     lit≤ tt,
-    byte-within 1 (state finish) (lit≤ tt),
+    byte-within 1 (state_number finish) (lit≤ tt),
     (
       lit≤ tt,
       number-within 4 4 id (lit≤ tt),
@@ -117,7 +117,7 @@ landmark-in_order id number values start finish = (
             number-within 8 16 start (lit≤ tt),
             (
               lit≤ tt,
-              number-within 8 24 (closing finish) (lit≤ tt),
+              number-within 8 24 (closing_time finish) (lit≤ tt),
               tt,
             ),
           ),

@@ -22,7 +22,7 @@ use Rattle.ss_catalog.specs.declared.params.Params.{Params}
 use Rattle.ss_catalog.specs.declared.params.Params.TheVariants.{Exp, Power}
 use Rattle.ss_codec.specs.declared.record.Record.{Record}
 use Rattle.ss_codec.specs.declared.record.Record.TheVariants.{Free, Stream, Window, Landmark, Value}
-use Rattle.ss_codec.specs.Record.{is_interval, is_valid, family, parameters, state, closing, fields, spelling, Spells}
+use Rattle.ss_codec.specs.Record.{is_interval, is_valid, family, parameters, state_number, closing_time, fields, spelling, Spells}
 use Rattle.ss_codec.specs.Decoded.{checked, decoded, finish_in, landmark_in, params_in, record_in, stream_in, value_in, window_in}
 use Rattle.ss_codec.proofs.FieldLemmas.{AreInOrder, HasFields, HasFields-with_fields, slice_index-part}
 use Rattle.ss_codec.proofs.FieldOrder.{landmark-in_order, stream-in_order, value-in_order, window-in_order}
@@ -239,7 +239,7 @@ window_in-fields id first f bytes is has =
 record AreInFields (values start : ℕ) (finish : Option ℕ) : Type 0 where
   values_fit : values < 2 ^ 32
   start_fits : start < 2 ^ 64
-  finish_fits : closing finish < 2 ^ 64
+  finish_fits : closing_time finish < 2 ^ 64
 
 AreInFields-IsInterval : (values start : ℕ) (finish : Option ℕ) → IsInterval values start finish → AreInFields values start finish
 AreInFields-IsInterval values start None is = record {
@@ -254,7 +254,7 @@ AreInFields-IsInterval values start (Some finish) is = record {
 }
 
 -- the closing time whose state and number stand in the bytes is read from there
-finish_in-numbers : (finish : Option ℕ) (bytes : List ℕ) → slice_index bytes 1 ≡ state finish → number_at 8 bytes 24 ≡ closing finish
+finish_in-numbers : (finish : Option ℕ) (bytes : List ℕ) → slice_index bytes 1 ≡ state_number finish → number_at 8 bytes 24 ≡ closing_time finish
     → finish_in bytes ≡ finish
 unfolding finish_in
 finish_in-numbers None bytes kind time = rw kind refl
@@ -266,12 +266,12 @@ landmark_in-fields : (id number values start : ℕ) (finish : Option ℕ) (bytes
 unfolding landmark_in
 landmark_in-fields id number values start finish bytes is has =
     let small = AreInFields-IsInterval values start finish is.interval in
-    let kind = slice_index-part 1 (state finish) bytes has.1.0 in
+    let kind = slice_index-part 1 (state_number finish) bytes has.1.0 in
     let stream = number_at-take 4 4 id bytes (omega (arith, is.stream)) has.1.1.0 in
     let number_is = number_at-take 4 8 number bytes (omega (arith, is.high)) has.1.1.1.0 in
     let values_is = number_at-take 4 12 values bytes (omega (arith, small.values_fit)) has.1.1.1.1.0 in
     let start_is = number_at-take 8 16 start bytes (omega (arith, small.start_fits)) has.1.1.1.1.1.0 in
-    let time = number_at-take 8 24 (closing finish) bytes (omega (arith, small.finish_fits)) has.1.1.1.1.1.1.0 in
+    let time = number_at-take 8 24 (closing_time finish) bytes (omega (arith, small.finish_fits)) has.1.1.1.1.1.1.0 in
     let finish_is = finish_in-numbers finish bytes kind time in
     λ i. Landmark (stream i) (number_is i) (values_is i) (start_is i) (finish_is i)
 

@@ -14,7 +14,7 @@ use Rattle.ss_summary.specs.Figures.{Figures}
 use Rattle.ss_codec.specs.declared.record.Record.TheVariants.{Window}
 use Rattle.ss_codec.specs.Fields.{with_field}
 use Rattle.ss_codec.specs.Record.{spelling}
-use Rattle.ss_codec.specs.Decoded.{figures_in, is_blank, landmark_in, record_in, stream_in, value_in, window_in}
+use Rattle.ss_codec.specs.Decoded.{figures_in, is_blank_beside, landmark_in, record_in, stream_in, value_in, window_in}
 use Rattle.ss_codec.proofs.FieldLemmas.{part}
 use Rattle.ss_codec.proofs.ZeroLemmas.{list_all-zeros, same_tests}
 
@@ -36,7 +36,8 @@ spelling-window : (id first : ℕ) (f : Figures) → spelling (Window id first f
 unfolding spelling with_field number_bytes
 spelling-window id first f = refl
 
-window_bytes-blank : (id first : ℕ) (f : Figures) → (part 3 1 (window_bytes id first f) ≡ replicate 3 0) × (part 56 72 (window_bytes id first f) ≡ replicate 56 0)
+window_bytes-blank : (id first : ℕ) (f : Figures) → (part 3 1 (window_bytes id first f) ≡ replicate 3 0)
+    × (part 56 72 (window_bytes id first f) ≡ replicate 56 0)
 unfolding number_bytes
 window_bytes-blank id first f = (refl, refl)
 
@@ -52,10 +53,10 @@ first-part [] kind = absurd (omega arith)
 first-part (x ∷ xs) kind = ap (λ (y : ℕ). y ∷ []) kind
 
 -- where zeros stand beside the fields, the window that is read is spelled by the bytes
-spelled-is_blank : (bytes : List ℕ) → length bytes ≡ 128 → AreBytes bytes → slice_index bytes 0 ≡ 2 → is_blank bytes ≡ true
+spelled-is_blank_beside : (bytes : List ℕ) → length bytes ≡ 128 → AreBytes bytes → slice_index bytes 0 ≡ 2 → is_blank_beside bytes ≡ true
     → spelling (window_in bytes) ≡ bytes
 unfolding window_in number_at number_bytes
-spelled-is_blank bytes long are kind blank =
+spelled-is_blank_beside bytes long are kind blank =
     let front_test : list_all (λ byte. byte == 0) (part 3 1 bytes) ≡ true = grind (arith, nat_tests) in
     let rest_test : list_all (λ byte. byte == 0) (part 56 72 bytes) ≡ true = grind (arith, nat_tests) in
     let front_size = length-take-le 3 (drop 1 bytes) (omega (arith, length-drop 1 bytes)) in
@@ -74,9 +75,9 @@ spelled-is_blank bytes long are kind blank =
     let from_1 = joined 3 1 bytes _ _ (sym front) from_4 in
     spelling-window (number_at 4 bytes 4) (number_at 8 bytes 8) (figures_in bytes) ∙ joined 1 0 bytes _ _ (sym (first-part bytes kind)) from_1
 
-is_blank-spelled : (bytes : List ℕ) → spelling (window_in bytes) ≡ bytes → is_blank bytes ≡ true
+is_blank_beside-spelled : (bytes : List ℕ) → spelling (window_in bytes) ≡ bytes → is_blank_beside bytes ≡ true
 unfolding window_in
-is_blank-spelled bytes same =
+is_blank_beside-spelled bytes same =
     let blank = window_bytes-blank (number_at 4 bytes 4) (number_at 8 bytes 8) (figures_in bytes) in
     let is = sym same ∙ spelling-window (number_at 4 bytes 4) (number_at 8 bytes 8) (figures_in bytes) in
     rw (ap (λ (xs : List ℕ). part 3 1 xs) is ∙ blank.0, ap (λ (xs : List ℕ). part 56 72 xs) is ∙ blank.1) refl
@@ -87,11 +88,11 @@ unfolding record_in stream_in landmark_in value_in
 window_in-record_in bytes id first f is = (grind (arith, nat_tests), grind (arith, nat_tests))
 
 -- where a window was read, the bytes are its spelling exactly where zeros stand beside its fields
-pub is_blank-record_in : (bytes : List ℕ) (id first : ℕ) (f : Figures) → length bytes ≡ 128 → AreBytes bytes → record_in bytes ≡ Window id first f
-    → is_blank bytes ≡ bytes_eq (spelling (record_in bytes)) bytes
-is_blank-record_in bytes id first f long are is =
+pub is_blank_beside-record_in : (bytes : List ℕ) (id first : ℕ) (f : Figures) → length bytes ≡ 128 → AreBytes bytes → record_in bytes ≡ Window id first f
+    → is_blank_beside bytes ≡ bytes_eq (spelling (record_in bytes)) bytes
+is_blank_beside-record_in bytes id first f long are is =
     let kind = window_in-record_in bytes id first f is in
     let test = bytes_eq-Decides (spelling (window_in bytes)) bytes in
     rw kind.1
-    (same_tests (is_blank bytes) (bytes_eq (spelling (window_in bytes)) bytes) (λ blank. test.1 (spelled-is_blank bytes long are kind.0 blank))
-    (λ same. is_blank-spelled bytes (test.0 same)))
+    (same_tests (is_blank_beside bytes) (bytes_eq (spelling (window_in bytes)) bytes) (λ blank. test.1 (spelled-is_blank_beside bytes long are kind.0 blank))
+    (λ same. is_blank_beside-spelled bytes (test.0 same)))

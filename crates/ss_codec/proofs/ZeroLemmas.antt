@@ -10,7 +10,7 @@ use Rattle.std.specs.List.{list_all}
 use Rattle.ss_fields.proofs.FieldLemmas.{number_at-take}
 use Rattle.ss_fields.proofs.ReadNumbers.{AreBytes, number_bytes-number_at}
 use Rattle.ss_fields.specs.Fields.{number_at, number_bytes}
-use Rattle.ss_codec.specs.Decoded.{is_blank}
+use Rattle.ss_codec.specs.Decoded.{is_blank_beside}
 
 pub same_tests : (a b : Bool) → (a ≡ true → b ≡ true) → (b ≡ true → a ≡ true) → a ≡ b
 same_tests true b to from = sym (to refl)
@@ -57,7 +57,7 @@ three_tests true true true rest = refl
 
 -- zeros stand wherever a window has no field, by three bytes and the end
 pub is_blank_bytes : (bytes : List ℕ) → length bytes ≡ 128
-    → is_blank bytes ≡ (get_or bytes 1 0 == 0 && (get_or bytes 2 0 == 0 && (get_or bytes 3 0 == 0 && list_all (λ byte. byte == 0) (drop 72 bytes))))
+    → is_blank_beside bytes ≡ (get_or bytes 1 0 == 0 && (get_or bytes 2 0 == 0 && (get_or bytes 3 0 == 0 && list_all (λ byte. byte == 0) (drop 72 bytes))))
 is_blank_bytes bytes long =
     let z : ℕ → Bool = λ byte. byte == 0 in
     ap (λ (list : List ℕ). list_all z (take 3 (drop 1 bytes)) && list_all z list) (take_all 56 (drop 72 bytes) (omega (arith, length-drop 72 bytes, long)))

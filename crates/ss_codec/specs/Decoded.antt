@@ -63,8 +63,8 @@ record_in bytes =
     else Free
 
 -- whether zeros stand wherever a window has no field
-abbrev pub is_blank : List ℕ → Bool
-is_blank bytes = list_all (λ byte. byte == 0) (take 3 (drop 1 bytes)) && list_all (λ byte. byte == 0) (take 56 (drop 72 bytes))
+abbrev pub is_blank_beside : List ℕ → Bool
+is_blank_beside bytes = list_all (λ byte. byte == 0) (take 3 (drop 1 bytes)) && list_all (λ byte. byte == 0) (take 56 (drop 72 bytes))
 
 -- the record, if it is valid
 abbrev pub checked : Record → Option Record

@@ -42,13 +42,13 @@ parameters (Exp b r s) = (b, r, s, 0)
 parameters (Power p q r s) = (p, q, r, s)
 
 -- the number of a landmark's state, 1 as long as it is open, and its closing time; one that is open has a 0
-abbrev pub state : Option ℕ → ℕ
-state None = 1
-state (Some finish) = 2
+abbrev pub state_number : Option ℕ → ℕ
+state_number None = 1
+state_number (Some finish) = 2
 
-abbrev pub closing : Option ℕ → ℕ
-closing None = 0
-closing (Some finish) = finish
+abbrev pub closing_time : Option ℕ → ℕ
+closing_time None = 0
+closing_time (Some finish) = finish
 
 -- the fields of a record, each at its place. Byte 0 is the kind, and a free slot has no field.
 abbrev pub fields : Record → List Field
@@ -77,12 +77,12 @@ fields (Window id first summary) =
     ∷ []
 fields (Landmark id number values start finish) =
     u8 0 3
-    ∷ u8 1 (state finish)
+    ∷ u8 1 (state_number finish)
     ∷ u32 4 id
     ∷ u32 8 number
     ∷ u32 12 values
     ∷ u64 16 start
-    ∷ u64 24 (closing finish)
+    ∷ u64 24 (closing_time finish)
     ∷ []
 fields (Value id number index t v) =
     u8 0 4

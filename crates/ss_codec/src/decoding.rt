@@ -4,7 +4,8 @@ ghost use Rattle.std.specs.List.{list_all};
 ghost use Rattle.std.specs.Str.{bytes_eq};
 ghost use Rattle.ss_summary.specs.Possible.{is_possible};
 ghost use Rattle.ss_codec.specs.Record.{Spells, counts_from_1, is_interval, is_valid, spelling};
-ghost use Rattle.ss_codec.specs.Decoded.{checked, decoded, figures_in, finish_in, is_blank, landmark_in, params_in, record_in, stream_in, value_in, window_in};
+ghost use Rattle.ss_codec.specs.Decoded.{checked, decoded, figures_in, finish_in, is_blank_beside, landmark_in, params_in, record_in, stream_in, value_in};
+ghost use Rattle.ss_codec.specs.Decoded.{window_in};
 
 use crate::encoding::encode;
 use crate::record::{
@@ -198,7 +199,7 @@ fn ends_blank(bytes: &[u8; SLOT_SIZE]) -> bool
 // Whether zeros stand wherever a window has no field.
 #[tactic(auto, using(crate::proofs::ZeroLemmas::is_blank_bytes, std::proofs::lemmas::Bool::Decides::nat_tests))]
 fn is_blank(bytes: &[u8; SLOT_SIZE]) -> bool
-    ensures { result ≡ is_blank bytes.now }
+    ensures { result ≡ is_blank_beside bytes.now }
 {
     bytes[1] == 0 && bytes[2] == 0 && bytes[3] == 0 && ends_blank(bytes)
 }

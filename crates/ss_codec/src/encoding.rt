@@ -1,7 +1,7 @@
 // Records, spelled.
 ghost use Rattle.std.specs.Prelude.{◌≡◌, ◌≤◌, length, IsTrue};
 ghost use Rattle.ss_codec.specs.Fields.{with_fields};
-ghost use Rattle.ss_codec.specs.Record.{closing, family, fields, is_valid, parameters, spelling, state};
+ghost use Rattle.ss_codec.specs.Record.{closing_time, family, fields, is_valid, parameters, spelling, state_number};
 
 use crate::fields::{write_i64, write_i128, write_text, write_u8, write_u32, write_u64};
 use crate::record::{
@@ -67,7 +67,7 @@ fn write_window(bytes: &mut [u8], id: u32, first: u64, summary: Summary)
 
 // The number of a landmark's state.
 fn state(finish: Option<u64>) -> u8
-    ensures { result ≡ state finish }
+    ensures { result ≡ state_number finish }
 {
     match finish {
         None => OPEN,
@@ -77,7 +77,7 @@ fn state(finish: Option<u64>) -> u8
 
 // When a landmark closes, and 0 as long as it is open.
 fn closing(finish: Option<u64>) -> u64
-    ensures { result ≡ closing finish }
+    ensures { result ≡ closing_time finish }
 {
     match finish {
         None => 0,

@@ -28,7 +28,8 @@ use Rattle.ss_command.proofs.GrammarLemmas.{meaning-words}
 use Rattle.ss_command.proofs.NumberLemmas.{or_number-Ok}
 use Rattle.ss_command.proofs.PutLemmas.{length-decimal_32, length-decimal_64, length-signed_64, length-with_word}
 use Rattle.ss_command.proofs.WordLemmas.{words-blank, words-one}
-use Rattle.ss_command.specs.Grammar.{added_of, end_of, is_comment, kind_of, meaning, meaning_of_words, name_of, or_number, parameter_of, step_of, time_of, value_of}
+use Rattle.ss_command.specs.Grammar.{added_of, end_of, is_comment, kind_of, meaning, meaning_of_words, name_of, or_number, parameter_of, step_of, time_of}
+use Rattle.ss_command.specs.Grammar.{value_of}
 use Rattle.ss_command.specs.Printed.{IsSayable, printed, spaced, target_words, with_word}
 use Rattle.ss_command.specs.Words.{is_blank, words}
 use Rattle.ss_command.specs.declared.command.Command.{Command}

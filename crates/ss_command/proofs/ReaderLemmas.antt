@@ -10,7 +10,7 @@ use Rattle.std.specs.List.{position_or_len}
 use Rattle.ss_command.proofs.LineLemmas.{ended_line-kept, extended-kept, lines_so_far-line_end, lines_so_far-no_end, nil-from_kept, unended-line_end}
 use Rattle.ss_command.proofs.LineLemmas.{unended-no_end}
 use Rattle.ss_command.specs.Lines.{is_line_end, lines, lines_so_far, unended, unless_empty, without_return}
-use Rattle.ss_command.specs.LineState.{LineState, ended_line, extended, HasTaken, kept, TellsLine, under_way}
+use Rattle.ss_command.specs.LineState.{ReaderState, ended_line, extended, HasRead, kept, TellsLine, under_way}
 use Rattle.ss_command.specs.declared.TheConstants.{LINE_END}
 use Rattle.ss_command.specs.declared.line_reader.Ended.{Ended}
 
@@ -29,11 +29,11 @@ before-no_end piece n first =
     (λ k below. let below_n : k < n = omega arith in rw (get_or-take n piece k 0 below_n) (at.2 k below_n))
     (λ past. absurd (omega arith))
 
-module _ (input piece : List ℕ) (s next : LineState) (at : HasTaken input s) where
+module _ (input piece : List ℕ) (s next : ReaderState) (at : HasRead input s) where
   -- a piece without a line end
-  pub HasTaken-no_end : position is_line_end piece ≡ None → next.line ≡ extended (under_way s) piece → next.ended ≡ false →
-      HasTaken (input ++ take (length piece) piece) next
-  HasTaken-no_end none fed going =
+  pub HasRead-no_end : position is_line_end piece ≡ None → next.line ≡ extended (under_way s) piece → next.ended ≡ false →
+      HasRead (input ++ take (length piece) piece) next
+  HasRead-no_end none fed going =
       cond-false next.ended (Some []) next.line going ∙ fed ∙ ap (λ line. extended line piece) at ∙ extended-kept (unended input) piece
       ∙ ap kept (sym (ap (λ bs. unended (input ++ bs)) (take_all (length piece) piece (omega arith)) ∙ unended-no_end input piece (no_end piece none)))
 
@@ -49,8 +49,8 @@ module _ (input piece : List ℕ) (s next : LineState) (at : HasTaken input s) w
         ap (λ bs. input ++ bs) (take_more piece n 0 place.0 ∙ ap (λ b. take n piece ++ b ∷ []) (eqb-true (get_or piece n 0) LINE_END place.1)) ∙
         sym (append_assoc input (take n piece) (LINE_END ∷ []))
 
-    pub HasTaken-line_end : next.ended ≡ true → HasTaken (input ++ take (n + 1) piece) next
-    HasTaken-line_end over =
+    pub HasRead-line_end : next.ended ≡ true → HasRead (input ++ take (n + 1) piece) next
+    HasRead-line_end over =
         cond-true next.ended (Some []) next.line over ∙ ap kept (sym (ap unended cut ∙ unended-line_end input (take n piece) (before-no_end piece n first)))
 
     pub TellsLine-line_end : (ended : Ended) → next.line ≡ ended_line (extended (under_way s) (take n piece)) →
@@ -68,12 +68,12 @@ unless_empty-some [] some = absurd (some refl)
 unless_empty-some (b ∷ bs) some = refl
 
 -- an input that ends where a line does
-pub TellsLine-end : (input : List ℕ) (s next : LineState) → HasTaken input s → under_way s ≡ Some [] → TellsLine (lines_so_far input) (lines input) None next
+pub TellsLine-end : (input : List ℕ) (s next : ReaderState) → HasRead input s → under_way s ≡ Some [] → TellsLine (lines_so_far input) (lines input) None next
 TellsLine-end input s next at none =
     ap (λ line. lines_so_far input ++ map without_return (unless_empty line)) (nil-from_kept (unended input) (sym at ∙ none)) ∙ append-nil (lines_so_far input)
 
 -- an input that ends within a line
-pub TellsLine-last : (input : List ℕ) (s next : LineState) (ended : Ended) → HasTaken input s → (under_way s ≡ Some [] → ⊥) →
+pub TellsLine-last : (input : List ℕ) (s next : ReaderState) (ended : Ended) → HasRead input s → (under_way s ≡ Some [] → ⊥) →
     next.line ≡ ended_line (under_way s) → TellsLine (lines_so_far input) (lines input) (Some ended) next
 TellsLine-last input s next ended at some fed =
     let line = unended input in (

@@ -65,7 +65,8 @@ means-nothing = refl
 
 -- the forms
 means-commands :
-    map meaning (codes "create a exp 2 1 1" ∷ codes "create p power 1 0 01 4294967295" ∷ codes "append a 10 5" ∷ codes "append a 007 -0" ∷ codes "append a 4611686018427387904 -9223372036854775808" ∷ codes "windows a" ∷ codes "list" ∷ [])
+    map meaning (codes "create a exp 2 1 1" ∷ codes "create p power 1 0 01 4294967295" ∷ codes "append a 10 5" ∷ codes "append a 007 -0"
+    ∷ codes "append a 4611686018427387904 -9223372036854775808" ∷ codes "windows a" ∷ codes "list" ∷ [])
     ≡ Ok (Some (commands.Do (Create (codes "a") (Exp 2 1 1))))
     ∷ Ok (Some (commands.Do (Create (codes "p") (Power 1 0 1 4294967295))))
     ∷ Ok (Some (commands.Do (Value (codes "a") 10 (pos 5))))
@@ -82,8 +83,10 @@ refused refusal = Err refusal
 
 -- the order of the refusals
 means-refused :
-    map meaning (codes "windows" ∷ codes "LIST" ∷ codes "create a exp 2 1" ∷ codes "append x! y 1" ∷ codes "append a 4611686018427387905 1" ∷ codes "append a 80 9223372036854775808" ∷ codes "create a exp 4294967296 1 1" ∷ codes "append x! 1 1" ∷ codes " # note" ∷ [])
-    ≡ map refused (refusals.Syntax ∷ refusals.Syntax ∷ refusals.Syntax ∷ refusals.Number ∷ refusals.Number ∷ refusals.Number ∷ refusals.Number ∷ refusals.Name ∷ refusals.Syntax ∷ [])
+    map meaning (codes "windows" ∷ codes "LIST" ∷ codes "create a exp 2 1" ∷ codes "append x! y 1" ∷ codes "append a 4611686018427387905 1"
+    ∷ codes "append a 80 9223372036854775808" ∷ codes "create a exp 4294967296 1 1" ∷ codes "append x! 1 1" ∷ codes " # note" ∷ [])
+    ≡ map refused (refusals.Syntax ∷ refusals.Syntax ∷ refusals.Syntax ∷ refusals.Number ∷ refusals.Number ∷ refusals.Number ∷ refusals.Number ∷ refusals.Name
+    ∷ refusals.Syntax ∷ [])
 unfolding meaning words is_number number_of number_up_to signed_of is_name
 means-refused = refl
 
@@ -98,8 +101,10 @@ unfolding meaning words is_number number_of number_up_to signed_of is_name
 means-queries = refl
 
 means-queries_refused :
-    map meaning (codes "query a count 1" ∷ codes "query a count 1 2 3" ∷ codes "query a mean 1 2" ∷ codes "query x! mean y 2" ∷ codes "query x! sum y 2" ∷ codes "query a sum 1 4611686018427387905" ∷ codes "query a sum -1 2" ∷ codes "query x! sum 1 2" ∷ [])
-    ≡ map refused (refusals.Syntax ∷ refusals.Syntax ∷ refusals.Syntax ∷ refusals.Syntax ∷ refusals.Number ∷ refusals.Number ∷ refusals.Number ∷ refusals.Name ∷ [])
+    map meaning (codes "query a count 1" ∷ codes "query a count 1 2 3" ∷ codes "query a mean 1 2" ∷ codes "query x! mean y 2" ∷ codes "query x! sum y 2"
+    ∷ codes "query a sum 1 4611686018427387905" ∷ codes "query a sum -1 2" ∷ codes "query x! sum 1 2" ∷ [])
+    ≡ map refused (refusals.Syntax ∷ refusals.Syntax ∷ refusals.Syntax ∷ refusals.Syntax ∷ refusals.Number ∷ refusals.Number ∷ refusals.Number ∷ refusals.Name
+    ∷ [])
 unfolding meaning words is_number number_of number_up_to signed_of is_name
 means-queries_refused = refl
 
@@ -114,8 +119,10 @@ unfolding meaning words is_number number_of number_up_to signed_of is_name
 means-landmarks = refl
 
 means-landmarks_refused :
-    map meaning (codes "landmark" ∷ codes "landmark a open" ∷ codes "landmark a close 1 2" ∷ codes "landmark a shut 1" ∷ codes "landmark x! Open y" ∷ codes "landmark x! open y" ∷ codes "landmark a open 4611686018427387905" ∷ codes "landmark a close -1" ∷ codes "landmark x! close 1" ∷ [])
-    ≡ map refused (refusals.Syntax ∷ refusals.Syntax ∷ refusals.Syntax ∷ refusals.Syntax ∷ refusals.Syntax ∷ refusals.Number ∷ refusals.Number ∷ refusals.Number ∷ refusals.Name ∷ [])
+    map meaning (codes "landmark" ∷ codes "landmark a open" ∷ codes "landmark a close 1 2" ∷ codes "landmark a shut 1" ∷ codes "landmark x! Open y"
+    ∷ codes "landmark x! open y" ∷ codes "landmark a open 4611686018427387905" ∷ codes "landmark a close -1" ∷ codes "landmark x! close 1" ∷ [])
+    ≡ map refused (refusals.Syntax ∷ refusals.Syntax ∷ refusals.Syntax ∷ refusals.Syntax ∷ refusals.Syntax ∷ refusals.Number ∷ refusals.Number ∷ refusals.Number
+    ∷ refusals.Name ∷ [])
 unfolding meaning words is_number number_of number_up_to signed_of is_name
 means-landmarks_refused = refl
 
@@ -129,12 +136,14 @@ unfolding meaning
 means-257_bytes = refl
 
 printed-commands :
-    map printed (commands.Do (Create (codes "a") (Exp 2 1 1)) ∷ commands.Do (Create (codes "p") (Power 1 0 1 4)) ∷ commands.Do (Value (codes "a") 7 (negsuc 2)) ∷ commands.Windows (codes "a") ∷ commands.List ∷ [])
+    map printed (commands.Do (Create (codes "a") (Exp 2 1 1)) ∷ commands.Do (Create (codes "p") (Power 1 0 1 4)) ∷ commands.Do (Value (codes "a") 7 (negsuc 2))
+    ∷ commands.Windows (codes "a") ∷ commands.List ∷ [])
     ≡ codes "create a exp 2 1 1" ∷ codes "create p power 1 0 1 4" ∷ codes "append a 7 -3" ∷ codes "windows a" ∷ codes "list" ∷ []
 unfolding printed digits
 printed-commands = refl
 
-printed-landmarks : map printed (commands.Do (Open (codes "a") 80) ∷ commands.Do (Close (codes "a") 4611686018427387904) ∷ []) ≡ codes "landmark a open 80" ∷ codes "landmark a close 4611686018427387904" ∷ []
+printed-landmarks : map printed (commands.Do (Open (codes "a") 80) ∷ commands.Do (Close (codes "a") 4611686018427387904) ∷ []) ≡ codes "landmark a open 80"
+    ∷ codes "landmark a close 4611686018427387904" ∷ []
 unfolding printed digits
 printed-landmarks = refl
 

@@ -17,7 +17,8 @@ use Rattle.ss_catalog.specs.declared.refusal.Refusal.{Refusal}
 use Rattle.ss_command.specs.declared.TheConstants.{LONGEST_LINE}
 use Rattle.ss_command.specs.Grammar.{◌>>=◌, added_of, append_of, certify_of, close_of, command_of, create_of, end_of, exp_of, is_comment, landmark_of}
 use Rattle.ss_command.specs.Grammar.{list_of, meaning}
-use Rattle.ss_command.specs.Grammar.{meaning_of_words, kind_of, name_of, open_of, or_number, parameter_of, power_of, query_of, series_of, step_of, time_of, value_of}
+use Rattle.ss_command.specs.Grammar.{meaning_of_words, kind_of, name_of, open_of, or_number, parameter_of, power_of, query_of, series_of, step_of, time_of}
+use Rattle.ss_command.specs.Grammar.{value_of}
 use Rattle.ss_command.specs.Grammar.{windows_of}
 use Rattle.ss_command.specs.Printed.{IsSayable}
 use Rattle.ss_command.specs.Words.{is_word, words}

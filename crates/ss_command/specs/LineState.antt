@@ -28,20 +28,20 @@ ended_line None = None
 ended_line (Some bytes) = unless_long (without_return bytes)
 
 -- a reader: the line that it is at, and whether that line has ended
-pub record LineState : Type 0 where
+pub record ReaderState : Type 0 where
   pub line : Option (List ℕ)
   pub ended : Bool
 
 -- what is kept of the line that is under way: nothing yet, where the last one has ended
-abbrev pub under_way : LineState → Kept
+abbrev pub under_way : ReaderState → Kept
 under_way s = if s.ended then Some [] else s.line
 
 -- a reader that has taken this input: it keeps what stands after the last line end
-abbrev pub HasTaken : List ℕ → LineState → Type 0
-HasTaken input s = under_way s ≡ kept (unended input)
+abbrev pub HasRead : List ℕ → ReaderState → Type 0
+HasRead input s = under_way s ≡ kept (unended input)
 
 -- what a reader answers where the lines grew from the first list to the second: nothing where they did not, and otherwise
 -- that one more line ended, which it has
-abbrev pub TellsLine : List (List ℕ) → List (List ℕ) → Option Ended → LineState → Type 0
+abbrev pub TellsLine : List (List ℕ) → List (List ℕ) → Option Ended → ReaderState → Type 0
 TellsLine before after None s = after ≡ before
 TellsLine before after (Some ended) s = (line : List ℕ) × (after ≡ before ++ line ∷ []) × (s.line ≡ unless_long line)

@@ -27,9 +27,9 @@ pub struct LineReader {
 
 impl Model for LineReader {
     ghost use Rattle.std.specs.Prelude.{if◌then◌else◌, Some, None};
-    ghost use Rattle.ss_command.specs.LineState.{LineState};
+    ghost use Rattle.ss_command.specs.LineState.{ReaderState};
 
-    ghost Value = { LineState };
+    ghost Value = { ReaderState };
 
     ghost view = { λ r. record { line = if r.long then None else Some r.line.items; ended = r.ended } };
 }
@@ -55,12 +55,12 @@ impl LineReader {
     ghost use Rattle.std.specs.Prelude.{is_some, if◌then◌else◌, MatchOption};
     ghost use Rattle.std.specs.List.{before_first, position_or_len};
     ghost use Rattle.ss_command.specs.Lines.{is_line_end, lines, lines_so_far};
-    ghost use Rattle.ss_command.specs.LineState.{under_way, extended, ended_line, HasTaken, TellsLine};
+    ghost use Rattle.ss_command.specs.LineState.{under_way, extended, ended_line, HasRead, TellsLine};
 
     /// A reader at the front of an input.
     pub fn new() -> LineReader
         ensures state { result ≡ record { line = Some []; ended = false } }
-        ensures taken { HasTaken [] result }
+        ensures taken { HasRead [] result }
     {
         LineReader {
             line: ArrayVec::new(),
@@ -124,8 +124,8 @@ impl LineReader {
         ensures whole { IfSome result.1 (λ e. e ≡ Ended.Whole ↔ IsSome self.new.line) }
 
         // Whatever the pieces were, the lines are those of the input.
-        ensures taken { (input : List ℕ) → HasTaken input self.old → HasTaken (input ++ take result.0 piece.now) self.new }
-        ensures lines { (input : List ℕ) → HasTaken input self.old →
+        ensures taken { (input : List ℕ) → HasRead input self.old → HasRead (input ++ take result.0 piece.now) self.new }
+        ensures lines { (input : List ℕ) → HasRead input self.old →
             TellsLine (lines_so_far input) (lines_so_far (input ++ take result.0 piece.now)) result.1 self.new }
     {
         self.begin();
@@ -147,7 +147,7 @@ impl LineReader {
         ensures line { self.new.line ≡ (if is_some result then ended_line (under_way self.old) else under_way self.old) }
         ensures state { self.new.ended ≡ is_some result }
         ensures whole { IfSome result (λ e. e ≡ Ended.Whole ↔ IsSome self.new.line) }
-        ensures lines { (input : List ℕ) → HasTaken input self.old →
+        ensures lines { (input : List ℕ) → HasRead input self.old →
             TellsLine (lines_so_far input) (lines input) result self.new }
     {
         self.begin();

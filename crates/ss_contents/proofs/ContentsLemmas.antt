@@ -26,7 +26,7 @@ use Rattle.ss_model.proofs.ReadLemmas.{All-state}
 use Rattle.ss_model.proofs.RisingLemmas.{values-rise}
 use Rattle.ss_model.proofs.Stretches.{taken-windows}
 use Rattle.ss_contents.specs.Attained.{IsAttained, MayBeTrue, truth_of_kind}
-use Rattle.ss_contents.specs.Contents.{Contents, contents_of, windows_of, AreContents, Like, count_in, sum_in}
+use Rattle.ss_contents.specs.Contents.{Contents, contents_of, own_windows, AreContents, Like, count_in, sum_in}
 use Rattle.ss_contents.specs.Rebuilt.{rebuilt}
 use Rattle.ss_contents.specs.Sides.{Sides, AllFit, count_inside, sum_inside}
 use Rattle.ss_contents.proofs.PieceLemmas.{length-others, windows-others}
@@ -34,10 +34,10 @@ use Rattle.ss_contents.proofs.ReplacedLemmas.{AreReplaced, replaced-all, total-a
 use Rattle.ss_contents.proofs.SayableLemmas.{sayable-others, sayable-standing}
 
 module _ (c : Contents) (from to : ℕ) (sides : List Sides) (sound : AreContents c)
-    (fit : AllFit (split_windows (is_free c.landmarks) from to (windows_of c)) sides) where
-  parts : AreReplaced (is_free c.landmarks) from to 0 (windows_of c) sides (rebuilt from to sides c).plain
+    (fit : AllFit (split_windows (is_free c.landmarks) from to (own_windows c)) sides) where
+  parts : AreReplaced (is_free c.landmarks) from to 0 (own_windows c) sides (rebuilt from to sides c).plain
   parts =
-      replaced-all (is_free c.landmarks) from to 0 (windows_of c) sides c.plain (AreOf-windows (lengths_of c.params) c.plain) sound.rising fit
+      replaced-all (is_free c.landmarks) from to 0 (own_windows c) sides c.plain (AreOf-windows (lengths_of c.params) c.plain) sound.rising fit
 
   pub Like-rebuilt : Like (rebuilt from to sides c) c
   Like-rebuilt = record {
@@ -52,25 +52,25 @@ module _ (c : Contents) (from to : ℕ) (sides : List Sides) (sound : AreContent
     target = sound.target;
     few = omega (arith, Like-rebuilt.number, sound.few);
     rising = parts.rising;
-    sayable = sayable-others (is_free c.landmarks) 0 (windows_of c) c.plain (rebuilt from to sides c).plain
+    sayable = sayable-others (is_free c.landmarks) 0 (own_windows c) c.plain (rebuilt from to sides c).plain
         (AreOf-windows (lengths_of c.params) c.plain) parts.of parts.rising sound.sayable;
     landmarks = sound.landmarks;
   }
 
   pub count_in-rebuilt : count_in from to (rebuilt from to sides c)
-      ≡ known_count from to (windows_of c) (marked_values c.landmarks) + count_inside sides
+      ≡ known_count from to (own_windows c) (marked_values c.landmarks) + count_inside sides
   count_in-rebuilt =
       let marked = asked from to (marked_values c.landmarks) in
       omega (arith, length-append (asked from to (rebuilt from to sides c).plain) marked, parts.count)
 
   pub sum_in-rebuilt : sum_in from to (rebuilt from to sides c)
-      ≡ (known_sum from to (windows_of c) (marked_values c.landmarks) +ℤ sum_inside sides)
+      ≡ (known_sum from to (own_windows c) (marked_values c.landmarks) +ℤ sum_inside sides)
   sum_in-rebuilt =
       let marked = asked from to (marked_values c.landmarks) in
       omega (arith, ints, total-append (asked from to (rebuilt from to sides c).plain) marked, parts.sum)
 
-  pub IsAttained-rebuilt : IsAttained c from to (known_count from to (windows_of c) (marked_values c.landmarks) + count_inside sides)
-      (known_sum from to (windows_of c) (marked_values c.landmarks) +ℤ sum_inside sides)
+  pub IsAttained-rebuilt : IsAttained c from to (known_count from to (own_windows c) (marked_values c.landmarks) + count_inside sides)
+      (known_sum from to (own_windows c) (marked_values c.landmarks) +ℤ sum_inside sides)
   IsAttained-rebuilt = record {
     contents = rebuilt from to sides c;
     sound = AreContents-rebuilt;
@@ -81,24 +81,24 @@ module _ (c : Contents) (from to : ℕ) (sides : List Sides) (sound : AreContent
 
 -- the intervals that the windows of some contents give hold the truth over all contents like them
 module _ (c d : Contents) (from to : ℕ) (sound : AreContents d) (like : Like d c) where
-  pub count_in-lies : let answer = interval_of_count (is_free c.landmarks) from to (windows_of c) (marked_values c.landmarks) in
+  pub count_in-lies : let answer = interval_of_count (is_free c.landmarks) from to (own_windows c) (marked_values c.landmarks) in
       (answer.0 ≤ count_in from to d) × (count_in from to d ≤ answer.1)
   count_in-lies =
-      subst (λ ls. let answer = interval_of_count (is_free ls) from to (windows_of c) (marked_values ls) in
+      subst (λ ls. let answer = interval_of_count (is_free ls) from to (own_windows c) (marked_values ls) in
       (answer.0 ≤ count_in from to d) × (count_in from to d ≤ answer.1)) like.landmarks
       (subst (λ ws. let answer = interval_of_count (is_free d.landmarks) from to ws (marked_values d.landmarks) in
       (answer.0 ≤ count_in from to d) × (count_in from to d ≤ answer.1)) like.windows
-      (count-lies (is_free d.landmarks) from to (windows_of d) d.plain (marked_values d.landmarks) 0
+      (count-lies (is_free d.landmarks) from to (own_windows d) d.plain (marked_values d.landmarks) 0
       (AreOf-windows (lengths_of d.params) d.plain) sound.rising))
 
-  pub sum_in-lies : let answer = interval_of_sum (is_free c.landmarks) from to (windows_of c) (marked_values c.landmarks) in
+  pub sum_in-lies : let answer = interval_of_sum (is_free c.landmarks) from to (own_windows c) (marked_values c.landmarks) in
       (answer.0 ≤ℤ sum_in from to d) × (sum_in from to d ≤ℤ answer.1)
   sum_in-lies =
-      subst (λ ls. let answer = interval_of_sum (is_free ls) from to (windows_of c) (marked_values ls) in
+      subst (λ ls. let answer = interval_of_sum (is_free ls) from to (own_windows c) (marked_values ls) in
       (answer.0 ≤ℤ sum_in from to d) × (sum_in from to d ≤ℤ answer.1)) like.landmarks
       (subst (λ ws. let answer = interval_of_sum (is_free d.landmarks) from to ws (marked_values d.landmarks) in
       (answer.0 ≤ℤ sum_in from to d) × (sum_in from to d ≤ℤ answer.1)) like.windows
-      (sum-lies (is_free d.landmarks) from to (windows_of d) d.plain (marked_values d.landmarks) 0
+      (sum-lies (is_free d.landmarks) from to (own_windows d) d.plain (marked_values d.landmarks) 0
       (AreOf-windows (lengths_of d.params) d.plain) sound.rising))
 
 -- ---- the streams of a history

@@ -6,7 +6,7 @@ use Rattle.std.proofs.lemmas.List.{append-nil, length-drop, take-append-drop}
 use Rattle.ss_bounds.specs.Times.{lies_in}
 use Rattle.ss_bounds.proofs.TimeLemmas.{count_by-cons}
 use Rattle.ss_model.specs.Truth.{RiseAtFree}
-use Rattle.ss_contents.specs.Rebuilt.{one_if, at_time, filled}
+use Rattle.ss_contents.specs.Rebuilt.{one_if, at_time, placed_at_times}
 use Rattle.ss_contents.proofs.PickedLemmas.{picked, left, picked-append, picked-at_true, picked-at_false}
 
 pub one_if-not : (b : Bool) → one_if b + one_if (not b) ≡ 1
@@ -48,31 +48,31 @@ module _ (free : ℕ → Bool) (from to : ℕ) where
   )
   picked-both false l t inside outside is = (refl, refl)
 
-  pub picked-filled : (ts : List ℕ) (inside outside : List ℤ) → length inside ≤ count_within ts
-      → picked (lies_in from to) (filled free from to ts inside outside) ≡ inside
-  picked-filled [] [] outside few = refl
-  picked-filled [] (v ∷ vs) outside few = absurd (omega arith)
-  picked-filled (t ∷ ts) inside outside few =
+  pub picked-placed_at_times : (ts : List ℕ) (inside outside : List ℤ) → length inside ≤ count_within ts
+      → picked (lies_in from to) (placed_at_times free from to ts inside outside) ≡ inside
+  picked-placed_at_times [] [] outside few = refl
+  picked-placed_at_times [] (v ∷ vs) outside few = absurd (omega arith)
+  picked-placed_at_times (t ∷ ts) inside outside few =
       let i = one_if (free t && lies_in from to t) in
       let o = one_if (free t && not (lies_in from to t)) in
       let here = picked-both (free t) (lies_in from to t) t inside outside refl in
       let more = count_by-cons (λ u. free u && lies_in from to u) t ts in
-      let rest = picked-filled ts (drop i inside) (drop o outside) (omega (arith, length-drop i inside, more)) in
-      picked-append (lies_in from to) (at_time t (take i inside ++ take o outside)) (filled free from to ts (drop i inside) (drop o outside))
+      let rest = picked-placed_at_times ts (drop i inside) (drop o outside) (omega (arith, length-drop i inside, more)) in
+      picked-append (lies_in from to) (at_time t (take i inside ++ take o outside)) (placed_at_times free from to ts (drop i inside) (drop o outside))
       ∙ ap₂ (λ x y. x ++ y) here.0 rest ∙ take-append-drop i inside
 
-  pub left-filled : (ts : List ℕ) (inside outside : List ℤ) → length outside ≤ count_beyond ts
-      → left (lies_in from to) (filled free from to ts inside outside) ≡ outside
-  left-filled [] inside [] few = refl
-  left-filled [] inside (v ∷ vs) few = absurd (omega arith)
-  left-filled (t ∷ ts) inside outside few =
+  pub left-placed_at_times : (ts : List ℕ) (inside outside : List ℤ) → length outside ≤ count_beyond ts
+      → left (lies_in from to) (placed_at_times free from to ts inside outside) ≡ outside
+  left-placed_at_times [] inside [] few = refl
+  left-placed_at_times [] inside (v ∷ vs) few = absurd (omega arith)
+  left-placed_at_times (t ∷ ts) inside outside few =
       let i = one_if (free t && lies_in from to t) in
       let o = one_if (free t && not (lies_in from to t)) in
       let here = picked-both (free t) (lies_in from to t) t inside outside refl in
       let more = count_by-cons (λ u. free u && not (lies_in from to u)) t ts in
-      let rest = left-filled ts (drop i inside) (drop o outside) (omega (arith, length-drop o outside, more)) in
+      let rest = left-placed_at_times ts (drop i inside) (drop o outside) (omega (arith, length-drop o outside, more)) in
       picked-append (λ u. not (lies_in from to u)) (at_time t (take i inside ++ take o outside))
-      (filled free from to ts (drop i inside) (drop o outside))
+      (placed_at_times free from to ts (drop i inside) (drop o outside))
       ∙ ap₂ (λ x y. x ++ y) here.1 rest ∙ take-append-drop o outside
 
   RiseAtFree-both : (f l : Bool) (t : ℕ) (inside outside : List ℤ) (rest : List (ℕ × ℤ)) → free t ≡ f → RiseAtFree free (t + 1) rest
@@ -83,14 +83,14 @@ module _ (free : ℕ → Bool) (from to : ℕ) where
   RiseAtFree-both true false t inside (v ∷ vs) rest is rising = (omega arith, is, rising)
   RiseAtFree-both false l t inside outside rest is rising = RiseAtFree-earlier free t (t + 1) rest (omega arith) rising
 
-  pub RiseAtFree-filled : (n s : ℕ) (inside outside : List ℤ) (rest : List (ℕ × ℤ)) → RiseAtFree free (s + n) rest
-      → RiseAtFree free s (filled free from to (range_with_len s n) inside outside ++ rest)
-  RiseAtFree-filled zero s inside outside rest rising = RiseAtFree-earlier free s (s + 0) rest (omega arith) rising
-  RiseAtFree-filled (suc n) s inside outside rest rising =
+  pub RiseAtFree-placed_at_times : (n s : ℕ) (inside outside : List ℤ) (rest : List (ℕ × ℤ)) → RiseAtFree free (s + n) rest
+      → RiseAtFree free s (placed_at_times free from to (range_with_len s n) inside outside ++ rest)
+  RiseAtFree-placed_at_times zero s inside outside rest rising = RiseAtFree-earlier free s (s + 0) rest (omega arith) rising
+  RiseAtFree-placed_at_times (suc n) s inside outside rest rising =
       let i = one_if (free s && lies_in from to s) in
       let o = one_if (free s && not (lies_in from to s)) in
-      let behind = filled free from to (range_with_len (s + 1) n) (drop i inside) (drop o outside) in
+      let behind = placed_at_times free from to (range_with_len (s + 1) n) (drop i inside) (drop o outside) in
       let same : s + suc n ≡ s + 1 + n = omega arith in
-      let later = RiseAtFree-filled n (s + 1) (drop i inside) (drop o outside) rest (subst (λ z. RiseAtFree free z rest) same rising) in
+      let later = RiseAtFree-placed_at_times n (s + 1) (drop i inside) (drop o outside) rest (subst (λ z. RiseAtFree free z rest) same rising) in
       subst (RiseAtFree free s) (sym (append_assoc (at_time s (take i inside ++ take o outside)) behind rest))
       (RiseAtFree-both (free s) (lies_in from to s) s inside outside (behind ++ rest) refl later)

@@ -3,7 +3,7 @@ use Rattle.std.specs.Prelude.{◌≡◌, ℕ, ◌+◌, ◌-◌, ◌≤◌, Bool,
 use Rattle.std.proofs.Common.{ap, arith, sym, ◌∙◌}
 use Rattle.std.proofs.lemmas.List.{append-nil, length-append}
 use Rattle.ss_summary.specs.Figures.{Figures}
-use Rattle.ss_summary.specs.Summaries.{summary_of, last_time}
+use Rattle.ss_summary.specs.Summaries.{summary_of, time_at_end}
 use Rattle.ss_model.specs.Boundaries.{boundaries}
 use Rattle.ss_model.specs.Truth.{RiseAtFree}
 use Rattle.ss_model.specs.Windows.{stretches, windows, taken}
@@ -60,20 +60,20 @@ module _ (free : ℕ → Bool) where
   RiseAtFree-front start p (q ∷ qs) rest rising = (rising.0, rising.1, RiseAtFree-front (p.0 + 1) q qs rest rising.2)
 
   pub RiseAtFree-behind : (start : ℕ) (p : ℕ × ℤ) (ps rest : List (ℕ × ℤ)) → RiseAtFree free start ((p ∷ ps) ++ rest)
-      → RiseAtFree free (last_time p.0 ps + 1) rest
+      → RiseAtFree free (time_at_end p.0 ps + 1) rest
   RiseAtFree-behind start p [] rest rising = rising.2
   RiseAtFree-behind start p (q ∷ qs) rest rising = RiseAtFree-behind (p.0 + 1) q qs rest rising.2
 
   pub RiseAtFree-append : (start : ℕ) (p : ℕ × ℤ) (ps rest : List (ℕ × ℤ)) → RiseAtFree free start (p ∷ ps)
-      → RiseAtFree free (last_time p.0 ps + 1) rest → RiseAtFree free start ((p ∷ ps) ++ rest)
+      → RiseAtFree free (time_at_end p.0 ps + 1) rest → RiseAtFree free start ((p ∷ ps) ++ rest)
   RiseAtFree-append start p [] rest rising behind = (rising.0, rising.1, behind)
   RiseAtFree-append start p (q ∷ qs) rest rising behind = (rising.0, rising.1, RiseAtFree-append (p.0 + 1) q qs rest rising.2 behind)
 
   -- the last time is free, and is later than the first by one at least for each value between
-  pub free-last : (start : ℕ) (p : ℕ × ℤ) (ps : List (ℕ × ℤ)) → RiseAtFree free start (p ∷ ps) → free (last_time p.0 ps) ≡ true
+  pub free-last : (start : ℕ) (p : ℕ × ℤ) (ps : List (ℕ × ℤ)) → RiseAtFree free start (p ∷ ps) → free (time_at_end p.0 ps) ≡ true
   free-last start p [] rising = rising.1
   free-last start p (q ∷ qs) rising = free-last (p.0 + 1) q qs rising.2
 
-  pub last_time-later : (start : ℕ) (p : ℕ × ℤ) (ps : List (ℕ × ℤ)) → RiseAtFree free start (p ∷ ps) → p.0 + length ps ≤ last_time p.0 ps
-  last_time-later start p [] rising = omega arith
-  last_time-later start p (q ∷ qs) rising = let late = rising.2.0 in omega (arith, last_time-later (p.0 + 1) q qs rising.2)
+  pub time_at_end-later : (start : ℕ) (p : ℕ × ℤ) (ps : List (ℕ × ℤ)) → RiseAtFree free start (p ∷ ps) → p.0 + length ps ≤ time_at_end p.0 ps
+  time_at_end-later start p [] rising = omega arith
+  time_at_end-later start p (q ∷ qs) rising = let late = rising.2.0 in omega (arith, time_at_end-later (p.0 + 1) q qs rising.2)

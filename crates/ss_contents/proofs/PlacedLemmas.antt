@@ -3,19 +3,20 @@ use Rattle.std.specs.Prelude.{◌≡◌, ℕ, suc, ◌+◌, ◌-◌, ◌<◌, �
 use Rattle.std.specs.List.{count_by, range_with_len}
 use Rattle.std.proofs.Common.{ap, ap₂, arith, refl, sym, ◌∙◌, subst, append_assoc}
 use Rattle.std.proofs.lemmas.List.{append-nil, drop_all, length-append, length-drop, length-take, take-append-drop}
-use Rattle.ss_summary.specs.Summaries.{summary_of, last_time}
+use Rattle.ss_summary.specs.Summaries.{summary_of, time_at_end}
 use Rattle.ss_summary.specs.Summaries as summaries
-use Rattle.ss_summary.proofs.SummaryLemmas.{last_time-append}
+use Rattle.ss_summary.proofs.SummaryLemmas.{time_at_end-append}
 use Rattle.ss_bounds.specs.Times.{lies_in, ends_in, split_of, times}
 use Rattle.ss_bounds.specs.Truth.{AllBetween, total}
 use Rattle.ss_bounds.proofs.TimeLemmas.{count_by-cons}
 use Rattle.ss_model.specs.Truth.{RiseAtFree}
 use Rattle.ss_model.specs.declared.types.Window.{Window}
 use Rattle.ss_model.proofs.IntervalLemmas.{AreOf}
-use Rattle.ss_contents.specs.Rebuilt.{one_if, at_time, filled, placed}
+use Rattle.ss_contents.specs.Rebuilt.{one_if, at_time, placed_at_times, placed}
 use Rattle.ss_contents.specs.Sides.{Sides, FitSplit}
 use Rattle.ss_contents.proofs.PickedLemmas.{picked, left, picked-append, picked-at_true, picked-at_false, picked-parts, extremes-from_parts}
-use Rattle.ss_contents.proofs.FilledLemmas.{count_beyond, count_within, one_if-not, one-value, picked-filled, left-filled, RiseAtFree-filled}
+use Rattle.ss_contents.proofs.FilledLemmas.{count_beyond, count_within, one_if-not, one-value, picked-placed_at_times, left-placed_at_times}
+use Rattle.ss_contents.proofs.FilledLemmas.{RiseAtFree-placed_at_times}
 
 -- what the last time takes of both sides
 abbrev rest_of : Bool → List ℤ → List ℤ → List ℤ
@@ -119,33 +120,34 @@ module _ (free : ℕ → Bool) (from to first last count : ℕ) (sum m M : ℤ) 
   pub picked-placed : picked (lies_in from to) all ≡ v.inside
   picked-placed =
       let ts = range_with_len first (last - first) in
-      picked-append (lies_in from to) (filled free from to ts (take i v.inside) (take o v.outside)) (at_time last (drop i v.inside ++ drop o v.outside))
-      ∙ ap₂ (λ x y. x ++ y) (picked-filled free from to ts (take i v.inside) (take o v.outside) has_room.inside)
+      picked-append (lies_in from to) (placed_at_times free from to ts (take i v.inside) (take o v.outside))
+      (at_time last (drop i v.inside ++ drop o v.outside))
+      ∙ ap₂ (λ x y. x ++ y) (picked-placed_at_times free from to ts (take i v.inside) (take o v.outside) has_room.inside)
       (picked-last free from to (lies_in from to last) last v.inside v.outside refl).0
       ∙ take-append-drop i v.inside
 
   pub left-placed : left (lies_in from to) all ≡ v.outside
   left-placed =
       let ts = range_with_len first (last - first) in
-      picked-append (λ t. not (lies_in from to t)) (filled free from to ts (take i v.inside) (take o v.outside))
+      picked-append (λ t. not (lies_in from to t)) (placed_at_times free from to ts (take i v.inside) (take o v.outside))
       (at_time last (drop i v.inside ++ drop o v.outside))
-      ∙ ap₂ (λ x y. x ++ y) (left-filled free from to ts (take i v.inside) (take o v.outside) has_room.outside)
+      ∙ ap₂ (λ x y. x ++ y) (left-placed_at_times free from to ts (take i v.inside) (take o v.outside) has_room.outside)
       (picked-last free from to (lies_in from to last) last v.inside v.outside refl).1
       ∙ take-append-drop o v.outside
 
   -- the first of these values, and those between it and the last one
   starts : (x : ℤ) × (between : List (ℕ × ℤ))
-      × (filled free from to (range_with_len first (last - first)) (take i v.inside) (take o v.outside) ≡ (first, x) ∷ between)
+      × (placed_at_times free from to (range_with_len first (last - first)) (take i v.inside) (take o v.outside) ≡ (first, x) ∷ between)
   starts =
       let k = one_if (free first && lies_in from to first) in
       let l = one_if (free first && not (lies_in from to first)) in
       let more : last - first ≡ suc (last - (first + 1)) = omega arith in
-      let behind = filled free from to (range_with_len (first + 1) (last - (first + 1))) (drop k (take i v.inside)) (drop l (take o v.outside)) in
+      let behind = placed_at_times free from to (range_with_len (first + 1) (last - (first + 1))) (drop k (take i v.inside)) (drop l (take o v.outside)) in
       let head = one-value (take k (take i v.inside) ++ take l (take o v.outside))
       (length-first (free first) (lies_in from to first) (take i v.inside) (take o v.outside) is_first has_room.first_inside has_room.first_outside) in (
         head.0,
         behind,
-        ap (λ n. filled free from to (range_with_len first n) (take i v.inside) (take o v.outside)) more
+        ap (λ n. placed_at_times free from to (range_with_len first n) (take i v.inside) (take o v.outside)) more
             ∙ ap (λ vs. at_time first vs ++ behind) head.1,
       )
 
@@ -156,23 +158,23 @@ module _ (free : ℕ → Bool) (from to first last count : ℕ) (sum m M : ℤ) 
   pub RiseAtFree-placed : (rest : List (ℕ × ℤ)) → RiseAtFree free (last + 1) rest → RiseAtFree free first (all ++ rest)
   RiseAtFree-placed rest rising =
       let ts = range_with_len first (last - first) in
-      let front = filled free from to ts (take i v.inside) (take o v.outside) in
+      let front = placed_at_times free from to ts (take i v.inside) (take o v.outside) in
       let back = at_time last (drop i v.inside ++ drop o v.outside) in
       let end : first + (last - first) ≡ last = omega arith in
       let behind : RiseAtFree free last (back ++ rest) =
       subst (λ vs. RiseAtFree free last (at_time last vs ++ rest)) (sym ends.1) (omega arith, is_last, rising) in
       subst (RiseAtFree free first) (sym (append_assoc front back rest))
-      (RiseAtFree-filled free from to (last - first) first (take i v.inside) (take o v.outside) (back ++ rest)
+      (RiseAtFree-placed_at_times free from to (last - first) first (take i v.inside) (take o v.outside) (back ++ rest)
       (subst (λ z. RiseAtFree free z (back ++ rest)) (sym end) behind))
 
   -- the first value, and all behind it
-  shape-placed : (p : ℕ × ℤ) × (ps : List (ℕ × ℤ)) × (all ≡ p ∷ ps) × (p.0 ≡ first) × (last_time p.0 ps ≡ last)
+  shape-placed : (p : ℕ × ℤ) × (ps : List (ℕ × ℤ)) × (all ≡ p ∷ ps) × (p.0 ≡ first) × (time_at_end p.0 ps ≡ last)
   shape-placed = (
     (first, starts.0),
     starts.1 ++ (last, ends.0) ∷ [],
     ap₂ (λ xs ys. xs ++ at_time last ys) starts.2 ends.1,
     refl,
-    last_time-append first starts.1 (last, ends.0) [],
+    time_at_end-append first starts.1 (last, ends.0) [],
   )
 
   pub summary_of-placed : summary_of all ≡ record { count = count; sum = sum; min = m; max = M; t_first = first; t_last = last }

@@ -5,7 +5,7 @@ use Rattle.std.proofs.lemmas.Int.{ints}
 use Rattle.std.proofs.lemmas.List.{drop_at, length-append, length-map, take_at}
 use Rattle.std.proofs.lemmas.List.Sums.{sum_by-cons}
 use Rattle.ss_summary.specs.Figures.{Figures}
-use Rattle.ss_summary.specs.Summaries.{summary_of, last_time}
+use Rattle.ss_summary.specs.Summaries.{summary_of, time_at_end}
 use Rattle.ss_bounds.specs.Times.{ends_in}
 use Rattle.ss_bounds.specs.Truth.{asked, total}
 use Rattle.ss_model.specs.Interval.{is_split, is_whole, split_figures, split_windows, whole_windows}
@@ -16,7 +16,7 @@ use Rattle.ss_model.proofs.IntervalLemmas.{AreOf}
 use Rattle.ss_contents.specs.Rebuilt.{placed, replaced}
 use Rattle.ss_contents.specs.Sides.{Sides, FitSplit, AllFit, count_inside, sum_inside}
 use Rattle.ss_contents.proofs.FilledLemmas.{RiseAtFree-earlier}
-use Rattle.ss_contents.proofs.PieceLemmas.{RiseAtFree-append, RiseAtFree-behind, RiseAtFree-front, free-last, last_time-later}
+use Rattle.ss_contents.proofs.PieceLemmas.{RiseAtFree-append, RiseAtFree-behind, RiseAtFree-front, free-last, time_at_end-later}
 use Rattle.ss_contents.proofs.PlacedLemmas.{AreOf-placed, RiseAtFree-placed, picked-placed}
 
 pub total-append : (xs ys : List ℤ) → total (xs ++ ys) ≡ (total xs +ℤ total ys)
@@ -56,7 +56,7 @@ module _ (free : ℕ → Bool) (from to : ℕ) where
       → w.summary ≡ summary_of (p ∷ ps) → RiseAtFree free start (p ∷ ps) → is_split from to w ≡ false
       → length (asked from to (p ∷ ps)) + counts_of (whole_windows from to ws) ≡ counts_of (whole_windows from to (w ∷ ws))
       → (total (asked from to (p ∷ ps)) +ℤ sums_of (whole_windows from to ws)) ≡ sums_of (whole_windows from to (w ∷ ws))
-      → AreReplaced (last_time p.0 ps + 1) ws sides (new ws sides rest)
+      → AreReplaced (time_at_end p.0 ps + 1) ws sides (new ws sides rest)
       → AreReplaced start (w ∷ ws) sides (new (w ∷ ws) sides ((p ∷ ps) ++ rest))
   replaced-kept start w ws sides p ps rest is rising not_split counts sums later =
       let front = p ∷ ps in
@@ -77,7 +77,7 @@ module _ (free : ℕ → Bool) (from to : ℕ) where
   replaced-split : (start : ℕ) (w : Window) (ws : List Window) (v : Sides) (sides : List Sides) (p : ℕ × ℤ) (ps rest : List (ℕ × ℤ))
       → w.summary ≡ summary_of (p ∷ ps) → RiseAtFree free start (p ∷ ps) → 1 ≤ length ps → is_whole from to w ≡ false → is_split from to w ≡ true
       → FitSplit (split_figures free from to w) v
-      → AreReplaced (last_time p.0 ps + 1) ws sides (new ws sides rest)
+      → AreReplaced (time_at_end p.0 ps + 1) ws sides (new ws sides rest)
       → AreReplaced start (w ∷ ws) (v ∷ sides) (new (w ∷ ws) (v ∷ sides) ((p ∷ ps) ++ rest))
   replaced-split start w ws v sides p ps rest is rising more not_whole splits_it fit later =
       let f = w.summary in
@@ -86,8 +86,8 @@ module _ (free : ℕ → Bool) (from to : ℕ) where
       let all = placed free from to f.t_first f.t_last v in
       let number : length old ≡ f.count = sym (ap (λ (f : Figures). f.count) is) in
       let first : f.t_first ≡ p.0 = ap (λ (f : Figures). f.t_first) is in
-      let last : f.t_last ≡ last_time p.0 ps = ap (λ (f : Figures). f.t_last) is in
-      let before : f.t_first < f.t_last = omega (arith, last_time-later free start p ps rising) in
+      let last : f.t_last ≡ time_at_end p.0 ps = ap (λ (f : Figures). f.t_last) is in
+      let before : f.t_first < f.t_last = omega (arith, time_at_end-later free start p ps rising) in
       let is_first : free f.t_first ≡ true = ap free first ∙ rising.1 in
       let is_last : free f.t_last ≡ true = ap free last ∙ free-last free start p ps rising in
       let some : 2 ≤ f.count = omega arith in
@@ -120,7 +120,7 @@ module _ (free : ℕ → Bool) (from to : ℕ) where
 
   next : (start : ℕ) (w : Window) (ws : List Window) (sides : List Sides) (p : ℕ × ℤ) (ps rest : List (ℕ × ℤ))
       → w.summary ≡ summary_of (p ∷ ps) → RiseAtFree free start (p ∷ ps) → AllFit (split_windows free from to (w ∷ ws)) sides
-      → ((others : List Sides) → AllFit (split_windows free from to ws) others → AreReplaced (last_time p.0 ps + 1) ws others (new ws others rest))
+      → ((others : List Sides) → AllFit (split_windows free from to ws) others → AreReplaced (time_at_end p.0 ps + 1) ws others (new ws others rest))
       → Asked free from to w p ps → AreReplaced start (w ∷ ws) sides (new (w ∷ ws) sides ((p ∷ ps) ++ rest))
   next start w ws sides p ps rest is rising fit later (whole is_in not_split all) =
       let count = ap (λ (f : Figures). f.count) is in
@@ -152,5 +152,5 @@ module _ (free : ℕ → Bool) (from to : ℕ) where
       let behind = RiseAtFree-behind free start p ps rest rising in
       subst (λ z. AreReplaced start (w ∷ ws) sides (new (w ∷ ws) sides z)) (sym of.3)
       (next start w ws sides p ps rest of.4 front fit
-      (λ others fits. replaced-all (last_time p.0 ps + 1) ws others rest of.5 behind fits)
+      (λ others fits. replaced-all (time_at_end p.0 ps + 1) ws others rest of.5 behind fits)
       (asked-of free from to w p ps of.4 (omega arith, front.1, front.2)))

@@ -2,7 +2,7 @@
 use Rattle.std.specs.Prelude.{◌≡◌, ℕ, ◌≤◌, true, not, ℤ, pos, negsuc, IsTrue, List, [], ◌∷◌, length, map, All, None, Some, codes}
 use Rattle.std.proofs.Common.{arith, lit≤, refl}
 use Rattle.std.proofs.lemmas.Int.{ints}
-use Rattle.ss_windowing.specs.Windowing.{index_of}
+use Rattle.ss_windowing.specs.Windowing.{window_index}
 use Rattle.ss_windowing.specs.declared.decay.TheConstants.{MOST_VALUES}
 use Rattle.ss_bounds.specs.Times.{lies_in}
 use Rattle.ss_catalog.specs.declared.event.Event.{Event}
@@ -19,8 +19,8 @@ use Rattle.ss_model.specs.Refusals.{IsHistory}
 use Rattle.ss_model.specs.State.{Stream, state, stream_named}
 use Rattle.ss_model.specs.Truth.{RiseAtFree}
 use Rattle.ss_contents.specs.Attained.{IsAttained, MayBeTrue, truth_of_kind}
-use Rattle.ss_contents.specs.Contents.{Contents, AreContents, IsSayable, Like, contents_of, count_in, sum_in, windows_of}
-use Rattle.ss_contents.specs.Rebuilt.{filled, placed, rebuilt}
+use Rattle.ss_contents.specs.Contents.{Contents, AreContents, IsSayableValue, Like, contents_of, count_in, sum_in, own_windows}
+use Rattle.ss_contents.specs.Rebuilt.{placed_at_times, placed, rebuilt}
 use Rattle.ss_contents.specs.Sides.{Sides, AllFit, count_inside, sum_inside}
 use Rattle.ss_contents.proofs.ContentsLemmas.{MayBeTrue-sum}
 
@@ -41,15 +41,15 @@ history =
     ∷ Value a 50 (pos 9) ∷ Value a 60 (pos 2) ∷ Value a 70 (pos 7) ∷ []
 
 contents_of-history : map (contents_of history) (state history) ≡ readings ∷ []
-unfolding state index_of
+unfolding state window_index
 contents_of-history = refl
 
 -- from 10 to 25 the first window has 2 values of the sum 2, and may have -3 and -2 there, and 8 twice outside
 abbrev least_sum : List Sides
 least_sum = record { inside = negsuc 2 ∷ negsuc 1 ∷ []; outside = pos 8 ∷ pos 8 ∷ [] } ∷ []
 
-AllFit-least_sum : AllFit (split_windows (is_free []) 10 25 (windows_of readings)) least_sum
-unfolding index_of
+AllFit-least_sum : AllFit (split_windows (is_free []) 10 25 (own_windows readings)) least_sum
+unfolding window_index
 AllFit-least_sum = (
   record {
     fewest = lit≤ tt;
@@ -66,15 +66,15 @@ AllFit-least_sum = (
 
 plain-least_sum : (rebuilt 10 25 least_sum readings).plain
     ≡ (10, negsuc 2) ∷ (11, negsuc 1) ∷ (26, pos 8) ∷ (40, pos 8) ∷ (50, pos 9) ∷ (60, pos 2) ∷ (70, pos 7) ∷ []
-unfolding index_of
+unfolding window_index
 plain-least_sum = refl
 
-windows-least_sum : windows_of (rebuilt 10 25 least_sum readings) ≡ windows_of readings
-unfolding index_of
+windows-least_sum : own_windows (rebuilt 10 25 least_sum readings) ≡ own_windows readings
+unfolding window_index
 windows-least_sum = refl
 
 sums-least_sum : map (sum_in 10 25) (readings ∷ rebuilt 10 25 least_sum readings ∷ []) ≡ pos 2 ∷ negsuc 4 ∷ []
-unfolding index_of
+unfolding window_index
 sums-least_sum = refl
 
 -- from 25 to 55 two windows are split, with 3 values of the sum 18 there
@@ -84,19 +84,19 @@ greatest_sum =
 
 plain-greatest_sum : (rebuilt 25 55 greatest_sum readings).plain
     ≡ (10, negsuc 2) ∷ (11, negsuc 1) ∷ (25, pos 8) ∷ (40, pos 8) ∷ (50, pos 9) ∷ (60, pos 2) ∷ (70, pos 7) ∷ []
-unfolding index_of
+unfolding window_index
 plain-greatest_sum = refl
 
-windows-greatest_sum : windows_of (rebuilt 25 55 greatest_sum readings) ≡ windows_of readings
-unfolding index_of
+windows-greatest_sum : own_windows (rebuilt 25 55 greatest_sum readings) ≡ own_windows readings
+unfolding window_index
 windows-greatest_sum = refl
 
 sums-greatest_sum : map (sum_in 25 55) (readings ∷ rebuilt 25 55 greatest_sum readings ∷ []) ≡ pos 18 ∷ pos 25 ∷ []
-unfolding index_of
+unfolding window_index
 sums-greatest_sum = refl
 
 counts-greatest_sum : map (count_in 25 55) (readings ∷ rebuilt 25 55 greatest_sum readings ∷ []) ≡ 3 ∷ 3 ∷ []
-unfolding index_of
+unfolding window_index
 counts-greatest_sum = refl
 
 count_inside-rows : map count_inside (least_sum ∷ greatest_sum ∷ []) ≡ 2 ∷ 3 ∷ []
@@ -107,16 +107,16 @@ sum_inside-rows = refl
 
 -- where no window is split, nothing is replaced
 unsplit : rebuilt 10 40 [] readings ≡ readings
-unfolding index_of
+unfolding window_index
 unsplit = refl
 
 -- values for each window that is split, and no further ones
-AllFit-too_few : AllFit (split_windows (is_free []) 10 25 (windows_of readings)) [] → ⊥
-unfolding index_of
+AllFit-too_few : AllFit (split_windows (is_free []) 10 25 (own_windows readings)) [] → ⊥
+unfolding window_index
 AllFit-too_few fit = fit
 
-AllFit-too_many : AllFit (split_windows (is_free []) 10 40 (windows_of readings)) least_sum → ⊥
-unfolding index_of
+AllFit-too_many : AllFit (split_windows (is_free []) 10 40 (own_windows readings)) least_sum → ⊥
+unfolding window_index
 AllFit-too_many fit = fit
 
 -- the first window, of four values, spans a landmark from 20 to 40: from 19 to 42 two of them may lie at 19 and 41, and none between
@@ -132,22 +132,22 @@ around = record { inside = pos 3 ∷ pos 3 ∷ []; outside = pos 1 ∷ pos 2 ∷
 
 plain-around : (rebuilt 19 42 around spanning).plain
     ≡ (10, pos 1) ∷ (19, pos 3) ∷ (41, pos 3) ∷ (50, pos 2) ∷ (60, pos 9) ∷ (70, pos 2) ∷ (80, pos 7) ∷ []
-unfolding index_of
+unfolding window_index
 plain-around = refl
 
-windows-around : windows_of (rebuilt 19 42 around spanning) ≡ windows_of spanning
-unfolding index_of
+windows-around : own_windows (rebuilt 19 42 around spanning) ≡ own_windows spanning
+unfolding window_index
 windows-around = refl
 
 sums-around : map (sum_in 19 42) (spanning ∷ rebuilt 19 42 around spanning ∷ []) ≡ pos 100 ∷ pos 106 ∷ []
-unfolding index_of
+unfolding window_index
 sums-around = refl
 
 -- each time takes one value of its side, and those for which there is no time are left out; the last time keeps the last one
-filled-rows : map (λ (ts : List ℕ). filled (λ t. not (lies_in 12 12 t)) 11 13 ts (pos 1 ∷ pos 2 ∷ pos 3 ∷ []) (pos 7 ∷ []))
+placed_at_times-rows : map (λ (ts : List ℕ). placed_at_times (λ t. not (lies_in 12 12 t)) 11 13 ts (pos 1 ∷ pos 2 ∷ pos 3 ∷ []) (pos 7 ∷ []))
     ((10 ∷ 11 ∷ 12 ∷ 13 ∷ 14 ∷ []) ∷ (9 ∷ 10 ∷ []) ∷ []) ≡
     ((10, pos 7) ∷ (11, pos 1) ∷ (13, pos 2) ∷ []) ∷ ((9, pos 7) ∷ []) ∷ []
-filled-rows = refl
+placed_at_times-rows = refl
 
 placed-rows : map (placed (λ t. true) 12 20 10 15)
     (record { inside = pos 1 ∷ pos 2 ∷ []; outside = pos 7 ∷ [] } ∷ record { inside = pos 1 ∷ []; outside = pos 7 ∷ pos 8 ∷ [] } ∷ []) ≡
@@ -161,7 +161,7 @@ target-AreContents c sound = sound.target
 few-AreContents : (c : Contents) → AreContents c → length c.plain ≤ MOST_VALUES
 few-AreContents c sound = sound.few
 
-sayable-AreContents : (c : Contents) → AreContents c → All IsSayable c.plain
+sayable-AreContents : (c : Contents) → AreContents c → All IsSayableValue c.plain
 sayable-AreContents c sound = sound.sayable
 
 rising-AreContents : (c : Contents) → AreContents c → RiseAtFree (is_free c.landmarks) 0 c.plain
@@ -171,14 +171,14 @@ landmarks-AreContents : (c : Contents) → AreContents c → AreLandmarks c.land
 landmarks-AreContents c sound = sound.landmarks
 
 -- a value at 2^62 can be said, and one after it can't, nor one of more than 64 bits
-IsSayable-last : IsSayable (4611686018427387904, negsuc 9223372036854775807)
-IsSayable-last = (lit≤ tt, omega (arith, ints))
+IsSayableValue-last : IsSayableValue (4611686018427387904, negsuc 9223372036854775807)
+IsSayableValue-last = (lit≤ tt, omega (arith, ints))
 
-IsSayable-late : IsSayable (4611686018427387905, pos 1) → ⊥
-IsSayable-late said = omega (arith, said.0)
+IsSayableValue-late : IsSayableValue (4611686018427387905, pos 1) → ⊥
+IsSayableValue-late said = omega (arith, said.0)
 
-IsSayable-large : IsSayable (1, pos 9223372036854775808) → ⊥
-IsSayable-large said = (let fits = said.1 in omega (arith, ints))
+IsSayableValue-large : IsSayableValue (1, pos 9223372036854775808) → ⊥
+IsSayableValue-large said = (let fits = said.1 in omega (arith, ints))
 
 -- what can't be told apart is the same in each of these
 params-Like : (c d : Contents) → Like c d → c.params ≡ d.params
@@ -190,7 +190,7 @@ landmarks-Like c d like = like.landmarks
 number-Like : (c d : Contents) → Like c d → length c.plain ≡ length d.plain
 number-Like c d like = like.number
 
-windows-Like : (c d : Contents) → Like c d → windows_of c ≡ windows_of d
+windows-Like : (c d : Contents) → Like c d → own_windows c ≡ own_windows d
 windows-Like c d like = like.windows
 
 -- what is attained is the truth of contents that can't be told from the actual ones
@@ -229,7 +229,7 @@ module _ (q : Query) (answer : ℤ) (u : Stream) (whole : IsHistory history) (fo
 
 -- the interval of this sum is from -5 to 16, and its lower end may be the truth
 MayBeTrue-least_sum : MayBeTrue (state history) (query kinds.Sum) (negsuc 4)
-unfolding query state index_of
+unfolding query state window_index
 MayBeTrue-least_sum =
-    let s : Stream = record { number = 0; name = a; params = Exp 2 1 1; windows = windows_of readings; landmarks = [] } in
+    let s : Stream = record { number = 0; name = a; params = Exp 2 1 1; windows = own_windows readings; landmarks = [] } in
     MayBeTrue-sum (state history) (query kinds.Sum) s least_sum refl AllFit-least_sum refl

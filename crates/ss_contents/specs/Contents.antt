@@ -27,19 +27,19 @@ abbrev pub contents_of : List Event → Stream → Contents
 contents_of history s = record { params = s.params; plain = values_of history s.name; landmarks = landmarks_of history s.name }
 
 -- the windows of all its values outside landmarks
-abbrev pub windows_of : Contents → List Window
-windows_of c = windows (lengths_of c.params) c.plain
+abbrev pub own_windows : Contents → List Window
+own_windows c = windows (lengths_of c.params) c.plain
 
 -- a value that a command can say: its time isn't above the last one, and it has 64 bits
-abbrev pub IsSayable : ℕ × ℤ → Type 0
-IsSayable p = (p.0 ≤ LAST_TIME) × FitsSigned w64 p.1
+abbrev pub IsSayableValue : ℕ × ℤ → Type 0
+IsSayableValue p = (p.0 ≤ LAST_TIME) × FitsSigned w64 p.1
 
 -- a stream may hold this: it has a target, its values outside landmarks are at most 2^40, each can be said, and they stand at
 -- rising times that no landmark covers, and its landmarks are in order of time
 pub record AreContents (c : Contents) : Type 0 where
   pub target : IsTrue (has_target c.params)
   pub few : length c.plain ≤ MOST_VALUES
-  pub sayable : All IsSayable c.plain
+  pub sayable : All IsSayableValue c.plain
   pub rising : RiseAtFree (is_free c.landmarks) 0 c.plain
   pub landmarks : AreLandmarks c.landmarks
 
@@ -49,7 +49,7 @@ pub record Like (c d : Contents) : Type 0 where
   pub params : c.params ≡ d.params
   pub landmarks : c.landmarks ≡ d.landmarks
   pub number : length c.plain ≡ length d.plain
-  pub windows : windows_of c ≡ windows_of d
+  pub windows : own_windows c ≡ own_windows d
 
 -- how many values have times in from..=to, and their sum
 abbrev pub count_in : ℕ → ℕ → Contents → ℕ

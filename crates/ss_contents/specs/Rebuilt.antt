@@ -5,7 +5,7 @@ use Rattle.ss_landmarks.specs.Free.{is_free}
 use Rattle.ss_bounds.specs.Times.{lies_in}
 use Rattle.ss_model.specs.Interval.{is_split}
 use Rattle.ss_model.specs.declared.types.Window.{Window}
-use Rattle.ss_contents.specs.Contents.{Contents, windows_of}
+use Rattle.ss_contents.specs.Contents.{Contents, own_windows}
 use Rattle.ss_contents.specs.Sides.{Sides}
 
 -- 1 for what is true
@@ -18,19 +18,19 @@ at_time t values = map (λ v. (t, v)) values
 
 -- Values inside from..=to and values outside it, at some of these times: in order, each free time takes the next value of its
 -- side, where there is one.
-abbrev pub filled : (ℕ → Bool) → ℕ → ℕ → List ℕ → List ℤ → List ℤ → List (ℕ × ℤ)
-filled free from to [] inside outside = []
-filled free from to (t ∷ ts) inside outside =
+abbrev pub placed_at_times : (ℕ → Bool) → ℕ → ℕ → List ℕ → List ℤ → List ℤ → List (ℕ × ℤ)
+placed_at_times free from to [] inside outside = []
+placed_at_times free from to (t ∷ ts) inside outside =
     let i = one_if (free t && lies_in from to t) in
     let o = one_if (free t && not (lies_in from to t)) in
-    at_time t (take i inside ++ take o outside) ++ filled free from to ts (drop i inside) (drop o outside)
+    at_time t (take i inside ++ take o outside) ++ placed_at_times free from to ts (drop i inside) (drop o outside)
 
 -- Such values from a first to a last time. The last time has the last value of its side, and the times before it have the others.
 abbrev pub placed : (ℕ → Bool) → ℕ → ℕ → ℕ → ℕ → Sides → List (ℕ × ℤ)
 placed free from to first last v =
     let i = length v.inside - one_if (lies_in from to last) in
     let o = length v.outside - one_if (not (lies_in from to last)) in
-    filled free from to (range_with_len first (last - first)) (take i v.inside) (take o v.outside)
+    placed_at_times free from to (range_with_len first (last - first)) (take i v.inside) (take o v.outside)
     ++ at_time last (drop i v.inside ++ drop o v.outside)
 
 -- the first of such values, at the times of a window
@@ -51,6 +51,6 @@ replaced free from to (w ∷ ws) sides values =
 abbrev pub rebuilt : ℕ → ℕ → List Sides → Contents → Contents
 rebuilt from to sides c = record {
   params = c.params;
-  plain = replaced (is_free c.landmarks) from to (windows_of c) sides c.plain;
+  plain = replaced (is_free c.landmarks) from to (own_windows c) sides c.plain;
   landmarks = c.landmarks;
 }

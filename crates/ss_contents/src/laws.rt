@@ -9,24 +9,24 @@ ghost use Rattle.ss_model.specs.Marks.{marked_values};
 ghost use Rattle.ss_model.specs.Refusals.{IsHistory};
 ghost use Rattle.ss_model.specs.State.{Stream, state, stream_named};
 ghost use Rattle.ss_contents.specs.Attained.{IsAttained, MayBeTrue};
-ghost use Rattle.ss_contents.specs.Contents.{AreContents, Contents, contents_of, count_in, Like, sum_in, windows_of};
+ghost use Rattle.ss_contents.specs.Contents.{AreContents, Contents, contents_of, count_in, Like, sum_in, own_windows};
 ghost use Rattle.ss_contents.specs.Rebuilt.{rebuilt};
 ghost use Rattle.ss_contents.specs.Sides.{AllFit, count_inside, Sides, sum_inside};
 
 /// What a history gave a stream is something that a stream may hold, and the windows and landmarks of the stream are those of it.
 pub fn histories_give_contents()
     ensures sound { (history : List Event) → IsHistory history → All (λ s. AreContents (contents_of history s)) (state history) }
-    ensures windows { (history : List Event) → All (λ s. windows_of (contents_of history s) ≡ s.windows) (state history) }
+    ensures windows { (history : List Event) → All (λ s. own_windows (contents_of history s) ≡ s.windows) (state history) }
     ensures landmarks { (history : List Event) → All (λ s. (contents_of history s).landmarks ≡ s.landmarks) (state history) }
 {}
 
 /// The intervals that the windows of some contents give hold the truth over all contents that are like these.
 pub fn intervals_hold_for_all_that_are_like()
     ensures count { (c d : Contents) (from to : ℕ) → AreContents d → Like d c →
-        let answer = interval_of_count (is_free c.landmarks) from to (windows_of c) (marked_values c.landmarks) in
+        let answer = interval_of_count (is_free c.landmarks) from to (own_windows c) (marked_values c.landmarks) in
         (answer.0 ≤ count_in from to d) × (count_in from to d ≤ answer.1) }
     ensures sum { (c d : Contents) (from to : ℕ) → AreContents d → Like d c →
-        let answer = interval_of_sum (is_free c.landmarks) from to (windows_of c) (marked_values c.landmarks) in
+        let answer = interval_of_sum (is_free c.landmarks) from to (own_windows c) (marked_values c.landmarks) in
         (answer.0 ≤ℤ sum_in from to d) × (sum_in from to d ≤ℤ answer.1) }
 {}
 
@@ -34,15 +34,15 @@ pub fn intervals_hold_for_all_that_are_like()
 /// the actual ones are like the actual ones, and have just these in the range, beside what is known exactly.
 pub fn rebuilt_is_like()
     ensures sound { (c : Contents) (from to : ℕ) (sides : List Sides) → AreContents c →
-        AllFit (split_windows (is_free c.landmarks) from to (windows_of c)) sides → AreContents (rebuilt from to sides c) }
+        AllFit (split_windows (is_free c.landmarks) from to (own_windows c)) sides → AreContents (rebuilt from to sides c) }
     ensures like { (c : Contents) (from to : ℕ) (sides : List Sides) → AreContents c →
-        AllFit (split_windows (is_free c.landmarks) from to (windows_of c)) sides → Like (rebuilt from to sides c) c }
+        AllFit (split_windows (is_free c.landmarks) from to (own_windows c)) sides → Like (rebuilt from to sides c) c }
     ensures count { (c : Contents) (from to : ℕ) (sides : List Sides) → AreContents c →
-        AllFit (split_windows (is_free c.landmarks) from to (windows_of c)) sides →
-        count_in from to (rebuilt from to sides c) ≡ known_count from to (windows_of c) (marked_values c.landmarks) + count_inside sides }
+        AllFit (split_windows (is_free c.landmarks) from to (own_windows c)) sides →
+        count_in from to (rebuilt from to sides c) ≡ known_count from to (own_windows c) (marked_values c.landmarks) + count_inside sides }
     ensures sum { (c : Contents) (from to : ℕ) (sides : List Sides) → AreContents c →
-        AllFit (split_windows (is_free c.landmarks) from to (windows_of c)) sides →
-        sum_in from to (rebuilt from to sides c) ≡ (known_sum from to (windows_of c) (marked_values c.landmarks) +ℤ sum_inside sides) }
+        AllFit (split_windows (is_free c.landmarks) from to (own_windows c)) sides →
+        sum_in from to (rebuilt from to sides c) ≡ (known_sum from to (own_windows c) (marked_values c.landmarks) +ℤ sum_inside sides) }
 {}
 
 /// So for each stream of a state, whatever history it is the state of: values that fit the windows that a range splits lie there in

@@ -51,7 +51,8 @@ same-big_from (suc n) (x ∷ xs) (y ∷ ys) long_x long_y bytes_x bytes_y same =
     λ i. first i ∷ tail i
 
 -- a number that is read from some bytes is spelled by them
-pub number_bytes-number_at : (n at : ℕ) (bytes : List ℕ) → at + n ≤ length bytes → AreBytes bytes → number_bytes n (number_at n bytes at) ≡ take n (drop at bytes)
+pub number_bytes-number_at : (n at : ℕ) (bytes : List ℕ) → at + n ≤ length bytes → AreBytes bytes → number_bytes n (number_at n bytes at)
+    ≡ take n (drop at bytes)
 unfolding number_at number_bytes
 number_bytes-number_at n at bytes inside are =
     let number = number_at n bytes at in

@@ -103,4 +103,4 @@ signed_of-signed_decimal (negsuc n) fits =
     signed_of-minus (decimal (suc n)) (is_number-decimal (suc n) (omega arith)) (omega arith) ∙ ap (λ m. Ok (neg_ℤ (pos m))) same
 
 -- what a number that was found says of its digits, for a search
-pub ruleset digits_of_numbers = AllDigits-from_is_number
+pub ruleset number_digits = AllDigits-from_is_number

@@ -34,7 +34,7 @@ fn number_of(word: &[u8]) -> Option<u64>
 }
 
 // The number that `word` spells, if it is at most `most`.
-#[tactic(auto, using(std::proofs::lemmas::Bool::Decides::nat_tests, crate::proofs::WordLemmas::digits_of_numbers), unfolding(crate::specs::Words::number_up_to))]
+#[tactic(auto, using(std::proofs::lemmas::Bool::Decides::nat_tests, crate::proofs::WordLemmas::number_digits), unfolding(crate::specs::Words::number_up_to))]
 pub fn read_up_to(word: &[u8], most: u64) -> Result<u64, NumberError>
     ensures bounded { IfOk result (λ n. n ≤ most) }
     ensures value { result ≡ number_up_to most word.now }

@@ -4,7 +4,7 @@ use Rattle.std.proofs.lemmas.Bool.Decides.{nat_tests}
 use Rattle.std.specs.Prelude.{ℤ}
 use Rattle.ss_generator.specs.Commands.{closing, commands, create, of_round, of_rounds, opening, queries}
 use Rattle.ss_generator.specs.Left.{after}
-use Rattle.ss_generator.specs.Numbers.{delay, number, number_after, time, value, value_of}
+use Rattle.ss_generator.specs.Numbers.{delay, number, number_after, time, value, generated_value}
 
 -- the rounds up to one and what comes after it are all rounds and the queries
 after-rounds : (seed i n m : ℕ) → i + n ≡ m → of_rounds seed i ++ after i (number seed i) (time seed i) n ≡ of_rounds seed m ++ queries (time seed m)
@@ -35,4 +35,10 @@ length-after i x t zero = omega arith
 length-after i x t (suc n) =
     let y = number_after x in
     let u = t + delay y in
-    omega (arith, length-append (of_round (suc i) u (value_of y)) (after (suc i) y u n), length-of_round (suc i) u (value_of y), length-after (suc i) y u n)
+    omega (
+      arith,
+      length-append (of_round (suc i) u (generated_value y)) (after (suc i) y u n),
+      length-of_round (suc i) u (generated_value y),
+      length-after
+          (suc i) y u n,
+    )

@@ -4,7 +4,7 @@ use Rattle.std.specs.Prelude.{codes, pos, negsuc}
 use Rattle.std.specs.Fmt.{digits}
 use Rattle.ss_command.specs.Printed.{printed}
 use Rattle.ss_generator.specs.Commands.{commands, most_commands, of_round}
-use Rattle.ss_generator.specs.Numbers.{delay, number, number_after, time, value, value_of}
+use Rattle.ss_generator.specs.Numbers.{delay, number, number_after, time, value, generated_value}
 use Rattle.ss_generator.specs.declared.TheConstants.{CLOSING_ROUND, DIFFERENT_VALUES, GREATEST_VALUE, INCREMENT, LANDMARK_ROUNDS, MOST_COUNT}
 use Rattle.ss_generator.specs.declared.TheConstants.{MULTIPLIER, OPENING_ROUND}
 
@@ -40,7 +40,7 @@ unfolding number_after delay
 times = refl
 
 values-first : value 0 1 ∷ value 1 1 ∷ [] ≡ pos 874 ∷ negsuc 415 ∷ []
-unfolding number_after value_of
+unfolding number_after generated_value
 values-first = refl
 
 -- the ends of what numbers give
@@ -48,9 +48,9 @@ delays : map delay (0 ∷ 1152921504606846975 ∷ 1152921504606846976 ∷ 184467
 unfolding delay
 delays = refl
 
-values-ends : map value_of (0 ∷ 8589934591 ∷ 8589934592 ∷ 17179869184000 ∷ 17188459118592 ∷ []) ≡ negsuc 999 ∷ negsuc 999 ∷ negsuc 998 ∷ pos 1000 ∷
+values-ends : map generated_value (0 ∷ 8589934591 ∷ 8589934592 ∷ 17179869184000 ∷ 17188459118592 ∷ []) ≡ negsuc 999 ∷ negsuc 999 ∷ negsuc 998 ∷ pos 1000 ∷
     negsuc 999 ∷ []
-unfolding value_of
+unfolding generated_value
 values-ends = refl
 
 -- rounds with and without a landmark
@@ -79,7 +79,7 @@ commands-0_1 :
     ∷ codes "query g min 0 1"
     ∷ codes "query g max 0 1"
     ∷ []
-unfolding commands number_after delay value_of printed digits
+unfolding commands number_after delay generated_value printed digits
 commands-0_1 = refl
 
 commands-1_2 :
@@ -94,7 +94,7 @@ commands-1_2 :
     ∷ codes "query g min 5 10"
     ∷ codes "query g max 5 10"
     ∷ []
-unfolding commands number_after delay value_of printed digits
+unfolding commands number_after delay generated_value printed digits
 commands-1_2 = refl
 
 -- no round has all three, so only the file of no rounds is as long as that

@@ -4,7 +4,7 @@ use Rattle.ss_catalog.specs.declared.event.Event.TheVariants.{Value, Open, Close
 use Rattle.ss_command.specs.declared.command.Command.{Command}
 use Rattle.ss_command.specs.declared.command.Command.TheVariants as commands
 use Rattle.ss_generator.specs.Commands.{closing, create, of_round, queries, stream}
-use Rattle.ss_generator.specs.Numbers.{delay, number_after, value_of}
+use Rattle.ss_generator.specs.Numbers.{delay, number_after, generated_value}
 use Rattle.ss_generator.specs.declared.phase.Phase.{Phase}
 use Rattle.ss_generator.specs.declared.phase.Phase.TheVariants as phases
 use Rattle.ss_generator.specs.declared.phase.Question.{Question}
@@ -17,7 +17,7 @@ after i x t zero = queries t
 after i x t (suc n) =
     let y = number_after x in
     let u = t + delay y in
-    of_round (suc i) u (value_of y) ++ after (suc i) y u n
+    of_round (suc i) u (generated_value y) ++ after (suc i) y u n
 
 -- what comes after a round
 abbrev pub after_round : Round → List Command
@@ -34,7 +34,7 @@ from_question questions.Max t = drop 5 (queries t)
 
 -- what comes from the value of a round on
 abbrev pub from_value : Round → List Command
-from_value round = commands.Do (Value stream round.time (value_of round.number)) ∷ closing round.place round.time ++ after_round round
+from_value round = commands.Do (Value stream round.time (generated_value round.number)) ∷ closing round.place round.time ++ after_round round
 
 -- what comes from a phase of a round on
 abbrev pub left : Round → Phase → List Command

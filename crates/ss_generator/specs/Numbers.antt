@@ -11,8 +11,8 @@ unfoldable pub delay : ℕ → ℕ
 delay x = 1 + x / 2 ^ 60
 
 -- the value of a number
-unfoldable pub value_of : ℕ → ℤ
-value_of x = pos ((x / 2 ^ 33) % DIFFERENT_VALUES) -ℤ GREATEST_VALUE
+unfoldable pub generated_value : ℕ → ℤ
+generated_value x = pos ((x / 2 ^ 33) % DIFFERENT_VALUES) -ℤ GREATEST_VALUE
 
 -- the number of round i; the seed stands before the first
 abbrev pub number : ℕ → ℕ → ℕ
@@ -26,4 +26,4 @@ time seed (suc i) = time seed i + delay (number seed (suc i))
 
 -- the value of round i
 abbrev pub value : ℕ → ℕ → ℤ
-value seed i = value_of (number seed i)
+value seed i = generated_value (number seed i)

@@ -1,6 +1,6 @@
 // The numbers that the commands are made of.
 ghost use Rattle.std.specs.Prelude.{◌≡◌, ◌≤◌};
-ghost use Rattle.ss_generator.specs.Numbers.{delay, number_after, value_of};
+ghost use Rattle.ss_generator.specs.Numbers.{delay, number_after, generated_value};
 
 use crate::{DIFFERENT_VALUES, GREATEST_VALUE, INCREMENT, MULTIPLIER};
 
@@ -21,9 +21,9 @@ pub fn delay(number: u64) -> u64
 }
 
 /// The value of a number.
-#[tactic(auto, unfolding(crate::specs::Numbers::value_of))]
+#[tactic(auto, unfolding(crate::specs::Numbers::generated_value))]
 pub fn value_of(number: u64) -> i64
-    ensures { result ≡ value_of number }
+    ensures { result ≡ generated_value number }
 {
     ((number >> 33) % DIFFERENT_VALUES) as i64 - GREATEST_VALUE
 }

@@ -24,7 +24,7 @@ impl Round {
     ghost use Rattle.ss_command.specs.Printed.{IsCommandInTime, IsSayable};
     ghost use Rattle.ss_generator.specs.Commands.{closing, of_round};
     ghost use Rattle.ss_generator.specs.Left.{after_round, from_question, from_value, left};
-    ghost use Rattle.ss_generator.specs.Numbers.{delay, number_after, value_of};
+    ghost use Rattle.ss_generator.specs.Numbers.{delay, number_after, generated_value};
 
     // Whether a landmark is opened before the value.
     fn opens(&self) -> bool
@@ -59,7 +59,7 @@ impl Round {
 
     // The phase with which a round begins.
     fn begin(&self) -> Phase
-        ensures { left self.now result ≡ of_round self.now.place self.now.time (value_of self.now.number) ++ after_round self.now }
+        ensures { left self.now result ≡ of_round self.now.place self.now.time (generated_value self.now.number) ++ after_round self.now }
     {
         if self.opens() {
             Phase::Open

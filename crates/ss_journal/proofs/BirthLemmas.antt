@@ -15,7 +15,7 @@ use Rattle.ss_journal.specs.Format.{IsCleared, has_magic, is_born, is_unborn, ma
 use Rattle.ss_journal.specs.Gates.{ClosedFrom, entry_place, opens}
 use Rattle.ss_journal.specs.Redo.{Gives, Redone, SameMap, SlotMap, StandsFor, blank_map}
 use Rattle.ss_journal.specs.Steps.{Durably, Marks, Reaches, Rewrites, Writes, WritesZeros}
-use Rattle.ss_journal.specs.Writes.{SameRest, DiffersAt, DiffersIn, Tears, end_of}
+use Rattle.ss_journal.specs.Writes.{SameRest, DiffersAt, DiffersIn, Tears, length_with}
 use Rattle.ss_journal.proofs.GateLemmas.{StandsFor-first_closed}
 use Rattle.ss_journal.proofs.HeaderLemmas.{has_magic-same, is_born-from, is_unborn-cases, is_unborn-gate, is_unborn-short, is_unborn-zero, long-has_magic}
 use Rattle.ss_journal.proofs.MapLemmas.{SameMap-trans, file_map-blank}
@@ -269,7 +269,7 @@ is_unborn-formed : (content : List ℕ) → IsFormed content → IsTrue (is_unbo
 is_unborn-formed content formed = is_unborn-gate content formed.marked formed.closed
 
 module _ (content image : List ℕ) (formed : IsFormed content) (differs : DiffersAt 0 1 content image) where
-  inside : end_of ((0, 1) ∷ []) (length content) ≤ length content
+  inside : length_with ((0, 1) ∷ []) (length content) ≤ length content
   inside = omega (arith, formed.long)
 
   length-image : length image ≡ length content

@@ -14,7 +14,7 @@ use Rattle.ss_journal.specs.Gates.{IsClosed, entry_place, opens}
 use Rattle.ss_journal.specs.Kept.{EndsBefore}
 use Rattle.ss_journal.specs.Redo.{SlotMap, StandsFor}
 use Rattle.ss_journal.specs.Steps.{Durably, Enters, Writes}
-use Rattle.ss_journal.specs.Writes.{DiffersAt, end_of}
+use Rattle.ss_journal.specs.Writes.{DiffersAt, length_with}
 use Rattle.ss_journal.proofs.CommitLemmas.{StandsFor-closed}
 use Rattle.ss_journal.proofs.HeaderLemmas.{is_born-parts}
 use Rattle.ss_journal.proofs.RangeLemmas.{DiffersIn-overwrite, get_or-differs, length-differs}
@@ -47,7 +47,7 @@ module _ (n : ℕ) (bytes content : List ℕ) (free : n < 64) (few : 544 * n + l
       → StandsFor image found
   StandsFor-behind image found is differs =
       let ranges : List (ℕ × ℕ) = (entry_place n + 1, length bytes) ∷ [] in
-      let inside : end_of ranges (length content) ≤ length content = omega (arith, long, end) in
+      let inside : length_with ranges (length content) ≤ length content = omega (arith, long, end) in
       let same : (place : ℕ) → (place < entry_place n + 1) ⊎ (entry_place n + 1 + length bytes ≤ place) → slice_index image place ≡ slice_index content place =
       λ place out. get_or-differs ranges content image inside differs place (out, tt) in
       let closed : IsClosed n image = subst (λ (byte : ℕ). IsFalse (opens byte)) (sym (same (entry_place n) (inl (omega arith)))) ends.closed in
@@ -92,7 +92,7 @@ module _ (n : ℕ) (bytes content : List ℕ) (free : n < 64) (few : 544 * n + l
     abbrev gate : List (ℕ × ℕ)
     gate = (entry_place n, 1) ∷ []
 
-    inside-gate : end_of gate (length behind) ≤ length behind
+    inside-gate : length_with gate (length behind) ≤ length behind
     inside-gate = omega (arith, within, length-behind)
 
     size-gate : length image ≡ length content

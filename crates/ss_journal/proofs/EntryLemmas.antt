@@ -13,15 +13,15 @@ use Rattle.std.specs.List.{list_all, range_with_len}
 use Rattle.std.specs.Prelude.{All, flat_map}
 use Rattle.ss_fields.proofs.FieldLemmas.{length-number_bytes, number_at-written}
 use Rattle.ss_fields.specs.Fields.{number_at, number_bytes}
-use Rattle.ss_journal.specs.Entries.{count_of, entry_body, is_good, put_at, put_bytes, puts_of}
-use Rattle.ss_journal.specs.Puts.{AreWhole, IsTxn, slots_fit, slots_rise_from}
+use Rattle.ss_journal.specs.Entries.{put_count, entry_body, is_good, put_at, put_bytes, puts_of}
+use Rattle.ss_journal.specs.Puts.{FillSlots, IsTxn, slots_fit, slots_rise_from}
 use Rattle.ss_journal.specs.declared.put.Put.{Put}
 use Rattle.ss_journal.proofs.PutLemmas.{AreSlots-rise, slots_fit-again}
 
 -- what is true of a sound entry
 pub record IsSoundEntry (entry : List ℕ) (extent : ℕ) : Type 0 where
-  pub some : 1 ≤ count_of entry
-  pub few : count_of entry ≤ 4
+  pub some : 1 ≤ put_count entry
+  pub few : put_count entry ≤ 4
   pub rise : IsTrue (slots_rise_from 0 (puts_of entry))
   pub fit : IsTrue (slots_fit (puts_of entry) extent)
 
@@ -32,11 +32,11 @@ IsSoundEntry-good entry extent good =
     let fits = and_parts _ _ outer.0 in
     let rises = and_parts _ _ fits.0 in
     let counts = and_parts _ _ rises.0 in
-    record { some = leb-true 1 (count_of entry) counts.0; few = leb-true (count_of entry) 4 counts.1; rise = rises.1; fit = fits.1 }
+    record { some = leb-true 1 (put_count entry) counts.0; few = leb-true (put_count entry) 4 counts.1; rise = rises.1; fit = fits.1 }
 
-pub length-puts_of : (entry : List ℕ) → length (puts_of entry) ≡ count_of entry
+pub length-puts_of : (entry : List ℕ) → length (puts_of entry) ≡ put_count entry
 unfolding puts_of
-length-puts_of entry = length-map-range_with_len (put_at entry) 0 (count_of entry)
+length-puts_of entry = length-map-range_with_len (put_at entry) 0 (put_count entry)
 
 -- the puts of a sound entry may be committed over the extent
 pub IsTxn-good : (entry : List ℕ) (extent : ℕ) → IsTrue (is_good entry extent) → IsTxn (puts_of entry) × IsTrue (slots_fit (puts_of entry) extent)
@@ -62,17 +62,17 @@ is_good-again entry old new good le =
     (and_from _ _ (and_from _ _ fits.0 (slots_fit-again (puts_of entry) old new fits.1 le)) zero.1, fits.1)
 
 -- an entry of so few puts is judged by them, and by what stands after them
-pub is_good-few : (entry : List ℕ) (extent : ℕ) → 1 ≤ count_of entry → count_of entry ≤ 4
+pub is_good-few : (entry : List ℕ) (extent : ℕ) → 1 ≤ put_count entry → put_count entry ≤ 4
     → is_good entry extent ≡ (slots_rise_from 0 (puts_of entry) && slots_fit (puts_of entry) extent && list_all (λ byte. byte == 0)
-    (drop (2 + 132 * count_of entry) entry))
+    (drop (2 + 132 * put_count entry) entry))
 unfolding is_good
-is_good-few entry extent some few = rw (le-leb 1 (count_of entry) some, le-leb (count_of entry) 4 few) refl
+is_good-few entry extent some few = rw (le-leb 1 (put_count entry) some, le-leb (put_count entry) 4 few) refl
 
-pub is_good-none : (entry : List ℕ) (extent : ℕ) → count_of entry < 1 → IsFalse (is_good entry extent)
+pub is_good-none : (entry : List ℕ) (extent : ℕ) → put_count entry < 1 → IsFalse (is_good entry extent)
 unfolding is_good
-is_good-none entry extent none = rw (lt-leb 1 (count_of entry) none) refl
+is_good-none entry extent none = rw (lt-leb 1 (put_count entry) none) refl
 
-pub is_good-many : (entry : List ℕ) (extent : ℕ) → 4 < count_of entry → IsFalse (is_good entry extent)
+pub is_good-many : (entry : List ℕ) (extent : ℕ) → 4 < put_count entry → IsFalse (is_good entry extent)
 unfolding is_good
 is_good-many entry extent many = grind (arith, nat_tests)
 
@@ -86,11 +86,11 @@ All-range_with_len P n each k d lt =
 put_at-whole : (entry : List ℕ) (k : ℕ) → length entry ≡ 544 → k < 4 → length (take 128 (drop (6 + 132 * k) entry)) ≡ 128
 put_at-whole entry k long lt = simp (length-take, length-drop) (omega arith)
 
-pub AreWhole-puts_of : (entry : List ℕ) → length entry ≡ 544 → count_of entry ≤ 4 → AreWhole (puts_of entry)
+pub FillSlots-puts_of : (entry : List ℕ) → length entry ≡ 544 → put_count entry ≤ 4 → FillSlots (puts_of entry)
 unfolding puts_of
-AreWhole-puts_of entry long few =
-    All-map (λ (put : Put). length put.bytes ≡ 128) (put_at entry) (range_with_len 0 (count_of entry))
-    (All-range_with_len (λ (k : ℕ). length (take 128 (drop (6 + 132 * k) entry)) ≡ 128) (count_of entry)
+FillSlots-puts_of entry long few =
+    All-map (λ (put : Put). length put.bytes ≡ 128) (put_at entry) (range_with_len 0 (put_count entry))
+    (All-range_with_len (λ (k : ℕ). length (take 128 (drop (6 + 132 * k) entry)) ≡ 128) (put_count entry)
     (λ k lt. put_at-whole entry k long (omega (arith, lt, few))))
 
 -- a number reads back from where its bytes stand
@@ -106,7 +106,7 @@ number_at-dropped bytes rest at x fits there =
 length-put_bytes : (put : Put) → length put.bytes ≡ 128 → length (put_bytes put) ≡ 132
 length-put_bytes put whole = omega (arith, length-append (number_bytes 4 put.slot) put.bytes, length-number_bytes 4 put.slot, whole)
 
-pub length-puts_bytes : (puts : List Put) → AreWhole puts → length (flat_map put_bytes puts) ≡ 132 * length puts
+pub length-puts_bytes : (puts : List Put) → FillSlots puts → length (flat_map put_bytes puts) ≡ 132 * length puts
 length-puts_bytes [] whole = refl
 length-puts_bytes (put ∷ puts) whole =
     let first = length-put_bytes put (All-head (λ (p : Put). length p.bytes ≡ 128) put puts whole) in
@@ -114,7 +114,7 @@ length-puts_bytes (put ∷ puts) whole =
     omega (arith, first, rest, length-append (put_bytes put) (flat_map put_bytes puts))
 
 -- where a put stands among the bytes of all
-drop-puts_bytes : (k : ℕ) (puts : List Put) (end : List ℕ) (d : Put) → AreWhole puts → k < length puts
+drop-puts_bytes : (k : ℕ) (puts : List Put) (end : List ℕ) (d : Put) → FillSlots puts → k < length puts
     → (rest : List ℕ) × (drop (132 * k) (flat_map put_bytes puts ++ end) ≡ put_bytes (get_or puts k d) ++ rest)
 drop-puts_bytes k [] end d whole lt = absurd (omega (arith, lt))
 drop-puts_bytes zero (put ∷ puts) end d whole lt = (flat_map put_bytes puts ++ end, append_assoc (put_bytes put) (flat_map put_bytes puts) end)
@@ -133,7 +133,7 @@ drop-puts_bytes (suc k) (put ∷ puts) end d whole lt =
 same_put : (put : Put) (slot : ℕ) (bytes : List ℕ) → slot ≡ put.slot → bytes ≡ put.bytes → put ≡ record { slot = slot; bytes = bytes }
 same_put put slot bytes same also = rw (same, also) refl
 
-module _ (puts : List Put) (gate : ℕ) (whole : AreWhole puts) (txn : IsTxn puts) where
+module _ (puts : List Put) (gate : ℕ) (whole : FillSlots puts) (txn : IsTxn puts) where
   abbrev end : List ℕ
   end = replicate (542 - 132 * length puts) 0
 
@@ -172,7 +172,7 @@ all_zeros : (n : ℕ) → list_all (λ byte. byte == 0) (replicate n 0) ≡ true
 all_zeros zero = refl
 all_zeros (suc n) = all_zeros n
 
-pub is_good-body : (puts : List Put) (gate extent : ℕ) → AreWhole puts → IsTxn puts → IsTrue (slots_fit puts extent)
+pub is_good-body : (puts : List Put) (gate extent : ℕ) → FillSlots puts → IsTxn puts → IsTrue (slots_fit puts extent)
     → IsTrue (is_good (gate ∷ entry_body puts) extent)
 unfolding is_good entry_body
 is_good-body puts gate extent whole txn fit =
@@ -181,7 +181,7 @@ is_good-body puts gate extent whole txn fit =
     and_from _ _ (and_from _ _ (and_from _ _ (and_from _ _ (le-leb 1 (length puts) txn.some) (le-leb (length puts) 4 txn.few))
     (subst (λ (p : List Put). IsTrue (slots_rise_from 0 p)) same txn.rise)) (subst (λ (p : List Put). IsTrue (slots_fit p extent)) same fit)) zeros
 
-pub length-entry_body : (puts : List Put) → AreWhole puts → length puts ≤ 4 → length (entry_body puts) ≡ 543
+pub length-entry_body : (puts : List Put) → FillSlots puts → length puts ≤ 4 → length (entry_body puts) ≡ 543
 unfolding entry_body
 length-entry_body puts whole few =
     omega (
@@ -194,7 +194,7 @@ length-entry_body puts whole few =
     )
 
 -- one put more
-pub entry-more : (puts : List Put) (k : ℕ) (d : Put) (old : List ℕ) → k < length puts → length puts ≤ 4 → AreWhole (take k puts)
+pub entry-more : (puts : List Put) (k : ℕ) (d : Put) (old : List ℕ) → k < length puts → length puts ≤ 4 → FillSlots (take k puts)
     → old ≡ 0 ∷ length puts ∷ flat_map put_bytes (take k puts) ++ replicate (542 - 132 * k) 0
     → take (2 + 132 * k) old ++ put_bytes (get_or puts k d) ++ drop (2 + 132 * (k + 1)) old ≡ 0 ∷ length puts ∷ flat_map put_bytes (take (k + 1) puts) ++
     replicate (542 - 132 * (k + 1)) 0

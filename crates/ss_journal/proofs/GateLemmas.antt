@@ -9,7 +9,7 @@ use Rattle.ss_outside.specs.Disk.{IsOutside, IsOutsideAll, Told, overwrite}
 use Rattle.ss_journal.specs.Format.{is_born}
 use Rattle.ss_journal.specs.Gates.{ClosedFrom, ClosesGate, IsClosed, entry_place, opens, other_gates}
 use Rattle.ss_journal.specs.Redo.{Gives, Redone, SameMap, SlotMap, StandsFor, file_map}
-use Rattle.ss_journal.specs.Writes.{DiffersAt, DiffersIn, end_of}
+use Rattle.ss_journal.specs.Writes.{DiffersAt, DiffersIn, length_with}
 use Rattle.ss_journal.proofs.HeaderLemmas.{is_born-parts, is_born-same}
 use Rattle.ss_journal.proofs.MapLemmas.{SameMap-refl, SameMap-trans, file_map-same}
 use Rattle.ss_journal.proofs.RangeLemmas.{Covers, DiffersIn-covered, DiffersIn-overwrite, get_or-differs, length-differs}
@@ -26,7 +26,7 @@ StandsFor-first_closed image found born closed same = StandsFor-from image (file
 
 -- after a closed first gate, what differs between the header and the slots counts for nothing
 StandsFor-entries : (ranges : List (ℕ × ℕ)) (content image : List ℕ) (found : SlotMap) → IsTrue (is_born content) → IsClosed 0 content
-    → StandsFor content found → end_of ranges (length content) ≤ length content
+    → StandsFor content found → length_with ranges (length content) ≤ length content
     → ((place : ℕ) → (place < 513) ⊎ (36864 ≤ place) → IsOutsideAll ranges place) → DiffersIn ranges content image → StandsFor image found
     × IsTrue (is_born image) × IsClosed 0 image
 StandsFor-entries ranges content image found born closed is inside out differs =
@@ -50,16 +50,16 @@ outside_gates from (suc n) place out = (
   outside_gates (from + 1) n place (elim out [ inl below ↦ inl (omega (arith, below)) | inr above ↦ inr (omega (arith, above)) ]),
 )
 
-end_of-gates : (from n size : ℕ) → entry_place (from + n) ≤ size → end_of (map (λ k. (entry_place k, 1)) (range_with_len from n)) size ≤ size
-end_of-gates from zero size le = omega arith
-end_of-gates from (suc n) size le = omega (arith, end_of-gates (from + 1) n size (omega (arith, le)), le)
+length_with-gates : (from n size : ℕ) → entry_place (from + n) ≤ size → length_with (map (λ k. (entry_place k, 1)) (range_with_len from n)) size ≤ size
+length_with-gates from zero size le = omega arith
+length_with-gates from (suc n) size le = omega (arith, length_with-gates (from + 1) n size (omega (arith, le)), le)
 
 -- with the first gate closed the others count for nothing
 pub StandsFor-other_gates : (content image : List ℕ) (found : SlotMap) → IsTrue (is_born content) → IsClosed 0 content → StandsFor content found
     → DiffersIn other_gates content image → StandsFor image found × IsTrue (is_born image) × IsClosed 0 image
 StandsFor-other_gates content image found born closed is differs =
     let long = (is_born-parts content born).0 in
-    StandsFor-entries other_gates content image found born closed is (end_of-gates 1 63 (length content) (omega (arith, long)))
+    StandsFor-entries other_gates content image found born closed is (length_with-gates 1 63 (length content) (omega (arith, long)))
     (λ place beside. outside_gates 1 63 place (⊎_elim (λ below. inl (omega (arith, below))) (λ above. inr (omega (arith, above))) beside)) differs
 
 -- after a closed gate anything may stand
@@ -78,15 +78,15 @@ outside_gate from (suc m) n place low high out = elim (cases_eq n from) [
   | inr other ↦ outside_gate (from + 1) m n place (omega (arith, low, other)) (omega (arith, high)) out.1
 ]
 
-end_of-gate : (from m n size : ℕ) → from ≤ n → n < from + m → entry_place n + 1 ≤ end_of (map (λ k. (entry_place k, 1)) (range_with_len from m)) size
-end_of-gate from zero n size low high = absurd (omega (arith, low, high))
-end_of-gate from (suc m) n size low high = elim (cases_eq n from) [
+length_with-gate : (from m n size : ℕ) → from ≤ n → n < from + m → entry_place n + 1 ≤ length_with (map (λ k. (entry_place k, 1)) (range_with_len from m)) size
+length_with-gate from zero n size low high = absurd (omega (arith, low, high))
+length_with-gate from (suc m) n size low high = elim (cases_eq n from) [
   | inl same ↦ omega (arith, same)
-  | inr other ↦ omega (arith, end_of-gate (from + 1) m n size (omega (arith, low, other)) (omega (arith, high)))
+  | inr other ↦ omega (arith, length_with-gate (from + 1) m n size (omega (arith, low, other)) (omega (arith, high)))
 ]
 
 pub Covers-gate : (n : ℕ) → 0 < n → n < 64 → Covers other_gates (entry_place n) 1
-Covers-gate n low high = record { outside = λ place out. outside_gate 1 63 n place low high out; end = λ size. end_of-gate 1 63 n size low high }
+Covers-gate n low high = record { outside = λ place out. outside_gate 1 63 n place low high out; end = λ size. length_with-gate 1 63 n size low high }
 
 -- one gate more is closed
 module _ (content : List ℕ) (n : ℕ) (old new : Told) (low : 0 < n) (high : n < 64) (long : 36864 ≤ length content)

@@ -8,9 +8,9 @@ use Rattle.ss_outside.specs.Disk.{IsOutside, overwrite}
 use Rattle.ss_journal.specs.Entries.{entries, open_prefix, puts_of}
 use Rattle.ss_journal.specs.Format.{is_born, slots_in}
 use Rattle.ss_journal.specs.Gates.{IsClosed, opens}
-use Rattle.ss_journal.specs.Puts.{AreWhole, slots_fit}
+use Rattle.ss_journal.specs.Puts.{FillSlots, slots_fit}
 use Rattle.ss_journal.specs.Redo.{CameInPart, entries_in_use, Gives, InUse, Redone, SameMap, SlotMap, StandsFor, changed, file_map, redo, redo_entries, stands}
-use Rattle.ss_journal.specs.Writes.{AreSlots, DiffersAt, DiffersIn, HasPlaces, end_of, slot_ranges, slots_written}
+use Rattle.ss_journal.specs.Writes.{AreSlots, DiffersAt, DiffersIn, HasSlotsFor, length_with, slot_ranges, slots_written}
 use Rattle.ss_journal.specs.declared.put.Put.{Put}
 use Rattle.ss_journal.proofs.GateLemmas.{StandsFor-first_closed}
 use Rattle.ss_journal.proofs.HeaderLemmas.{is_born-parts, is_born-same}
@@ -22,8 +22,8 @@ use Rattle.ss_journal.proofs.SlotLemmas.{AgreeBeside-torn, DiffersIn-slots_writt
 
 -- the entries in use, by the file and the puts
 module _ (puts : List Put) (content : List ℕ) (born : IsTrue (is_born content)) (in_use : InUse puts content) where
-  redone : (in_use.found ≡ changed (file_map content) puts) × IsTrue (slots_fit puts (slots_in (length content))) × AreSlots puts × AreWhole puts
-  redone = subst (λ (p : List Put). (in_use.found ≡ changed (file_map content) p) × IsTrue (slots_fit p (slots_in (length content))) × AreSlots p × AreWhole p)
+  redone : (in_use.found ≡ changed (file_map content) puts) × IsTrue (slots_fit puts (slots_in (length content))) × AreSlots puts × FillSlots puts
+  redone = subst (λ (p : List Put). (in_use.found ≡ changed (file_map content) p) × IsTrue (slots_fit p (slots_in (length content))) × AreSlots p × FillSlots p)
       (sym in_use.all) (redo-born content in_use.found born in_use.map)
 
   same_map : (found : SlotMap) → StandsFor content found → SameMap in_use.found found
@@ -101,7 +101,7 @@ pub StandsFor-first_gate : (puts : List Put) (content image : List ℕ) (found :
 StandsFor-first_gate puts content image found some formed in_use is same differs =
     let long = long-in_use puts content formed in_use in
     let ranges : List (ℕ × ℕ) = (512, 1) ∷ [] in
-    let inside : end_of ranges (length content) ≤ length content = omega (arith, long) in
+    let inside : length_with ranges (length content) ≤ length content = omega (arith, long) in
     let size = length-differs ranges content image inside differs in
     let beside : (place : ℕ) → IsOutside 512 1 place → slice_index image place ≡ slice_index content place = λ place out. get_or-differs ranges content image
     inside differs place (out, tt) in
@@ -122,8 +122,8 @@ StandsFor-first_gate puts content image found some formed in_use is same differs
     )
 
 module _ (puts : List Put) (content : List ℕ) (born : IsTrue (is_born content)) (in_use : InUse puts content) where
-  pub HasPlaces-in_use : HasPlaces puts content
-  HasPlaces-in_use = record { long = long-in_use puts content born in_use; fit = in_use-fit puts content born in_use }
+  pub HasSlotsFor-in_use : HasSlotsFor puts content
+  HasSlotsFor-in_use = record { long = long-in_use puts content born in_use; fit = in_use-fit puts content born in_use }
 
   pub differs-written : DiffersIn (slot_ranges puts) content (slots_written puts content)
   differs-written =

@@ -6,7 +6,7 @@ use Rattle.std.proofs.lemmas.List.{append-nil, drop_all}
 use Rattle.std.specs.Prelude.{flat_map}
 use Rattle.arrayvec.specs.ArrayVec.{ArrayVec}
 use Rattle.ss_journal.specs.Entries.{entries, is_good, open_prefix, puts_of}
-use Rattle.ss_journal.specs.Format.{entry_at, is_born, slots_in}
+use Rattle.ss_journal.specs.Format.{entry_bytes, is_born, slots_in}
 use Rattle.ss_journal.specs.Gates.{is_open}
 use Rattle.ss_journal.specs.Opening.{AreEntries, InUseAs, NextAs}
 use Rattle.ss_journal.specs.Puts.{extent_after}
@@ -50,47 +50,47 @@ module _ (content : List ℕ) (n extent : ℕ) (puts : List Put) (read : IsReadT
   pub IsReadTo-all : n ≡ 64 → AreEntries content 64 puts extent
   unfolding entries
   IsReadTo-all all =
-      let past = drop_all n (entries content) (omega (arith, length-map-range_with_len (entry_at content) 0 64)) in
+      let past = drop_all n (entries content) (omega (arith, length-map-range_with_len (entry_bytes content) 0 64)) in
       subst (λ (k : ℕ). AreEntries content k puts extent) all (IsReadTo-closed (ap open_prefix past))
 
   module _ (lt : n < 64) where
-    pub IsReadTo-shut : IsFalse (is_open (entry_at content n)) → AreEntries content n puts extent
-    IsReadTo-shut shut = IsReadTo-closed (ap open_prefix (open_prefix-drop content n lt) ∙ cond-false (is_open (entry_at content n)) _ _ shut)
+    pub IsReadTo-shut : IsFalse (is_open (entry_bytes content n)) → AreEntries content n puts extent
+    IsReadTo-shut shut = IsReadTo-closed (ap open_prefix (open_prefix-drop content n lt) ∙ cond-false (is_open (entry_bytes content n)) _ _ shut)
 
-    module _ (opened : IsTrue (is_open (entry_at content n))) where
-      open_prefix-here : open_prefix (drop n (entries content)) ≡ entry_at content n ∷ open_prefix (drop (n + 1) (entries content))
-      open_prefix-here = ap open_prefix (open_prefix-drop content n lt) ∙ cond-true (is_open (entry_at content n)) _ _ opened
+    module _ (opened : IsTrue (is_open (entry_bytes content n))) where
+      open_prefix-here : open_prefix (drop n (entries content)) ≡ entry_bytes content n ∷ open_prefix (drop (n + 1) (entries content))
+      open_prefix-here = ap open_prefix (open_prefix-drop content n lt) ∙ cond-true (is_open (entry_bytes content n)) _ _ opened
 
-      redo-here : redo content ≡ redo_entries n (entry_at content n ∷ open_prefix (drop (n + 1) (entries content))) read.current
+      redo-here : redo content ≡ redo_entries n (entry_bytes content n ∷ open_prefix (drop (n + 1) (entries content))) read.current
       redo-here = read.redone ∙ ap (λ (list : List (List ℕ)). redo_entries n list read.current) open_prefix-here
 
-      pub IsReadTo-bad : IsFalse (is_good (entry_at content n) extent) → redo content ≡ bad_entry n
+      pub IsReadTo-bad : IsFalse (is_good (entry_bytes content n) extent) → redo content ≡ bad_entry n
       IsReadTo-bad bad =
-          let here = ap (is_good (entry_at content n)) read.same_extent ∙ bad in
-          redo-here ∙ cond-false (is_good (entry_at content n) read.current.extent) _ _ here
+          let here = ap (is_good (entry_bytes content n)) read.same_extent ∙ bad in
+          redo-here ∙ cond-false (is_good (entry_bytes content n) read.current.extent) _ _ here
 
-      pub IsReadTo-more : IsTrue (is_good (entry_at content n) extent)
-          → IsReadTo content (n + 1) (extent_after (puts_of (entry_at content n)) extent) (puts ++ puts_of (entry_at content n))
+      pub IsReadTo-more : IsTrue (is_good (entry_bytes content n) extent)
+          → IsReadTo content (n + 1) (extent_after (puts_of (entry_bytes content n)) extent) (puts ++ puts_of (entry_bytes content n))
       IsReadTo-more good =
-          let own = puts_of (entry_at content n) in
-          let here = ap (is_good (entry_at content n)) read.same_extent ∙ good in
+          let own = puts_of (entry_bytes content n) in
+          let here = ap (is_good (entry_bytes content n)) read.same_extent ∙ good in
           record {
             current = changed read.current own;
             same_extent = ap (extent_after own) read.same_extent;
             number = omega (arith, read.number, ap length open_prefix-here);
             in_use = append_assoc puts own _ ∙ sym (ap (λ (list : List (List ℕ)). puts ++ flat_map puts_of list) open_prefix-here) ∙ read.in_use;
-            redone = redo-here ∙ cond-true (is_good (entry_at content n) read.current.extent) _ _ here;
+            redone = redo-here ∙ cond-true (is_good (entry_bytes content n) read.current.extent) _ _ here;
           }
 
 -- the same of what reading entry n answers
 module _ (content : List ℕ) (n extent : ℕ) (puts : List Put) (lt : n < 64) (read : IsReadTo content n extent puts) where
-  pub InUseAs-next : (error : JournalError) → NextAs (entry_at content n) n extent (Err error) → InUseAs content (Err error)
+  pub InUseAs-next : (error : JournalError) → NextAs (entry_bytes content n) n extent (Err error) → InUseAs content (Err error)
   InUseAs-next Disk is = tt
   InUseAs-next OutOfMemory is = tt
   InUseAs-next NotAStore is = is
   InUseAs-next (BadEntry bad) is = IsReadTo-bad content n extent puts read lt is.0 is.1 ∙ ap bad_entry (sym is.2)
 
-  pub IsReadTo-next : (own : ArrayVec Put) (last : ℕ) (more : List Put) → NextAs (entry_at content n) n extent (Ok (Some own))
+  pub IsReadTo-next : (own : ArrayVec Put) (last : ℕ) (more : List Put) → NextAs (entry_bytes content n) n extent (Ok (Some own))
       → last ≡ extent_after own.items extent → more ≡ puts ++ own.items → IsReadTo content (n + 1) last more
   IsReadTo-next own last more is after joins =
       let last_is = after ∙ ap (λ (l : List Put). extent_after l extent) is.2 in

@@ -6,15 +6,15 @@ use Rattle.std.proofs.lemmas.List.{take_at}
 use Rattle.std.specs.Prelude.{slice_index}
 use Rattle.ss_outside.proofs.DiskLemmas.{get_or-overwrite_outside, length-overwrite}
 use Rattle.ss_outside.specs.Disk.{IsOutside, IsOutsideAll, Torn, overwrite}
-use Rattle.ss_journal.specs.Writes.{DiffersAt, DiffersIn, SameRest, end_of}
+use Rattle.ss_journal.specs.Writes.{DiffersAt, DiffersIn, SameRest, length_with}
 
 -- ranges make no file shorter
-pub end_of-le : (ranges : List (ℕ × ℕ)) (size : ℕ) → size ≤ end_of ranges size
-end_of-le [] size = omega arith
-end_of-le (range ∷ ranges) size = omega (arith, end_of-le ranges size)
+pub length_with-le : (ranges : List (ℕ × ℕ)) (size : ℕ) → size ≤ length_with ranges size
+length_with-le [] size = omega arith
+length_with-le (range ∷ ranges) size = omega (arith, length_with-le ranges size)
 
 pub DiffersIn-refl : (ranges : List (ℕ × ℕ)) (content : List ℕ) → DiffersIn ranges content content
-DiffersIn-refl ranges content = record { no_shorter = omega arith; no_longer = end_of-le ranges (length content); kept = λ place lt out. refl }
+DiffersIn-refl ranges content = record { no_shorter = omega arith; no_longer = length_with-le ranges (length content); kept = λ place lt out. refl }
 
 -- a torn write on top is one range more
 pub DiffersIn-torn : (ranges : List (ℕ × ℕ)) (at count : ℕ) (content old new : List ℕ) → DiffersIn ranges content old → Torn at count old new
@@ -26,13 +26,13 @@ DiffersIn-torn ranges at count content old new differs torn = record {
 }
 
 -- where several ranges end
-end_of-from : (ranges : List (ℕ × ℕ)) (size : ℕ) → end_of ranges size ≡ max (end_of ranges 0) size
-end_of-from [] size = omega arith
-end_of-from (range ∷ ranges) size = omega (arith, end_of-from ranges size)
+length_with-from : (ranges : List (ℕ × ℕ)) (size : ℕ) → length_with ranges size ≡ max (length_with ranges 0) size
+length_with-from [] size = omega arith
+length_with-from (range ∷ ranges) size = omega (arith, length_with-from ranges size)
 
-end_of-append : (first second : List (ℕ × ℕ)) (size : ℕ) → end_of (first ++ second) size ≡ max (end_of first size) (end_of second 0)
-end_of-append [] second size = omega (arith, end_of-from second size)
-end_of-append (range ∷ first) second size = omega (arith, end_of-append first second size)
+length_with-append : (first second : List (ℕ × ℕ)) (size : ℕ) → length_with (first ++ second) size ≡ max (length_with first size) (length_with second 0)
+length_with-append [] second size = omega (arith, length_with-from second size)
+length_with-append (range ∷ first) second size = omega (arith, length_with-append first second size)
 
 outside_both : (first second : List (ℕ × ℕ)) (place : ℕ) → IsOutsideAll (first ++ second) place → IsOutsideAll first place × IsOutsideAll second place
 outside_both [] second place out = (tt, out)
@@ -45,7 +45,7 @@ pub DiffersIn-append : (first second : List (ℕ × ℕ)) (content old new : Lis
     → DiffersIn (first ++ second) content new
 DiffersIn-append first second content old new before after = record {
   no_shorter = omega (arith, before.no_shorter, after.no_shorter);
-  no_longer = omega (arith, before.no_longer, after.no_longer, end_of-append first second (length content), end_of-from second (length old));
+  no_longer = omega (arith, before.no_longer, after.no_longer, length_with-append first second (length content), length_with-from second (length old));
   kept = λ place lt out.
       let both = outside_both first second place out in
       after.kept place (omega (arith, lt, before.no_shorter)) both.1 ∙ before.kept place lt both.0;
@@ -59,11 +59,11 @@ DiffersIn-overwrite at content bytes within = record {
 }
 
 -- ranges within a file leave its length and all other places, also past the end
-pub length-differs : (ranges : List (ℕ × ℕ)) (old new : List ℕ) → end_of ranges (length old) ≤ length old → DiffersIn ranges old new
+pub length-differs : (ranges : List (ℕ × ℕ)) (old new : List ℕ) → length_with ranges (length old) ≤ length old → DiffersIn ranges old new
     → length new ≡ length old
 length-differs ranges old new inside differs = omega (arith, differs.no_shorter, differs.no_longer, inside)
 
-pub get_or-differs : (ranges : List (ℕ × ℕ)) (old new : List ℕ) → end_of ranges (length old) ≤ length old → DiffersIn ranges old new → (place : ℕ)
+pub get_or-differs : (ranges : List (ℕ × ℕ)) (old new : List ℕ) → length_with ranges (length old) ≤ length old → DiffersIn ranges old new → (place : ℕ)
     → IsOutsideAll ranges place → slice_index new place ≡ slice_index old place
 get_or-differs ranges old new inside differs place out = elim (cases_lt place (length old)) [
   | inl lt ↦ differs.kept place lt out
@@ -72,7 +72,7 @@ get_or-differs ranges old new inside differs place out = elim (cases_lt place (l
 
 -- ranges that end where the last possible slot ends leave the rest
 pub SameRest-differs : (ranges : List (ℕ × ℕ)) (old new : List ℕ) → ((place : ℕ) → 134254592 ≤ place → IsOutsideAll ranges place)
-    → end_of ranges (length old) ≤ max (length old) 134254592 → DiffersIn ranges old new → SameRest old new
+    → length_with ranges (length old) ≤ max (length old) 134254592 → DiffersIn ranges old new → SameRest old new
 SameRest-differs ranges old new out end differs place past = elim (cases_lt place (length old)) [
   | inl lt ↦ differs.kept place lt (out place past)
   | inr beyond ↦ get_or_past new place 0 (omega (arith, past, beyond, end, differs.no_longer)) ∙ sym (get_or_past old place 0 beyond)
@@ -85,7 +85,7 @@ DiffersAt-torn at count was image torn = DiffersIn-torn [] at count was was imag
 -- each place outside the ranges lies outside this one, which ends where they end at the latest
 pub record Covers (ranges : List (ℕ × ℕ)) (at count : ℕ) : Type 0 where
   pub outside : (place : ℕ) → IsOutsideAll ranges place → IsOutside at count place
-  pub end : (size : ℕ) → at + count ≤ end_of ranges size
+  pub end : (size : ℕ) → at + count ≤ length_with ranges size
 
 pub DiffersIn-covered : (ranges : List (ℕ × ℕ)) (at count : ℕ) (content old new : List ℕ) → Covers ranges at count → DiffersIn ranges content old
     → DiffersAt at count old new → DiffersIn ranges content new

@@ -6,14 +6,14 @@ use Rattle.std.proofs.lemmas.Bool.{cases_Bool, cond-false, cond-true}
 use Rattle.std.proofs.lemmas.List.Elements.{All-append, All-head, All-nil, All-tail}
 use Rattle.std.specs.Prelude.{All, flat_map, slice_index}
 use Rattle.ss_journal.specs.Entries.{entries, is_good, open_prefix, puts_of}
-use Rattle.ss_journal.specs.Format.{entry_at, is_born, is_unborn, slots_in}
+use Rattle.ss_journal.specs.Format.{entry_bytes, is_born, is_unborn, slots_in}
 use Rattle.ss_journal.specs.Gates.{IsClosed, opens}
-use Rattle.ss_journal.specs.Puts.{extent_after, AreWhole, slots_fit}
+use Rattle.ss_journal.specs.Puts.{extent_after, FillSlots, slots_fit}
 use Rattle.ss_journal.specs.Redo.{CameInPart, entries_in_use, Gives, Redone, SameMap, SlotMap, StandsFor, bad_entry, blank_map, changed, file_map, not_a_store}
 use Rattle.ss_journal.specs.Redo.{puts_in_use, redo, redo_entries, stands}
 use Rattle.ss_journal.specs.Writes.{AreSlots}
 use Rattle.ss_journal.specs.declared.put.Put.{Put}
-use Rattle.ss_journal.proofs.EntryLemmas.{AreWhole-puts_of, IsSoundEntry-good, is_good-again, is_good-some}
+use Rattle.ss_journal.proofs.EntryLemmas.{FillSlots-puts_of, IsSoundEntry-good, is_good-again, is_good-some}
 use Rattle.ss_journal.proofs.HeaderLemmas.{has_magic-same, is_born-from, is_born-parts, is_born-unborn, is_unborn-born}
 use Rattle.ss_journal.proofs.MapLemmas.{SameMap-sym, SameMap-trans, changed-append}
 use Rattle.ss_journal.proofs.PrefixLemmas.{entries-long, entries-same, open_prefix-closed, open_prefix-long, open_prefix-open, other_entries}
@@ -107,26 +107,26 @@ redo_entries-stands n (entry ∷ rest) found its is =
       All-append (λ (put : Put). put.slot < 2 ^ 20) (puts_of entry) (flat_map puts_of rest) (AreSlots-rise 0 (puts_of entry) sound.rise) later.2,
     )
 
-AreWhole-entries : (n : ℕ) (list : List (List ℕ)) (found its : SlotMap) → All (λ entry. length entry ≡ 544) list
-    → redo_entries n list found ≡ stands its → AreWhole (flat_map puts_of list)
-AreWhole-entries n [] found its long is = All-nil (λ (put : Put). length put.bytes ≡ 128)
-AreWhole-entries n (entry ∷ rest) found its long is =
+FillSlots-entries : (n : ℕ) (list : List (List ℕ)) (found its : SlotMap) → All (λ entry. length entry ≡ 544) list
+    → redo_entries n list found ≡ stands its → FillSlots (flat_map puts_of list)
+FillSlots-entries n [] found its long is = All-nil (λ (put : Put). length put.bytes ≡ 128)
+FillSlots-entries n (entry ∷ rest) found its long is =
     let cases = redo_entries-cases n entry rest found its is in
     let sound = IsSoundEntry-good entry found.extent cases.0 in
-    let later = AreWhole-entries (n + 1) rest (changed found (puts_of entry)) its (All-tail (λ (e : List ℕ). length e ≡ 544) entry rest long) cases.1 in
+    let later = FillSlots-entries (n + 1) rest (changed found (puts_of entry)) its (All-tail (λ (e : List ℕ). length e ≡ 544) entry rest long) cases.1 in
     All-append (λ (put : Put). length put.bytes ≡ 128) (puts_of entry) (flat_map puts_of rest)
-    (AreWhole-puts_of entry (All-head (λ (e : List ℕ). length e ≡ 544) entry rest long) sound.few) later
+    (FillSlots-puts_of entry (All-head (λ (e : List ℕ). length e ≡ 544) entry rest long) sound.few) later
 
 -- and so does a formatted file
 pub redo-born : (image : List ℕ) (its : SlotMap) → IsTrue (is_born image) → redo image ≡ stands its
     → (its ≡ changed (file_map image) (puts_in_use image)) × IsTrue (slots_fit (puts_in_use image) (slots_in (length image))) × AreSlots (puts_in_use image)
-    × AreWhole (puts_in_use image)
+    × FillSlots (puts_in_use image)
 redo-born image its born is =
     let list = open_prefix (entries image) in
     let here : redo_entries 0 list (file_map image) ≡ stands its = sym (redo-formed image born) ∙ is in
     let parts = redo_entries-stands 0 list (file_map image) its here in
-    let whole = AreWhole-entries 0 list (file_map image) its (open_prefix-long (entries image) (entries-long image (is_born-parts image born).0)) here in
-    let P = λ (puts : List Put). (its ≡ changed (file_map image) puts) × IsTrue (slots_fit puts (slots_in (length image))) × AreSlots puts × AreWhole puts in
+    let whole = FillSlots-entries 0 list (file_map image) its (open_prefix-long (entries image) (entries-long image (is_born-parts image born).0)) here in
+    let P = λ (puts : List Put). (its ≡ changed (file_map image) puts) × IsTrue (slots_fit puts (slots_in (length image))) × AreSlots puts × FillSlots puts in
     subst P (sym (puts_in_use-formed image born)) (parts.0, parts.1, parts.2, whole)
 
 -- entries that stand over a map stand over one with a greater extent
@@ -192,10 +192,10 @@ pub first_closed-none : (image : List ℕ) (its : SlotMap) → IsTrue (is_born i
 first_closed-none image its born is none = elim (cases_Bool (opens (slice_index image 512))) [
   | inl opened ↦
       let prefix = open_prefix-open image opened in
-      let stood : redo_entries 0 (entry_at image 0 ∷ open_prefix (other_entries image)) (file_map image) ≡ stands its = ap
+      let stood : redo_entries 0 (entry_bytes image 0 ∷ open_prefix (other_entries image)) (file_map image) ≡ stands its = ap
       (λ (list : List (List ℕ)). redo_entries 0 list (file_map image)) (sym prefix) ∙ sym (redo-formed image born) ∙ is in
-      let empty : puts_of (entry_at image 0) ++ flat_map puts_of (open_prefix (other_entries image)) ≡ [] = ap (flat_map puts_of) (sym prefix)
+      let empty : puts_of (entry_bytes image 0) ++ flat_map puts_of (open_prefix (other_entries image)) ≡ [] = ap (flat_map puts_of) (sym prefix)
       ∙ sym (puts_in_use-formed image born) ∙ none in
-      absurd (is_good-some (entry_at image 0) _ (redo_entries-first (entry_at image 0) _ (file_map image) its stood) _ empty)
+      absurd (is_good-some (entry_bytes image 0) _ (redo_entries-first (entry_bytes image 0) _ (file_map image) its stood) _ empty)
   | inr closed ↦ closed
 ]

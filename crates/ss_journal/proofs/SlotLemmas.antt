@@ -7,9 +7,9 @@ use Rattle.std.proofs.lemmas.List.{append_assoc, drop_at, drop_more, length-take
 use Rattle.ss_outside.proofs.DiskLemmas.{get_or-overwrite_outside, length-overwrite}
 use Rattle.ss_outside.specs.Disk.{IsOutside, IsOutsideAll, overwrite}
 use Rattle.ss_journal.specs.Format.{slot_at, slot_place, slots_in}
-use Rattle.ss_journal.specs.Puts.{AgreeBeside, AreWhole, extent_after, is_put, slots_fit}
+use Rattle.ss_journal.specs.Puts.{AgreeBeside, FillSlots, extent_after, is_put, slots_fit}
 use Rattle.ss_journal.specs.Redo.{SameMap, changed, file_map}
-use Rattle.ss_journal.specs.Writes.{AreSlots, DiffersAt, DiffersIn, HasPlaces, end_of, slot_ranges, slots_written}
+use Rattle.ss_journal.specs.Writes.{AreSlots, DiffersAt, DiffersIn, HasSlotsFor, length_with, slot_ranges, slots_written}
 use Rattle.ss_journal.specs.declared.put.Put.{Put}
 use Rattle.ss_journal.proofs.HeaderLemmas.{piece-same}
 use Rattle.ss_journal.proofs.MapLemmas.{SameMap-refl, SameMap-trans, changed-same, slot_within}
@@ -39,13 +39,13 @@ slots_in-max : (slot size end extent : ℕ) → slots_in end ≤ extent → slot
 slots_in-max slot size end extent most lt = omega arith
 
 -- a file with some of the puts has no more slots than the extent after them
-slots_in-end_of : (puts : List Put) (size extent : ℕ) → IsTrue (slots_fit puts extent) → slots_in size ≤ extent
-    → slots_in (end_of (slot_ranges puts) size) ≤ extent_after puts extent
-slots_in-end_of [] size extent fit le = le
-slots_in-end_of (put ∷ puts) size extent fit le =
+slots_in-length_with : (puts : List Put) (size extent : ℕ) → IsTrue (slots_fit puts extent) → slots_in size ≤ extent
+    → slots_in (length_with (slot_ranges puts) size) ≤ extent_after puts extent
+slots_in-length_with [] size extent fit le = le
+slots_in-length_with (put ∷ puts) size extent fit le =
     let cases = slots_fit-cases put puts extent fit in
-    let rest = slots_in-end_of puts size (next put.slot extent) cases.1 (omega (arith, le, next-le put.slot extent)) in
-    slots_in-max put.slot size (end_of (slot_ranges puts) size) (extent_after puts (next put.slot extent)) rest
+    let rest = slots_in-length_with puts size (next put.slot extent) cases.1 (omega (arith, le, next-le put.slot extent)) in
+    slots_in-max put.slot size (length_with (slot_ranges puts) size) (extent_after puts (next put.slot extent)) rest
     (omega (arith, lt-next put.slot extent cases.0, le-extent_after puts (next put.slot extent)))
 
 pub slots_in-mono : (old new : ℕ) → old ≤ new → slots_in old ≤ slots_in new
@@ -55,8 +55,8 @@ module _ (puts : List Put) (content image : List ℕ) (fit : IsTrue (slots_fit p
     (differs : DiffersIn (slot_ranges puts) content image) where
   pub slots_in-torn : slots_in (length image) ≤ extent_after puts (slots_in (length content))
   slots_in-torn =
-      let most = slots_in-end_of puts (length content) (slots_in (length content)) fit (omega arith) in
-      let mono = slots_in-mono (length image) (end_of (slot_ranges puts) (length content)) differs.no_longer in
+      let most = slots_in-length_with puts (length content) (slots_in (length content)) fit (omega arith) in
+      let mono = slots_in-mono (length image) (length_with (slot_ranges puts) (length content)) differs.no_longer in
       omega (arith, most, mono)
 
   -- the files agree on each slot without a put
@@ -145,7 +145,7 @@ module _ (put : Put) (content : List ℕ) (long : 36864 ≤ length content) (fit
 
 -- the puts that are written in order give the map after them
 pub file_map-slots_written : (puts : List Put) (content : List ℕ) → 36864 ≤ length content → IsTrue (slots_fit puts (slots_in (length content)))
-    → AreSlots puts → AreWhole puts → SameMap (file_map (slots_written puts content)) (changed (file_map content) puts)
+    → AreSlots puts → FillSlots puts → SameMap (file_map (slots_written puts content)) (changed (file_map content) puts)
 file_map-slots_written [] content long fit slots whole = SameMap-refl (file_map content)
 file_map-slots_written (put ∷ puts) content long fit slots whole =
     let cases = slots_fit-cases put puts (slots_in (length content)) fit in
@@ -159,10 +159,10 @@ file_map-slots_written (put ∷ puts) content long fit slots whole =
     SameMap-trans _ _ _ rest (changed-same puts _ _ first)
 
 -- room for the rest, with the first written
-pub HasPlaces-more : (puts : List Put) (k : ℕ) (d : Put) (content : List ℕ) → k < length puts → (get_or puts k d).slot < 2 ^ 20
-    → length (get_or puts k d).bytes ≡ 128 → HasPlaces (drop k puts) content
-    → HasPlaces (drop (k + 1) puts) (overwrite content (slot_place (get_or puts k d).slot) (get_or puts k d).bytes)
-HasPlaces-more puts k d content lt below whole room =
+pub HasSlotsFor-more : (puts : List Put) (k : ℕ) (d : Put) (content : List ℕ) → k < length puts → (get_or puts k d).slot < 2 ^ 20
+    → length (get_or puts k d).bytes ≡ 128 → HasSlotsFor (drop k puts) content
+    → HasSlotsFor (drop (k + 1) puts) (overwrite content (slot_place (get_or puts k d).slot) (get_or puts k d).bytes)
+HasSlotsFor-more puts k d content lt below whole room =
     let put = get_or puts k d in
     let fit = subst (λ (list : List Put). IsTrue (slots_fit list (slots_in (length content)))) (drop_more puts k d lt) room.fit in
     let cases = slots_fit-cases put (drop (k + 1) puts) (slots_in (length content)) fit in
@@ -184,7 +184,7 @@ outside_at (put ∷ puts) zero d place lt out = out.0
 outside_at (put ∷ puts) (suc k) d place lt out = outside_at puts k d place (omega (arith, lt)) out.1
 
 end_of_at : (puts : List Put) (k : ℕ) (d : Put) (size : ℕ) → k < length puts
-    → slot_place (get_or puts k d).slot + 128 ≤ end_of (slot_ranges puts) size
+    → slot_place (get_or puts k d).slot + 128 ≤ length_with (slot_ranges puts) size
 end_of_at [] k d size lt = absurd (omega (arith, lt))
 end_of_at (put ∷ puts) zero d size lt = omega arith
 end_of_at (put ∷ puts) (suc k) d size lt = omega (arith, end_of_at puts k d size (omega (arith, lt)))
@@ -194,7 +194,7 @@ Covers-slot puts k d lt = record { outside = λ place out. outside_at puts k d p
 
 -- the puts that are written are one way to tear their slots
 pub DiffersIn-slots_written : (puts : List Put) (content : List ℕ) → 36864 ≤ length content → IsTrue (slots_fit puts (slots_in (length content)))
-    → AreSlots puts → AreWhole puts → DiffersIn (slot_ranges puts) content (slots_written puts content)
+    → AreSlots puts → FillSlots puts → DiffersIn (slot_ranges puts) content (slots_written puts content)
 DiffersIn-slots_written [] content long fit slots whole = DiffersIn-refl [] content
 DiffersIn-slots_written (put ∷ puts) content long fit slots whole =
     let cases = slots_fit-cases put puts (slots_in (length content)) fit in

@@ -7,10 +7,10 @@ use Rattle.ss_outside.specs.Disk.{overwrite}
 use Rattle.ss_journal.specs.Calls.{Stages}
 use Rattle.ss_journal.proofs.NextEntry.{AddsEntry, IsReadyFor}
 use Rattle.ss_journal.specs.Entries.{entry_body}
-use Rattle.ss_journal.specs.Format.{entry_at}
+use Rattle.ss_journal.specs.Format.{entry_bytes}
 use Rattle.ss_journal.specs.Gates.{entry_place}
 use Rattle.ss_journal.specs.Kept.{BeginsOpen, EndsBefore, IsBounded, IsKept, IsSettled, JournalState, shown, with_entries}
-use Rattle.ss_journal.specs.Puts.{AreWhole, IsTxn, extent_after, slots_fit}
+use Rattle.ss_journal.specs.Puts.{FillSlots, IsTxn, extent_after, slots_fit}
 use Rattle.ss_journal.specs.Redo.{SlotMap, StandsFor, changed}
 use Rattle.ss_journal.specs.declared.phase.Phase.TheVariants.{Settled}
 use Rattle.ss_journal.specs.declared.put.Put.{Put}
@@ -22,7 +22,7 @@ use Rattle.ss_journal.proofs.PutLemmas.{extent_after-most, waiting-below}
 use Rattle.ss_journal.proofs.ShownLemmas.{BeginsOpen-more, EndsBefore-staged, IfStaged-from, with_entries-more}
 
 -- an entry that is written over a content with room for it
-module _ (n : ℕ) (puts : List Put) (content : List ℕ) (ready : IsReadyFor n puts content) (free : n < 64) (whole : AreWhole puts) (txn : IsTxn puts) where
+module _ (n : ℕ) (puts : List Put) (content : List ℕ) (ready : IsReadyFor n puts content) (free : n < 64) (whole : FillSlots puts) (txn : IsTxn puts) where
   abbrev image : List ℕ
   image = overwrite content (entry_place n) (165 ∷ entry_body puts)
 
@@ -42,7 +42,7 @@ module _ (n : ℕ) (puts : List Put) (content : List ℕ) (ready : IsReadyFor n 
   beside place (inl below) = get_or-overwrite_outside content (165 ∷ entry_body puts) (entry_place n) within place (inl below)
   beside place (inr from) = get_or-overwrite_outside content (165 ∷ entry_body puts) (entry_place n) within place (inr (omega (arith, from, size-body)))
 
-  is_entry : entry_at image n ≡ 165 ∷ entry_body puts
+  is_entry : entry_bytes image n ≡ 165 ∷ entry_body puts
   is_entry = entry-overwrite n content (165 ∷ entry_body puts) within (omega (arith, size-body))
 
   pub AddsEntry-written : AddsEntry n puts content image
@@ -60,7 +60,7 @@ pub record IsStaged (puts : List Put) (was then : JournalState) : Type 0 where
   pub sealed : then.sealed ≡ was.sealed
   pub staged : then.staged ≡ was.staged ++ 165 ∷ entry_body puts
 
-module _ (was then : JournalState) (puts : List Put) (bounded : IsBounded was) (settled : IsSettled was) (whole : AreWhole puts) (txn : IsTxn puts)
+module _ (was then : JournalState) (puts : List Put) (bounded : IsBounded was) (settled : IsSettled was) (whole : FillSlots puts) (txn : IsTxn puts)
     (fit : IsTrue (slots_fit puts was.extent)) (free : was.in_use < 64) (is : IsStaged puts was then) where
   size-staged : length then.staged ≡ length was.staged + 544
   size-staged = omega (arith, ap length is.staged, length-append was.staged (165 ∷ entry_body puts), length-entry_body puts whole txn.few)

@@ -10,10 +10,10 @@ use Rattle.ss_outside.specs.Step.{Syncs}
 use Rattle.ss_outside.specs.declared.source.Failed.{Failed}
 use Rattle.ss_journal.specs.Format.{slot_place}
 use Rattle.ss_journal.specs.Steps.{Durably, Rewrites, Writes, WritesSlots, WritesZeros}
-use Rattle.ss_journal.specs.Writes.{HasPlaces, Tears, slot_ranges, slots_written}
+use Rattle.ss_journal.specs.Writes.{HasSlotsFor, Tears, slot_ranges, slots_written}
 use Rattle.ss_journal.specs.declared.put.Put.{Put}
 use Rattle.ss_journal.proofs.RangeLemmas.{Covers-part, overwrite-zeros}
-use Rattle.ss_journal.proofs.SlotLemmas.{Covers-slot, HasPlaces-more, slots_written-more}
+use Rattle.ss_journal.proofs.SlotLemmas.{Covers-slot, HasSlotsFor-more, slots_written-more}
 use Rattle.ss_journal.proofs.StepLemmas.{rewrites-synced}
 use Rattle.ss_journal.proofs.TearLemmas.{on_err, tears-more, tears-none}
 
@@ -21,9 +21,9 @@ use Rattle.ss_journal.proofs.TearLemmas.{on_err, tears-more, tears-none}
 pub record WrittenTo (puts : List Put) (k : ℕ) (old new : Told) : Type 0 where
   pub tears : Tears (slot_ranges puts) old new
   pub written : slots_written (drop k puts) new.content ≡ slots_written puts old.content
-  pub places : HasPlaces (drop k puts) new.content
+  pub places : HasSlotsFor (drop k puts) new.content
 
-pub WrittenTo-none : (puts : List Put) (disk : Told) → KnowsNow disk → HasPlaces puts disk.content → WrittenTo puts 0 disk disk
+pub WrittenTo-none : (puts : List Put) (disk : Told) → KnowsNow disk → HasSlotsFor puts disk.content → WrittenTo puts 0 disk disk
 WrittenTo-none puts disk knows places = record { tears = tears-none (slot_ranges puts) disk knows; written = refl; places = places }
 
 module _ (puts : List Put) (k : ℕ) (d : Put) (old mid new : Told) (knows : KnowsNow mid) (lt : k < length puts) (so_far : WrittenTo puts k old mid) where
@@ -37,7 +37,7 @@ module _ (puts : List Put) (k : ℕ) (d : Put) (old mid new : Told) (knows : Kno
   WrittenTo-more value few whole step = record {
     tears = tears-slot whole step;
     written = rw step.written (slots_written-more puts k d mid.content lt ∙ so_far.written);
-    places = rw step.written (HasPlaces-more puts k d mid.content lt few whole so_far.places);
+    places = rw step.written (HasSlotsFor-more puts k d mid.content lt few whole so_far.places);
   }
 
   pub WrittenTo-failed : {step : Result (Unit {0}) Failed} (result : Result (Unit {0}) Failed) → IsErr result → length (get_or puts k d).bytes ≡ 128

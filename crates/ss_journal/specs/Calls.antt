@@ -10,7 +10,7 @@ use Rattle.ss_journal.specs.declared.journal_error.JournalError.{JournalError}
 use Rattle.ss_journal.specs.declared.journal_error.JournalError.TheVariants.{Disk, NotAStore, BadEntry, OutOfMemory}
 use Rattle.ss_journal.specs.declared.format.TheConstants.{ENTRIES, PAGE_SLOTS, SLOT_SIZE}
 use Rattle.ss_journal.specs.Format.{is_unborn, is_born}
-use Rattle.ss_journal.specs.Kept.{IfStaged, JournalState, IsKept, IsSealed, IsSettled, OpensAs, shown}
+use Rattle.ss_journal.specs.Kept.{IfStaged, JournalState, IsKept, IsSealed, IsSettled, OpensMapAs, shown}
 use Rattle.ss_journal.specs.Puts.{extent_after}
 use Rattle.ss_journal.specs.Redo.{SlotMap, StandsFor, changed}
 use Rattle.ss_journal.specs.Writes.{SameRest}
@@ -63,7 +63,7 @@ verdict_of_open (Err OutOfMemory) = no_memory
 
 -- A disk is opened: the answer is the map of its content, or why it has none. Content and images stay.
 pub record Opens (result : Result JournalState JournalError) (old new : Told) : Type 0 where
-  pub opens : OpensAs old.content result
+  pub opens : OpensMapAs old.content result
   pub reads : OnlyReads old new
 
 -- A journal is settled, which is this then: the map stays, and whatever was pending is durable.

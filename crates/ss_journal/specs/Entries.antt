@@ -6,12 +6,12 @@ use Rattle.ss_fields.specs.Fields.{number_at, number_bytes}
 use Rattle.ss_journal.specs.declared.put.Put.{Put}
 use Rattle.ss_journal.specs.declared.format.TheConstants.{ENTRIES, ENTRY_SIZE, MOST_PUTS, PUT_SIZE, SLOT_SIZE}
 use Rattle.ss_journal.specs.Gates.{is_open}
-use Rattle.ss_journal.specs.Format.{entry_at}
+use Rattle.ss_journal.specs.Format.{entry_bytes}
 use Rattle.ss_journal.specs.Puts.{slots_rise_from, slots_fit}
 
 -- how many puts an entry holds
-abbrev pub count_of : List ℕ → ℕ
-count_of entry = slice_index entry 1
+abbrev pub put_count : List ℕ → ℕ
+put_count entry = slice_index entry 1
 
 -- its put number k
 abbrev pub put_at : List ℕ → ℕ → Put
@@ -19,14 +19,14 @@ put_at entry k = record { slot = number_at 4 entry (2 + PUT_SIZE * k); bytes = t
 
 -- its puts, in order
 unfoldable pub puts_of : List ℕ → List Put
-puts_of entry = map (put_at entry) (range_with_len 0 (count_of entry))
+puts_of entry = map (put_at entry) (range_with_len 0 (put_count entry))
 
 -- whether an entry is sound over this extent
 unfoldable pub is_good : List ℕ → ℕ → Bool
 is_good entry extent =
-    nat_le 1 (count_of entry) && nat_le (count_of entry) MOST_PUTS
+    nat_le 1 (put_count entry) && nat_le (put_count entry) MOST_PUTS
     && slots_rise_from 0 (puts_of entry) && slots_fit (puts_of entry) extent
-    && list_all (λ byte. byte == 0) (drop (2 + PUT_SIZE * count_of entry) entry)
+    && list_all (λ byte. byte == 0) (drop (2 + PUT_SIZE * put_count entry) entry)
 
 -- the longest prefix of open entries
 abbrev pub open_prefix : List (List ℕ) → List (List ℕ)
@@ -35,7 +35,7 @@ open_prefix (entry ∷ entries) = if is_open entry then entry ∷ open_prefix en
 
 -- the entries of a file
 unfoldable pub entries : List ℕ → List (List ℕ)
-entries image = map (entry_at image) (range_with_len 0 ENTRIES)
+entries image = map (entry_bytes image) (range_with_len 0 ENTRIES)
 
 -- a put in an entry: the number of its slot, then the bytes
 abbrev pub put_bytes : Put → List ℕ

@@ -42,5 +42,5 @@ abbrev pub slot_at : List ℕ → ℕ → List ℕ
 slot_at image slot = take SLOT_SIZE (drop (slot_place slot) image)
 
 -- the bytes of an entry
-abbrev pub entry_at : List ℕ → ℕ → List ℕ
-entry_at image n = take ENTRY_SIZE (drop (entry_place n) image)
+abbrev pub entry_bytes : List ℕ → ℕ → List ℕ
+entry_bytes image n = take ENTRY_SIZE (drop (entry_place n) image)

@@ -98,9 +98,9 @@ pub record IsKept (journal : JournalState) (content : List ℕ) : Type 0 where
   pub before : IfStaged journal.staged (EndsBefore journal.sealed content)
 
 -- what opening a content answers
-abbrev pub OpensAs : List ℕ → Result JournalState JournalError → Type 0
-OpensAs content (Ok journal) = IsKept journal content
-OpensAs content (Err NotAStore) = redo content ≡ not_a_store
-OpensAs content (Err (BadEntry n)) = redo content ≡ bad_entry n
-OpensAs content (Err Disk) = ⊤
-OpensAs content (Err OutOfMemory) = ⊤
+abbrev pub OpensMapAs : List ℕ → Result JournalState JournalError → Type 0
+OpensMapAs content (Ok journal) = IsKept journal content
+OpensMapAs content (Err NotAStore) = redo content ≡ not_a_store
+OpensMapAs content (Err (BadEntry n)) = redo content ≡ bad_entry n
+OpensMapAs content (Err Disk) = ⊤
+OpensMapAs content (Err OutOfMemory) = ⊤

@@ -35,8 +35,8 @@ pub record IsTxn (puts : List Put) : Type 0 where
   pub rise : IsTrue (slots_rise_from 0 puts)
 
 -- each put fills its slot
-abbrev pub AreWhole : List Put → Type 0
-AreWhole puts = All (λ put. length put.bytes ≡ SLOT_SIZE) puts
+abbrev pub FillSlots : List Put → Type 0
+FillSlots puts = All (λ put. length put.bytes ≡ SLOT_SIZE) puts
 
 -- whether one of the puts is for the slot
 abbrev pub is_put : List Put → ℕ → Bool

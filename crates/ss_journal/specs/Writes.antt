@@ -8,14 +8,14 @@ use Rattle.ss_journal.specs.Format.{slot_place, slots_in}
 use Rattle.ss_journal.specs.Puts.{slots_fit}
 
 -- the greatest length with these ranges written
-abbrev pub end_of : List (ℕ × ℕ) → ℕ → ℕ
-end_of [] size = size
-end_of (range ∷ ranges) size = max (end_of ranges size) (range.0 + range.1)
+abbrev pub length_with : List (ℕ × ℕ) → ℕ → ℕ
+length_with [] size = size
+length_with (range ∷ ranges) size = max (length_with ranges size) (range.0 + range.1)
 
 -- The writes to these ranges were lost, torn or whole: each other place is as it was, and it grew at most to their end.
 pub record DiffersIn (ranges : List (ℕ × ℕ)) (old new : List ℕ) : Type 0 where
   pub no_shorter : length old ≤ length new
-  pub no_longer : length new ≤ end_of ranges (length old)
+  pub no_longer : length new ≤ length_with ranges (length old)
   pub kept : EachIndex old (λ place. IsOutsideAll ranges place → slice_index new place ≡ slice_index old place)
 
 -- the same of one range
@@ -46,7 +46,7 @@ abbrev pub AreSlots : List Put → Type 0
 AreSlots puts = All (λ put. put.slot < MOST_SLOTS) puts
 
 -- a formatted file, into which these puts may be written in order
-pub record HasPlaces (puts : List Put) (content : List ℕ) : Type 0 where
+pub record HasSlotsFor (puts : List Put) (content : List ℕ) : Type 0 where
   pub long : FIRST_SLOT ≤ length content
   pub fit : IsTrue (slots_fit puts (slots_in (length content)))
 

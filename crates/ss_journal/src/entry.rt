@@ -1,8 +1,8 @@
 // The entries: read, judged and spelled.
 ghost use Rattle.std.specs.Prelude.{◌≡◌, ◌+◌, ◌*◌, ◌≤◌, ◌<◌, ◌^◌, ◌==◌, ◌∷◌, ◌++◌, length, take, drop, IsTrue};
 ghost use Rattle.std.specs.List.{list_all};
-ghost use Rattle.ss_journal.specs.Puts.{slots_rise_from, slots_fit, extent_after, AreWhole, IsTxn};
-ghost use Rattle.ss_journal.specs.Entries.{put_at, puts_of, is_good, count_of, put_bytes, entry_body};
+ghost use Rattle.ss_journal.specs.Puts.{slots_rise_from, slots_fit, extent_after, FillSlots, IsTxn};
+ghost use Rattle.ss_journal.specs.Entries.{put_at, puts_of, is_good, put_count, put_bytes, entry_body};
 
 use crate::format::{ENTRY_SIZE, MOST_PUTS, MOST_SLOTS, PUT_SIZE, SLOT_SIZE};
 use crate::put::{Put, Txn};
@@ -32,7 +32,7 @@ fn put_at(entry: &[u8; ENTRY_SIZE], k: usize) -> Put
 
 // The entry's puts.
 pub fn puts_of(entry: &[u8; ENTRY_SIZE]) -> Txn
-    requires { count_of entry.now ≤ MOST_PUTS }
+    requires { put_count entry.now ≤ MOST_PUTS }
     ensures { result.items ≡ puts_of entry.now }
 {
     let mut puts = Txn::new();
@@ -96,8 +96,8 @@ fn are_zeros(bytes: &[u8]) -> bool
 
 // Whether zeros stand after the entry's puts.
 fn rest_is_zeros(entry: &[u8; ENTRY_SIZE]) -> bool
-    requires { count_of entry.now ≤ MOST_PUTS }
-    ensures { result ≡ list_all (λ byte. byte == 0) (drop (2 + PUT_SIZE * count_of entry.now) entry.now) }
+    requires { put_count entry.now ≤ MOST_PUTS }
+    ensures { result ≡ list_all (λ byte. byte == 0) (drop (2 + PUT_SIZE * put_count entry.now) entry.now) }
 {
     are_zeros(&entry[2 + PUT_SIZE * usize::from(entry[1])..])
 }
@@ -106,7 +106,7 @@ fn rest_is_zeros(entry: &[u8; ENTRY_SIZE]) -> bool
 pub fn is_good(entry: &[u8; ENTRY_SIZE], extent: u32) -> bool
     requires { extent ≤ MOST_SLOTS }
     ensures value { result ≡ is_good entry.now extent }
-    ensures few { IsTrue result → count_of entry.now ≤ MOST_PUTS }
+    ensures few { IsTrue result → put_count entry.now ≤ MOST_PUTS }
 {
     if entry[1] < 1 || usize::from(entry[1]) > MOST_PUTS {
         return false;
@@ -130,7 +130,7 @@ fn write_put(entry: &mut [u8; ENTRY_SIZE], k: usize, put: &Put)
 pub fn entry_of(puts: &Txn) -> [u8; ENTRY_SIZE]
     requires { IsTxn puts.now.items }
     ensures value { result ≡ 0 ∷ entry_body puts.now.items }
-    ensures whole { AreWhole puts.now.items }
+    ensures whole { FillSlots puts.now.items }
 {
     let puts = puts.as_slice();
     let mut entry = [0; ENTRY_SIZE];

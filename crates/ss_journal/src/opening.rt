@@ -4,7 +4,7 @@ ghost use Rattle.ss_outside.specs.Disk.{OfContent};
 ghost use Rattle.ss_outside.specs.Step.{Step};
 ghost use Rattle.ss_outside.specs.Verdict.{verdict};
 ghost use Rattle.ss_journal.specs.Calls.{verdict_of_open};
-ghost use Rattle.ss_journal.specs.Format.{has_magic, is_unborn, is_born, entry_at, slots_in};
+ghost use Rattle.ss_journal.specs.Format.{has_magic, is_unborn, is_born, entry_bytes, slots_in};
 ghost use Rattle.ss_journal.specs.Opening.{AreBounded, IsHead, NextAs, IfNext, InUseAs};
 ghost use Rattle.ss_journal.specs.Puts.{slots_fit, IsTxn};
 ghost use Rattle.ss_journal.specs.Steps.{Finds};
@@ -64,7 +64,7 @@ pub fn read_head<D: Disk>(disk: &mut D) -> Result<Head, Failed>
 pub fn read_entry<D: Disk>(disk: &mut D, n: u32) -> Result<[u8; ENTRY_SIZE], Failed>
     requires { n < ENTRIES }
     ensures { Step (verdict result) (D.seen disk.old) (D.seen disk.new)
-        (Finds (λ content. FIRST_SLOT ≤ length content → IfOk result (λ entry. entry ≡ entry_at content n))) }
+        (Finds (λ content. FIRST_SLOT ≤ length content → IfOk result (λ entry. entry ≡ entry_bytes content n))) }
 {
     let mut entry = [0; ENTRY_SIZE];
     disk.read_at(entry_place(n), &mut entry)?;
@@ -77,7 +77,7 @@ fn next_entry<D: Disk>(disk: &mut D, n: u32, extent: u32) -> Result<Option<Txn>,
     requires extent { extent ≤ MOST_SLOTS }
     requires born { OfContent (D.seen disk.old) (λ content. IsTrue (is_born content)) }
     ensures entry { Step (verdict_of_open result) (D.seen disk.old) (D.seen disk.new)
-        (Finds (λ content. NextAs (entry_at content n) n extent result)) }
+        (Finds (λ content. NextAs (entry_bytes content n) n extent result)) }
     ensures sound { IfNext result (λ puts. IsTxn puts × IsTrue (slots_fit puts extent)) }
 {
     let entry = read_entry(disk, n)?;

@@ -5,7 +5,7 @@ ghost use Rattle.ss_outside.specs.Step.{Step};
 ghost use Rattle.ss_outside.specs.Verdict.{verdict};
 ghost use Rattle.ss_journal.specs.Format.{slot_place};
 ghost use Rattle.ss_journal.specs.Steps.{Durably, Finds, Writes, WritesSlots, WritesZeros};
-ghost use Rattle.ss_journal.specs.Writes.{AreSlots, HasPlaces};
+ghost use Rattle.ss_journal.specs.Writes.{AreSlots, HasSlotsFor};
 
 use crate::format::{MOST_SLOTS, SLOT_SIZE, slot_place};
 use crate::put::Put;
@@ -56,7 +56,7 @@ fn write_slot<D: Disk>(disk: &mut D, put: &Put) -> Result<(), Failed>
 // Writes each put's bytes into its slot, in order, and syncs.
 pub fn write_slots<D: Disk>(disk: &mut D, puts: &[Put]) -> Result<(), Failed>
     requires slots { AreSlots puts.now }
-    requires places { OfContent (D.seen disk.old) (HasPlaces puts.now) }
+    requires places { OfContent (D.seen disk.old) (HasSlotsFor puts.now) }
     ensures { Step (verdict result) (D.seen disk.old) (D.seen disk.new) (Durably (WritesSlots puts.now) result) }
 {
     for put in puts {

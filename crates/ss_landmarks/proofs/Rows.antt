@@ -4,7 +4,7 @@ use Rattle.ss_landmarks.specs.Landmark.{Landmark, opened_at, with_value, closed_
 use Rattle.ss_landmarks.specs.Landmarks.{opened}
 use Rattle.ss_landmarks.specs.Free.{free}
 use Rattle.ss_landmarks.specs.Order.{CanOpen, CanTake, CanClose}
-use Rattle.ss_landmarks.specs.ValuesIn.{values_in, tally_of}
+use Rattle.ss_landmarks.specs.ValuesIn.{values_between, tally_of}
 use Rattle.ss_landmarks.specs.declared.landmarks.TheConstants.{LATEST_TIME, MOST_LANDMARK_SLOTS}
 
 pub LATEST_TIME-is : LATEST_TIME ≡ 2 ^ 62
@@ -36,11 +36,11 @@ free-single = refl
 pub free-single-inside : free single 100 100 ≡ 0
 free-single-inside = refl
 
-pub values_in-single : tally_of (values_in single 100 100) ≡ record { count = 1; sum = pos 7; least = Some (pos 7); greatest = Some (pos 7) }
-values_in-single = refl
+pub values_between-single : tally_of (values_between single 100 100) ≡ record { count = 1; sum = pos 7; least = Some (pos 7); greatest = Some (pos 7) }
+values_between-single = refl
 
-pub values_in-after : tally_of (values_in single 101 200) ≡ record { count = 0; sum = pos 0; least = None; greatest = None }
-values_in-after = refl
+pub values_between-after : tally_of (values_between single 101 200) ≡ record { count = 0; sum = pos 0; least = None; greatest = None }
+values_between-after = refl
 
 -- ---- one from 20 to 40, with the values 100 and 200 at 20 and 30
 
@@ -61,11 +61,11 @@ free-ends = refl
 pub free-backwards : free one 50 11 ≡ 0
 free-backwards = refl
 
-pub values_in-whole : tally_of (values_in one 20 40) ≡ record { count = 2; sum = pos 300; least = Some (pos 100); greatest = Some (pos 200) }
-values_in-whole = refl
+pub values_between-whole : tally_of (values_between one 20 40) ≡ record { count = 2; sum = pos 300; least = Some (pos 100); greatest = Some (pos 200) }
+values_between-whole = refl
 
-pub values_in-part : tally_of (values_in one 21 30) ≡ record { count = 1; sum = pos 200; least = Some (pos 200); greatest = Some (pos 200) }
-values_in-part = refl
+pub values_between-part : tally_of (values_between one 21 30) ≡ record { count = 1; sum = pos 200; least = Some (pos 200); greatest = Some (pos 200) }
+values_between-part = refl
 
 -- ---- a second one that is open, from 80 on, with the value -3 at 90
 
@@ -79,8 +79,8 @@ free-open = refl
 pub free-both : free two 11 81 ≡ 48
 free-both = refl
 
-pub values_in-both : tally_of (values_in two 30 90) ≡ record { count = 2; sum = pos 197; least = Some (negsuc 2); greatest = Some (pos 200) }
-values_in-both = refl
+pub values_between-both : tally_of (values_between two 30 90) ≡ record { count = 2; sum = pos 197; least = Some (negsuc 2); greatest = Some (pos 200) }
+values_between-both = refl
 
 pub opened-two : opened (record { landmarks = two; slots = 5 ∷ 8 ∷ []; value_slots = 6 ∷ 7 ∷ 9 ∷ []; room = 0; value_room = 3 }) ≡ Some (80, 8, 1)
 opened-two = refl
@@ -99,8 +99,9 @@ free-late = refl
 pub free-late-between : free late 1099511627776 1099511627779 ≡ 3
 free-late-between = refl
 
-pub values_in-late : tally_of (values_in late (2 ^ 62) (2 ^ 64 - 1)) ≡ record { count = 1; sum = pos 5; least = Some (pos 5); greatest = Some (pos 5) }
-values_in-late = refl
+pub values_between-late : tally_of (values_between late (2 ^ 62) (2 ^ 64 - 1))
+    ≡ record { count = 1; sum = pos 5; least = Some (pos 5); greatest = Some (pos 5) }
+values_between-late = refl
 
 -- ---- when a landmark may be opened, take a value and be closed
 

@@ -9,30 +9,30 @@ use Rattle.std.proofs.lemmas.List.{append-nil, length-drop, length-map, map_push
 use Rattle.std.proofs.lemmas.List.Elements.{All-push}
 use Rattle.std.proofs.lemmas.List.Sums.{sum_by_push}
 use Rattle.ss_landmarks.specs.Landmark.{Landmark, LandmarkValue, with_value, change_last, open_landmark}
-use Rattle.ss_landmarks.specs.Landmarks.{IsState}
+use Rattle.ss_landmarks.specs.Landmarks.{AreKnown}
 use Rattle.ss_landmarks.specs.Free.{is_free}
 use Rattle.ss_landmarks.specs.Order.{CanOpen, CanTake, CanClose, AreLandmarks}
-use Rattle.ss_landmarks.specs.Stored.{landmarks_of, closed_values, one_open, slots_of, free_before, Apart, KnowFree, AreStored}
+use Rattle.ss_landmarks.specs.Stored.{landmarks_from, closed_values, one_open, slots_of, free_before, Apart, KnowFree, AreStored}
 use Rattle.ss_landmarks.specs.declared.landmarks.TheConstants.{LATEST_TIME, MOST_LANDMARK_SLOTS}
 use Rattle.ss_landmarks.specs.declared.stored.Closed.{Closed}
 use Rattle.ss_landmarks.specs.declared.stored.Opened.{Opened}
 use Rattle.ss_landmarks.proofs.Counting.{among-same}
 use Rattle.ss_landmarks.proofs.OrderLemmas.{FollowFrom-open, AreLandmarks-take, AreLandmarks-close}
 use Rattle.ss_landmarks.proofs.StoredLemmas.{Apart-follow}
-use Rattle.ss_landmarks.proofs.HeldLemmas.{length-landmarks_of, length-slots_of, all_values-landmarks_of, open_landmark-none, open_landmark-some}
-use Rattle.ss_landmarks.proofs.HeldLemmas.{CanOpen-some, landmarks_of-open, landmarks_of-close, landmarks_of-take, is_free-open_later, is_free-close}
+use Rattle.ss_landmarks.proofs.HeldLemmas.{length-landmarks_from, length-slots_of, all_values-landmarks_from, open_landmark-none, open_landmark-some}
+use Rattle.ss_landmarks.proofs.HeldLemmas.{CanOpen-some, landmarks_from-open, landmarks_from-close, landmarks_from-take, is_free-open_later, is_free-close}
 
 -- ---- an opening
 
 pub CanOpen-none : (t : ℕ) (cs : List Closed) (current : Option Opened) (values : List LandmarkValue)
-    → CanOpen (landmarks_of cs current values) t → current ≡ None
+    → CanOpen (landmarks_from cs current values) t → current ≡ None
 CanOpen-none t cs None values can = refl
 CanOpen-none t cs (Some o) values can = absurd (CanOpen-some t cs o values can)
 
 KnowFree-open : (cs : List Closed) (o : Opened) → KnowFree cs None → Apart 0 cs (Some o)
-    → o.free_before ≡ free_before (landmarks_of cs None []) o.start → KnowFree cs (Some o)
+    → o.free_before ≡ free_before (landmarks_from cs None []) o.start → KnowFree cs (Some o)
 KnowFree-open cs o know apart free =
-    let same = λ (t : ℕ) (early : t ≤ o.start). among-same (is_free (landmarks_of cs None [])) (is_free (landmarks_of cs (Some o) [])) 0 t
+    let same = λ (t : ℕ) (early : t ≤ o.start). among-same (is_free (landmarks_from cs None [])) (is_free (landmarks_from cs (Some o) [])) 0 t
     (λ u low high. sym (is_free-open_later u cs o [] (omega arith))) in
     record {
       apart = apart;
@@ -41,11 +41,11 @@ KnowFree-open cs o know apart free =
     }
 
 pub AreStored-open : (cs : List Closed) (o : Opened) (values : List LandmarkValue) → AreStored cs None values
-    → CanOpen (landmarks_of cs None values) o.start → o.start ≤ LATEST_TIME → o.values_before ≡ length values
-    → o.free_before ≡ free_before (landmarks_of cs None []) o.start → AreStored cs (Some o) values
+    → CanOpen (landmarks_from cs None values) o.start → o.start ≤ LATEST_TIME → o.values_before ≡ length values
+    → o.free_before ≡ free_before (landmarks_from cs None []) o.start → AreStored cs (Some o) values
 AreStored-open cs o values stored can early count free =
-    let order : AreLandmarks (landmarks_of cs (Some o) values) =
-    subst AreLandmarks (sym (landmarks_of-open cs o values stored.shared)) (FollowFrom-open 0 o.start _ stored.order can (omega arith) early) in
+    let order : AreLandmarks (landmarks_from cs (Some o) values) =
+    subst AreLandmarks (sym (landmarks_from-open cs o values stored.shared)) (FollowFrom-open 0 o.start _ stored.order can (omega arith) early) in
     record {
       order = order;
       shared = (count ∙ sym stored.shared, omega (arith, stored.shared));
@@ -57,36 +57,36 @@ slots_of-open cs o = ap (λ (slots : List ℕ). slots ++ o.slot ∷ []) (sym (ap
 
 -- ---- a value
 
-pub CanTake-none : (t : ℕ) (cs : List Closed) (values : List LandmarkValue) → CanTake (landmarks_of cs None values) t → ⊥
+pub CanTake-none : (t : ℕ) (cs : List Closed) (values : List LandmarkValue) → CanTake (landmarks_from cs None values) t → ⊥
 CanTake-none t cs values can =
     subst (λ (o : Option Landmark). MatchOption o ⊥ (λ l. (l.start ≤ t) × All (λ value. value.t < t) l.values)) (open_landmark-none cs values) can
 
 pub AreStored-take : (cs : List Closed) (current : Option Opened) (values : List LandmarkValue) (value : LandmarkValue) → AreStored cs current values
-    → CanTake (landmarks_of cs current values) value.t → value.t ≤ LATEST_TIME → FitsSigned w64 value.v → AreStored cs current (values ++ value ∷ [])
+    → CanTake (landmarks_from cs current values) value.t → value.t ≤ LATEST_TIME → FitsSigned w64 value.v → AreStored cs current (values ++ value ∷ [])
 AreStored-take cs None values value stored can early fits = absurd (CanTake-none value.t cs values can)
 AreStored-take cs (Some o) values value stored can early fits = record {
-  order = subst AreLandmarks (sym (landmarks_of-take cs o values value stored.shared.1)) (AreLandmarks-take _ value stored.order can early fits);
+  order = subst AreLandmarks (sym (landmarks_from-take cs o values value stored.shared.1)) (AreLandmarks-take _ value stored.order can early fits);
   shared = (stored.shared.0, omega (arith, stored.shared.1, length_push values value));
   know = stored.know;
 }
 
 pub landmarks_of_push : (cs : List Closed) (current : Option Opened) (values : List LandmarkValue) (value : LandmarkValue) → AreStored cs current values
-    → CanTake (landmarks_of cs current values) value.t
-    → landmarks_of cs current (values ++ value ∷ []) ≡ change_last (with_value value) (landmarks_of cs current values)
+    → CanTake (landmarks_from cs current values) value.t
+    → landmarks_from cs current (values ++ value ∷ []) ≡ change_last (with_value value) (landmarks_from cs current values)
 landmarks_of_push cs None values value stored can = absurd (CanTake-none value.t cs values can)
-landmarks_of_push cs (Some o) values value stored can = landmarks_of-take cs o values value stored.shared.1
+landmarks_of_push cs (Some o) values value stored can = landmarks_from-take cs o values value stored.shared.1
 
 -- ---- a closing
 
-pub CanClose-none : (t : ℕ) (cs : List Closed) (values : List LandmarkValue) → CanClose (landmarks_of cs None values) t → ⊥
+pub CanClose-none : (t : ℕ) (cs : List Closed) (values : List LandmarkValue) → CanClose (landmarks_from cs None values) t → ⊥
 CanClose-none t cs values can =
     subst (λ (o : Option Landmark). MatchOption o ⊥ (λ l. (l.start ≤ t) × All (λ value. value.t ≤ t) l.values)) (open_landmark-none cs values) can
 
 module _ (cs : List Closed) (o : Opened) (new : Closed) (starts : new.start ≡ o.start) where
   KnowFree-close : KnowFree cs (Some o) → Apart 0 (cs ++ new ∷ []) None → new.free_before ≡ o.free_before → KnowFree (cs ++ new ∷ []) None
   KnowFree-close know apart free =
-      let later = landmarks_of (cs ++ new ∷ []) None [] in
-      let same = λ (t : ℕ) (early : t ≤ o.start). among-same (is_free (landmarks_of cs (Some o) [])) (is_free later) 0 t
+      let later = landmarks_from (cs ++ new ∷ []) None [] in
+      let same = λ (t : ℕ) (early : t ≤ o.start). among-same (is_free (landmarks_from cs (Some o) [])) (is_free later) 0 t
       (λ u low high. sym (is_free-close o new starts u cs [] (omega arith))) in
       record {
         apart = apart;
@@ -97,11 +97,11 @@ module _ (cs : List Closed) (o : Opened) (new : Closed) (starts : new.start ≡ 
       }
 
   pub AreStored-close : (values : List LandmarkValue) → AreStored cs (Some o) values → closed_values cs + new.values ≡ length values
-      → CanClose (landmarks_of cs (Some o) values) new.finish → new.finish ≤ LATEST_TIME → new.free_before ≡ o.free_before
+      → CanClose (landmarks_from cs (Some o) values) new.finish → new.finish ≤ LATEST_TIME → new.free_before ≡ o.free_before
       → AreStored (cs ++ new ∷ []) None values
   AreStored-close values stored all can early free =
-      let order : AreLandmarks (landmarks_of (cs ++ new ∷ []) None values) =
-      subst AreLandmarks (sym (landmarks_of-close o new starts cs values all)) (AreLandmarks-close _ new.finish stored.order can early) in
+      let order : AreLandmarks (landmarks_from (cs ++ new ∷ []) None values) =
+      subst AreLandmarks (sym (landmarks_from-close o new starts cs values all)) (AreLandmarks-close _ new.finish stored.order can early) in
       record {
         order = order;
         shared = omega (arith, all, sum_by_push (λ (c : Closed). c.values) cs new);
@@ -121,7 +121,7 @@ module _ (slots : List ℕ) where
   told l = (l.start, slice_index slots (length slots - 1), length l.values)
 
 pub opened-none : (cs : List Closed) (values : List LandmarkValue) (slots : List ℕ)
-    → option_map (told slots) (open_landmark (landmarks_of cs None values)) ≡ None
+    → option_map (told slots) (open_landmark (landmarks_from cs None values)) ≡ None
 opened-none cs values slots = ap (option_map (told slots)) (open_landmark-none cs values)
 
 last-slot : (cs : List Closed) (o : Opened) → slice_index (slots_of cs (Some o)) (length (slots_of cs (Some o)) - 1) ≡ o.slot
@@ -129,27 +129,27 @@ last-slot cs o =
     get_or_push (map (λ (c : Closed). c.slot) cs) o.slot 0 _ (omega (arith, length-map cs (λ (c : Closed). c.slot), length-slots_of cs (Some o)))
 
 pub opened-some : (cs : List Closed) (o : Opened) (values : List LandmarkValue)
-    → option_map (told (slots_of cs (Some o))) (open_landmark (landmarks_of cs (Some o) values)) ≡ Some (o.start, o.slot, length values - closed_values cs)
+    → option_map (told (slots_of cs (Some o))) (open_landmark (landmarks_from cs (Some o) values)) ≡ Some (o.start, o.slot, length values - closed_values cs)
 opened-some cs o values =
     ap (option_map (told (slots_of cs (Some o)))) (open_landmark-some cs o values)
     ∙ rw (last-slot cs o, length-drop (closed_values cs) values) refl
 
 -- what is true of all that is seen
-pub IsState-stored : (cs : List Closed) (current : Option Opened) (values : List LandmarkValue) (value_slots : List ℕ) (room value_room : ℕ)
+pub AreKnown-stored : (cs : List Closed) (current : Option Opened) (values : List LandmarkValue) (value_slots : List ℕ) (room value_room : ℕ)
     → AreStored cs current values → length value_slots ≡ length values → length cs + one_open current + room ≤ MOST_LANDMARK_SLOTS
     → length values + value_room ≤ MOST_LANDMARK_SLOTS
-    → IsState (record {
-      landmarks = landmarks_of cs current values;
+    → AreKnown (record {
+      landmarks = landmarks_from cs current values;
       slots = slots_of cs current;
       value_slots = value_slots;
       room = room;
       value_room =
           value_room;
     })
-IsState-stored cs current values value_slots room value_room stored same most most_values = record {
+AreKnown-stored cs current values value_slots room value_room stored same most most_values = record {
   order = stored.order;
-  slots = omega (arith, length-slots_of cs current, length-landmarks_of cs current values);
-  value_slots = same ∙ sym (ap length (all_values-landmarks_of cs current values stored.shared));
-  most = omega (arith, length-landmarks_of cs current values, most);
+  slots = omega (arith, length-slots_of cs current, length-landmarks_from cs current values);
+  value_slots = same ∙ sym (ap length (all_values-landmarks_from cs current values stored.shared));
+  most = omega (arith, length-landmarks_from cs current values, most);
   most_values = omega (arith, same, most_values);
 }

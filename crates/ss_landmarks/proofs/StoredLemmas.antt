@@ -10,7 +10,7 @@ use Rattle.std.proofs.lemmas.List.Elements.{All-cons}
 use Rattle.ss_landmarks.specs.Landmark.{LandmarkValue}
 use Rattle.ss_landmarks.specs.Free.{covers, is_free}
 use Rattle.ss_landmarks.specs.Order.{FollowFrom}
-use Rattle.ss_landmarks.specs.Stored.{landmarks_of, Apart}
+use Rattle.ss_landmarks.specs.Stored.{landmarks_from, Apart}
 use Rattle.ss_landmarks.specs.declared.stored.Closed.{Closed}
 use Rattle.ss_landmarks.specs.declared.stored.Opened.{Opened}
 use Rattle.ss_landmarks.specs.declared.landmarks.TheConstants.{LATEST_TIME}
@@ -29,7 +29,7 @@ covers-miss u start finish values (inr after) = and_right _ _ (lt-leb u finish a
 
 is_covered-miss : (u : ℕ) (cs : List Closed) (current : Option Opened) (values : List LandmarkValue)
     → All (Misses u) cs → IfSome current (λ o. u < o.start)
-    → list_any (λ l. covers l u) (landmarks_of cs current values) ≡ false
+    → list_any (λ l. covers l u) (landmarks_from cs current values) ≡ false
 is_covered-miss u [] None values missed before = refl
 is_covered-miss u [] (Some o) values missed before = or_from _ _ (and_left _ _ (lt-leb o.start u before)) refl
 is_covered-miss u (c ∷ cs) current values missed before =
@@ -38,12 +38,12 @@ is_covered-miss u (c ∷ cs) current values missed before =
 
 -- a time that is missed by all is free
 pub is_free-miss : (u : ℕ) (cs : List Closed) (current : Option Opened) (values : List LandmarkValue)
-    → All (Misses u) cs → IfSome current (λ o. u < o.start) → is_free (landmarks_of cs current values) u ≡ true
+    → All (Misses u) cs → IfSome current (λ o. u < o.start) → is_free (landmarks_from cs current values) u ≡ true
 is_free-miss u cs current values missed before = not_from_false _ (is_covered-miss u cs current values missed before)
 
 is_covered-hit : (u : ℕ) (cs : List Closed) (current : Option Opened) (values : List LandmarkValue) (k : ℕ) (d : Closed)
     → k < length cs → (get_or cs k d).start ≤ u → u ≤ (get_or cs k d).finish
-    → list_any (λ l. covers l u) (landmarks_of cs current values) ≡ true
+    → list_any (λ l. covers l u) (landmarks_from cs current values) ≡ true
 is_covered-hit u [] current values k d below begun lasts = absurd (omega arith)
 is_covered-hit u (c ∷ cs) current values zero d below begun lasts =
     or_left _ _ (and_from _ _ (le-leb c.start u begun) (le-leb u c.finish lasts))
@@ -53,18 +53,18 @@ is_covered-hit u (c ∷ cs) current values (suc k) d below begun lasts =
 -- a time within a closed landmark isn't free
 pub is_free-hit : (u : ℕ) (cs : List Closed) (current : Option Opened) (values : List LandmarkValue) (k : ℕ) (d : Closed)
     → k < length cs → (get_or cs k d).start ≤ u → u ≤ (get_or cs k d).finish
-    → is_free (landmarks_of cs current values) u ≡ false
+    → is_free (landmarks_from cs current values) u ≡ false
 is_free-hit u cs current values k d below begun lasts =
     not_from_true _ (is_covered-hit u cs current values k d below begun lasts)
 
 is_covered-open : (u : ℕ) (cs : List Closed) (o : Opened) (values : List LandmarkValue) → o.start ≤ u
-    → list_any (λ l. covers l u) (landmarks_of cs (Some o) values) ≡ true
+    → list_any (λ l. covers l u) (landmarks_from cs (Some o) values) ≡ true
 is_covered-open u [] o values begun = or_left _ _ (and_from _ _ (le-leb o.start u begun) refl)
 is_covered-open u (c ∷ cs) o values begun = or_right _ _ (is_covered-open u cs o (drop c.values values) begun)
 
 -- nor is a time from the opening of the open one on
 pub is_free-open : (u : ℕ) (cs : List Closed) (o : Opened) (values : List LandmarkValue) → o.start ≤ u
-    → is_free (landmarks_of cs (Some o) values) u ≡ false
+    → is_free (landmarks_from cs (Some o) values) u ≡ false
 is_free-open u cs o values begun = not_from_true _ (is_covered-open u cs o values begun)
 
 -- ---- in order of time
@@ -101,7 +101,7 @@ module _ (from : ℕ) (c : Closed) (cs : List Closed) (from_start : from ≤ c.s
 
 -- landmarks that follow one another are apart
 pub Apart-follow : (from : ℕ) (cs : List Closed) (current : Option Opened) (values : List LandmarkValue)
-    → FollowFrom from (landmarks_of cs current values) → Apart from cs current
+    → FollowFrom from (landmarks_from cs current values) → Apart from cs current
 Apart-follow from [] None values follow = record {
   starts = λ k d below. absurd (omega arith);
   ends = λ k d below. absurd (omega arith);
@@ -134,7 +134,7 @@ Apart-rises from cs current apart i j d le below =
 
 module _ (cs : List Closed) (current : Option Opened) (values : List LandmarkValue) (t : ℕ) where
   abbrev test : ℕ → Bool
-  test = is_free (landmarks_of cs current values)
+  test = is_free (landmarks_from cs current values)
 
   -- none of the landmarks begins before this time
   pub free_before-none : All (λ c. t ≤ c.start) cs → IfSome current (λ o. t ≤ o.start) → among test 0 t ≡ t
@@ -181,8 +181,8 @@ module _ (cs : List Closed) (current : Option Opened) (values : List LandmarkVal
 
 -- none is free from the opening of the open one on
 pub free_before-open : (cs : List Closed) (o : Opened) (values : List LandmarkValue) (t : ℕ) → o.start ≤ t
-    → among (is_free (landmarks_of cs (Some o) values)) 0 t ≡ among (is_free (landmarks_of cs (Some o) values)) 0 o.start
+    → among (is_free (landmarks_from cs (Some o) values)) 0 t ≡ among (is_free (landmarks_from cs (Some o) values)) 0 o.start
 free_before-open cs o values t begun =
-    let test = is_free (landmarks_of cs (Some o) values) in
+    let test = is_free (landmarks_from cs (Some o) values) in
     let none = among-none test o.start (t - o.start) (λ u low high. is_free-open u cs o values low) in
     omega (arith, none, among-add test 0 o.start (t - o.start) t o.start (omega arith) (omega arith))

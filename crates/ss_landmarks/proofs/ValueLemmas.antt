@@ -12,7 +12,7 @@ use Rattle.std.proofs.lemmas.Int.{ints, clamps}
 use Rattle.std.proofs.lemmas.List.Elements.{filter-append}
 use Rattle.ss_landmarks.specs.Landmark.{LandmarkValue}
 use Rattle.ss_landmarks.specs.Order.{RiseFrom}
-use Rattle.ss_landmarks.specs.Stored.{value_of}
+use Rattle.ss_landmarks.specs.Stored.{bare_value}
 use Rattle.ss_landmarks.specs.declared.stored.StoredValue.{StoredValue}
 use Rattle.ss_landmarks.specs.ValuesIn.{lies_in, total, least, greatest, lesser, greater}
 
@@ -123,35 +123,35 @@ RiseFrom-rises from (x ∷ xs) rise (suc i) zero d le below = absurd (omega arit
 RiseFrom-rises from (x ∷ xs) rise (suc i) (suc j) d le below = RiseFrom-rises (x.t + 1) xs rise.3 i j d (omega arith) (omega arith)
 
 -- the same of values as they are held
-module _ (values : List StoredValue) (rise : RiseFrom 0 (map value_of values)) where
-  value-at : (k : ℕ) (d : StoredValue) → k < length values → get_or (map value_of values) k (value_of d) ≡ value_of (get_or values k d)
-  value-at k d below = get_or-map value_of values k d (value_of d) below
+module _ (values : List StoredValue) (rise : RiseFrom 0 (map bare_value values)) where
+  value-at : (k : ℕ) (d : StoredValue) → k < length values → get_or (map bare_value values) k (bare_value d) ≡ bare_value (get_or values k d)
+  value-at k d below = get_or-map bare_value values k d (bare_value d) below
 
   pub stored-rise : IsNonDecreasingBy (λ value. value.t) values
   stored-rise i j d le below =
       let at_i = ap (λ (value : LandmarkValue). value.t) (value-at i d (omega arith)) in
       let at_j = ap (λ (value : LandmarkValue). value.t) (value-at j d below) in
-      omega (arith, RiseFrom-rises 0 (map value_of values) rise i j (value_of d) le (omega (arith, below, length-map values value_of)), at_i, at_j)
+      omega (arith, RiseFrom-rises 0 (map bare_value values) rise i j (bare_value d) le (omega (arith, below, length-map values bare_value)), at_i, at_j)
 
   pub stored-fit : All (λ value. FitsSigned w64 value.v) values
   stored-fit k d below =
       let at = ap (λ (value : LandmarkValue). value.v) (value-at k d below) in
-      subst (FitsSigned w64) at (RiseFrom-fit 0 (map value_of values) rise k (value_of d) (omega (arith, below, length-map values value_of)))
+      subst (FitsSigned w64) at (RiseFrom-fit 0 (map bare_value values) rise k (bare_value d) (omega (arith, below, length-map values bare_value)))
 
   -- the values from i on, n of them, are those with time in a..=b
   pub filter-stored : (a b i n : ℕ) → i + n ≤ length values
       → ((k : ℕ) (d : StoredValue) → k < i → (get_or values k d).t < a)
       → ((k : ℕ) (d : StoredValue) → i ≤ k → k < i + n → (a ≤ (get_or values k d).t) × ((get_or values k d).t ≤ b))
       → ((k : ℕ) (d : StoredValue) → i + n ≤ k → k < length values → b < (get_or values k d).t)
-      → map value_of (take n (drop i values)) ≡ filter (lies_in a b) (map value_of values)
+      → map bare_value (take n (drop i values)) ≡ filter (lies_in a b) (map bare_value values)
   filter-stored a b i n inside before within after =
       let p = lies_in a b in
-      let xs = map value_of values in
+      let xs = map bare_value values in
       let stored = λ (d : LandmarkValue). (let value : StoredValue = record { t = d.t; v = d.v; slot = 0 } in value) in
       let at = λ (k : ℕ) (d : LandmarkValue) (below : k < length values). ap p (value-at k (stored d) below) in
-      let parts = filter-between p xs i n (omega (arith, inside, length-map values value_of))
+      let parts = filter-between p xs i n (omega (arith, inside, length-map values bare_value))
       (λ k d lt. at k d (omega arith) ∙ and_left _ _ (lt-leb a (get_or values k (stored d)).t (before k (stored d) lt)))
       (λ k d le lt. at k d (omega arith) ∙ and_from _ _ (le-leb _ _ (within k (stored d) le lt).0) (le-leb _ _ (within k (stored d) le lt).1))
-      (λ k d le lt. let below : k < length values = omega (arith, lt, length-map values value_of) in
+      (λ k d le lt. let below : k < length values = omega (arith, lt, length-map values bare_value) in
       at k d below ∙ and_right _ _ (lt-leb (get_or values k (stored d)).t b (after k (stored d) le below))) in
-      sym (parts ∙ ap (take n) (drop-map value_of i values) ∙ take-map value_of n (drop i values))
+      sym (parts ∙ ap (take n) (drop-map bare_value i values) ∙ take-map bare_value n (drop i values))

@@ -21,7 +21,7 @@ opened state =
     (open_landmark state.landmarks)
 
 -- What is true of each `Landmarks`.
-pub record IsState (state : LandmarksState) : Type 0 where
+pub record AreKnown (state : LandmarksState) : Type 0 where
   -- the landmarks are in order of time
   pub order : AreLandmarks state.landmarks
   -- each landmark has a slot, and each value

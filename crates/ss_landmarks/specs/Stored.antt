@@ -12,19 +12,19 @@ use Rattle.ss_landmarks.specs.Order.{AreLandmarks}
 use Rattle.ss_landmarks.specs.declared.landmarks.TheConstants.{LATEST_TIME, MOST_LANDMARK_SLOTS}
 
 -- the value, without its slot
-abbrev pub value_of : StoredValue → LandmarkValue
-value_of value = record { t = value.t; v = value.v }
+abbrev pub bare_value : StoredValue → LandmarkValue
+bare_value value = record { t = value.t; v = value.v }
 
 -- the open landmark, with these values
 abbrev pub open_with : List LandmarkValue → Opened → Landmark
 open_with values o = record { start = o.start; finish = None; values = values }
 
 -- the landmarks that these are: each closed one takes its values from the front, and what is left is the open one's
-abbrev pub landmarks_of : List Closed → Option Opened → List LandmarkValue → List Landmark
-landmarks_of [] current values = option_to_list (option_map (open_with values) current)
-landmarks_of (c ∷ closed) current values =
+abbrev pub landmarks_from : List Closed → Option Opened → List LandmarkValue → List Landmark
+landmarks_from [] current values = option_to_list (option_map (open_with values) current)
+landmarks_from (c ∷ closed) current values =
     record { start = c.start; finish = Some c.finish; values = take c.values values }
-    ∷ landmarks_of closed current (drop c.values values)
+    ∷ landmarks_from closed current (drop c.values values)
 
 -- how many values the closed landmarks have
 abbrev pub closed_values : List Closed → ℕ
@@ -53,8 +53,8 @@ pub record Apart (from : ℕ) (cs : List Closed) (current : Option Opened) : Typ
 -- landmarks that are apart, each with the number of times before it that are free
 pub record KnowFree (cs : List Closed) (current : Option Opened) : Type 0 where
   pub apart : Apart 0 cs current
-  pub closed : All (λ c. c.free_before ≡ free_before (landmarks_of cs current []) c.start) cs
-  pub opened : IfSome current (λ o. o.free_before ≡ free_before (landmarks_of cs current []) o.start)
+  pub closed : All (λ c. c.free_before ≡ free_before (landmarks_from cs current []) c.start) cs
+  pub opened : IfSome current (λ o. o.free_before ≡ free_before (landmarks_from cs current []) o.start)
 
 -- the values are shared out among the landmarks: without an open one the closed ones have them all
 abbrev pub AreShared : List Closed → Option Opened → List LandmarkValue → Type 0
@@ -63,11 +63,11 @@ AreShared cs current values = MatchOption current (closed_values cs ≡ length v
 
 -- Landmarks as they are held: what they are seen as is in order of time.
 pub record AreStored (cs : List Closed) (current : Option Opened) (values : List LandmarkValue) : Type 0 where
-  pub order : AreLandmarks (landmarks_of cs current values)
+  pub order : AreLandmarks (landmarks_from cs current values)
   pub shared : AreShared cs current values
   pub know : KnowFree cs current
 
 -- so many, and room for so many more, fit in this memory, and are no more than are kept
-pub record HasRoom (count room capacity : ℕ) : Type 0 where
+pub record FitsMemory (count room capacity : ℕ) : Type 0 where
   pub fits : count + room ≤ capacity
   pub most : count + room ≤ MOST_LANDMARK_SLOTS

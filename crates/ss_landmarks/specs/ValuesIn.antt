@@ -10,8 +10,8 @@ abbrev pub lies_in : ℕ → ℕ → LandmarkValue → Bool
 lies_in a b value = nat_le a value.t && nat_le value.t b
 
 -- the landmark values with time in a..=b
-abbrev pub values_in : List Landmark → ℕ → ℕ → List LandmarkValue
-values_in landmarks a b = filter (lies_in a b) (all_values landmarks)
+abbrev pub values_between : List Landmark → ℕ → ℕ → List LandmarkValue
+values_between landmarks a b = filter (lies_in a b) (all_values landmarks)
 
 -- the lesser of a value and of another, if there is one
 abbrev pub lesser : ℤ → Option ℤ → ℤ

@@ -34,21 +34,21 @@ impl Model for Landmarks {
     ghost use Rattle.std.specs.Prelude.{◌+◌, map, vec_len};
     ghost use Rattle.std.specs.Vec.{vec_capacity};
     ghost use Rattle.ss_landmarks.specs.Landmarks.{LandmarksState};
-    ghost use Rattle.ss_landmarks.specs.Stored.{value_of, landmarks_of, slots_of, one_open, AreStored, HasRoom};
+    ghost use Rattle.ss_landmarks.specs.Stored.{bare_value, landmarks_from, slots_of, one_open, AreStored, FitsMemory};
 
     ghost Value = { LandmarksState };
 
     ghost view = { λ s. record {
-      landmarks = landmarks_of s.closed.items s.current (map value_of s.values.items);
+      landmarks = landmarks_from s.closed.items s.current (map bare_value s.values.items);
       slots = slots_of s.closed.items s.current;
       value_slots = map (λ value. value.slot) s.values.items;
       room = s.room;
       value_room = s.value_room;
     } };
 
-    ghost invariant = { λ s. AreStored s.closed.items s.current (map value_of s.values.items)
-        × HasRoom (vec_len s.closed + one_open s.current) s.room (vec_capacity s.closed)
-        × HasRoom (vec_len s.values) s.value_room (vec_capacity s.values) };
+    ghost invariant = { λ s. AreStored s.closed.items s.current (map bare_value s.values.items)
+        × FitsMemory (vec_len s.closed + one_open s.current) s.room (vec_capacity s.closed)
+        × FitsMemory (vec_len s.values) s.value_room (vec_capacity s.values) };
 }
 
 // How many landmarks are open.
@@ -62,9 +62,9 @@ impl Landmarks {
     ghost use Rattle.std.specs.Prelude.{◌≡◌, ◌+◌, ◌<◌, ◌≤◌, ◌↔◌, [], ◌∷◌, ◌++◌, length, IsNone, OnOk};
     ghost use Rattle.ss_landmarks.specs.Free.{free};
     ghost use Rattle.ss_landmarks.specs.Landmark.{LandmarkValue, opened_at, with_value, closed_at, change_last, open_landmark, all_values};
-    ghost use Rattle.ss_landmarks.specs.Landmarks.{IsState, opened};
+    ghost use Rattle.ss_landmarks.specs.Landmarks.{AreKnown, opened};
     ghost use Rattle.ss_landmarks.specs.Order.{CanOpen, CanTake, CanClose};
-    ghost use Rattle.ss_landmarks.specs.ValuesIn.{values_in, tally_of};
+    ghost use Rattle.ss_landmarks.specs.ValuesIn.{values_between, tally_of};
 
     /// No landmarks, and room for none.
     pub fn new(alloc: Global) -> Landmarks
@@ -175,7 +175,7 @@ impl Landmarks {
     /// How many landmarks there are, with the open one.
     pub fn count(&self) -> u32
         ensures value { result ≡ length self.now.landmarks }
-        ensures state { IsState self.now }
+        ensures state { AreKnown self.now }
     {
         (self.closed.len() + one_open(&self.current)) as u32
     }
@@ -183,7 +183,7 @@ impl Landmarks {
     /// How many values the landmarks have together.
     pub fn values(&self) -> u32
         ensures value { result ≡ length (all_values self.now.landmarks) }
-        ensures state { IsState self.now }
+        ensures state { AreKnown self.now }
     {
         self.values.len() as u32
     }
@@ -203,7 +203,7 @@ impl Landmarks {
     /// What the values with time in `a..=b` add up to. It takes the logarithm of the number of values to find them, and
     /// looks at each of them once, and at no other.
     pub fn values_in(&self, a: u64, b: u64) -> Tally
-        ensures { result ≡ tally_of (values_in self.now.landmarks a b) }
+        ensures { result ≡ tally_of (values_between self.now.landmarks a b) }
     {
         tally_of(values_in(&self.values, a, b))
     }

@@ -3,7 +3,7 @@ ghost use Rattle.std.specs.Prelude.{◌≡◌, [], map, FitsSigned};
 ghost use Rattle.std.specs.Int.{w64};
 ghost use Rattle.std.specs.List.{filter, All};
 ghost use Rattle.ss_landmarks.specs.Order.{RiseFrom};
-ghost use Rattle.ss_landmarks.specs.Stored.{value_of, landmarks_of, free_before, KnowFree};
+ghost use Rattle.ss_landmarks.specs.Stored.{bare_value, landmarks_from, free_before, KnowFree};
 ghost use Rattle.ss_landmarks.specs.ValuesIn.{lies_in};
 
 use crate::stored::{Closed, Opened, StoredValue};
@@ -12,7 +12,7 @@ use crate::stored::{Closed, Opened, StoredValue};
 // this time says what comes after.
 pub fn free_before(closed: &[Closed], current: &Option<Opened>, t: u64) -> u64
     requires { KnowFree closed.now current.now }
-    ensures { result ≡ free_before (landmarks_of closed.now current.now []) t }
+    ensures { result ≡ free_before (landmarks_from closed.now current.now []) t }
 {
     if let Some(opened) = current {
         if opened.start <= t {
@@ -29,8 +29,8 @@ pub fn free_before(closed: &[Closed], current: &Option<Opened>, t: u64) -> u64
 
 // The values with time in a..=b.
 pub fn values_in(values: &[StoredValue], a: u64, b: u64) -> &[StoredValue]
-    requires { RiseFrom 0 (map value_of values.now) }
-    ensures values { map value_of result.now ≡ filter (lies_in a b) (map value_of values.now) }
+    requires { RiseFrom 0 (map bare_value values.now) }
+    ensures values { map bare_value result.now ≡ filter (lies_in a b) (map bare_value values.now) }
     ensures fit { All (λ value. FitsSigned w64 value.v) result.now }
 {
     let from = values.partition_point(|value| value.t < a);

@@ -2,7 +2,7 @@
 ghost use Rattle.std.specs.Prelude.{◌≡◌, map, FitsSigned};
 ghost use Rattle.std.specs.Int.{w64};
 ghost use Rattle.std.specs.List.{All};
-ghost use Rattle.ss_landmarks.specs.Stored.{value_of};
+ghost use Rattle.ss_landmarks.specs.Stored.{bare_value};
 ghost use Rattle.ss_landmarks.specs.ValuesIn.{tally_of, lesser, greater};
 
 use crate::stored::StoredValue;
@@ -39,7 +39,7 @@ fn greater(v: i64, other: Option<i64>) -> i64
 // The tally of some values, each of which is looked at once.
 pub fn tally_of(values: &[StoredValue]) -> Tally
     requires { All (λ value. FitsSigned w64 value.v) values.now }
-    ensures { result ≡ tally_of (map value_of values.now) }
+    ensures { result ≡ tally_of (map bare_value values.now) }
 {
     let mut count = 0;
     let mut sum = 0;

@@ -12,7 +12,7 @@ use Rattle.ss_line.specs.declared.entry.At.{At}
 use Rattle.ss_line.specs.declared.entry.Entry.{Entry}
 use Rattle.ss_line.specs.declared.chain.Chain.{Chain}
 use Rattle.ss_line.specs.Line.{LineState, StandsIn, is_at, index_of, place_at, place_before}
-use Rattle.ss_line.specs.Chain.{entry_in, behind_in, before_in, Joins, GivesBack, WritesEntry}
+use Rattle.ss_line.specs.Chain.{entry_in, behind_in, before_in, Links, GivesBack, WritesEntry}
 use Rattle.ss_line.specs.Held.{IsHeld}
 use Rattle.ss_line.proofs.IndexLemmas.{counted, entry_there, place_at-index, not_placed, not_before, one_index, place_at-differ, place_before-differ}
 use Rattle.ss_line.proofs.IndexLemmas.{nothing, place_at-set, place_before-set}
@@ -34,7 +34,7 @@ module _ (line : LineState) (old : Chain) (len : ℕ) (held : IsHeld line old le
       omega (arith, held.once free, counted (is_place free) held.frees k free is (eq-eqb free.0 free.0 refl), one-le (nat_lt free.0 (length old.nodes.items)))
 
   module _ (linked new : Chain)
-      (joins : Joins old (place_before line.entries (index_of line.entries at)) (place_at line.entries (index_of line.entries at + 1)) linked)
+      (joins : Links old (place_before line.entries (index_of line.entries at)) (place_at line.entries (index_of line.entries at + 1)) linked)
       (gives : GivesBack linked at new) where
     -- a place that is neither this one nor the one before keeps what is behind it
     behind-other : (k : ℕ) → k ≤ length line.entries → k ≢ index_of line.entries at → k ≢ suc (index_of line.entries at) →

@@ -12,7 +12,7 @@ use Rattle.ss_line.specs.declared.entry.Entry.{Entry}
 use Rattle.ss_line.specs.declared.chain.Node.{Node}
 use Rattle.ss_line.specs.declared.chain.Chain.{Chain}
 use Rattle.ss_line.specs.Line.{LineState, IsLine, StandsIn, is_at, index_of, entry_at, place_at, place_before}
-use Rattle.ss_line.specs.Chain.{HasNoPlace, IsWithin, entry_in, behind_in, before_in, Joins}
+use Rattle.ss_line.specs.Chain.{HasNoPlace, IsWithin, entry_in, behind_in, before_in, Links}
 use Rattle.ss_line.specs.Held.{IsHeld, entries_from, line_of}
 use Rattle.ss_line.proofs.PlaceLemmas.{StandsIn-place_at}
 use Rattle.ss_line.proofs.IndexLemmas.{counted, entry_there, place_at-index, place_at-past}
@@ -52,10 +52,10 @@ entries_from-linked chain (entry ∷ entries) kept linked =
     (entries_from-linked chain entries (λ k e is. kept (suc k) e is) (λ k lt. linked (suc k) (omega (arith, lt))))
 
 -- a join of the places that these are
-pub Joins-same : (old new : Chain) (before behind left right : Option At) → before ≡ left → behind ≡ right → Joins old before behind new →
-    Joins old left right new
-Joins-same old new before behind left right same_left same_right joins =
-    subst (λ (o : Option At). Joins old o right new) same_left (subst (λ (o : Option At). Joins old before o new) same_right joins)
+pub Links-same : (old new : Chain) (before behind left right : Option At) → before ≡ left → behind ≡ right → Links old before behind new →
+    Links old left right new
+Links-same old new before behind left right same_left same_right joins =
+    subst (λ (o : Option At). Links old o right new) same_left (subst (λ (o : Option At). Links old before o new) same_right joins)
 
 -- an empty line is held by no place
 module _ (chain : Chain) (none : HasNoPlace chain) where

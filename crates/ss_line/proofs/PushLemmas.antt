@@ -11,7 +11,7 @@ use Rattle.ss_line.specs.declared.entry.At.{At}
 use Rattle.ss_line.specs.declared.entry.Entry.{Entry}
 use Rattle.ss_line.specs.declared.chain.Chain.{Chain}
 use Rattle.ss_line.specs.Line.{LineState, StandsIn, is_at, place_before}
-use Rattle.ss_line.specs.Chain.{IsWithin, entry_in, behind_in, before_in, Joins, TakesPlace}
+use Rattle.ss_line.specs.Chain.{IsWithin, entry_in, behind_in, before_in, Links, TakesPlace}
 use Rattle.ss_line.specs.Held.{IsHeld}
 use Rattle.ss_line.proofs.IndexLemmas.{counted, entry_there, place_at-past, not_placed, not_before, place_at-differ, place_before-differ}
 use Rattle.ss_line.proofs.IndexLemmas.{slice_get-append_below, slice_get-append_last, place_at-push_below, place_at-push_last, place_at-push_past}
@@ -150,8 +150,8 @@ module _ (line : LineState) (old : Chain) (len : ℕ) (held : IsHeld line old le
     pub within-last : IfSome new.last (IsWithin new)
     within-last = within-more old new new.last IsTaken-place.more (within-place_before line old len held (length line.entries) new.last place-last)
 
-    module _ (linked ended : Chain) (joins : Joins new (place_before line.entries (length line.entries)) (Some at) linked)
-        (ends : Joins linked (Some at) None ended) where
+    module _ (linked ended : Chain) (joins : Links new (place_before line.entries (length line.entries)) (Some at) linked)
+        (ends : Links linked (Some at) None ended) where
       -- a place that is neither the new one nor the last keeps what is behind it
       behind-other : (o : Option At) → o ≢ Some at → o ≢ place_before line.entries (length line.entries) → behind_in ended o ≡ behind_in old o
       behind-other o new_one last_one = ends.behind_others o new_one ∙ joins.behind_others o last_one ∙ takes.behind o new_one

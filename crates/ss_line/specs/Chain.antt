@@ -54,7 +54,7 @@ pub record LinksBefore (old : Chain) (at before : Option At) (new : Chain) : Typ
   pub size : KeepsSize old new
 
 -- the two places are neighbours, and all else stays
-pub record Joins (old : Chain) (before behind : Option At) (new : Chain) : Type 0 where
+pub record Links (old : Chain) (before behind : Option At) (new : Chain) : Type 0 where
   pub behind_there : behind_in new before ≡ behind
   pub before_there : before_in new behind ≡ before
   pub behind_others : (other : Option At) → other ≢ before → behind_in new other ≡ behind_in old other

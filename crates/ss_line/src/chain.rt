@@ -1,6 +1,6 @@
 // The nodes that hold a line, linked in its order, and the list of the free ones.
 ghost use Rattle.std.specs.Prelude.{◌≡◌, ◌<◌, ◌≤◌, ◌⊎◌, IfSome, IsSome, length, vec_len, vec_capacity};
-ghost use Rattle.ss_line.specs.Chain.{HasNoPlace, IsWithin, LinksBehind, LinksBefore, Joins, TakesPlace, GivesBack, WritesEntry};
+ghost use Rattle.ss_line.specs.Chain.{HasNoPlace, IsWithin, LinksBehind, LinksBefore, Links, TakesPlace, GivesBack, WritesEntry};
 
 use crate::{At, Entry, MOST_PLACES};
 use std::alloc::Global;
@@ -64,7 +64,7 @@ impl Chain {
     pub fn join(&mut self, before: Option<At>, behind: Option<At>)
         requires before { IfSome before (IsWithin self.old) }
         requires behind { IfSome behind (IsWithin self.old) }
-        ensures { Joins self.old before behind self.new }
+        ensures { Links self.old before behind self.new }
     {
         self.link_behind(before, behind);
         self.link_before(behind, before);

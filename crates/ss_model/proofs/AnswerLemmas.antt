@@ -20,7 +20,8 @@ use Rattle.ss_model.specs.Truth.{RiseAtFree}
 use Rattle.ss_model.specs.Windows.{windows}
 use Rattle.ss_model.specs.declared.outcome.Outcome.{Outcome}
 use Rattle.ss_model.specs.declared.types.Window.{Window}
-use Rattle.ss_model.proofs.IntervalLemmas.{AreOf, count-lies, sum-lies, least-Holds, greatest-Holds, count-exact, sum-exact, least-exact, greatest-exact}
+use Rattle.ss_model.proofs.IntervalLemmas.{AreOf, count-lies, sum-lies, least-HoldsExtreme, greatest-HoldsExtreme, count-exact, sum-exact, least-exact}
+use Rattle.ss_model.proofs.IntervalLemmas.{greatest-exact}
 use Rattle.ss_model.proofs.OutlineLemmas.{read-outlines}
 use Rattle.ss_model.proofs.PieceLemmas.{AreOf-windows}
 use Rattle.ss_model.proofs.RisingLemmas.{named-after, values-rise}
@@ -35,8 +36,8 @@ kind-holds : (kind : Kind) (free : ℕ → Bool) (query : Query) (ws : List Wind
     → RiseAtFree free 0 plain → HoldsTruth query plain marked (answer_of_kind kind free query.from query.to ws marked)
 kind-holds kinds.Count free query ws plain marked of rising = count-lies free query.from query.to ws plain marked 0 of rising
 kind-holds kinds.Sum free query ws plain marked of rising = sum-lies free query.from query.to ws plain marked 0 of rising
-kind-holds kinds.Min free query ws plain marked of rising = least-Holds free query.from query.to ws plain marked 0 of rising
-kind-holds kinds.Max free query ws plain marked of rising = greatest-Holds free query.from query.to ws plain marked 0 of rising
+kind-holds kinds.Min free query ws plain marked of rising = least-HoldsExtreme free query.from query.to ws plain marked 0 of rising
+kind-holds kinds.Max free query ws plain marked of rising = greatest-HoldsExtreme free query.from query.to ws plain marked 0 of rising
 
 -- the answer of a stream that stands as a history leaves it
 stream-holds : (history : List Event) (query : Query) (c : Created) → IsHistory history

@@ -2,7 +2,7 @@
 use Rattle.std.specs.Prelude.{◌≡◌, ℕ, ℤ, pos, negsuc, List, [], ◌∷◌, map, Option, Some, None, codes}
 use Rattle.std.proofs.Common.{arith, refl}
 use Rattle.std.proofs.lemmas.Int.{ints}
-use Rattle.ss_windowing.specs.Windowing.{index_of}
+use Rattle.ss_windowing.specs.Windowing.{window_index}
 use Rattle.ss_power.specs.Power.{power_length}
 use Rattle.ss_catalog.specs.declared.event.Event.{Event}
 use Rattle.ss_catalog.specs.declared.event.Event.TheVariants.{Create, Value, Open, Close}
@@ -42,7 +42,7 @@ answers = map (outcome_of (state readings))
 -- no window is split
 answers-whole : answers (query kinds.Count 10 40 ∷ query kinds.Sum 0 100 ∷ query kinds.Max 45 65 ∷ query kinds.Min 71 80 ∷ []) ≡
     Some (Count 4 4) ∷ Some (Sum (pos 29) (pos 29)) ∷ Some (Max (Sure (pos 9) (pos 9))) ∷ Some (Min Nothing) ∷ []
-unfolding answers outcome_of query state index_of sum_interval readings a
+unfolding answers outcome_of query state window_index sum_interval readings a
 answers-whole = refl
 
 -- one window is split
@@ -50,13 +50,13 @@ answers-split : answers
     (query kinds.Count 10 25 ∷ query kinds.Sum 10 25 ∷ query kinds.Min 10 25 ∷ query kinds.Min 15 25 ∷ query kinds.Count 15 25 ∷ []) ≡
     Some (Count 1 3) ∷ Some (Sum (negsuc 4) (pos 16)) ∷ Some (Min (Sure (negsuc 2) (pos 8))) ∷ Some (Min (Maybe (negsuc 2) (pos 8)))
     ∷ Some (Count 0 2) ∷ []
-unfolding answers outcome_of query state index_of sum_interval readings a
+unfolding answers outcome_of query state window_index sum_interval readings a
 answers-split = refl
 
 -- two windows are split
 answers-two_split : answers (query kinds.Count 25 55 ∷ query kinds.Sum 25 55 ∷ query kinds.Min 25 55 ∷ query kinds.Max 25 55 ∷ []) ≡
     Some (Count 2 4) ∷ Some (Sum (negsuc 2) (pos 25)) ∷ Some (Min (Sure (negsuc 2) (pos 8))) ∷ Some (Max (Sure (pos 2) (pos 9))) ∷ []
-unfolding answers outcome_of query state index_of sum_interval readings a
+unfolding answers outcome_of query state window_index sum_interval readings a
 answers-two_split = refl
 
 -- the name is tested before the range
@@ -66,7 +66,7 @@ why = refuses_query (state readings)
 refusals-readings : map why
     (query kinds.Sum 5 4 ∷ query kinds.Sum 5 5 ∷ record { name = codes "x"; kind = kinds.Sum; from = 5; to = 4 }
     ∷ record { name = codes "x"; kind = kinds.Min; from = 0; to = 4 } ∷ []) ≡ Some Range ∷ None ∷ Some Unknown ∷ Some Unknown ∷ []
-unfolding why refuses_query query state index_of readings a
+unfolding why refuses_query query state window_index readings a
 refusals-readings = refl
 
 -- where no stream stands there is no answer, and a stream without values answers all the same
@@ -76,7 +76,7 @@ bare = Create a (Exp 2 1 1) ∷ []
 answers-bare : map (outcome_of (state bare))
     (record { name = codes "x"; kind = kinds.Count; from = 0; to = 4 } ∷ query kinds.Count 0 4 ∷ query kinds.Sum 0 4 ∷ query kinds.Max 0 4 ∷ []) ≡
     None ∷ Some (Count 0 0) ∷ Some (Sum (pos 0) (pos 0)) ∷ Some (Max Nothing) ∷ []
-unfolding outcome_of query state index_of bare a
+unfolding outcome_of query state window_index bare a
 answers-bare = refl
 
 -- four values at four times in one window of four: the free times are used up
@@ -86,7 +86,7 @@ close_times =
 
 answers-close_times : map (outcome_of (state close_times)) (query kinds.Count 10 11 ∷ query kinds.Sum 10 11 ∷ []) ≡
     Some (Count 2 2) ∷ Some (Sum (pos 8) (pos 12)) ∷ []
-unfolding outcome_of query state power_length index_of sum_interval close_times a
+unfolding outcome_of query state power_length window_index sum_interval close_times a
 answers-close_times = refl
 
 -- a value in a landmark at one time, and a value after it
@@ -96,7 +96,7 @@ at_one_time = Create a (Exp 2 1 1) ∷ Open a 100 ∷ Value a 100 (pos 7) ∷ Cl
 answers-at_one_time : map (outcome_of (state at_one_time))
     (query kinds.Sum 100 100 ∷ query kinds.Sum 101 101 ∷ query kinds.Count 100 101 ∷ query kinds.Max 0 200 ∷ query kinds.Min 0 99 ∷ []) ≡
     Some (Sum (pos 7) (pos 7)) ∷ Some (Sum (pos 8) (pos 8)) ∷ Some (Count 2 2) ∷ Some (Max (Sure (pos 8) (pos 8))) ∷ Some (Min Nothing) ∷ []
-unfolding outcome_of query state index_of sum_interval at_one_time a
+unfolding outcome_of query state window_index sum_interval at_one_time a
 answers-at_one_time = refl
 
 -- a landmark from 20 to 40 within a window from 10 to 50
@@ -112,13 +112,13 @@ split_around from to = map (λ (s : Stream). split_windows (is_free s.landmarks)
 splits-around : split_around 20 40 ∷ split_around 5 45 ∷ [] ≡
     ((record { count = 2; sum = pos 4; min = pos 1; max = pos 3; ends = 0; inside = 0; outside = 18 } ∷ []) ∷ [])
     ∷ ((record { count = 2; sum = pos 4; min = pos 1; max = pos 3; ends = 1; inside = 14; outside = 4 } ∷ []) ∷ []) ∷ []
-unfolding split_around state power_length index_of around a
+unfolding split_around state power_length window_index around a
 splits-around = refl
 
 answers-around : map (outcome_of (state around))
     (query kinds.Count 20 40 ∷ query kinds.Sum 20 40 ∷ query kinds.Min 20 40 ∷ query kinds.Max 20 40 ∷ []) ≡
     Some (Count 2 2) ∷ Some (Sum (pos 300) (pos 300)) ∷ Some (Min (Sure (pos 100) (pos 100))) ∷ Some (Max (Sure (pos 200) (pos 200))) ∷ []
-unfolding outcome_of query state power_length index_of sum_interval around a
+unfolding outcome_of query state power_length window_index sum_interval around a
 answers-around = refl
 
 -- one end of the window and a part of the landmark
@@ -126,7 +126,7 @@ answers-around_part : map (outcome_of (state around))
     (query kinds.Count 5 25 ∷ query kinds.Sum 5 25 ∷ query kinds.Min 5 25 ∷ query kinds.Max 5 25 ∷ query kinds.Sum 0 60 ∷ []) ≡
     Some (Count 2 2) ∷ Some (Sum (pos 101) (pos 103)) ∷ Some (Min (Sure (pos 1) (pos 3))) ∷ Some (Max (Sure (pos 100) (pos 100)))
     ∷ Some (Sum (pos 304) (pos 304)) ∷ []
-unfolding outcome_of query state power_length index_of sum_interval around a
+unfolding outcome_of query state power_length window_index sum_interval around a
 answers-around_part = refl
 
 -- the values of a landmark that is open are asked for like those of others
@@ -135,7 +135,7 @@ begun = Create a (Exp 2 1 1) ∷ Value a 10 (pos 1) ∷ Open a 20 ∷ Value a 20
 
 answers-begun : map (outcome_of (state begun)) (query kinds.Count 15 25 ∷ query kinds.Sum 10 30 ∷ query kinds.Max 31 40 ∷ []) ≡
     Some (Count 1 1) ∷ Some (Sum (pos 12) (pos 12)) ∷ Some (Max Nothing) ∷ []
-unfolding outcome_of query state index_of sum_interval begun a
+unfolding outcome_of query state window_index sum_interval begun a
 answers-begun = refl
 
 -- of one value, 1 at time 5, an answer is wrong by one at either end

@@ -9,7 +9,7 @@ use Rattle.std.proofs.lemmas.Int.{ints, clamps}
 use Rattle.std.proofs.lemmas.List.Elements.{filter-append}
 use Rattle.std.proofs.lemmas.List.{map-append}
 use Rattle.ss_summary.specs.Figures.{Figures}
-use Rattle.ss_summary.specs.Summaries.{summary_of, least, greatest, last_time}
+use Rattle.ss_summary.specs.Summaries.{summary_of, least, greatest, time_at_end}
 use Rattle.ss_summary.specs.Summaries as summaries
 use Rattle.ss_bounds.specs.Extremes.{chosen}
 use Rattle.ss_bounds.specs.Times.{lies_in, split_of}
@@ -31,9 +31,9 @@ pub greatest-alone : (v : ℤ) (ps : List (ℕ × ℤ)) → greatest v ps ≡ ch
 greatest-alone v [] = refl
 greatest-alone v (p ∷ ps) = ap (int_max v) (greatest-alone p.1 ps)
 
-last_time-after : (free : ℕ → Bool) (p : ℕ × ℤ) (ps : List (ℕ × ℤ)) → RiseAtFree free (p.0 + 1) ps → p.0 ≤ last_time p.0 ps
-last_time-after free p [] rising = omega arith
-last_time-after free p (q ∷ qs) rising = omega (arith, rising.0, last_time-after free q qs rising.2)
+time_at_end-after : (free : ℕ → Bool) (p : ℕ × ℤ) (ps : List (ℕ × ℤ)) → RiseAtFree free (p.0 + 1) ps → p.0 ≤ time_at_end p.0 ps
+time_at_end-after free p [] rising = omega arith
+time_at_end-after free p (q ∷ qs) rising = omega (arith, rising.0, time_at_end-after free q qs rising.2)
 
 RiseFree-RiseAtFree : (free : ℕ → Bool) (m M : ℤ) (start : ℕ) (p : ℕ × ℤ) (ps : List (ℕ × ℤ)) → RiseAtFree free start (p ∷ ps)
     → m ≤ℤ least p.1 ps → greatest p.1 ps ≤ℤ M → RiseFree free m M start (p ∷ ps)
@@ -62,24 +62,24 @@ asked-append from to xs ys =
     map-append (λ p. p.1) (filter (λ p. lies_in from to p.0) xs) (filter (λ p. lies_in from to p.0) ys)
 
 module _ (free : ℕ → Bool) (from to : ℕ) where
-  asked-whole : (p : ℕ × ℤ) (ps : List (ℕ × ℤ)) → RiseAtFree free (p.0 + 1) ps → from ≤ p.0 → last_time p.0 ps ≤ to
+  asked-whole : (p : ℕ × ℤ) (ps : List (ℕ × ℤ)) → RiseAtFree free (p.0 + 1) ps → from ≤ p.0 → time_at_end p.0 ps ≤ to
       → asked from to (p ∷ ps) ≡ values_alone (p ∷ ps)
   asked-whole p [] rising begins ends =
       let here = lies_in-true from to p.0 begins ends in
       rw here refl
   asked-whole p (q ∷ qs) rising begins ends =
-      let after = last_time-after free q qs rising.2 in
+      let after = time_at_end-after free q qs rising.2 in
       let order = rising.0 in
       let here : lies_in from to p.0 ≡ true = lies_in-true from to p.0 begins (omega arith) in
       let rest = asked-whole q qs rising.2 (omega arith) ends in
       rw here (ap (λ z. p.1 ∷ z) rest)
 
-  asked-before : (p : ℕ × ℤ) (ps : List (ℕ × ℤ)) → RiseAtFree free (p.0 + 1) ps → last_time p.0 ps < from → asked from to (p ∷ ps) ≡ []
+  asked-before : (p : ℕ × ℤ) (ps : List (ℕ × ℤ)) → RiseAtFree free (p.0 + 1) ps → time_at_end p.0 ps < from → asked from to (p ∷ ps) ≡ []
   asked-before p [] rising before =
       let not_here = lies_in-before from to p.0 before in
       rw not_here refl
   asked-before p (q ∷ qs) rising before =
-      let after = last_time-after free q qs rising.2 in
+      let after = time_at_end-after free q qs rising.2 in
       let order = rising.0 in
       let not_here : lies_in from to p.0 ≡ false = lies_in-before from to p.0 (omega arith) in
       rw not_here (asked-before q qs rising.2 before)
@@ -101,7 +101,7 @@ module _ (free : ℕ → Bool) (from to : ℕ) where
         → AreSplit free from to p ps (split_figures free from to w) → Asked w p ps
 
   split-of : (w : Window) (p : ℕ × ℤ) (ps : List (ℕ × ℤ)) → w.summary ≡ summary_of (p ∷ ps) → RiseAtFree free p.0 (p ∷ ps)
-      → (first : ¬ ((from ≤ p.0) × (last_time p.0 ps ≤ to))) → from ≤ last_time p.0 ps → p.0 ≤ to
+      → (first : ¬ ((from ≤ p.0) × (time_at_end p.0 ps ≤ to))) → from ≤ time_at_end p.0 ps → p.0 ≤ to
       → AreSplit free from to p ps (split_figures free from to w)
   split-of w p [] is rising not_whole late early = absurd (not_whole (late, early))
   split-of w p (q ∷ qs) is rising not_whole late early =
@@ -122,9 +122,9 @@ module _ (free : ℕ → Bool) (from to : ℕ) where
   asked-of w p ps is rising =
       let last = ap (λ (f : Figures). f.t_last) is in
       let first = ap (λ (f : Figures). f.t_first) is in
-      let order = last_time-after free p ps rising.2 in
+      let order = time_at_end-after free p ps rising.2 in
       elim (cases_lt p.0 from) [
-        | inl starts_before ↦ elim (cases_lt (last_time p.0 ps) from) [
+        | inl starts_before ↦ elim (cases_lt (time_at_end p.0 ps) from) [
           | inl before ↦ apart (grind (arith, nat_tests)) (grind (arith, nat_tests)) (asked-before p ps rising.2 before)
           | inr reaches ↦ elim (cases_lt to p.0) [
             | inl after ↦ apart (grind (arith, nat_tests)) (grind (arith, nat_tests)) (asked-after p ps rising.2 after)
@@ -134,7 +134,7 @@ module _ (free : ℕ → Bool) (from to : ℕ) where
         ]
         | inr late ↦ elim (cases_lt to p.0) [
           | inl after ↦ apart (grind (arith, nat_tests)) (grind (arith, nat_tests)) (asked-after p ps rising.2 after)
-          | inr early ↦ elim (cases_lt to (last_time p.0 ps)) [
+          | inr early ↦ elim (cases_lt to (time_at_end p.0 ps)) [
             | inl past ↦ split (grind (arith, nat_tests)) (grind (arith, nat_tests))
                 (split-of w p ps is rising (λ both. let high = both.1 in omega arith) (omega arith) early)
             | inr within ↦ whole (grind (arith, nat_tests)) (grind (arith, nat_tests)) (asked-whole p ps rising.2 late within)

@@ -8,8 +8,8 @@ use Rattle.std.specs.Prelude.{All}
 use Rattle.std.proofs.lemmas.Bool.{cases_lt, cond_both, eqb-true, eqb-false, ne_eqb}
 use Rattle.ss_windowing.specs.Exp.{exp_length}
 use Rattle.ss_windowing.specs.declared.decay.TheConstants.{MOST_VALUES}
-use Rattle.ss_windowing.specs.Windowing.{cut, index_of, ArePositive, NeverFall, fits}
-use Rattle.ss_windowing.proofs.WindowingLemmas.{cut-monotone, holds-index_of, index_of-monotone}
+use Rattle.ss_windowing.specs.Windowing.{cut, window_index, ArePositive, NeverFall, fits}
+use Rattle.ss_windowing.proofs.WindowingLemmas.{cut-monotone, holds-window_index, window_index-monotone}
 use Rattle.ss_summary.specs.Summaries.{summary_of}
 use Rattle.ss_model.specs.Boundaries.{boundaries}
 use Rattle.ss_model.specs.Windows.{stretches, windows, taken}
@@ -25,16 +25,16 @@ use Rattle.ss_model.proofs.Tiles.{taken-append}
 pub le_cut-cover : (len : ℕ → ℕ) (n : ℕ) → ArePositive len → n ≤ cut len (cover len n)
 le_cut-cover len zero full = omega arith
 le_cut-cover len (suc age) full =
-    let holds = holds-index_of len age full in
+    let holds = holds-window_index len age full in
     rw add-one (omega (arith, holds.end))
 
 pub cover_le : (len : ℕ → ℕ) (n k : ℕ) → ArePositive len → n ≤ cut len k → cover len n ≤ k
 cover_le len zero k full enough = omega arith
-cover_le len (suc age) k full enough = elim (cases_lt (index_of len age) k) [
+cover_le len (suc age) k full enough = elim (cases_lt (window_index len age) k) [
   | inl below ↦ omega arith
   | inr above ↦
-      (let holds = holds-index_of len age full in
-      absurd (omega (arith, holds.start, cut-monotone len k (index_of len age) above)))
+      (let holds = holds-window_index len age full in
+      absurd (omega (arith, holds.start, cut-monotone len k (window_index len age) above)))
 ]
 
 -- windows one after the other from a position on, none of them empty
@@ -86,15 +86,15 @@ TileFrom-closed_onto len n first w (v ∷ vs) tiles =
     (λ unfit. (tiles.0, tiles.1, TileFrom-closed_onto len n (first + w.summary.count) v vs tiles.2))
 
 -- where two positions lie apart, the older has a greater index
-index_of-apart : (len : ℕ → ℕ) (l r n : ℕ) → l ≤ r → fits len l r n ≡ false → index_of len (n - r) < index_of len (n - l)
-index_of-apart len l r n order unfit =
+window_index-apart : (len : ℕ → ℕ) (l r n : ℕ) → l ≤ r → fits len l r n ≡ false → window_index len (n - r) < window_index len (n - l)
+window_index-apart len l r n order unfit =
     let apart = eqb-false _ _ unfit in
-    omega (arith, index_of-monotone len (n - r) (n - l) (omega arith), apart)
+    omega (arith, window_index-monotone len (n - r) (n - l) (omega arith), apart)
 
 -- and it lies apart from each later position
 fits_later : (len : ℕ → ℕ) (l r s n : ℕ) → l ≤ r → r ≤ s → fits len l r n ≡ false → fits len l s n ≡ false
 fits_later len l r s n order later unfit =
-    ne_eqb _ _ (λ same. omega (arith, index_of-apart len l r n order unfit, index_of-monotone len (n - s) (n - r) (omega arith)))
+    ne_eqb _ _ (λ same. omega (arith, window_index-apart len l r n order unfit, window_index-monotone len (n - s) (n - r) (omega arith)))
 
 -- the first window after a close begins with the first before it, and ends no earlier
 record Heads (w : Window) (ws : List Window) : Type 0 where
@@ -134,18 +134,18 @@ NoneIsDue-tail len n w (v ∷ vs) none = none.1
 
 -- two windows a step, since the second of them ends in a later target window than the first begins in
 length-none_due : (len : ℕ → ℕ) (n first : ℕ) (ws : List Window) → TileFrom first ws → NoneIsDue len n ws →
-    length ws ≤ 2 * index_of len (n - first) + 1
+    length ws ≤ 2 * window_index len (n - first) + 1
 length-none_due len n first [] tiles none = omega arith
 length-none_due len n first (w ∷ []) tiles none = omega arith
 length-none_due len n first (w ∷ v ∷ vs) tiles none =
     let front = tiles.0 in
     let behind = tiles.2.0 in
     let some = tiles.2.1 in
-    let apart = index_of-apart len w.first (last_position v) n (omega arith) none.0 in
+    let apart = window_index-apart len w.first (last_position v) n (omega arith) none.0 in
     let next = first + w.summary.count + v.summary.count in
     let rest = length-none_due len n next vs tiles.2.2 (NoneIsDue-tail len n v vs none.1) in
     let same : n - w.first ≡ n - first = omega arith in
-    let younger = index_of-monotone len (n - next) (n - last_position v) (omega arith) in
+    let younger = window_index-monotone len (n - next) (n - last_position v) (omega arith) in
     omega (arith, rw same at apart)
 
 NoneIsDue-tiles : (len : ℕ → ℕ) (n : ℕ) (ws : List Window) → TileFrom 1 ws → NoneIsDue len n (closed len n ws)
@@ -203,10 +203,10 @@ len-monotone len i (suc j) rising order = elim (cases_lt j i) [
 ]
 
 -- positions that lie together in one target window are no more than it holds
-fits-length : (len : ℕ → ℕ) (l r n count : ℕ) → ArePositive len → l + count ≡ r + 1 → r ≤ n → fits len l r n ≡ true → count ≤ len (index_of len (n - r))
+fits-length : (len : ℕ → ℕ) (l r n count : ℕ) → ArePositive len → l + count ≡ r + 1 → r ≤ n → fits len l r n ≡ true → count ≤ len (window_index len (n - r))
 fits-length len l r n count full run taken fit =
-    let young = holds-index_of len (n - r) full in
-    let old = rw (eqb-true _ _ fit) at (holds-index_of len (n - l) full) in
+    let young = holds-window_index len (n - r) full in
+    let old = rw (eqb-true _ _ fit) at (holds-window_index len (n - l) full) in
     omega (arith, young.start, old.end)
 
 IsWithinTarget_joined : (len : ℕ → ℕ) (n first : ℕ) (w v : Window) (vs : List Window) → ArePositive len → TileFrom first (w ∷ v ∷ vs) →
@@ -239,7 +239,7 @@ IsWithinTarget-closed len n (w ∷ ws) full tiles room within = IsWithinTarget-c
 
 IsWithinTarget-later : (len : ℕ → ℕ) (n : ℕ) (w : Window) → NeverFall len → IsWithinTarget len n w → IsWithinTarget len (n + 1) w
 IsWithinTarget-later len n w rising within =
-    omega (arith, within, len-monotone len _ _ rising (index_of-monotone len (n - last_position w) (n + 1 - last_position w) (omega arith)))
+    omega (arith, within, len-monotone len _ _ rising (window_index-monotone len (n - last_position w) (n + 1 - last_position w) (omega arith)))
 
 pub IsWithinTarget-windows : (len : ℕ → ℕ) (values : List (ℕ × ℤ)) → ArePositive len → NeverFall len →
     All (IsWithinTarget len (length values)) (windows len values)

@@ -1,7 +1,7 @@
 -- Worked rows of histories, their states and refusals, each computed.
 use Rattle.std.proofs.Common.{◌≡◌, ℕ, ◌+◌, ◌-◌, ◌^◌, true, false, List, [], ◌∷◌, ◌++◌, map, take, refl, Some, None, codes, pos, negsuc}
 use Rattle.std.specs.Prelude.{◌≤◌, length, nat_le, replicate, Option}
-use Rattle.ss_windowing.specs.Windowing.{index_of}
+use Rattle.ss_windowing.specs.Windowing.{window_index}
 use Rattle.ss_catalog.specs.declared.event.Event.{Event}
 use Rattle.ss_catalog.specs.declared.event.Event.TheVariants.{Create, Value}
 use Rattle.ss_catalog.specs.declared.params.Params.TheVariants.{Exp, Power}
@@ -36,14 +36,14 @@ readings_windows =
     ∷ []
 
 state-readings : state readings ≡ record { number = 0; name = a; params = Exp 2 1 1; windows = readings_windows; landmarks = [] } ∷ []
-unfolding state index_of readings readings_windows a
+unfolding state window_index readings readings_windows a
 state-readings = refl
 
 -- ok 0 0, ok 1 1, ok 2 2, ok 3 2, ok 4 3, ok 5 3, ok 6 4, ok 7 3
 acks-readings : map (λ k. ack_of a (state (take k readings))) (1 ∷ 2 ∷ 3 ∷ 4 ∷ 5 ∷ 6 ∷ 7 ∷ 8 ∷ []) ≡
     record { n = 0; k = 0 } ∷ record { n = 1; k = 1 } ∷ record { n = 2; k = 2 } ∷ record { n = 3; k = 2 }
     ∷ record { n = 4; k = 3 } ∷ record { n = 5; k = 3 } ∷ record { n = 6; k = 4 } ∷ record { n = 7; k = 3 } ∷ []
-unfolding state index_of readings a
+unfolding state window_index readings a
 acks-readings = refl
 
 -- windows a, list
@@ -53,11 +53,11 @@ shown-windows = refl
 
 shown-list : map row_of (state readings) ≡
     record { id = record { 0 = 0 }; name = a; params = Exp 2 1 1; n = 7; k = 3; landmarks = 0; values = 0 } ∷ []
-unfolding state index_of readings a
+unfolding state window_index readings a
 shown-list = refl
 
 records-readings : live (state readings) ≡ 4
-unfolding state index_of readings a
+unfolding state window_index readings a
 records-readings = refl
 
 why : Event → Option Refusal
@@ -67,11 +67,11 @@ refusals-readings : map why
     (Create a (Exp 2 1 1) ∷ Create a (Exp 1 1 1) ∷ Create (codes "b") (Power 5 1 1 1) ∷ Create (codes "b") (Power 4 1 1 1)
     ∷ Value (codes "x") 1 (pos 1) ∷ Value a 70 (pos 1) ∷ Value a 71 (pos 1) ∷ []) ≡
     Some Exists ∷ Some Param ∷ Some Param ∷ None ∷ Some Unknown ∷ Some Time ∷ None ∷ []
-unfolding why refuses state index_of readings a
+unfolding why refuses state window_index readings a
 refusals-readings = refl
 
 reading-readings : map (refuses_reading (state readings)) (a ∷ codes "x" ∷ []) ≡ None ∷ Some Unknown ∷ []
-unfolding refuses_reading state index_of readings a
+unfolding refuses_reading state window_index readings a
 reading-readings = refl
 
 -- after the greatest time, every later append is past it
@@ -79,11 +79,11 @@ greatest_time : List Event
 greatest_time = readings ++ Value a (2 ^ 62) (negsuc (2 ^ 63 - 1)) ∷ []
 
 refusals-greatest_time : map (refuses (state greatest_time)) (Value a (2 ^ 62) (pos 1) ∷ Value a 0 (pos 1) ∷ []) ≡ Some Time ∷ Some Time ∷ []
-unfolding refuses state index_of readings greatest_time a
+unfolding refuses state window_index readings greatest_time a
 refusals-greatest_time = refl
 
 ack-greatest_time : ack_of a (state greatest_time) ≡ record { n = 8; k = 4 }
-unfolding state index_of readings greatest_time a
+unfolding state window_index readings greatest_time a
 ack-greatest_time = refl
 
 -- each stream has its own values, and the windows that its own parameters give
@@ -98,15 +98,15 @@ unfolding two_streams a
 values-two_streams = refl
 
 numbers-two_streams : map (λ s. s.number) (state two_streams) ≡ 0 ∷ 1 ∷ []
-unfolding state index_of two_streams a
+unfolding state window_index two_streams a
 numbers-two_streams = refl
 
 last_times-two_streams : map last_time (state two_streams) ≡ Some 6 ∷ Some 2 ∷ []
-unfolding state index_of two_streams a
+unfolding state window_index two_streams a
 last_times-two_streams = refl
 
 steps-two_streams : stepped (state (take 5 two_streams)) (Value (codes "b") 2 (pos 4)) ≡ state two_streams
-unfolding stepped state index_of two_streams a
+unfolding stepped state window_index two_streams a
 steps-two_streams = refl
 
 -- numbers rise also where some are missing

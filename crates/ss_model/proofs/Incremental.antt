@@ -3,13 +3,13 @@ use Rattle.std.proofs.Common.{◌≡◌, ℕ, ◌+◌, ◌-◌, ◌<◌, ◌≤�
 use Rattle.std.proofs.Common.{arith, add-one, append_assoc, length-append}
 use Rattle.std.proofs.lemmas.Bool.{eqb-true}
 use Rattle.std.proofs.lemmas.List.{take-append-drop, length_push}
-use Rattle.ss_windowing.specs.Windowing.{index_of, fits}
+use Rattle.ss_windowing.specs.Windowing.{window_index, fits}
 use Rattle.ss_summary.specs.Summaries.{summary_of, joined}
 use Rattle.ss_model.specs.Boundaries.{staying, boundaries}
 use Rattle.ss_model.specs.Windows.{stretches, windows}
 use Rattle.ss_model.specs.Closed.{last_position, joined_window, closed_onto, closed}
 use Rattle.ss_model.specs.declared.types.Window.{Window}
-use Rattle.ss_windowing.proofs.WindowingLemmas.{index_of-monotone}
+use Rattle.ss_windowing.proofs.WindowingLemmas.{window_index-monotone}
 use Rattle.ss_summary.proofs.SummaryLemmas.{joined-summary_of}
 use Rattle.ss_model.proofs.Rises.{Rises, Rises-low, Rises-boundaries, Rises_push}
 use Rattle.ss_model.proofs.Stretches.{count-summary_of, length-front, length-back, stretches_none, stretches_at, stretches_push}
@@ -21,15 +21,15 @@ chosen f s true x y left right same if_true if_false = rw same (if_true refl)
 chosen f s false x y left right same if_true if_false = rw same (if_false refl)
 
 -- an index stays the same between two ages that have one index
-pub index_of_between : (len : ℕ → ℕ) (a b c : ℕ) → a ≤ b → b ≤ c → index_of len c ≡ index_of len a → index_of len c ≡ index_of len b
-index_of_between len a b c low high same = omega (arith, index_of-monotone len a b low, index_of-monotone len b c high)
+pub index_of_between : (len : ℕ → ℕ) (a b c : ℕ) → a ≤ b → b ≤ c → window_index len c ≡ window_index len a → window_index len c ≡ window_index len b
+index_of_between len a b c low high same = omega (arith, window_index-monotone len a b low, window_index-monotone len b c high)
 
 -- One test. The window from after `a` to b lies in one target window or is one old window from after `c`, and that
 -- after it ends at d.
 closed_onto_step : (len : ℕ → ℕ) (n a c b d : ℕ) (cs : List ℕ) (xs front ys : List (ℕ × ℤ)) (vs : List Window) →
     a ≤ c → c < b → b < d → d ≤ n → a + length xs ≡ b → b + length front ≡ d →
-    index_of len (n - (a + 1)) ≡ index_of len (n - (c + 1)) →
-    (index_of len (n - (a + 1)) ≡ index_of len (n - (b + 1)) →
+    window_index len (n - (a + 1)) ≡ window_index len (n - (c + 1)) →
+    (window_index len (n - (a + 1)) ≡ window_index len (n - (b + 1)) →
     closed_onto len n (record { first = a + 1; summary = summary_of (xs ++ front) }) vs ≡ stretches (a + 1) cs (xs ++ ys)) →
     closed_onto len n (record { first = b + 1; summary = summary_of front }) vs ≡ stretches (b + 1) cs ys →
     closed_onto len n (record { first = a + 1; summary = summary_of xs }) (record { first = b + 1; summary = summary_of front } ∷ vs)
@@ -43,14 +43,14 @@ closed_onto_step len n a c b d cs xs front ys vs from_run from_old rises within 
     chosen (λ cs. stretches (a + 1) cs (xs ++ ys)) (fits len w.first (last_position v) n) (fits len (c + 1) d n)
     (closed_onto len n (joined_window w v) vs) (w ∷ closed_onto len n v vs) cs (b ∷ cs) tests
     (λ (fit : fits len (c + 1) d n ≡ true).
-    let ends : index_of len (n - (a + 1)) ≡ index_of len (n - d) = same ∙ eqb-true _ _ fit in
+    let ends : window_index len (n - (a + 1)) ≡ window_index len (n - d) = same ∙ eqb-true _ _ fit in
     ap (λ s. closed_onto len n (record { first = a + 1; summary = s }) vs) one
     ∙ together (index_of_between len (n - d) (n - (b + 1)) (n - (a + 1)) (omega arith) (omega arith) ends))
     (λ (unfit : fits len (c + 1) d n ≡ false). ap (λ ws. w ∷ ws) apart ∙ sym (stretches_at a b cs xs ys run_count (omega arith)))
 
 closed_onto-stretches : (len : ℕ → ℕ) (n a c b : ℕ) (bs : List ℕ) (xs ys : List (ℕ × ℤ)) →
     a ≤ c → c < b → a + length xs ≡ b → b + length ys ≡ n → Rises b bs n →
-    index_of len (n - (a + 1)) ≡ index_of len (n - (c + 1)) →
+    window_index len (n - (a + 1)) ≡ window_index len (n - (c + 1)) →
     closed_onto len n (record { first = a + 1; summary = summary_of xs }) (stretches (b + 1) bs ys)
     ≡ stretches (a + 1) (staying len n c (b ∷ bs)) (xs ++ ys)
 closed_onto-stretches len n a c b bs xs [] from_run from_old run_count rest_count rising same = let low = Rises-low b bs n rising in absurd (omega arith)

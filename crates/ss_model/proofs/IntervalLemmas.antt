@@ -9,10 +9,10 @@ use Rattle.ss_summary.specs.Figures.{Figures}
 use Rattle.ss_summary.specs.Summaries.{summary_of}
 use Rattle.ss_bounds.specs.Split.{SplitFigures, least_count, greatest_count, sum_interval}
 use Rattle.ss_bounds.specs.Either.{either, choice_in, lesser, greater, least_in, greatest_in}
-use Rattle.ss_bounds.specs.Truth.{asked, values_alone, total, AreSplit, MayAllLieThere, windows_of, values_of_all, Holds}
+use Rattle.ss_bounds.specs.Truth.{asked, values_alone, total, AreSplit, MayAllLieThere, windows_alone, values_of_all, HoldsExtreme}
 use Rattle.ss_bounds.proofs.ChoiceLemmas.{IsChoice, IsChoice-min, IsChoice-max, choice_in-append, choice_in-cons, either-assoc}
 use Rattle.ss_bounds.specs.Extremes.{min_interval, max_interval}
-use Rattle.ss_bounds.proofs.ExtremeLemmas.{min_interval-Holds, max_interval-Holds}
+use Rattle.ss_bounds.proofs.ExtremeLemmas.{min_interval-HoldsExtreme, max_interval-HoldsExtreme}
 use Rattle.ss_bounds.proofs.TruthLemmas.{asked-MayLieThere, asked-sum}
 use Rattle.ss_model.specs.Interval.{is_whole, is_split, whole_windows, split_windows, split_figures, interval_of_count, interval_of_sum}
 use Rattle.ss_model.specs.Interval.{interval_of_least, interval_of_greatest, IsExact}
@@ -104,7 +104,7 @@ module _ (free : ℕ → Bool) (from to : ℕ) where
   -- the values asked for are those of the whole windows and those of each window that the range splits
   record Parted (ws : List Window) (values : List (ℕ × ℤ)) : Type 0 where
     splits : List (SplitFigures × List ℤ)
-    windows : windows_of splits ≡ split_windows free from to ws
+    windows : windows_alone splits ≡ split_windows free from to ws
     may : MayAllLieThere splits
     sums : SumsLie splits
     count : length (asked from to values) ≡ counts_of (whole_windows from to ws) + length (values_of_all splits)
@@ -212,18 +212,19 @@ module _ (free : ℕ → Bool) (from to : ℕ) where
 
 -- what the split windows say of all their values together
 counts-lie : (splits : List (SplitFigures × List ℤ)) → MayAllLieThere splits
-    → (sum_by least_count (windows_of splits) ≤ length (values_of_all splits)) × (length (values_of_all splits) ≤ sum_by greatest_count (windows_of splits))
+    → (sum_by least_count (windows_alone splits) ≤ length (values_of_all splits))
+    × (length (values_of_all splits) ≤ sum_by greatest_count (windows_alone splits))
 counts-lie [] may = (omega arith, omega arith)
 counts-lie (w ∷ ws) may =
     let rest = counts-lie ws may.1 in
     let both = length-append w.1 (values_of_all ws) in
-    let least = sum_by-cons least_count w.0 (windows_of ws) in
-    let greatest = sum_by-cons greatest_count w.0 (windows_of ws) in
+    let least = sum_by-cons least_count w.0 (windows_alone ws) in
+    let greatest = sum_by-cons greatest_count w.0 (windows_alone ws) in
     (omega (arith, may.0.fewest, rest.0), omega (arith, may.0.most, rest.1))
 
 sums-lie : (splits : List (SplitFigures × List ℤ)) → SumsLie splits
-    → (total (map (λ (s : ℤ × ℤ). s.0) (map sum_interval (windows_of splits))) ≤ℤ total (values_of_all splits))
-    × (total (values_of_all splits) ≤ℤ total (map (λ (s : ℤ × ℤ). s.1) (map sum_interval (windows_of splits))))
+    → (total (map (λ (s : ℤ × ℤ). s.0) (map sum_interval (windows_alone splits))) ≤ℤ total (values_of_all splits))
+    × (total (values_of_all splits) ≤ℤ total (map (λ (s : ℤ × ℤ). s.1) (map sum_interval (windows_alone splits))))
 sums-lie [] lie = (omega (arith, ints), omega (arith, ints))
 sums-lie (w ∷ ws) lie =
     let rest = sums-lie ws lie.2 in
@@ -251,30 +252,30 @@ module _ (free : ℕ → Bool) (from to : ℕ) (ws : List Window) (plain marked 
       let all = total-append (asked from to plain) (asked from to marked) in
       (omega (arith, ints, lie.0, parts.sum, all), omega (arith, ints, lie.1, parts.sum, all))
 
-  pub least-Holds : Holds (interval_of_least free from to ws marked) (true_least from to plain marked)
-  least-Holds =
+  pub least-HoldsExtreme : HoldsExtreme (interval_of_least free from to ws marked) (true_least from to plain marked)
+  least-HoldsExtreme =
       let parts = parted-all free from to ws plain start of rising in
       let known = mins_of (whole_windows from to ws) in
       let inner = values_of_all parts.splits in
       let truth : true_least from to plain marked ≡ lesser (least_in (known ++ asked from to marked)) (least_in inner) =
       choice_in-append IsChoice-min (asked from to plain) (asked from to marked)
       ∙ choice-last IsChoice-min min-comm known (asked from to marked) inner (least_in (asked from to plain)) parts.least in
-      let holds = min_interval-Holds parts.splits parts.may (least_in (known ++ asked from to marked)) in
-      subst (λ z. Holds (interval_of_least free from to ws marked) z) (sym truth)
-      (subst (λ z. Holds (min_interval (least_in (known ++ asked from to marked)) z)
+      let holds = min_interval-HoldsExtreme parts.splits parts.may (least_in (known ++ asked from to marked)) in
+      subst (λ z. HoldsExtreme (interval_of_least free from to ws marked) z) (sym truth)
+      (subst (λ z. HoldsExtreme (min_interval (least_in (known ++ asked from to marked)) z)
       (lesser (least_in (known ++ asked from to marked)) (least_in inner))) parts.windows holds)
 
-  pub greatest-Holds : Holds (interval_of_greatest free from to ws marked) (true_greatest from to plain marked)
-  greatest-Holds =
+  pub greatest-HoldsExtreme : HoldsExtreme (interval_of_greatest free from to ws marked) (true_greatest from to plain marked)
+  greatest-HoldsExtreme =
       let parts = parted-all free from to ws plain start of rising in
       let known = maxs_of (whole_windows from to ws) in
       let inner = values_of_all parts.splits in
       let truth : true_greatest from to plain marked ≡ greater (greatest_in (known ++ asked from to marked)) (greatest_in inner) =
       choice_in-append IsChoice-max (asked from to plain) (asked from to marked)
       ∙ choice-last IsChoice-max max-comm known (asked from to marked) inner (greatest_in (asked from to plain)) parts.greatest in
-      let holds = max_interval-Holds parts.splits parts.may (greatest_in (known ++ asked from to marked)) in
-      subst (λ z. Holds (interval_of_greatest free from to ws marked) z) (sym truth)
-      (subst (λ z. Holds (max_interval (greatest_in (known ++ asked from to marked)) z)
+      let holds = max_interval-HoldsExtreme parts.splits parts.may (greatest_in (known ++ asked from to marked)) in
+      subst (λ z. HoldsExtreme (interval_of_greatest free from to ws marked) z) (sym truth)
+      (subst (λ z. HoldsExtreme (max_interval (greatest_in (known ++ asked from to marked)) z)
       (greater (greatest_in (known ++ asked from to marked)) (greatest_in inner))) parts.windows holds)
 
 min_table-exact : (e : Option ℤ) → IsExact (min_interval e [])

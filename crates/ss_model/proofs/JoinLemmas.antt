@@ -5,7 +5,7 @@ use Rattle.std.specs.Prelude.{IsTrue}
 use Rattle.std.specs.List.{list_all}
 use Rattle.std.proofs.lemmas.Bool.{and_from, and_parts, cond-true, cond-false, cond_both, eqb-true}
 use Rattle.std.proofs.lemmas.List.Folds.{list_all-append}
-use Rattle.ss_windowing.specs.Windowing.{index_of, fits}
+use Rattle.ss_windowing.specs.Windowing.{window_index, fits}
 use Rattle.ss_landmarks.specs.Landmark.{Landmark}
 use Rattle.ss_summary.specs.Summaries.{summary_of}
 use Rattle.ss_summary.proofs.SummaryLemmas.{joined_assoc, IsPossible-joined}
@@ -34,10 +34,10 @@ fits-due len n first x w v vs tiles due =
     let some = tiles.2.1 in
     let third = tiles.2.2.0 in
     let some_behind = tiles.2.2.1 in
-    let ends : index_of len (n - w.first) ≡ index_of len (n - last_position v) = eqb-true _ _ due in
-    let middle : index_of len (n - w.first) ≡ index_of len (n - last_position w) =
+    let ends : window_index len (n - w.first) ≡ window_index len (n - last_position v) = eqb-true _ _ due in
+    let middle : window_index len (n - w.first) ≡ window_index len (n - last_position w) =
     index_of_between len (n - last_position v) (n - last_position w) (n - w.first) (omega arith) (omega arith) ends in
-    ap (λ i. index_of len (n - x.first) == i) (sym middle ∙ ends)
+    ap (λ i. window_index len (n - x.first) == i) (sym middle ∙ ends)
 
 last_position_joined : (first : ℕ) (w v : Window) (vs : List Window) → TileFrom first (w ∷ v ∷ vs) → last_position (joined_window w v) ≡ last_position v
 last_position_joined first w v vs tiles =

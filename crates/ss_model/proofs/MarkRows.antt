@@ -2,7 +2,7 @@
 use Rattle.std.proofs.Common.{◌≡◌, ℕ, ◌+◌, ◌^◌, Bool, true, false, not, List, [], ◌∷◌, ◌++◌, map, take, refl, Some, None, codes, pos}
 use Rattle.std.specs.Prelude.{Option}
 use Rattle.ss_power.specs.Power.{power_length}
-use Rattle.ss_windowing.specs.Windowing.{index_of}
+use Rattle.ss_windowing.specs.Windowing.{window_index}
 use Rattle.ss_catalog.specs.declared.event.Event.{Event}
 use Rattle.ss_catalog.specs.declared.event.Event.TheVariants.{Create, Value, Open, Close}
 use Rattle.ss_catalog.specs.declared.params.Params.TheVariants.{Exp, Power}
@@ -26,7 +26,7 @@ one_moment = Create b (Exp 2 1 1) ∷ Open b 100 ∷ Value b 100 (pos 7) ∷ Clo
 
 -- append b 100 8, append b 101 8
 refusals-one_moment : map (refuses (state one_moment)) (Value b 100 (pos 8) ∷ Value b 101 (pos 8) ∷ []) ≡ Some refusal.Time ∷ None ∷ []
-unfolding refuses state index_of one_moment b
+unfolding refuses state window_index one_moment b
 refusals-one_moment = refl
 
 state-one_moment : state (one_moment ++ Value b 101 (pos 8) ∷ []) ≡ record {
@@ -36,7 +36,7 @@ state-one_moment : state (one_moment ++ Value b 101 (pos 8) ∷ []) ≡ record {
   windows = record { first = 1; summary = record { count = 1; sum = pos 8; min = pos 8; max = pos 8; t_first = 101; t_last = 101 } } ∷ [];
   landmarks = record { start = 100; finish = Some 100; values = record { t = 100; v = pos 7 } ∷ [] } ∷ [];
 } ∷ []
-unfolding state index_of one_moment b
+unfolding state window_index one_moment b
 state-one_moment = refl
 
 -- create c power 1 0 1 2, append c 10 1, open c 20, append c 20 100, append c 30 200, close c 40, append c 50 3
@@ -65,35 +65,35 @@ landmark-around = refl
 -- one window from 10 to 50, with two values
 window-around : map (λ s. s.windows) (state around) ≡
     (record { first = 1; summary = record { count = 2; sum = pos 4; min = pos 1; max = pos 3; t_first = 10; t_last = 50 } } ∷ []) ∷ []
-unfolding state index_of power_length around c
+unfolding state window_index power_length around c
 window-around = refl
 
 -- ok 0 0, ok 1 1, and the same at each event of the landmark
 acks-around : map (λ k. ack_of c (state (take k around))) (1 ∷ 2 ∷ 3 ∷ 4 ∷ 5 ∷ 6 ∷ 7 ∷ []) ≡
     record { n = 0; k = 0 } ∷ record { n = 1; k = 1 } ∷ record { n = 1; k = 1 } ∷ record { n = 1; k = 1 } ∷ record { n = 1; k = 1 }
     ∷ record { n = 1; k = 1 } ∷ record { n = 2; k = 1 } ∷ []
-unfolding state index_of power_length around c
+unfolding state window_index power_length around c
 acks-around = refl
 
 -- list: two values, one window, one landmark with two values, and with the stream itself five records
 shown-around : map row_of (state around) ≡
     record { id = record { 0 = 0 }; name = c; params = Power 1 0 1 2; n = 2; k = 1; landmarks = 1; values = 2 } ∷ []
-unfolding state index_of power_length around c
+unfolding state window_index power_length around c
 shown-around = refl
 
 records-around : live (state around) ≡ 5
-unfolding state index_of power_length around c
+unfolding state window_index power_length around c
 records-around = refl
 
 -- the last time rises at an opening, at a value of the landmark, and at its closing
 last_times-around : map (λ k. map last_time (state (take k around))) (1 ∷ 2 ∷ 3 ∷ 4 ∷ 5 ∷ 6 ∷ 7 ∷ []) ≡
     (None ∷ []) ∷ (Some 10 ∷ []) ∷ (Some 20 ∷ []) ∷ (Some 20 ∷ []) ∷ (Some 30 ∷ []) ∷ (Some 40 ∷ []) ∷ (Some 50 ∷ []) ∷ []
-unfolding state index_of power_length around c
+unfolding state window_index power_length around c
 last_times-around = refl
 
 -- a step is the state of one more event
 steps-around : map (λ k. stepped (state (take k around)) (Close c 40)) (5 ∷ []) ≡ state (take 6 around) ∷ []
-unfolding stepped state index_of around c
+unfolding stepped state window_index around c
 steps-around = refl
 
 -- the window lies among landmarks: 21 of its 41 times are covered, and 20 are free
@@ -110,31 +110,31 @@ why_at k events = map (refuses (state (take k around))) events
 
 refusals-before : why_at 2 (Close c 11 ∷ Close c 9 ∷ Open c 10 ∷ Open c 11 ∷ Open b 11 ∷ Close b 11 ∷ []) ≡
     Some refusal.NotOpen ∷ Some refusal.NotOpen ∷ Some refusal.Time ∷ None ∷ Some refusal.Unknown ∷ Some refusal.Unknown ∷ []
-unfolding why_at refuses state index_of around c b
+unfolding why_at refuses state window_index around c b
 refusals-before = refl
 
 -- the first value may carry the time of the opening, and the landmark may be closed then, empty
 refusals-opened : why_at 3 (Open c 21 ∷ Value c 19 (pos 0) ∷ Value c 20 (pos 0) ∷ Close c 19 ∷ Close c 20 ∷ []) ≡
     Some refusal.Open ∷ Some refusal.Time ∷ None ∷ Some refusal.Time ∷ None ∷ []
-unfolding why_at refuses state index_of around c
+unfolding why_at refuses state window_index around c
 refusals-opened = refl
 
 -- a second value may not
 refusals-marked : why_at 4 (Value c 20 (pos 0) ∷ Value c 21 (pos 0) ∷ Open c 20 ∷ Close c 20 ∷ []) ≡
     Some refusal.Time ∷ None ∷ Some refusal.Open ∷ None ∷ []
-unfolding why_at refuses state index_of around c
+unfolding why_at refuses state window_index around c
 refusals-marked = refl
 
 -- a close before the last time is refused, and one at the last time isn't
 refusals-values : why_at 5 (Close c 29 ∷ Close c 30 ∷ Value c 30 (pos 0) ∷ Value c 31 (pos 0) ∷ []) ≡
     Some refusal.Time ∷ None ∷ Some refusal.Time ∷ None ∷ []
-unfolding why_at refuses state index_of around c
+unfolding why_at refuses state window_index around c
 refusals-values = refl
 
 -- the next landmark opens after the closing
 refusals-closed : why_at 6 (Close c 41 ∷ Close c 39 ∷ Open c 40 ∷ Open c 41 ∷ Value c 40 (pos 0) ∷ Value c 41 (pos 0) ∷ []) ≡
     Some refusal.NotOpen ∷ Some refusal.NotOpen ∷ Some refusal.Time ∷ None ∷ Some refusal.Time ∷ None ∷ []
-unfolding why_at refuses state index_of around c
+unfolding why_at refuses state window_index around c
 refusals-closed = refl
 
 -- a stream with 2^40 values outside landmarks takes no more of them, and a landmark of it still takes values

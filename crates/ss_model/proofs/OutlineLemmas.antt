@@ -13,7 +13,7 @@ use Rattle.ss_landmarks.specs.Landmark.{all_values}
 use Rattle.ss_windowing.specs.declared.decay.TheConstants.{MOST_VALUES}
 use Rattle.ss_model.specs.Marks.{has_open}
 use Rattle.ss_model.specs.Outline.{SameOutline, SameOutlines}
-use Rattle.ss_model.specs.Refusals.{is_before, is_early, is_full, is_opening, is_past, of_named, refuses}
+use Rattle.ss_model.specs.Refusals.{is_before, is_early, has_most_values, is_opening, is_past, of_named, refuses}
 use Rattle.ss_model.specs.State.{Stream, last_time, live, records_of, stream_named}
 
 length-outlines : (streams others : List Stream) → SameOutlines streams others → length streams ≡ length others
@@ -67,8 +67,8 @@ is_early-outline t s u alike =
     let landmarks = alike.landmarks in
     λ i. is_past (last i) t && not (is_opening (landmarks i) t)
 
-is_full-outline : (s u : Stream) → SameOutline s u → is_full s ≡ is_full u
-is_full-outline s u alike =
+has_most_values-outline : (s u : Stream) → SameOutline s u → has_most_values s ≡ has_most_values u
+has_most_values-outline s u alike =
     let values = alike.values in
     let landmarks = alike.landmarks in
     λ i. not (has_open (landmarks i)) && nat_le MOST_VALUES (values i)
@@ -86,7 +86,7 @@ refuses-outlines streams others (Value name t v) same =
     rw (
       read-outlines is_some (λ s u alike. refl) name streams others same,
       of_named-outlines (λ s. is_early s t) (is_early-outline t) name streams others same,
-      of_named-outlines is_full is_full-outline name streams others same,
+      of_named-outlines has_most_values has_most_values-outline name streams others same,
       live-outlines streams others same,
     ) refl
 refuses-outlines streams others (Open name t) same =

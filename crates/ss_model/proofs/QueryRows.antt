@@ -2,7 +2,7 @@
 use Rattle.std.specs.Prelude.{◌≡◌, ℕ, Bool, true, ℤ, pos, negsuc, List, [], ◌∷◌, map, Some}
 use Rattle.std.proofs.Common.{refl}
 use Rattle.ss_windowing.specs.Exp.{exp_length}
-use Rattle.ss_windowing.specs.Windowing.{index_of}
+use Rattle.ss_windowing.specs.Windowing.{window_index}
 use Rattle.ss_bounds.specs.declared.extreme.Extreme.{Extreme}
 use Rattle.ss_bounds.specs.declared.extreme.Extreme.TheVariants.{Nothing, Sure, Maybe}
 use Rattle.ss_bounds.specs.Split.{sum_interval}
@@ -35,20 +35,20 @@ abbrev greatest_in : ℕ × ℕ → Extreme
 greatest_in range = interval_of_greatest free range.0 range.1 (windows (exp_length 2 1 1) seven) []
 
 counts-seven : map count_in ((10, 40) ∷ (10, 25) ∷ (15, 25) ∷ (25, 55) ∷ []) ≡ (4, 4) ∷ (1, 3) ∷ (0, 2) ∷ (2, 4) ∷ []
-unfolding index_of
+unfolding window_index
 counts-seven = refl
 
 sums-seven : map sum_in ((0, 100) ∷ (10, 25) ∷ (25, 55) ∷ []) ≡ (pos 29, pos 29) ∷ (negsuc 4, pos 16) ∷ (negsuc 2, pos 25) ∷ []
-unfolding index_of sum_interval
+unfolding window_index sum_interval
 sums-seven = refl
 
 least-seven : map least_in ((71, 80) ∷ (10, 25) ∷ (15, 25) ∷ (25, 55) ∷ [])
     ≡ Nothing ∷ Sure (negsuc 2) (pos 8) ∷ Maybe (negsuc 2) (pos 8) ∷ Sure (negsuc 2) (pos 8) ∷ []
-unfolding index_of
+unfolding window_index
 least-seven = refl
 
 greatest-seven : map greatest_in ((45, 65) ∷ (25, 55) ∷ []) ≡ Sure (pos 9) (pos 9) ∷ Sure (pos 2) (pos 9) ∷ []
-unfolding index_of
+unfolding window_index
 greatest-seven = refl
 
 -- the truth from 10 to 25 is 2 values of the sum 2, and from 25 to 55 3 of the sum 18
@@ -60,12 +60,12 @@ truth-sums = refl
 
 -- four values at four times in one window of four: the free times are used up
 crowded : interval_of_count free 10 11 (windows (λ i. 4) ((10, pos 4) ∷ (11, pos 4) ∷ (12, pos 6) ∷ (13, pos 6) ∷ [])) [] ≡ (2, 2)
-unfolding index_of
+unfolding window_index
 crowded = refl
 
 crowded-sum : interval_of_sum free 10 11 (windows (λ i. 4) ((10, pos 4) ∷ (11, pos 4) ∷ (12, pos 6) ∷ (13, pos 6) ∷ [])) []
     ≡ (pos 8, pos 12)
-unfolding index_of sum_interval
+unfolding window_index sum_interval
 crowded-sum = refl
 
 -- one value in a landmark at 100, and one after it
@@ -75,7 +75,7 @@ single = record { start = 100; finish = Some 100; values = record { t = 100; v =
 marked_before : map (λ (range : ℕ × ℕ). interval_of_sum (is_free single) range.0 range.1 (windows (exp_length 2 1 1) ((101, pos 8) ∷ []))
     (marked_values single))
     ((100, 100) ∷ (101, 101) ∷ (0, 200) ∷ []) ≡ (pos 7, pos 7) ∷ (pos 8, pos 8) ∷ (pos 15, pos 15) ∷ []
-unfolding index_of sum_interval
+unfolding window_index sum_interval
 marked_before = refl
 
 -- a window that spans a landmark from 20 to 40 with two values
@@ -88,30 +88,30 @@ spanned answer = answer (is_free spanning) 20 40 (windows (λ i. 2) ((10, pos 1)
 -- of the times between its ends, the 18 outside the landmark are free
 spanned-split : spanned (λ free from to ws marked. split_windows free from to ws)
     ≡ record { count = 2; sum = pos 4; min = pos 1; max = pos 3; ends = 0; inside = 0; outside = 18 } ∷ []
-unfolding index_of
+unfolding window_index
 spanned-split = refl
 
 spanned-count : spanned interval_of_count ≡ (2, 2)
-unfolding index_of
+unfolding window_index
 spanned-count = refl
 
 spanned-sum : spanned interval_of_sum ≡ (pos 300, pos 300)
-unfolding index_of sum_interval
+unfolding window_index sum_interval
 spanned-sum = refl
 
 spanned-least : spanned interval_of_least ≡ Sure (pos 100) (pos 100)
-unfolding index_of
+unfolding window_index
 spanned-least = refl
 
 -- two values at both ends of 64 bits
 edges : map (λ (v : ℤ). interval_of_sum free 10 15 (windows (λ i. 2) ((10, v) ∷ (20, pos 9223372036854775807) ∷ [])) [])
     (pos 9223372036854775807 ∷ negsuc 9223372036854775807 ∷ [])
     ≡ (pos 9223372036854775807, pos 9223372036854775807) ∷ (negsuc 9223372036854775807, pos 9223372036854775807) ∷ []
-unfolding index_of sum_interval
+unfolding window_index sum_interval
 edges = refl
 
 edges-whole : map (λ (v : ℤ). interval_of_sum free 0 30 (windows (λ i. 2) ((10, v) ∷ (20, pos 9223372036854775807) ∷ [])) [])
     (pos 9223372036854775807 ∷ negsuc 9223372036854775807 ∷ [])
     ≡ (pos 18446744073709551614, pos 18446744073709551614) ∷ (negsuc 0, negsuc 0) ∷ []
-unfolding index_of sum_interval
+unfolding window_index sum_interval
 edges-whole = refl

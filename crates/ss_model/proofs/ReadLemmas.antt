@@ -17,7 +17,7 @@ use Rattle.ss_model.specs.Marks.{has_open, with_closed, with_marked, with_opened
 use Rattle.ss_model.specs.Refusals.{IsHistory}
 use Rattle.ss_model.specs.Standing.{IsStream}
 use Rattle.ss_model.specs.State.{Created, Stream, state, standing, stream_after, stream_named, values_in}
-use Rattle.ss_model.specs.Steps.{change_named, stepped, with_taken, with_value}
+use Rattle.ss_model.specs.Steps.{change_named, stepped, with_taken, with_plain_value}
 use Rattle.ss_model.proofs.DecayLemmas.{length-windows, IsWithinTarget-windows}
 use Rattle.ss_model.proofs.HistoryLemmas.{IsState-state}
 use Rattle.ss_model.proofs.NameLemmas.{same_name-Decides}
@@ -50,7 +50,7 @@ named-changed_other name other change (s ∷ ss) apart keeps =
     ]
 
 name-taken : (t : ℕ) (v : ℤ) (s : Stream) → (with_taken s t v).name ≡ s.name
-name-taken t v s = cond_both (has_open s.landmarks) (record s { landmarks = with_marked s.landmarks t v }) (with_value s t v)
+name-taken t v s = cond_both (has_open s.landmarks) (record s { landmarks = with_marked s.landmarks t v }) (with_plain_value s t v)
     (λ (u : Stream). u.name ≡ s.name) (λ begun. refl) (λ none. refl)
 
 option_or-none : {X : Type 0} (o : Option X) → option_or o None ≡ o

@@ -32,7 +32,7 @@ use Rattle.ss_model.proofs.Stretches.{newest_time-windows}
 
 -- ---- values at rising times
 
-last_time-after : (free : ℕ → Bool) (q : ℕ × ℤ) (qs : List (ℕ × ℤ)) → RiseAtFree free (q.0 + 1) qs → q.0 ≤ summaries.last_time q.0 qs
+last_time-after : (free : ℕ → Bool) (q : ℕ × ℤ) (qs : List (ℕ × ℤ)) → RiseAtFree free (q.0 + 1) qs → q.0 ≤ summaries.time_at_end q.0 qs
 last_time-after free q [] rising = omega arith
 last_time-after free q (r ∷ rs) rising = omega (arith, rising.0, last_time-after free r rs rising.2)
 
@@ -42,7 +42,7 @@ RiseAtFree_push : (free : ℕ → Bool) (start : ℕ) (ps : List (ℕ × ℤ)) (
 RiseAtFree_push free start [] t v rising late is later = (late, is, tt)
 RiseAtFree_push free start (p ∷ []) t v rising late is later = let next = later p.0 refl in (rising.0, rising.1, (omega arith, is, tt))
 RiseAtFree_push free start (p ∷ q ∷ qs) t v rising late is later =
-    let end = later (summaries.last_time q.0 qs) refl in
+    let end = later (summaries.time_at_end q.0 qs) refl in
     let after = last_time-after free q qs rising.2.2 in
     (rising.0, rising.1, RiseAtFree_push free (p.0 + 1) (q ∷ qs) t v rising.2 (omega (arith, rising.2.0)) is later)
 
@@ -53,8 +53,8 @@ RiseAtFree-same free other start [] rising same = tt
 RiseAtFree-same free other start (p ∷ []) rising same = (rising.0, same p.0 p.0 refl (omega arith) ∙ rising.1, tt)
 RiseAtFree-same free other start (p ∷ q ∷ qs) rising same =
     let after = last_time-after free q qs rising.2.2 in
-    let early : p.0 ≤ summaries.last_time q.0 qs = omega (arith, rising.2.0) in
-    (rising.0, same (summaries.last_time q.0 qs) p.0 refl early ∙ rising.1, RiseAtFree-same free other (p.0 + 1) (q ∷ qs) rising.2 same)
+    let early : p.0 ≤ summaries.time_at_end q.0 qs = omega (arith, rising.2.0) in
+    (rising.0, same (summaries.time_at_end q.0 qs) p.0 refl early ∙ rising.1, RiseAtFree-same free other (p.0 + 1) (q ∷ qs) rising.2 same)
 
 -- ---- the last time of a stream
 

@@ -2,7 +2,7 @@
 use Rattle.std.proofs.Common.{◌≡◌, ℕ, List, [], ◌∷◌, map, refl, ℤ, pos, negsuc, lit≤, arith}
 use Rattle.ss_windowing.specs.declared.decay.TheConstants.{MOST_VALUES}
 use Rattle.ss_windowing.specs.Exp.{exp_length}
-use Rattle.ss_windowing.specs.Windowing.{index_of}
+use Rattle.ss_windowing.specs.Windowing.{window_index}
 use Rattle.ss_power.specs.Power.{power_length}
 use Rattle.ss_model.specs.Boundaries.{boundaries}
 use Rattle.ss_model.specs.Windows.{stretches, windows}
@@ -19,31 +19,31 @@ most_values = refl
 
 -- the windows are one more than the boundaries: 1, 2, 2, 3, 3, 4, 3
 boundaries-1 : boundaries (exp_length 2 1 1) 1 ≡ []
-unfolding index_of
+unfolding window_index
 boundaries-1 = refl
 
 boundaries-2 : boundaries (exp_length 2 1 1) 2 ≡ 1 ∷ []
-unfolding index_of
+unfolding window_index
 boundaries-2 = refl
 
 boundaries-3 : boundaries (exp_length 2 1 1) 3 ≡ 2 ∷ []
-unfolding index_of
+unfolding window_index
 boundaries-3 = refl
 
 boundaries-4 : boundaries (exp_length 2 1 1) 4 ≡ 2 ∷ 3 ∷ []
-unfolding index_of
+unfolding window_index
 boundaries-4 = refl
 
 boundaries-5 : boundaries (exp_length 2 1 1) 5 ≡ 2 ∷ 4 ∷ []
-unfolding index_of
+unfolding window_index
 boundaries-5 = refl
 
 boundaries-6 : boundaries (exp_length 2 1 1) 6 ≡ 2 ∷ 4 ∷ 5 ∷ []
-unfolding index_of
+unfolding window_index
 boundaries-6 = refl
 
 boundaries-7 : boundaries (exp_length 2 1 1) 7 ≡ 4 ∷ 6 ∷ []
-unfolding index_of
+unfolding window_index
 boundaries-7 = refl
 
 -- the same for power-law targets: 1, 2, 2, 3, 3, 4, 4, then windows of 2 for ever, and with windows of 1 one for each value
@@ -52,15 +52,15 @@ boundary_rows len = map (boundaries len)
 
 boundaries-growing : boundary_rows (power_length 1 1 1 1) (1 ∷ 2 ∷ 3 ∷ 4 ∷ 5 ∷ 6 ∷ 7 ∷ []) ≡
     [] ∷ (1 ∷ []) ∷ (2 ∷ []) ∷ (2 ∷ 3 ∷ []) ∷ (2 ∷ 4 ∷ []) ∷ (2 ∷ 4 ∷ 5 ∷ []) ∷ (2 ∷ 4 ∷ 6 ∷ []) ∷ []
-unfolding boundary_rows power_length index_of
+unfolding boundary_rows power_length window_index
 boundaries-growing = refl
 
 boundaries-of_two : boundary_rows (power_length 1 0 1 2) (1 ∷ 2 ∷ 3 ∷ 4 ∷ 5 ∷ []) ≡ [] ∷ [] ∷ (2 ∷ []) ∷ (2 ∷ []) ∷ (2 ∷ 4 ∷ []) ∷ []
-unfolding boundary_rows power_length index_of
+unfolding boundary_rows power_length window_index
 boundaries-of_two = refl
 
 boundaries-of_one : boundary_rows (power_length 1 0 1 1) (4 ∷ []) ≡ (1 ∷ 2 ∷ 3 ∷ []) ∷ []
-unfolding boundary_rows power_length index_of
+unfolding boundary_rows power_length window_index
 boundaries-of_one = refl
 
 readings : List (ℕ × ℤ)
@@ -71,12 +71,12 @@ windows-readings : windows (exp_length 2 1 1) readings ≡
     ∷ record { first = 5; summary = record { count = 2; sum = pos 11; min = pos 2; max = pos 9; t_first = 50; t_last = 60 } }
     ∷ record { first = 7; summary = record { count = 1; sum = pos 7; min = pos 7; max = pos 7; t_first = 70; t_last = 70 } }
     ∷ []
-unfolding index_of readings
+unfolding window_index readings
 windows-readings = refl
 
 -- the lengths 1, 2, 4, 8 cover 1, 3, 7 and 15 positions
 cover-rows : map (cover (exp_length 2 1 1)) (0 ∷ 1 ∷ 2 ∷ 3 ∷ 7 ∷ 8 ∷ []) ≡ 0 ∷ 1 ∷ 2 ∷ 2 ∷ 3 ∷ 4 ∷ []
-unfolding index_of
+unfolding window_index
 cover-rows = refl
 
 -- a window of two values, the first at a position
@@ -85,11 +85,11 @@ pair_from first = record { first = first; summary = record { count = 2; sum = po
 
 -- of three values the last lies in a target window of 1, and those before it in one of 2
 IsWithinTarget-older : IsWithinTarget (exp_length 2 1 1) 3 (pair_from 1)
-unfolding index_of pair_from
+unfolding window_index pair_from
 IsWithinTarget-older = lit≤ tt
 
 IsWithinTarget-newest : IsWithinTarget (exp_length 2 1 1) 3 (pair_from 2) → ⊥
-unfolding index_of pair_from
+unfolding window_index pair_from
 IsWithinTarget-newest within = omega (arith, within)
 
 -- the windows of those readings, where they end after some positions
@@ -98,15 +98,15 @@ ending bs = stretches 1 bs readings
 
 -- of the windows 1 to 2, 3 to 4, 5, 6 and 7 the first two are due at 7, and so are the next two
 closed-apart : closed (exp_length 2 1 1) 7 (ending (2 ∷ 4 ∷ 5 ∷ 6 ∷ [])) ≡ ending (4 ∷ 6 ∷ [])
-unfolding index_of ending readings
+unfolding window_index ending readings
 closed-apart = refl
 
 closed-older_joined : closed (exp_length 2 1 1) 7 (ending (4 ∷ 5 ∷ 6 ∷ [])) ≡ ending (4 ∷ 6 ∷ [])
-unfolding index_of ending readings
+unfolding window_index ending readings
 closed-older_joined = refl
 
 closed-newer_joined : closed (exp_length 2 1 1) 7 (ending (2 ∷ 4 ∷ 6 ∷ [])) ≡ ending (4 ∷ 6 ∷ [])
-unfolding index_of ending readings
+unfolding window_index ending readings
 closed-newer_joined = refl
 
 reading : ℕ → ℕ → ℤ → Window
@@ -123,7 +123,7 @@ pair = record { first = 5; summary = record { count = 2; sum = pos 11; min = pos
 
 -- they are joined in either order
 JoinsDue-newer_first : JoinsDue (exp_length 2 1 1) 7 (ending (2 ∷ 4 ∷ 5 ∷ 6 ∷ [])) (ending (4 ∷ 6 ∷ []))
-unfolding index_of ending readings reading older newer pair
+unfolding window_index ending readings reading older newer pair
 JoinsDue-newer_first = (
   2,
   (
@@ -157,9 +157,9 @@ JoinsDue-newer_first = (
 
 -- the same of a window as it is read
 IsReadWithinTarget-older : IsReadWithinTarget (exp_length 2 1 1) 3 (placed_of (pair_from 1))
-unfolding index_of pair_from
+unfolding window_index pair_from
 IsReadWithinTarget-older = lit≤ tt
 
 IsReadWithinTarget-newest : IsReadWithinTarget (exp_length 2 1 1) 3 (placed_of (pair_from 2)) → ⊥
-unfolding index_of pair_from
+unfolding window_index pair_from
 IsReadWithinTarget-newest within = omega (arith, within)

@@ -9,7 +9,7 @@ use Rattle.ss_catalog.specs.declared.params.Params.TheVariants.{Exp}
 use Rattle.ss_catalog.specs.declared.query.Kind.TheVariants as kinds
 use Rattle.ss_catalog.specs.declared.refusal.Refusal.TheVariants.{Unknown, Range}
 use Rattle.ss_catalog.specs.declared.series.Series.{Series}
-use Rattle.ss_windowing.specs.Windowing.{index_of}
+use Rattle.ss_windowing.specs.Windowing.{window_index}
 use Rattle.ss_model.specs.Answers.{HoldsTruth, IsExactOutcome, outcome_of, refuses_query, split_by}
 use Rattle.ss_model.specs.History.{marked_of, values_of}
 use Rattle.ss_model.specs.Series.{AnswersRow, refuses_series}
@@ -29,14 +29,14 @@ series name from to = record { name = name; kind = kinds.Sum; from = from; to = 
 -- the rows 10 to 34, 35 to 59 and 60 to 70, of which each splits a window
 answers-rows : map (λ row. outcome_of (state readings) (row_query (series (codes "a") 10 70) row)) (rows_of (series (codes "a") 10 70)) ≡
     Some (Sum (negsuc 4) (pos 16)) ∷ Some (Sum (negsuc 2) (pos 25)) ∷ Some (Sum (pos 9) (pos 16)) ∷ []
-unfolding outcome_of state index_of sum_interval readings numbers_from
+unfolding outcome_of state window_index sum_interval readings numbers_from
 answers-rows = refl
 
 -- the name is tested before the range
 refusals-readings : map (refuses_series (state readings))
     (series (codes "a") 10 70 ∷ series (codes "a") 5 5 ∷ series (codes "a") 5 4 ∷ series (codes "x") 5 4 ∷ series (codes "x") 4 5 ∷ [])
     ≡ None ∷ None ∷ Some Range ∷ Some Unknown ∷ Some Unknown ∷ []
-unfolding refuses_query state index_of readings
+unfolding refuses_query state window_index readings
 refusals-readings = refl
 
 -- what the answer to a row says

@@ -24,10 +24,10 @@ use Rattle.ss_windowing.specs.declared.decay.TheConstants.{MOST_VALUES}
 use Rattle.ss_model.specs.Closed.{closed, closed_onto, joined_window, last_position}
 use Rattle.ss_model.specs.History.{CanBeSaid}
 use Rattle.ss_model.specs.Marks.{has_open, with_closed, with_marked, with_opened}
-use Rattle.ss_model.specs.Refusals.{has_all_records, is_before, is_early, is_full, is_past, of_named, refuses}
+use Rattle.ss_model.specs.Refusals.{has_all_records, is_before, is_early, has_most_values, is_past, of_named, refuses}
 use Rattle.ss_model.specs.Standing.{IsStream, IsState}
 use Rattle.ss_model.specs.State.{Stream, next_number, numbers_of, names_of, stream_named, values_in, last_time, live, records_of}
-use Rattle.ss_model.specs.Steps.{change_named, single_window, stepped, with_taken, with_value}
+use Rattle.ss_model.specs.Steps.{change_named, single_window, stepped, with_taken, with_plain_value}
 use Rattle.ss_model.specs.declared.types.TheConstants.{MOST_RECORDS}
 use Rattle.ss_model.specs.declared.types.Window.{Window}
 use Rattle.ss_model.proofs.FoundLemmas.{IsFound, found, changed-found, stream_named-at, below_next, IsStrictlyIncreasing_push, IsDistinct_push, All-around}
@@ -104,7 +104,7 @@ IsState-create streams name params before can =
     }
 
 -- one more record at most
-records_of-value : (s : Stream) (t : ℕ) (v : ℤ) → records_of (with_value s t v) ≤ records_of s + 1
+records_of-value : (s : Stream) (t : ℕ) (v : ℤ) → records_of (with_plain_value s t v) ≤ records_of s + 1
 records_of-value s t v =
     let n = values_in s + 1 in
     omega (arith, length-closed_le (lengths_of s.params) n (s.windows ++ single_window n t v ∷ []), length_push s.windows (single_window n t v))
@@ -161,18 +161,18 @@ IsPossible-single t v early fits =
     IsPossible-summary_of ((t, v) ∷ []) (record { some = omega arith; few = omega arith; rising = (omega arith, early, fits, tt) })
 
 -- a value, which is the open landmark's, where one is open
-pub ChangesTo-value : (s : Stream) (t : ℕ) (v : ℤ) → IsStream s → is_early s t ≡ false → is_full s ≡ false → t ≤ LAST_TIME → FitsSigned w64 v →
+pub ChangesTo-value : (s : Stream) (t : ℕ) (v : ℤ) → IsStream s → is_early s t ≡ false → has_most_values s ≡ false → t ≤ LAST_TIME → FitsSigned w64 v →
     ChangesTo s (with_taken s t v) 1
 ChangesTo-value s t v sound later few early fits = elim (cases_Bool (has_open s.landmarks)) [
   | inl begun ↦
       (let u : Stream = record s { landmarks = with_marked s.landmarks t v } in
-      let is : with_taken s t v ≡ u = cond-true (has_open s.landmarks) u (with_value s t v) begun in
+      let is : with_taken s t v ≡ u = cond-true (has_open s.landmarks) u (with_plain_value s t v) begun in
       let records = records_of-marked s t v begun in
       subst (λ x. ChangesTo s x 1) (sym is)
       (record { number = refl; name = refl; sound = IsStream-marked s t v sound begun later early fits; few = omega (arith, records) }))
   | inr none ↦
       (let u : Stream = record s { landmarks = with_marked s.landmarks t v } in
-      let is : with_taken s t v ≡ with_value s t v = cond-false (has_open s.landmarks) u (with_value s t v) none in
+      let is : with_taken s t v ≡ with_plain_value s t v = cond-false (has_open s.landmarks) u (with_plain_value s t v) none in
       let room : nat_le MOST_VALUES (values_in s) ≡ false = rw none at few in
       let below : values_in s < MOST_VALUES = grind (arith, nat_tests) in
       subst (λ x. ChangesTo s x 1) (sym is)
@@ -210,7 +210,7 @@ IsState-value streams name t v was can early fits =
     let room = below-has_all_records streams can.records in
     IsState-change name streams at (λ s. with_taken s t v) 1 was
     (ChangesTo-value at.stream t v (IsStream-found at was) (sym (of_named-found at (λ s. is_early s t)) ∙ can.later)
-    (sym (of_named-found at is_full) ∙ can.few) early fits)
+    (sym (of_named-found at has_most_values) ∙ can.few) early fits)
     (omega (arith, room))
 
 IsState-open : (streams : List Stream) (name : List ℕ) (t : ℕ) → IsState streams → CanOpenAt streams name t → t ≤ LAST_TIME →

@@ -15,8 +15,9 @@ use Rattle.ss_target.specs.Lengths.{has_target, lengths_of}
 use Rattle.ss_model.specs.History.{Given, creates, given_after, given_to}
 use Rattle.ss_model.specs.Marks.{has_open, with_closed, with_opened}
 use Rattle.ss_model.specs.State.{Created, Stream, next_number, standing_after, standing, stream_after, state, last_time}
-use Rattle.ss_model.specs.Refusals.{stands, has_all_streams, has_all_records, is_before, is_early, is_full, is_past, first_that_applies, of_named, refuses}
-use Rattle.ss_model.specs.Steps.{change_named, with_taken, with_value, stepped}
+use Rattle.ss_model.specs.Refusals.{stands, has_all_streams, has_all_records, is_before, is_early, has_most_values, is_past, first_that_applies, of_named}
+use Rattle.ss_model.specs.Refusals.{refuses}
+use Rattle.ss_model.specs.Steps.{change_named, with_taken, with_plain_value, stepped}
 use Rattle.ss_model.specs.Windows.{windows}
 use Rattle.ss_model.proofs.EventLemmas.{given_to-created, given_to-event, given_to-other}
 use Rattle.ss_model.proofs.NameLemmas.{same_name-same, same_name-swap}
@@ -61,7 +62,7 @@ stream_given c given = record {
 }
 
 stream_given-plain : (c : Created) (given : Given) (t : ℕ) (v : ℤ) →
-    stream_given c (record given { plain = given.plain ++ (t, v) ∷ [] }) ≡ with_value (stream_given c given) t v
+    stream_given c (record given { plain = given.plain ++ (t, v) ∷ [] }) ≡ with_plain_value (stream_given c given) t v
 stream_given-plain c given t v =
     let len = lengths_of c.params in rw (windows_push len given.plain (t, v), taken-windows len given.plain) refl
 
@@ -138,7 +139,7 @@ pub record CanCreate (streams : List Stream) (name : List ℕ) (params : Params)
 pub record CanAppend (streams : List Stream) (name : List ℕ) (t : ℕ) : Type 0 where
   pub known : stands name streams ≡ true
   pub later : of_named name streams (λ s. is_early s t) ≡ false
-  pub few : of_named name streams is_full ≡ false
+  pub few : of_named name streams has_most_values ≡ false
   pub records : has_all_records streams ≡ false
 
 pub record CanOpenAt (streams : List Stream) (name : List ℕ) (t : ℕ) : Type 0 where
@@ -168,7 +169,7 @@ pub CanAppend-refuses : (streams : List Stream) (name : List ℕ) (t : ℕ) (v :
     refuses streams (Value name t v) ≡ None → CanAppend streams name t
 unfolding refuses
 CanAppend-refuses streams name t v none =
-    let passed = none-applies (stands name streams) (of_named name streams (λ s. is_early s t)) (of_named name streams is_full)
+    let passed = none-applies (stands name streams) (of_named name streams (λ s. is_early s t)) (of_named name streams has_most_values)
     (has_all_records streams) _ _ _ _ none in
     record { known = passed.0; later = passed.1; few = passed.2; records = passed.3 }
 

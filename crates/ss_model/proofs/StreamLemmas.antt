@@ -27,7 +27,7 @@ use Rattle.ss_model.specs.Marks.{has_open, lies_free, with_closed, with_marked, 
 use Rattle.ss_model.specs.Refusals.{is_before, is_early, is_opening, is_past}
 use Rattle.ss_model.specs.Standing.{IsStream}
 use Rattle.ss_model.specs.State.{Stream, last_time, records_of, values_in}
-use Rattle.ss_model.specs.Steps.{single_window, with_value}
+use Rattle.ss_model.specs.Steps.{single_window, with_plain_value}
 use Rattle.ss_model.specs.Windows.{newest_time}
 use Rattle.ss_model.specs.declared.types.Window.{Window}
 use Rattle.ss_model.proofs.JoinLemmas.{AreWindows-JoinsDue, JoinsDue-closed, lie_free-JoinsDue}
@@ -200,7 +200,7 @@ IsStream-joined len n s ws sound joins = record {
 
 -- and after those that are due are joined
 pub IsStream-value : (s : Stream) (t : ℕ) (v : ℤ) → IsStream s → has_open s.landmarks ≡ false → is_past (last_time s) t ≡ false →
-    values_in s < MOST_VALUES → IsPossible (summary_of ((t, v) ∷ [])) → IsStream (with_value s t v)
+    values_in s < MOST_VALUES → IsPossible (summary_of ((t, v) ∷ [])) → IsStream (with_plain_value s t v)
 IsStream-value s t v sound none past few possible =
     let len = lengths_of s.params in
     let n = values_in s + 1 in

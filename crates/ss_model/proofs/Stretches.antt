@@ -3,7 +3,7 @@ use Rattle.std.proofs.Common.{◌≡◌, ℕ, ◌+◌, ◌-◌, ◌<◌, ◌≤�
 use Rattle.std.proofs.lemmas.List.{take-append-le, drop-append-le, take-append-drop, take_at, drop_at}
 use Rattle.std.proofs.lemmas.List.Sums.{sum_by-cons}
 use Rattle.ss_summary.specs.Summaries.{summary_of}
-use Rattle.ss_summary.proofs.SummaryLemmas.{last_time-append}
+use Rattle.ss_summary.proofs.SummaryLemmas.{time_at_end-append}
 use Rattle.ss_model.specs.Boundaries.{boundaries}
 use Rattle.ss_model.specs.Windows.{stretches, windows, taken, newest_time, time_of_last}
 use Rattle.ss_model.specs.declared.types.Window.{Window}
@@ -47,7 +47,7 @@ taken-windows len (p ∷ ps) = taken-stretches 0 (length (p ∷ ps)) (boundaries
 time_of_last-append : (xs ys : List (ℕ × ℤ)) → 0 < length ys → time_of_last (xs ++ ys) ≡ time_of_last ys
 time_of_last-append xs [] some = absurd (omega arith)
 time_of_last-append [] (q ∷ qs) some = refl
-time_of_last-append (p ∷ ps) (q ∷ qs) some = ap Some (last_time-append p.0 ps q qs)
+time_of_last-append (p ∷ ps) (q ∷ qs) some = ap Some (time_at_end-append p.0 ps q qs)
 
 newest_time_behind : (w : Window) (first : ℕ) (bs : List ℕ) (values : List (ℕ × ℤ)) → 0 < length values →
     newest_time (w ∷ stretches first bs values) ≡ newest_time (stretches first bs values)

@@ -7,7 +7,7 @@ use Rattle.ss_catalog.specs.declared.query.Kind.TheVariants as kinds
 use Rattle.ss_catalog.specs.declared.query.Query.{Query}
 use Rattle.ss_catalog.specs.declared.refusal.Refusal.{Refusal}
 use Rattle.ss_catalog.specs.declared.refusal.Refusal.TheVariants.{Unknown, Range}
-use Rattle.ss_bounds.specs.Truth.{Holds}
+use Rattle.ss_bounds.specs.Truth.{HoldsExtreme}
 use Rattle.ss_landmarks.specs.Free.{is_free}
 use Rattle.ss_model.specs.Interval.{interval_of_count, interval_of_sum, interval_of_least, interval_of_greatest, is_split, IsExact}
 use Rattle.ss_model.specs.Marks.{marked_values}
@@ -53,8 +53,8 @@ HoldsTruth query plain marked (Count lo hi) =
     let truth = true_count query.from query.to plain marked in (lo ≤ truth) × (truth ≤ hi)
 HoldsTruth query plain marked (Sum lo hi) =
     let truth = true_sum query.from query.to plain marked in (lo ≤ℤ truth) × (truth ≤ℤ hi)
-HoldsTruth query plain marked (Min e) = Holds e (true_least query.from query.to plain marked)
-HoldsTruth query plain marked (Max e) = Holds e (true_greatest query.from query.to plain marked)
+HoldsTruth query plain marked (Min e) = HoldsExtreme e (true_least query.from query.to plain marked)
+HoldsTruth query plain marked (Max e) = HoldsExtreme e (true_greatest query.from query.to plain marked)
 
 -- an answer is to what was asked for
 abbrev pub IsOfKind : Kind → Outcome → Type 0

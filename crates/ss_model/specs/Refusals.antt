@@ -42,8 +42,8 @@ abbrev pub is_early : Stream → ℕ → Bool
 is_early s t = is_past (last_time s) t && not (is_opening s.landmarks t)
 
 -- whether a value would be one more outside landmarks than a stream can take
-abbrev pub is_full : Stream → Bool
-is_full s = not (has_open s.landmarks) && nat_le MOST_VALUES (values_in s)
+abbrev pub has_most_values : Stream → Bool
+has_most_values s = not (has_open s.landmarks) && nat_le MOST_VALUES (values_in s)
 
 -- whether the stream of a name stands and has this
 abbrev pub of_named : List ℕ → List Stream → (Stream → Bool) → Bool
@@ -63,7 +63,7 @@ refusals streams (Create name params) =
 refusals streams (Value name t v) =
     (not (stands name streams), refusal.Unknown)
     ∷ (of_named name streams (λ s. is_early s t), refusal.Time)
-    ∷ (of_named name streams is_full, refusal.StreamFull)
+    ∷ (of_named name streams has_most_values, refusal.StreamFull)
     ∷ (has_all_records streams, refusal.StoreFull) ∷ []
 refusals streams (Open name t) =
     (not (stands name streams), refusal.Unknown)

@@ -16,14 +16,14 @@ abbrev pub single_window : ℕ → ℕ → ℤ → Window
 single_window position t v = record { first = position; summary = summary_of ((t, v) ∷ []) }
 
 -- a stream with one more value outside landmarks: a window of its own after the others, and then those that are due are joined
-abbrev pub with_value : Stream → ℕ → ℤ → Stream
-with_value s t v =
+abbrev pub with_plain_value : Stream → ℕ → ℤ → Stream
+with_plain_value s t v =
     let n = values_in s + 1 in
     record s { windows = closed (lengths_of s.params) n (s.windows ++ single_window n t v ∷ []) }
 
 -- a stream with one more value, which is the open landmark's, where one is open
 abbrev pub with_taken : Stream → ℕ → ℤ → Stream
-with_taken s t v = if has_open s.landmarks then record s { landmarks = with_marked s.landmarks t v } else with_value s t v
+with_taken s t v = if has_open s.landmarks then record s { landmarks = with_marked s.landmarks t v } else with_plain_value s t v
 
 -- the streams, with that of a name changed
 abbrev pub change_named : List ℕ → (Stream → Stream) → List Stream → List Stream

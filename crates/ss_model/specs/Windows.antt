@@ -1,6 +1,6 @@
 -- The windows of a list of values, each a (time, value).
 use Rattle.std.specs.Prelude.{ℕ, ◌+◌, ◌-◌, ℤ, List, [], ◌∷◌, length, take, drop, sum_by, Option, Some, None}
-use Rattle.ss_summary.specs.Summaries.{summary_of, last_time}
+use Rattle.ss_summary.specs.Summaries.{summary_of, time_at_end}
 use Rattle.ss_model.specs.Boundaries.{boundaries}
 use Rattle.ss_model.specs.declared.types.Window.{Window}
 
@@ -29,4 +29,4 @@ newest_time (w ∷ v ∷ ws) = newest_time (v ∷ ws)
 -- the time of the newest of some values, where there is one
 abbrev pub time_of_last : List (ℕ × ℤ) → Option ℕ
 time_of_last [] = None
-time_of_last (p ∷ ps) = Some (last_time p.0 ps)
+time_of_last (p ∷ ps) = Some (time_at_end p.0 ps)

@@ -1,7 +1,7 @@
 // Laws on the answers to queries, each the contract of a function that does nothing.
 ghost use Rattle.std.specs.Prelude.{◌≡◌, ℕ, ◌≤◌, Bool, ℤ, ◌≤ℤ◌, List, [], All};
 ghost use Rattle.ss_catalog.specs.declared.event.Event.{Event};
-ghost use Rattle.ss_bounds.specs.Truth.{Holds};
+ghost use Rattle.ss_bounds.specs.Truth.{HoldsExtreme};
 ghost use Rattle.ss_landmarks.specs.Free.{is_free};
 ghost use Rattle.ss_model.specs.Interval.{interval_of_count, interval_of_greatest, interval_of_least, interval_of_sum, IsExact, split_windows};
 ghost use Rattle.ss_model.specs.History.{marked_of, values_of};
@@ -22,9 +22,9 @@ pub fn answers_hold_the_truth()
         let answer = interval_of_sum free from to (windows len plain) marked in
         let truth = true_sum from to plain marked in (answer.0 ≤ℤ truth) × (truth ≤ℤ answer.1) }
     ensures least { (len : ℕ → ℕ) (free : ℕ → Bool) (from to : ℕ) (plain marked : List (ℕ × ℤ)) → RiseAtFree free 0 plain →
-        Holds (interval_of_least free from to (windows len plain) marked) (true_least from to plain marked) }
+        HoldsExtreme (interval_of_least free from to (windows len plain) marked) (true_least from to plain marked) }
     ensures greatest { (len : ℕ → ℕ) (free : ℕ → Bool) (from to : ℕ) (plain marked : List (ℕ × ℤ)) → RiseAtFree free 0 plain →
-        Holds (interval_of_greatest free from to (windows len plain) marked) (true_greatest from to plain marked) }
+        HoldsExtreme (interval_of_greatest free from to (windows len plain) marked) (true_greatest from to plain marked) }
 {}
 
 /// The answers of each stream of a state hold the truth over all values of the stream, those outside landmarks and those of
@@ -39,10 +39,10 @@ pub fn answers_hold_the_truth_of_histories()
         let truth = true_sum from to (values_of history s.name) (marked_of history s.name) in
         (answer.0 ≤ℤ truth) × (truth ≤ℤ answer.1)) (state history) }
     ensures least { (history : List Event) (from to : ℕ) → IsHistory history →
-        All (λ s. Holds (interval_of_least (is_free s.landmarks) from to s.windows (marked_values s.landmarks))
+        All (λ s. HoldsExtreme (interval_of_least (is_free s.landmarks) from to s.windows (marked_values s.landmarks))
         (true_least from to (values_of history s.name) (marked_of history s.name))) (state history) }
     ensures greatest { (history : List Event) (from to : ℕ) → IsHistory history →
-        All (λ s. Holds (interval_of_greatest (is_free s.landmarks) from to s.windows (marked_values s.landmarks))
+        All (λ s. HoldsExtreme (interval_of_greatest (is_free s.landmarks) from to s.windows (marked_values s.landmarks))
         (true_greatest from to (values_of history s.name) (marked_of history s.name))) (state history) }
 {}
 

@@ -47,7 +47,8 @@ module _ (old new : MemDiskState) where
         inr (refl, subst (λ (s : MemDiskState). StaysSame (told_by old) (told_by s)) (sym short.1) (reads-none (told_by old)).same)
 
     pub time_written : (result : Result (Unit {0}) Failed) → OnOk result (new ≡ with_change (answered old) (Wrote at bytes))
-        → OnErr result ((IsListed old × (new ≡ with_change (failed old) (Tore at (length bytes)))) ⊎ (¬ Suffices old (length bytes) × (new ≡ starved old))) → Elapses (told_by old) (told_by new)
+        → OnErr result ((IsListed old × (new ≡ with_change (failed old) (Tore at (length bytes)))) ⊎ (¬ Suffices old (length bytes) × (new ≡ starved old)))
+        → Elapses (told_by old) (told_by new)
     time_written (Ok done) is none = subst (λ (s : MemDiskState). Elapses (told_by old) (told_by s)) (sym is) (time_push old (Wrote at bytes))
     time_written (Err e) none (inl tore) = subst (λ (s : MemDiskState). Elapses (told_by old) (told_by s)) (sym tore.1) (time_push old (Tore at (length bytes)))
     time_written (Err e) none (inr short) = subst (λ (s : MemDiskState). Elapses (told_by old) (told_by s)) (sym short.1) (reads-none (told_by old)).time
@@ -84,7 +85,8 @@ module _ (old new : MemDiskState) where
   no_other_synced (Ok done) is image left = inl (only_content is image left)
   no_other_synced (Err e) is image left = subst (λ (s : DiskState). Leaves s image) is left
 
-  pub same_synced : (result : Result (Unit {0}) Failed) → OnErr result ((IsListed old × (new ≡ failed old)) ⊎ (¬ IsListed old × ¬ Suffices old 0 × (new ≡ starved old)))
+  pub same_synced : (result : Result (Unit {0}) Failed)
+      → OnErr result ((IsListed old × (new ≡ failed old)) ⊎ (¬ IsListed old × ¬ Suffices old 0 × (new ≡ starved old)))
       → OnErr result (StaysSame (told_by old) (told_by new))
   same_synced (Ok done) none = tt
   same_synced (Err e) (inl listed) = subst (λ (s : MemDiskState). StaysSame (told_by old) (told_by s)) (sym listed.1) (reads-none (told_by old)).same

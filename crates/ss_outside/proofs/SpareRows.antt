@@ -1,7 +1,7 @@
 -- Rows that pin what memory taken ahead is enough for, and what a call uses of it.
 use Rattle.std.proofs.Common.{◌≡◌, ◌+◌, ◌^◌, [], ◌∷◌, ℕ, refl, lit≤, arith}
 use Rattle.ss_outside.specs.Memory.{CanBeSpare, IsBeyond, SinkState, SourceState, SteadySinkState, advanced, crowded, moved, roomy}
-use Rattle.ss_outside.specs.Memory.{steady_crowded, steady_roomy, steady_taken, taken, unmoved, untaken}
+use Rattle.ss_outside.specs.Memory.{steady_crowded, steady_roomy, steady_taken, sink_taken, unmoved, untaken}
 use Rattle.ss_outside.specs.MemDisk.{MemDiskState, Suffices, Synced, Tore, Wrote, answered, failed, made, reserved, starved, with_change}
 use Rattle.ss_outside.specs.declared.spare.TheConstants.{MOST_SPARE}
 
@@ -74,8 +74,8 @@ reserved-bytes = refl
 abbrev sink : ℕ → SinkState
 sink spare = record { held = 1 ∷ []; spare = spare; failing = []; calls = 4; faults = 2; short = 1 }
 
-taken-two : taken (sink 3) (7 ∷ 8 ∷ []) ≡ record { held = 1 ∷ 7 ∷ 8 ∷ []; spare = 1; failing = []; calls = 5; faults = 2; short = 1 }
-taken-two = refl
+sink_taken-two : sink_taken (sink 3) (7 ∷ 8 ∷ []) ≡ record { held = 1 ∷ 7 ∷ 8 ∷ []; spare = 1; failing = []; calls = 5; faults = 2; short = 1 }
+sink_taken-two = refl
 
 untaken-one : untaken (sink 3) ≡ record { held = 1 ∷ []; spare = 3; failing = []; calls = 5; faults = 3; short = 1 }
 untaken-one = refl

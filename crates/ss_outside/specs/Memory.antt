@@ -56,8 +56,8 @@ advanced s count = record s { left = drop count s.left }
 
 -- a sink after a put that took these bytes, after one that failed, after one that found no memory, and with so many spare
 -- bytes at least
-abbrev pub taken : SinkState → List ℕ → SinkState
-taken s piece = record s { held = s.held ++ piece; spare = s.spare - length piece; calls = one_more s.calls }
+abbrev pub sink_taken : SinkState → List ℕ → SinkState
+sink_taken s piece = record s { held = s.held ++ piece; spare = s.spare - length piece; calls = one_more s.calls }
 
 abbrev pub untaken : SinkState → SinkState
 untaken s = record s { calls = one_more s.calls; faults = one_more s.faults }

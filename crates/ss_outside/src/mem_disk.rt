@@ -130,7 +130,7 @@ impl MemDisk {
     }
 
     /// Takes memory ahead for so many more calls and bytes at least. `len` and `read_at` use none of it, a write uses one
-    /// call and as many bytes as it is given, and a sync or a failed write one call.
+    /// call and as many bytes as it is given, and a sync or a listed write one call. A listed sync uses none.
     pub fn reserve(&mut self, calls: u64, bytes: u64) -> Result<(), AllocError>
         requires calls { CanBeSpare calls }
         requires bytes { CanBeSpare bytes }

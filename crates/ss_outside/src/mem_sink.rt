@@ -81,7 +81,7 @@ impl Sink for MemSink {
     ghost use Rattle.std.specs.Prelude.{◌≡◌, ◌⊎◌, ◌<◌, ◌≤◌, length, Some, Contains, IsErr, IfOk, OnOk, OnErr};
     ghost use Rattle.ss_outside.specs.Verdict.{HasCause};
     ghost use Rattle.ss_outside.specs.Sink.{Appends};
-    ghost use Rattle.ss_outside.specs.Memory.{IsBeyond, crowded, taken, untaken};
+    ghost use Rattle.ss_outside.specs.Memory.{IsBeyond, crowded, sink_taken, untaken};
 
     ghost held = { λ s. Some s.held };
 
@@ -96,7 +96,7 @@ impl Sink for MemSink {
         ensures cause { HasCause self.old.faults self.new.faults result }
         ensures whole { IfOk result (λ k. k ≡ length piece.now) }
         ensures listed { Contains self.old.failing self.old.calls → IsErr result }
-        ensures taken { OnOk result (self.new ≡ taken self.old piece.now) }
+        ensures taken { OnOk result (self.new ≡ sink_taken self.old piece.now) }
         ensures failed { OnErr result ((Contains self.old.failing self.old.calls × (self.new ≡ untaken self.old))
             ⊎ (¬ Contains self.old.failing self.old.calls × IsBeyond self.old.spare piece.now × (self.new ≡ crowded self.old))) }
     {

@@ -7,10 +7,10 @@ use Rattle.std.proofs.lemmas.Bool.{cases_lt}
 use Rattle.std.proofs.lemmas.Nat.{pow-add}
 use Rattle.ss_windowing.specs.FirstFit.{FindsOfLength, NoneOfLength}
 use Rattle.ss_windowing.specs.Groups.{grouped}
-use Rattle.ss_windowing.specs.Windowing.{cut, Holds, index_of, ArePositive}
+use Rattle.ss_windowing.specs.Windowing.{cut, Holds, window_index, ArePositive}
 use Rattle.ss_windowing.specs.declared.decay.Spot.{Spot}
 use Rattle.ss_windowing.specs.declared.decay.TheConstants.{MOST_VALUES}
-use Rattle.ss_windowing.proofs.WindowingLemmas.{cut-monotone, holds-index_of, index_le_cut}
+use Rattle.ss_windowing.proofs.WindowingLemmas.{cut-monotone, holds-window_index, index_le_cut}
 use Rattle.ss_windowing.proofs.GroupLemmas as Groups
 use Rattle.ss_windowing.proofs.GroupLemmas.{InGroup, cut-groups}
 use Rattle.ss_power.specs.Power.{group_size, group_length, power_length, IsPower}
@@ -127,8 +127,8 @@ module _ {p q r s : ℕ} (h : IsPower p q r s) where
     short-before : (j : ℕ) → j < cut (group_size p r) g → power_length p q r s j < wanted
     unfolding power_length
     short-before j inside =
-        let newer = index_of (group_size p r) j in
-        let here = holds-index_of (group_size p r) j sizes in
+        let newer = window_index (group_size p r) j in
+        let here = holds-window_index (group_size p r) j sizes in
         let below : newer < g = elim (cases_lt newer g) [
           | inl before ↦ before
           | inr after ↦ absurd (omega (arith, here.start, cut-monotone (group_size p r) g newer after))

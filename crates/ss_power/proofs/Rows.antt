@@ -1,6 +1,6 @@
 -- Worked rows, each computed.
 use Rattle.std.proofs.Common.{◌≡◌, ◌^◌, ℕ, false, true, Bool, [], ◌∷◌, List, map, refl}
-use Rattle.ss_windowing.specs.Windowing.{cut, fits, index_of}
+use Rattle.ss_windowing.specs.Windowing.{cut, fits, window_index}
 use Rattle.ss_power.specs.Power.{group_size, group_length, power_length}
 use Rattle.ss_power.specs.PowerSum.{cap, power_sum}
 use Rattle.ss_power.specs.declared.power.TheConstants.{LEAST_POWER, GREATEST_POWER, GREATEST_WIDENING, MOST_TICKS}
@@ -23,27 +23,27 @@ starts : (ℕ → ℕ) → List ℕ
 starts len = map (cut len) (0 ∷ 1 ∷ 2 ∷ 3 ∷ 4 ∷ 5 ∷ [])
 
 lengths-1-1-1-1 : lengths (power_length 1 1 1 1) ≡ 1 ∷ 2 ∷ 3 ∷ 4 ∷ 5 ∷ []
-unfolding lengths power_length index_of
+unfolding lengths power_length window_index
 lengths-1-1-1-1 = refl
 
 starts-1-1-1-1 : starts (power_length 1 1 1 1) ≡ 0 ∷ 1 ∷ 3 ∷ 6 ∷ 10 ∷ 15 ∷ []
-unfolding starts power_length index_of
+unfolding starts power_length window_index
 starts-1-1-1-1 = refl
 
 lengths-2-1-1-1 : lengths (power_length 2 1 1 1) ≡ 1 ∷ 2 ∷ 2 ∷ 3 ∷ 3 ∷ []
-unfolding lengths power_length index_of
+unfolding lengths power_length window_index
 lengths-2-1-1-1 = refl
 
 starts-2-1-1-1 : starts (power_length 2 1 1 1) ≡ 0 ∷ 1 ∷ 3 ∷ 5 ∷ 8 ∷ 11 ∷ []
-unfolding starts power_length index_of
+unfolding starts power_length window_index
 starts-2-1-1-1 = refl
 
 lengths-1-0-1-2 : lengths (power_length 1 0 1 2) ≡ 2 ∷ 2 ∷ 2 ∷ 2 ∷ 2 ∷ []
-unfolding lengths power_length index_of
+unfolding lengths power_length window_index
 lengths-1-0-1-2 = refl
 
 starts-1-0-1-2 : starts (power_length 1 0 1 2) ≡ 0 ∷ 2 ∷ 4 ∷ 6 ∷ 8 ∷ 10 ∷ []
-unfolding starts power_length index_of
+unfolding starts power_length window_index
 starts-1-0-1-2 = refl
 
 -- the groups of the target with the greatest parameters
@@ -74,13 +74,13 @@ fit_at len l r = map (fits len l r)
 
 -- the first fit of 1..2 seen at 2 is 3, that of 1..4 seen at 5 is 10, and four positions never fit into two
 fit-1-2 : fit_at (power_length 1 1 1 1) 1 2 (2 ∷ 3 ∷ []) ≡ false ∷ true ∷ []
-unfolding fit_at power_length index_of
+unfolding fit_at power_length window_index
 fit-1-2 = refl
 
 fit-1-4 : fit_at (power_length 1 1 1 1) 1 4 (5 ∷ 6 ∷ 7 ∷ 8 ∷ 9 ∷ 10 ∷ []) ≡ false ∷ false ∷ false ∷ false ∷ false ∷ true ∷ []
-unfolding fit_at power_length index_of
+unfolding fit_at power_length window_index
 fit-1-4 = refl
 
 fit-never : fit_at (power_length 1 0 1 2) 1 4 (4 ∷ 5 ∷ 6 ∷ 7 ∷ 8 ∷ []) ≡ false ∷ false ∷ false ∷ false ∷ false ∷ []
-unfolding fit_at power_length index_of
+unfolding fit_at power_length window_index
 fit-never = refl

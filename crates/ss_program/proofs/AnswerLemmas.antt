@@ -60,7 +60,7 @@ use Rattle.std.specs.Fmt.{decimal, signed_decimal}
 use Rattle.ss_catalog.specs.Refusal.{refusal_name}
 use Rattle.ss_command.specs.Printed.{spaced, target_words}
 use Rattle.ss_command.specs.declared.TheConstants.{LINE_END}
-use Rattle.ss_report.specs.Text.{answer_kind, answer_words, line_of, reply_line, run_words}
+use Rattle.ss_report.specs.Text.{answer_kind, answer_words, spaced_line, reply_line, run_words}
 use Rattle.ss_report.specs.declared.reply.Reply.{Reply}
 use Rattle.ss_report.specs.declared.reply.Reply.TheVariants.{
   Done as AckLine,
@@ -97,7 +97,7 @@ use Rattle.ss_program.specs.Line.{
   Brought,
   History,
   accepted_event,
-  answered,
+  answer_replies,
   brings,
   command_brings,
   history_after,
@@ -105,7 +105,7 @@ use Rattle.ss_program.specs.Line.{
   line_text,
   meaning_brings,
   refused,
-  shown,
+  only_replies,
   text_brought,
   the_event,
   unless_refused,
@@ -154,7 +154,7 @@ pub IsSome-accepted : (history : History) (event : Event) → refuses (state his
 IsSome-accepted history event is = subst (λ b. IsSome b.event) (sym (brings-accepted history event is)) refl
 
 -- a command that only reads brings no event
-unless_refused-event : (refusal : Option Refusal) (rows : List Reply) → (unless_refused refusal (shown rows)).event ≡ None
+unless_refused-event : (refusal : Option Refusal) (rows : List Reply) → (unless_refused refusal (only_replies rows)).event ≡ None
 unless_refused-event None rows = refl
 unless_refused-event (Some r) rows = refl
 
@@ -173,13 +173,13 @@ series-event history series = unless_refused-event (refuses_series (state histor
 -- a query that is refused brings its refusal
 pub brings-unanswered : (history : History) (query : Query) (refusal : Refusal) → refuses_query (state history) query ≡ Some refusal →
     command_brings history (Ask query) ≡ refused refusal
-brings-unanswered history query refusal is = ap (λ r. unless_refused r (shown (answered (outcome_of (state history) query)))) is
+brings-unanswered history query refusal is = ap (λ r. unless_refused r (only_replies (answer_replies (outcome_of (state history) query)))) is
 
 -- and one that isn't brings the answer
-pub brings-answered : (history : History) (query : Query) (outcome : Outcome) → refuses_query (state history) query ≡ None →
-    outcome_of (state history) query ≡ Some outcome → command_brings history (Ask query) ≡ shown (Answered outcome ∷ [])
-brings-answered history query outcome none is =
-    ap (λ r. unless_refused r (shown (answered (outcome_of (state history) query)))) none ∙ ap (λ o. shown (answered o)) is
+pub brings-answer_replies : (history : History) (query : Query) (outcome : Outcome) → refuses_query (state history) query ≡ None →
+    outcome_of (state history) query ≡ Some outcome → command_brings history (Ask query) ≡ only_replies (Answered outcome ∷ [])
+brings-answer_replies history query outcome none is =
+    ap (λ r. unless_refused r (only_replies (answer_replies (outcome_of (state history) query)))) none ∙ ap (λ o. only_replies (answer_replies o)) is
 
 -- what is refused by what the store holds
 pub refuses_query-kept : (store : StoreState) (image : List ℕ) (history : History) (query : Query) → StoreIsIn store image →
@@ -188,9 +188,9 @@ refuses_query-kept store image history query kept stands =
     sym (refuses_query_held-is store.streams (state history) query (AllAgree-recovered store image (state history) kept stands.state).0)
 
 -- where nothing is staged the content is what is shown, and what a store holds is in it
-pub Stands-shown : (records : RecordsState) (content : List ℕ) (history : History) → IsSealed records.journal → Stands history content →
+pub Stands-only_replies : (records : RecordsState) (content : List ℕ) (history : History) → IsSealed records.journal → Stands history content →
     Stands history (shown_by records content)
-Stands-shown records content history sealed stands = subst (Stands history) (sym (shown-sealed records.journal content sealed)) stands
+Stands-only_replies records content history sealed stands = subst (Stands history) (sym (shown-sealed records.journal content sealed)) stands
 
 pub StoreIsIn-sealed : (store : StoreState) (content : List ℕ) → IsSealed store.records.journal → StoreIsKept store content → StoreIsIn store content
 StoreIsIn-sealed store content sealed kept = subst (StoreIsIn store) (shown-sealed store.records.journal content sealed) kept.shown
@@ -212,7 +212,7 @@ unfolding refuses_reading
 brings-unknown history name none = rw none refl
 
 pub brings-windows : (history : History) (name : List ℕ) (s : Stream) → stream_named name (state history) ≡ Some s →
-    command_brings history (Windows name) ≡ shown (WindowsHead (length s.windows) ∷ window_rows s)
+    command_brings history (Windows name) ≡ only_replies (WindowsHead (length s.windows) ∷ window_rows s)
 unfolding refuses_reading
 brings-windows history name s is = rw is refl
 
@@ -276,26 +276,26 @@ IsStop-apply tells SinkFault stop = absurd stop
 IsStop-apply tells InputLimit stop = absurd stop
 
 -- a line of words isn't empty
-line_of-some : (first : List ℕ) (rest : List (List ℕ)) → 0 < length (line_of first rest)
-line_of-some first rest = omega (arith, length-append (spaced first rest) (LINE_END ∷ []))
+spaced_line-some : (first : List ℕ) (rest : List (List ℕ)) → 0 < length (spaced_line first rest)
+spaced_line-some first rest = omega (arith, length-append (spaced first rest) (LINE_END ∷ []))
 
 pub reply_line-some : (reply : Reply) → 0 < length (reply_line reply)
-reply_line-some (AckLine ack) = line_of-some (codes "ok") (decimal ack.n ∷ decimal ack.k ∷ [])
-reply_line-some (Answered outcome) = line_of-some (answer_kind outcome) (answer_words outcome)
-reply_line-some (Refused refusal) = line_of-some (codes "refused") (refusal_name refusal ∷ [])
-reply_line-some (SeriesHead count) = line_of-some (codes "series") (decimal count ∷ [])
-reply_line-some (Row at outcome) = line_of-some (decimal at) (answer_words outcome)
-reply_line-some (WindowsHead count) = line_of-some (codes "windows") (decimal count ∷ [])
-reply_line-some (Window w) = line_of-some (decimal w.first)
+reply_line-some (AckLine ack) = spaced_line-some (codes "ok") (decimal ack.n ∷ decimal ack.k ∷ [])
+reply_line-some (Answered outcome) = spaced_line-some (answer_kind outcome) (answer_words outcome)
+reply_line-some (Refused refusal) = spaced_line-some (codes "refused") (refusal_name refusal ∷ [])
+reply_line-some (SeriesHead count) = spaced_line-some (codes "series") (decimal count ∷ [])
+reply_line-some (Row at outcome) = spaced_line-some (decimal at) (answer_words outcome)
+reply_line-some (WindowsHead count) = spaced_line-some (codes "windows") (decimal count ∷ [])
+reply_line-some (Window w) = spaced_line-some (decimal w.first)
     (decimal w.last ∷ decimal w.summary.count ∷ signed_decimal w.summary.sum ∷ signed_decimal w.summary.min ∷ signed_decimal w.summary.max ∷ decimal
     w.summary.t_first ∷ decimal w.summary.t_last ∷ [])
-reply_line-some (ListHead count) = line_of-some (codes "list") (decimal count ∷ [])
+reply_line-some (ListHead count) = spaced_line-some (codes "list") (decimal count ∷ [])
 reply_line-some (CertifyHead answer base count) =
-    line_of-some (codes "certify") (signed_decimal answer ∷ signed_decimal base ∷ decimal count ∷ [])
+    spaced_line-some (codes "certify") (signed_decimal answer ∷ signed_decimal base ∷ decimal count ∷ [])
 reply_line-some (Side side) =
-    line_of-some (if side.inner then codes "inside" else codes "outside")
+    spaced_line-some (if side.inner then codes "inside" else codes "outside")
     (decimal side.first ∷ decimal side.last ∷ decimal side.values ∷ run_words side.runs)
-reply_line-some (StreamRow row) = line_of-some row.name (target_words row.params ++ decimal row.n ∷ decimal row.k ∷ decimal row.landmarks ∷ decimal
+reply_line-some (StreamRow row) = spaced_line-some row.name (target_words row.params ++ decimal row.n ∷ decimal row.k ∷ decimal row.landmarks ∷ decimal
     row.values ∷ [])
 
 -- one reply was sent, or less than it
@@ -307,18 +307,18 @@ Replies-sent brought before after reply (Err e) one sends =
     subst (λ bs. AppendsLess before after bs) (sym (append-nil (reply_line reply)) ∙ ap (λ rs. flat_map reply_line rs) (sym one)) sends
 
 -- what a command shows was sent, or less than it
-pub Replies-shown : (tells : Bool) (brought : Brought) (before after : Option (List ℕ)) (sent : Result Unit Status) → IfErr sent (IsShowStop tells) →
+pub Replies-only_replies : (tells : Bool) (brought : Brought) (before after : Option (List ℕ)) (sent : Result Unit Status) → IfErr sent (IsShowStop tells) →
     Sends before after (text_brought brought) sent → Replies brought before after sent
-Replies-shown tells brought before after (Ok u) stop sends = sends
-Replies-shown tells brought before after (Err SinkFault) stop sends = sends
-Replies-shown tells brought before after (Err DiskFault) stop sends = sends
-Replies-shown tells brought before after (Err RecordChanged) stop sends = sends
-Replies-shown tells brought before after (Err Done) stop sends = absurd stop
-Replies-shown tells brought before after (Err Usage) stop sends = absurd stop
-Replies-shown tells brought before after (Err RefusedStore) stop sends = absurd stop
-Replies-shown tells brought before after (Err SourceFault) stop sends = absurd stop
-Replies-shown tells brought before after (Err OutOfMemory) stop sends = absurd stop
-Replies-shown tells brought before after (Err InputLimit) stop sends = absurd stop
+Replies-only_replies tells brought before after (Ok u) stop sends = sends
+Replies-only_replies tells brought before after (Err SinkFault) stop sends = sends
+Replies-only_replies tells brought before after (Err DiskFault) stop sends = sends
+Replies-only_replies tells brought before after (Err RecordChanged) stop sends = sends
+Replies-only_replies tells brought before after (Err Done) stop sends = absurd stop
+Replies-only_replies tells brought before after (Err Usage) stop sends = absurd stop
+Replies-only_replies tells brought before after (Err RefusedStore) stop sends = absurd stop
+Replies-only_replies tells brought before after (Err SourceFault) stop sends = absurd stop
+Replies-only_replies tells brought before after (Err OutOfMemory) stop sends = absurd stop
+Replies-only_replies tells brought before after (Err InputLimit) stop sends = absurd stop
 
 -- no reply was sent to an event at which the store stopped the run
 pub Replies-stopped : (tells : Bool) (brought : Brought) (held : Option (List ℕ)) (status : Status) → IsApplyStop tells status → IsSome brought.event →
@@ -342,11 +342,11 @@ event-some history event None some =
 event-some history event (Some r) some = cc
 
 -- and so has a query
-one_reply-some : (reply : Reply) → 0 < length (text_brought (shown (reply ∷ [])))
+one_reply-some : (reply : Reply) → 0 < length (text_brought (only_replies (reply ∷ [])))
 one_reply-some reply = omega (arith, reply_line-some reply, length-append (reply_line reply) [])
 
 answer-some : (refusal : Option Refusal) (outcome : Option Outcome) → (refusal ≡ None → IsSome outcome) →
-    0 < length (text_brought (unless_refused refusal (shown (answered outcome))))
+    0 < length (text_brought (unless_refused refusal (only_replies (answer_replies outcome))))
 answer-some None None known = let wrong = known refl in cc
 answer-some None (Some outcome) known = one_reply-some (Answered outcome)
 answer-some (Some refusal) outcome known = one_reply-some (Refused refusal)

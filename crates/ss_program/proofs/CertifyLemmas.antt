@@ -11,10 +11,10 @@ use Rattle.ss_catalog.specs.declared.query.Query.{Query}
 use Rattle.ss_catalog.specs.declared.refusal.Refusal.{Refusal}
 use Rattle.ss_certify.proofs.MadeLemmas.{IsEvidence-evidence_of}
 use Rattle.ss_certify.proofs.SharpLemmas.{All-named, HasCuts-seen_of}
-use Rattle.ss_certify.specs.Called.{Checks, evidence_in}
+use Rattle.ss_certify.specs.Called.{ChecksEvidence, evidence_in}
 use Rattle.ss_certify.specs.Evidence.{IsEvidence}
 use Rattle.ss_certify.specs.Made.{evidence_of}
-use Rattle.ss_certify.specs.Told.{head_of, padded, side_of, told}
+use Rattle.ss_certify.specs.Told.{head_of, three_runs, side_of, told}
 use Rattle.ss_certify.specs.declared.evidence.Cert.{Cert}
 use Rattle.ss_certify.specs.declared.evidence.Evidence.{Evidence}
 use Rattle.ss_command.specs.declared.command.Command.TheVariants.{Certify}
@@ -36,7 +36,7 @@ use Rattle.ss_store.specs.Recover.{Recovers}
 use Rattle.ss_store.proofs.KeptStates.{Recovers-StoreIsIn}
 use Rattle.ss_program.specs.Answer.{IsOpen}
 use Rattle.ss_program.specs.Certifying.{HasEvidence}
-use Rattle.ss_program.specs.Line.{Brought, History, certified, command_brings, refused, shown, text_brought, unless_refused}
+use Rattle.ss_program.specs.Line.{Brought, History, certified, command_brings, refused, only_replies, text_brought, unless_refused}
 use Rattle.ss_program.proofs.AnswerLemmas.{StoreIsIn-open, reply_line-some}
 
 -- ---- the evidence that a state has
@@ -80,20 +80,20 @@ evidence-right streams query end w is adds has =
     )
 
 -- where nothing is staged the content is what is shown
-pub Recovers-shown : (records : RecordsState) (content : List ℕ) (streams : List Stream) → IsSealed records.journal → Recovers streams content →
+pub Recovers-only_replies : (records : RecordsState) (content : List ℕ) (streams : List Stream) → IsSealed records.journal → Recovers streams content →
     Recovers streams (shown_by records content)
-Recovers-shown records content streams sealed recovers = subst (Recovers streams) (sym (shown-sealed records.journal content sealed)) recovers
+Recovers-only_replies records content streams sealed recovers = subst (Recovers streams) (sym (shown-sealed records.journal content sealed)) recovers
 
 -- so what a store makes isn't found wrong, on a disk that tells
 pub never-wrong : (store : StoreState) (disk : DiskView) (query : Query) (end : End) (w : Evidence) (new : Told) → IsOpen disk store →
     adds_up query.kind ≡ true → OfContent disk (HasEvidence query end w) →
-    (IsTrue disk.tells → Checks store.records query end w (Ok false) disk.told new) → IsTrue disk.tells → ⊥
+    (IsTrue disk.tells → ChecksEvidence store.records query end w (Ok false) disk.told new) → IsTrue disk.tells → ⊥
 never-wrong store disk query end w new opens adds made checks told =
     let content = disk.told.content in
     let kept = StoreIsIn-open disk store opens told in
     let recovers = Recovers-StoreIsIn store content kept in
     let right = evidence-right kept.streams query end w kept.state adds (made told kept.streams recovers) in
-    let checked = (checks told).checked kept.streams (Recovers-shown store.records content kept.streams opens.sealed recovers) in
+    let checked = (checks told).checked kept.streams (Recovers-only_replies store.records content kept.streams opens.sealed recovers) in
     let found : IsTrue false ↔ IsEvidence query.kind end (seen_of query.from query.to right.0) w = rw right.1 at checked in
     let wrong : false ≡ true = found.1 right.3 in
     cc
@@ -104,13 +104,13 @@ never-wrong store disk query end w new opens adds made checks told =
 pub brings-refused_certify : (history : History) (query : Query) (end : End) (refusal : Refusal) → refuses_query (state history) query ≡ Some refusal →
     command_brings history (Certify query end) ≡ refused refusal
 brings-refused_certify history query end refusal is =
-    ap (λ r. unless_refused r (shown (certified (evidence_in (state history) query end)))) is
+    ap (λ r. unless_refused r (only_replies (certified (evidence_in (state history) query end)))) is
 
 -- and one that isn't brings the lines of its evidence
 pub brings-certified : (history : History) (query : Query) (end : End) (w : Evidence) → refuses_query (state history) query ≡ None →
-    evidence_in (state history) query end ≡ Some w → command_brings history (Certify query end) ≡ shown (told w)
+    evidence_in (state history) query end ≡ Some w → command_brings history (Certify query end) ≡ only_replies (told w)
 brings-certified history query end w none is =
-    ap (λ r. unless_refused r (shown (certified (evidence_in (state history) query end)))) none ∙ ap (λ o. shown (certified o)) is
+    ap (λ r. unless_refused r (only_replies (certified (evidence_in (state history) query end)))) none ∙ ap (λ o. only_replies (certified o)) is
 
 -- so it brings a reply
 head-some : (head : Reply) (rows : List Reply) → 0 < length (flat_map reply_line (head ∷ rows))
@@ -126,9 +126,9 @@ certified-some history query end none =
 -- ---- its lines
 
 -- three runs, one by one
-pub three-padded : (runs : List Run) (none : Run) → none ≡ record { value = pos 0; times = 0 } →
-    get_or runs 0 none ∷ get_or runs 1 none ∷ get_or runs 2 none ∷ [] ≡ padded runs
-three-padded [] none is = rw is refl
-three-padded (a ∷ []) none is = rw is refl
-three-padded (a ∷ b ∷ []) none is = rw is refl
-three-padded (a ∷ b ∷ c ∷ rest) none is = refl
+pub three-three_runs : (runs : List Run) (none : Run) → none ≡ record { value = pos 0; times = 0 } →
+    get_or runs 0 none ∷ get_or runs 1 none ∷ get_or runs 2 none ∷ [] ≡ three_runs runs
+three-three_runs [] none is = rw is refl
+three-three_runs (a ∷ []) none is = rw is refl
+three-three_runs (a ∷ b ∷ []) none is = rw is refl
+three-three_runs (a ∷ b ∷ c ∷ rest) none is = refl

@@ -26,7 +26,7 @@ use Rattle.ss_outside.specs.Crash.{OnlyReads}
 use Rattle.ss_outside.specs.Disk.{Told}
 use Rattle.ss_query.specs.Asked.{seen_of}
 use Rattle.ss_store.specs.Recover.{Recovers}
-use Rattle.ss_windowing.specs.Windowing.{index_of}
+use Rattle.ss_windowing.specs.Windowing.{window_index}
 use Rattle.ss_program.specs.Certifying.{FindsEvidence, IsSharp}
 use Rattle.ss_program.specs.Line.{History}
 use Rattle.ss_program.specs.Session.{accepted, report}
@@ -54,13 +54,13 @@ report-certifies : report readings certifies
     ∷ codes "certify 4 4 0"
     ∷ codes "certify 3 0 1" ∷ codes "inside 1 4 3 -3*1 -2*1 8*1" ∷ codes "outside 1 4 1 8*1"
     ∷ codes "refused UNKNOWN" ∷ codes "refused RANGE" ∷ codes "refused SYNTAX" ∷ codes "refused NUMBER" ∷ codes "refused NAME" ∷ [])
-unfolding ended_lines unended meaning words is_number number_of number_up_to signed_of is_name state refuses_query outcome_of sum_interval index_of digits
+unfolding ended_lines unended meaning words is_number number_of number_up_to signed_of is_name state refuses_query outcome_of sum_interval window_index digits
     least_sum_at greatest_sum_at fill
 report-certifies = refl
 
 -- they add no event
 accepted-certifies : accepted readings (lines certifies) ≡ []
-unfolding ended_lines unended meaning words is_number number_of number_up_to signed_of is_name state refuses_query outcome_of sum_interval index_of
+unfolding ended_lines unended meaning words is_number number_of number_up_to signed_of is_name state refuses_query outcome_of sum_interval window_index
     least_sum_at greatest_sum_at fill
 accepted-certifies = refl
 

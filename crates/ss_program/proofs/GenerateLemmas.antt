@@ -47,7 +47,8 @@ use Rattle.ss_store.specs.Causes.{OpensAs}
 use Rattle.ss_store.specs.Recover.{Stands}
 use Rattle.ss_store.specs.declared.error.OpenError.{OpenError}
 use Rattle.ss_program.specs.Answer.{Adds, SendsRows}
-use Rattle.ss_program.specs.Generated.{Generates, StandsForAll, StandsForGenerated, generated, counts_of, is_done, is_refused, last_six, summary, summary_of}
+use Rattle.ss_program.specs.Generated.{Generates, StandsForAll, StandsForGenerated, generated, first_lines, is_done, is_refused, last_six, summary}
+use Rattle.ss_program.specs.Generated.{summary_lines}
 use Rattle.ss_program.specs.Line.{Brought, History, brings, command_brings, history_after, meaning_brings}
 use Rattle.ss_program.specs.Progress.{StandsAround, StandsWithin}
 use Rattle.ss_program.specs.Refused.{AsRefused, status_of_open}
@@ -204,26 +205,26 @@ AppendsLess-longer before after a b less = (
 
 -- the counts of a tally are those of its replies
 counts-tallied : (seed count lines : ℕ) (all : List Reply) (tally : Tally) → Tallies lines all tally →
-    counts_of seed count tally.lines tally.done tally.refused ≡ counts_of seed count lines (count_by is_done all) (count_by is_refused all)
+    first_lines seed count tally.lines tally.done tally.refused ≡ first_lines seed count lines (count_by is_done all) (count_by is_refused all)
 counts-tallied seed count lines all tally tallies =
-    ap (λ n. counts_of seed count n tally.done tally.refused) tallies.lines
-    ∙ ap (λ n. counts_of seed count lines n tally.refused) tallies.done
-    ∙ ap (λ n. counts_of seed count lines (count_by is_done all) n) tallies.refused
+    ap (λ n. first_lines seed count n tally.done tally.refused) tallies.lines
+    ∙ ap (λ n. first_lines seed count lines n tally.refused) tallies.done
+    ∙ ap (λ n. first_lines seed count lines (count_by is_done all) n) tallies.refused
 
 -- the counts were sent, and then the last replies, or less than these
 pub Sends-summary : (before held after : Option (List ℕ)) (seed count lines : ℕ) (all : List Reply) (tally : Tally) (sent : Result (Unit {0}) Failed) →
-    Tallies lines all tally → held ≡ appended before (counts_of seed count tally.lines tally.done tally.refused) →
-    SendsRows held after tally.last.items sent → Sends before after (summary_of seed count lines all) sent
+    Tallies lines all tally → held ≡ appended before (first_lines seed count tally.lines tally.done tally.refused) →
+    SendsRows held after tally.last.items sent → Sends before after (summary_lines seed count lines all) sent
 Sends-summary before held after seed count lines all tally sent tallies is rows =
-    Sends-then before held after (counts_of seed count lines (count_by is_done all) (count_by is_refused all)) (flat_map reply_line (last_six all)) sent
+    Sends-then before held after (first_lines seed count lines (count_by is_done all) (count_by is_refused all)) (flat_map reply_line (last_six all)) sent
     (is ∙ ap (λ bs. appended before bs) (counts-tallied seed count lines all tally tallies))
     (subst (λ rs. SendsRows held after rs sent) tallies.last rows)
 
 -- or less than the counts
 pub Sends-less : (before after : Option (List ℕ)) (seed count lines : ℕ) (all : List Reply) (tally : Tally) → Tallies lines all tally →
-    AppendsLess before after (counts_of seed count tally.lines tally.done tally.refused) → AppendsLess before after (summary_of seed count lines all)
+    AppendsLess before after (first_lines seed count tally.lines tally.done tally.refused) → AppendsLess before after (summary_lines seed count lines all)
 Sends-less before after seed count lines all tally tallies less =
-    AppendsLess-longer before after (counts_of seed count lines (count_by is_done all) (count_by is_refused all)) (flat_map reply_line (last_six all))
+    AppendsLess-longer before after (first_lines seed count lines (count_by is_done all) (count_by is_refused all)) (flat_map reply_line (last_six all))
     (subst (λ bs. AppendsLess before after bs) (counts-tallied seed count lines all tally tallies) less)
 
 -- an image of the history after some first lines of the file

@@ -40,11 +40,11 @@ use Rattle.ss_program.specs.Line.{
   meaning_brings,
   nothing,
   refused,
-  shown,
+  only_replies,
   unless_refused,
 }
 use Rattle.ss_program.specs.Session.{after_line, after_lines, replies}
-use Rattle.ss_program.proofs.AnswerLemmas.{ask-event, brings-answered, certify-event, history-still, series-event, windows-event}
+use Rattle.ss_program.proofs.AnswerLemmas.{ask-event, brings-answer_replies, certify-event, history-still, series-event, windows-event}
 use Rattle.ss_program.proofs.CertifyLemmas.{brings-certified, evidence-known, evidence-right}
 use Rattle.ss_program.proofs.SeriesLemmas.{brings-series, series_rows-map}
 use Rattle.ss_program.proofs.SessionLemmas.{replies-append}
@@ -91,16 +91,16 @@ lines-leave history (line ∷ ls) whole =
 -- what a query brings that has an answer
 answered-query : (history : History) (query : Query) (o : Option Outcome) → IsHistory history → refuses_query (state history) query ≡ None →
     outcome_of (state history) query ≡ o → IsSome o →
-    (outcome : Outcome) × (command_brings history (Ask query) ≡ shown (Answered outcome ∷ []))
+    (outcome : Outcome) × (command_brings history (Ask query) ≡ only_replies (Answered outcome ∷ []))
     × HoldsTruth query (values_of history query.name) (marked_of history query.name) outcome
 answered-query history query None whole none is some = cc
 answered-query history query (Some outcome) whole none is some =
-    (outcome, brings-answered history query outcome none is, answer-holds history query outcome whole is)
+    (outcome, brings-answer_replies history query outcome none is, answer-holds history query outcome whole is)
 
 -- and a line that means it
 pub answered-line : (history : History) (line : List ℕ) (query : Query) → IsHistory history → meaning line ≡ Ok (Some (Ask query)) →
     refuses_query (state history) query ≡ None →
-    (outcome : Outcome) × (brings history line ≡ shown (Answered outcome ∷ []))
+    (outcome : Outcome) × (brings history line ≡ only_replies (Answered outcome ∷ []))
     × HoldsTruth query (values_of history query.name) (marked_of history query.name) outcome
 answered-line history line query whole means none =
     let it = answered-query history query (outcome_of (state history) query) whole none refl (answer-known (state history) query none) in
@@ -110,14 +110,14 @@ answered-line history line query whole means none =
 pub answered-series : (history : History) (line : List ℕ) (series : Series) → IsHistory history → meaning line ≡ Ok (Some (AskRows series)) →
     refuses_series (state history) series ≡ None →
     (answers : ℕ → Outcome)
-    × (brings history line ≡ shown (SeriesHead (row_count series) ∷ map (λ row. Row (row_start series row) (answers row)) (rows_of series)))
+    × (brings history line ≡ only_replies (SeriesHead (row_count series) ∷ map (λ row. Row (row_start series row) (answers row)) (rows_of series)))
     × ((row : ℕ) → AnswersRow history series row (answers row))
 answered-series history line series whole means none =
     let answers = λ (row : ℕ). (row-answered history series row whole none).0 in
     let each = λ (row : ℕ). (row-answered history series row whole none).1 in (
       answers,
       ap (λ m. meaning_brings history m) means ∙ brings-series history series none
-          ∙ ap (λ rows. shown (SeriesHead (row_count series) ∷ rows)) (series_rows-map (state history) series answers (λ row. (each row).is)),
+          ∙ ap (λ rows. only_replies (SeriesHead (row_count series) ∷ rows)) (series_rows-map (state history) series answers (λ row. (each row).is)),
       each,
     )
 
@@ -143,7 +143,7 @@ some-outcome (Some outcome) some = (outcome, refl)
 
 -- and a line that asks for it brings its lines
 pub certified-line : (history : History) (line : List ℕ) (query : Query) (end : End) → IsHistory history → meaning line ≡ Ok (Some (Certify query end)) →
-    refuses_query (state history) query ≡ None → (w : Evidence) × (brings history line ≡ shown (told w)) × IsSharp history query end w
+    refuses_query (state history) query ≡ None → (w : Evidence) × (brings history line ≡ only_replies (told w)) × IsSharp history query end w
 certified-line history line query end whole means none =
     let known = evidence-known (state history) query end none in
     let answered = some-outcome (outcome_of (state history) query) (answer-known (state history) query none) in
@@ -155,7 +155,7 @@ certified-line history line query end whole means none =
 
 -- a line to which replies come and no event, among other lines
 pub replies-among : (history : History) (before after : List (List ℕ)) (line : List ℕ) (rs : List Reply) →
-    brings (after_lines history before) line ≡ shown rs →
+    brings (after_lines history before) line ≡ only_replies rs →
     replies history (before ++ line ∷ after) ≡ replies history before ++ (rs ++ replies (after_lines history before) after)
 replies-among history before after line rs is =
     let here = after_lines history before in
@@ -165,6 +165,6 @@ replies-among history before after line rs is =
 
 -- one reply alone
 pub replies-around : (history : History) (before after : List (List ℕ)) (line : List ℕ) (reply : Reply) →
-    brings (after_lines history before) line ≡ shown (reply ∷ []) →
+    brings (after_lines history before) line ≡ only_replies (reply ∷ []) →
     replies history (before ++ line ∷ after) ≡ replies history before ++ reply ∷ replies (after_lines history before) after
 replies-around history before after line reply is = replies-among history before after line (reply ∷ []) is

@@ -16,12 +16,12 @@ use Rattle.ss_model.specs.Answers.{outcome_of, refuses_query}
 use Rattle.ss_model.specs.Refusals.{refuses, refuses_reading}
 use Rattle.ss_model.specs.State.{state}
 use Rattle.ss_power.specs.Power.{power_length}
-use Rattle.ss_windowing.specs.Windowing.{index_of}
+use Rattle.ss_windowing.specs.Windowing.{window_index}
 use Rattle.ss_store.specs.Recover.{no_store, damaged_entry, damaged_slot, damaged_stream, recovers}
 use Rattle.ss_report.specs.declared.reply.Reply.TheVariants.{Done as AckLine, Refused, ListHead}
 use Rattle.ss_store.specs.declared.error.OpenError.TheVariants as opening
 use Rattle.ss_program.specs.Checked.{survey_line}
-use Rattle.ss_program.specs.Generated.{summary_of}
+use Rattle.ss_program.specs.Generated.{summary_lines}
 use Rattle.ss_program.specs.Held.{acks}
 use Rattle.ss_program.specs.Outcome.{lines_within}
 use Rattle.ss_program.specs.Refused.{refusal_line, status_of_open}
@@ -61,7 +61,7 @@ report-readings : report [] readings
     ∷ codes "ok 7 3"
     ∷ codes "windows 3" ∷ codes "1 4 4 11 -3 8 10 40" ∷ codes "5 6 2 11 2 9 50 60" ∷ codes "7 7 1 7 7 7 70 70"
     ∷ codes "list 1" ∷ codes "a exp 2 1 1 7 3 0 0" ∷ [])
-unfolding ended_lines unended meaning words is_number number_of number_up_to signed_of is_name state refuses refuses_reading index_of digits
+unfolding ended_lines unended meaning words is_number number_of number_up_to signed_of is_name state refuses refuses_reading window_index digits
 report-readings = refl
 
 -- their events
@@ -71,7 +71,7 @@ history =
     ∷ Value (codes "a") 40 (pos 1) ∷ Value (codes "a") 50 (pos 9) ∷ Value (codes "a") 60 (pos 2) ∷ Value (codes "a") 70 (pos 7) ∷ []
 
 accepted-readings : accepted [] (lines readings) ≡ history
-unfolding ended_lines unended meaning words is_number number_of number_up_to signed_of is_name state refuses refuses_reading index_of
+unfolding ended_lines unended meaning words is_number number_of number_up_to signed_of is_name state refuses refuses_reading window_index
 accepted-readings = refl
 
 -- after that history: each refusal, lines that are no command, and two lines that are taken, the last one without a line end
@@ -84,11 +84,11 @@ mistakes =
 report-mistakes : report history mistakes
     ≡ text (codes "refused EXISTS" ∷ codes "refused PARAM" ∷ codes "refused UNKNOWN" ∷ codes "refused NUMBER" ∷ codes "refused NAME"
     ∷ codes "refused TIME" ∷ codes "refused SYNTAX" ∷ codes "refused UNKNOWN" ∷ codes "ok 0 0" ∷ codes "ok 8 4" ∷ [])
-unfolding ended_lines unended meaning words is_number number_of number_up_to signed_of is_name state refuses refuses_reading index_of digits
+unfolding ended_lines unended meaning words is_number number_of number_up_to signed_of is_name state refuses refuses_reading window_index digits
 report-mistakes = refl
 
 after_lines-mistakes : after_lines history (lines mistakes) ≡ history ++ Create (codes "b") (Exp 2 1 4) ∷ Value (codes "a") 80 (negsuc 0) ∷ []
-unfolding ended_lines unended meaning words is_number number_of number_up_to signed_of is_name state refuses refuses_reading index_of
+unfolding ended_lines unended meaning words is_number number_of number_up_to signed_of is_name state refuses refuses_reading window_index
 after_lines-mistakes = refl
 
 -- after that history: queries where no window is split, one is, or two are, and each refusal of a query
@@ -104,12 +104,12 @@ report-queries : report history queries
     ∷ codes "count 1 3" ∷ codes "sum -5 16" ∷ codes "min -3 8" ∷ codes "min -3 8 maybe-none" ∷ codes "count 0 2"
     ∷ codes "count 2 4" ∷ codes "sum -3 25" ∷ codes "min -3 8" ∷ codes "max 2 9"
     ∷ codes "refused RANGE" ∷ codes "refused UNKNOWN" ∷ codes "refused SYNTAX" ∷ codes "refused NUMBER" ∷ codes "refused NAME" ∷ [])
-unfolding ended_lines unended meaning words is_number number_of number_up_to signed_of is_name state refuses_query outcome_of sum_interval index_of digits
+unfolding ended_lines unended meaning words is_number number_of number_up_to signed_of is_name state refuses_query outcome_of sum_interval window_index digits
 report-queries = refl
 
 -- they add no event
 accepted-queries : accepted history (lines queries) ≡ []
-unfolding ended_lines unended meaning words is_number number_of number_up_to signed_of is_name state refuses_query outcome_of sum_interval index_of
+unfolding ended_lines unended meaning words is_number number_of number_up_to signed_of is_name state refuses_query outcome_of sum_interval window_index
 accepted-queries = refl
 
 -- another stream: its window is split, but the free times are used up
@@ -121,7 +121,7 @@ close_times =
 report-close_times : report [] close_times
     ≡ text (codes "ok 0 0" ∷ codes "ok 1 1" ∷ codes "ok 2 1" ∷ codes "ok 3 1" ∷ codes "ok 4 1" ∷ codes "count 2 2" ∷ codes "sum 8 12" ∷ [])
 unfolding ended_lines unended meaning words is_number number_of number_up_to signed_of is_name state refuses refuses_query outcome_of sum_interval
-    power_length index_of digits
+    power_length window_index digits
 report-close_times = refl
 
 -- the last line has ended where nothing is left
@@ -135,24 +135,24 @@ lines_within-end = refl
 
 -- each reply to the readings has 7 bytes: an event is acknowledged with the last of them
 acks-none : acks [] (lines readings) 6 ≡ 0
-unfolding ended_lines unended meaning words is_number number_of number_up_to signed_of is_name state refuses refuses_reading index_of digits
+unfolding ended_lines unended meaning words is_number number_of number_up_to signed_of is_name state refuses refuses_reading window_index digits
 acks-none = refl
 
 acks-some : acks [] (lines readings) 20 ≡ 2
-unfolding ended_lines unended meaning words is_number number_of number_up_to signed_of is_name state refuses refuses_reading index_of digits
+unfolding ended_lines unended meaning words is_number number_of number_up_to signed_of is_name state refuses refuses_reading window_index digits
 acks-some = refl
 
 acks-all : acks [] (lines readings) 56 ≡ 8
-unfolding ended_lines unended meaning words is_number number_of number_up_to signed_of is_name state refuses refuses_reading index_of digits
+unfolding ended_lines unended meaning words is_number number_of number_up_to signed_of is_name state refuses refuses_reading window_index digits
 acks-all = refl
 
 -- what is shown after them acknowledges no further event, and refused lines acknowledge none
 acks-shown : acks [] (lines readings) 100 ≡ 8
-unfolding ended_lines unended meaning words is_number number_of number_up_to signed_of is_name state refuses refuses_reading index_of digits
+unfolding ended_lines unended meaning words is_number number_of number_up_to signed_of is_name state refuses refuses_reading window_index digits
 acks-shown = refl
 
 acks-refused : acks history (lines mistakes) 120 ≡ 0
-unfolding ended_lines unended meaning words is_number number_of number_up_to signed_of is_name state refuses refuses_reading index_of digits
+unfolding ended_lines unended meaning words is_number number_of number_up_to signed_of is_name state refuses refuses_reading window_index digits
 acks-refused = refl
 
 -- what is said of a store that is refused
@@ -193,7 +193,7 @@ survey-line : survey_line (record { streams = 1; windows = 2; landmarks = 3; val
 unfolding digits
 survey-line = refl
 
-summary-replies : summary_of 1 2 3
+summary-replies : summary_lines 1 2 3
     (Refused refusal.Time ∷ map ListHead (1 ∷ 2 ∷ 3 ∷ 4 ∷ []) ++ AckLine (record { n = 7; k = 3 }) ∷ Refused refusal.Time ∷ [])
     ≡ text (codes "gen 1 2" ∷ codes "lines 3" ∷ codes "ok 1" ∷ codes "refused 2" ∷ codes "list 1" ∷ codes "list 2"
     ∷ codes "list 3" ∷ codes "list 4" ∷ codes "ok 7 3" ∷ codes "refused TIME" ∷ [])

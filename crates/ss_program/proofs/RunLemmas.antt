@@ -151,7 +151,8 @@ any_moment-lines history old new input run =
     any_moment-more history old new (lines_so_far input) (map without_return (unless_empty (unended input))) run
 
 -- or at the last line of the input
-pub HasStopped-end : (sealing : Sealing) {history : History} {start mid : Told} {session : SessionState} {before held left : Option (List ℕ)} {input : List ℕ} (new : Told)
+pub HasStopped-end : (sealing : Sealing) {history : History} {start mid : Told} {session : SessionState} {before held left : Option (List ℕ)} {input : List ℕ}
+    (new : Told)
     (after : Option (List ℕ))
     (status : Status) → IsAtEnd history start mid session before held left input → StopsIn sealing history (lines input) mid new before after status →
     HasStopped sealing history input left before after start new status
@@ -225,7 +226,8 @@ Serves-stop sealing history input left before after old new tells status told st
     }
 
 -- the session came to its end
-pub Serves-done : (sealing : Sealing) {history : History} {start mid : Told} {session : SessionState} {before held left : Option (List ℕ)} {input : List ℕ} (new : Told)
+pub Serves-done : (sealing : Sealing) {history : History} {start mid : Told} {session : SessionState} {before held left : Option (List ℕ)} {input : List ℕ}
+    (new : Told)
     (after : Option (List ℕ)) →
     IsAtEnd history start mid session before held left input → EndsWell history (lines input) mid new before after →
     Serves sealing history input left before after start new Done
@@ -247,7 +249,8 @@ Serves-done sealing {history = history} {start = start} {mid = mid} {before = be
 }
 
 -- the session was finished
-pub Serves-finish : (sealing : Sealing) {history : History} {start mid : Told} {session : SessionState} {before held left : Option (List ℕ)} {input : List ℕ} (new : Told)
+pub Serves-finish : (sealing : Sealing) {history : History} {start mid : Told} {session : SessionState} {before held left : Option (List ℕ)} {input : List ℕ}
+    (new : Told)
     (after : Option (List ℕ))
     (tells : Bool) (status : Status) → IsTrue tells → IsAtEnd history start mid session before held left input →
     (status ≡ Done) ⊎ IsStop tells status →
@@ -256,7 +259,8 @@ pub Serves-finish : (sealing : Sealing) {history : History} {start mid : Told} {
     Serves sealing history input left before after start new status
 Serves-finish sealing {history = history} {start = start} {before = before} {left = left} {input = input} new after tells status told end (inl is) done stops =
     subst (λ s. Serves sealing history input left before after start new s) (sym is) (Serves-done sealing new after end (done is))
-Serves-finish sealing {history = history} {start = start} {before = before} {left = left} {input = input} new after tells status told end (inr stop) done stops =
+Serves-finish sealing {history = history} {start = start} {before = before} {left = left} {input = input} new after tells status told end
+    (inr stop) done stops =
     Serves-stop sealing history input left before after start new tells status told stop (HasStopped-end sealing new after status end (stops stop))
 
 -- by which of the two statuses
@@ -288,7 +292,8 @@ part-read input left after_left n is (inl how) =
 part-read input left after_left n is (inr how) = AreRead-front input after_left n 1 (how.1.source ∙ ap (λ bs. Some bs) (drop-drop 1 n input))
 
 -- the source failed, or more is left than an input may have
-pub Serves-part : (sealing : Sealing) {history : History} {start now : Told} {session : SessionState} {before held left : Option (List ℕ)} {input : List ℕ} {n : ℕ}
+pub Serves-part : (sealing : Sealing) {history : History} {start now : Told} {session : SessionState} {before held left : Option (List ℕ)} {input : List ℕ}
+    {n : ℕ}
     (status : Status)
     (after_left : Option (List ℕ)) → IsThrough history start now session before held left input n → n ≤ LONGEST_INPUT →
     (status ≡ SourceFault) × (after_left ≡ left) ⊎ (status ≡ InputLimit) × IsPast input after_left n →

@@ -20,7 +20,7 @@ use Rattle.ss_report.specs.declared.reply.Reply.{Reply}
 use Rattle.ss_report.specs.declared.reply.Reply.TheVariants.{SeriesHead, Row}
 use Rattle.ss_store.specs.Asked.{refuses_query_held}
 use Rattle.ss_store.specs.Kept.{StoreState, part_named}
-use Rattle.ss_program.specs.Line.{History, command_brings, refused, row_shown, series_rows, shown, text_brought, unless_refused}
+use Rattle.ss_program.specs.Line.{History, command_brings, refused, row_shown, series_rows, only_replies, text_brought, unless_refused}
 use Rattle.ss_program.specs.Sent.{appended, AppendsLess, Sends}
 use Rattle.ss_program.proofs.RowLemmas.{AppendsLess-head, Sends-head, rows-all, rows-less, rows-more, unread}
 
@@ -100,13 +100,13 @@ module _ (streams : List Stream) (series : Series) (none : refuses_series stream
 pub brings-refused_series : (history : History) (series : Series) (refusal : Refusal) → refuses_series (state history) series ≡ Some refusal →
     command_brings history (AskRows series) ≡ refused refusal
 brings-refused_series history series refusal is =
-    ap (λ r. unless_refused r (shown (SeriesHead (row_count series) ∷ series_rows (state history) series))) is
+    ap (λ r. unless_refused r (only_replies (SeriesHead (row_count series) ∷ series_rows (state history) series))) is
 
 -- and one that isn't brings its head and its rows
 pub brings-series : (history : History) (series : Series) → refuses_series (state history) series ≡ None →
-    command_brings history (AskRows series) ≡ shown (SeriesHead (row_count series) ∷ series_rows (state history) series)
+    command_brings history (AskRows series) ≡ only_replies (SeriesHead (row_count series) ∷ series_rows (state history) series)
 brings-series history series none =
-    ap (λ r. unless_refused r (shown (SeriesHead (row_count series) ∷ series_rows (state history) series))) none
+    ap (λ r. unless_refused r (only_replies (SeriesHead (row_count series) ∷ series_rows (state history) series))) none
 
 -- less than the head was sent
 pub series-head : (history : History) (series : Series) (before after : Option (List ℕ)) → refuses_series (state history) series ≡ None →

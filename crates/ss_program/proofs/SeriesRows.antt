@@ -19,7 +19,7 @@ use Rattle.ss_model.specs.declared.outcome.Outcome.{Outcome}
 use Rattle.ss_outside.specs.Crash.{OnlyReads}
 use Rattle.ss_outside.specs.Disk.{Told}
 use Rattle.ss_store.specs.Recover.{Stands}
-use Rattle.ss_windowing.specs.Windowing.{index_of}
+use Rattle.ss_windowing.specs.Windowing.{window_index}
 use Rattle.ss_program.specs.Line.{History}
 use Rattle.ss_program.specs.Series.{AnswersQuery}
 use Rattle.ss_program.specs.Session.{accepted, report}
@@ -46,13 +46,13 @@ report-series : report readings series
     ∷ codes "series 3" ∷ codes "0 8 8" ∷ codes "50 9 9" ∷ codes "100 none"
     ∷ codes "series 2" ∷ codes "15 -3 8 maybe-none" ∷ codes "16 -3 8 maybe-none" ∷ codes "series 1" ∷ codes "10 1 1"
     ∷ codes "refused UNKNOWN" ∷ codes "refused RANGE" ∷ codes "refused SYNTAX" ∷ codes "refused NUMBER" ∷ codes "refused NAME" ∷ [])
-unfolding ended_lines unended meaning words is_number number_of number_up_to signed_of is_name state refuses_query outcome_of sum_interval index_of digits
+unfolding ended_lines unended meaning words is_number number_of number_up_to signed_of is_name state refuses_query outcome_of sum_interval window_index digits
     numbers_from
 report-series = refl
 
 -- they add no event
 accepted-series : accepted readings (lines series) ≡ []
-unfolding ended_lines unended meaning words is_number number_of number_up_to signed_of is_name state refuses_query outcome_of sum_interval index_of
+unfolding ended_lines unended meaning words is_number number_of number_up_to signed_of is_name state refuses_query outcome_of sum_interval window_index
     numbers_from
 accepted-series = refl
 

@@ -53,7 +53,8 @@ module _ (was is : RecordsState) (history : History) (old new : Told) where
         content = λ has. keeps (Stands (history_after history brought) (shown_by is new.content))
             (on_ok_weaker step (λ stands. subst (λ h. Stands h (shown_by is new.content)) (after has) stands) (turns.content has));
         any_moment = λ durable sealed there has.
-            weaker old new (λ image. Stands sealed image ⊎ StandsForEither history event image) (λ image. Stands sealed image ⊎ StandsAround history brought image)
+            weaker old new (λ image. Stands sealed image ⊎ StandsForEither history event image)
+            (λ image. Stands sealed image ⊎ StandsAround history brought image)
             (λ image either. ⊎_elim (λ before. inl before)
             (λ one. inr (⊎_elim (λ stands. inl stands) (λ stands. inr (subst (λ h. Stands h image) (after has) stands)) one)) either)
             (turns.any_moment durable sealed there has);

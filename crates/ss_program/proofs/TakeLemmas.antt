@@ -33,7 +33,7 @@ use Rattle.std.proofs.lemmas.Bool.{cond-true, cond-false, cases_lt, le-leb, lt-l
 use Rattle.std.specs.Prelude.{nat_le}
 use Rattle.std.proofs.lemmas.List.{append-nil, map-append, take-append-drop}
 use Rattle.ss_command.specs.Lines.{lines_so_far, unended, without_return}
-use Rattle.ss_command.specs.LineState.{Kept, LineState, ended_line, kept, under_way, unless_long}
+use Rattle.ss_command.specs.LineState.{Kept, ReaderState, ended_line, kept, under_way, unless_long}
 use Rattle.ss_command.specs.declared.TheConstants.{LONGEST_LINE}
 use Rattle.ss_command.proofs.LineLemmas.{ended_lines-append}
 use Rattle.ss_outside.proofs.CrashLemmas.{at_start, joined, now, of_content, weaker}
@@ -136,11 +136,11 @@ EndsWell-same history disk before held ls knows is stands durable = record {
 }
 
 -- a session whose events are sealed each by itself
-abbrev pub each_over : StoreState → LineState → SessionState
+abbrev pub each_over : StoreState → ReaderState → SessionState
 each_over store reader = record { store = store; line = under_way reader; waiting = None }
 
 -- a session whose lines are these has taken what ends in them
-pub GoesOn-ends : (history : History) (old new : Told) (store : StoreState) (before after : Option (List ℕ)) (reader : LineState)
+pub GoesOn-ends : (history : History) (old new : Told) (store : StoreState) (before after : Option (List ℕ)) (reader : ReaderState)
     (ls : List (List ℕ)) (more : List ℕ) →
     lines_so_far more ≡ ls → under_way reader ≡ kept (unended more) → EndsWell history ls old new before after →
     GoesOn history old new (each_over store reader) before after more

@@ -41,7 +41,8 @@ use Rattle.ss_program.specs.declared.status.Status.TheVariants.{
   RecordChanged,
 }
 use Rattle.ss_program.proofs.SendLemmas.{appended-nil}
-use Rattle.ss_program.proofs.AnswerLemmas.{Adds-reads, Stands-shown, IsStop-apply, IsStop-show, Replies-sent, Replies-shown, Replies-stopped, event-some}
+use Rattle.ss_program.proofs.AnswerLemmas.{Adds-reads, Stands-only_replies, IsStop-apply, IsStop-show, Replies-sent, Replies-only_replies, Replies-stopped}
+use Rattle.ss_program.proofs.AnswerLemmas.{event-some}
 
 -- the disk was only read, and then a text was sent
 pub Shows-sent : (text : History → List ℕ → Type 0) (old new : DiskView) (store : StoreState) (before after : Option (List ℕ)) (had has : ℕ)
@@ -136,7 +137,7 @@ TakesLine-shown brought text old new store result knows none is shows = record {
     told = λ told history. Adds-reads history (brought history) old.disk.told new.disk.told result (λ _. none history) (knows told) (shows.reads.told told);
   };
   untouched = λ memory. show-memory old.disk.tells result shows.status memory;
-  replies = λ told history stands. Replies-shown old.disk.tells (brought history) old.held new.held result shows.status
+  replies = λ told history stands. Replies-only_replies old.disk.tells (brought history) old.held new.held result shows.status
       (shows.sends told history stands (text_brought (brought history)) (is history));
   counted = shows.counted;
   opens = shows.opens;
@@ -221,7 +222,7 @@ pub DoesCommand-asked : (was : RecordsState) (brought : History → Brought) (re
     KnowsNow old → ((history : History) → (brought history).event ≡ None) → AsksQuery was brought result old new → DoesCommand brought result old new
 DoesCommand-asked was brought result old new sealed knows none asks = record {
   adds = λ history. Adds-reads history (brought history) old new result (λ _. none history) knows asks.reads;
-  reply = λ history stands. asks.reply history (Stands-shown was old.content history sealed stands);
+  reply = λ history stands. asks.reply history (Stands-only_replies was old.content history sealed stands);
   untouched = λ _. asks.reads;
 }
 

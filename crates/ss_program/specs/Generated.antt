@@ -57,22 +57,22 @@ abbrev pub last_six : List Reply → List Reply
 last_six all = drop (length all - 6) all
 
 -- the first four lines of the summary
-abbrev pub counts_of : ℕ → ℕ → ℕ → ℕ → ℕ → List ℕ
-counts_of seed count lines done refused =
+abbrev pub first_lines : ℕ → ℕ → ℕ → ℕ → ℕ → List ℕ
+first_lines seed count lines done refused =
     counted_line (codes "gen" ++ 32 ∷ decimal seed) count
     ++ counted_line (codes "lines") lines
     ++ counted_line (codes "ok") done
     ++ counted_line (codes "refused") refused
 
 -- the summary of a file of so many lines, to which these replies came
-abbrev pub summary_of : ℕ → ℕ → ℕ → List Reply → List ℕ
-summary_of seed count lines all =
-    counts_of seed count lines (count_by is_done all) (count_by is_refused all) ++ flat_map reply_line (last_six all)
+abbrev pub summary_lines : ℕ → ℕ → ℕ → List Reply → List ℕ
+summary_lines seed count lines all =
+    first_lines seed count lines (count_by is_done all) (count_by is_refused all) ++ flat_map reply_line (last_six all)
 
 -- the summary of a session over the file, after a history
 abbrev pub summary : History → ℕ → ℕ → List ℕ
 summary history seed count =
-    summary_of seed count (length (generated seed count)) (replies history (generated seed count))
+    summary_lines seed count (length (generated seed count)) (replies history (generated seed count))
 
 -- the image stands for the history and some first of the events that are accepted of the file
 abbrev pub StandsForGenerated : History → ℕ → ℕ → List ℕ → Type 0

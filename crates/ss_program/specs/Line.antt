@@ -37,12 +37,12 @@ abbrev pub nothing : Brought
 nothing = record { replies = []; event = None }
 
 -- a command that only reads
-abbrev pub shown : List Reply → Brought
-shown replies = record { replies = replies; event = None }
+abbrev pub only_replies : List Reply → Brought
+only_replies replies = record { replies = replies; event = None }
 
 -- a line that is refused
 abbrev pub refused : Refusal → Brought
-refused refusal = shown (Refused refusal ∷ [])
+refused refusal = only_replies (Refused refusal ∷ [])
 
 -- what is brought, unless there is a refusal
 abbrev pub unless_refused : Option Refusal → Brought → Brought
@@ -57,9 +57,9 @@ accepted_event history event = record {
 }
 
 -- the answer to a query; nothing of a stream that doesn't stand
-abbrev pub answered : Option Outcome → List Reply
-answered None = []
-answered (Some outcome) = Answered outcome ∷ []
+abbrev pub answer_replies : Option Outcome → List Reply
+answer_replies None = []
+answer_replies (Some outcome) = Answered outcome ∷ []
 
 -- a row of a series: the answer to its query, with the time at which it begins; nothing of a stream that doesn't stand
 abbrev pub row_shown : ℕ → Option Outcome → List Reply
@@ -92,14 +92,14 @@ stream_rows streams = map (λ s. StreamRow (row_of s)) streams
 abbrev pub command_brings : History → Command → Brought
 command_brings history (Do event) = unless_refused (refuses (state history) event) (accepted_event history event)
 command_brings history (Ask query) =
-    unless_refused (refuses_query (state history) query) (shown (answered (outcome_of (state history) query)))
+    unless_refused (refuses_query (state history) query) (only_replies (answer_replies (outcome_of (state history) query)))
 command_brings history (Certify query end) =
-    unless_refused (refuses_query (state history) query) (shown (certified (evidence_in (state history) query end)))
+    unless_refused (refuses_query (state history) query) (only_replies (certified (evidence_in (state history) query end)))
 command_brings history (AskRows series) =
-    unless_refused (refuses_series (state history) series) (shown (SeriesHead (row_count series) ∷ series_rows (state history) series))
+    unless_refused (refuses_series (state history) series) (only_replies (SeriesHead (row_count series) ∷ series_rows (state history) series))
 command_brings history (Windows name) =
-    unless_refused (refuses_reading (state history) name) (shown (windows_shown (stream_named name (state history))))
-command_brings history ListAll = shown (ListHead (length (state history)) ∷ stream_rows (state history))
+    unless_refused (refuses_reading (state history) name) (only_replies (windows_shown (stream_named name (state history))))
+command_brings history ListAll = only_replies (ListHead (length (state history)) ∷ stream_rows (state history))
 
 -- what a line brings that means this
 abbrev pub meaning_brings : History → Result (Option Command) Refusal → Brought

@@ -77,7 +77,8 @@ HoldsReported sealing history input left before after disk status =
     (image : List ℕ) → disk.may_leave image → HoldsBy sealing history input left (length has - length had) status image
 
 -- What a session over an input leaves, of its report and of the disk.
-pub record Serves (sealing : Sealing) (history : History) (input : List ℕ) (left before after : Option (List ℕ)) (old new : Told) (status : Status) : Type 0 where
+pub record Serves (sealing : Sealing) (history : History) (input : List ℕ) (left before after : Option (List ℕ)) (old new : Told)
+    (status : Status) : Type 0 where
   pub report : Reports sealing history input left before after new status
   pub kept : HoldsReported sealing history input left before after new status
   pub any_moment : LeavesOnly old new (StandsWithin history (lines input))

@@ -9,7 +9,7 @@ ghost use Rattle.ss_outside.specs.Verdict.{Counted, verdict};
 ghost use Rattle.ss_program.specs.Answer.{DoesCommand, IsOpen};
 ghost use Rattle.ss_program.specs.Devices.{over};
 ghost use Rattle.ss_program.specs.Ending.{Ends, IsUnfed};
-ghost use Rattle.ss_program.specs.Generated.{GeneratesFrom, counted_line, counts_of, last_six, summary_of};
+ghost use Rattle.ss_program.specs.Generated.{GeneratesFrom, counted_line, first_lines, last_six, summary_lines};
 ghost use Rattle.ss_program.specs.Line.{command_brings};
 ghost use Rattle.ss_program.specs.Sent.{Puts, Sends};
 ghost use Rattle.ss_program.specs.Status.{disk_verdict, ended, sink_verdict, IsApplyStop, IsStop};
@@ -133,7 +133,7 @@ fn put_line(word: &str, number: u64, text: &mut ArrayString<256>)
 
 // Sends the first four lines of the summary.
 fn send_counts<K: Sink>(seed: u64, count: u32, tally: &Tally, sink: &mut K) -> Result<(), Failed>
-    ensures { Puts (counts_of seed count tally.now.lines tally.now.done tally.now.refused)
+    ensures { Puts (first_lines seed count tally.now.lines tally.now.done tally.now.refused)
         (K.held sink.old) (K.faults sink.old) (K.held sink.new) (K.faults sink.new) result }
 {
     let mut text = ArrayString::new();
@@ -150,7 +150,7 @@ fn send_counts<K: Sink>(seed: u64, count: u32, tally: &Tally, sink: &mut K) -> R
 // Sends the summary.
 fn send_summary<K: Sink>(seed: u64, count: u32, tally: &Tally, sink: &mut K) -> Result<(), Failed>
     ensures sends { (lines : ℕ) (all : List Reply) → Tallies lines all tally.now →
-        Sends (K.held sink.old) (K.held sink.new) (summary_of seed count lines all) result }
+        Sends (K.held sink.old) (K.held sink.new) (summary_lines seed count lines all) result }
     ensures counted { Counted (verdict result) (K.faults sink.old) (K.faults sink.new) }
 {
     send_counts(seed, count, tally, sink)?;

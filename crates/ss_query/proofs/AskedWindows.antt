@@ -9,7 +9,7 @@ use Rattle.ss_line.specs.Line.{IsLine, entry_at, index_of, place_at}
 use Rattle.ss_line.specs.declared.entry.At.{At}
 use Rattle.ss_line.specs.declared.entry.Entry.{Entry}
 use Rattle.ss_catalog.specs.declared.query.Query.{Query}
-use Rattle.ss_landmarks.specs.ValuesIn.{tally_of, values_in}
+use Rattle.ss_landmarks.specs.ValuesIn.{tally_of, values_between}
 use Rattle.ss_landmarks.specs.declared.tally.Tally.{Tally}
 use Rattle.ss_model.specs.State.{Stream}
 use Rattle.ss_model.specs.declared.types.Window.{Window}
@@ -54,7 +54,7 @@ pub record IsAsking (before now : DiskView) (records records_now : RecordsState)
 
 -- before the first of a stream's windows
 AreLeft-none : (others : List (ℕ × Option Record)) (part : StreamParts) (s : Stream) (image : List ℕ) (from to : ℕ) (marked : Tally) →
-    marked ≡ tally_of (values_in part.landmarks.landmarks from to) → IsHeldIn others part s image →
+    marked ≡ tally_of (values_between part.landmarks.landmarks from to) → IsHeldIn others part s image →
     AreLeft s part.landmarks.landmarks from to [] (entries_of part) (marks_seen marked)
 AreLeft-none others part s image from to marked is held = record {
   gone = [];
@@ -75,7 +75,7 @@ AreLeft-none others part s image from to marked is held = record {
 -- before any record is read
 pub IsAsking-none : (disk : DiskView) (records : RecordsState) (part : StreamParts) (from to : ℕ) (start : Option At) →
     BeginsAt part.line.entries from start → OfContent disk (AreKept records) →
-    (marked : Tally) → marked ≡ tally_of (values_in part.landmarks.landmarks from to) →
+    (marked : Tally) → marked ≡ tally_of (values_between part.landmarks.landmarks from to) →
     IsAsking disk disk records records part from to (marks_seen marked) start
 IsAsking-none disk records part from to start begins kept marked marked_is =
     let line : IsWalkedTo part from to (marks_seen marked) start = record {

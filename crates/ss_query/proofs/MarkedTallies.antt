@@ -11,8 +11,8 @@ use Rattle.std.proofs.lemmas.List.Sums.{count_by-le-length, length-filter}
 use Rattle.ss_bounds.specs.Either.{greatest_in, least_in}
 use Rattle.ss_bounds.specs.Truth.{asked, total}
 use Rattle.ss_landmarks.specs.Landmark.{Landmark, LandmarkValue, all_values}
-use Rattle.ss_landmarks.specs.Landmarks.{IsState, LandmarksState}
-use Rattle.ss_landmarks.specs.ValuesIn.{greater, greatest, least, lesser, lies_in, tally_of, values_in}
+use Rattle.ss_landmarks.specs.Landmarks.{AreKnown, LandmarksState}
+use Rattle.ss_landmarks.specs.ValuesIn.{greater, greatest, least, lesser, lies_in, tally_of, values_between}
 use Rattle.ss_landmarks.specs.ValuesIn as marks
 use Rattle.ss_landmarks.proofs.OrderLemmas.{RiseFrom-all_values}
 use Rattle.ss_landmarks.proofs.ValueLemmas.{RiseFrom-fit}
@@ -47,21 +47,21 @@ greatest-alone (value ∷ []) = refl
 greatest-alone (value ∷ next ∷ values) = ap (λ o. Some (greater value.v o)) (greatest-alone (next ∷ values))
 
 module _ (landmarks : List Landmark) (from to : ℕ) where
-  asked-marked : asked from to (marked_values landmarks) ≡ alone (values_in landmarks from to)
+  asked-marked : asked from to (marked_values landmarks) ≡ alone (values_between landmarks from to)
   asked-marked = asked-pairs from to (all_values landmarks)
 
-  pub length-asked : length (values_in landmarks from to) ≡ length (asked from to (marked_values landmarks))
+  pub length-asked : length (values_between landmarks from to) ≡ length (asked from to (marked_values landmarks))
   length-asked =
-      sym (ap (λ zs. length zs) asked-marked ∙ length-map (values_in landmarks from to) (λ (value : LandmarkValue). value.v))
+      sym (ap (λ zs. length zs) asked-marked ∙ length-map (values_between landmarks from to) (λ (value : LandmarkValue). value.v))
 
-  pub total-asked : marks.total (values_in landmarks from to) ≡ total (asked from to (marked_values landmarks))
-  total-asked = total-alone (values_in landmarks from to) ∙ ap (λ zs. total zs) (sym asked-marked)
+  pub total-asked : marks.total (values_between landmarks from to) ≡ total (asked from to (marked_values landmarks))
+  total-asked = total-alone (values_between landmarks from to) ∙ ap (λ zs. total zs) (sym asked-marked)
 
-  pub least-asked : least (values_in landmarks from to) ≡ least_in (asked from to (marked_values landmarks))
-  least-asked = least-alone (values_in landmarks from to) ∙ ap (λ zs. least_in zs) (sym asked-marked)
+  pub least-asked : least (values_between landmarks from to) ≡ least_in (asked from to (marked_values landmarks))
+  least-asked = least-alone (values_between landmarks from to) ∙ ap (λ zs. least_in zs) (sym asked-marked)
 
-  pub greatest-asked : greatest (values_in landmarks from to) ≡ greatest_in (asked from to (marked_values landmarks))
-  greatest-asked = greatest-alone (values_in landmarks from to) ∙ ap (λ zs. greatest_in zs) (sym asked-marked)
+  pub greatest-asked : greatest (values_between landmarks from to) ≡ greatest_in (asked from to (marked_values landmarks))
+  greatest-asked = greatest-alone (values_between landmarks from to) ∙ ap (λ zs. greatest_in zs) (sym asked-marked)
 
 -- a sum of values of 64 bits
 total-near : (values : List LandmarkValue) → All (λ value. FitsSigned w64 value.v) values → unsigned_abs (marks.total values) ≤ 2 ^ 63 * length values
@@ -72,11 +72,11 @@ total-near (value ∷ values) fit =
     omega (arith, ints)
 
 -- the values of landmarks that are kept are few, and so are those of a range
-pub IsFewMarked-in : (state : LandmarksState) (from to : ℕ) → IsState state → IsFewMarked (tally_of (values_in state.landmarks from to))
+pub IsFewMarked-in : (state : LandmarksState) (from to : ℕ) → AreKnown state → IsFewMarked (tally_of (values_between state.landmarks from to))
 IsFewMarked-in state from to is =
     let fit = RiseFrom-fit 0 (all_values state.landmarks) (RiseFrom-all_values 0 state.landmarks is.order) in
     let in_range = All-filter (lies_in from to) (λ value. FitsSigned w64 value.v) (all_values state.landmarks) fit in
-    let near = total-near (values_in state.landmarks from to) in_range in
+    let near = total-near (values_between state.landmarks from to) in_range in
     let few = length-filter (lies_in from to) (all_values state.landmarks) in
     let most = count_by-le-length (lies_in from to) (all_values state.landmarks) in
     record {

@@ -12,7 +12,7 @@ use Rattle.std.proofs.lemmas.List.Sums.{fold-append}
 use Rattle.std.proofs.lemmas.Option.{get_or_from_slice_get, slice_get-map, slice_get_within}
 use Rattle.ss_codec.specs.declared.record.Record.{Record}
 use Rattle.ss_landmarks.specs.Landmark.{Landmark}
-use Rattle.ss_landmarks.specs.ValuesIn.{tally_of, values_in}
+use Rattle.ss_landmarks.specs.ValuesIn.{tally_of, values_between}
 use Rattle.ss_line.specs.Line.{IsLine, StandsIn, entry_at, index_of, place_at}
 use Rattle.ss_line.specs.declared.entry.At.{At}
 use Rattle.ss_line.specs.declared.entry.Entry.{Entry}
@@ -43,7 +43,7 @@ list_all-middle test xs x ys all =
 
 -- what is known of a range once these windows of a stream are read
 abbrev pub seen_by : List Landmark → ℕ → ℕ → List Window → Seen
-seen_by landmarks from to ws = fold (seen_after landmarks from to) (marks_seen (tally_of (values_in landmarks from to))) ws
+seen_by landmarks from to ws = fold (seen_after landmarks from to) (marks_seen (tally_of (values_between landmarks from to))) ws
 
 -- how many entries are left from a place on
 abbrev pub left_from : List (At × Entry) → Option At → ℕ
@@ -73,7 +73,7 @@ pub record IsWalkedTo (part : StreamParts) (from to : ℕ) (seen : Seen) (next :
   pub rest : List (At × Entry)
   pub is : part.line.entries ≡ before ++ rest
   pub place : next ≡ place_at rest 0
-  pub marked : seen.marked ≡ tally_of (values_in part.landmarks.landmarks from to)
+  pub marked : seen.marked ≡ tally_of (values_between part.landmarks.landmarks from to)
   pub room : HasRoom seen
   pub cuts : HasCuts seen
 
@@ -148,7 +148,7 @@ module _ {s : Stream} {landmarks : List Landmark} {from to : ℕ} {before : List
     seen-next : seen_after landmarks from to seen w ≡ seen_by landmarks from to (next.gone ++ w ∷ [])
     seen-next =
         ap (λ (now : Seen). seen_after landmarks from to now w) next.seen_is
-        ∙ sym (fold-append (seen_after landmarks from to) (marks_seen (tally_of (values_in landmarks from to))) next.gone (w ∷ []))
+        ∙ sym (fold-append (seen_after landmarks from to) (marks_seen (tally_of (values_between landmarks from to))) next.gone (w ∷ []))
 
     seen-apart : is_apart from to w ≡ true → seen ≡ seen_by landmarks from to (next.gone ++ w ∷ [])
     seen-apart apart = sym (cond-true (is_apart from to w) seen (seen_with landmarks from to seen w) apart) ∙ seen-next
@@ -203,7 +203,7 @@ module _ {s : Stream} {landmarks : List Landmark} {from to : ℕ} {before : List
         let here = seen-apart (apart-late from to w.summary.t_first w.summary.t_last (omega (arith, begins, late))) in
         let rest = fold-late landmarks from to seen _ _ next.behind next.stand (omega (arith, begins, late, rises)) in
         sym rest ∙ ap (λ (now : Seen). fold (seen_after landmarks from to) now next.behind) here
-        ∙ sym (fold-append (seen_after landmarks from to) (marks_seen (tally_of (values_in landmarks from to))) (next.gone ++ w ∷ []) next.behind)
+        ∙ sym (fold-append (seen_after landmarks from to) (marks_seen (tally_of (values_between landmarks from to))) (next.gone ++ w ∷ []) next.behind)
         ∙ ap (λ ws. seen_by landmarks from to ws) (append_assoc next.gone (w ∷ []) next.behind ∙ sym next.is)
 
 -- windows that end before the range are passed over

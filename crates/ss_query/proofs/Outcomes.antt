@@ -24,7 +24,7 @@ use Rattle.ss_model.specs.Standing.{IsStream}
 use Rattle.ss_model.specs.State.{Stream}
 use Rattle.ss_model.specs.declared.outcome.Outcome.TheVariants.{Count, Max, Min, Sum}
 use Rattle.ss_model.specs.declared.types.Window.{Window}
-use Rattle.ss_query.specs.Asked.{counts_of, cut_of, figures_of, known_count, known_max, known_min, known_sum, outcome_seen, seen_of, sums_of}
+use Rattle.ss_query.specs.Asked.{counts_of, cut_of, figures_of, seen_count, seen_max, seen_min, seen_sum, outcome_seen, seen_of, sums_of}
 use Rattle.ss_query.specs.declared.asking.Seen.{Seen}
 use Rattle.ss_query.specs.declared.cut.Cut.{Cut}
 use Rattle.ss_query.proofs.MarkedTallies.{greatest-asked, least-asked, length-asked, total-asked}
@@ -74,23 +74,23 @@ sums-listed known (Some l) (Some r) = (omega (arith, ints), omega (arith, ints))
 
 -- what is answered from what is known is the answer of the windows and of the values of landmarks
 module _ (landmarks : List Landmark) (from to : ℕ) (seen : Seen) (ws : List Window) (is : IsSeen landmarks from to seen ws) where
-  least-seen : known_min seen.whole seen.marked ≡ least_in (known_mins from to ws (marked_values landmarks))
+  least-seen : seen_min seen.whole seen.marked ≡ least_in (known_mins from to ws (marked_values landmarks))
   least-seen =
       ap₂ (either int_min) is.known.least (ap (λ (t : Tally). t.least) is.marked ∙ least-asked landmarks from to)
       ∙ sym (choice_in-append IsChoice-min (map (λ (w : Window). w.summary.min) (whole_windows from to ws)) (asked from to (marked_values landmarks)))
 
-  greatest-seen : known_max seen.whole seen.marked ≡ greatest_in (known_maxs from to ws (marked_values landmarks))
+  greatest-seen : seen_max seen.whole seen.marked ≡ greatest_in (known_maxs from to ws (marked_values landmarks))
   greatest-seen =
       ap₂ (either int_max) is.known.greatest (ap (λ (t : Tally). t.greatest) is.marked ∙ greatest-asked landmarks from to)
       ∙ sym (choice_in-append IsChoice-max (map (λ (w : Window). w.summary.max) (whole_windows from to ws)) (asked from to (marked_values landmarks)))
 
   -- how many values are known, and their sum
-  pub known_count-seen : known_count seen.whole seen.marked ≡ intervals.known_count from to ws (marked_values landmarks)
-  known_count-seen =
+  pub seen_count-seen : seen_count seen.whole seen.marked ≡ intervals.known_count from to ws (marked_values landmarks)
+  seen_count-seen =
       ap₂ (λ m n. m + n) is.known.count (ap (λ (t : Tally). t.count) is.marked ∙ length-asked landmarks from to)
 
-  pub known_sum-seen : known_sum seen.whole seen.marked ≡ intervals.known_sum from to ws (marked_values landmarks)
-  known_sum-seen = ap₂ (λ p q. p +ℤ q) is.known.sum (ap (λ (t : Tally). t.sum) is.marked ∙ total-asked landmarks from to)
+  pub seen_sum-seen : seen_sum seen.whole seen.marked ≡ intervals.known_sum from to ws (marked_values landmarks)
+  seen_sum-seen = ap₂ (λ p q. p +ℤ q) is.known.sum (ap (λ (t : Tally). t.sum) is.marked ∙ total-asked landmarks from to)
 
   splits : figures_in (listed seen.left seen.right) ≡ split_windows (is_free landmarks) from to ws
   splits = ap (λ l. figures_in l) is.cuts ∙ figures-cuts landmarks from to (filter (is_split from to) ws)
@@ -100,10 +100,10 @@ module _ (landmarks : List Landmark) (from to : ℕ) (seen : Seen) (ws : List Wi
       let both = counts-listed seen.left seen.right in
       let least = both.0 ∙ ap (sum_by least_count) splits in
       let greatest = both.1 ∙ ap (sum_by greatest_count) splits in
-      ap₂ Count (omega (arith, known_count-seen, least)) (omega (arith, known_count-seen, greatest))
+      ap₂ Count (omega (arith, seen_count-seen, least)) (omega (arith, seen_count-seen, greatest))
   outcome-seen kinds.Sum =
-      let both = sums-listed (known_sum seen.whole seen.marked) seen.left seen.right in
-      ap₂ Sum (both.0 ∙ ap₂ (λ p q. p +ℤ q) known_sum-seen (ap lows splits)) (both.1 ∙ ap₂ (λ p q. p +ℤ q) known_sum-seen (ap highs splits))
+      let both = sums-listed (seen_sum seen.whole seen.marked) seen.left seen.right in
+      ap₂ Sum (both.0 ∙ ap₂ (λ p q. p +ℤ q) seen_sum-seen (ap lows splits)) (both.1 ∙ ap₂ (λ p q. p +ℤ q) seen_sum-seen (ap highs splits))
   outcome-seen kinds.Min = ap Min (ap₂ min_interval least-seen (listed-figures seen.left seen.right ∙ splits))
   outcome-seen kinds.Max = ap Max (ap₂ max_interval greatest-seen (listed-figures seen.left seen.right ∙ splits))
 

@@ -16,7 +16,7 @@ use Rattle.ss_bounds.specs.Extremes.{listed}
 use Rattle.ss_bounds.specs.Truth.{total}
 use Rattle.ss_bounds.proofs.ChoiceLemmas.{IsChoice-max, IsChoice-min, choice_in-append}
 use Rattle.ss_landmarks.specs.Landmark.{Landmark}
-use Rattle.ss_landmarks.specs.ValuesIn.{tally_of, values_in}
+use Rattle.ss_landmarks.specs.ValuesIn.{tally_of, values_between}
 use Rattle.ss_landmarks.specs.declared.tally.Tally.{Tally}
 use Rattle.ss_model.specs.Interval.{is_apart, is_split, is_whole, whole_windows}
 use Rattle.ss_model.specs.Standing.{IsStream}
@@ -45,14 +45,14 @@ pub record AreKnown (whole : Option Figures) (ws : List Window) : Type 0 where
 
 -- what is known of a range once these windows are read
 pub record IsSeen (landmarks : List Landmark) (from to : ℕ) (seen : Seen) (ws : List Window) : Type 0 where
-  pub marked : seen.marked ≡ tally_of (values_in landmarks from to)
+  pub marked : seen.marked ≡ tally_of (values_between landmarks from to)
   pub known : AreKnown seen.whole (whole_windows from to ws)
   pub cuts : listed seen.left seen.right ≡ map (cut_of landmarks from to) (filter (is_split from to) ws)
   left_behind : IfSome seen.left (λ s. from < seen.next_time)
   right_behind : IfSome seen.right (λ s. to + 1 < seen.next_time)
   pub whole_behind : IfSome seen.whole (λ f. f.t_last < seen.next_time)
 
-pub IsSeen-none : (landmarks : List Landmark) (from to : ℕ) (marked : Tally) → marked ≡ tally_of (values_in landmarks from to) →
+pub IsSeen-none : (landmarks : List Landmark) (from to : ℕ) (marked : Tally) → marked ≡ tally_of (values_between landmarks from to) →
     IsSeen landmarks from to (marks_seen marked) []
 IsSeen-none landmarks from to marked is = record {
   marked = is;
@@ -372,5 +372,5 @@ IsSeen-fold landmarks from to seen gone first time (w ∷ ws) stand soon is =
 
 pub IsSeen-seen_of : (from to : ℕ) (s : Stream) → IsStream s → IsSeen s.landmarks from to (seen_of from to s) s.windows
 IsSeen-seen_of from to s is =
-    let marked = tally_of (values_in s.landmarks from to) in
+    let marked = tally_of (values_between s.landmarks from to) in
     IsSeen-fold s.landmarks from to (marks_seen marked) [] 1 0 s.windows is.windows.stand (omega arith) (IsSeen-none s.landmarks from to marked refl)

@@ -7,7 +7,7 @@ use Rattle.ss_bounds.specs.Extremes.{listed, max_interval, min_interval}
 use Rattle.ss_bounds.specs.Split.{IsSplit, SplitFigures, count_interval, sum_interval}
 use Rattle.ss_landmarks.specs.Free.{is_free}
 use Rattle.ss_landmarks.specs.Landmark.{Landmark}
-use Rattle.ss_landmarks.specs.ValuesIn.{tally_of, values_in}
+use Rattle.ss_landmarks.specs.ValuesIn.{tally_of, values_between}
 use Rattle.ss_landmarks.specs.declared.tally.Tally.{Tally}
 use Rattle.ss_catalog.specs.declared.query.Kind.{Kind}
 use Rattle.ss_catalog.specs.declared.query.Kind.TheVariants as kinds
@@ -74,7 +74,7 @@ seen_after landmarks from to seen w = if is_apart from to w then seen else seen_
 
 -- what is known of a stream: of its landmarks, and of all its windows, oldest first
 abbrev pub seen_of : ℕ → ℕ → Stream → Seen
-seen_of from to s = fold (seen_after s.landmarks from to) (marks_seen (tally_of (values_in s.landmarks from to))) s.windows
+seen_of from to s = fold (seen_after s.landmarks from to) (marks_seen (tally_of (values_between s.landmarks from to))) s.windows
 
 -- the values so far are no more than a stream can have, and the whole windows among them lie before the time of the next one
 pub record HasRoom (seen : Seen) : Type 0 where
@@ -106,17 +106,17 @@ figures_of cut = option_map (λ (c : Cut). c.split) cut
 
 -- of the windows that lie whole in the range and of the values of landmarks in it: how many values, their sum, the least and the
 -- greatest
-abbrev pub known_count : Option Figures → Tally → ℕ
-known_count whole marked = option_map_or (λ (f : Figures). f.count) whole 0 + marked.count
+abbrev pub seen_count : Option Figures → Tally → ℕ
+seen_count whole marked = option_map_or (λ (f : Figures). f.count) whole 0 + marked.count
 
-abbrev pub known_sum : Option Figures → Tally → ℤ
-known_sum whole marked = option_map_or (λ (f : Figures). f.sum) whole (pos 0) +ℤ marked.sum
+abbrev pub seen_sum : Option Figures → Tally → ℤ
+seen_sum whole marked = option_map_or (λ (f : Figures). f.sum) whole (pos 0) +ℤ marked.sum
 
-abbrev pub known_min : Option Figures → Tally → Option ℤ
-known_min whole marked = lesser (option_map (λ (f : Figures). f.min) whole) marked.least
+abbrev pub seen_min : Option Figures → Tally → Option ℤ
+seen_min whole marked = lesser (option_map (λ (f : Figures). f.min) whole) marked.least
 
-abbrev pub known_max : Option Figures → Tally → Option ℤ
-known_max whole marked = greater (option_map (λ (f : Figures). f.max) whole) marked.greatest
+abbrev pub seen_max : Option Figures → Tally → Option ℤ
+seen_max whole marked = greater (option_map (λ (f : Figures). f.max) whole) marked.greatest
 
 -- no more values of landmarks than are kept, with a sum of so many of 64 bits
 pub record IsFewMarked (marked : Tally) : Type 0 where
@@ -130,10 +130,10 @@ IsNear z = unsigned_abs z < 2 ^ 120
 -- what is answered from what is known
 abbrev pub outcome_seen : Kind → Seen → Outcome
 outcome_seen kinds.Count seen =
-    let known = known_count seen.whole seen.marked in
+    let known = seen_count seen.whole seen.marked in
     Count (known + (counts_of seen.left).0 + (counts_of seen.right).0) (known + (counts_of seen.left).1 + (counts_of seen.right).1)
 outcome_seen kinds.Sum seen =
-    let known = known_sum seen.whole seen.marked in
+    let known = seen_sum seen.whole seen.marked in
     Sum (known +ℤ (sums_of seen.left).0 +ℤ (sums_of seen.right).0) (known +ℤ (sums_of seen.left).1 +ℤ (sums_of seen.right).1)
-outcome_seen kinds.Min seen = Min (min_interval (known_min seen.whole seen.marked) (listed (figures_of seen.left) (figures_of seen.right)))
-outcome_seen kinds.Max seen = Max (max_interval (known_max seen.whole seen.marked) (listed (figures_of seen.left) (figures_of seen.right)))
+outcome_seen kinds.Min seen = Min (min_interval (seen_min seen.whole seen.marked) (listed (figures_of seen.left) (figures_of seen.right)))
+outcome_seen kinds.Max seen = Max (max_interval (seen_max seen.whole seen.marked) (listed (figures_of seen.left) (figures_of seen.right)))

@@ -6,8 +6,8 @@ ghost use Rattle.ss_model.specs.Closed.{last_position};
 ghost use Rattle.ss_model.specs.Interval.{is_apart, is_split, is_whole, split_figures};
 ghost use Rattle.ss_model.specs.Marks.{lies_free};
 ghost use Rattle.ss_summary.specs.declared.summary.TheConstants.{GREATEST_COUNT};
-ghost use Rattle.ss_query.specs.Asked.{Follows, HasCuts, IsCut, IsFewMarked, IsNear, counts_of, cut_of, figures_of, joined_with, known_count};
-ghost use Rattle.ss_query.specs.Asked.{known_sum, left_with, marks_seen, outcome_seen, right_with, seen_with, sums_of, whole_with};
+ghost use Rattle.ss_query.specs.Asked.{Follows, HasCuts, IsCut, IsFewMarked, IsNear, counts_of, cut_of, figures_of, joined_with, seen_count};
+ghost use Rattle.ss_query.specs.Asked.{seen_sum, left_with, marks_seen, outcome_seen, right_with, seen_with, sums_of, whole_with};
 
 use crate::Cut;
 use ss_bounds::{Split, count_bounds, greater, lesser, max_bounds, min_bounds, sum_bounds};
@@ -227,7 +227,7 @@ pub fn with_window(seen: Seen, query: &Query, landmarks: &Landmarks, window: &Wi
 // How many values are known: those of the windows that lie whole in the range, and those of landmarks.
 fn known_count(whole: Option<Summary>, marked: Tally) -> u64
     requires { IsFewMarked marked }
-    ensures value { result ≡ known_count whole marked }
+    ensures value { result ≡ seen_count whole marked }
     ensures few { result ≤ 2 * GREATEST_COUNT }
 {
     match whole {
@@ -239,7 +239,7 @@ fn known_count(whole: Option<Summary>, marked: Tally) -> u64
 // What the sum of these is.
 fn known_sum(whole: Option<Summary>, marked: Tally) -> i128
     requires { IsFewMarked marked }
-    ensures value { result ≡ known_sum whole marked }
+    ensures value { result ≡ seen_sum whole marked }
     ensures near { IsNear result }
 {
     match whole {

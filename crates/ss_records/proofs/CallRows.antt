@@ -6,7 +6,7 @@ use Rattle.ss_outside.specs.Crash.{OnlyReads}
 use Rattle.ss_outside.specs.Disk.{NothingPending, Told}
 use Rattle.ss_outside.specs.declared.source.Failed.{Failed}
 use Rattle.ss_journal.specs.Calls.{ChangesMap, KeepsMap, KeepsShown, MakesDurable}
-use Rattle.ss_journal.specs.Kept.{IfStaged, IsKept, IsRunning, IsSettled, OpensAs, shown, with_entries}
+use Rattle.ss_journal.specs.Kept.{IfStaged, IsKept, IsRunning, IsSettled, OpensMapAs, shown, with_entries}
 use Rattle.ss_journal.specs.Redo.{SlotMap, StandsFor, changed}
 use Rattle.ss_journal.specs.declared.format.TheConstants.{MOST_SLOTS}
 use Rattle.ss_journal.specs.declared.journal_error.JournalError.{JournalError}
@@ -20,7 +20,7 @@ module _ (records : RecordsState) (old new : Told) where
   OpensRecords-Ok : OpensRecords (Ok records) old new → AreKept records new.content
   OpensRecords-Ok opens = opens.kept
 
-  OpensRecords-opens : (result : Result RecordsState JournalError) → OpensRecords result old new → OpensAs old.content (journal_of result)
+  OpensRecords-opens : (result : Result RecordsState JournalError) → OpensRecords result old new → OpensMapAs old.content (journal_of result)
   OpensRecords-opens result opens = opens.opens
 
   OpensRecords-reads : (result : Result RecordsState JournalError) → OpensRecords result old new → OnlyReads old new

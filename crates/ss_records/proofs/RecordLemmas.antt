@@ -11,7 +11,7 @@ use Rattle.ss_outside.specs.Step.{Step}
 use Rattle.ss_outside.specs.Verdict.{fine, no_memory}
 use Rattle.ss_journal.specs.Calls.{slot_in_page, Commits, HasCommitted, HasSettled, MakesRoom, Opens, ReadsPage, ReadsSlot}
 use Rattle.ss_journal.specs.Calls.{Seals, Settles, Stages}
-use Rattle.ss_journal.specs.Kept.{JournalState, IsKept, IsRunning, IsSealed, IsSettled, OpensAs, shown}
+use Rattle.ss_journal.specs.Kept.{JournalState, IsKept, IsRunning, IsSealed, IsSettled, OpensMapAs, shown}
 use Rattle.ss_journal.specs.Puts.{slots_fit, extent_after, with_puts, IsTxn}
 use Rattle.ss_journal.specs.Redo.{SlotMap, StandsFor, changed}
 use Rattle.ss_journal.specs.declared.journal_error.JournalError.{JournalError}
@@ -155,7 +155,7 @@ module _ (journal : JournalState) where
   }
 
 -- a journal was opened, and then each slot was read
-pub opens-failed : (journal : JournalState) (error : JournalError) (old mid new : Told) → ((content : List ℕ) → OpensAs content (Err error))
+pub opens-failed : (journal : JournalState) (error : JournalError) (old mid new : Told) → ((content : List ℕ) → OpensMapAs content (Err error))
     → Opens (Ok journal) old mid → ReadsLive journal (Err error) mid new → OpensRecords (Err error) old new
 opens-failed journal error old mid new refused opened read = record {
   opens = refused old.content;

@@ -9,7 +9,7 @@ use Rattle.std.proofs.lemmas.Nat.Bits.{bit_at-zero}
 use Rattle.std.specs.List.{position, position_or_len}
 use Rattle.std.specs.Int.{bit_at}
 use Rattle.ss_records.specs.Bits.{is_set, is_full}
-use Rattle.ss_records.specs.Tree.{members, Summarizes, IsTree, FullBefore, IsFirstClear}
+use Rattle.ss_records.specs.Tree.{members, MarksFullWords, IsTree, FullBefore, IsFirstClear}
 use Rattle.ss_records.proofs.BitLemmas.{digit, is_set-full}
 
 pub length-members : (low : List ℕ) → length (members low) ≡ 64 * length low
@@ -31,7 +31,7 @@ first-from words n place lt full within clear before = record {
 }
 
 -- one level down: the word of the first bit that isn't set is the first word that isn't full
-module _ (upper lower : List ℕ) (over : Summarizes upper lower) (place : ℕ) (first : IsFirstClear upper place) where
+module _ (upper lower : List ℕ) (over : MarksFullWords upper lower) (place : ℕ) (first : IsFirstClear upper place) where
   pub first-word : place < length lower
   first-word = omega (arith, over.words, first.below)
 
@@ -48,7 +48,7 @@ position-first low place first =
     (λ lt. ap not (get_or-members low place false first.below ∙ first.clear))
 
 -- where the upper words are full, so are the lower ones
-all-full : (upper lower : List ℕ) → Summarizes upper lower → FullBefore (length upper) upper → FullBefore (length lower) lower
+all-full : (upper lower : List ℕ) → MarksFullWords upper lower → FullBefore (length upper) upper → FullBefore (length lower) lower
 all-full upper lower over full word lt = sym (over.full word lt) ∙ is_set-full upper word (full (word / 64) (omega (arith, lt, over.words)))
 
 pub position-none : (low middle top : List ℕ) → IsTree low middle top → FullBefore (length top) top → position not (members low) ≡ None
@@ -66,11 +66,11 @@ position-some low place below is =
     cond-true _ _ _ (lt-ltb (position_or_len not (members low)) (length (members low)) (omega (arith, below, is, length-members low))) ∙ ap Some (sym is)
 
 -- a bit of the lower words is put, and the bit over its word tells whether it is full
-module _ (upper lower new-upper new-lower : List ℕ) (over : Summarizes upper lower) (k : ℕ) (full : Bool) where
-  pub Summarizes-put : length new-lower ≡ length lower → length new-upper ≡ length upper
+module _ (upper lower new-upper new-lower : List ℕ) (over : MarksFullWords upper lower) (k : ℕ) (full : Bool) where
+  pub MarksFullWords-put : length new-lower ≡ length lower → length new-upper ≡ length upper
       → ((n : ℕ) → n ≢ k / 64 → get_or new-lower n 0 ≡ get_or lower n 0) → full ≡ is_full (get_or new-lower (k / 64) 0)
-      → ((j : ℕ) → is_set new-upper j ≡ cond (nat_eq j (k / 64)) full (is_set upper j)) → Summarizes new-upper new-lower
-  Summarizes-put same-lower same-upper others is bits = record {
+      → ((j : ℕ) → is_set new-upper j ≡ cond (nat_eq j (k / 64)) full (is_set upper j)) → MarksFullWords new-upper new-lower
+  MarksFullWords-put same-lower same-upper others is bits = record {
     words = omega (arith, same-lower, same-upper, over.words);
     full = λ word lt. elim (cases_eq word (k / 64)) [
       | inl here ↦ bits word ∙ cond-true (nat_eq word (k / 64)) _ _ (eq-eqb word (k / 64) here) ∙ is ∙ ap (λ (n : ℕ). is_full (get_or new-lower n 0)) (sym here)
@@ -124,8 +124,8 @@ get_or-zeros n k =
 is_set-zeros : (n k : ℕ) → is_set (zero_words n) k ≡ false
 is_set-zeros n k = ap (λ (w : ℕ). nat_eq (bit_at w (k % 64)) 1) (get_or-zeros n (k / 64)) ∙ ap (λ (bit : ℕ). nat_eq bit 1) (bit_at-zero (k % 64))
 
-Summarizes-zeros : (n : ℕ) → Summarizes (zero_words n) (zero_words (64 * n))
-Summarizes-zeros n = record {
+MarksFullWords-zeros : (n : ℕ) → MarksFullWords (zero_words n) (zero_words (64 * n))
+MarksFullWords-zeros n = record {
   words = omega (arith, length-zeros n, length-zeros (64 * n));
   full = λ word lt. is_set-zeros n word ∙ sym (ap is_full (get_or-zeros (64 * n) word));
 }
@@ -134,8 +134,8 @@ pub IsTree-zeros : (n : ℕ) → n ≤ 4 → IsTree (zero_words (4096 * n)) (zer
 IsTree-zeros n few = record {
   few = omega (arith, few, length-zeros n);
   over_low = let same : 64 * (64 * n) ≡ 4096 * n = omega arith in
-      subst (λ (m : ℕ). Summarizes (zero_words (64 * n)) (zero_words m)) same (Summarizes-zeros (64 * n));
-  over_middle = Summarizes-zeros n;
+      subst (λ (m : ℕ). MarksFullWords (zero_words (64 * n)) (zero_words m)) same (MarksFullWords-zeros (64 * n));
+  over_middle = MarksFullWords-zeros n;
 }
 
 pub length-members-zeros : (n : ℕ) → length (members (zero_words n)) ≡ 64 * n

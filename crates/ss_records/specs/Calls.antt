@@ -4,7 +4,7 @@ use Rattle.ss_outside.specs.Crash.{OnlyReads}
 use Rattle.ss_outside.specs.Disk.{NothingPending, Told}
 use Rattle.ss_outside.specs.declared.source.Failed.{Failed}
 use Rattle.ss_journal.specs.Calls.{ChangesMap, KeepsMap, KeepsShown, MakesDurable}
-use Rattle.ss_journal.specs.Kept.{IfStaged, JournalState, OpensAs, shown}
+use Rattle.ss_journal.specs.Kept.{IfStaged, JournalState, OpensMapAs, shown}
 use Rattle.ss_journal.specs.Redo.{SlotMap, StandsFor, changed}
 use Rattle.ss_journal.specs.declared.journal_error.JournalError.{JournalError}
 use Rattle.ss_journal.specs.declared.put.Put.{Put}
@@ -18,7 +18,7 @@ pub record ReadsLive (journal : JournalState) (result : Result (List Bool) Journ
 
 -- A disk is opened: the answer is the map of its content, or why it has none. Content and images stay.
 pub record OpensRecords (result : Result RecordsState JournalError) (old new : Told) : Type 0 where
-  pub opens : OpensAs old.content (journal_of result)
+  pub opens : OpensMapAs old.content (journal_of result)
   pub kept : IfOk result (λ records. AreKept records new.content)
   pub reads : OnlyReads old new
 

@@ -8,15 +8,15 @@ abbrev pub members : List ℕ → List Bool
 members low = map (is_set low) (range_with_len 0 (64 * length low))
 
 -- a bit of the upper words for each lower word: whether it is full
-pub record Summarizes (upper lower : List ℕ) : Type 0 where
+pub record MarksFullWords (upper lower : List ℕ) : Type 0 where
   pub words : length lower ≡ 64 * length upper
   pub full : (word : ℕ) → word < length lower → is_set upper word ≡ is_full (slice_index lower word)
 
 -- three levels, of which the top one is of four words at most
 pub record IsTree (low middle top : List ℕ) : Type 0 where
   pub few : length top ≤ 4
-  pub over_low : Summarizes middle low
-  pub over_middle : Summarizes top middle
+  pub over_low : MarksFullWords middle low
+  pub over_middle : MarksFullWords top middle
 
 -- the words before number n are full
 abbrev pub FullBefore : ℕ → List ℕ → Type 0

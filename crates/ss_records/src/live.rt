@@ -3,7 +3,7 @@ ghost use Rattle.std.specs.Prelude.{◌≡◌, ◌<◌, ℕ, List, length, All, 
 ghost use Rattle.ss_outside.specs.Disk.{OfContent};
 ghost use Rattle.ss_outside.specs.Step.{Step};
 ghost use Rattle.ss_journal.specs.Calls.{verdict_of_open};
-ghost use Rattle.ss_journal.specs.Kept.{IsKept, IsRunning, OpensAs};
+ghost use Rattle.ss_journal.specs.Kept.{IsKept, IsRunning, OpensMapAs};
 ghost use Rattle.ss_records.specs.Calls.{ReadsLive};
 ghost use Rattle.ss_records.specs.Live.{are_zeros, live_after, AreBelow};
 
@@ -32,7 +32,7 @@ pub fn read_live<D: Disk>(
     requires one_disk { OfContent (D.seen disk.old) (IsKept journal.old) }
     ensures live { Step (verdict_of_open result) (D.seen disk.old) (D.seen disk.new) (ReadsLive journal.old result) }
     // It fails only where the disk does or the memory runs out, and neither says anything of a content.
-    ensures refused { (content : List ℕ) → IfErr result (λ error. OpensAs content (Err error)) }
+    ensures refused { (content : List ℕ) → IfErr result (λ error. OpensMapAs content (Err error)) }
     ensures bounded { IfOk result (AreBelow journal.old.extent) }
     ensures journal { OnOk result (journal.new ≡ journal.old) }
 {

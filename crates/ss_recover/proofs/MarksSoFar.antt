@@ -21,7 +21,7 @@ use Rattle.ss_recover.specs.Marked.{Marked, are_marks, has_said, is_closed_befor
 use Rattle.ss_recover.specs.Marked.{landmarks_made, marked_by, marked_on, marked_with, nothing_marked}
 use Rattle.ss_recover.proofs.Lists.{all_weaker, each-list_all}
 use Rattle.ss_recover.proofs.Marks.{marks_of, marks_of-append, value_records-append}
-use Rattle.ss_recover.specs.Usable.{IsTimed, IsUsable}
+use Rattle.ss_recover.specs.Usable.{HasValidTimes, IsUsable}
 pub use Rattle.ss_recover.proofs.Latest.{latest_in-closed, latest_in-value, latest_of-last}
 
 -- and back: records of landmarks with all their values are those of the landmarks that they make
@@ -122,7 +122,7 @@ AreLandmarks-next said before (Some l) new follow rightly next is =
 
 -- what a usable record of a landmark says of it
 IsLandmark-bare : (said start : ℕ) (finish : Option ℕ) →
-    IsTimed said start finish → IsLandmark (record { start = start; finish = finish; values = [] }) × SaysNone said finish
+    HasValidTimes said start finish → IsLandmark (record { start = start; finish = finish; values = [] }) × SaysNone said finish
 IsLandmark-bare said start None is = (record { start = is.1; values = tt; finish = tt }, is.0)
 IsLandmark-bare said start (Some f) is = (
   record { start = omega (arith, is.0, is.1); values = tt; finish = (is.0, is.1, λ k d below. absurd (omega arith)) },

@@ -23,7 +23,7 @@ use Rattle.ss_recover.specs.Marked.{landmarks_made}
 use Rattle.ss_recover.specs.Order.{Rises, place_of, stream_of}
 use Rattle.ss_recover.specs.Runs.{is_run}
 use Rattle.ss_recover.specs.Shown.{IsHeldOf, found_by, head_found, is_landmark, is_value, is_window}
-use Rattle.ss_recover.specs.Usable.{IsUsable, in_slot, slots_of, without_slots}
+use Rattle.ss_recover.specs.Usable.{IsUsable, in_slot, slots_found, without_slots}
 use Rattle.ss_recover.specs.declared.found.Found.{Found}
 use Rattle.ss_recover.specs.declared.parts.StreamParts.{StreamParts}
 use Rattle.ss_recover.proofs.Lists.{all_weaker, filter-none, map-all}
@@ -63,7 +63,7 @@ filter-records p (f ∷ fs) =
     ]
 
 -- the records that were found, each in its slot
-slots-records : (all : List Found) → in_slots (slots_of all) (without_slots all) ≡ map in_slot all
+slots-records : (all : List Found) → in_slots (slots_found all) (without_slots all) ≡ map in_slot all
 slots-records [] = refl
 slots-records (f ∷ fs) = ap (λ l. in_slot f ∷ l) (slots-records fs)
 

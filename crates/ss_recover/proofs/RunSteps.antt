@@ -16,7 +16,7 @@ use Rattle.ss_codec.specs.declared.record.Record.{Record}
 use Rattle.ss_codec.specs.declared.record.Record.TheVariants as records
 use Rattle.ss_landmarks.specs.Free.{is_up_to}
 use Rattle.ss_landmarks.specs.Landmark.{Landmark, LandmarkValue, change_last, opened_at, with_value}
-use Rattle.ss_landmarks.specs.Landmarks.{IsState as AreKnown}
+use Rattle.ss_landmarks.specs.Landmarks.{AreKnown}
 use Rattle.ss_landmarks.specs.Order.{AreLandmarks, CanOpen, CanTake}
 use Rattle.ss_landmarks.specs.declared.landmarks.TheConstants.{LATEST_TIME, MOST_LANDMARK_SLOTS}
 use Rattle.ss_line.specs.Line.{LineState}
@@ -32,9 +32,10 @@ use Rattle.ss_recover.specs.Carried.{is_mark_of, window_of}
 use Rattle.ss_recover.specs.Held.{span_held, span_of, times_held, times_of}
 use Rattle.ss_recover.specs.Marked.{Marked, has_all_values, is_next_landmark, is_next_value, landmarks_in, landmarks_made, marked_by, marked_with}
 use Rattle.ss_recover.specs.Runs.{Run, is_next_window, marking, run_with, tiled_with, tiling, windows_from}
-use Rattle.ss_recover.specs.Shown.{Adds, AreKept, Grows, HasClosed, IsAll, IsReady, IsRunOf, IsSame, MayClose, Opens, Shows, ShowsRun, can_add, can_open, finish_of}
+use Rattle.ss_recover.specs.Shown.{AddsToLandmark, AreInSlots, Grows, HasClosed, IsAll, IsReady, IsRunOf, IsSame, MayClose, OpensLandmark, ShowsStream}
+use Rattle.ss_recover.specs.Shown.{ShowsRun, can_add, can_open, finish_of}
 use Rattle.ss_recover.specs.Shown.{found_by, has_said_last, is_landmark, is_value, is_window, still_open}
-use Rattle.ss_recover.specs.Usable.{IsTimed, slots_of, without_slots}
+use Rattle.ss_recover.specs.Usable.{HasValidTimes, slots_found, without_slots}
 use Rattle.ss_recover.specs.declared.found.Found.{Found}
 use Rattle.ss_recover.specs.declared.parts.StreamParts.{StreamParts}
 use Rattle.ss_recover.specs.declared.run.Last.{Last}
@@ -50,9 +51,9 @@ use Rattle.ss_recover.proofs.RunMarks.{open-shown, said-shown}
 -- ---- what is kept in slots
 
 found-push : (p : Record → Bool) (own : List Found) (x : Found) →
-    slots_of (found_by p (own ++ x ∷ [])) ≡ slots_of (found_by p own) ++ slots_of (found_by p (x ∷ []))
+    slots_found (found_by p (own ++ x ∷ [])) ≡ slots_found (found_by p own) ++ slots_found (found_by p (x ∷ []))
 found-push p own x =
-    ap slots_of (filter-append (λ (f : Found). p f.holds) own (x ∷ []))
+    ap slots_found (filter-append (λ (f : Found). p f.holds) own (x ∷ []))
     ∙ map-append (λ (f : Found). f.slot) (found_by p own) (found_by p (x ∷ []))
 
 records-push : (own : List Found) (x : Found) → without_slots (own ++ x ∷ []) ≡ without_slots own ++ x.holds ∷ []
@@ -66,12 +67,12 @@ marks-push : (n : ℕ) (own : List Found) (x : Found) →
     filter (is_mark_of n) (without_slots (own ++ x ∷ [])) ≡ filter (is_mark_of n) (without_slots own) ++ filter (is_mark_of n) (x.holds ∷ [])
 marks-push n own x = ap (filter (is_mark_of n)) (records-push own x) ∙ filter-append (is_mark_of n) (without_slots own) (x.holds ∷ [])
 
-module _ (line : LineState) (landmarks values : List ℕ) (number : ℕ) (own : List Found) (kept : AreKept line landmarks values number own) where
+module _ (line : LineState) (landmarks values : List ℕ) (number : ℕ) (own : List Found) (kept : AreInSlots line landmarks values number own) where
   -- there is room for one more of each
   room-kept : length own < MOST_RECORDS →
       (length line.entries + 1 ≤ MOST_PLACES) × (length landmarks < MOST_LANDMARK_SLOTS) × (length values < MOST_LANDMARK_SLOTS)
   room-kept room =
-      let few : (p : Record → Bool) → length (slots_of (found_by p own)) ≤ length own =
+      let few : (p : Record → Bool) → length (slots_found (found_by p own)) ≤ length own =
       λ p. omega (
         arith,
         length-map (found_by p own) (λ (f : Found). f.slot),
@@ -92,7 +93,7 @@ module _ (line : LineState) (landmarks values : List ℕ) (number : ℕ) (own : 
 
   -- what a record of a landmark, of a value and of a window adds
   kept-landmark : (slot id n said start : ℕ) (finish : Option ℕ) (more : List ℕ) → more ≡ landmarks ++ slot ∷ [] →
-      AreKept line more values number (own ++ record { slot = slot; holds = records.Landmark id n said start finish } ∷ [])
+      AreInSlots line more values number (own ++ record { slot = slot; holds = records.Landmark id n said start finish } ∷ [])
   kept-landmark slot id n said start finish more is =
       let x : Found = record { slot = slot; holds = records.Landmark id n said start finish } in record {
         positions = kept.positions ∙ ap (map span_of) (sym (windows-push number own x ∙ append-nil _));
@@ -103,7 +104,7 @@ module _ (line : LineState) (landmarks values : List ℕ) (number : ℕ) (own : 
       }
 
   kept-value : (slot id n index t : ℕ) (v : ℤ) (more : List ℕ) → more ≡ values ++ slot ∷ [] →
-      AreKept line landmarks more number (own ++ record { slot = slot; holds = records.Value id n index t v } ∷ [])
+      AreInSlots line landmarks more number (own ++ record { slot = slot; holds = records.Value id n index t v } ∷ [])
   kept-value slot id n index t v more is =
       let x : Found = record { slot = slot; holds = records.Value id n index t v } in record {
         positions = kept.positions ∙ ap (map span_of) (sym (windows-push number own x ∙ append-nil _));
@@ -114,7 +115,7 @@ module _ (line : LineState) (landmarks values : List ℕ) (number : ℕ) (own : 
       }
 
   kept-window : (new : LineState) (slot first : ℕ) (f : Figures) → Grows line new slot first f →
-      AreKept new landmarks values number (own ++ record { slot = slot; holds = records.Window number first f } ∷ [])
+      AreInSlots new landmarks values number (own ++ record { slot = slot; holds = records.Window number first f } ∷ [])
   kept-window new slot first f grows =
       let x : Found = record { slot = slot; holds = records.Window number first f } in
       let w : Window = record { first = first; summary = f } in
@@ -148,7 +149,7 @@ with_marks s marks stage = record { id = s.id; name = s.name; target = s.target;
 abbrev pub with_line : Open → LineState → Stage → Open
 with_line s line stage = record { id = s.id; name = s.name; target = s.target; slot = s.slot; marks = s.marks; line = line; stage = stage }
 
-module _ (s : Open) (q : Run) (own : List Found) (shows : Shows s q own) where
+module _ (s : Open) (q : Run) (own : List Found) (shows : ShowsStream s q own) where
   -- a stream whose landmarks or values come shows them
   in-marks : (last : Option Last) → s.stage ≡ stages.Marks last → ShowsRun (stages.Marks last) s.marks.landmarks.landmarks s.marks.latest q
   in-marks last is = subst (λ stage. ShowsRun stage s.marks.landmarks.landmarks s.marks.latest q) is shows.run
@@ -182,33 +183,33 @@ module _ (s : Open) (q : Run) (own : List Found) (shows : Shows s q own) where
 
   -- windows may come once the last landmark has closed
   pub ended : (last : Option Last) (marks : Marks) → s.stage ≡ stages.Marks last → has_said_last last ≡ true → HasClosed (finish_of last) s.marks marks →
-      MatchOption (windows_from q) ⊥ (λ next. Shows (with_marks s marks (stages.Windows 1 None)) next own)
+      MatchOption (windows_from q) ⊥ (λ next. ShowsStream (with_marks s marks (stages.Windows 1 None)) next own)
   ended last marks is said closed = go q (in-marks last is) shows.of
     where
       go : (r : Run) → ShowsRun (stages.Marks last) s.marks.landmarks.landmarks s.marks.latest r → IsRunOf s.id.0 r (without_slots own) →
-          MatchOption (windows_from r) ⊥ (λ next. Shows (with_marks s marks (stages.Windows 1 None)) next own)
+          MatchOption (windows_from r) ⊥ (λ next. ShowsStream (with_marks s marks (stages.Windows 1 None)) next own)
       go (marking m) in_marks of =
           let ls = s.marks.landmarks.landmarks in
           let whole = sym (said-shown ls s.marks.latest m last in_marks) ∙ said in
           let made : marks.landmarks.landmarks ≡ landmarks_in m = closed.landmarks ∙ closed-shown ls s.marks.latest m last in_marks in
-          let new : Shows (with_marks s marks (stages.Windows 1 None)) (tiling (landmarks_in m) 1 None) own = record {
+          let new : ShowsStream (with_marks s marks (stages.Windows 1 None)) (tiling (landmarks_in m) 1 None) own = record {
             run = (sym made, refl, refl);
             latest = closed.latest ∙ latest-shown ls s.marks.latest m last in_marks shows.latest ∙ sym (ap latest_of closed.landmarks);
             of = (ap (λ o. option_map_or landmarks_in o []) of.0, ap newest_time of.1);
             kept =
-                subst (λ l. AreKept s.line l marks.landmarks.value_slots s.id.0 own) (sym closed.slots)
-                (subst (λ l. AreKept s.line s.marks.landmarks.slots l s.id.0 own) (sym closed.value_slots) shows.kept);
+                subst (λ l. AreInSlots s.line l marks.landmarks.value_slots s.id.0 own) (sym closed.slots)
+                (subst (λ l. AreInSlots s.line s.marks.landmarks.slots l s.id.0 own) (sym closed.value_slots) shows.kept);
           } in
-          subst (λ o. MatchOption o ⊥ (λ next. Shows (with_marks s marks (stages.Windows 1 None)) next own))
+          subst (λ o. MatchOption o ⊥ (λ next. ShowsStream (with_marks s marks (stages.Windows 1 None)) next own))
           (sym (cond-true (has_all_values m) (Some (tiling (landmarks_in m) 1 None)) None whole)) new
       go (tiling ls next newest) in_marks of = absurd in_marks
 
   -- a landmark's record
   pub began : (last : Option Last) (closed opened : Marks) (slot id n said start : ℕ) (finish : Option ℕ) → s.stage ≡ stages.Marks last →
       can_open (length s.marks.landmarks.landmarks) last n start ≡ true → AreLandmarks s.marks.landmarks.landmarks → HasClosed (finish_of last) s.marks closed →
-      Opens closed opened slot start → IsTimed said start finish → id ≡ s.id.0 →
+      OpensLandmark closed opened slot start → HasValidTimes said start finish → id ≡ s.id.0 →
       MatchOption (run_with q (records.Landmark id n said start finish)) ⊥
-      (λ next. Shows (with_marks s opened (stages.Marks (Some (record { finish = finish; said = said; values = 0; from = start })))) next
+      (λ next. ShowsStream (with_marks s opened (stages.Marks (Some (record { finish = finish; said = said; values = 0; from = start })))) next
       (own ++ record { slot = slot; holds = records.Landmark id n said start finish } ∷ []))
   began last closed opened slot id n said start finish is can order closes opens timed same = go q (in-marks last is) shows.of
     where
@@ -222,12 +223,12 @@ module _ (s : Open) (q : Run) (own : List Found) (shows : Shows s q own) where
       and-true true = refl
       and-true false = refl
 
-      may-close : (o : Option ℕ) → IsTimed said start o → IfSome o (λ t. (start ≤ t) × (t ≤ LATEST_TIME))
+      may-close : (o : Option ℕ) → HasValidTimes said start o → IfSome o (λ t. (start ≤ t) × (t ≤ LATEST_TIME))
       may-close None _ = tt
       may-close (Some t) timed = timed
 
       go : (r : Run) → ShowsRun (stages.Marks last) s.marks.landmarks.landmarks s.marks.latest r → IsRunOf s.id.0 r (without_slots own) →
-          MatchOption (run_with r x.holds) ⊥ (λ next. Shows (with_marks s opened stage) next (own ++ x ∷ []))
+          MatchOption (run_with r x.holds) ⊥ (λ next. ShowsStream (with_marks s opened stage) next (own ++ x ∷ []))
       go (marking m) in_marks of =
           let ls = s.marks.landmarks.landmarks in
           let test = sym (open-shown ls s.marks.latest m last n start in_marks) ∙ can in
@@ -235,7 +236,7 @@ module _ (s : Open) (q : Run) (own : List Found) (shows : Shows s q own) where
           let next : Marked = record { before = landmarks_in m; last = Some l; said = said } in
           let with_r : marked_with m x.holds ≡ Some next = cond-true (is_next_landmark m n start) (Some next) None test in
           let mark : filter (is_mark_of s.id.0) (x.holds ∷ []) ≡ x.holds ∷ [] = rw (eq-eqb id s.id.0 same) refl in
-          let new : Shows (with_marks s opened stage) (marking next) (own ++ x ∷ []) = record {
+          let new : ShowsStream (with_marks s opened stage) (marking next) (own ++ x ∷ []) = record {
             run = record {
               landmark = l;
               last = refl;
@@ -259,18 +260,19 @@ module _ (s : Open) (q : Run) (own : List Found) (shows : Shows s q own) where
               windows-push s.id.0 own x ∙ append-nil _ ∙ of.1,
             );
             kept =
-                subst (λ k. AreKept s.line opened.landmarks.slots k s.id.0 (own ++ x ∷ [])) (sym (opens.value_slots ∙ closes.value_slots))
+                subst (λ k. AreInSlots s.line opened.landmarks.slots k s.id.0 (own ++ x ∷ [])) (sym (opens.value_slots ∙ closes.value_slots))
                 (kept-landmark s.line s.marks.landmarks.slots s.marks.landmarks.value_slots s.id.0 own shows.kept slot id n said start finish
                 opened.landmarks.slots (opens.slots ∙ ap (λ k. k ++ slot ∷ []) closes.slots));
           } in
-          subst (λ o. MatchOption (option_and_then (λ k. Some (marking k)) o) ⊥ (λ r. Shows (with_marks s opened stage) r (own ++ x ∷ []))) (sym with_r) new
+          subst (λ o. MatchOption (option_and_then (λ k. Some (marking k)) o) ⊥ (λ r. ShowsStream (with_marks s opened stage) r (own ++ x ∷ [])))
+          (sym with_r) new
       go (tiling ls next newest) in_marks of = absurd in_marks
 
   -- a value's record
   pub added : (c : Last) (new : Marks) (slot id n index t : ℕ) (v : ℤ) → s.stage ≡ stages.Marks (Some c) →
-      can_add (length s.marks.landmarks.landmarks) c n index t ≡ true → Adds s.marks new slot t v → id ≡ s.id.0 →
+      can_add (length s.marks.landmarks.landmarks) c n index t ≡ true → AddsToLandmark s.marks new slot t v → id ≡ s.id.0 →
       MatchOption (run_with q (records.Value id n index t v)) ⊥
-      (λ next. Shows (with_marks s new (stages.Marks (Some (record { finish = c.finish; said = c.said; values = index; from = t + 1 })))) next
+      (λ next. ShowsStream (with_marks s new (stages.Marks (Some (record { finish = c.finish; said = c.said; values = index; from = t + 1 })))) next
       (own ++ record { slot = slot; holds = records.Value id n index t v } ∷ []))
   added c new slot id n index t v is can adds same = go q (in-marks (Some c) is) shows.of
     where
@@ -298,7 +300,7 @@ module _ (s : Open) (q : Run) (own : List Found) (shows : Shows s q own) where
       closes-by (Some f) time up closes = (leb-true t f up, closes.1)
 
       go : (r : Run) → ShowsRun (stages.Marks (Some c)) s.marks.landmarks.landmarks s.marks.latest r → IsRunOf s.id.0 r (without_slots own) →
-          MatchOption (run_with r x.holds) ⊥ (λ next. Shows (with_marks s new stage) next (own ++ x ∷ []))
+          MatchOption (run_with r x.holds) ⊥ (λ next. ShowsStream (with_marks s new stage) next (own ++ x ∷ []))
       go (marking m) in_marks of =
           let ls = s.marks.landmarks.landmarks in
           let l = in_marks.landmark in
@@ -311,7 +313,7 @@ module _ (s : Open) (q : Run) (own : List Found) (shows : Shows s q own) where
           let next : Marked = record { before = m.before; last = option_and_then (λ k. Some (with_value value k)) m.last; said = m.said } in
           let with_r : marked_with m x.holds ≡ Some next = cond-true (is_next_value m n index t) (Some next) None test in
           let mark : filter (is_mark_of s.id.0) (x.holds ∷ []) ≡ x.holds ∷ [] = rw (eq-eqb id s.id.0 same) refl in
-          let result : Shows (with_marks s new stage) (marking next) (own ++ x ∷ []) = record {
+          let result : ShowsStream (with_marks s new stage) (marking next) (own ++ x ∷ []) = record {
             run = record {
               landmark = with_value value l;
               last = ap (λ o. option_and_then (λ k. Some (with_value value k)) o) in_marks.last;
@@ -338,15 +340,16 @@ module _ (s : Open) (q : Run) (own : List Found) (shows : Shows s q own) where
               windows-push s.id.0 own x ∙ append-nil _ ∙ of.1,
             );
             kept =
-                subst (λ k. AreKept s.line k new.landmarks.value_slots s.id.0 (own ++ x ∷ [])) (sym adds.slots)
+                subst (λ k. AreInSlots s.line k new.landmarks.value_slots s.id.0 (own ++ x ∷ [])) (sym adds.slots)
                 (kept-value s.line s.marks.landmarks.slots s.marks.landmarks.value_slots s.id.0 own shows.kept slot id n index t v
                 new.landmarks.value_slots adds.value_slots);
           } in
-          subst (λ o. MatchOption (option_and_then (λ k. Some (marking k)) o) ⊥ (λ r. Shows (with_marks s new stage) r (own ++ x ∷ []))) (sym with_r) result
+          subst (λ o. MatchOption (option_and_then (λ k. Some (marking k)) o) ⊥ (λ r. ShowsStream (with_marks s new stage) r (own ++ x ∷ [])))
+          (sym with_r) result
       go (tiling ls next newest) in_marks of = absurd in_marks
 
 -- a value that may not come
-pub not-added : (s : Open) (q : Run) (own : List Found) (c : Last) (id n index t : ℕ) (v : ℤ) → Shows s q own → s.stage ≡ stages.Marks (Some c) →
+pub not-added : (s : Open) (q : Run) (own : List Found) (c : Last) (id n index t : ℕ) (v : ℤ) → ShowsStream s q own → s.stage ≡ stages.Marks (Some c) →
     can_add (length s.marks.landmarks.landmarks) c n index t ≡ false → run_with q (records.Value id n index t v) ≡ None
 not-added s (tiling ls next newest) own c id n index t v shows is can = refl
 not-added s (marking m) own c id n index t v shows is can =
@@ -355,10 +358,10 @@ not-added s (marking m) own c id n index t v shows is can =
 
 -- a window's record
 pub grown : (s : Open) (o : Option Run) (own : List Found) (line : LineState) (slot id next first : ℕ) (newest : Option ℕ) (f : Figures) →
-    MatchOption o ⊥ (λ q. Shows s q own) → s.stage ≡ stages.Windows next newest →
+    MatchOption o ⊥ (λ q. ShowsStream s q own) → s.stage ≡ stages.Windows next newest →
     is_next_window s.marks.landmarks.landmarks next newest (record { first = first; summary = f }) ≡ true → Grows s.line line slot first f → id ≡ s.id.0 →
     MatchOption (option_and_then (λ q. tiled_with q (record { first = first; summary = f })) o) ⊥
-    (λ r. Shows (with_line s line (stages.Windows (next + f.count) (Some f.t_last))) r
+    (λ r. ShowsStream (with_line s line (stages.Windows (next + f.count) (Some f.t_last))) r
     (own ++ record { slot = slot; holds = records.Window id first f } ∷ []))
 grown s None own line slot id next first newest f shows is can grows same = absurd shows
 grown s (Some (marking m)) own line slot id next first newest f shows is can grows same =
@@ -370,7 +373,7 @@ grown s (Some (tiling ls at after)) own line slot id next first newest f shows i
     let test : is_next_window ls at after w ≡ true = (λ i. is_next_window (in_run.0 i) (in_run.1 i) (in_run.2 i) w) ∙ can in
     let stage = stages.Windows (next + f.count) (Some f.t_last) in
     let one : filter_map (window_of s.id.0) (x.holds ∷ []) ≡ w ∷ [] = rw (eq-eqb s.id.0 s.id.0 refl) refl in
-    let new : Shows (with_line s line stage) (tiling ls (at + f.count) (Some f.t_last)) (own ++ x ∷ []) = record {
+    let new : ShowsStream (with_line s line stage) (tiling ls (at + f.count) (Some f.t_last)) (own ++ x ∷ []) = record {
       run = (in_run.0, ap (λ (k : ℕ). k + f.count) in_run.1, refl);
       latest = shows.latest;
       of = (
@@ -380,9 +383,9 @@ grown s (Some (tiling ls at after)) own line slot id next first newest f shows i
       );
       kept = kept-window s.line s.marks.landmarks.slots s.marks.landmarks.value_slots s.id.0 own shows.kept line slot first f grows;
     } in
-    subst (λ o. MatchOption o ⊥ (λ r. Shows (with_line s line stage) r (own ++ record { slot = slot; holds = records.Window id first f } ∷ [])))
+    subst (λ o. MatchOption o ⊥ (λ r. ShowsStream (with_line s line stage) r (own ++ record { slot = slot; holds = records.Window id first f } ∷ [])))
     (sym (cond-true (is_next_window ls at after w) (Some (tiling ls (at + f.count) (Some f.t_last))) None test))
-    (subst (λ (n : ℕ). Shows (with_line s line stage) (tiling ls (at + f.count) (Some f.t_last))
+    (subst (λ (n : ℕ). ShowsStream (with_line s line stage) (tiling ls (at + f.count) (Some f.t_last))
     (own ++ record { slot = slot; holds = records.Window n first f } ∷ [])) (sym same) new)
   where
     newest_time-push : (ws : List Window) (w : Window) → newest_time (ws ++ w ∷ []) ≡ Some w.summary.t_last
@@ -403,7 +406,7 @@ ended_part s last = record {
 }
 
 pub all-came : (old s : Open) (o : Option Run) (own : List Found) (next : ℕ) (newest last : Option ℕ) → IsSame old s →
-    MatchOption o ⊥ (λ q. Shows s q own) → s.stage ≡ stages.Windows next newest → AreKnown s.marks.landmarks → last ≡ later newest s.marks.latest →
+    MatchOption o ⊥ (λ q. ShowsStream s q own) → s.stage ≡ stages.Windows next newest → AreKnown s.marks.landmarks → last ≡ later newest s.marks.latest →
     (is_some o ≡ true) × IsAll old own (ended_part s last)
 all-came old s None own next newest last same shows is known later_is = absurd shows
 all-came old s (Some (marking m)) own next newest last same shows is known later_is =
@@ -422,7 +425,7 @@ all-came old s (Some (tiling ls at after)) own next newest last same shows is kn
         last_time = later_is ∙ ap₂ later (sym times) shows.latest;
         landmarks = sym in_run.0 ∙ sym shows.of.0 ∙ ap (λ n. landmarks_made (filter (is_mark_of n) (without_slots own))) number;
         known = known;
-        kept = subst (λ n. AreKept s.line s.marks.landmarks.slots s.marks.landmarks.value_slots n own) number shows.kept;
+        kept = subst (λ n. AreInSlots s.line s.marks.landmarks.slots s.marks.landmarks.value_slots n own) number shows.kept;
       },
     )
 
@@ -433,7 +436,7 @@ room-ready s ready =
     let room = room-kept s.line s.marks.landmarks.slots s.marks.landmarks.value_slots s.id.0 ready.own ready.shows.kept ready.room in
     (room.1, room.2)
 
-pub room-window : (s : Open) (o : Option Run) (own : List Found) → MatchOption o ⊥ (λ q. Shows s q own) → length own < MOST_RECORDS →
+pub room-window : (s : Open) (o : Option Run) (own : List Found) → MatchOption o ⊥ (λ q. ShowsStream s q own) → length own < MOST_RECORDS →
     length s.line.entries + 1 ≤ MOST_PLACES
 room-window s None own shows room = absurd shows
 room-window s (Some q) own shows room =

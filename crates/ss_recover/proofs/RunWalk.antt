@@ -26,7 +26,7 @@ use Rattle.ss_recover.specs.Carried.{is_mark_of, window_of}
 use Rattle.ss_recover.specs.Held.{span_held, times_held}
 use Rattle.ss_recover.specs.Runs.{Run, is_ended, is_run, marking, may_stand, run_of, run_on, run_with}
 use Rattle.ss_recover.specs.Marked.{landmarks_made, nothing_marked}
-use Rattle.ss_recover.specs.Shown.{AreKept, HasTaken, IsAll, IsHeldOf, IsSame, Shows, ShowsRun, names_in}
+use Rattle.ss_recover.specs.Shown.{AreInSlots, HasTakenFirst, IsAll, IsHeldOf, IsSame, ShowsStream, ShowsRun, names_in}
 use Rattle.ss_recover.specs.Usable.{without_slots}
 use Rattle.ss_recover.specs.declared.found.Found.{Found}
 use Rattle.ss_recover.specs.declared.parts.StreamParts.{StreamParts}
@@ -38,7 +38,7 @@ pub record IsSoFar (first stream : Open) (own : List Found) : Type 0 where
   pub same : IsSame first stream
   pub run : Run
   pub is : run_of (without_slots own) ≡ Some run
-  pub shows : Shows stream run own
+  pub shows : ShowsStream stream run own
 
 records-more : (own : List Found) (x : Found) (more : List Found) → without_slots (own ++ x ∷ more) ≡ without_slots own ++ x.holds ∷ without_slots more
 records-more own x more = map-append (λ (f : Found). f.holds) own (x ∷ more)
@@ -48,11 +48,12 @@ module _ (first old : Open) (own : List Found) (so_far : IsSoFar first old own) 
   run-more more =
       fold-append run_on (Some (marking nothing_marked)) (without_slots own) (x.holds ∷ more) ∙ ap (λ o. fold run_on (run_on o x.holds) more) so_far.is
 
-  pub IsSoFar-more : (new : Open) → IsSame old new → MatchOption (run_with so_far.run x.holds) ⊥ (λ next. Shows new next (own ++ x ∷ [])) →
+  pub IsSoFar-more : (new : Open) → IsSame old new → MatchOption (run_with so_far.run x.holds) ⊥ (λ next. ShowsStream new next (own ++ x ∷ [])) →
       IsSoFar first new (own ++ x ∷ [])
   IsSoFar-more new same shows = go (run_with so_far.run x.holds) refl shows
     where
-      go : (o : Option Run) → run_with so_far.run x.holds ≡ o → MatchOption o ⊥ (λ next. Shows new next (own ++ x ∷ [])) → IsSoFar first new (own ++ x ∷ [])
+      go : (o : Option Run) → run_with so_far.run x.holds ≡ o → MatchOption o ⊥ (λ next. ShowsStream new next (own ++ x ∷ []))
+          → IsSoFar first new (own ++ x ∷ [])
       go None is shows = absurd shows
       go (Some next) is shows = record {
         same = record {
@@ -76,7 +77,7 @@ module _ (first old : Open) (own : List Found) (so_far : IsSoFar first old own) 
       ∙ fold-none (without_slots more)))
 
 -- at its end
-module _ (old new : List (List ℕ × StreamId)) (found : Found) (first stream : Open) (rest : List Found) (taken : HasTaken old new found first)
+module _ (old new : List (List ℕ × StreamId)) (found : Found) (first stream : Open) (rest : List Found) (taken : HasTakenFirst old new found first)
     (so_far : IsSoFar first stream rest) where
   pub ends-run : is_ended so_far.run ≡ true → is_run (names_in old) (without_slots (found ∷ rest)) ≡ true
   ends-run ends =
@@ -99,11 +100,11 @@ module _ (old new : List (List ℕ × StreamId)) (found : Found) (first stream :
     last_time = all.last_time ∙ (λ i. later (newest_time (filter_map (window_of (same-id i)) (without_slots rest))) (latest_of part.landmarks.landmarks));
     landmarks = all.landmarks ∙ (λ i. landmarks_made (filter (is_mark_of (same-id i)) (without_slots rest)));
     known = all.known;
-    kept = subst (λ (n : ℕ). AreKept part.line part.landmarks.slots part.landmarks.value_slots n rest) same-id all.kept;
+    kept = subst (λ (n : ℕ). AreInSlots part.line part.landmarks.slots part.landmarks.value_slots n rest) same-id all.kept;
   }
 
 -- the stream as it begins
-pub IsSoFar-none : (old new : List (List ℕ × StreamId)) (found : Found) (stream : Open) → HasTaken old new found stream → IsSoFar stream stream []
+pub IsSoFar-none : (old new : List (List ℕ × StreamId)) (found : Found) (stream : Open) → HasTakenFirst old new found stream → IsSoFar stream stream []
 IsSoFar-none old new found stream taken =
     let b = taken.begun in record {
       same = record { id = refl; name = refl; target = refl; slot = refl };

@@ -11,17 +11,17 @@ use Rattle.ss_recover.specs.Carried.{window_of, spelled}
 use Rattle.ss_codec.specs.Record.{is_valid}
 use Rattle.ss_codec.proofs.RecordLemmas.{IsLandmark-is_valid, IsStream-is_valid, IsValue-is_valid, IsWindow-is_valid, Spells-decoded}
 use Rattle.ss_landmarks.specs.declared.landmarks.TheConstants.{LATEST_TIME}
-use Rattle.ss_recover.specs.Usable.{IsTimed, IsUsable}
+use Rattle.ss_recover.specs.Usable.{HasValidTimes, IsUsable}
 use Rattle.std.proofs.lemmas.List.FromFn.{length-map-range_with_len}
 use Rattle.ss_journal.specs.Redo.{SlotMap}
 use Rattle.ss_codec.specs.Decoded.{decoded}
 use Rattle.ss_recover.specs.Parts.{records_in}
 
-IsTimed-interval : (values start : ℕ) (finish : Option ℕ) →
+HasValidTimes-interval : (values start : ℕ) (finish : Option ℕ) →
     MatchOption finish ((values ≡ 0) × (start ≤ LATEST_TIME)) (λ f. (values < 2 ^ 32) × (start ≤ f) × (f ≤ LATEST_TIME)) →
-    IsTimed values start finish
-IsTimed-interval values start None is = (is.0, is.1)
-IsTimed-interval values start (Some f) is = (is.1, is.2)
+    HasValidTimes values start finish
+HasValidTimes-interval values start None is = (is.0, is.1)
+HasValidTimes-interval values start (Some f) is = (is.1, is.2)
 
 pub IsUsable-valid : (r : Record) → IsTrue (is_valid r) → (r ≡ Free → ⊥) → IsUsable r
 IsUsable-valid Free valid other = absurd (other refl)
@@ -33,7 +33,7 @@ IsUsable-valid (Window id first summary) valid other =
     (is.low, omega (arith, is.low, is.high, possible.count_low), possible)
 IsUsable-valid (Landmark id number values start finish) valid other =
     let is = IsLandmark-is_valid id number values start finish valid in
-    (is.low, is.high, IsTimed-interval values start finish is.interval)
+    (is.low, is.high, HasValidTimes-interval values start finish is.interval)
 IsUsable-valid (Value id number index t v) valid other =
     let is = IsValue-is_valid id number index t v valid in
     (is.low, is.high, is.index_high, is.early, is.fits)

@@ -5,7 +5,7 @@ use Rattle.std.proofs.lemmas.Bool.{cases_Bool, cases_lt, cond-false, cond-true, 
 use Rattle.std.proofs.lemmas.List.{length-drop, length-replicate, length-take}
 use Rattle.std.proofs.lemmas.List.Elements.{All-head, All-tail}
 use Rattle.ss_journal.specs.Format.{is_born, is_unborn, slot_at, slot_place, slots_in}
-use Rattle.ss_journal.specs.Puts.{AreWhole, with_put, with_puts}
+use Rattle.ss_journal.specs.Puts.{FillSlots, with_put, with_puts}
 use Rattle.ss_journal.specs.Redo.{SameMap, SlotMap, StandsFor, blank_map, file_map, not_a_store, puts_in_use, redo, stands, zeros}
 use Rattle.ss_journal.specs.declared.format.TheConstants.{MOST_SLOTS}
 use Rattle.ss_journal.specs.declared.put.Put.{Put}
@@ -37,7 +37,7 @@ length-with_put : (put : Put) (bytes : ℕ → List ℕ) → length put.bytes �
     length (with_put put bytes slot) ≡ 128
 length-with_put put bytes whole each slot = cond_both _ put.bytes (bytes slot) (λ b. length b ≡ 128) (λ here. whole) (λ other. each slot)
 
-length-with_puts : (puts : List Put) (bytes : ℕ → List ℕ) → AreWhole puts → ((slot : ℕ) → length (bytes slot) ≡ 128) → (slot : ℕ) →
+length-with_puts : (puts : List Put) (bytes : ℕ → List ℕ) → FillSlots puts → ((slot : ℕ) → length (bytes slot) ≡ 128) → (slot : ℕ) →
     length (with_puts puts bytes slot) ≡ 128
 length-with_puts [] bytes whole each slot = each slot
 length-with_puts (put ∷ puts) bytes whole each slot =

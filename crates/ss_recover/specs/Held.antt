@@ -14,7 +14,7 @@ use Rattle.ss_codec.specs.Record.{Spells}
 use Rattle.ss_codec.specs.declared.record.Record.{Record}
 use Rattle.ss_codec.specs.declared.record.Record.TheVariants as records
 use Rattle.ss_landmarks.specs.Landmark.{Landmark, LandmarkValue}
-use Rattle.ss_landmarks.specs.Landmarks.{IsState as AreKnown}
+use Rattle.ss_landmarks.specs.Landmarks.{AreKnown}
 use Rattle.ss_landmarks.specs.Order.{AllEndBy}
 use Rattle.ss_line.specs.declared.entry.Entry.{Entry}
 use Rattle.ss_target.specs.Targets.{params_of}

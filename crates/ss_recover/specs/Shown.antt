@@ -11,7 +11,7 @@ use Rattle.ss_codec.specs.declared.record.Record.{Record}
 use Rattle.ss_codec.specs.declared.record.Record.TheVariants as records
 use Rattle.ss_landmarks.specs.Free.{is_up_to}
 use Rattle.ss_landmarks.specs.Landmark.{Landmark, LandmarkValue, change_last, closed_at, opened_at, with_value}
-use Rattle.ss_landmarks.specs.Landmarks.{IsState as AreKnown}
+use Rattle.ss_landmarks.specs.Landmarks.{AreKnown}
 use Rattle.ss_landmarks.specs.Order.{CanClose}
 use Rattle.ss_landmarks.specs.declared.landmarks.TheConstants.{LATEST_TIME}
 use Rattle.ss_line.specs.Line.{LineState}
@@ -28,7 +28,7 @@ use Rattle.ss_recover.specs.Held.{span_held, span_of, times_held, times_of}
 use Rattle.ss_recover.specs.Marked.{Marked, landmarks_made, marked_by, nothing_marked}
 use Rattle.ss_recover.specs.Order.{stream_of}
 use Rattle.ss_recover.specs.Runs.{Run, is_ended, is_run, marking, may_stand, tiling}
-use Rattle.ss_recover.specs.Usable.{IsUsable, slots_of, without_slots}
+use Rattle.ss_recover.specs.Usable.{IsUsable, slots_found, without_slots}
 use Rattle.ss_recover.specs.declared.found.Found.{Found}
 use Rattle.ss_recover.specs.declared.parts.StreamParts.{StreamParts}
 use Rattle.ss_recover.specs.declared.run.Last.{Last}
@@ -152,25 +152,25 @@ abbrev pub found_by : (Record → Bool) → List Found → List Found
 found_by p all = filter (λ (f : Found). p f.holds) all
 
 -- Windows and landmarks are held in the slots of their records.
-pub record AreKept (line : LineState) (landmarks values : List ℕ) (number : ℕ) (own : List Found) : Type 0 where
+pub record AreInSlots (line : LineState) (landmarks values : List ℕ) (number : ℕ) (own : List Found) : Type 0 where
   pub positions : map span_held (map (λ (e : At × Entry). e.1) line.entries) ≡ map span_of (filter_map (window_of number) (without_slots own))
   pub times : map times_held (map (λ (e : At × Entry). e.1) line.entries) ≡ map times_of (filter_map (window_of number) (without_slots own))
-  pub entries : map (λ (e : Entry). e.slot) (map (λ (e : At × Entry). e.1) line.entries) ≡ slots_of (found_by is_window own)
-  pub slots : landmarks ≡ slots_of (found_by is_landmark own)
-  pub value_slots : values ≡ slots_of (found_by is_value own)
+  pub entries : map (λ (e : Entry). e.slot) (map (λ (e : At × Entry). e.1) line.entries) ≡ slots_found (found_by is_window own)
+  pub slots : landmarks ≡ slots_found (found_by is_landmark own)
+  pub value_slots : values ≡ slots_found (found_by is_value own)
 
 -- What is held of the stream whose records come, after its own, shows the run that they are.
-pub record Shows (stream : Open) (q : Run) (own : List Found) : Type 0 where
+pub record ShowsStream (stream : Open) (q : Run) (own : List Found) : Type 0 where
   pub run : ShowsRun stream.stage stream.marks.landmarks.landmarks stream.marks.latest q
   pub latest : stream.marks.latest ≡ latest_of stream.marks.landmarks.landmarks
   pub of : IsRunOf stream.id.0 q (without_slots own)
-  pub kept : AreKept stream.line stream.marks.landmarks.slots stream.marks.landmarks.value_slots stream.id.0 own
+  pub kept : AreInSlots stream.line stream.marks.landmarks.slots stream.marks.landmarks.value_slots stream.id.0 own
 
 -- It shows some run, and there is room for one more record.
 pub record IsReady (stream : Open) : Type 0 where
   pub run : Run
   pub own : List Found
-  pub shows : Shows stream run own
+  pub shows : ShowsStream stream run own
   pub room : length own < MOST_RECORDS
 
 -- a stream of which no other record came
@@ -207,13 +207,13 @@ EndsMarks true run P = MatchOption run ⊥ P
 EndsMarks false run P = run ≡ None
 
 -- a landmark opens, the last one takes a value, and a line has one more window
-pub record Opens (old new : Marks) (slot start : ℕ) : Type 0 where
+pub record OpensLandmark (old new : Marks) (slot start : ℕ) : Type 0 where
   pub landmarks : new.landmarks.landmarks ≡ old.landmarks.landmarks ++ opened_at start ∷ []
   pub slots : new.landmarks.slots ≡ old.landmarks.slots ++ slot ∷ []
   pub value_slots : new.landmarks.value_slots ≡ old.landmarks.value_slots
   pub latest : new.latest ≡ Some start
 
-pub record Adds (old new : Marks) (slot t : ℕ) (v : ℤ) : Type 0 where
+pub record AddsToLandmark (old new : Marks) (slot t : ℕ) (v : ℤ) : Type 0 where
   pub landmarks : new.landmarks.landmarks ≡ change_last (with_value (record { t = t; v = v })) old.landmarks.landmarks
   pub slots : new.landmarks.slots ≡ old.landmarks.slots
   pub value_slots : new.landmarks.value_slots ≡ old.landmarks.value_slots ++ slot ∷ []
@@ -238,12 +238,12 @@ pub record IsAll (stream : Open) (own : List Found) (part : StreamParts) : Type 
       ≡ later (newest_time (filter_map (window_of stream.id.0) (without_slots own))) (latest_of part.landmarks.landmarks)
   pub landmarks : part.landmarks.landmarks ≡ landmarks_made (filter (is_mark_of stream.id.0) (without_slots own))
   pub known : AreKnown part.landmarks
-  pub kept : AreKept part.line part.landmarks.slots part.landmarks.value_slots stream.id.0 own
+  pub kept : AreInSlots part.line part.landmarks.slots part.landmarks.value_slots stream.id.0 own
 
 -- a stream ends where no record has to come any more
-abbrev pub EndsAs : Option StreamParts → Run → (StreamParts → Type 0) → Type 0
-EndsAs (Some part) run P = (is_ended run ≡ true) × P part
-EndsAs None run P = is_ended run ≡ false
+abbrev pub EndsStream : Option StreamParts → Run → (StreamParts → Type 0) → Type 0
+EndsStream (Some part) run P = (is_ended run ≡ true) × P part
+EndsStream None run P = is_ended run ≡ false
 
 -- What is held of a stream whose records these are, the first its own: the other ones are held, and end as they may.
 pub record IsHeldOf (part : StreamParts) (all : List Found) : Type 0 where
@@ -258,14 +258,14 @@ pub record IsHeldOf (part : StreamParts) (all : List Found) : Type 0 where
   pub last_time : part.last_time ≡ later (newest_time (filter_map (window_of head.number) (without_slots rest))) (latest_of part.landmarks.landmarks)
   pub landmarks : part.landmarks.landmarks ≡ landmarks_made (filter (is_mark_of head.number) (without_slots rest))
   pub known : AreKnown part.landmarks
-  pub kept : AreKept part.line part.landmarks.slots part.landmarks.value_slots head.number rest
+  pub kept : AreInSlots part.line part.landmarks.slots part.landmarks.value_slots head.number rest
 
 -- the names of streams
 abbrev pub names_in : List (List ℕ × StreamId) → List (List ℕ)
 names_in names = map (λ n. n.0) names
 
 -- The first record of a stream is taken: its own, with a name that is new.
-pub record HasTaken (old new : List (List ℕ × StreamId)) (found : Found) (stream : Open) : Type 0 where
+pub record HasTakenFirst (old new : List (List ℕ × StreamId)) (found : Found) (stream : Open) : Type 0 where
   pub head : Created
   pub holds : found.holds ≡ records.Stream head.number head.name head.params
   pub begun : HasBegun stream found.slot head.number head.name head.params
@@ -274,7 +274,7 @@ pub record HasTaken (old new : List (List ℕ × StreamId)) (found : Found) (str
 
 -- the first record of a stream is taken, or no stream begins by it
 abbrev pub BeginsAs : List (List ℕ × StreamId) → List (List ℕ × StreamId) → Found → Result (Option Open) RecoverError → Type 0
-BeginsAs old new found (Ok (Some stream)) = HasTaken old new found stream
+BeginsAs old new found (Ok (Some stream)) = HasTakenFirst old new found stream
 BeginsAs old new found (Ok None) = (rest : List Record) → is_run (names_in old) (found.holds ∷ rest) ≡ false
 BeginsAs old new found (Err error) = error ≡ OutOfMemory
 

@@ -11,9 +11,9 @@ use Rattle.ss_target.specs.Lengths.{has_target}
 use Rattle.ss_recover.specs.declared.found.Found.{Found}
 
 -- a landmark has so many values and these times: an open one says 0, and a closed one closes at or after its opening
-abbrev pub IsTimed : ℕ → ℕ → Option ℕ → Type 0
-IsTimed values start None = (values ≡ 0) × (start ≤ LATEST_TIME)
-IsTimed values start (Some finish) = (start ≤ finish) × (finish ≤ LATEST_TIME)
+abbrev pub HasValidTimes : ℕ → ℕ → Option ℕ → Type 0
+HasValidTimes values start None = (values ≡ 0) × (start ≤ LATEST_TIME)
+HasValidTimes values start (Some finish) = (start ≤ finish) × (finish ≤ LATEST_TIME)
 
 -- A record isn't free. A stream has a target and a number that a stream can have, a window possible figures and positions that a
 -- stream can have, and landmarks and their values have numbers from 1 on and times that they can have.
@@ -21,7 +21,7 @@ abbrev pub IsUsable : Record → Type 0
 IsUsable Free = ⊥
 IsUsable (Stream id name params) = IsTrue (has_target params) × (id ≤ LAST_STREAM)
 IsUsable (Window id first summary) = (1 ≤ first) × (first + summary.count ≤ GREATEST_COUNT + 1) × IsPossible summary
-IsUsable (Landmark id number values start finish) = (1 ≤ number) × (number < 2 ^ 32) × IsTimed values start finish
+IsUsable (Landmark id number values start finish) = (1 ≤ number) × (number < 2 ^ 32) × HasValidTimes values start finish
 IsUsable (Value id number index t v) = (1 ≤ number) × (number < 2 ^ 32) × (index < 2 ^ 32) × (t ≤ LATEST_TIME) × FitsSigned w64 v
 
 -- a record with its slot, as slots have them
@@ -32,5 +32,5 @@ in_slot f = (f.slot, Some f.holds)
 abbrev pub without_slots : List Found → List Record
 without_slots all = map (λ (f : Found). f.holds) all
 
-abbrev pub slots_of : List Found → List ℕ
-slots_of all = map (λ (f : Found). f.slot) all
+abbrev pub slots_found : List Found → List ℕ
+slots_found all = map (λ (f : Found). f.slot) all

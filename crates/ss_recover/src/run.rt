@@ -1,6 +1,6 @@
 // The records of one stream, taken one by one in the order of their places.
 ghost use Rattle.std.specs.Prelude.{◌≡◌, ◌+◌, ◌<◌, ◌≤◌, List, [], ◌∷◌, ◌++◌, length, IsTrue, OnOk, IfOk, IfErr};
-ghost use Rattle.ss_landmarks.specs.Landmarks.{IsState as AreKnown};
+ghost use Rattle.ss_landmarks.specs.Landmarks.{AreKnown};
 ghost use Rattle.ss_landmarks.specs.Order.{CanOpen, CanTake};
 ghost use Rattle.ss_landmarks.specs.declared.landmarks.TheConstants.{LATEST_TIME, MOST_LANDMARK_SLOTS};
 ghost use Rattle.ss_line.specs.declared.line.TheConstants.{MOST_PLACES};
@@ -10,7 +10,8 @@ ghost use Rattle.ss_target.specs.Lengths.{has_target};
 ghost use Rattle.ss_model.specs.Marks.{later};
 ghost use Rattle.ss_recover.specs.Order.{stream_of};
 ghost use Rattle.ss_recover.specs.Runs.{Run, is_after, is_next_window, run_with, windows_from};
-ghost use Rattle.ss_recover.specs.Shown.{Adds, EndsAs, Grows, HasBegun, HasClosed, IsAll, IsReady, IsSame, MayClose, Opens, Shows, StepsAs, EndsMarks};
+ghost use Rattle.ss_recover.specs.Shown.{AddsToLandmark, EndsStream, Grows, HasBegun, HasClosed, IsAll, IsReady, IsSame, MayClose, OpensLandmark, ShowsStream};
+ghost use Rattle.ss_recover.specs.Shown.{StepsAs, EndsMarks};
 ghost use Rattle.ss_recover.specs.Shown.{can_add, can_open, finish_of, has_said_last};
 ghost use Rattle.ss_recover.specs.Usable.{IsUsable};
 ghost use Rattle.ss_recover.specs.declared.found.Found.{Found};
@@ -184,7 +185,7 @@ impl Marks {
         requires value_slots { length self.old.landmarks.value_slots < MOST_LANDMARK_SLOTS }
         requires time { start ≤ LATEST_TIME }
         requires after { CanOpen self.old.landmarks.landmarks start }
-        ensures ok { OnOk result (Opens self.old self.new slot start) }
+        ensures ok { OnOk result (OpensLandmark self.old self.new slot start) }
         ensures err { IfErr result (λ error. error ≡ OutOfMemory) }
     {
         let _ = self.landmarks.count();
@@ -200,7 +201,7 @@ impl Marks {
         requires value_slots { length self.old.landmarks.value_slots < MOST_LANDMARK_SLOTS }
         requires time { t ≤ LATEST_TIME }
         requires after { CanTake self.old.landmarks.landmarks t }
-        ensures ok { OnOk result (Adds self.old self.new slot t v) }
+        ensures ok { OnOk result (AddsToLandmark self.old self.new slot t v) }
         ensures err { IfErr result (λ error. error ≡ OutOfMemory) }
     {
         let _ = self.landmarks.count();
@@ -245,8 +246,8 @@ impl Open {
     fn end_marks(&mut self) -> bool
         requires { IsReady self.old }
         ensures same { IsSame self.old self.new }
-        ensures runs { (run : Run) (own : List Found) → Shows self.old run own →
-            EndsMarks result (windows_from run) (λ next. Shows self.new next own) }
+        ensures runs { (run : Run) (own : List Found) → ShowsStream self.old run own →
+            EndsMarks result (windows_from run) (λ next. ShowsStream self.new next own) }
     {
         let _ = self.marks.landmarks.count();
         let Stage::Marks { last } = self.stage else {
@@ -273,8 +274,8 @@ impl Open {
         requires valid { IsUsable found.now.holds }
         requires own { stream_of found.now.holds ≡ self.old.id.0 }
         ensures same { IsSame self.old self.new }
-        ensures runs { (run : Run) (own : List Found) → Shows self.old run own →
-            StepsAs result (run_with run found.now.holds) (λ next. Shows self.new next (own ++ found.now ∷ [])) }
+        ensures runs { (run : Run) (own : List Found) → ShowsStream self.old run own →
+            StepsAs result (run_with run found.now.holds) (λ next. ShowsStream self.new next (own ++ found.now ∷ [])) }
     {
         match found.holds {
             Record::Free | Record::Stream { .. } => Ok(false),
@@ -353,7 +354,7 @@ impl Open {
     // The stream, once all its records came. None says that its last landmark lacks values.
     pub fn end(mut self) -> Option<StreamParts>
         requires { IsReady self }
-        ensures { (run : Run) (own : List Found) → Shows self run own → EndsAs result run (IsAll self own) }
+        ensures { (run : Run) (own : List Found) → ShowsStream self run own → EndsStream result run (IsAll self own) }
     {
         if !self.end_marks() {
             return None;

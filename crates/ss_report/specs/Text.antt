@@ -14,8 +14,8 @@ use Rattle.ss_report.specs.declared.reply.Reply.TheVariants.{Done, Answered, Ref
 use Rattle.ss_report.specs.declared.reply.Reply.TheVariants.{CertifyHead, Side}
 
 -- a line of words with one space between them, with its line end
-abbrev pub line_of : List ℕ → List (List ℕ) → List ℕ
-line_of first rest = spaced first rest ++ LINE_END ∷ []
+abbrev pub spaced_line : List ℕ → List (List ℕ) → List ℕ
+spaced_line first rest = spaced first rest ++ LINE_END ∷ []
 
 -- what is known of a least or a greatest value: that there is none, or from which to which it lies
 abbrev pub extreme_words : Extreme → List (List ℕ)
@@ -47,18 +47,18 @@ run_words runs = map run_word (filter (λ run. nat_lt 0 run.times) runs)
 
 -- the line of a reply, with its line end
 abbrev pub reply_line : Reply → List ℕ
-reply_line (Done ack) = line_of (codes "ok") (decimal ack.n ∷ decimal ack.k ∷ [])
-reply_line (Answered outcome) = line_of (answer_kind outcome) (answer_words outcome)
-reply_line (Refused refusal) = line_of (codes "refused") (refusal_name refusal ∷ [])
-reply_line (SeriesHead count) = line_of (codes "series") (decimal count ∷ [])
-reply_line (Row at outcome) = line_of (decimal at) (answer_words outcome)
-reply_line (WindowsHead count) = line_of (codes "windows") (decimal count ∷ [])
+reply_line (Done ack) = spaced_line (codes "ok") (decimal ack.n ∷ decimal ack.k ∷ [])
+reply_line (Answered outcome) = spaced_line (answer_kind outcome) (answer_words outcome)
+reply_line (Refused refusal) = spaced_line (codes "refused") (refusal_name refusal ∷ [])
+reply_line (SeriesHead count) = spaced_line (codes "series") (decimal count ∷ [])
+reply_line (Row at outcome) = spaced_line (decimal at) (answer_words outcome)
+reply_line (WindowsHead count) = spaced_line (codes "windows") (decimal count ∷ [])
 reply_line (Window w) =
-    line_of (decimal w.first) (decimal w.last ∷ decimal w.summary.count ∷ signed_decimal w.summary.sum ∷ signed_decimal w.summary.min ∷ signed_decimal
+    spaced_line (decimal w.first) (decimal w.last ∷ decimal w.summary.count ∷ signed_decimal w.summary.sum ∷ signed_decimal w.summary.min ∷ signed_decimal
     w.summary.max ∷ decimal w.summary.t_first ∷ decimal w.summary.t_last ∷ [])
-reply_line (ListHead count) = line_of (codes "list") (decimal count ∷ [])
+reply_line (ListHead count) = spaced_line (codes "list") (decimal count ∷ [])
 reply_line (Stream row) =
-    line_of row.name (target_words row.params ++ decimal row.n ∷ decimal row.k ∷ decimal row.landmarks ∷ decimal row.values ∷ [])
-reply_line (CertifyHead answer base count) = line_of (codes "certify") (signed_decimal answer ∷ signed_decimal base ∷ decimal count ∷ [])
+    spaced_line row.name (target_words row.params ++ decimal row.n ∷ decimal row.k ∷ decimal row.landmarks ∷ decimal row.values ∷ [])
+reply_line (CertifyHead answer base count) = spaced_line (codes "certify") (signed_decimal answer ∷ signed_decimal base ∷ decimal count ∷ [])
 reply_line (Side side) =
-    line_of (if side.inner then codes "inside" else codes "outside") (decimal side.first ∷ decimal side.last ∷ decimal side.values ∷ run_words side.runs)
+    spaced_line (if side.inner then codes "inside" else codes "outside") (decimal side.first ∷ decimal side.last ∷ decimal side.values ∷ run_words side.runs)

@@ -6,7 +6,7 @@ use Rattle.std.proofs.lemmas.Bool.{cases_eq, cases_lt}
 use Rattle.std.proofs.lemmas.List.{get_or-set_same, get_or-set_other, get_or_append_left, length-set, get_or_past, take-append-le, take_all, get_or_default}
 use Rattle.std.proofs.Math.Seq.{get_or-append_seam}
 use Rattle.ss_line.specs.declared.entry.At.{At}
-use Rattle.ss_schedule.specs.Held.{AreHeld, AreInverse, IsChild, IsHeap, IsHeapBut, fit_at, fit_of}
+use Rattle.ss_schedule.specs.Held.{AreHeldKeys, AreInverse, IsChild, IsHeap, IsHeapBut, fit_at, fit_of}
 use Rattle.ss_schedule.specs.declared.sifting.TheConstants.{NEVER}
 
 -- one node of a heap changes
@@ -30,7 +30,7 @@ least_up_to fit len heap (suc bound) k le lt =
       | inr none ↦ (let top : k ≡ 0 = omega arith in omega (arith, ap fit top))
     ]
 
-module _ (keys : List (Option (At × ℕ))) (heap positions : List ℕ) (held : AreHeld keys heap positions) where
+module _ (keys : List (Option (At × ℕ))) (heap positions : List ℕ) (held : AreHeldKeys keys heap positions) where
   -- a count before the top of the heap comes before every key
   pub before_all : (n : ℕ) → n < NEVER → n < fit_at keys heap 0 → (at : At) → n < fit_of (get_or keys at.0 None)
   before_all n some top at =
@@ -77,10 +77,10 @@ module _ (keys : List (Option (At × ℕ))) (heap positions : List ℕ) (held : 
       ]
 
   -- and the heap is put in order again
-  pub AreHeld-set : (place : ℕ) (key : Option (At × ℕ)) (new moved : List ℕ) → place < length keys → fit_of key ≤ NEVER →
+  pub AreHeldKeys-set : (place : ℕ) (key : Option (At × ℕ)) (new moved : List ℕ) → place < length keys → fit_of key ≤ NEVER →
       AreInverse new moved →
-      length new ≡ length heap → IsHeap (fit_at (set keys place key) new) (length new) → AreHeld (set keys place key) new moved
-  AreHeld-set place key new moved inside early inverse len order = record {
+      length new ≡ length heap → IsHeap (fit_at (set keys place key) new) (length new) → AreHeldKeys (set keys place key) new moved
+  AreHeldKeys-set place key new moved inside early inverse len order = record {
     all = omega (arith, len, held.all, length-set keys place key);
     inverse = inverse;
     order = order;
@@ -112,7 +112,7 @@ each_more xs ys n xs_len ys_len below there k lt =
     ]
 
 -- a place more, without a key
-module _ (keys : List (Option (At × ℕ))) (heap positions : List ℕ) (n : ℕ) (held : AreHeld keys heap positions) (is : length keys ≡ n) where
+module _ (keys : List (Option (At × ℕ))) (heap positions : List ℕ) (n : ℕ) (held : AreHeldKeys keys heap positions) (is : length keys ≡ n) where
   heap_len : length heap ≡ n
   heap_len = held.all ∙ is
 
@@ -140,8 +140,8 @@ module _ (keys : List (Option (At × ℕ))) (heap positions : List ℕ) (n : ℕ
   positions_side = each_more positions heap n positions_len heap_len (λ k lt. omega (arith, heap_len, held.inverse.stands k (omega (arith, heap_len))))
       (λ k lt. held.inverse.found k (omega (arith, heap_len)))
 
-  pub AreHeld-push : AreHeld (keys ++ None ∷ []) (heap ++ n ∷ []) (positions ++ n ∷ [])
-  AreHeld-push = record {
+  pub AreHeldKeys-push : AreHeldKeys (keys ++ None ∷ []) (heap ++ n ∷ []) (positions ++ n ∷ [])
+  AreHeldKeys-push = record {
     all = omega (arith, more, is, length-append keys (None ∷ []));
     inverse = record {
       same = omega (arith, more, positions_len, length-append positions (n ∷ []));

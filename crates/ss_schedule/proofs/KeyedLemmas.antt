@@ -11,7 +11,7 @@ use Rattle.ss_windowing.specs.Windowing.{ArePositive, Fits, fits}
 use Rattle.ss_windowing.specs.declared.decay.TheConstants.{MOST_VALUES}
 use Rattle.ss_windowing.proofs.WindowingLemmas.{fits-one_window}
 use Rattle.ss_schedule.specs.Held.{fit_of}
-use Rattle.ss_schedule.specs.Keyed.{FollowFrom, FollowUpTo, IsFirstKey, IsKeyOf, IsKeyed, NeverFit, PutsKey, ScheduleState, key_at, lengths}
+use Rattle.ss_schedule.specs.Keyed.{TileUpTo, FollowUpTo, IsFirstKey, IsKeyOf, IsKeyed, NeverFit, PutsKey, ScheduleState, key_at, lengths}
 use Rattle.ss_schedule.specs.Pairs.{AreSideBySide, IsPairIn, IsSpan, NoPairFits, joined_entry, pair_at, pair_among, pair_of}
 use Rattle.ss_schedule.specs.declared.pair.Pair.{Pair}
 use Rattle.ss_schedule.proofs.PairLemmas.{pair_at-within, pair_among-absent, pair_among-here, some-same}
@@ -21,7 +21,7 @@ use Rattle.ss_schedule.proofs.Places.{index-once, list_any-cons_false, same_plac
 use Rattle.ss_schedule.proofs.Places.{take-seam}
 
 -- the positions of a pair in a line whose positions follow one another
-IsSpan-behind : (n first : ℕ) (e : At × Entry) (entries : List (At × Entry)) (at : At) (pair : Pair) → FollowFrom n first (e ∷ entries) →
+IsSpan-behind : (n first : ℕ) (e : At × Entry) (entries : List (At × Entry)) (at : At) (pair : Pair) → TileUpTo n first (e ∷ entries) →
     1 ≤ first →
     pair_among e entries at ≡ Some pair → IsSpan n pair
 IsSpan-behind n first e [] at pair follow some is = absurd (cc)
@@ -51,47 +51,47 @@ spans n entries at None follow is = tt
 spans n entries at (Some pair) follow is = IsSpan-pair n entries at pair follow (sym is)
 
 -- a greater count
-FollowFrom-more : (n m first : ℕ) (entries : List (At × Entry)) → n ≤ m → FollowFrom n first entries → FollowFrom m first entries
-FollowFrom-more n m first [] le follow = tt
-FollowFrom-more n m first (e ∷ es) le follow =
-    let taken = follow.2 in (follow.0, follow.1, omega arith, FollowFrom-more n m (e.1.last + 1) es le follow.3)
+TileUpTo-more : (n m first : ℕ) (entries : List (At × Entry)) → n ≤ m → TileUpTo n first entries → TileUpTo m first entries
+TileUpTo-more n m first [] le follow = tt
+TileUpTo-more n m first (e ∷ es) le follow =
+    let taken = follow.2 in (follow.0, follow.1, omega arith, TileUpTo-more n m (e.1.last + 1) es le follow.3)
 
 FollowUpTo-more : (n m : ℕ) (entries : List (At × Entry)) → n ≤ m → FollowUpTo n entries → FollowUpTo m entries
 FollowUpTo-more n m [] le follow = tt
-FollowUpTo-more n m (e ∷ es) le follow = (follow.0, FollowFrom-more n m e.1.first (e ∷ es) le follow.1)
+FollowUpTo-more n m (e ∷ es) le follow = (follow.0, TileUpTo-more n m e.1.first (e ∷ es) le follow.1)
 
 -- two neighbours as one
-FollowFrom-joined : (n first : ℕ) (before : List (At × Entry)) (left right : At) (w v : Entry) (rest : List (At × Entry)) →
-    FollowFrom n first (before ++ (left, w) ∷ (right, v) ∷ rest) → FollowFrom n first (before ++ (left, joined_entry w v) ∷ rest)
-FollowFrom-joined n first [] left right w v rest follow =
+TileUpTo-joined : (n first : ℕ) (before : List (At × Entry)) (left right : At) (w v : Entry) (rest : List (At × Entry)) →
+    TileUpTo n first (before ++ (left, w) ∷ (right, v) ∷ rest) → TileUpTo n first (before ++ (left, joined_entry w v) ∷ rest)
+TileUpTo-joined n first [] left right w v rest follow =
     let order = follow.1 in
     let next = follow.3.0 in
     let next_order = follow.3.1 in
     (follow.0, omega arith, follow.3.2, follow.3.3)
-FollowFrom-joined n first (e ∷ es) left right w v rest follow =
-    (follow.0, follow.1, follow.2, FollowFrom-joined n (e.1.last + 1) es left right w v rest follow.3)
+TileUpTo-joined n first (e ∷ es) left right w v rest follow =
+    (follow.0, follow.1, follow.2, TileUpTo-joined n (e.1.last + 1) es left right w v rest follow.3)
 
 pub FollowUpTo-joined : (n : ℕ) (before : List (At × Entry)) (left right : At) (w v : Entry) (rest : List (At × Entry)) →
     FollowUpTo n (before ++ (left, w) ∷ (right, v) ∷ rest) → FollowUpTo n (before ++ (left, joined_entry w v) ∷ rest)
-FollowUpTo-joined n [] left right w v rest follow = (follow.0, FollowFrom-joined n w.first [] left right w v rest follow.1)
-FollowUpTo-joined n (e ∷ es) left right w v rest follow = (follow.0, FollowFrom-joined n e.1.first (e ∷ es) left right w v rest follow.1)
+FollowUpTo-joined n [] left right w v rest follow = (follow.0, TileUpTo-joined n w.first [] left right w v rest follow.1)
+FollowUpTo-joined n (e ∷ es) left right w v rest follow = (follow.0, TileUpTo-joined n e.1.first (e ∷ es) left right w v rest follow.1)
 
 -- the positions of two neighbours
-FollowFrom-seam : (n first : ℕ) (before : List (At × Entry)) (x y : At × Entry) (rest : List (At × Entry)) →
-    FollowFrom n first (before ++ x ∷ y ∷ rest) →
+TileUpTo-seam : (n first : ℕ) (before : List (At × Entry)) (x y : At × Entry) (rest : List (At × Entry)) →
+    TileUpTo n first (before ++ x ∷ y ∷ rest) →
     (x.1.first ≤ x.1.last) × (y.1.first ≡ x.1.last + 1) × (y.1.first ≤ y.1.last)
-FollowFrom-seam n first [] x y rest follow =
+TileUpTo-seam n first [] x y rest follow =
     let start = follow.0 in
     let order = follow.1 in
     let next = follow.3.0 in
     let next_order = follow.3.1 in
     (omega arith, next, omega arith)
-FollowFrom-seam n first (e ∷ es) x y rest follow = FollowFrom-seam n (e.1.last + 1) es x y rest follow.3
+TileUpTo-seam n first (e ∷ es) x y rest follow = TileUpTo-seam n (e.1.last + 1) es x y rest follow.3
 
 pub FollowUpTo-seam : (n : ℕ) (before : List (At × Entry)) (x y : At × Entry) (rest : List (At × Entry)) → FollowUpTo n (before ++ x ∷ y ∷ rest) →
     (x.1.first ≤ x.1.last) × (y.1.first ≡ x.1.last + 1) × (y.1.first ≤ y.1.last)
-FollowUpTo-seam n [] x y rest follow = FollowFrom-seam n x.1.first [] x y rest follow.1
-FollowUpTo-seam n (e ∷ es) x y rest follow = FollowFrom-seam n e.1.first (e ∷ es) x y rest follow.1
+FollowUpTo-seam n [] x y rest follow = TileUpTo-seam n x.1.first [] x y rest follow.1
+FollowUpTo-seam n (e ∷ es) x y rest follow = TileUpTo-seam n e.1.first (e ∷ es) x y rest follow.1
 
 -- positions among others that lie in one target window lie in it too
 Fits-among : (len : ℕ → ℕ) (l r a b n : ℕ) → a ≤ l → r ≤ b → Fits len a b n → Fits len l r n

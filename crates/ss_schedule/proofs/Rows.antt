@@ -4,7 +4,7 @@ use Rattle.ss_catalog.specs.declared.params.Params.TheVariants.{Exp}
 use Rattle.ss_line.specs.declared.entry.At.{At}
 use Rattle.ss_line.specs.declared.entry.Entry.{Entry}
 use Rattle.ss_target.specs.Lengths.{lengths_of}
-use Rattle.ss_windowing.specs.Windowing.{index_of}
+use Rattle.ss_windowing.specs.Windowing.{window_index}
 use Rattle.std.proofs.lemmas.Bool.{both_ways}
 use Rattle.ss_schedule.specs.Keyed.{FollowUpTo, key_at}
 use Rattle.ss_schedule.specs.declared.sifting.TheConstants.{NEVER}
@@ -72,15 +72,15 @@ follow-empty h = let some = h.1.1 in omega arith
 
 -- windows of 1, 2 and 4 values are those of a doubling target, but not after one value more
 pub fits-none : NoPairFits (lengths_of (Exp 2 1 1)) 7 line
-unfolding index_of
+unfolding window_index
 fits-none = (refl, (refl, tt))
 
 pub fits-second : ¬ NoPairFits (lengths_of (Exp 2 1 1)) 3 ((place 0, window 1 1 9) ∷ (place 1, window 2 2 9) ∷ (place 2, window 3 3 9) ∷ [])
-unfolding index_of
+unfolding window_index
 fits-second h = both_ways _ h.0 refl
 
 pub fits-last : ¬ NoPairFits (lengths_of (Exp 2 1 1)) 9 ((place 0, window 1 6 9) ∷ (place 1, window 7 7 9) ∷ (place 2, window 8 8 9) ∷ [])
-unfolding index_of
+unfolding window_index
 fits-last h = both_ways _ h.1.0 refl
 
 -- the count that stands for none is past every count

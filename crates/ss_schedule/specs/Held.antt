@@ -54,7 +54,7 @@ pub record AreInHeapBut (keys : List (Option (At × ℕ))) (heap positions : Lis
   pub order : IsHeapBut (fit_at keys heap) (length heap) hole
 
 -- the keys by place, with the heap of all places and the position of each in it
-pub record AreHeld (keys : List (Option (At × ℕ))) (heap positions : List ℕ) : Type 0 where
+pub record AreHeldKeys (keys : List (Option (At × ℕ))) (heap positions : List ℕ) : Type 0 where
   pub all : length heap ≡ length keys
   pub inverse : AreInverse heap positions
   pub order : IsHeap (fit_at keys heap) (length heap)

@@ -43,15 +43,15 @@ abbrev pub lengths : ScheduleState → ℕ → ℕ
 lengths schedule = lengths_of (params_of schedule.target)
 
 -- the positions of entries follow one another from this one on, and end at or below n
-abbrev pub FollowFrom : ℕ → ℕ → List (At × Entry) → Type 0
-FollowFrom n first [] = ⊤
-FollowFrom n first (entry ∷ entries) =
-    (entry.1.first ≡ first) × (first ≤ entry.1.last) × (entry.1.last ≤ n) × FollowFrom n (entry.1.last + 1) entries
+abbrev pub TileUpTo : ℕ → ℕ → List (At × Entry) → Type 0
+TileUpTo n first [] = ⊤
+TileUpTo n first (entry ∷ entries) =
+    (entry.1.first ≡ first) × (first ≤ entry.1.last) × (entry.1.last ≤ n) × TileUpTo n (entry.1.last + 1) entries
 
 -- the positions of entries begin at 1 or above, follow one another, and end at or below n
 abbrev pub FollowUpTo : ℕ → List (At × Entry) → Type 0
 FollowUpTo n [] = ⊤
-FollowUpTo n (entry ∷ entries) = (1 ≤ entry.1.first) × FollowFrom n entry.1.first (entry ∷ entries)
+FollowUpTo n (entry ∷ entries) = (1 ≤ entry.1.first) × TileUpTo n entry.1.first (entry ∷ entries)
 
 -- The schedule is keyed at n for these entries: their positions follow one another and end at or below n, and it has for each pair
 -- of neighbours when it first fits, seen at n, and no other key.

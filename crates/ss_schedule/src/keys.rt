@@ -21,13 +21,13 @@ impl Model for Keys {
     ghost use Rattle.std.specs.Prelude.{ℕ, ◌≤◌, List, Option, vec_len};
     ghost use Rattle.ss_line.specs.declared.entry.At.{At};
     ghost use Rattle.ss_line.specs.declared.line.TheConstants.{MOST_PLACES};
-    ghost use Rattle.ss_schedule.specs.Held.{AreHeld};
+    ghost use Rattle.ss_schedule.specs.Held.{AreHeldKeys};
 
     ghost Value = { List (Option (At × ℕ)) };
 
     ghost view = { λ s. s.keys.items };
 
-    ghost invariant = { λ s. AreHeld s.keys.items s.heap.items s.positions.items × (vec_len s.keys ≤ MOST_PLACES) };
+    ghost invariant = { λ s. AreHeldKeys s.keys.items s.heap.items s.positions.items × (vec_len s.keys ≤ MOST_PLACES) };
 }
 
 impl Keys {

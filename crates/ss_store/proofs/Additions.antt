@@ -10,7 +10,7 @@ use Rattle.ss_windowing.specs.declared.decay.TheConstants.{MOST_VALUES}
 use Rattle.ss_records.specs.Kept.{RecordsState}
 use Rattle.ss_codec.specs.declared.record.Record.{Record}
 use Rattle.ss_codec.specs.declared.record.Record.TheVariants as records
-use Rattle.ss_landmarks.specs.Landmarks.{IsState as AreKnown, LandmarksState}
+use Rattle.ss_landmarks.specs.Landmarks.{AreKnown, LandmarksState}
 use Rattle.ss_line.specs.declared.entry.Entry.{Entry}
 use Rattle.ss_summary.specs.Figures.{Figures, IsPossible}
 use Rattle.ss_summary.specs.Summaries.{summary_of}
@@ -22,7 +22,7 @@ use Rattle.ss_model.specs.Marks.{has_open, later, latest_of}
 use Rattle.ss_model.specs.Refusals.{is_past}
 use Rattle.ss_model.specs.Standing.{IsStream}
 use Rattle.ss_model.specs.State.{Stream, last_time, values_in}
-use Rattle.ss_model.specs.Steps.{single_window, with_value}
+use Rattle.ss_model.specs.Steps.{single_window, with_plain_value}
 use Rattle.ss_model.specs.Windows.{newest_time, taken}
 use Rattle.ss_model.specs.declared.types.Window.{Window}
 use Rattle.ss_model.proofs.Closes.{newest_time_push}
@@ -185,7 +185,7 @@ module _ (part new : StreamParts) (slot t : ℕ) (added : IsAdded part new slot 
       (stages before)
 
 -- closing after a value was put is taking the value
-pub closed-single : (s : Stream) (t : ℕ) (v : ℤ) → closed_stream (with_single s t v) ≡ with_value s t v
+pub closed-single : (s : Stream) (t : ℕ) (v : ℤ) → closed_stream (with_single s t v) ≡ with_plain_value s t v
 closed-single s t v =
     let one : Window = single_window (values_in s + 1) t v in
     let count : taken (s.windows ++ one ∷ []) ≡ values_in s + 1 = taken-append s.windows (one ∷ []) in

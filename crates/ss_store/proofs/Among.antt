@@ -11,7 +11,7 @@ use Rattle.ss_codec.specs.declared.record.Record.{Record}
 use Rattle.ss_journal.specs.Redo.{SlotMap, StandsFor}
 use Rattle.ss_journal.proofs.RedoLemmas.{StandsFor-parts}
 use Rattle.ss_landmarks.specs.Landmark.{Landmark}
-use Rattle.ss_landmarks.specs.Landmarks.{IsState as AreKnown, LandmarksState}
+use Rattle.ss_landmarks.specs.Landmarks.{AreKnown, LandmarksState}
 use Rattle.ss_landmarks.specs.Order.{AllEndBy, EndsBy}
 use Rattle.ss_landmarks.proofs.TimeLemmas.{AllEndBy-later}
 use Rattle.ss_target.specs.Lengths.{lengths_of}

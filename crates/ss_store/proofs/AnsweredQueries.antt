@@ -26,7 +26,8 @@ use Rattle.ss_store.proofs.Among.{IsStream-at}
 use Rattle.ss_store.proofs.KeptStates.{AllAgree-recovered}
 
 -- a look and an answer have the same errors
-pub error-same : (e other : AskError) (P : Type 0) → ◌≡◌ {A = Result Seen AskError} (Err e) (Err other) ↔ P → ◌≡◌ {A = Result Outcome AskError} (Err e) (Err other) ↔ P
+pub error-same : (e other : AskError) (P : Type 0) → ◌≡◌ {A = Result Seen AskError} (Err e) (Err other) ↔ P
+    → ◌≡◌ {A = Result Outcome AskError} (Err e) (Err other) ↔ P
 error-same e other P both = (λ same. both.0 (cc), λ holds. (let is = both.1 holds in cc))
 
 -- where it is known, no error is answered

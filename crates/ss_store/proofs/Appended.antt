@@ -16,9 +16,9 @@ use Rattle.ss_model.specs.History.{CanBeSaid}
 use Rattle.ss_model.specs.Marks.{has_open}
 use Rattle.ss_model.specs.Refusals.{is_past}
 use Rattle.ss_model.specs.State.{Stream}
-use Rattle.ss_model.specs.Steps.{stepped, with_value}
+use Rattle.ss_model.specs.Steps.{stepped, with_plain_value}
 use Rattle.ss_model.specs.declared.types.Ack.{Ack}
-use Rattle.ss_landmarks.specs.Landmarks.{IsState as AreKnown, LandmarksState}
+use Rattle.ss_landmarks.specs.Landmarks.{AreKnown, LandmarksState}
 use Rattle.ss_line.specs.Line.{LineState}
 use Rattle.ss_model.specs.Standing.{IsState}
 use Rattle.ss_model.proofs.StandLemmas.{IsState-stepped}
@@ -32,7 +32,8 @@ use Rattle.ss_store.specs.Calls.{RecoversToEither, StepsState, TurnsShown}
 use Rattle.ss_store.specs.Causes.{said_of_held}
 use Rattle.ss_store.specs.Held.{IsHalfway, IsOrdered, IsPartlyJoined, IsSameStream, values_held, with_single}
 use Rattle.ss_query.specs.Held.{IsHeldIn}
-use Rattle.ss_store.specs.Kept.{IsSound, KeepsSpare, SameButSpare, StoreIsIn, StoreIsKept, StoreState, entry_of, numbers_held, part_named, refuses_held, without_spare}
+use Rattle.ss_store.specs.Kept.{IsSound, KeepsSpare, SameButSpare, StoreIsIn, StoreIsKept, StoreState, entry_of, numbers_held, part_named, refuses_held}
+use Rattle.ss_store.specs.Kept.{without_spare}
 use Rattle.ss_store.specs.Marking.{IsInOpen, event_of, with_mark}
 use Rattle.ss_store.specs.Recover.{Recovers}
 use Rattle.ss_store.specs.Slots.{AreSomeLive, LiveSlotsGo}
@@ -337,10 +338,11 @@ module _ (store : StoreState) (content : List ℕ) (kept : StoreIsIn store conte
     held-taker = held-before store content kept place taker.part spared now taker.at room pair.stream pair.here
 
     pub StoreIsKept-appended : (records_now : RecordsState) (stopped : Bool) (image : List ℕ) → AreKept records_now image →
-        IsHeldIn others now (with_value pair.stream t v) (shown_by records_now image) →
+        IsHeldIn others now (with_plain_value pair.stream t v) (shown_by records_now image) →
         StoreIsKept (record { streams = slice_set store.streams place now; records = records_now; stopped = stopped }) image
     StoreIsKept-appended records_now stopped image are held =
-        StoreIsKept-stepped store content kept place taker.part spared now taker.at room pair.stream pair.here (Value name t v) (with_value pair.stream t v)
+        StoreIsKept-stepped store content kept place taker.part spared now taker.at room pair.stream pair.here (Value name t v)
+        (with_plain_value pair.stream t v)
         (MayStep-valued kept.streams name t v place pair.stream may kept.closed) records_now stopped image are held
 
     recovers-partly : (image : List ℕ) → IsPartlyJoined others (with_single pair.stream t v) image → Recovers (stepped kept.streams (Value name t v)) image
@@ -353,10 +355,10 @@ module _ (store : StoreState) (content : List ℕ) (kept : StoreIsIn store conte
     pub StepsState-appended : {T E : Type 0} (was_records is_records : RecordsState) (old new : Told) (call : Result T E) →
         shown_by was_records old.content ≡ content →
         TurnsShown was_records is_records (IsHeldIn others spared pair.stream) (IsHalfway others spared pair.stream t v)
-        (IsHeldIn others now (with_value pair.stream t v)) old new call →
+        (IsHeldIn others now (with_plain_value pair.stream t v)) old new call →
         StepsState (Value name t v) was_records is_records call old new
     StepsState-appended was_records is_records old new call same turns =
-        StepsState-one store content kept place taker.part spared now taker.at room pair.stream pair.here (Value name t v) (with_value pair.stream t v)
+        StepsState-one store content kept place taker.part spared now taker.at room pair.stream pair.here (Value name t v) (with_plain_value pair.stream t v)
         (MayStep-valued kept.streams name t v place pair.stream may kept.closed) (IsHalfway others spared pair.stream t v) was_records is_records old new
         call same
         (λ image either. elim either [

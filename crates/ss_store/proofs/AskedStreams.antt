@@ -46,7 +46,8 @@ module _ {query : Query} {part : StreamParts} {is : RecordsState} (store : Store
   stream-asked old new result kept sees =
       let found = AreFound-named store.streams kept.streams query.name part kept.agree kept.state named in
       let others = others_of found.place store.streams kept.streams in
-      let held = IsHeldIn-at store.streams kept.streams found.place part found.stream (shown_by store.records old.content) kept.agree kept.state found.at found.here kept.held in
+      let held = IsHeldIn-at store.streams kept.streams found.place part found.stream
+      (shown_by store.records old.content) kept.agree kept.state found.at found.here kept.held in
       record {
         stream = found.stream;
         found = found.found_is;
@@ -59,7 +60,8 @@ module _ {query : Query} {part : StreamParts} {is : RecordsState} (store : Store
       option_map (seen_of query.from query.to) (stream_named query.name streams) ≡ Some seen
   seen-kept old new seen kept sees streams recovers =
       let is = stream-asked old new (Ok seen) kept sees in
-      let same = Recovers-same kept.streams streams (shown_by store.records old.content) (Recovers-StoreIsIn store (shown_by store.records old.content) kept) recovers in
+      let same = Recovers-same kept.streams streams (shown_by store.records old.content)
+      (Recovers-StoreIsIn store (shown_by store.records old.content) kept) recovers in
       let found : stream_named query.name streams ≡ Some is.stream = ap (λ l. stream_named query.name l) (sym same) ∙ is.found in
       ap (option_map (λ (s : Stream). seen_of query.from query.to s)) found ∙ ap (λ (now : Seen). Some now) (sym is.seen)
 

@@ -21,7 +21,7 @@ use Rattle.ss_catalog.specs.declared.params.Params.{Params}
 use Rattle.ss_catalog.specs.declared.stream_id.StreamId.{StreamId}
 use Rattle.ss_codec.specs.declared.record.Record.{Record}
 use Rattle.ss_codec.specs.declared.record.Record.TheVariants as records
-use Rattle.ss_landmarks.specs.Landmarks.{IsState as AreKnown, LandmarksState}
+use Rattle.ss_landmarks.specs.Landmarks.{AreKnown, LandmarksState}
 use Rattle.ss_target.specs.Targets.{params_of}
 use Rattle.ss_model.specs.ClosedState.{closed_state, closed_stream}
 use Rattle.ss_model.specs.Refusals.{refuses}

@@ -1,5 +1,6 @@
 -- A transaction that joins two neighbours, in which a crash may come.
-use Rattle.std.proofs.Common.{◌≡◌, ◌∙◌, ◌⊎◌, ⊎_elim, ℕ, ◌<◌, arith, ap, ap₂, map, Bool, List, [], ◌∷◌, ◌++◌, refl, sym, subst, Option, Some, None, Err, Ok, Result}
+use Rattle.std.proofs.Common.{◌≡◌, ◌∙◌, ◌⊎◌, ⊎_elim, ℕ, ◌<◌, arith, ap, ap₂, map, Bool, List, [], ◌∷◌, ◌++◌, refl, sym, subst, Option, Some, None, Err, Ok}
+use Rattle.std.proofs.Common.{Result}
 use Rattle.std.specs.Prelude.{Contains, IsErr, IsTrue}
 use Rattle.std.proofs.lemmas.List.{map-append}
 use Rattle.std.proofs.lemmas.List.Elements.{Contains-append_right}

@@ -9,7 +9,7 @@ use Rattle.ss_line.specs.declared.entry.At.{At}
 use Rattle.ss_line.specs.declared.entry.Entry.{Entry}
 use Rattle.ss_target.specs.Lengths.{lengths_of}
 use Rattle.ss_target.specs.Targets.{params_of}
-use Rattle.ss_schedule.specs.Keyed.{FollowFrom, FollowUpTo, IsKeyed, ScheduleState}
+use Rattle.ss_schedule.specs.Keyed.{TileUpTo, FollowUpTo, IsKeyed, ScheduleState}
 use Rattle.ss_schedule.specs.Pairs.{NoPairFits}
 use Rattle.ss_schedule.specs.declared.pair.Pair.{Pair}
 use Rattle.ss_recover.specs.Held.{TileFrom, entries_of, span_held}
@@ -35,32 +35,32 @@ NoPairFits-spans len n (e ∷ []) none = tt
 NoPairFits-spans len n (e ∷ f ∷ es) none = (none.0, NoPairFits-spans len n (f ∷ es) none.1)
 
 -- windows that tile follow one another up to the values that they hold
-FollowFrom-tiles : (n first : ℕ) (entries : List (At × Entry)) → TileFrom first (entries_in entries) → values_held (entries_in entries) ≤ n →
-    FollowFrom n first entries
-FollowFrom-tiles n first [] tiles held = tt
-FollowFrom-tiles n first (e ∷ []) tiles held = (tiles.0, omega (arith, tiles.0, tiles.1), held, tt)
-FollowFrom-tiles n first (e ∷ f ∷ es) tiles held =
+TileUpTo-tiles : (n first : ℕ) (entries : List (At × Entry)) → TileFrom first (entries_in entries) → values_held (entries_in entries) ≤ n →
+    TileUpTo n first entries
+TileUpTo-tiles n first [] tiles held = tt
+TileUpTo-tiles n first (e ∷ []) tiles held = (tiles.0, omega (arith, tiles.0, tiles.1), held, tt)
+TileUpTo-tiles n first (e ∷ f ∷ es) tiles held =
     let next = tiles.3 in
     let rest = last-held (e.1.last + 1) f.1 (entries_in es) next in
-    (tiles.0, omega (arith, tiles.0, tiles.1), omega (arith, rest.0, held, next.0, next.1), FollowFrom-tiles n (e.1.last + 1) (f ∷ es) next held)
+    (tiles.0, omega (arith, tiles.0, tiles.1), omega (arith, rest.0, held, next.0, next.1), TileUpTo-tiles n (e.1.last + 1) (f ∷ es) next held)
 
 pub FollowUpTo-tiles : (n : ℕ) (entries : List (At × Entry)) → TileFrom 1 (entries_in entries) → values_held (entries_in entries) ≤ n → FollowUpTo n entries
 FollowUpTo-tiles n [] tiles held = tt
 FollowUpTo-tiles n (e ∷ es) tiles held =
-    (omega (arith, tiles.0), subst (λ first. FollowFrom n first (e ∷ es)) (sym tiles.0) (FollowFrom-tiles n 1 (e ∷ es) tiles held))
+    (omega (arith, tiles.0), subst (λ first. TileUpTo n first (e ∷ es)) (sym tiles.0) (TileUpTo-tiles n 1 (e ∷ es) tiles held))
 
 -- and so do the first of them
-FollowFrom-take : (n first k : ℕ) (entries : List (At × Entry)) → FollowFrom n first entries → FollowFrom n first (take k entries)
-FollowFrom-take n first zero [] follow = tt
-FollowFrom-take n first zero (e ∷ es) follow = tt
-FollowFrom-take n first (suc k) [] follow = tt
-FollowFrom-take n first (suc k) (e ∷ es) follow = (follow.0, follow.1, follow.2, FollowFrom-take n (e.1.last + 1) k es follow.3)
+TileUpTo-take : (n first k : ℕ) (entries : List (At × Entry)) → TileUpTo n first entries → TileUpTo n first (take k entries)
+TileUpTo-take n first zero [] follow = tt
+TileUpTo-take n first zero (e ∷ es) follow = tt
+TileUpTo-take n first (suc k) [] follow = tt
+TileUpTo-take n first (suc k) (e ∷ es) follow = (follow.0, follow.1, follow.2, TileUpTo-take n (e.1.last + 1) k es follow.3)
 
 pub FollowUpTo-take : (n k : ℕ) (entries : List (At × Entry)) → FollowUpTo n entries → FollowUpTo n (take k entries)
 FollowUpTo-take n zero [] follow = tt
 FollowUpTo-take n zero (e ∷ es) follow = tt
 FollowUpTo-take n (suc k) [] follow = tt
-FollowUpTo-take n (suc k) (e ∷ es) follow = (follow.0, FollowFrom-take n e.1.first (suc k) (e ∷ es) follow.1)
+FollowUpTo-take n (suc k) (e ∷ es) follow = (follow.0, TileUpTo-take n e.1.first (suc k) (e ∷ es) follow.1)
 
 -- a pair that is due, by its places
 pub AreDue-pair : (part : StreamParts) (index : IndexState) (pair : Pair) (is : IsDuePair part index pair) →

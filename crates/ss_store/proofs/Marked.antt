@@ -12,7 +12,7 @@ use Rattle.ss_codec.specs.declared.record.Record.{Record}
 use Rattle.ss_codec.specs.declared.record.Record.TheVariants as records
 use Rattle.ss_codec.proofs.RecordLemmas.{IsValue-is_valid}
 use Rattle.ss_landmarks.specs.Landmark.{Landmark, LandmarkValue, all_values, change_last, opened_at, with_value}
-use Rattle.ss_landmarks.specs.Landmarks.{IsState as AreKnown}
+use Rattle.ss_landmarks.specs.Landmarks.{AreKnown}
 use Rattle.ss_landmarks.specs.Order.{AllEndBy, EndsBy}
 use Rattle.ss_line.specs.declared.entry.Entry.{Entry}
 use Rattle.ss_target.specs.Targets.{params_of}

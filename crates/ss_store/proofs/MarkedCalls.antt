@@ -10,7 +10,7 @@ use Rattle.ss_codec.specs.declared.record.Record.{Record}
 use Rattle.ss_codec.specs.declared.record.Record.TheVariants as records
 use Rattle.ss_codec.proofs.RecordLemmas.{IsValue-is_valid}
 use Rattle.ss_landmarks.specs.Landmark.{Landmark, LandmarkValue, all_values, closed_at, open_landmark, opened_at, with_value}
-use Rattle.ss_landmarks.specs.Landmarks.{IsState as AreKnown, opened}
+use Rattle.ss_landmarks.specs.Landmarks.{AreKnown, opened}
 use Rattle.ss_landmarks.specs.Order.{CanClose}
 use Rattle.ss_landmarks.proofs.OrderLemmas.{AreLandmarks-close, AreLandmarks-take, FollowFrom-open}
 use Rattle.ss_landmarks.proofs.TimeLemmas.{all_values-close, all_values-open, all_values-take}

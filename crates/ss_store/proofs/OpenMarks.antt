@@ -15,7 +15,7 @@ use Rattle.ss_landmarks.specs.declared.landmarks.TheConstants.{LATEST_TIME}
 use Rattle.ss_landmarks.proofs.OrderLemmas.{cases-finish}
 use Rattle.ss_landmarks.proofs.TimeLemmas.{AllEndBy-close, AllEndBy-later, AllEndBy-open, AllEndBy-take, CanClose-after, CanOpen-after, CanTake-after}
 use Rattle.ss_landmarks.proofs.TimeLemmas.{CanTake-first}
-use Rattle.ss_landmarks.specs.Landmarks.{IsState}
+use Rattle.ss_landmarks.specs.Landmarks.{AreKnown}
 use Rattle.ss_journal.specs.declared.format.TheConstants.{MOST_SLOTS}
 use Rattle.ss_model.specs.Marks.{has_open, later, latest_in, latest_of, lies_free}
 use Rattle.ss_model.specs.Refusals.{first_that_applies, is_before, is_opening, is_past}
@@ -306,7 +306,7 @@ values_open-few ls = go (open_landmark ls) refl
     go (Some l) is = let few = open-few ls l is in let same : values_open ls ≡ length l.values = rw is refl in omega (arith, few.1)
 
 -- there are fewer landmarks than slots, and the open one has fewer values
-pub few-marks : (part : StreamParts) → IsState part.landmarks → length (mark_slots part) < MOST_SLOTS →
+pub few-marks : (part : StreamParts) → AreKnown part.landmarks → length (mark_slots part) < MOST_SLOTS →
     (length part.landmarks.landmarks < MOST_SLOTS) × (values_open part.landmarks.landmarks < MOST_SLOTS)
 few-marks part known few =
     let both = length-append part.landmarks.slots part.landmarks.value_slots in

@@ -44,7 +44,7 @@ use Rattle.ss_store.proofs.KeptStates.{Recovers-same}
 use Rattle.ss_store.proofs.Slots.{Turns-settle}
 
 -- why there is no store
-pub OpensAs-journal : (content : List ℕ) (error : JournalError) → Journals.OpensAs content (Err error) → OpensAs content (Err (open_of_journal error))
+pub OpensAs-journal : (content : List ℕ) (error : JournalError) → Journals.OpensMapAs content (Err error) → OpensAs content (Err (open_of_journal error))
 unfolding recover
 OpensAs-journal content journal.Disk opens = tt
 OpensAs-journal content journal.NotAStore opens = ap recovered_from opens

@@ -11,7 +11,7 @@ use Rattle.ss_windowing.specs.Windowing.{fits}
 use Rattle.ss_codec.specs.declared.record.Record.{Record}
 use Rattle.ss_codec.specs.declared.record.Record.TheVariants as records
 use Rattle.ss_landmarks.specs.Landmark.{Landmark}
-use Rattle.ss_landmarks.specs.Landmarks.{IsState as AreKnown, LandmarksState}
+use Rattle.ss_landmarks.specs.Landmarks.{AreKnown, LandmarksState}
 use Rattle.ss_line.specs.Line.{StandsIn, entry_at, index_of, is_at}
 use Rattle.ss_line.specs.declared.entry.At.{At}
 use Rattle.ss_line.specs.declared.entry.Entry.{Entry}

@@ -10,7 +10,7 @@ use Rattle.ss_landmarks.specs.Landmark.{Landmark, open_landmark}
 use Rattle.ss_target.specs.Lengths.{has_target}
 use Rattle.ss_windowing.specs.declared.decay.TheConstants.{MOST_VALUES}
 use Rattle.ss_model.specs.Marks.{has_open}
-use Rattle.ss_model.specs.Refusals.{first_that_applies, refuses, has_all_records, is_before, is_early, is_full, is_opening, is_past, of_named}
+use Rattle.ss_model.specs.Refusals.{first_that_applies, refuses, has_all_records, is_before, is_early, has_most_values, is_opening, is_past, of_named}
 use Rattle.ss_model.specs.Standing.{IsState, IsStream}
 use Rattle.ss_model.specs.State.{Stream, stream_named, last_time}
 use Rattle.ss_model.specs.declared.types.TheConstants.{MOST_RECORDS}
@@ -157,9 +157,9 @@ module _ (parts : List StreamParts) (streams : List Stream) (each : AllAgree par
       let landmarks = agrees.landmarks in
       λ i. is_past (last i) t && not (is_opening (landmarks i) t))
 
-  full-alike : of_part name parts is_full_held ≡ of_named name streams is_full
+  full-alike : of_part name parts is_full_held ≡ of_named name streams has_most_values
   full-alike =
-      of_part-alike is_full_held is_full
+      of_part-alike is_full_held has_most_values
       (λ part s is agrees.
       let landmarks = agrees.landmarks in
       let values = values_held-Agrees part s is agrees in

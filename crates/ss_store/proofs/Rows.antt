@@ -9,7 +9,7 @@ use Rattle.ss_catalog.specs.declared.event.Event.{Event}
 use Rattle.ss_catalog.specs.declared.event.Event.TheVariants as events
 use Rattle.ss_catalog.specs.declared.params.Params.{Params}
 use Rattle.ss_catalog.specs.declared.params.Params.TheVariants.{Exp, Power}
-use Rattle.ss_windowing.specs.Windowing.{index_of}
+use Rattle.ss_windowing.specs.Windowing.{window_index}
 use Rattle.ss_power.specs.Power.{power_length}
 use Rattle.ss_journal.specs.declared.put.Put.{Put}
 use Rattle.ss_journal.specs.Format.{is_born, is_unborn, magic}
@@ -119,7 +119,7 @@ merged = a_stream (window 1 (fives 2 10 20) ∷ window 3 (fives 1 30 30) ∷ [])
 
 recover-waiting : recover (image_of no_entry no_entry (a_slot ∷ first ∷ second ∷ third ∷ [])) ≡ recovers merged
 unfolding recover redo is_born entries carried spelled is_sound decoded record_in stream_in window_in params_in is_valid spelling Names.is_name
-    Possible.is_possible Fields.with_field Numbers.number_at Numbers.number_bytes index_of Marks.lies_free
+    Possible.is_possible Fields.with_field Numbers.number_at Numbers.number_bytes window_index Marks.lies_free
 recover-waiting = refl
 
 -- so they do where a record stands in an entry that is in use, and its slot isn't in the file or is zeros
@@ -127,14 +127,14 @@ recover-window_in_entry : recover
     (image_of (entry_of (put 3 third ∷ [])) no_entry (a_slot ∷ first ∷ second ∷ []))
     ≡ recovers merged
 unfolding recover redo is_born entries is_good puts_of entry_body carried spelled is_sound decoded record_in stream_in window_in params_in is_valid
-    spelling Names.is_name Possible.is_possible Fields.with_field Numbers.number_at Numbers.number_bytes index_of Marks.lies_free
+    spelling Names.is_name Possible.is_possible Fields.with_field Numbers.number_at Numbers.number_bytes window_index Marks.lies_free
 recover-window_in_entry = refl
 
 recover-stream_in_entry : recover
     (image_of (entry_of (put 0 a_slot ∷ [])) no_entry (zeros ∷ first ∷ second ∷ third ∷ []))
     ≡ recovers merged
 unfolding recover redo is_born entries is_good puts_of entry_body carried spelled is_sound decoded record_in stream_in window_in params_in is_valid
-    spelling Names.is_name Possible.is_possible Fields.with_field Numbers.number_at Numbers.number_bytes index_of Marks.lies_free
+    spelling Names.is_name Possible.is_possible Fields.with_field Numbers.number_at Numbers.number_bytes window_index Marks.lies_free
 recover-stream_in_entry = refl
 
 -- and where the merge itself is in an entry, whatever is left of it in the slots
@@ -142,19 +142,19 @@ recover-merge_in_entry : recover
     (image_of (entry_of (put 1 both ∷ put 2 zeros ∷ [])) no_entry (a_slot ∷ first ∷ second ∷ third ∷ []))
     ≡ recovers merged
 unfolding recover redo is_born entries is_good puts_of entry_body carried spelled is_sound decoded record_in stream_in window_in params_in is_valid
-    spelling Names.is_name Possible.is_possible Fields.with_field Numbers.number_at Numbers.number_bytes index_of Marks.lies_free
+    spelling Names.is_name Possible.is_possible Fields.with_field Numbers.number_at Numbers.number_bytes window_index Marks.lies_free
 recover-merge_in_entry = refl
 
 recover-merge_in_part : recover
     (image_of (entry_of (put 1 both ∷ put 2 zeros ∷ [])) no_entry (a_slot ∷ both ∷ damaged ∷ third ∷ []))
     ≡ recovers merged
 unfolding recover redo is_born entries is_good puts_of entry_body carried spelled is_sound decoded record_in stream_in window_in params_in is_valid
-    spelling Names.is_name Possible.is_possible Fields.with_field Numbers.number_at Numbers.number_bytes index_of Marks.lies_free
+    spelling Names.is_name Possible.is_possible Fields.with_field Numbers.number_at Numbers.number_bytes window_index Marks.lies_free
 recover-merge_in_part = refl
 
 recover-merge_made : recover (image_of no_entry no_entry (a_slot ∷ both ∷ zeros ∷ third ∷ [])) ≡ recovers merged
 unfolding recover redo is_born entries carried spelled is_sound decoded record_in stream_in window_in params_in is_valid spelling Names.is_name
-    Possible.is_possible Fields.with_field Numbers.number_at Numbers.number_bytes index_of Marks.lies_free
+    Possible.is_possible Fields.with_field Numbers.number_at Numbers.number_bytes window_index Marks.lies_free
 recover-merge_made = refl
 
 -- of two entries the later counts
@@ -162,7 +162,7 @@ recover-two_entries : recover
     (image_of (entry_of (put 2 second ∷ [])) (entry_of (put 1 both ∷ put 2 zeros ∷ [])) (a_slot ∷ first ∷ damaged ∷ third ∷ []))
     ≡ recovers merged
 unfolding recover redo is_born entries is_good puts_of entry_body carried spelled is_sound decoded record_in stream_in window_in params_in is_valid
-    spelling Names.is_name Possible.is_possible Fields.with_field Numbers.number_at Numbers.number_bytes index_of Marks.lies_free
+    spelling Names.is_name Possible.is_possible Fields.with_field Numbers.number_at Numbers.number_bytes window_index Marks.lies_free
 recover-two_entries = refl
 
 -- an entry after a closed gate isn't in use
@@ -170,7 +170,7 @@ recover-after_closed : recover
     (image_of no_entry (entry_of (put 0 zeros ∷ [])) (a_slot ∷ first ∷ second ∷ third ∷ []))
     ≡ recovers merged
 unfolding recover redo is_born entries carried spelled is_sound decoded record_in stream_in window_in params_in is_valid spelling Names.is_name
-    Possible.is_possible Fields.with_field Numbers.number_at Numbers.number_bytes entry_body index_of Marks.lies_free
+    Possible.is_possible Fields.with_field Numbers.number_at Numbers.number_bytes entry_body window_index Marks.lies_free
 recover-after_closed = refl
 
 -- a slot whose end is cut off isn't looked at
@@ -178,7 +178,7 @@ recover-cut : recover
     (image_of no_entry no_entry (a_slot ∷ first ∷ second ∷ third ∷ take 127 damaged ∷ []))
     ≡ recovers merged
 unfolding recover redo is_born entries carried spelled is_sound decoded record_in stream_in window_in params_in is_valid spelling Names.is_name
-    Possible.is_possible Fields.with_field Numbers.number_at Numbers.number_bytes index_of Marks.lies_free
+    Possible.is_possible Fields.with_field Numbers.number_at Numbers.number_bytes window_index Marks.lies_free
 recover-cut = refl
 
 -- the values 5, -3, 8, 1, 9, 2 and 7 at the times 10 to 70: where they were merged one by one as they came, and where no merge
@@ -221,17 +221,17 @@ recover-readings : recover
     as_they_came
     ≡ recovers (a_stream (window 1 first_four ∷ window 5 next_two ∷ window 7 (value 70 (pos 7)) ∷ []))
 unfolding recover redo is_born entries carried spelled is_sound decoded record_in stream_in window_in params_in is_valid spelling Names.is_name
-    Possible.is_possible Fields.with_field Numbers.number_at Numbers.number_bytes index_of Marks.lies_free
+    Possible.is_possible Fields.with_field Numbers.number_at Numbers.number_bytes window_index Marks.lies_free
 recover-readings = refl
 
 state-readings : Recovers (state readings) as_they_came
 unfolding state recover redo is_born entries carried spelled is_sound decoded record_in stream_in window_in params_in is_valid spelling Names.is_name
-    Possible.is_possible Fields.with_field Numbers.number_at Numbers.number_bytes index_of Marks.lies_free
+    Possible.is_possible Fields.with_field Numbers.number_at Numbers.number_bytes window_index Marks.lies_free
 state-readings = refl
 
 state-unmerged : Recovers (state readings) one_by_one
 unfolding state recover redo is_born entries carried spelled is_sound decoded record_in stream_in window_in params_in is_valid spelling Names.is_name
-    Possible.is_possible Fields.with_field Numbers.number_at Numbers.number_bytes index_of Marks.lies_free
+    Possible.is_possible Fields.with_field Numbers.number_at Numbers.number_bytes window_index Marks.lies_free
 state-unmerged = refl
 
 -- streams in the order of their numbers, of which one has a power-law target whose windows are all of two values
@@ -262,7 +262,7 @@ recover-two_streams : recover
     two_streams
     ≡ recovers (a_stream (window 1 (fives 1 10 10) ∷ window 2 (fives 1 20 20) ∷ []) ++ b_stream ∷ [])
 unfolding recover redo is_born entries carried spelled is_sound decoded record_in stream_in window_in params_in is_valid spelling Names.is_name
-    Possible.is_possible Fields.with_field Numbers.number_at Numbers.number_bytes index_of power_length Marks.lies_free
+    Possible.is_possible Fields.with_field Numbers.number_at Numbers.number_bytes window_index power_length Marks.lies_free
 recover-two_streams = refl
 
 -- no store: another first byte, a file too short for its open birth gate, and another magic
@@ -298,7 +298,7 @@ recover-mended_slot : recover
     (image_of (entry_of (put 1 first ∷ [])) no_entry (a_slot ∷ damaged ∷ []))
     ≡ recovers (a_stream (window 1 (fives 1 10 10) ∷ []))
 unfolding recover redo is_born entries is_good puts_of entry_body carried spelled is_sound decoded record_in stream_in window_in params_in is_valid
-    spelling Names.is_name Possible.is_possible Fields.with_field Numbers.number_at Numbers.number_bytes index_of Marks.lies_free
+    spelling Names.is_name Possible.is_possible Fields.with_field Numbers.number_at Numbers.number_bytes window_index Marks.lies_free
 recover-mended_slot = refl
 
 -- a damaged stream: its second window is missing, in the slots or by an entry in use

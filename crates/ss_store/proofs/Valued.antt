@@ -20,7 +20,7 @@ use Rattle.ss_model.specs.Refusals.{is_past, refuses}
 use Rattle.ss_model.specs.Standing.{IsState, IsStream}
 use Rattle.ss_model.specs.State.{Stream, last_time, names_of, records_of, values_in}
 use Rattle.ss_model.specs.Marks.{has_open, with_closed, with_opened}
-use Rattle.ss_model.specs.Steps.{change_named, single_window, stepped, with_taken, with_value}
+use Rattle.ss_model.specs.Steps.{change_named, single_window, stepped, with_taken, with_plain_value}
 use Rattle.ss_model.proofs.JoinLemmas.{JoinsDue-closed}
 use Rattle.ss_model.proofs.NameLemmas.{same_name-Decides}
 use Rattle.ss_model.proofs.StandLemmas.{IsPossible-single, below-has_all_records}
@@ -86,7 +86,7 @@ unfolding stepped
 stepped-close streams name t = refl
 
 -- a value is the open landmark's, where one is open
-taken-plain : (s : Stream) (t : ℕ) (v : ℤ) → has_open s.landmarks ≡ false → with_taken s t v ≡ with_value s t v
+taken-plain : (s : Stream) (t : ℕ) (v : ℤ) → has_open s.landmarks ≡ false → with_taken s t v ≡ with_plain_value s t v
 taken-plain s t v plain = rw plain refl
 
 taken-marked : (s : Stream) (t : ℕ) (v : ℤ) → has_open s.landmarks ≡ true → with_taken s t v ≡ with_mark s t (mark.Value v)
@@ -162,7 +162,7 @@ closed_stream-again s is =
     closed_stream-joined s (closed len (values_in s) s.windows) is.windows (JoinsDue-closed len (values_in s) s.windows)
 
 module _ (streams : List Stream) (name : List ℕ) (t : ℕ) (v : ℤ) (place : ℕ) (s : Stream) (may : MayTake streams name t v place s) where
-  pub stepped-set : slice_set streams place (with_value s t v) ≡ stepped streams (Value name t v)
+  pub stepped-set : slice_set streams place (with_plain_value s t v) ≡ stepped streams (Value name t v)
   stepped-set =
       sym (stepped-value streams name t v ∙ map-changed name (λ u. with_taken u t v) streams place s may.state.names may.here may.named
       ∙ ap (slice_set streams place) (taken-plain s t v may.plain))
@@ -176,7 +176,7 @@ module _ (streams : List Stream) (name : List ℕ) (t : ℕ) (v : ℤ) (place : 
       let w = single_window (values_in s + 1) t v in
       omega (arith, taken-append s.windows (w ∷ []), taken-cons w [], count-summary_of ((t, v) ∷ []))
 
-  closed-single : closed_stream (with_single s t v) ≡ with_value s t v
+  closed-single : closed_stream (with_single s t v) ≡ with_plain_value s t v
   closed-single =
       let w = single_window (values_in s + 1) t v in
       ap (λ n. with_windows s (closed (lengths_of s.params) n (s.windows ++ w ∷ []))) values-single
@@ -208,14 +208,14 @@ module _ (streams : List Stream) (name : List ℕ) (t : ℕ) (v : ℤ) (place : 
       map-set closed_stream streams place (with_single s t v) ∙ ap (λ l. slice_set l place (closed_stream (with_single s t v))) closed_before
       ∙ ap (slice_set streams place) closed-single ∙ stepped-set
 
-  closed-valued : closed_stream (with_value s t v) ≡ with_value s t v
+  closed-valued : closed_stream (with_plain_value s t v) ≡ with_plain_value s t v
   closed-valued = ap closed_stream (sym closed-single) ∙ closed_stream-again (with_single s t v) single-is ∙ closed-single
 
-  pub MayStep-valued : closed_state streams ≡ streams → MayStep streams (Value name t v) place (with_value s t v)
+  pub MayStep-valued : closed_state streams ≡ streams → MayStep streams (Value name t v) place (with_plain_value s t v)
   MayStep-valued closed_before = record {
     state = may.state;
     none = may.none;
     said = may.said;
     is = stepped-set;
-    closed = closed-set streams (Value name t v) place (with_value s t v) stepped-set closed_before closed-valued;
+    closed = closed-set streams (Value name t v) place (with_plain_value s t v) stepped-set closed_before closed-valued;
   }

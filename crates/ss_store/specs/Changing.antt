@@ -9,7 +9,7 @@ use Rattle.ss_journal.specs.Kept.{IsSealed, IsSettled}
 use Rattle.ss_journal.specs.declared.format.TheConstants.{MOST_SLOTS}
 use Rattle.ss_records.specs.Kept.{AreKept, RecordsState, shown_by}
 use Rattle.ss_codec.specs.declared.record.Record.{Record}
-use Rattle.ss_landmarks.specs.Landmarks.{IsState as AreKnown, LandmarksState}
+use Rattle.ss_landmarks.specs.Landmarks.{AreKnown, LandmarksState}
 use Rattle.ss_line.specs.declared.entry.Entry.{Entry}
 use Rattle.ss_summary.specs.Figures.{Figures}
 use Rattle.ss_summary.specs.Summaries.{joined}
@@ -20,7 +20,7 @@ use Rattle.ss_model.specs.ClosedState.{closed_state, closed_stream}
 use Rattle.ss_model.specs.Marks.{lies_free}
 use Rattle.ss_model.specs.Standing.{IsState}
 use Rattle.ss_model.specs.State.{Stream}
-use Rattle.ss_model.specs.Steps.{with_value}
+use Rattle.ss_model.specs.Steps.{with_plain_value}
 use Rattle.ss_model.specs.declared.types.Window.{Window}
 use Rattle.ss_recover.specs.Held.{AllAgree, EndByLast, entries_of, mark_slots, slots_held, span_held, span_of, times_held, times_of, window_record}
 use Rattle.ss_recover.specs.declared.parts.StreamParts.{StreamParts}
@@ -83,7 +83,7 @@ PutsValue part now t v was is result =
 -- a value was taken, and the windows were closed, and this is staged
 abbrev pub TakesValue : StreamParts → StreamParts → ℕ → ℤ → RecordsState → RecordsState → Result (Unit {0}) ReadError → Told → Told → Type 0
 TakesValue part now t v was is result =
-    StagesStream (verdict_of_read result) part (λ others s. IsHalfway others part s t v) (λ others s. IsHeldIn others now (with_value s t v))
+    StagesStream (verdict_of_read result) part (λ others s. IsHalfway others part s t v) (λ others s. IsHeldIn others now (with_plain_value s t v))
     was is result
 
 -- landmarks took a mark, and this is staged
@@ -102,7 +102,7 @@ pub record ReadsJoined (part : StreamParts) (window next : Entry) (was is : Reco
   pub reads : OnlyReads old new
 
 -- two windows stand side by side, within the positions that there are, and all times of the second are later
-pub record AreNeighbours (window next : Entry) : Type 0 where
+pub record StandBeside (window next : Entry) : Type 0 where
   pub first : 1 ≤ window.first
   pub side_by_side : next.first ≡ window.last + 1
   pub later : window.t_last < next.t_first

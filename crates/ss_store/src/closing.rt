@@ -7,7 +7,8 @@ ghost use Rattle.ss_journal.specs.Kept.{IsRunning, IsSettled};
 ghost use Rattle.ss_records.specs.Kept.{AreAtRest, AreKept};
 ghost use Rattle.ss_summary.specs.Figures.{IsPossible};
 ghost use Rattle.ss_recover.specs.Held.{entries_of, slots_held};
-ghost use Rattle.ss_store.specs.Changing.{AreNeighbours, ChangedIsHeld, ClosesStream, HoldsUntil, JoinsWindows, KeepsAtRest, KeepsWhole, ReadsJoined, StagesJoins};
+ghost use Rattle.ss_store.specs.Changing.{StandBeside, ChangedIsHeld, ClosesStream, HoldsUntil, JoinsWindows, KeepsAtRest, KeepsWhole, ReadsJoined};
+ghost use Rattle.ss_store.specs.Changing.{StagesJoins};
 ghost use Rattle.ss_query.specs.Reading.{verdict_of_read};
 ghost use Rattle.ss_store.specs.Held.{IsOrdered, IsSameStream, values_held};
 ghost use Rattle.ss_store.specs.Indexed.{IsDuePair, IsKeyedFor, IsScheduled};
@@ -49,7 +50,7 @@ fn read_joined<D: Disk>(
 ) -> Result<Summary, ReadError>
     requires running { IsRunning records.old.journal }
     requires live { AreSomeLive (window.slot ∷ next.slot ∷ []) records.old.live }
-    requires neighbours { AreNeighbours window next }
+    requires neighbours { StandBeside window next }
     requires one_disk { OfContent (D.seen disk.old) (AreKept records.old) }
     ensures joined { Step (verdict_of_read result) (D.seen disk.old) (D.seen disk.new)
         (ReadsJoined part.now window next records.old records.new result) }

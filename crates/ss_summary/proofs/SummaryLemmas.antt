@@ -6,7 +6,7 @@ use Rattle.std.proofs.lemmas.List.{length-append}
 use Rattle.std.proofs.lemmas.Int.{ints, clamps, to_z-of_z}
 use mir.Val.{to_z, of_z}
 use Rattle.ss_summary.specs.Figures.{Figures, IsPossible}
-use Rattle.ss_summary.specs.Summaries.{total, least, greatest, last_time, summary_of, joined}
+use Rattle.ss_summary.specs.Summaries.{total, least, greatest, time_at_end, summary_of, joined}
 use Rattle.ss_summary.specs.declared.summary.TheConstants.{GREATEST_COUNT}
 use Rattle.ss_summary.proofs.Bounds.{max_times_min-le-sum, sum-le-min_times_max, unsigned_abs-lt}
 
@@ -30,10 +30,10 @@ greatest-append : (v : ℤ) (xs : List (ℕ × ℤ)) (y : ℕ × ℤ) (ys : List
 greatest-append v [] y ys = refl
 greatest-append v (x ∷ xs) y ys = rw (greatest-append x.1 xs y ys, int_max_assoc)
 
-pub last_time-append : (t : ℕ) (xs : List (ℕ × ℤ)) (y : ℕ × ℤ) (ys : List (ℕ × ℤ))
-    → last_time t (xs ++ y ∷ ys) ≡ last_time y.0 ys
-last_time-append t [] y ys = refl
-last_time-append t (x ∷ xs) y ys = last_time-append x.0 xs y ys
+pub time_at_end-append : (t : ℕ) (xs : List (ℕ × ℤ)) (y : ℕ × ℤ) (ys : List (ℕ × ℤ))
+    → time_at_end t (xs ++ y ∷ ys) ≡ time_at_end y.0 ys
+time_at_end-append t [] y ys = refl
+time_at_end-append t (x ∷ xs) y ys = time_at_end-append x.0 xs y ys
 
 -- the figures of two lists, joined, are those of the joined list
 pub joined-summary_of : (xs ys : List (ℕ × ℤ)) → 0 < length xs → 0 < length ys
@@ -45,7 +45,7 @@ joined-summary_of (x ∷ xs) (y ∷ ys) some_left some_right =
     let sum = total-append (x ∷ xs) (y ∷ ys) in
     let min = least-append x.1 xs y ys in
     let max = greatest-append x.1 xs y ys in
-    let last = last_time-append x.0 xs y ys in
+    let last = time_at_end-append x.0 xs y ys in
     cc
 
 -- in which order figures are joined has no effect

@@ -5,7 +5,7 @@ use Rattle.std.proofs.Common.{arith, refl, sym, lit≤, subst, inl, inr}
 use Rattle.std.proofs.lemmas.Bool.{cases_lt}
 use Rattle.std.proofs.lemmas.Int.{ints, clamps}
 use Rattle.ss_summary.specs.Figures.{Figures, IsPossible}
-use Rattle.ss_summary.specs.Summaries.{total, least, greatest, last_time, summary_of, RiseFrom, AreValues}
+use Rattle.ss_summary.specs.Summaries.{total, least, greatest, time_at_end, summary_of, RiseFrom, AreValues}
 use Rattle.ss_summary.specs.declared.summary.TheConstants.{LATEST_TIME, GREATEST_COUNT}
 use Rattle.ss_summary.proofs.Bounds.{times-le-times}
 use Rattle.ss_summary.proofs.SummaryLemmas.{joined-summary_of, IsPossible-joined}
@@ -75,9 +75,9 @@ length-spread : (k : ℕ) (m M S : ℤ) (t : ℕ) (last : ℕ × ℤ) → length
 length-spread zero m M S t last = omega arith
 length-spread (suc k) m M S t last = omega (arith, length-spread k m M (S -ℤ int_min M (S -ℤ (pos k *ℤ m))) (t + 1) last)
 
-last_time-spread : (k : ℕ) (m M S : ℤ) (t before : ℕ) (last : ℕ × ℤ) → last_time before (spread k m M S t last) ≡ last.0
-last_time-spread zero m M S t before last = refl
-last_time-spread (suc k) m M S t before last = last_time-spread k m M (S -ℤ int_min M (S -ℤ (pos k *ℤ m))) (t + 1) t last
+time_at_end-spread : (k : ℕ) (m M S : ℤ) (t before : ℕ) (last : ℕ × ℤ) → time_at_end before (spread k m M S t last) ≡ last.0
+time_at_end-spread zero m M S t before last = refl
+time_at_end-spread (suc k) m M S t before last = time_at_end-spread k m M (S -ℤ int_min M (S -ℤ (pos k *ℤ m))) (t + 1) t last
 
 least-first : (v : ℤ) (values : List (ℕ × ℤ)) → least v values ≤ℤ v
 least-first v [] = omega (arith, ints)
@@ -155,7 +155,7 @@ more_values f k possible more =
     let above = least-spread m M possible.order f.t_last k rest m (f.t_first + 1) (omega (arith, ints)) allows in
     let below = least-first m others in
     let greatest_is = greatest-spread m M possible.order f.t_last k rest m (f.t_first + 1) possible.order allows in
-    let last_is = last_time-spread k m M rest (f.t_first + 1) f.t_first (f.t_last, M) in
+    let last_is = time_at_end-spread k m M rest (f.t_first + 1) f.t_first (f.t_last, M) in
     let rising = RiseFrom-spread m M possible.order f.t_last possible.last possible.min_fits possible.max_fits k rest (f.t_first + 1)
     (omega (arith, possible.times)) allows in (
       (f.t_first, m) ∷ others,

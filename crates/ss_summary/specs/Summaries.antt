@@ -20,9 +20,9 @@ greatest v [] = v
 greatest v (p ∷ ps) = int_max v (greatest p.1 ps)
 
 -- the time of the last value, after one at time t
-abbrev pub last_time : ℕ → List (ℕ × ℤ) → ℕ
-last_time t [] = t
-last_time t (p ∷ ps) = last_time p.0 ps
+abbrev pub time_at_end : ℕ → List (ℕ × ℤ) → ℕ
+time_at_end t [] = t
+time_at_end t (p ∷ ps) = time_at_end p.0 ps
 
 -- the summary of a list of (time, value) that isn't empty: its count, sum, least and greatest value, first and last
 -- time. An empty list has none, and only zeros stand here for it.
@@ -34,7 +34,7 @@ summary_of (p ∷ ps) = record {
   min = least p.1 ps;
   max = greatest p.1 ps;
   t_first = p.0;
-  t_last = last_time p.0 ps;
+  t_last = time_at_end p.0 ps;
 }
 
 -- the figures are the summary of a list that isn't empty

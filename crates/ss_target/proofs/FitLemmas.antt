@@ -7,18 +7,18 @@ use Rattle.ss_windowing.specs.Windowing.{cut, Holds, ArePositive, Fits, fits}
 use Rattle.ss_windowing.specs.declared.decay.Spot.{Spot}
 use Rattle.ss_windowing.specs.declared.decay.TheConstants.{MOST_VALUES}
 use Rattle.ss_windowing.proofs.FirstFitLemmas.{IsFirstFit-now, IsFirstFit-later, Fits-past}
-use Rattle.ss_windowing.proofs.WindowingLemmas.{index_of-holds, holds-index_of, fits-one_window}
+use Rattle.ss_windowing.proofs.WindowingLemmas.{window_index-holds, holds-window_index, fits-one_window}
 
 -- positions lie in one target window where the newest isn't too young for that of the oldest
 pub leb-cut : (len : ℕ → ℕ) (i l r n : ℕ) → ArePositive len → l ≤ r → Holds len i (n - l) →
     leb (cut len i) (n - r) ≡ fits len l r n
 leb-cut len i l r n positive order holds =
-    let old = index_of-holds len i (n - l) positive holds in
-    let young = holds-index_of len (n - r) positive in
+    let old = window_index-holds len i (n - l) positive holds in
+    let young = holds-window_index len (n - r) positive in
     elim (cases_lt (n - r) (cut len i)) [
       | inl apart ↦ grind (arith, nat_tests)
       | inr together ↦
-          (let same = index_of-holds len i (n - r) positive (record { start = together; end = omega arith }) in
+          (let same = window_index-holds len i (n - r) positive (record { start = together; end = omega arith }) in
           grind (arith, nat_tests))
     ]
 
@@ -33,7 +33,7 @@ module _ (len : ℕ → ℕ) (i l r n : ℕ) (positive : ArePositive len) (order
 
   pub IsFirstFit-found : (next : Spot) → FindsOfLength len (i + 1) (r - l + 1) next → IsFirstFit len l r n (r + next.start)
   IsFirstFit-found next finds =
-      let newest = sym (index_of-holds len i (n - r) positive holds) in
+      let newest = sym (window_index-holds len i (n - r) positive holds) in
       rw finds.window.start (IsFirstFit-later len l r n next.index positive order taken apart (rw newest at finds.first))
 
   -- where that count is past the greatest, no count fits
@@ -43,7 +43,7 @@ module _ (len : ℕ → ℕ) (i l r n : ℕ) (positive : ArePositive len) (order
 
   pub Fits-none : NoneOfLength len (i + 1) (r - l + 1) → (m : ℕ) → n ≤ m → m ≤ MOST_VALUES → Fits len l r m → ⊥
   Fits-none none m later few fit =
-      let newest = index_of-holds len i (n - r) positive holds in
+      let newest = window_index-holds len i (n - r) positive holds in
       omega (
         arith,
         Fits-past len l r n m MOST_VALUES positive order taken apart

@@ -1,7 +1,7 @@
 -- Worked rows, each computed.
 use Rattle.std.proofs.Common.{◌≡◌, true, false, [], ◌∷◌, map, refl}
 use Rattle.ss_catalog.specs.declared.params.Params.TheVariants.{Exp, Power}
-use Rattle.ss_windowing.specs.Windowing.{index_of}
+use Rattle.ss_windowing.specs.Windowing.{window_index}
 use Rattle.ss_power.specs.Power.{power_length}
 use Rattle.ss_target.specs.Lengths.{has_target, lengths_of}
 
@@ -17,5 +17,5 @@ lengths-tripling_pairs : map (lengths_of (Exp 3 2 1)) (0 ∷ 1 ∷ 2 ∷ 3 ∷ 4
 lengths-tripling_pairs = refl
 
 lengths-power : map (lengths_of (Power 2 1 1 1)) (0 ∷ 1 ∷ 2 ∷ 3 ∷ 4 ∷ []) ≡ 1 ∷ 2 ∷ 2 ∷ 3 ∷ 3 ∷ []
-unfolding power_length index_of
+unfolding power_length window_index
 lengths-power = refl

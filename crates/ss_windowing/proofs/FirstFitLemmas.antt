@@ -1,11 +1,11 @@
 -- The next window that is long enough, and first fits, over any sequence of window lengths.
 use Rattle.std.proofs.Common.{ℕ, zero, suc, ◌≡◌, ◌+◌, ◌-◌, ◌<◌, ◌≤◌, inl, inr, Option, Some, None, IfSome, sym, ◌∙◌, add-one, arith}
 use Rattle.std.proofs.lemmas.Bool.{cases_lt}
-use Rattle.ss_windowing.specs.Windowing.{cut, Holds, index_of, ArePositive, NeverFall, Fits}
+use Rattle.ss_windowing.specs.Windowing.{cut, Holds, window_index, ArePositive, NeverFall, Fits}
 use Rattle.ss_windowing.specs.FirstFit.{IsWindow, IsFirstOfLength, FindsOfLength, NoneOfLength, IsFirstFit}
 use Rattle.ss_windowing.specs.declared.decay.Spot.{Spot}
 use Rattle.ss_windowing.specs.declared.decay.TheConstants.{MOST_VALUES}
-use Rattle.ss_windowing.proofs.WindowingLemmas.{cut-monotone, index_of-holds, holds-index_of, index_of-monotone}
+use Rattle.ss_windowing.proofs.WindowingLemmas.{cut-monotone, window_index-holds, holds-window_index, window_index-monotone}
 
 -- no window is shorter than an earlier one
 pub lengths-monotone : (len : ℕ → ℕ) (i j : ℕ) → NeverFall len → i ≤ j → len i ≤ len j
@@ -22,7 +22,7 @@ lengths-monotone len i (suc j) never order = elim (cases_lt j i) [
 index-after : (len : ℕ → ℕ) (i k : ℕ) → ArePositive len → Holds len k (cut len i + len i) → k ≡ i + 1
 index-after len i k full holds =
     let after : Holds len (suc i) (cut len i + len i) = record { start = omega arith; end = omega (arith, full (suc i)) } in
-    rw add-one (sym (index_of-holds len k _ full holds) ∙ index_of-holds len (suc i) _ full after)
+    rw add-one (sym (window_index-holds len k _ full holds) ∙ window_index-holds len (suc i) _ full after)
 
 module _ {len : ℕ → ℕ} {spot next : Spot} (full : ArePositive len) (at : IsWindow len spot)
     (holds : Holds len next.index (spot.start + spot.len)) (window : IsWindow len next) where
@@ -75,24 +75,24 @@ IsFirstFit-now len l r n now = record { reached = omega arith; fits = now; least
 
 -- positions that do not fit now fit later only in a later window, which is long enough
 long-later : (len : ℕ → ℕ) (l r n m i : ℕ) → ArePositive len → l ≤ r → r ≤ n → (Fits len l r n → ⊥) → n ≤ m →
-    cut len i ≤ m - r → m - l < cut len i + len i → (index_of len (n - r) + 1 ≤ i) × (r - l + 1 ≤ len i)
+    cut len i ≤ m - r → m - l < cut len i + len i → (window_index len (n - r) + 1 ≤ i) × (r - l + 1 ≤ len i)
 long-later len l r n m i full order taken unfit later begun ends =
-    let newest = holds-index_of len (n - r) full in
-    let same_window = index_of-holds len i (m - r) full (record { start = begun; end = omega arith }) in
-    let no_younger = index_of-monotone len (n - r) (m - r) (omega arith) in
-    elim (cases_lt (index_of len (n - r)) i) [
+    let newest = holds-window_index len (n - r) full in
+    let same_window = window_index-holds len i (m - r) full (record { start = begun; end = omega arith }) in
+    let no_younger = window_index-monotone len (n - r) (m - r) (omega arith) in
+    elim (cases_lt (window_index len (n - r)) i) [
       | inl after ↦ (omega arith, omega arith)
       | inr same ↦
-          (let one : index_of len (n - r) ≡ i = omega arith in
+          (let one : window_index len (n - r) ≡ i = omega arith in
           absurd (unfit (i, (rw one at newest).start, omega arith)))
     ]
 
 -- positions that do not fit now first fit where the least later window that is long enough holds the newest of them first
 pub IsFirstFit-later : (len : ℕ → ℕ) (l r n k : ℕ) → ArePositive len → l ≤ r → r ≤ n → (Fits len l r n → ⊥) →
-    IsFirstOfLength len (index_of len (n - r) + 1) (r - l + 1) k → IsFirstFit len l r n (r + cut len k)
+    IsFirstOfLength len (window_index len (n - r) + 1) (r - l + 1) k → IsFirstFit len l r n (r + cut len k)
 IsFirstFit-later len l r n k full order taken unfit next =
-    let newest = holds-index_of len (n - r) full in
-    let after = cut-monotone len (suc (index_of len (n - r))) k (omega (arith, next.reached)) in
+    let newest = holds-window_index len (n - r) full in
+    let after = cut-monotone len (suc (window_index len (n - r))) k (omega (arith, next.reached)) in
     record {
       reached = omega (arith, newest.end);
       fits = (k, omega arith, omega (arith, next.long));
@@ -103,14 +103,14 @@ IsFirstFit-later len l r n k full order taken unfit next =
 
 -- and where no later window is long enough, they never fit
 pub Fits-never : (len : ℕ → ℕ) (l r n m : ℕ) → ArePositive len → l ≤ r → r ≤ n → (Fits len l r n → ⊥) →
-    ((k : ℕ) → index_of len (n - r) < k → len k < r - l + 1) → n ≤ m → Fits len l r m → ⊥
+    ((k : ℕ) → window_index len (n - r) < k → len k < r - l + 1) → n ≤ m → Fits len l r m → ⊥
 Fits-never len l r n m full order taken unfit none later fits =
     let long = long-later len l r n m fits.0 full order taken unfit later fits.1 fits.2 in
     omega (arith, none fits.0 (omega (arith, long.0)), long.1)
 
 -- where each later window that is long enough begins past an age, they fit at no count up to that age
 pub Fits-past : (len : ℕ → ℕ) (l r n m most : ℕ) → ArePositive len → l ≤ r → r ≤ n → (Fits len l r n → ⊥) →
-    ((k : ℕ) → index_of len (n - r) + 1 ≤ k → r - l + 1 ≤ len k → most < r + cut len k) → n ≤ m → Fits len l r m → most < m
+    ((k : ℕ) → window_index len (n - r) + 1 ≤ k → r - l + 1 ≤ len k → most < r + cut len k) → n ≤ m → Fits len l r m → most < m
 Fits-past len l r n m most full order taken unfit none later fits =
     let long = long-later len l r n m fits.0 full order taken unfit later fits.1 fits.2 in
     omega (arith, none fits.0 long.0 long.1)

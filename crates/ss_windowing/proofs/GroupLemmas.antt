@@ -7,12 +7,12 @@ use Rattle.ss_windowing.specs.FirstFit.{FindsOfLength, NoneOfLength}
 use Rattle.ss_windowing.specs.Groups.{grouped}
 use Rattle.ss_windowing.specs.Windowing.{cut, Holds, ArePositive}
 use Rattle.ss_windowing.specs.declared.decay.TheConstants.{MOST_VALUES}
-use Rattle.ss_windowing.proofs.WindowingLemmas.{cut-monotone, index_le_cut, index_of-holds}
+use Rattle.ss_windowing.proofs.WindowingLemmas.{cut-monotone, index_le_cut, window_index-holds}
 
 -- a window has the length of its group
 pub grouped-group : (sizes lengths : ℕ → ℕ) (g k : ℕ) → ArePositive sizes → k < sizes g → grouped sizes lengths (cut sizes g + k) ≡ lengths g
 grouped-group sizes lengths g k some inside =
-    ap lengths (index_of-holds sizes g (cut sizes g + k) some (record { start = omega arith; end = omega arith }))
+    ap lengths (window_index-holds sizes g (cut sizes g + k) some (record { start = omega arith; end = omega arith }))
 
 -- along a group each window adds one length
 pub cut-along : (sizes lengths : ℕ → ℕ) (g k : ℕ) → ArePositive sizes → k ≤ sizes g →

@@ -1,7 +1,7 @@
 -- Worked rows, each computed.
 use Rattle.std.proofs.Common.{◌≡◌, ℕ, ◌-◌, ◌^◌, Bool, true, false, List, [], ◌∷◌, map, refl, arith}
 use Rattle.ss_windowing.specs.Exp.{exp_length}
-use Rattle.ss_windowing.specs.Windowing.{cut, fits, index_of, NeverFall}
+use Rattle.ss_windowing.specs.Windowing.{cut, fits, window_index, NeverFall}
 use Rattle.ss_windowing.specs.declared.decay.TheConstants.{MOST_VALUES}
 use Rattle.ss_windowing.specs.declared.exp.TheConstants.{LEAST_BASE, GREATEST_BASE, MOST_REPEAT, GREATEST_SCALE}
 
@@ -31,19 +31,19 @@ fit_at : ℕ → ℕ → List ℕ → List Bool
 fit_at l r = map (fits (exp_length 2 1 1) l r)
 
 fit-1-2 : fit_at 1 2 (2 ∷ 3 ∷ 4 ∷ 5 ∷ []) ≡ false ∷ true ∷ false ∷ true ∷ []
-unfolding fit_at index_of
+unfolding fit_at window_index
 fit-1-2 = refl
 
 fit-1-4 : fit_at 1 4 (5 ∷ 6 ∷ 7 ∷ []) ≡ false ∷ false ∷ true ∷ []
-unfolding fit_at index_of
+unfolding fit_at window_index
 fit-1-4 = refl
 
 fit-3-5 : fit_at 3 5 (5 ∷ 6 ∷ 7 ∷ 8 ∷ []) ≡ false ∷ false ∷ false ∷ true ∷ []
-unfolding fit_at index_of
+unfolding fit_at window_index
 fit-3-5 = refl
 
 fit-5-6 : fit_at 5 6 (6 ∷ 7 ∷ []) ≡ false ∷ true ∷ []
-unfolding fit_at index_of
+unfolding fit_at window_index
 fit-5-6 = refl
 
 -- lengths that stay the same never fall, and those that shrink do

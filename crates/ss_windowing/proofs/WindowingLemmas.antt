@@ -2,7 +2,7 @@
 use Rattle.std.proofs.Common.{ℕ, zero, suc, ◌≡◌, ◌-◌, ◌<◌, ◌≤◌, ◌↔◌, inl, inr, true, refl, sym, ◌∙◌, arith}
 use Rattle.std.proofs.lemmas.Bool.{cases_lt, eq-eqb, eqb-true}
 use Rattle.std.proofs.lemmas.Bool.Decides.{nat_tests}
-use Rattle.ss_windowing.specs.Windowing.{cut, Holds, ended_windows, index_of, ArePositive, Fits, fits}
+use Rattle.ss_windowing.specs.Windowing.{cut, Holds, ended_windows, window_index, ArePositive, Fits, fits}
 
 -- no window starts before an earlier one
 pub cut-monotone : (len : ℕ → ℕ) (i j : ℕ) → i ≤ j → cut len i ≤ cut len j
@@ -35,9 +35,9 @@ ended_windows-past len age i (suc k) order young = elim (cases_lt k i) [
       grind (arith, nat_tests, before, later))
 ]
 
-pub index_of-holds : (len : ℕ → ℕ) (i age : ℕ) → ArePositive len → Holds len i age → index_of len age ≡ i
-unfolding index_of
-index_of-holds len i age full holds =
+pub window_index-holds : (len : ℕ → ℕ) (i age : ℕ) → ArePositive len → Holds len i age → window_index len age ≡ i
+unfolding window_index
+window_index-holds len i age full holds =
     let before = index_le_cut len i full in
     ended_windows-past len age i age (omega arith) holds.end ∙ ended_windows-all len age i holds.start
 
@@ -49,10 +49,10 @@ window_of len age (suc k) reaches = elim (cases_lt age (cut len k)) [
   | inr after ↦ (k, record { start = after; end = reaches })
 ]
 
-pub holds-index_of : (len : ℕ → ℕ) (age : ℕ) → ArePositive len → Holds len (index_of len age) age
-holds-index_of len age full =
+pub holds-window_index : (len : ℕ → ℕ) (age : ℕ) → ArePositive len → Holds len (window_index len age) age
+holds-window_index len age full =
     let found = window_of len age (suc age) (omega (arith, index_le_cut len (suc age) full)) in
-    rw (index_of-holds len found.0 age full found.1) found.1
+    rw (window_index-holds len found.0 age full found.1) found.1
 
 -- more windows have ended by a greater age
 ended_windows-age : (len : ℕ → ℕ) (a b k : ℕ) → a ≤ b → ended_windows len a k ≤ ended_windows len b k
@@ -68,18 +68,18 @@ ended_windows-count len age j (suc k) order = elim (cases_lt k j) [
   | inr early ↦ omega (arith, ended_windows-count len age j k early)
 ]
 
-pub index_of-monotone : (len : ℕ → ℕ) (a b : ℕ) → a ≤ b → index_of len a ≤ index_of len b
-unfolding index_of
-index_of-monotone len a b order =
+pub window_index-monotone : (len : ℕ → ℕ) (a b : ℕ) → a ≤ b → window_index len a ≤ window_index len b
+unfolding window_index
+window_index-monotone len a b order =
     omega (arith, ended_windows-age len a b a order, ended_windows-count len b a b order)
 
 -- the test is exact: the first part takes it to the window, the second the window to it
 pub fits-one_window : (len : ℕ → ℕ) (l r n : ℕ) → ArePositive len → l ≤ r → (fits len l r n ≡ true) ↔ Fits len l r n
 fits-one_window len l r n full order =
-    let young = holds-index_of len (n - r) full in
-    let old = holds-index_of len (n - l) full in (
-      λ same. (index_of len (n - r), young.start, (rw (eqb-true _ _ same) at old).end),
+    let young = holds-window_index len (n - r) full in
+    let old = holds-window_index len (n - l) full in (
+      λ same. (window_index len (n - r), young.start, (rw (eqb-true _ _ same) at old).end),
       λ one. eq-eqb _ _
-          (index_of-holds len one.0 (n - l) full (record { start = omega arith; end = one.2 })
-          ∙ sym (index_of-holds len one.0 (n - r) full (record { start = one.1; end = omega arith }))),
+          (window_index-holds len one.0 (n - l) full (record { start = omega arith; end = one.2 })
+          ∙ sym (window_index-holds len one.0 (n - r) full (record { start = one.1; end = omega arith }))),
     )

@@ -19,8 +19,8 @@ ended_windows len age (suc k) = ended_windows len age k + (if nat_le (cut len (s
 
 -- the index of the window that holds an age: how many windows end at or before it. No window is empty, so
 -- they are among the first `age`.
-unfoldable pub index_of : (ℕ → ℕ) → ℕ → ℕ
-index_of len age = ended_windows len age age
+unfoldable pub window_index : (ℕ → ℕ) → ℕ → ℕ
+window_index len age = ended_windows len age age
 
 -- every window has a length of at least 1
 abbrev pub ArePositive : (ℕ → ℕ) → Type 0
@@ -36,4 +36,4 @@ Fits len l r n = (i : ℕ) × (cut len i ≤ n - r) × (n - l < cut len i + len 
 
 -- the test of it
 abbrev pub fits : (ℕ → ℕ) → ℕ → ℕ → ℕ → Bool
-fits len l r n = index_of len (n - l) == index_of len (n - r)
+fits len l r n = window_index len (n - l) == window_index len (n - r)

@@ -3,11 +3,11 @@ ghost use Rattle.std.specs.Prelude.{◌≡◌, ◌+◌, ◌-◌, ◌*◌, ◌<�
 ghost use Rattle.ss_windowing.specs.Exp.{exp_length, IsExp};
 ghost use Rattle.ss_windowing.specs.FirstFit.{IsFirstFit, IsFirstOfLength};
 ghost use Rattle.ss_windowing.specs.Groups.{grouped};
-ghost use Rattle.ss_windowing.specs.Windowing.{ArePositive, cut, Fits, fits, Holds, index_of, NeverFall};
+ghost use Rattle.ss_windowing.specs.Windowing.{ArePositive, cut, Fits, fits, Holds, window_index, NeverFall};
 
 /// The index of an age is that of the one window that holds it, as `window_at` gives it.
 pub fn index_is_of_the_window_that_holds()
-    ensures { (len : ℕ → ℕ) (i age : ℕ) → ArePositive len → Holds len i age → index_of len age ≡ i }
+    ensures { (len : ℕ → ℕ) (i age : ℕ) → ArePositive len → Holds len i age → window_index len age ≡ i }
 {}
 
 /// The test `fits` is true exactly for positions that lie in one target window.
@@ -27,9 +27,9 @@ pub fn exp_lengths_never_fall()
 pub fn first_fit_is_now_or_in_a_longer_window()
     ensures now { (len : ℕ → ℕ) (l r n : ℕ) → Fits len l r n → IsFirstFit len l r n n }
     ensures later { (len : ℕ → ℕ) (l r n k : ℕ) → ArePositive len → l ≤ r → r ≤ n → ¬ Fits len l r n →
-        IsFirstOfLength len (index_of len (n - r) + 1) (r - l + 1) k → IsFirstFit len l r n (r + cut len k) }
+        IsFirstOfLength len (window_index len (n - r) + 1) (r - l + 1) k → IsFirstFit len l r n (r + cut len k) }
     ensures never { (len : ℕ → ℕ) (l r n : ℕ) → ArePositive len → l ≤ r → r ≤ n → ¬ Fits len l r n →
-        ((k : ℕ) → index_of len (n - r) < k → len k < r - l + 1) → (m : ℕ) → n ≤ m → ¬ Fits len l r m }
+        ((k : ℕ) → window_index len (n - r) < k → len k < r - l + 1) → (m : ℕ) → n ≤ m → ¬ Fits len l r m }
 {}
 
 /// A group of windows starts where the groups before it end.

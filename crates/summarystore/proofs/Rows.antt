@@ -10,7 +10,8 @@ use Rattle.ss_journal.specs.Format.{is_unborn}
 use Rattle.summarystore.specs.FileDisk.{EndsAfterFault, KeepsFile, LooksAtFile, untold}
 use Rattle.summarystore.specs.Opening.{IsBlank, IsHeldAs, IsLockedAs, IsNative, IsSettledAs, MayHold, StaysHeld, StaysUnmade, is_writable}
 use Rattle.summarystore.specs.Opening.{missing_for}
-use Rattle.summarystore.specs.System.{Apart, Durable, Fact, IsUnsyncable, Keeps, KeepsAll, LockedBy, OpenFor, RegularFile, Synced, Unmade, Unsyncable, Unwritten}
+use Rattle.summarystore.specs.System.{Apart, Durable, Fact, IsUnsyncable, Keeps, KeepsAll, LockedBy, OpenFor, RegularFile, Synced, Unmade, Unsyncable}
+use Rattle.summarystore.specs.System.{Unwritten}
 use Rattle.summarystore.specs.System.{lasts_lock, lasts_open, lasts_write}
 use Rattle.summarystore.specs.declared.opening.Missing.{Missing}
 use Rattle.summarystore.specs.declared.opening.Missing.TheVariants as missing

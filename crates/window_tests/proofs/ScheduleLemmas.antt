@@ -5,22 +5,22 @@ use Rattle.std.specs.Option.{SomeIff}
 use Rattle.ss_line.specs.Line.{entry_at, place_before}
 use Rattle.ss_line.specs.declared.entry.At.{At}
 use Rattle.ss_line.specs.declared.entry.Entry.{Entry}
-use Rattle.ss_schedule.specs.Keyed.{FollowFrom, FollowUpTo}
+use Rattle.ss_schedule.specs.Keyed.{TileUpTo, FollowUpTo}
 use Rattle.ss_schedule.proofs.PairLemmas.{entry-apart, some-same}
 use Rattle.ss_schedule.proofs.Places.{AreApart, Ends, ends, place_at-seam, with_last, without_last}
 
-FollowFrom-more : (n first : ℕ) (front : List (At × Entry)) (last new : At × Entry) → FollowFrom n first (front ++ last ∷ []) →
+TileUpTo-more : (n first : ℕ) (front : List (At × Entry)) (last new : At × Entry) → TileUpTo n first (front ++ last ∷ []) →
     new.1.first ≡ last.1.last + 1 →
-    new.1.first ≤ new.1.last → new.1.last ≤ n → FollowFrom n first ((front ++ last ∷ []) ++ new ∷ [])
-FollowFrom-more n first [] last new follow next order taken = (follow.0, follow.1, follow.2, (next, omega arith, taken, tt))
-FollowFrom-more n first (e ∷ es) last new follow next order taken =
-    (follow.0, follow.1, follow.2, FollowFrom-more n (e.1.last + 1) es last new follow.3 next order taken)
+    new.1.first ≤ new.1.last → new.1.last ≤ n → TileUpTo n first ((front ++ last ∷ []) ++ new ∷ [])
+TileUpTo-more n first [] last new follow next order taken = (follow.0, follow.1, follow.2, (next, omega arith, taken, tt))
+TileUpTo-more n first (e ∷ es) last new follow next order taken =
+    (follow.0, follow.1, follow.2, TileUpTo-more n (e.1.last + 1) es last new follow.3 next order taken)
 
 FollowUpTo-more : (n : ℕ) (front : List (At × Entry)) (last new : At × Entry) → FollowUpTo n (front ++ last ∷ []) →
     new.1.first ≡ last.1.last + 1 →
     new.1.first ≤ new.1.last → new.1.last ≤ n → FollowUpTo n ((front ++ last ∷ []) ++ new ∷ [])
-FollowUpTo-more n [] last new follow next order taken = (follow.0, FollowFrom-more n last.1.first [] last new follow.1 next order taken)
-FollowUpTo-more n (e ∷ es) last new follow next order taken = (follow.0, FollowFrom-more n e.1.first (e ∷ es) last new follow.1 next order taken)
+FollowUpTo-more n [] last new follow next order taken = (follow.0, TileUpTo-more n last.1.first [] last new follow.1 next order taken)
+FollowUpTo-more n (e ∷ es) last new follow next order taken = (follow.0, TileUpTo-more n e.1.first (e ∷ es) last new follow.1 next order taken)
 
 some-last : (front : List (At × Entry)) (x : At × Entry) → place_before (front ++ x ∷ []) (length (front ++ x ∷ [])) ≡ Some x.0
 some-last front x =

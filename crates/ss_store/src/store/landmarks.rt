@@ -6,7 +6,7 @@ use ss_landmarks::Tally;
 impl Store {
     ghost use Rattle.std.specs.Prelude.{◌≡◌, ◌≤◌, IsSome, IfSome};
     ghost use Rattle.ss_landmarks.specs.Free.{free};
-    ghost use Rattle.ss_landmarks.specs.ValuesIn.{tally_of, values_in};
+    ghost use Rattle.ss_landmarks.specs.ValuesIn.{tally_of, values_between};
     ghost use Rattle.ss_landmarks.specs.declared.landmarks.TheConstants.{LATEST_TIME};
     ghost use Rattle.ss_store.specs.Kept.{part_numbered};
 
@@ -23,7 +23,7 @@ impl Store {
     pub fn tally(&self, id: StreamId, a: u64, b: u64) -> Tally
         requires { IsSome (part_numbered id.0 self.now.streams) }
         ensures { IfSome (part_numbered id.0 self.now.streams) (λ part.
-            result ≡ tally_of (values_in part.landmarks.landmarks a b)) }
+            result ≡ tally_of (values_between part.landmarks.landmarks a b)) }
     {
         self.part(id).landmarks.values_in(a, b)
     }

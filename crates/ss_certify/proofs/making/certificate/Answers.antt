@@ -3,7 +3,7 @@ use Rattle.std.proofs.lemmas.Int.{to_z-of_z}
 use Rattle.std.specs.Int.{w128}
 use Rattle.ss_bounds.specs.Split.{IsSplit}
 use Rattle.ss_bounds.specs.Parted.{CanBeParted}
-use Rattle.ss_certify.proofs.MadeLemmas.{CanBeParted-sum_inside, attaining-few}
+use Rattle.ss_certify.proofs.MadeLemmas.{CanBeParted-inside_sum, attaining-few}
 use Rattle.ss_certify.proofs.making.certificate.Goals as goal
 
 pub sum_inside-sum-requires : goal.sum_inside-sum-requires
@@ -18,5 +18,5 @@ certificate_with-requires c =
     let few = attaining-few c.args.kind c.args.end c.args.cut.split split in
     let x = c.attaining-x.ensures in
     let sum = to_z-of_z w128 c.sum_inside-sum.result (record { sfits = c.sum_inside-sum.type_inv }) ∙ c.sum_inside-sum.ensures in
-    let can = CanBeParted-sum_inside c.args.kind c.args.end c.args.cut.split c.attaining-x.result split (omega (arith, x)) in
+    let can = CanBeParted-inside_sum c.args.kind c.args.end c.args.cut.split c.attaining-x.result split (omega (arith, x)) in
     subst (CanBeParted c.args.cut.split c.attaining-x.result) (sym sum) can

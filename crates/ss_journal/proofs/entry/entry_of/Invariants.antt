@@ -1,11 +1,11 @@
 use Rattle.std.proofs.Common.{◌≡◌, ◌-◌, ◌*◌, ◌∷◌, ◌++◌, length, take, replicate}
 use Rattle.std.specs.Prelude.{flat_map}
 use Rattle.ss_journal.specs.Entries.{put_bytes}
-use Rattle.ss_journal.specs.Puts.{AreWhole}
+use Rattle.ss_journal.specs.Puts.{FillSlots}
 use Rattle.ss_journal.proofs.entry.entry_of.Given as goal
 
 abbrev pub invariant-loop-k : goal.invariant-loop-k
 invariant-loop-k l = record {
   entry : l.entry ≡ 0 ∷ length l.puts ∷ flat_map put_bytes (take l.k l.puts) ++ replicate (542 - 132 * l.k) 0;
-  whole : AreWhole (take l.k l.puts);
+  whole : FillSlots (take l.k l.puts);
 }

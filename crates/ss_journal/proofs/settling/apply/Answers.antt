@@ -1,10 +1,10 @@
-use Rattle.ss_journal.proofs.InUseLemmas.{HasPlaces-in_use}
+use Rattle.ss_journal.proofs.InUseLemmas.{HasSlotsFor-in_use}
 use Rattle.ss_journal.proofs.SettleSteps.{slots-applied, slots-failed, within-first_gate}
 use Rattle.ss_journal.proofs.StepLemmas.{after-step, step-failed, step-next}
 use Rattle.ss_journal.proofs.settling.apply.Goals as goal
 
 pub write_slots-requires-clause-places : goal.write_slots-requires-clause-places
-write_slots-requires-clause-places g c told = let entries = c.requires.entries told in HasPlaces-in_use _ _ entries.born entries.in_use
+write_slots-requires-clause-places g c told = let entries = c.requires.entries told in HasSlotsFor-in_use _ _ entries.born entries.in_use
 
 pub write_through-requires-clause-within : goal.write_through-requires-clause-within
 write_through-requires-clause-within g c =

@@ -3,7 +3,7 @@ use Rattle.std.proofs.lemmas.Bool.{ltb-false}
 use Rattle.std.proofs.lemmas.List.Sorted.{IsPartitionPoint-from_clause, IsPartitionedBy-ltb}
 use Rattle.ss_landmarks.specs.declared.stored.Closed.{Closed}
 use Rattle.ss_landmarks.specs.declared.stored.Opened.{Opened}
-use Rattle.ss_landmarks.specs.Stored.{landmarks_of, free_before}
+use Rattle.ss_landmarks.specs.Stored.{landmarks_from, free_before}
 use Rattle.ss_landmarks.proofs.StoredLemmas.{free_before-none, free_before-last, free_before-open, Apart-rises}
 use Rattle.ss_landmarks.specs.Free.{is_free}
 use Rattle.ss_landmarks.proofs.Counting.{among-le}
@@ -14,10 +14,10 @@ pub returns-then-opened-t : goal.returns-then-opened-t
 returns-then-opened-t c =
     let cs = c.args.closed.now in
     let o = c.in-Some.opened in
-    let known = subst (λ (current : Option Opened). IfSome current (λ o. o.free_before ≡ free_before (landmarks_of cs current []) o.start))
+    let known = subst (λ (current : Option Opened). IfSome current (λ o. o.free_before ≡ free_before (landmarks_from cs current []) o.start))
     c.in-Some.is c.requires.opened in
     known ∙ sym (free_before-open cs o [] c.args.t c.if-opened-t.true) ∙
-    ap (λ (current : Option Opened). free_before (landmarks_of cs current []) c.args.t) (sym c.in-Some.is)
+    ap (λ (current : Option Opened). free_before (landmarks_from cs current []) c.args.t) (sym c.in-Some.is)
 
 nothing : Closed
 nothing = record { start = 0; finish = 0; slot = 0; values = 0; free_before = 0 }
@@ -56,7 +56,7 @@ overflow_add-result c =
     let i = c.partition_point-begun.result - 1 in
     let below : i < length cs = omega (arith, c.if-begun-eq0.false, c.partition_point-begun.ensures.bound) in
     let begun : (get_or cs i nothing).start < c.args.t = ltb-true _ _ (point.0 i nothing (omega arith) (omega (arith, c.if-begun-eq0.false))) in
-    let test = is_free (landmarks_of cs c.args.current.now []) in
+    let test = is_free (landmarks_from cs c.args.current.now []) in
     let few : (get_or cs i nothing).free_before ≤ (get_or cs i nothing).start =
     subst (λ (n : ℕ). n ≤ (get_or cs i nothing).start) (sym (c.requires.closed i nothing below)) (among-le test 0 (get_or cs i nothing).start) in
     omega (arith, few, begun, (apart.ends i nothing below).0, c.saturating_sub.ensures, c.ranges.t)

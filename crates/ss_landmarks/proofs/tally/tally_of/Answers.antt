@@ -5,7 +5,7 @@ use Rattle.std.proofs.lemmas.Int.{ints, to_z-of_z}
 use Rattle.std.proofs.lemmas.List.{map_more}
 use Rattle.std.proofs.lemmas.List.Elements.{All-get_or}
 use mir.Val.{to_z, of_z}
-use Rattle.ss_landmarks.specs.Stored.{value_of}
+use Rattle.ss_landmarks.specs.Stored.{bare_value}
 use Rattle.ss_landmarks.specs.ValuesIn.{total, least, greatest, lesser, greater}
 use Rattle.ss_landmarks.specs.declared.stored.StoredValue.{StoredValue}
 use Rattle.ss_landmarks.proofs.ValueLemmas.{total_push, least_push, greatest_push, sum_low, sum_high, sum_fits}
@@ -20,13 +20,14 @@ loop-value-preserved c =
     let v = (get_or values i d).v in
     let fits : FitsSigned w64 v = All-get_or (λ (value : StoredValue). FitsSigned w64 value.v) values i d below c.requires in
     let same : to_z w64 (of_z w64 v) ≡ v = to_z-of_z w64 v fits in
-    let more : map value_of (take (i + 1) values) ≡ map value_of (take i values) ++ value_of (get_or values i d) ∷ [] = map_more value_of values i d below in
-    let done = map value_of (take i values) in
-    let sum : total (map value_of (take (i + 1) values)) ≡ total done +ℤ v = ap total more ∙ total_push done (value_of (get_or values i d)) in
-    let least_more : least (map value_of (take (i + 1) values)) ≡ Some (lesser v (least done)) = ap least more ∙
-    least_push done (value_of (get_or values i d)) in
-    let greatest_more : greatest (map value_of (take (i + 1) values)) ≡ Some (greater v (greatest done)) = ap greatest more ∙
-    greatest_push done (value_of (get_or values i d)) in
+    let more : map bare_value (take (i + 1) values) ≡ map bare_value (take i values) ++ bare_value (get_or values i d)
+    ∷ [] = map_more bare_value values i d below in
+    let done = map bare_value (take i values) in
+    let sum : total (map bare_value (take (i + 1) values)) ≡ total done +ℤ v = ap total more ∙ total_push done (bare_value (get_or values i d)) in
+    let least_more : least (map bare_value (take (i + 1) values)) ≡ Some (lesser v (least done)) = ap least more ∙
+    least_push done (bare_value (get_or values i d)) in
+    let greatest_more : greatest (map bare_value (take (i + 1) values)) ≡ Some (greater v (greatest done)) = ap greatest more ∙
+    greatest_push done (bare_value (get_or values i d)) in
     let taken : c.from-sum.result ≡ v = c.from-sum.ensures ∙ same in
     let taken_fits : to_z w128 (of_z w128 c.from-sum.result) ≡ c.from-sum.result = to_z-of_z w128 c.from-sum.result (omega (arith, ints)) in
     let before : ℤ = to_z w128 c.loop-value.sum-bits in

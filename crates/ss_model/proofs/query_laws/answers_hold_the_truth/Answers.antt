@@ -1,5 +1,5 @@
 use Rattle.ss_model.specs.Windows.{windows}
-use Rattle.ss_model.proofs.IntervalLemmas.{count-lies, sum-lies, least-Holds, greatest-Holds}
+use Rattle.ss_model.proofs.IntervalLemmas.{count-lies, sum-lies, least-HoldsExtreme, greatest-HoldsExtreme}
 use Rattle.ss_model.proofs.PieceLemmas.{AreOf-windows}
 use Rattle.ss_model.proofs.query_laws.answers_hold_the_truth.Goals as goal
 
@@ -10,7 +10,7 @@ pub returns-clause-sum : goal.returns-clause-sum
 returns-clause-sum c len free from to plain marked = sum-lies free from to (windows len plain) plain marked 0 (AreOf-windows len plain)
 
 pub returns-clause-least : goal.returns-clause-least
-returns-clause-least c len free from to plain marked = least-Holds free from to (windows len plain) plain marked 0 (AreOf-windows len plain)
+returns-clause-least c len free from to plain marked = least-HoldsExtreme free from to (windows len plain) plain marked 0 (AreOf-windows len plain)
 
 pub returns-clause-greatest : goal.returns-clause-greatest
-returns-clause-greatest c len free from to plain marked = greatest-Holds free from to (windows len plain) plain marked 0 (AreOf-windows len plain)
+returns-clause-greatest c len free from to plain marked = greatest-HoldsExtreme free from to (windows len plain) plain marked 0 (AreOf-windows len plain)

@@ -1,6 +1,6 @@
 use Rattle.std.proofs.Common.{◌≤◌}
 use Rattle.std.specs.Prelude.{◌≤ℤ◌}
-use Rattle.ss_bounds.specs.Truth.{Holds}
+use Rattle.ss_bounds.specs.Truth.{HoldsExtreme}
 use Rattle.ss_landmarks.specs.Free.{is_free}
 use Rattle.ss_target.specs.Lengths.{lengths_of}
 use Rattle.ss_model.specs.History.{landmarks_of, marked_of, values_of}
@@ -8,7 +8,7 @@ use Rattle.ss_model.specs.Interval.{interval_of_count, interval_of_greatest, int
 use Rattle.ss_model.specs.Marks.{marked_values}
 use Rattle.ss_model.specs.Truth.{true_count, true_greatest, true_least, true_sum}
 use Rattle.ss_model.specs.Windows.{windows}
-use Rattle.ss_model.proofs.IntervalLemmas.{count-lies, sum-lies, least-Holds, greatest-Holds}
+use Rattle.ss_model.proofs.IntervalLemmas.{count-lies, sum-lies, least-HoldsExtreme, greatest-HoldsExtreme}
 use Rattle.ss_model.proofs.PieceLemmas.{AreOf-windows}
 use Rattle.ss_model.proofs.ReadLemmas.{All-state}
 use Rattle.ss_model.proofs.RisingLemmas.{values-rise}
@@ -32,16 +32,16 @@ returns-clause-sum c history from to whole =
 
 pub returns-clause-least : goal.returns-clause-least
 returns-clause-least c history from to whole =
-    All-state (λ s. Holds (interval_of_least (is_free s.landmarks) from to s.windows (marked_values s.landmarks))
+    All-state (λ s. HoldsExtreme (interval_of_least (is_free s.landmarks) from to s.windows (marked_values s.landmarks))
     (true_least from to (values_of history s.name) (marked_of history s.name))) history
-    (λ s. least-Holds (is_free (landmarks_of history s.name)) from to (windows (lengths_of s.params) (values_of history s.name))
+    (λ s. least-HoldsExtreme (is_free (landmarks_of history s.name)) from to (windows (lengths_of s.params) (values_of history s.name))
     (values_of history s.name) (marked_of history s.name) 0
     (AreOf-windows (lengths_of s.params) (values_of history s.name)) (values-rise history s.name whole))
 
 pub returns-clause-greatest : goal.returns-clause-greatest
 returns-clause-greatest c history from to whole =
-    All-state (λ s. Holds (interval_of_greatest (is_free s.landmarks) from to s.windows (marked_values s.landmarks))
+    All-state (λ s. HoldsExtreme (interval_of_greatest (is_free s.landmarks) from to s.windows (marked_values s.landmarks))
     (true_greatest from to (values_of history s.name) (marked_of history s.name))) history
-    (λ s. greatest-Holds (is_free (landmarks_of history s.name)) from to (windows (lengths_of s.params) (values_of history s.name))
+    (λ s. greatest-HoldsExtreme (is_free (landmarks_of history s.name)) from to (windows (lengths_of s.params) (values_of history s.name))
     (values_of history s.name) (marked_of history s.name) 0
     (AreOf-windows (lengths_of s.params) (values_of history s.name)) (values-rise history s.name whole))

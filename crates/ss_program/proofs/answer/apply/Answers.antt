@@ -26,7 +26,8 @@ use Rattle.ss_program.specs.Line.{Brought, History, command_brings, history_afte
 use Rattle.ss_program.specs.Progress.{StandsAround}
 use Rattle.ss_program.specs.declared.status.Status.{Status}
 use Rattle.ss_program.specs.declared.status.Status.TheVariants.{DiskFault, OutOfMemory}
-use Rattle.ss_program.proofs.AnswerLemmas.{Adds-applied, Adds-none, IsSome-accepted, StoreIsIn-open, StoreIsIn-sealed, brings-accepted, brings-refused, not_refused}
+use Rattle.ss_program.proofs.AnswerLemmas.{Adds-applied, Adds-none, IsSome-accepted, StoreIsIn-open, StoreIsIn-sealed, brings-accepted, brings-refused}
+use Rattle.ss_program.proofs.AnswerLemmas.{not_refused}
 use Rattle.ss_program.proofs.answer.apply.Goals as goal
 
 -- an event that the store doesn't refuse isn't refused by any history that its disk stands for
@@ -35,7 +36,8 @@ accepted : (event : Event) (store : StoreState) (disk : DiskView) (result : Resu
     ((r : Refusal) → result ≡ Err (errors.Refused r) → ⊥) → IsTrue disk.tells → (history : History) → Stands history disk.told.content →
     refuses (state history) event ≡ None
 accepted event store disk result opens refused other told history stands =
-    refuses-kept store disk.told.content history event (StoreIsIn-open disk store opens told) stands ∙ not_refused result (refuses_held store.streams event) refused other
+    refuses-kept store disk.told.content history event (StoreIsIn-open disk store opens told) stands
+    ∙ not_refused result (refuses_held store.streams event) refused other
 
 pub returns-in-Ok-clause-applies : goal.returns-in-Ok-clause-applies
 returns-in-Ok-clause-applies g c =

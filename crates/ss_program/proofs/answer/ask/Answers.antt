@@ -3,7 +3,7 @@ use Rattle.ss_model.specs.State.{state}
 use Rattle.ss_records.specs.Kept.{shown_by}
 use Rattle.ss_store.specs.Asked.{refuses_query_held}
 use Rattle.ss_program.specs.Line.{Brought}
-use Rattle.ss_program.proofs.AnswerLemmas.{brings-answered, brings-unanswered, not_unanswered, refuses_query-kept}
+use Rattle.ss_program.proofs.AnswerLemmas.{brings-answer_replies, brings-unanswered, not_unanswered, refuses_query-kept}
 use Rattle.ss_program.proofs.answer.ask.Goals as goal
 
 pub returns-in-Ok-clause-asks : goal.returns-in-Ok-clause-asks
@@ -19,7 +19,8 @@ returns-in-Ok-clause-asks g c =
             let same = refuses_query-kept c.args.store.now image history query (c.requires.serves.kept told).shown stands in
             let none = same ∙ not_unanswered (Ok c.in-Ok.outcome) (refuses_query_held c.args.store.now.streams query)
             (c.in-Ok.ensures.refused c.requires.serves.runs) (λ r is. cc) in
-            ap (λ (b : Brought). b.replies) (brings-answered history query c.in-Ok.outcome none ((answers.told told).answer (state history) stands.state));
+            ap (λ (b : Brought). b.replies)
+            (brings-answer_replies history query c.in-Ok.outcome none ((answers.told told).answer (state history) stands.state));
         reads = (answers.told told).reads;
       };
     }

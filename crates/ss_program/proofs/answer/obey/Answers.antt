@@ -19,7 +19,8 @@ returns-in-Ask g c = rw c.in-Ask.is
 
 pub returns-in-Certify : goal.returns-in-Certify
 returns-in-Certify g c = rw c.in-Certify.is
-    (TakesLine-shown (λ history. command_brings history (Certify c.in-Certify.query c.in-Certify.end)) (IsTextBrought (Certify c.in-Certify.query c.in-Certify.end))
+    (TakesLine-shown (λ history. command_brings history (Certify c.in-Certify.query c.in-Certify.end))
+    (IsTextBrought (Certify c.in-Certify.query c.in-Certify.end))
     (over (g.D.Disk.seen c.args.disk.now) (g.K.Sink.held c.args.sink.now) (g.K.Sink.faults c.args.sink.now))
     (over (g.D.Disk.seen c.show_certificate.new.disk) (g.K.Sink.held c.show_certificate.new.sink) (g.K.Sink.faults c.show_certificate.new.sink))
     c.show_certificate.new.store c.show_certificate.result (g.met.D.Disk.knows_now c.args.disk.now)

@@ -1,5 +1,5 @@
 use Rattle.ss_model.specs.State.{state}
-use Rattle.ss_program.proofs.AnswerLemmas.{Stands-shown}
+use Rattle.ss_program.proofs.AnswerLemmas.{Stands-only_replies}
 use Rattle.ss_program.proofs.answer.read.Goals as goal
 
 pub returns-in-Ok-clause-reads : goal.returns-in-Ok-clause-reads
@@ -10,7 +10,7 @@ returns-in-Ok-clause-reads g c =
       counted = shows.counted;
       told = λ told. record {
         row = λ history stands.
-            let shown = Stands-shown c.args.store.now.records (g.D.Disk.seen c.args.disk.now).told.content history c.requires.open.sealed stands in
+            let shown = Stands-only_replies c.args.store.now.records (g.D.Disk.seen c.args.disk.now).told.content history c.requires.open.sealed stands in
             (shows.told told).window (state history) shown.state;
         reads = (shows.told told).reads;
       };

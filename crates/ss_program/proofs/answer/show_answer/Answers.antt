@@ -13,7 +13,7 @@ use Rattle.ss_program.specs.Devices.{over}
 use Rattle.ss_program.specs.Line.{command_brings, text_brought}
 use Rattle.ss_program.specs.Sent.{AppendsLess}
 use Rattle.ss_program.specs.Status.{disk_verdict}
-use Rattle.ss_program.proofs.AnswerLemmas.{Stands-shown, ask-some}
+use Rattle.ss_program.proofs.AnswerLemmas.{Stands-only_replies, ask-some}
 use Rattle.ss_program.proofs.SendLemmas.{AppendsLess-none}
 use Rattle.ss_program.proofs.TakesLemmas.{Shows-reply, Shows-stopped}
 use Rattle.ss_program.proofs.answer.show_answer.Goals as goal
@@ -46,5 +46,5 @@ returns g c =
     (g.K.Sink.faults c.args.sink.now) (g.K.Sink.faults c.send_reply.new.sink) c.in_ok-reply.reply c.send_reply.result reads opens
     c.send_reply.ensures
     (λ told history stands bytes is. is ∙ ap (λ rs. flat_map reply_line rs) ((asks.told told).reply history
-    (Stands-shown c.args.store.now.records old.told.content history c.requires.open.sealed stands)) ∙ append-nil
+    (Stands-only_replies c.args.store.now.records old.told.content history c.requires.open.sealed stands)) ∙ append-nil
     (reply_line c.in_ok-reply.reply)))

@@ -27,7 +27,8 @@ returns-in_default g c =
     (g.K.Sink.faults c.send_reply.new.sink) c.send_reply.result (still disk) c.requires.open c.send_reply.ensures.counted
     (λ told history stands bytes is. subst (λ bs. Sends before after bs c.send_reply.result) (sym is)
     (windows-unknown history name before after c.send_reply.result
-    (unknown-kept c.args.store.now disk.told.content history name (StoreIsIn-open disk c.args.store.now c.requires.open told) stands (sym c.in_default.is ∙ c.find.ensures.number))
+    (unknown-kept c.args.store.now disk.told.content history name (StoreIsIn-open disk c.args.store.now c.requires.open told) stands
+    (sym c.in_default.is ∙ c.find.ensures.number))
     c.send_reply.ensures.sends)))
 
 pub returns-in_err-at_sink : goal.returns-in_err-at_sink

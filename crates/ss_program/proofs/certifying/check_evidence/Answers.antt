@@ -1,5 +1,5 @@
 use Rattle.std.proofs.Common.{Err, Ok, ap, subst}
-use Rattle.ss_certify.specs.Called.{Checks}
+use Rattle.ss_certify.specs.Called.{ChecksEvidence}
 use Rattle.ss_outside.proofs.StepLemmas.{step-as}
 use Rattle.ss_outside.specs.Step.{Step}
 use Rattle.ss_outside.specs.Verdict.{fine}
@@ -17,7 +17,8 @@ returns-in-Ok-false-clause-status g c =
     let old = g.D.Disk.seen c.args.disk.now in
     let new = g.D.Disk.seen c.check.new.disk in
     let store = c.args.store.now in
-    let checks = subst (λ right. Step fine old new (Checks store.records c.args.query.now c.args.end c.args.evidence.now (Ok right))) c.in-Ok-false.field-0-test
+    let checks = subst (λ right. Step fine old new (ChecksEvidence store.records c.args.query.now c.args.end c.args.evidence.now (Ok right)))
+    c.in-Ok-false.field-0-test
     c.in-Ok-false.ensures.checks in
     never-wrong store old c.args.query.now c.args.end c.args.evidence.now new.told c.requires.open c.requires.kind c.requires.made (λ told. checks.told told)
 

@@ -1,5 +1,5 @@
 use Rattle.std.proofs.Common.{Err, ap}
-use Rattle.ss_program.proofs.CertifyLemmas.{Recovers-shown}
+use Rattle.ss_program.proofs.CertifyLemmas.{Recovers-only_replies}
 use Rattle.ss_program.proofs.certifying.make_evidence.Goals as goal
 
 pub returns-in-Ok-clause-finds : goal.returns-in-Ok-clause-finds
@@ -10,7 +10,7 @@ returns-in-Ok-clause-finds g c =
       counted = makes.counted;
       told = λ told. record {
         evidence = λ streams recovers. (makes.told told).made streams
-            (Recovers-shown c.args.store.now.records (g.D.Disk.seen c.args.disk.now).told.content streams c.requires.open.sealed recovers);
+            (Recovers-only_replies c.args.store.now.records (g.D.Disk.seen c.args.disk.now).told.content streams c.requires.open.sealed recovers);
         reads = (makes.told told).reads;
       };
     }

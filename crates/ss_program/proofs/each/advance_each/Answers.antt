@@ -18,7 +18,8 @@ returns-in-None-clause-takes g c =
     let disk = view.told in
     let held = g.K.Sink.held c.args.sink.now in
     let piece = c.args.piece.now in
-    step-none view (TakesPiece (λ count. take count piece) piece (each_over c.args.store.now c.args.reader.now) (each_over c.args.store.now c.feed-count.new.self) held held (Ok c.feed-count.result.0)) (λ told. record {
+    step-none view (TakesPiece (λ count. take count piece) piece (each_over c.args.store.now c.args.reader.now)
+    (each_over c.args.store.now c.feed-count.new.self) held held (Ok c.feed-count.result.0)) (λ told. record {
       goes = λ history before input at replied.
           let more = input ++ take c.feed-count.result.0 piece in
           let same = subst (λ o. TellsLine (lines_so_far input) (lines_so_far more) o c.feed-count.new.self) c.in-None.is

@@ -15,8 +15,10 @@ loop-done-init g c =
       fits = omega arith;
       is_open = c.requires;
       on = step-none disk (λ old now. OfTaken (each_over c.args.store.now c.args.reader.now) held old (λ history before input.
-          GoesOn history old now (each_over c.args.store.now c.args.reader.now) before held (input ++ take 0 c.args.piece.now))) (λ told history before input at replied.
-          GoesOn-start history disk.told (each_over c.args.store.now c.args.reader.now) before held input (g.met.D.Disk.knows_now c.args.disk.now told) at replied);
+          GoesOn history old now (each_over c.args.store.now c.args.reader.now) before held (input ++ take 0 c.args.piece.now)))
+          (λ told history before input at replied.
+          GoesOn-start history disk.told (each_over c.args.store.now c.args.reader.now) before held input
+          (g.met.D.Disk.knows_now c.args.disk.now told) at replied);
       faults = refl;
     }
 
@@ -36,8 +38,10 @@ loop-done-preserved g c =
           let taken = input ++ take done piece in
           let one = first history before input at replied in
           let two = second.goes history before taken one.at one.replied in
-          subst (λ bs. GoesOn history old new (each_over c.advance_each.new.store c.advance_each.new.reader) before after bs) (taken_more input piece done c.in-Ok.count)
-          (GoesOn-then history old mid new (each_over c.loop-done.store c.loop-done.reader) (each_over c.advance_each.new.store c.advance_each.new.reader) before (g.K.Sink.held c.loop-done.sink) after taken
+          subst (λ bs. GoesOn history old new (each_over c.advance_each.new.store c.advance_each.new.reader) before after bs)
+          (taken_more input piece done c.in-Ok.count)
+          (GoesOn-then history old mid new (each_over c.loop-done.store c.loop-done.reader)
+          (each_over c.advance_each.new.store c.advance_each.new.reader) before (g.K.Sink.held c.loop-done.sink) after taken
           (take c.in-Ok.count (take (length piece - done) (drop done piece))) one two));
       faults = c.in-Ok.ensures.counted ∙ inv.faults;
     }
@@ -58,7 +62,8 @@ returns-in-Err-clause-takes g c =
           let one = first history before input at replied in
           let two = second.stops history before taken one.at one.replied in
           subst (λ bs. StopsIn Each history (lines_so_far bs) old new before after c.in-Err.status) (taken_rest input piece done)
-          (StopsIn-then Each history old mid new (each_over c.loop-done.store c.loop-done.reader) before (g.K.Sink.held c.loop-done.sink) after c.in-Err.status taken
+          (StopsIn-then Each history old mid new (each_over c.loop-done.store c.loop-done.reader) before
+          (g.K.Sink.held c.loop-done.sink) after c.in-Err.status taken
           (take (length piece - done) (drop done piece)) one two);
     })
 

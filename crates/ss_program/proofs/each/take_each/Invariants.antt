@@ -11,7 +11,8 @@ abbrev pub invariant-loop-done : goal.invariant-loop-done
 invariant-loop-done g l = record {
   fits : l.done ≤ length l.piece;
   is_open : IsOpen (g.D.Disk.seen l.disk) l.store;
-  on : Step fine (g.D.Disk.seen l.fn.disk) (g.D.Disk.seen l.disk) (λ old now. OfTaken (each_over l.fn.store l.fn.reader) (g.K.Sink.held l.fn.sink) old (λ history before input.
+  on : Step fine (g.D.Disk.seen l.fn.disk) (g.D.Disk.seen l.disk)
+      (λ old now. OfTaken (each_over l.fn.store l.fn.reader) (g.K.Sink.held l.fn.sink) old (λ history before input.
       GoesOn history old now (each_over l.store l.reader) before (g.K.Sink.held l.sink) (input ++ take l.done l.piece)));
   faults : g.K.Sink.faults l.sink ≡ g.K.Sink.faults l.fn.sink;
 }

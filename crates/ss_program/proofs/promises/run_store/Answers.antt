@@ -22,7 +22,8 @@ pub returns-clause-any_moment : goal.returns-clause-any_moment
 returns-clause-any_moment g c sealing history input begins image left =
     let known = c.run.ensures.known in
     StandsForFirst-within history (lines input) image
-    ((c.run.ensures.serves sealing begins.asked known.0 known.1 input begins.source begins.tells begins.durable history begins.stands).any_moment.each image left)
+    ((c.run.ensures.serves sealing begins.asked known.0 known.1 input begins.source begins.tells begins.durable history begins.stands).any_moment.each image
+    left)
 
 pub returns-clause-acked_held : goal.returns-clause-acked_held
 returns-clause-acked_held g c history input begins had has is_had is_has image left =

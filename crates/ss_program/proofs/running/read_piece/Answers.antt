@@ -52,7 +52,8 @@ returns-in-Err-take-clause-reads g c =
             small,
             move.0,
             move.2,
-            subst (λ bs. StopsIn (sealing_by c.args.session.now.waiting) history (lines_so_far (input ++ bs)) old new before (g.K.Sink.held c.take.new.sink) status)
+            subst (λ bs. StopsIn (sealing_by c.args.session.now.waiting) history (lines_so_far (input ++ bs)) old new before
+                (g.K.Sink.held c.take.new.sink) status)
                 move.1 (takes.stops history before input at replied),
           );
     })

@@ -23,7 +23,8 @@ returns-in-Ok-start-clause-serves g c input is told none history stands =
     let opened = (opens.told told).history history in
     subst (λ s. Serves s history input (g.S.Source.left c.serve.new.source) (g.K.Sink.held c.args.sink.now) (g.K.Sink.held c.serve.new.sink)
     (g.D.Disk.seen c.args.disk.now).told (g.D.Disk.seen c.serve.new.disk).told c.serve.result) c.in-Ok-start.ensures.sealing.0
-    (Serves-opened (sealing_by c.in-Ok-start.session.waiting) history input (g.S.Source.left c.serve.new.source) (g.K.Sink.held c.args.sink.now) (g.K.Sink.held c.serve.new.sink)
+    (Serves-opened (sealing_by c.in-Ok-start.session.waiting) history input (g.S.Source.left c.serve.new.source) (g.K.Sink.held c.args.sink.now)
+    (g.K.Sink.held c.serve.new.sink)
     (g.D.Disk.seen c.args.disk.now).told
     (g.D.Disk.seen c.open.new.disk).told (g.D.Disk.seen c.serve.new.disk).told c.serve.result (opened.any_moment none stands)
     (c.serve.ensures.serves.told (opens.tells ∙ told) input is (opened.durable none) history (opened.content stands)))

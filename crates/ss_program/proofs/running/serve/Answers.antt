@@ -10,7 +10,8 @@ use Rattle.ss_program.specs.declared.status.Status.TheVariants.{InputLimit, Sour
 use Rattle.ss_program.proofs.SendLemmas.{appended-nil}
 use Rattle.ss_program.proofs.StepLemmas.{step-told}
 use Rattle.ss_program.proofs.RunLemmas.{HasStopped-piece, IsThrough, IsThrough-end, IsThrough-more, IsThrough-start, Serves-finish, Serves-part, Serves-stop}
-use Rattle.ss_program.proofs.ReadLemmas.{end-other, IsLeft-more, Moved-at, Moved-piece, Reads-end, Reads-limit, Reads-stop, left-none, length_of-none, stop-other}
+use Rattle.ss_program.proofs.ReadLemmas.{end-other, IsLeft-more, Moved-at, Moved-piece, Reads-end, Reads-limit, Reads-stop, left-none, length_of-none}
+use Rattle.ss_program.proofs.ReadLemmas.{stop-other}
 use Rattle.ss_program.proofs.running.serve.Goals as goal
 
 pub loop-done-init : goal.loop-done-init
@@ -157,7 +158,8 @@ returns-in-Err-is_at_end-clause-reads g c input is =
 pub returns-in-Err-is_at_end-clause-serves : goal.returns-in-Err-is_at_end-clause-serves
 returns-in-Err-is_at_end-clause-serves g c =
     step-as c.loop-done.invariant.through (λ through input is none history stands.
-    Serves-part (sealing_by c.args.session.now.waiting) SourceFault (g.S.Source.left c.is_at_end.new.source) (through input is none history stands) c.loop-done.invariant.fits
+    Serves-part (sealing_by c.args.session.now.waiting) SourceFault (g.S.Source.left c.is_at_end.new.source)
+    (through input is none history stands) c.loop-done.invariant.fits
     (inl (refl, c.in-Err-is_at_end.ensures.err)))
 
 -- the input ends at the limit
@@ -175,7 +177,8 @@ returns-in-Ok-true-clause-serves g c =
     let ends = c.in-Ok-true.ensures.ends (drop c.loop-done.done input) one.source c.in-Ok-true.field-0-test in
     let all = length_of-none input c.loop-done.done ends.0 in
     let end = IsThrough-end (g.S.Source.left c.is_at_end.new.source) one all (omega (arith, all, c.loop-done.invariant.fits)) ends.1 in
-    Serves-finish (sealing_by c.args.session.now.waiting) (g.D.Disk.seen c.finish-in-Ok-true.new.disk).told (g.K.Sink.held c.finish-in-Ok-true.new.sink) (g.D.Disk.seen c.loop-done.disk).tells
+    Serves-finish (sealing_by c.args.session.now.waiting) (g.D.Disk.seen c.finish-in-Ok-true.new.disk).told (g.K.Sink.held c.finish-in-Ok-true.new.sink)
+    (g.D.Disk.seen c.loop-done.disk).tells
     c.finish-in-Ok-true.result tells end c.finish-in-Ok-true.ensures.status (λ is_done. finished.done is_done history before input end.on.at end.on.replied)
     (λ stop.
     subst (λ s. StopsIn s history (lines input) (g.D.Disk.seen c.loop-done.disk).told (g.D.Disk.seen c.finish-in-Ok-true.new.disk).told before

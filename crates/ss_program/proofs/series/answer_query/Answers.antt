@@ -1,6 +1,6 @@
 use Rattle.std.proofs.Common.{Err, ap}
 use Rattle.ss_model.specs.State.{state}
-use Rattle.ss_program.proofs.AnswerLemmas.{Stands-shown}
+use Rattle.ss_program.proofs.AnswerLemmas.{Stands-only_replies}
 use Rattle.ss_program.proofs.series.answer_query.Goals as goal
 
 pub returns-in-Ok-clause-answers : goal.returns-in-Ok-clause-answers
@@ -11,7 +11,7 @@ returns-in-Ok-clause-answers g c =
       counted = answers.counted;
       told = λ told. record {
         answer = λ history stands.
-            let shown = Stands-shown c.args.store.now.records (g.D.Disk.seen c.args.disk.now).told.content history c.requires.open.sealed stands in
+            let shown = Stands-only_replies c.args.store.now.records (g.D.Disk.seen c.args.disk.now).told.content history c.requires.open.sealed stands in
             (answers.told told).answer (state history) shown.state;
         reads = (answers.told told).reads;
       };

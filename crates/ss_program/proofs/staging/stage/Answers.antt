@@ -36,7 +36,8 @@ returns-in-Ok-clause-stages g c =
       tells = applies.step.tells;
       counted = applies.step.counted;
       told = λ told. record {
-        turns = λ history. Turns-staged store.records c.stage.new.self.records history old new event (Ok c.in-Ok.ack) result (λ X has. has) (fits told history) (turns told history);
+        turns = λ history. Turns-staged store.records c.stage.new.self.records history old new event (Ok c.in-Ok.ack) result (λ X has. has) (fits told history)
+            (turns told history);
         reply = λ history stands.
             let said = said-kept c.stage.new.self (shown_by c.stage.new.self.records new.content) (history ++ event ∷ []) (event_name event)
             (applies.stands (applies.stops ∙ runs) (applies.step.tells ∙ told)).shown ((turns told history).content stands) in
@@ -64,7 +65,8 @@ returns-in-Err-Refused-clause-stages g c =
     (sym still)
     (subst (λ s. Step fine disk disk (StagesBrought (λ history. command_brings history (Do event)) store.records s.records result)) (sym same)
     (step-none disk (StagesBrought (λ history. command_brings history (Do event)) store.records store.records result) (λ told. record {
-      turns = λ history. Turns-looked store.records store.records history disk.told disk.told (command_brings history (Do event)) result (g.met.D.Disk.knows_now c.args.disk.now told)
+      turns = λ history. Turns-looked store.records store.records history disk.told disk.told (command_brings history (Do event)) result
+          (g.met.D.Disk.knows_now c.args.disk.now told)
           (reads-none disk.told)
           (λ stands. shown-still store.records store.records history (command_brings history (Do event)) disk.told.content disk.told.content
           (ap (λ (b : Brought). b.event) (brings-refused history event r (refused told history stands))) refl stands);
@@ -101,7 +103,8 @@ returns-in-Err-Disk-clause-stages g c =
       tells = step.tells;
       counted = step.counted;
       told = λ told. record {
-        turns = λ history. Turns-staged store.records c.stage.new.self.records history old new event (Err c.in-Err-Disk.field-0) result (λ X has. tt) (fits told history)
+        turns = λ history. Turns-staged store.records c.stage.new.self.records history old new event (Err c.in-Err-Disk.field-0) result (λ X has. tt)
+            (fits told history)
             (c.in-Err-Disk.ensures.history runs told history);
         reply = λ history stands. tt;
       };

@@ -2,7 +2,7 @@ use Rattle.std.proofs.Common.{◌≡◌, ◌∙◌, ◌++◌, [], ◌∷◌, All
 use Rattle.std.proofs.lemmas.List.{take_all, take_more}
 use Rattle.ss_recover.specs.Order.{stream_of}
 use Rattle.ss_recover.specs.Runs.{is_run, run_with}
-use Rattle.ss_recover.specs.Shown.{BeginsAs, HasTaken, IsHeldOf, Shows, StepsAs, names_in}
+use Rattle.ss_recover.specs.Shown.{BeginsAs, HasTakenFirst, IsHeldOf, ShowsStream, StepsAs, names_in}
 use Rattle.ss_recover.specs.Usable.{IsUsable, without_slots}
 use Rattle.ss_recover.proofs.RunWalk.{IsHeldOf-end, IsSoFar, IsSoFar-more, IsSoFar-none, all-at, at-index, ends-run, not-run, same-id}
 use Rattle.ss_recover.proofs.walking.stream_of_run.Goals as goal
@@ -20,7 +20,7 @@ take-requires-clause-valid g c =
 pub take-requires-clause-own : goal.take-requires-clause-own
 take-requires-clause-own g c =
     let first = c.in-Some.first.now in
-    let taken : HasTaken c.args.names.now c.begin.new.names first c.in-Some-2.stream =
+    let taken : HasTakenFirst c.args.names.now c.begin.new.names first c.in-Some-2.stream =
     subst (λ o. BeginsAs c.args.names.now c.begin.new.names first (Ok o)) c.in-Some-2.is c.in_ok-stream.ensures in
     let own = subst (λ fs. All (λ f. stream_of f.holds ≡ c.args.id) fs) c.in-Some.ensures.cases.0 c.requires.own in
     all-at (λ f. stream_of f.holds ≡ c.args.id) first c.args.run.now c.in-Some.rest.now c.loop-found.found-index c.found-item.result
@@ -36,10 +36,10 @@ returns-then-not-branch g c =
     let i = c.loop-found.found-index in
     let so_far = c.loop-found.invariant in
     let x = c.found-item.result in
-    let taken : HasTaken c.args.names.now c.begin.new.names first c.in-Some-2.stream =
+    let taken : HasTakenFirst c.args.names.now c.begin.new.names first c.in-Some-2.stream =
     subst (λ o. BeginsAs c.args.names.now c.begin.new.names first (Ok o)) c.in-Some-2.is c.in_ok-stream.ensures in
     let none : run_with so_far.run x.holds ≡ None =
-    subst (λ b. StepsAs (Ok b) (run_with so_far.run x.holds) (λ next. Shows c.take.new.self next (take i rest ++ x ∷ []))) c.if-not-branch.true
+    subst (λ b. StepsAs (Ok b) (run_with so_far.run x.holds) (λ next. ShowsStream c.take.new.self next (take i rest ++ x ∷ []))) c.if-not-branch.true
     (c.in_ok-take.ensures.runs so_far.run (take i rest) so_far.shows) in (
       refl,
       ap (λ fs. is_run (names_in c.args.names.now) (without_slots fs)) c.in-Some.ensures.cases.0
@@ -57,7 +57,7 @@ loop-found-preserved g c =
     subst (IsSoFar c.in-Some-2.stream c.take.new.self)
     (sym (take_more rest i x c.loop-found-test.true ∙ ap (λ y. take i rest ++ y ∷ []) (sym c.found-item.is)))
     (IsSoFar-more c.in-Some-2.stream c.loop-found.stream (take i rest) so_far x c.take.new.self c.take.ensures.same
-    (subst (λ b. StepsAs (Ok b) (run_with so_far.run x.holds) (λ next. Shows c.take.new.self next (take i rest ++ x ∷ []))) c.if-not-branch.false
+    (subst (λ b. StepsAs (Ok b) (run_with so_far.run x.holds) (λ next. ShowsStream c.take.new.self next (take i rest ++ x ∷ []))) c.if-not-branch.false
     (c.in_ok-take.ensures.runs so_far.run (take i rest) so_far.shows)))
 
 pub returns-in-Some-end : goal.returns-in-Some-end
@@ -65,7 +65,7 @@ returns-in-Some-end g c =
     let first = c.in-Some.first.now in
     let rest = c.in-Some.rest.now in
     let part = c.in-Some-end.part in
-    let taken : HasTaken c.args.names.now c.begin.new.names first c.in-Some-2.stream =
+    let taken : HasTakenFirst c.args.names.now c.begin.new.names first c.in-Some-2.stream =
     subst (λ o. BeginsAs c.args.names.now c.begin.new.names first (Ok o)) c.in-Some-2.is c.in_ok-stream.ensures in
     let so_far = subst (IsSoFar c.in-Some-2.stream c.loop-found.stream)
     (take_all c.loop-found.found-index rest c.loop-found-test.false) c.loop-found.invariant in

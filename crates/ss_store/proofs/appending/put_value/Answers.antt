@@ -94,12 +94,14 @@ returns-clause-puts g c =
     c.one.ensures ∙ ap (λ v. summary_of ((c.args.t, v) ∷ [])) (to_z-of_z {w = w64} {z = c.args.v} c.ranges.v) in
     step-as c.in_ok-stage_record.ensures.stages (λ made. record {
       turns = λ others s.
-          TurnsShown-answers c.args.records.now c.stage_record.new.records (IsHeldIn others part s) (IsHalfway others part s c.args.t c.args.v) (IsHeldIn others new (with_single s c.args.t c.args.v))
+          TurnsShown-answers c.args.records.now c.stage_record.new.records (IsHeldIn others part s) (IsHalfway others part s c.args.t c.args.v)
+          (IsHeldIn others new (with_single s c.args.t c.args.v))
           _ _ c.in_ok-stage_record.field-0 _
           (TurnsShown-added part new c.args.slot c.args.t
           (added part c.push-at.new.self c.push-at.result c.values_held-position.result c.args.slot c.args.t c.push-at.ensures.pushed
           c.values_held-position.ensures) c.args.v c.one.result single (assumption c.one.type_inv)
-          can.room can.plain can.later others s c.args.records.now c.stage_record.new.records _ _ _ (rw (c.values_held-position.ensures, c.number_of.ensures) at made.changes));
+          can.room can.plain can.later others s c.args.records.now c.stage_record.new.records _ _ _
+          (rw (c.values_held-position.ensures, c.number_of.ensures) at made.changes));
       firm = λ others s held. tt;
       kept = made.kept;
     })

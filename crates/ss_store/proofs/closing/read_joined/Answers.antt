@@ -42,7 +42,8 @@ returns-in_err-newer-clause-joined g c =
           IsRead-err v.summary (joined w.summary v.summary) c.in_err-newer.field-0.0
           (then.window (one ∷ others) v
           (HasRecords-second one (c.args.next.slot, Some (window_record number v)) others _ _
-          (shown-same c.args.records.now c.read_window.new.records _ _ c.in_ok-older.ensures.records.journal first.reads.same.content) has) second second_times second_free);
+          (shown-same c.args.records.now c.read_window.new.records _ _ c.in_ok-older.ensures.records.journal first.reads.same.content) has) second second_times
+          second_free);
       kept = tt;
       reads = reads-joined _ _ _ first.reads then.reads;
     }))
@@ -63,7 +64,8 @@ returns-clause-joined g c =
           let newer : c.in_ok-newer.newer ≡ v.summary =
           then.window (one ∷ others) v
           (HasRecords-second one (c.args.next.slot, Some (window_record number v)) others _ _
-          (shown-same c.args.records.now c.read_window.new.records _ _ c.in_ok-older.ensures.records.journal first.reads.same.content) has) second second_times second_free in
+          (shown-same c.args.records.now c.read_window.new.records _ _ c.in_ok-older.ensures.records.journal first.reads.same.content) has) second second_times
+          second_free in
           c.join.ensures.exact ∙ ap₂ joined older newer;
       kept = then.kept;
       reads = reads-joined _ _ _ first.reads then.reads;

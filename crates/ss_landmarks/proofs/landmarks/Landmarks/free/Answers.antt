@@ -2,7 +2,7 @@ use Rattle.std.proofs.Common.{◌≡◌, ◌∙◌, ap, sym, subst, Bool, ℕ, �
 use Rattle.std.specs.List.{range_with_len, count_by}
 use Rattle.ss_landmarks.specs.Free.{is_free, free}
 use Rattle.ss_landmarks.specs.Landmarks.{LandmarksState}
-use Rattle.ss_landmarks.specs.Stored.{value_of, landmarks_of, free_before, KnowFree}
+use Rattle.ss_landmarks.specs.Stored.{bare_value, landmarks_from, free_before, KnowFree}
 use Rattle.ss_landmarks.specs.declared.stored.Closed.{Closed}
 use Rattle.ss_landmarks.proofs.Counting.{among, among-add, among-same}
 use Rattle.ss_landmarks.proofs.HeldLemmas.{is_free-values}
@@ -27,24 +27,24 @@ split test p q le = among-add test 0 p (q + 1 - p) (q + 1) p (omega arith) (omeg
 
 pub overflow_sub-result : goal.overflow_sub-result
 overflow_sub-result c =
-    let test = is_free (landmarks_of c.self.inside.closed.items c.self.inside.current []) in
+    let test = is_free (landmarks_from c.self.inside.closed.items c.self.inside.current []) in
     let after : c.free_before.result ≡ among test 0 (c.args.q + 1) = c.free_before.ensures ∙
-    ap (λ (cs : List Closed). free_before (landmarks_of cs c.self.inside.current []) (c.args.q + 1)) c.deref.ensures.value in
+    ap (λ (cs : List Closed). free_before (landmarks_from cs c.self.inside.current []) (c.args.q + 1)) c.deref.ensures.value in
     let before : c.free_before-2.result ≡ among test 0 c.args.p = c.free_before-2.ensures ∙
-    ap (λ (cs : List Closed). free_before (landmarks_of cs c.self.inside.current []) c.args.p) c.deref-2.ensures.value in
+    ap (λ (cs : List Closed). free_before (landmarks_from cs c.self.inside.current []) c.args.p) c.deref-2.ensures.value in
     omega (arith, after, before, split test c.args.p c.args.q c.if-p-q.false)
 
 pub returns : goal.returns
 returns c =
-    let test = is_free (landmarks_of c.self.inside.closed.items c.self.inside.current []) in
-    let values = map value_of c.self.inside.values.items in
+    let test = is_free (landmarks_from c.self.inside.closed.items c.self.inside.current []) in
+    let values = map bare_value c.self.inside.values.items in
     let after : c.free_before.result ≡ among test 0 (c.args.q + 1) = c.free_before.ensures ∙
-    ap (λ (cs : List Closed). free_before (landmarks_of cs c.self.inside.current []) (c.args.q + 1)) c.deref.ensures.value in
+    ap (λ (cs : List Closed). free_before (landmarks_from cs c.self.inside.current []) (c.args.q + 1)) c.deref.ensures.value in
     let before : c.free_before-2.result ≡ among test 0 c.args.p = c.free_before-2.ensures ∙
-    ap (λ (cs : List Closed). free_before (landmarks_of cs c.self.inside.current []) c.args.p) c.deref-2.ensures.value in
+    ap (λ (cs : List Closed). free_before (landmarks_from cs c.self.inside.current []) c.args.p) c.deref-2.ensures.value in
     let within : c.free_before.result - c.free_before-2.result ≡ among test c.args.p (c.args.q + 1 - c.args.p) =
     omega (arith, after, before, split test c.args.p c.args.q c.if-p-q.false) in
     within
-    ∙ among-same test (is_free (landmarks_of c.self.inside.closed.items c.self.inside.current values)) c.args.p (c.args.q + 1 - c.args.p)
+    ∙ among-same test (is_free (landmarks_from c.self.inside.closed.items c.self.inside.current values)) c.args.p (c.args.q + 1 - c.args.p)
     (λ u low high. is_free-values u c.self.inside.closed.items c.self.inside.current [] values)
     ∙ ap (λ (state : LandmarksState). free state.landmarks c.args.p c.args.q) c.self.view_is

@@ -3,7 +3,7 @@ use Rattle.std.proofs.lemmas.List.{length-map}
 use Rattle.std.specs.Option.{is_some, option_map}
 use Rattle.ss_landmarks.specs.Landmark.{Landmark, open_landmark}
 use Rattle.ss_landmarks.specs.Landmarks.{opened}
-use Rattle.ss_landmarks.specs.Stored.{value_of, AreShared, landmarks_of, slots_of, closed_values}
+use Rattle.ss_landmarks.specs.Stored.{bare_value, AreShared, landmarks_from, slots_of, closed_values}
 use Rattle.ss_landmarks.specs.declared.stored.Opened.{Opened}
 use Rattle.ss_landmarks.specs.declared.stored.StoredValue.{StoredValue}
 use Rattle.ss_landmarks.proofs.StepLemmas.{opened-none, opened-some}
@@ -12,11 +12,11 @@ use Rattle.ss_landmarks.proofs.landmarks.Landmarks.opened.Goals as goal
 pub returns-in-None-clause-value : goal.returns-in-None-clause-value
 returns-in-None-clause-value c =
     let held = c.self.inside in
-    let values = map value_of held.values.items in
+    let values = map bare_value held.values.items in
     sym (opened-none held.closed.items values (slots_of held.closed.items held.current))
     ∙ ap (λ (current : Option Opened). opened
     (record {
-      landmarks = landmarks_of held.closed.items current values;
+      landmarks = landmarks_from held.closed.items current values;
       slots = slots_of held.closed.items held.current;
       value_slots =
           map (λ (value : StoredValue). value.slot) held.values.items;
@@ -30,15 +30,15 @@ returns-in-Some-clause-value c =
     let held = c.self.inside in
     let cs = held.closed.items in
     let o = c.in-Some.opened in
-    let values = map value_of held.values.items in
+    let values = map bare_value held.values.items in
     let shared = subst (λ (current : Option Opened). AreShared cs current values) c.in-Some.is c.self.invariant.0.shared in
     let count : c.len.result - o.values_before ≡ length values - closed_values cs =
-    omega (arith, shared.0, c.len.ensures, length-map held.values.items value_of) in
+    omega (arith, shared.0, c.len.ensures, length-map held.values.items bare_value) in
     ap (λ (n : ℕ). Some (o.start, o.slot, n)) count
     ∙ sym (opened-some cs o values)
     ∙ ap (λ (current : Option Opened). opened
     (record {
-      landmarks = landmarks_of cs current values;
+      landmarks = landmarks_from cs current values;
       slots = slots_of cs current;
       value_slots =
           map (λ (value : StoredValue). value.slot) held.values.items;

@@ -2,27 +2,27 @@ use Rattle.std.proofs.Common.{◌∙◌, ap, sym, subst, List, map}
 use Rattle.std.specs.List.{filter}
 use Rattle.ss_landmarks.specs.Landmarks.{LandmarksState}
 use Rattle.ss_landmarks.specs.Order.{RiseFrom}
-use Rattle.ss_landmarks.specs.Stored.{value_of}
-use Rattle.ss_landmarks.specs.ValuesIn.{lies_in, values_in, tally_of}
+use Rattle.ss_landmarks.specs.Stored.{bare_value}
+use Rattle.ss_landmarks.specs.ValuesIn.{lies_in, values_between, tally_of}
 use Rattle.ss_landmarks.specs.declared.stored.StoredValue.{StoredValue}
-use Rattle.ss_landmarks.proofs.HeldLemmas.{all_values-landmarks_of}
+use Rattle.ss_landmarks.proofs.HeldLemmas.{all_values-landmarks_from}
 use Rattle.ss_landmarks.proofs.OrderLemmas.{RiseFrom-all_values}
 use Rattle.ss_landmarks.proofs.landmarks.Landmarks.values_in.Goals as goal
 
 pub values_in-requires : goal.values_in-requires
 values_in-requires c =
     let stored = c.self.invariant.0 in
-    let values = map value_of c.self.inside.values.items in
-    let all = all_values-landmarks_of c.self.inside.closed.items c.self.inside.current values stored.shared in
-    subst (λ (held : List StoredValue). RiseFrom 0 (map value_of held)) (sym c.deref.ensures.value)
+    let values = map bare_value c.self.inside.values.items in
+    let all = all_values-landmarks_from c.self.inside.closed.items c.self.inside.current values stored.shared in
+    subst (λ (held : List StoredValue). RiseFrom 0 (map bare_value held)) (sym c.deref.ensures.value)
     (subst (RiseFrom 0) all (RiseFrom-all_values 0 _ stored.order))
 
 pub returns : goal.returns
 returns c =
     let stored = c.self.invariant.0 in
-    let values = map value_of c.self.inside.values.items in
-    let all = all_values-landmarks_of c.self.inside.closed.items c.self.inside.current values stored.shared in
-    let found = c.values_in.ensures.values ∙ ap (λ (held : List StoredValue). filter (lies_in c.args.a c.args.b) (map value_of held)) c.deref.ensures.value in
+    let values = map bare_value c.self.inside.values.items in
+    let all = all_values-landmarks_from c.self.inside.closed.items c.self.inside.current values stored.shared in
+    let found = c.values_in.ensures.values ∙ ap (λ (held : List StoredValue). filter (lies_in c.args.a c.args.b) (map bare_value held)) c.deref.ensures.value in
     c.tally_of.ensures
     ∙ ap tally_of (found ∙ ap (filter (lies_in c.args.a c.args.b)) (sym all) ∙
-    ap (λ (state : LandmarksState). values_in state.landmarks c.args.a c.args.b) c.self.view_is)
+    ap (λ (state : LandmarksState). values_between state.landmarks c.args.a c.args.b) c.self.view_is)

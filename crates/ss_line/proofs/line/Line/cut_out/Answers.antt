@@ -1,7 +1,7 @@
 use Rattle.std.proofs.Common.{subst, sym, ap, arith, ◌+◌, ◌-◌, ℕ}
 use Rattle.ss_line.specs.Line.{LineState}
 use Rattle.ss_line.specs.Held.{IsHeld, line_of}
-use Rattle.ss_line.proofs.HeldLemmas.{Joins-same, within-stands, within-place_before, within-place_at, node-entry, node-before, node-behind}
+use Rattle.ss_line.proofs.HeldLemmas.{Links-same, within-stands, within-place_before, within-place_at, node-entry, node-before, node-behind}
 use Rattle.ss_line.proofs.HeldLemmas.{line_of-held, IsHeld-line_of}
 use Rattle.ss_line.proofs.CutLemmas.{IsHeld-cut}
 use Rattle.ss_line.proofs.line.Line.cut_out.Goals as goal
@@ -33,7 +33,7 @@ invariant_of-self g c =
     let held = subst (λ (line : LineState). IsHeld line c.self.inside.chain c.self.inside.len) c.self.view_is c.self.invariant in
     let before = node-before _ _ _ held c.args.at c.requires c.index-cut.result.now c.index-cut.ensures in
     let behind = node-behind _ _ _ held c.args.at c.requires c.index-cut.result.now c.index-cut.ensures in
-    let joins = Joins-same _ _ _ _ _ _ before behind c.join.ensures in
+    let joins = Links-same _ _ _ _ _ _ before behind c.join.ensures in
     subst (λ (spare : ℕ). IsHeld (line_of c.give_back.new.self (c.self.inside.len - 1) (spare + 1)) c.give_back.new.self (c.self.inside.len - 1))
     (ap (λ (line : LineState). line.spare) (sym c.self.view_is))
     (IsHeld-line_of _ _ _ (IsHeld-cut _ _ _ held c.args.at c.requires _ _ joins c.give_back.ensures (c.self.inside.len - 1)
@@ -44,7 +44,7 @@ returns-clause-entries g c =
     let held = subst (λ (line : LineState). IsHeld line c.self.inside.chain c.self.inside.len) c.self.view_is c.self.invariant in
     let before = node-before _ _ _ held c.args.at c.requires c.index-cut.result.now c.index-cut.ensures in
     let behind = node-behind _ _ _ held c.args.at c.requires c.index-cut.result.now c.index-cut.ensures in
-    let joins = Joins-same _ _ _ _ _ _ before behind c.join.ensures in
+    let joins = Links-same _ _ _ _ _ _ before behind c.join.ensures in
     ap (λ (line : LineState). line.entries)
     (line_of-held _ _ _ (IsHeld-cut _ _ _ held c.args.at c.requires _ _ joins c.give_back.ensures (c.self.inside.len - 1)
     (omega (arith, c.requires, held.whole))))

@@ -4,7 +4,7 @@ use Rattle.ss_line.specs.declared.entry.Entry.{Entry}
 use Rattle.ss_line.specs.Line.{LineState, StandsIn}
 use Rattle.ss_line.specs.Held.{IsHeld}
 use Rattle.ss_line.proofs.PlaceLemmas.{StandsIn-push}
-use Rattle.ss_line.proofs.HeldLemmas.{Joins-same, within-free, line_of-held, IsHeld-line_of}
+use Rattle.ss_line.proofs.HeldLemmas.{Links-same, within-free, line_of-held, IsHeld-line_of}
 use Rattle.ss_line.proofs.PushLemmas.{place-room, IsTaken-place, place-fresh, place-below, place-last, within-last, IsHeld-push}
 use Rattle.ss_line.proofs.line.Line.push.Goals as goal
 
@@ -36,7 +36,7 @@ pub invariant_of-self : goal.invariant_of-self
 invariant_of-self g c =
     let held = subst (λ (line : LineState). IsHeld line c.self.inside.chain c.self.inside.len) c.self.view_is c.self.invariant in
     let last = place-last _ _ _ held c.requires _ _ _ c.take_place-at.ensures in
-    let joins = Joins-same _ _ _ _ _ _ last refl c.join.ensures in
+    let joins = Links-same _ _ _ _ _ _ last refl c.join.ensures in
     IsHeld-line_of _ _ _ (IsHeld-push _ _ _ held c.requires _ _ _ c.take_place-at.ensures _ _ joins c.join-2.ensures (c.self.inside.spare - 1)
     (omega (arith, c.requires, ap (λ (line : LineState). line.spare) c.self.view_is)))
 
@@ -44,7 +44,7 @@ pub returns-clause-pushed : goal.returns-clause-pushed
 returns-clause-pushed g c =
     let held = subst (λ (line : LineState). IsHeld line c.self.inside.chain c.self.inside.len) c.self.view_is c.self.invariant in
     let last = place-last _ _ _ held c.requires _ _ _ c.take_place-at.ensures in
-    let joins = Joins-same _ _ _ _ _ _ last refl c.join.ensures in
+    let joins = Links-same _ _ _ _ _ _ last refl c.join.ensures in
     ap (λ (line : LineState). line.entries)
     (line_of-held _ _ _ (IsHeld-push _ _ _ held c.requires _ _ _ c.take_place-at.ensures _ _ joins c.join-2.ensures (c.self.inside.spare - 1)
     (omega (arith, c.requires, ap (λ (line : LineState). line.spare) c.self.view_is))))

@@ -14,7 +14,8 @@ loop-change-preserved c =
     let changes = take c.args.calls c.deref.result.now in
     let calls = take c.args.calls c.args.self.now.calls in
     let kept : map (call_of pool) changes ≡ calls =
-    sym (take-map (call_of pool) c.args.calls c.deref.result.now) ∙ ap (take c.args.calls) (ap (map (call_of pool)) c.deref.ensures.value ∙ ap (λ (p : PastState). p.calls) c.self.view_is) in
+    sym (take-map (call_of pool) c.args.calls c.deref.result.now)
+    ∙ ap (take c.args.calls) (ap (map (call_of pool)) c.deref.ensures.value ∙ ap (λ (p : PastState). p.calls) c.self.view_is) in
     elim c.match-change.branch [
       | in-Bytes+in_ok-overwrite_at w ↦
           let more = replay_more pool changes calls kept c.loop-change.change-index c.loop-change-test.true (Bytes 0 0 0) (fresh c.args.start.now)

@@ -3,7 +3,7 @@ use Rattle.ss_records.specs.Bits.{is_set}
 use Rattle.ss_records.specs.Tree.{members}
 use Rattle.ss_records.proofs.BitLemmas.{digit}
 use Rattle.ss_records.proofs.TreeLemmas.{in_low, in_middle, in_top, length-members, length-members-most, length-count, count-some, count-put, members-put}
-use Rattle.ss_records.proofs.TreeLemmas.{Summarizes-put}
+use Rattle.ss_records.proofs.TreeLemmas.{MarksFullWords-put}
 use Rattle.ss_records.proofs.slot_set.SlotSet.put.Goals as goal
 
 -- the slot is one of those of the set
@@ -55,9 +55,9 @@ invariant_of-self c =
     let left = members-put low c.put_bit-full.new.words.items c.args.slot c.args.is_in put-low.len lt put-low.bits in (
       record {
         few = omega (arith, tree.few, put-top.len);
-        over_low = Summarizes-put _ _ _ _ tree.over_low c.args.slot c.put_bit-full.result put-low.len put-middle.len put-low.others put-low.full
+        over_low = MarksFullWords-put _ _ _ _ tree.over_low c.args.slot c.put_bit-full.result put-low.len put-middle.len put-low.others put-low.full
             put-middle.bits;
-        over_middle = Summarizes-put _ _ _ _ tree.over_middle (c.args.slot / 64) c.put_bit-full-2.result put-middle.len put-top.len put-middle.others
+        over_middle = MarksFullWords-put _ _ _ _ tree.over_middle (c.args.slot / 64) c.put_bit-full-2.result put-middle.len put-top.len put-middle.others
             put-middle.full put-top.bits;
       },
       count ∙ sym (ap (count_by (λ (is : Bool). is)) left),

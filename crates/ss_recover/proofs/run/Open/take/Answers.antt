@@ -8,7 +8,7 @@ use Rattle.ss_landmarks.specs.declared.landmarks.TheConstants.{MOST_LANDMARK_SLO
 use Rattle.ss_summary.specs.Figures.{Figures}
 use Rattle.ss_recover.specs.Order.{stream_of}
 use Rattle.ss_recover.specs.Runs.{run_with, windows_from}
-use Rattle.ss_recover.specs.Shown.{Adds, HasClosed, MayClose, Shows, can_add, can_open}
+use Rattle.ss_recover.specs.Shown.{AddsToLandmark, HasClosed, MayClose, ShowsStream, can_add, can_open}
 use Rattle.ss_recover.specs.Usable.{IsUsable}
 use Rattle.ss_recover.specs.declared.run.Stage.TheVariants as stages
 use Rattle.ss_recover.proofs.RunSteps.{added, began, close-ready, grown, not-added, open-ready, room-ready, room-window, take-ready, with_line, with_marks}
@@ -43,7 +43,7 @@ returns-in_ok-open-in-Landmark-clause-runs g c run own shows =
     let s = c.args.self.now in
     let r = c.in-Landmark in
     subst (λ (h : Record). MatchOption (run_with run h) ⊥
-    (λ next. Shows (with_marks s c.open.new.self (stages.Marks (Some (record { finish = r.finish; said = r.values; values = 0; from = r.start })))) next
+    (λ next. ShowsStream (with_marks s c.open.new.self (stages.Marks (Some (record { finish = r.finish; said = r.values; values = 0; from = r.start })))) next
     (own ++ record { slot = c.args.found.now.slot; holds = h } ∷ []))) (sym r.is)
     (began s run own shows c.in-Marks.last c.close.new.self c.open.new.self c.args.found.now.slot r.id r.number r.values r.start r.finish c.in-Marks.is
     (ap (λ (k : ℕ). can_open k c.in-Marks.last r.number r.start) (sym c.count.ensures.value) ∙ sym c.can_open.ensures ∙ c.if-not-can_open.false)
@@ -80,12 +80,12 @@ returns-in_ok-add-in-Value-clause-runs g c run own shows =
     let r = c.in-Value in
     let last = c.in-Some.last in
     subst (λ (h : Record). MatchOption (run_with run h) ⊥
-    (λ next. Shows (with_marks s c.add.new.self
+    (λ next. ShowsStream (with_marks s c.add.new.self
     (stages.Marks (Some (record { finish = last.finish; said = last.said; values = r.index; from = r.t + 1 })))) next
     (own ++ record { slot = c.args.found.now.slot; holds = h } ∷ []))) (sym r.is)
     (added s run own shows last c.add.new.self c.args.found.now.slot r.id r.number r.index r.t r.v (c.in-Marks-stage.is ∙ ap stages.Marks c.in-Some.is)
     (ap (λ (k : ℕ). can_add k last r.number r.index r.t) (sym c.count-in-Value.ensures.value) ∙ sym c.can_add.ensures ∙ c.if-not-can_add.false)
-    (subst (λ (v : ℤ). Adds s.marks c.add.new.self c.args.found.now.slot r.t v) (to_z-of_z w64 r.v (subst IsUsable r.is c.requires.valid).4)
+    (subst (λ (v : ℤ). AddsToLandmark s.marks c.add.new.self c.args.found.now.slot r.t v) (to_z-of_z w64 r.v (subst IsUsable r.is c.requires.valid).4)
     c.in_ok-add-in-Value.ensures.ok)
     (ap stream_of (sym r.is) ∙ c.requires.own))
 
@@ -101,10 +101,10 @@ returns-in_ok-put_window-in-Window-clause-runs g c run own shows =
     let at = c.in-Windows in
     let slot = c.args.found.now.slot in
     subst (λ (h : Record). MatchOption (run_with run h) ⊥
-    (λ next. Shows (with_line s c.put_window.new.line (stages.Windows (at.next + c.summary.inside.count) (Some c.summary.inside.t_last))) next
+    (λ next. ShowsStream (with_line s c.put_window.new.line (stages.Windows (at.next + c.summary.inside.count) (Some c.summary.inside.t_last))) next
     (own ++ record { slot = slot; holds = h } ∷ []))) (sym r.is)
     (subst (λ (f : Figures). MatchOption (run_with run (records.Window r.id r.first r.summary)) ⊥
-    (λ next. Shows (with_line s c.put_window.new.line (stages.Windows (at.next + f.count) (Some f.t_last))) next
+    (λ next. ShowsStream (with_line s c.put_window.new.line (stages.Windows (at.next + f.count) (Some f.t_last))) next
     (own ++ record { slot = slot; holds = records.Window r.id r.first r.summary } ∷ []))) (sym c.summary.view_is)
     (grown s (windows_from run) own c.put_window.new.line slot r.id at.next r.first at.newest r.summary (c.if-not-end_marks.ensures.runs run own shows) at.is
     (sym c.is_next.ensures ∙ c.if-not-is_next.false) c.in_ok-put_window-in-Window.ensures.ok

@@ -1,7 +1,7 @@
 use Rattle.std.proofs.Common.{◌≡◌, ◌∙◌, ◌++◌, ◌∷◌, [], ℕ, List, Option, None, ap, arith, length, is_ok}
 use Rattle.std.proofs.lemmas.Bool.{cond-true}
 use Rattle.ss_line.specs.declared.entry.At.{At}
-use Rattle.ss_schedule.proofs.HeapLemmas.{AreHeld-push}
+use Rattle.ss_schedule.proofs.HeapLemmas.{AreHeldKeys-push}
 use Rattle.ss_schedule.proofs.keys.Keys.add_place.Goals as goal
 
 pub invariant_of-self-2 : goal.invariant_of-self-2
@@ -14,6 +14,6 @@ invariant_of-self-2 c =
     let positions : c.push-3.new.self.items ≡ c.self.inside.positions.items ++ place ∷ [] = c.push-3.ensures.items ∙
     cond-true (is_ok c.push-3.result) _ _ (ap is_ok c.unwrap-3.ensures) ∙ ap (λ (ns : List ℕ). ns ++ place ∷ []) c.reserve-3.ensures.items in
     let same : length c.self.inside.keys.items ≡ place = omega arith in
-    let held = AreHeld-push c.self.inside.keys.items c.self.inside.heap.items c.self.inside.positions.items place c.self.invariant.0 same in
+    let held = AreHeldKeys-push c.self.inside.keys.items c.self.inside.heap.items c.self.inside.positions.items place c.self.invariant.0 same in
     let long = c.push.ensures.len ∙ cond-true (is_ok c.push.result) _ _ (ap is_ok c.unwrap.ensures) in
     (rw (keys, heap, positions) held, omega (arith, long, same, ap length c.self.view_is, c.requires))

@@ -3,7 +3,8 @@ use Rattle.ss_line.specs.Line.{LineState}
 use Rattle.ss_store.proofs.IndexedStreams.{AreScheduled-other}
 use Rattle.ss_store.specs.Marking.{event_of}
 use Rattle.ss_store.proofs.Applying.{Applies-refused, Applies-starved}
-use Rattle.ss_store.proofs.MarkTaking.{applies-taken, applies-untaken, can-mark, live-spared, same-spared, same-untaken, sound-spared, sound-stopped, sound-taken}
+use Rattle.ss_store.proofs.MarkTaking.{applies-taken, applies-untaken, can-mark, live-spared, same-spared, same-untaken, sound-spared, sound-stopped}
+use Rattle.ss_store.proofs.MarkTaking.{sound-taken}
 use Rattle.ss_store.proofs.MarkTaking.{stands-spared, taking-mark}
 use Rattle.ss_store.proofs.store.Store.stage_mark.Goals as goal
 
