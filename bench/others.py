@@ -53,17 +53,22 @@ def sqlite(folder, mode, groups):
     return seconds
 
 
+def in_pairs(groups, begin):
+    """The seconds that it takes to put the groups of rows as pairs, each group within what `begin` gives."""
+    groups = [pairs_of(group) for group in groups]
+    start = time.perf_counter()
+    for group in groups:
+        with begin() as transaction:
+            for key, value in group:
+                transaction.put(key, value)
+    return time.perf_counter() - start
+
+
 def in_lmdb(folder, groups):
     """The seconds that LMDB takes for the groups of rows."""
     path = os.path.join(folder, "bench.lmdb")
     env = lmdb.open(path, map_size=MAP_SIZE)
-    groups = [pairs_of(group) for group in groups]
-    start = time.perf_counter()
-    for group in groups:
-        with env.begin(write=True) as transaction:
-            for key, value in group:
-                transaction.put(key, value)
-    seconds = time.perf_counter() - start
+    seconds = in_pairs(groups, lambda: env.begin(write=True))
     env.close()
     shutil.rmtree(path)
     return seconds
@@ -73,13 +78,7 @@ def in_leveldb(folder, groups):
     """The seconds that LevelDB takes for the groups of rows."""
     path = os.path.join(folder, "bench.leveldb")
     db = plyvel.DB(path, create_if_missing=True)
-    groups = [pairs_of(group) for group in groups]
-    start = time.perf_counter()
-    for group in groups:
-        with db.write_batch(sync=True) as batch:
-            for key, value in group:
-                batch.put(key, value)
-    seconds = time.perf_counter() - start
+    seconds = in_pairs(groups, lambda: db.write_batch(sync=True))
     db.close()
     shutil.rmtree(path)
     return seconds
