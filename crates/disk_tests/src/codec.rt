@@ -14,6 +14,11 @@ const STREAM: [u8; 25] = [
     1, 1, 1, 0, 0, 0, 0, 0, 0, 0, 0, 2, 0, 0, 0, 1, 0, 0, 0, 1, 0, 0, 0, 0, 97,
 ];
 
+// The same once it was dropped.
+const DROPPED_STREAM: [u8; 25] = [
+    1, 1, 1, 1, 0, 0, 0, 0, 0, 0, 0, 2, 0, 0, 0, 1, 0, 0, 0, 1, 0, 0, 0, 0, 97,
+];
+
 // The stream `p` with the target `power 1 1 4 2` and the number 1.
 const POWER_STREAM: [u8; 25] = [
     1, 2, 1, 0, 0, 0, 0, 1, 0, 0, 0, 1, 0, 0, 0, 1, 0, 0, 0, 4, 0, 0, 0, 2, 112,
@@ -75,15 +80,15 @@ struct Row {
     wrong: &'static [u8],
 }
 
-const ROWS: [Row; 11] = [
+const ROWS: [Row; 12] = [
     Row {
         bytes: &STREAM,
-        text: "0 a Exp { b: 2, r: 1, s: 1 }",
+        text: "0 a Exp { b: 2, r: 1, s: 1 } false",
         wrong: &[
             // a kind that isn't there
             0, 5, 0, 0,
-            // a byte that isn't zero where no field is
-            3, 1, 127, 1,
+            // neither standing nor dropped, a byte that isn't zero where no field is
+            3, 2, 3, 255, 127, 1,
             // a family whose fourth parameter isn't 0, and no family
             1, 2, 1, 0,
             // an empty name, one with a byte after its length, of too many, of another letter
@@ -94,9 +99,19 @@ const ROWS: [Row; 11] = [
     },
     Row {
         bytes: &POWER_STREAM,
-        text: "1 p Power { p: 1, q: 1, r: 4, s: 2 }",
+        text: "1 p Power { p: 1, q: 1, r: 4, s: 2 } false",
         // a parameter out of range
         wrong: &[11, 5],
+    },
+    Row {
+        bytes: &DROPPED_STREAM,
+        text: "0 a Exp { b: 2, r: 1, s: 1 } true",
+        wrong: &[
+            // a kind that isn't there, neither standing nor dropped, a byte that isn't zero where no field is
+            0, 5, 3, 2, 127, 1,
+            // an empty name, a parameter out of range
+            2, 0, 11, 17,
+        ],
     },
     Row {
         bytes: &WINDOW,
@@ -197,9 +212,12 @@ fn read(bytes: &[u8; SLOT_SIZE]) -> Option<(Record, bool)> {
 // The fields of a record, where a name is its word.
 fn text_of(alloc: Global, record: &Record) -> Result<String, AllocError> {
     match record {
-        Record::Stream { id, name, params } => {
-            format!(in alloc; "{id} {} {params:?}", name.as_str())
-        }
+        Record::Stream {
+            id,
+            name,
+            params,
+            dropped,
+        } => { format!(in alloc; "{id} {} {params:?} {dropped}", name.as_str()) }
         _ => format!(in alloc; "{record:?}"),
     }
 }

@@ -1,3 +1,4 @@
+pub mod CatalogLemmas
 pub mod NameLemmas
 pub mod SeriesLemmas
 mod Rows

@@ -1,17 +1,20 @@
 -- Worked rows, each computed.
-use Rattle.std.proofs.Common.{◌≡◌, ℕ, ◌+◌, refl, ◌^◌, List, [], ◌∷◌, map, true, false, Some, None, arith, codes}
-use Rattle.ss_catalog.specs.Catalog.{id_of}
+use Rattle.std.proofs.Common.{◌≡◌, ℕ, ◌+◌, refl, ◌^◌, pos, List, [], ◌∷◌, map, true, false, Some, None, arith, codes}
+use Rattle.ss_catalog.specs.Catalog.{id_of, without_name}
+use Rattle.ss_catalog.specs.Events.{IsInTime, event_name}
 use Rattle.ss_catalog.specs.Names.{is_name}
 use Rattle.ss_catalog.specs.Params.{in_range}
 use Rattle.ss_catalog.specs.Queries.{adds_up, end_name, kind_name}
 use Rattle.ss_catalog.specs.Series.{IsSeriesInRange, numbers_from, row_query, rows_in, rows_of, whole_query}
 use Rattle.ss_catalog.specs.declared.TheConstants.{LAST_TIME, MOST_ROWS, MOST_STREAMS, LAST_STREAM}
+use Rattle.ss_catalog.specs.declared.event.Event.TheVariants as events
 use Rattle.ss_catalog.specs.declared.name.TheConstants.{LONGEST_NAME}
 use Rattle.ss_catalog.specs.declared.params.TheConstants.{GREATEST_BASE, GREATEST_POWER, GREATEST_WIDENING, GREATEST_SCALE}
 use Rattle.ss_catalog.specs.declared.params.Params.TheVariants.{Exp, Power}
 use Rattle.ss_catalog.specs.declared.query.End.TheVariants.{Lo, Hi}
 use Rattle.ss_catalog.specs.declared.query.Kind.TheVariants.{Count, Sum, Min, Max}
 use Rattle.ss_catalog.specs.declared.series.Series.{Series}
+use Rattle.ss_catalog.specs.declared.stream_id.StreamId.{StreamId}
 
 longest_name : LONGEST_NAME ≡ 32
 longest_name = refl
@@ -78,6 +81,39 @@ id_of-there = refl
 
 id_of-longer : id_of (codes "bb") ((codes "b", record { 0 = 7 }) ∷ []) ≡ None
 id_of-longer = refl
+
+-- three names, where one of them is a part of another
+abbrev three_names : List (List ℕ × StreamId)
+three_names = (codes "a", record { 0 = 0 }) ∷ (codes "b", record { 0 = 7 }) ∷ (codes "bb", record { 0 = 8 }) ∷ []
+
+without-first : without_name (codes "a") three_names ≡ (codes "b", record { 0 = 7 }) ∷ (codes "bb", record { 0 = 8 }) ∷ []
+without-first = refl
+
+without-middle : without_name (codes "b") three_names ≡ (codes "a", record { 0 = 0 }) ∷ (codes "bb", record { 0 = 8 }) ∷ []
+without-middle = refl
+
+without-last : without_name (codes "bb") three_names ≡ (codes "a", record { 0 = 0 }) ∷ (codes "b", record { 0 = 7 }) ∷ []
+without-last = refl
+
+without-absent : without_name (codes "bbb") three_names ≡ three_names
+without-absent = refl
+
+-- the name of each event, and the last time that one may have
+names-events : (name : List ℕ) → map event_name
+    (events.Create name (Exp 2 1 1) ∷ events.Value name 10 (pos 5) ∷ events.Open name 10 ∷ events.Close name 10 ∷ events.Drop name ∷ []) ≡
+    name ∷ name ∷ name ∷ name ∷ name ∷ []
+names-events name = refl
+
+in_time-last : (name : List ℕ) → IsInTime (events.Value name LAST_TIME (pos 5)) × IsInTime (events.Open name LAST_TIME) × IsInTime (events.Close name LAST_TIME)
+in_time-last name = (omega arith, omega arith, omega arith)
+
+in_time-late : (name : List ℕ) → (IsInTime (events.Value name (LAST_TIME + 1) (pos 5)) → ⊥) × (IsInTime (events.Open name (LAST_TIME + 1)) → ⊥)
+    × (IsInTime (events.Close name (LAST_TIME + 1)) → ⊥)
+in_time-late name = (λ in_time. omega (arith, in_time), λ in_time. omega (arith, in_time), λ in_time. omega (arith, in_time))
+
+-- events without a time
+in_time-timeless : (name : List ℕ) → IsInTime (events.Create name (Exp 2 1 1)) × IsInTime (events.Drop name)
+in_time-timeless name = (tt, tt)
 
 most_rows : MOST_ROWS ≡ 100000
 most_rows = refl

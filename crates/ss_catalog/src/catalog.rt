@@ -1,6 +1,6 @@
 // The names of streams with their numbers.
 ghost use Rattle.std.specs.Prelude.{◌≡◌, ◌↔◌, ◌≤◌, ◌++◌, [], ◌∷◌, length, None, IsSome, OnOk, OnErr, Err};
-ghost use Rattle.ss_catalog.specs.Catalog.{HasDistinctNames, id_of};
+ghost use Rattle.ss_catalog.specs.Catalog.{HasDistinctNames, id_of, without_name};
 
 use crate::{MOST_STREAMS, Name, StreamId};
 use indexmap::IndexMap;
@@ -86,5 +86,14 @@ impl Catalog {
             Ok(_) => Ok(()),
             Err(_) => Err(CatalogError::OutOfMemory),
         }
+    }
+
+    /// Takes a name out, and answers its number, or `None` where the name isn't there. The others stay in their order. It takes
+    /// no memory.
+    pub fn remove(&mut self, name: &Name) -> Option<StreamId>
+        ensures number { result ≡ id_of name.now self.old }
+        ensures others { self.new ≡ without_name name.now self.old }
+    {
+        self.ids.shift_remove(name)
     }
 }

@@ -13,4 +13,6 @@ pub enum Event {
     Open { name: Name, t: u64 },
     /// The open landmark of a stream closes.
     Close { name: Name, t: u64 },
+    /// A stream is dropped with all that it holds.
+    Drop { name: Name },
 }

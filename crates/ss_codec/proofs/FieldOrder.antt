@@ -1,5 +1,5 @@
 -- The fields of each record lie in a slot, one after the other.
-use Rattle.std.specs.Prelude.{ℕ, ◌+◌, ◌≤◌, ℤ, Option, List, [], ◌∷◌, length}
+use Rattle.std.specs.Prelude.{ℕ, ◌+◌, Bool, ◌≤◌, ℤ, Option, List, [], ◌∷◌, length}
 use Rattle.std.specs.Int.{cast_unsigned, w64, w128}
 use Rattle.std.proofs.Common.{arith, refl, lit≤}
 use Rattle.ss_fields.specs.Fields.{number_bytes}
@@ -7,7 +7,7 @@ use Rattle.ss_fields.proofs.FieldLemmas.{length-number_bytes}
 use Rattle.ss_summary.specs.Figures.{Figures}
 use Rattle.ss_catalog.specs.declared.params.Params.{Params}
 use Rattle.ss_codec.specs.declared.record.Record.TheVariants.{Stream, Window, Landmark, Value}
-use Rattle.ss_codec.specs.Record.{family, parameters, state_number, closing_time, fields}
+use Rattle.ss_codec.specs.Record.{drop_number, family, parameters, state_number, closing_time, fields}
 use Rattle.ss_codec.proofs.FieldLemmas.{IsWithin, AreInOrder}
 
 -- a field of a number lies within a slot
@@ -17,8 +17,9 @@ number-within n place value inside = record { whole = length-number_bytes n valu
 byte-within : (place value : ℕ) → place + 1 ≤ 128 → IsWithin 128 (record { place = place; size = 1; bytes = value ∷ [] })
 byte-within place value inside = record { whole = refl; inside = inside }
 
-pub stream-in_order : (id : ℕ) (name : List ℕ) (params : Params) → length name ≤ 32 → AreInOrder 128 0 (fields (Stream id name params))
-stream-in_order id name params short =
+pub stream-in_order : (id : ℕ) (name : List ℕ) (params : Params) (dropped : Bool) → length name ≤ 32
+    → AreInOrder 128 0 (fields (Stream id name params dropped))
+stream-in_order id name params dropped short =
     let numbers = parameters params in (
       lit≤ tt,
       byte-within 0 1 (lit≤ tt),
@@ -30,23 +31,27 @@ stream-in_order id name params short =
           byte-within 2 (length name) (lit≤ tt),
           (
             lit≤ tt,
-            number-within 4 4 id (lit≤ tt),
+            byte-within 3 (drop_number dropped) (lit≤ tt),
             (
               lit≤ tt,
-              number-within 4 8 numbers.0 (lit≤ tt),
+              number-within 4 4 id (lit≤ tt),
               (
                 lit≤ tt,
-                number-within 4 12 numbers.1 (lit≤ tt),
+                number-within 4 8 numbers.0 (lit≤ tt),
                 (
                   lit≤ tt,
-                  number-within 4 16 numbers.2 (lit≤ tt),
+                  number-within 4 12 numbers.1 (lit≤ tt),
                   (
                     lit≤ tt,
-                    number-within 4 20 numbers.3 (lit≤ tt),
+                    number-within 4 16 numbers.2 (lit≤ tt),
                     (
                       lit≤ tt,
-                      record { whole = refl; inside = omega arith },
-                      tt,
+                      number-within 4 20 numbers.3 (lit≤ tt),
+                      (
+                        lit≤ tt,
+                        record { whole = refl; inside = omega arith },
+                        tt,
+                      ),
                     ),
                   ),
                 ),

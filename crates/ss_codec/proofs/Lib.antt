@@ -2,5 +2,6 @@ mod FieldLemmas
 mod FieldOrder
 pub mod RecordLemmas
 mod Rows
+mod DroppedRows
 pub mod WindowBytes
 mod ZeroLemmas

@@ -1,5 +1,5 @@
 -- Each valid record is what its spelling is read as.
-use Rattle.std.specs.Prelude.{◌≡◌, ◌↔◌, ℕ, ◌+◌, ◌-◌, ◌^◌, ◌<◌, ◌≤◌, ℤ, pos, negsuc, Bool, true, false, cond, IsTrue, FitsSigned, List}
+use Rattle.std.specs.Prelude.{◌≡◌, ◌↔◌, ℕ, ◌+◌, ◌-◌, ◌^◌, ◌<◌, ◌≤◌, ◌==◌, ℤ, pos, negsuc, Bool, true, false, cond, IsTrue, FitsSigned, List}
 use Rattle.std.specs.Prelude.{length, replicate, slice_index, take, drop, Option, Some, None, IsSome, IfSome, IfNone, MatchOption}
 use Rattle.std.specs.Int.{w64, w128}
 use Rattle.std.specs.Str.{bytes_eq}
@@ -22,7 +22,7 @@ use Rattle.ss_catalog.specs.declared.params.Params.{Params}
 use Rattle.ss_catalog.specs.declared.params.Params.TheVariants.{Exp, Power}
 use Rattle.ss_codec.specs.declared.record.Record.{Record}
 use Rattle.ss_codec.specs.declared.record.Record.TheVariants.{Free, Stream, Window, Landmark, Value}
-use Rattle.ss_codec.specs.Record.{is_interval, is_valid, family, parameters, state_number, closing_time, fields, spelling, Spells}
+use Rattle.ss_codec.specs.Record.{is_interval, is_valid, drop_number, family, parameters, state_number, closing_time, fields, spelling, Spells}
 use Rattle.ss_codec.specs.Decoded.{checked, decoded, finish_in, landmark_in, params_in, record_in, stream_in, value_in, window_in}
 use Rattle.ss_codec.proofs.FieldLemmas.{AreInOrder, HasFields, HasFields-with_fields, slice_index-part}
 use Rattle.ss_codec.proofs.FieldOrder.{landmark-in_order, stream-in_order, value-in_order, window-in_order}
@@ -38,19 +38,20 @@ pub record IsStream (id : ℕ) (name : List ℕ) (params : Params) : Type 0 wher
   pub short : length name ≤ 32
   pub ranged : in_range params ≡ true
 
-pub IsStream-is_valid : (id : ℕ) (name : List ℕ) (params : Params) → is_valid (Stream id name params) ≡ true → IsStream id name params
+pub IsStream-is_valid : (id : ℕ) (name : List ℕ) (params : Params) (dropped : Bool) → is_valid (Stream id name params dropped) ≡ true
+    → IsStream id name params
 unfolding is_valid is_name
-IsStream-is_valid id name params valid = record {
+IsStream-is_valid id name params dropped valid = record {
   number = grind (arith, nat_tests);
   named = grind (arith, nat_tests);
   short = grind (arith, nat_tests);
   ranged = grind (arith, nat_tests);
 }
 
-pub is_valid-IsStream : (id : ℕ) (name : List ℕ) (params : Params) → id < 2 ^ 32 → is_name name ≡ true
-    → in_range params ≡ true → is_valid (Stream id name params) ≡ true
+pub is_valid-IsStream : (id : ℕ) (name : List ℕ) (params : Params) (dropped : Bool) → id < 2 ^ 32 → is_name name ≡ true
+    → in_range params ≡ true → is_valid (Stream id name params dropped) ≡ true
 unfolding is_valid
-is_valid-IsStream id name params number named ranged = grind (arith, nat_tests)
+is_valid-IsStream id name params dropped number named ranged = grind (arith, nat_tests)
 
 -- what a valid window says
 pub record IsWindow (id first : ℕ) (f : Figures) : Type 0 where
@@ -188,21 +189,28 @@ unfolding params_in
 params_in-numbers (Exp b r s) bytes kind first second third fourth = rw (kind, first, second, third) refl
 params_in-numbers (Power p q r s) bytes kind first second third fourth = rw (kind, first, second, third, fourth) refl
 
+-- the state whose number stands in a byte is read from there
+drop_number-read : (dropped : Bool) → (drop_number dropped == 1) ≡ dropped
+drop_number-read true = refl
+drop_number-read false = refl
+
 -- a stream whose fields stand in the bytes is read from there
-stream_in-fields : (id : ℕ) (name : List ℕ) (params : Params) (bytes : List ℕ) → IsStream id name params
-    → HasFields bytes (fields (Stream id name params)) → stream_in bytes ≡ Stream id name params
+stream_in-fields : (id : ℕ) (name : List ℕ) (params : Params) (dropped : Bool) (bytes : List ℕ) → IsStream id name params
+    → HasFields bytes (fields (Stream id name params dropped)) → stream_in bytes ≡ Stream id name params dropped
 unfolding stream_in
-stream_in-fields id name params bytes is has =
+stream_in-fields id name params dropped bytes is has =
     let small = AreSmall-in_range params is.ranged in
     let kind = slice_index-part 1 (family params) bytes has.1.0 in
     let size = slice_index-part 2 (length name) bytes has.1.1.0 in
-    let number = number_at-take 4 4 id bytes (omega (arith, is.number)) has.1.1.1.0 in
-    let first = number_at-take 4 8 (parameters params).0 bytes (omega (arith, small.first)) has.1.1.1.1.0 in
-    let second = number_at-take 4 12 (parameters params).1 bytes (omega (arith, small.second)) has.1.1.1.1.1.0 in
-    let third = number_at-take 4 16 (parameters params).2 bytes (omega (arith, small.third)) has.1.1.1.1.1.1.0 in
-    let fourth = number_at-take 4 20 (parameters params).3 bytes (omega (arith, small.fourth)) has.1.1.1.1.1.1.1.0 in
+    let state = slice_index-part 3 (drop_number dropped) bytes has.1.1.1.0 in
+    let number = number_at-take 4 4 id bytes (omega (arith, is.number)) has.1.1.1.1.0 in
+    let first = number_at-take 4 8 (parameters params).0 bytes (omega (arith, small.first)) has.1.1.1.1.1.0 in
+    let second = number_at-take 4 12 (parameters params).1 bytes (omega (arith, small.second)) has.1.1.1.1.1.1.0 in
+    let third = number_at-take 4 16 (parameters params).2 bytes (omega (arith, small.third)) has.1.1.1.1.1.1.1.0 in
+    let fourth = number_at-take 4 20 (parameters params).3 bytes (omega (arith, small.fourth)) has.1.1.1.1.1.1.1.1.0 in
     let target = params_in-numbers params bytes kind first second third fourth in
-    let named : take (slice_index bytes 2) (drop 24 bytes) ≡ name = rw size has.1.1.1.1.1.1.1.1.0 in
+    let named : take (slice_index bytes 2) (drop 24 bytes) ≡ name = rw size has.1.1.1.1.1.1.1.1.1.0 in
+    let dropped_is : (slice_index bytes 3 == 1) ≡ dropped = rw state (drop_number-read dropped) in
     cc
 
 -- so is a window
@@ -301,11 +309,11 @@ record_in-free = refl
 pub record_in-spelling : (r : Record) → IsTrue (is_valid r) → record_in (spelling r) ≡ r
 unfolding record_in
 record_in-spelling Free valid = record_in-free
-record_in-spelling (Stream id name params) valid =
-    let is = IsStream-is_valid id name params valid in
-    let has = spelled (Stream id name params) (stream-in_order id name params is.short) in
-    let kind = slice_index-part 0 1 (spelling (Stream id name params)) has.0 in
-    rw kind (stream_in-fields id name params (spelling (Stream id name params)) is has)
+record_in-spelling (Stream id name params dropped) valid =
+    let is = IsStream-is_valid id name params dropped valid in
+    let has = spelled (Stream id name params dropped) (stream-in_order id name params dropped is.short) in
+    let kind = slice_index-part 0 1 (spelling (Stream id name params dropped)) has.0 in
+    rw kind (stream_in-fields id name params dropped (spelling (Stream id name params dropped)) is has)
 record_in-spelling (Window id first f) valid =
     let is = IsWindow-is_valid id first f valid in
     let has = spelled (Window id first f) (window-in_order id first f) in
@@ -370,8 +378,9 @@ checked-long bytes long more =
     let word = take (slice_index bytes 2) (drop 24 bytes) in
     let size = length-take (slice_index bytes 2) (drop 24 bytes) in
     let rest = length-drop 24 bytes in
-    let no : is_valid (Stream (number_at 4 bytes 4) word (params_in bytes)) ≡ false = not_true _ (λ valid.
-    let short = (IsStream-is_valid (number_at 4 bytes 4) word (params_in bytes) valid).short in
+    let dropped = slice_index bytes 3 == 1 in
+    let no : is_valid (Stream (number_at 4 bytes 4) word (params_in bytes) dropped) ≡ false = not_true _ (λ valid.
+    let short = (IsStream-is_valid (number_at 4 bytes 4) word (params_in bytes) dropped valid).short in
     omega arith) in
     rw no refl
 

@@ -1,5 +1,5 @@
 -- Worked records, each computed: how it is spelled, and what is read from bytes.
-use Rattle.std.specs.Prelude.{◌≡◌, ℕ, ◌-◌, ◌^◌, pos, negsuc, List, [], ◌∷◌, ◌++◌, replicate, slice_set, Some, None}
+use Rattle.std.specs.Prelude.{◌≡◌, ℕ, ◌-◌, ◌^◌, pos, negsuc, false, List, [], ◌∷◌, ◌++◌, replicate, slice_set, Some, None}
 use Rattle.std.proofs.Common.{refl}
 use Rattle.ss_fields.specs.Fields as Numbers
 use Rattle.ss_summary.specs.Possible as Possible
@@ -55,9 +55,9 @@ eight n = replicate 7 0 ++ n ∷ []
 
 -- the stream `a` with the target `exp 2 1 1` and the number 0
 abbrev stream : Record
-stream = Stream 0 (97 ∷ []) (Exp 2 1 1)
+stream = Stream 0 (97 ∷ []) (Exp 2 1 1) false
 
-abbrev stream_bytes : List ℕ
+abbrev pub stream_bytes : List ℕ
 stream_bytes =
     1 ∷ 1 ∷ 1 ∷ 0 ∷ []
     ++ replicate 4 0
@@ -118,28 +118,24 @@ decoded-free_with_a_byte : decoded (replicate 127 0 ++ 1 ∷ []) ≡ None
 unfolding decoded record_in is_valid spelling
 decoded-free_with_a_byte = refl
 
--- a stream with a byte where no field is, and with one after its name
-decoded-stream_with_a_byte : decoded (slice_set stream_bytes 3 1) ≡ None
-unfolding decoded record_in stream_in params_in is_valid spelling Names.is_name Fields.with_field Numbers.number_at Numbers.number_bytes
-decoded-stream_with_a_byte = refl
-
+-- a stream with a byte after its name
 decoded-stream_with_a_letter : decoded (slice_set stream_bytes 25 97) ≡ None
 unfolding decoded record_in stream_in params_in is_valid spelling Names.is_name Fields.with_field Numbers.number_at Numbers.number_bytes
 decoded-stream_with_a_letter = refl
 
 -- the stream `p` with the target `power 1 1 4 2` and the number 1, and with P = 5
-abbrev power_bytes : ℕ → List ℕ
+abbrev pub power_bytes : ℕ → List ℕ
 power_bytes p =
     1 ∷ 2 ∷ 1 ∷ 0 ∷ 0 ∷ 0 ∷ 0 ∷ 1 ∷ []
     ++ 0 ∷ 0 ∷ 0 ∷ p ∷ 0 ∷ 0 ∷ 0 ∷ 1 ∷ 0 ∷ 0 ∷ 0 ∷ 4 ∷ 0 ∷ 0 ∷ 0 ∷ 2 ∷ []
     ++ 112 ∷ replicate 31 0
     ++ replicate 72 0
 
-spelling-stream_power : spelling (Stream 1 (112 ∷ []) (Power 1 1 4 2)) ≡ power_bytes 1
+spelling-stream_power : spelling (Stream 1 (112 ∷ []) (Power 1 1 4 2) false) ≡ power_bytes 1
 unfolding spelling Fields.with_field Numbers.number_bytes
 spelling-stream_power = refl
 
-decoded-stream_power : decoded (power_bytes 1) ≡ Some (Stream 1 (112 ∷ []) (Power 1 1 4 2))
+decoded-stream_power : decoded (power_bytes 1) ≡ Some (Stream 1 (112 ∷ []) (Power 1 1 4 2) false)
 unfolding decoded record_in stream_in params_in is_valid spelling Names.is_name Fields.with_field Numbers.number_at Numbers.number_bytes
 decoded-stream_power = refl
 

@@ -36,7 +36,8 @@ finish_in bytes = if slice_index bytes 1 == 2 then Some (number_at 8 bytes 24) e
 
 -- what a stream's record has, a window's, a landmark's, and a landmark value's, in the bytes of one
 unfoldable pub stream_in : List ℕ → Record
-stream_in bytes = Stream (number_at 4 bytes 4) (take (slice_index bytes 2) (drop 24 bytes)) (params_in bytes)
+stream_in bytes =
+    Stream (number_at 4 bytes 4) (take (slice_index bytes 2) (drop 24 bytes)) (params_in bytes) (slice_index bytes 3 == 1)
 
 unfoldable pub window_in : List ℕ → Record
 window_in bytes = Window (number_at 4 bytes 4) (number_at 8 bytes 8) (figures_in bytes)

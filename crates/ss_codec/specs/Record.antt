@@ -1,5 +1,6 @@
 -- Records: which there are, and how each is spelled in the 128 bytes of a slot.
-use Rattle.std.specs.Prelude.{◌≡◌, ℕ, ◌+◌, ◌-◌, ◌^◌, Bool, true, ◌&&◌, ◌==◌, nat_le, nat_lt, IsTrue, List, [], ◌∷◌, length, replicate, Option, Some, None}
+use Rattle.std.specs.Prelude.{◌≡◌, ℕ, ◌+◌, ◌-◌, ◌^◌, Bool, true, ◌&&◌, ◌==◌, if◌then◌else◌, nat_le, nat_lt, IsTrue, List, [], ◌∷◌, length, replicate}
+use Rattle.std.specs.Prelude.{Option, Some, None}
 use Rattle.ss_summary.specs.Possible.{is_possible, fits_i64}
 use Rattle.ss_summary.specs.declared.summary.TheConstants.{GREATEST_COUNT}
 use Rattle.ss_catalog.specs.Names.{is_name}
@@ -25,7 +26,7 @@ is_interval values start (Some finish) = nat_lt values (2 ^ 32) && nat_le start 
 -- their values.
 unfoldable pub is_valid : Record → Bool
 is_valid Free = true
-is_valid (Stream id name params) = nat_lt id (2 ^ 32) && is_name name && in_range params
+is_valid (Stream id name params dropped) = nat_lt id (2 ^ 32) && is_name name && in_range params
 is_valid (Window id first summary) =
     nat_lt id (2 ^ 32) && nat_le 1 first && nat_le (first + summary.count - 1) GREATEST_COUNT && is_possible summary
 is_valid (Landmark id number values start finish) = nat_lt id (2 ^ 32) && counts_from_1 number && is_interval values start finish
@@ -41,6 +42,10 @@ abbrev pub parameters : Params → ℕ × ℕ × ℕ × ℕ
 parameters (Exp b r s) = (b, r, s, 0)
 parameters (Power p q r s) = (p, q, r, s)
 
+-- the number of a stream's state, 1 once it was dropped
+abbrev pub drop_number : Bool → ℕ
+drop_number dropped = if dropped then 1 else 0
+
 -- the number of a landmark's state, 1 as long as it is open, and its closing time; one that is open has a 0
 abbrev pub state_number : Option ℕ → ℕ
 state_number None = 1
@@ -53,10 +58,11 @@ closing_time (Some finish) = finish
 -- the fields of a record, each at its place. Byte 0 is the kind, and a free slot has no field.
 abbrev pub fields : Record → List Field
 fields Free = []
-fields (Stream id name params) =
+fields (Stream id name params dropped) =
     u8 0 1
     ∷ u8 1 (family params)
     ∷ u8 2 (length name)
+    ∷ u8 3 (drop_number dropped)
     ∷ u32 4 id
     ∷ u32 8 (parameters params).0
     ∷ u32 12 (parameters params).1

@@ -9,7 +9,7 @@ ghost use Rattle.ss_codec.specs.Decoded.{window_in};
 
 use crate::encoding::encode;
 use crate::record::{
-    CLOSED, EXPONENTIAL, LANDMARK, NAME, Record, SLOT_SIZE, STREAM, VALUE, WINDOW,
+    CLOSED, DROPPED, EXPONENTIAL, LANDMARK, NAME, Record, SLOT_SIZE, STREAM, VALUE, WINDOW,
 };
 use ss_catalog::{LAST_TIME, LONGEST_NAME, Name, Params};
 use ss_fields::{get_i64, get_i128, get_u32, get_u64};
@@ -52,7 +52,12 @@ fn stream_in(bytes: &[u8; SLOT_SIZE]) -> Option<Record>
     let name = Name::of(&bytes[NAME..NAME + length])?;
     let params = params_in(bytes);
     if params.in_range() {
-        Some(Record::Stream { id, name, params })
+        Some(Record::Stream {
+            id,
+            name,
+            params,
+            dropped: bytes[3] == DROPPED,
+        })
     } else {
         None
     }

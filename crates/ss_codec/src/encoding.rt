@@ -1,11 +1,12 @@
 // Records, spelled.
 ghost use Rattle.std.specs.Prelude.{◌≡◌, ◌≤◌, length, IsTrue};
 ghost use Rattle.ss_codec.specs.Fields.{with_fields};
-ghost use Rattle.ss_codec.specs.Record.{closing_time, family, fields, is_valid, parameters, spelling, state_number};
+ghost use Rattle.ss_codec.specs.Record.{closing_time, drop_number, family, fields, is_valid, parameters, spelling, state_number};
 
 use crate::fields::{write_i64, write_i128, write_text, write_u8, write_u32, write_u64};
 use crate::record::{
-    CLOSED, EXPONENTIAL, LANDMARK, NAME, OPEN, POWER_LAW, Record, SLOT_SIZE, STREAM, VALUE, WINDOW,
+    CLOSED, DROPPED, EXPONENTIAL, LANDMARK, NAME, OPEN, POWER_LAW, Record, SLOT_SIZE, STANDING,
+    STREAM, VALUE, WINDOW,
 };
 use ss_catalog::{LONGEST_NAME, Name, Params};
 use ss_summary::Summary;
@@ -30,17 +31,25 @@ fn parameters(params: &Params) -> (u32, u32, u32, u32)
     }
 }
 
+// The number of a stream's state.
+fn drop_state(dropped: bool) -> u8
+    ensures { result ≡ drop_number dropped }
+{
+    if dropped { DROPPED } else { STANDING }
+}
+
 // Writes the fields of a stream.
-fn write_stream(bytes: &mut [u8], id: u32, name: &Name, params: &Params)
+fn write_stream(bytes: &mut [u8], id: u32, name: &Name, params: &Params, dropped: bool)
     requires long { SLOT_SIZE ≤ length bytes.old }
     requires short_name { length name.now ≤ LONGEST_NAME }
-    ensures { bytes.new ≡ with_fields bytes.old (fields (Record.Stream id name.now params.now)) }
+    ensures { bytes.new ≡ with_fields bytes.old (fields (Record.Stream id name.now params.now dropped)) }
 {
     let word = name.as_bytes();
     let numbers = parameters(params);
     write_u8(bytes, 0, STREAM);
     write_u8(bytes, 1, family(params));
     write_u8(bytes, 2, word.len() as u8);
+    write_u8(bytes, 3, drop_state(dropped));
     write_u32(bytes, 4, id);
     write_u32(bytes, 8, numbers.0);
     write_u32(bytes, 12, numbers.1);
@@ -128,7 +137,12 @@ pub fn encode(r: &Record) -> [u8; SLOT_SIZE]
     let mut bytes = [0; SLOT_SIZE];
     match r {
         Record::Free => {}
-        Record::Stream { id, name, params } => write_stream(&mut bytes, *id, name, params),
+        Record::Stream {
+            id,
+            name,
+            params,
+            dropped,
+        } => write_stream(&mut bytes, *id, name, params, *dropped),
         Record::Window { id, first, summary } => write_window(&mut bytes, *id, *first, *summary),
         Record::Landmark {
             id,

@@ -1,5 +1,5 @@
 // Laws over records and their spellings, each the contract of a function that does nothing.
-ghost use Rattle.std.specs.Prelude.{◌≡◌, ◌↔◌, ℕ, ◌+◌, ◌-◌, ◌^◌, ◌<◌, ◌≤◌, ℤ, FitsSigned, List, replicate, IsTrue, Option, Some, MatchOption};
+ghost use Rattle.std.specs.Prelude.{◌≡◌, ◌↔◌, ℕ, ◌+◌, ◌-◌, ◌^◌, ◌<◌, ◌≤◌, Bool, ℤ, FitsSigned, List, replicate, IsTrue, Option, Some, MatchOption};
 ghost use Rattle.std.specs.Int.{w64};
 ghost use Rattle.ss_summary.specs.Figures.{Figures, IsPossible};
 ghost use Rattle.ss_summary.specs.declared.summary.TheConstants.{GREATEST_COUNT};
@@ -33,9 +33,9 @@ pub fn free_slots_are_zeros()
     ensures { (bytes : List ℕ) → (decoded bytes ≡ Some Free) ↔ (bytes ≡ replicate SLOT_SIZE 0) }
 {}
 
-/// What a valid stream is.
+/// What a valid stream is, whether it stands or was dropped.
 pub fn which_streams_are_valid()
-    ensures { (id : ℕ) (name : List ℕ) (params : Params) → IsTrue (is_valid (Stream id name params))
+    ensures { (id : ℕ) (name : List ℕ) (params : Params) (dropped : Bool) → IsTrue (is_valid (Stream id name params dropped))
         ↔ ((id < 2 ^ 32) × IsTrue (is_name name) × IsTrue (in_range params)) }
 {}
 

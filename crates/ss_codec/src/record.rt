@@ -19,6 +19,11 @@ pub const EXPONENTIAL: u8 = 1;
 
 pub const POWER_LAW: u8 = 2;
 
+// The fourth byte of a stream's record says whether the stream stands or was dropped.
+pub const STANDING: u8 = 0;
+
+pub const DROPPED: u8 = 1;
+
 // The second byte of a landmark's record says whether it is open or closed.
 pub const OPEN: u8 = 1;
 
@@ -32,11 +37,12 @@ pub const NAME: usize = 24;
 pub enum Record {
     /// Nothing.
     Free,
-    /// A stream: its number, its name and the parameters of its target.
+    /// A stream: its number, its name, the parameters of its target, and whether it was dropped.
     Stream {
         id: u32,
         name: Name,
         params: Params,
+        dropped: bool,
     },
     /// A window of a stream: the stream's number, the position of the window's first value, and the summary of all its
     /// values. Positions count the stream's values from 1.

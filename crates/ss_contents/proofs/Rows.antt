@@ -1,12 +1,12 @@
 -- Worked rows, each computed.
-use Rattle.std.specs.Prelude.{◌≡◌, ℕ, ◌≤◌, true, not, ℤ, pos, negsuc, IsTrue, List, [], ◌∷◌, length, map, All, None, Some, codes}
+use Rattle.std.specs.Prelude.{◌≡◌, ℕ, ◌≤◌, true, not, ℤ, pos, negsuc, IsTrue, List, [], ◌∷◌, ◌++◌, length, map, All, None, Some, codes}
 use Rattle.std.proofs.Common.{arith, lit≤, refl}
 use Rattle.std.proofs.lemmas.Int.{ints}
 use Rattle.ss_windowing.specs.Windowing.{window_index}
 use Rattle.ss_windowing.specs.declared.decay.TheConstants.{MOST_VALUES}
 use Rattle.ss_bounds.specs.Times.{lies_in}
 use Rattle.ss_catalog.specs.declared.event.Event.{Event}
-use Rattle.ss_catalog.specs.declared.event.Event.TheVariants.{Create, Value}
+use Rattle.ss_catalog.specs.declared.event.Event.TheVariants.{Create, Value, Drop}
 use Rattle.ss_catalog.specs.declared.params.Params.TheVariants.{Exp}
 use Rattle.ss_catalog.specs.declared.query.Kind.{Kind}
 use Rattle.ss_catalog.specs.declared.query.Kind.TheVariants as kinds
@@ -43,6 +43,19 @@ history =
 contents_of-history : map (contents_of history) (state history) ≡ readings ∷ []
 unfolding state window_index
 contents_of-history = refl
+
+-- a stream that is dropped and created again has what came since alone
+abbrev created_again : List Event
+created_again = history ++ Drop a ∷ Create a (Exp 2 1 1) ∷ Value a 5 (pos 1) ∷ []
+
+contents_of-created_again : map (contents_of created_again) (state created_again) ≡
+    record { params = Exp 2 1 1; plain = (5, pos 1) ∷ []; landmarks = [] } ∷ []
+unfolding state window_index
+contents_of-created_again = refl
+
+contents_of-dropped : map (contents_of (history ++ Drop a ∷ [])) (state (history ++ Drop a ∷ [])) ≡ []
+unfolding state window_index
+contents_of-dropped = refl
 
 -- from 10 to 25 the first window has 2 values of the sum 2, and may have -3 and -2 there, and 8 twice outside
 abbrev least_sum : List Sides

@@ -4,6 +4,7 @@ pub mod ValueLemmas
 pub mod StoredLemmas
 pub mod OrderLemmas
 pub mod HeldLemmas
+pub mod SlotLemmas
 pub mod StepLemmas
 pub mod TimeLemmas
 pub mod OpenLemmas

@@ -1,7 +1,7 @@
 -- Worked rows, each computed.
-use Rattle.std.proofs.Common.{◌≡◌, ℕ, ◌-◌, ◌^◌, ℤ, pos, negsuc, List, [], ◌∷◌, ◌++◌, Some, None, refl, arith}
+use Rattle.std.proofs.Common.{◌≡◌, ℕ, ◌+◌, ◌-◌, ◌^◌, ℤ, pos, negsuc, List, [], ◌∷◌, ◌++◌, length, map, slice_get, Some, None, refl, arith}
 use Rattle.ss_landmarks.specs.Landmark.{Landmark, opened_at, with_value, closed_at, change_last}
-use Rattle.ss_landmarks.specs.Landmarks.{opened}
+use Rattle.ss_landmarks.specs.Landmarks.{LandmarksState, opened}
 use Rattle.ss_landmarks.specs.Free.{free}
 use Rattle.ss_landmarks.specs.Order.{CanOpen, CanTake, CanClose}
 use Rattle.ss_landmarks.specs.ValuesIn.{values_between, tally_of}
@@ -87,6 +87,17 @@ opened-two = refl
 
 pub opened-one : opened (record { landmarks = one; slots = 5 ∷ []; value_slots = 6 ∷ 7 ∷ []; room = 1; value_room = 1 }) ≡ None
 opened-one = refl
+
+-- the slots of the landmarks stand first, and then those of their values, up to the last of both together
+abbrev state_two : LandmarksState
+state_two = record { landmarks = two; slots = 5 ∷ 8 ∷ []; value_slots = 6 ∷ 7 ∷ 9 ∷ []; room = 0; value_room = 3 }
+
+pub slots-two : map (slice_get (state_two.slots ++ state_two.value_slots)) (0 ∷ 1 ∷ 2 ∷ 3 ∷ 4 ∷ 5 ∷ [])
+    ≡ Some 5 ∷ Some 8 ∷ Some 6 ∷ Some 7 ∷ Some 9 ∷ None ∷ []
+slots-two = refl
+
+pub places-two : length state_two.slots + length state_two.value_slots ≡ 5
+places-two = refl
 
 -- ---- at the greatest times
 

@@ -59,7 +59,7 @@ fn one_open(current: &Option<Opened>) -> usize
 }
 
 impl Landmarks {
-    ghost use Rattle.std.specs.Prelude.{◌≡◌, ◌+◌, ◌<◌, ◌≤◌, ◌↔◌, [], ◌∷◌, ◌++◌, length, IsNone, OnOk};
+    ghost use Rattle.std.specs.Prelude.{◌≡◌, ◌+◌, ◌<◌, ◌≤◌, ◌↔◌, [], ◌∷◌, ◌++◌, length, slice_get, IsNone, OnOk, Some};
     ghost use Rattle.ss_landmarks.specs.Free.{free};
     ghost use Rattle.ss_landmarks.specs.Landmark.{LandmarkValue, opened_at, with_value, closed_at, change_last, open_landmark, all_values};
     ghost use Rattle.ss_landmarks.specs.Landmarks.{AreKnown, opened};
@@ -186,6 +186,28 @@ impl Landmarks {
         ensures state { AreKnown self.now }
     {
         self.values.len() as u32
+    }
+
+    /// The slot at a place among those of all records: first those of the landmarks, and then those of their values, each in order.
+    pub fn slot_at(&self, place: u32) -> u32
+        requires { place < length self.now.slots + length self.now.value_slots }
+        ensures { slice_get (self.now.slots ++ self.now.value_slots) place ≡ Some result }
+    {
+        let place = place as usize;
+        let closed = self.closed.len();
+        if place < closed {
+            return self.closed[place].slot;
+        }
+        match &self.current {
+            None => self.values[place - closed].slot,
+            Some(opened) => {
+                if place == closed {
+                    opened.slot
+                } else {
+                    self.values[place - closed - 1].slot
+                }
+            }
+        }
     }
 
     /// How many of the times `p..=q` no landmark covers. It takes the logarithm of the number of landmarks.

@@ -5,7 +5,7 @@ use Rattle.std.proofs.lemmas.Int.{ints}
 use Rattle.ss_windowing.specs.Windowing.{window_index}
 use Rattle.ss_power.specs.Power.{power_length}
 use Rattle.ss_catalog.specs.declared.event.Event.{Event}
-use Rattle.ss_catalog.specs.declared.event.Event.TheVariants.{Create, Value, Open, Close}
+use Rattle.ss_catalog.specs.declared.event.Event.TheVariants.{Create, Value, Open, Close, Drop}
 use Rattle.ss_catalog.specs.declared.params.Params.{Params}
 use Rattle.ss_catalog.specs.declared.params.Params.TheVariants.{Exp, Power}
 use Rattle.ss_catalog.specs.declared.query.Kind.{Kind}
@@ -177,6 +177,9 @@ module _ (streams : List Stream) (name : List ℕ) (t : ℕ) where
 
   order-close : map (λ r. r.1) (refusals streams (Close name t)) ≡ refusal.Unknown ∷ refusal.NotOpen ∷ refusal.Time ∷ []
   order-close = refl
+
+  order-drop : map (λ r. r.1) (refusals streams (Drop name)) ≡ refusal.Unknown ∷ []
+  order-drop = refl
 
 order-query : (streams : List Stream) (q : Query) → map (λ r. r.1) (query_refusals streams q) ≡ refusal.Unknown ∷ refusal.Range ∷ []
 order-query streams q = refl

@@ -7,7 +7,7 @@ use Rattle.std.proofs.lemmas.List.Sums.{fold-append, suffix_len-le-length}
 use Rattle.std.proofs.lemmas.Grind.{common_steps}
 use Rattle.ss_catalog.specs.Names.{same_name}
 use Rattle.ss_catalog.specs.declared.event.Event.{Event}
-use Rattle.ss_catalog.specs.declared.event.Event.TheVariants.{Create, Value, Open, Close}
+use Rattle.ss_catalog.specs.declared.event.Event.TheVariants.{Create, Value, Open, Close, Drop}
 use Rattle.ss_catalog.specs.declared.params.Params.{Params}
 use Rattle.ss_model.specs.History.{is_for, creates, events_of, given_after, given_to, nothing_given}
 
@@ -55,6 +55,7 @@ creates-no name (Create other params) fails = fails
 creates-no name (Value other t v) fails = refl
 creates-no name (Open other t) fails = refl
 creates-no name (Close other t) fails = refl
+creates-no name (Drop other) fails = refl
 
 -- an event for another stream gives none
 pub given_to-other : (history : List Event) (name : List ℕ) (event : Event) → is_for name event ≡ false →

@@ -26,7 +26,8 @@ pub record IsFound (name : List ℕ) (streams : List Stream) : Type 0 where
   pub none_before : stands name before ≡ false
   pub none_after : stands name after ≡ false
 
-stands-others : (name : List ℕ) (streams : List Stream) → AllByRecursion (λ y. same_name name y ≡ false) (names_of streams) → stands name streams ≡ false
+-- no stream of a name stands where each is named otherwise
+pub stands-others : (name : List ℕ) (streams : List Stream) → AllByRecursion (λ y. same_name name y ≡ false) (names_of streams) → stands name streams ≡ false
 stands-others name [] others = refl
 stands-others name (s ∷ ss) others = rw others.0 (stands-others name ss others.1)
 

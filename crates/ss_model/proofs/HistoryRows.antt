@@ -1,20 +1,22 @@
 -- Worked rows of histories, their states and refusals, each computed.
 use Rattle.std.proofs.Common.{◌≡◌, ℕ, ◌+◌, ◌-◌, ◌^◌, true, false, List, [], ◌∷◌, ◌++◌, map, take, refl, Some, None, codes, pos, negsuc}
 use Rattle.std.specs.Prelude.{◌≤◌, length, nat_le, replicate, Option}
+use Rattle.ss_power.specs.Power.{power_length}
 use Rattle.ss_windowing.specs.Windowing.{window_index}
 use Rattle.ss_catalog.specs.declared.event.Event.{Event}
-use Rattle.ss_catalog.specs.declared.event.Event.TheVariants.{Create, Value}
+use Rattle.ss_catalog.specs.declared.event.Event.TheVariants.{Create, Value, Open, Drop}
 use Rattle.ss_catalog.specs.declared.params.Params.TheVariants.{Exp, Power}
 use Rattle.ss_catalog.specs.declared.refusal.Refusal.{Refusal}
-use Rattle.ss_catalog.specs.declared.refusal.Refusal.TheVariants.{Param, Exists, Unknown, Time, StreamFull}
-use Rattle.ss_model.specs.History.{values_of}
+use Rattle.ss_catalog.specs.declared.refusal.Refusal.TheVariants.{Param, Exists, Streams, Unknown, Time, StreamFull}
+use Rattle.ss_model.specs.History.{CanBeSaid, Given, given_after, landmarks_of, values_of}
 use Rattle.ss_model.specs.State.{Stream, state, next_number, live, last_time}
-use Rattle.ss_model.specs.Refusals.{refuses, refuses_reading, has_all_records, has_all_streams}
+use Rattle.ss_model.specs.Refusals.{IsHistory, refuses, refuses_reading, has_all_records, has_all_streams}
 use Rattle.ss_model.specs.Standing.{IsState}
-use Rattle.ss_model.specs.Steps.{ack_of, stepped}
+use Rattle.ss_model.specs.Steps.{ack_of, stepped, without_named}
 use Rattle.ss_model.specs.Shown.{row_of, placed_of}
 use Rattle.ss_model.specs.declared.types.Window.{Window}
 use Rattle.ss_model.specs.declared.types.TheConstants.{MOST_RECORDS}
+use Rattle.ss_model.proofs.HistoryLemmas.{GoesOn-push, IsHistory-nil, IsHistory_push}
 
 most_records : MOST_RECORDS ≡ 2 ^ 20
 most_records = refl
@@ -166,3 +168,141 @@ module _ (streams : List Stream) (state : IsState streams) where
 
   limits-records : live streams ≤ 2 ^ 20
   limits-records = state.room
+
+-- ---- streams that are dropped
+
+b : List ℕ
+b = codes "b"
+
+-- a name is dropped and created again
+created_again : List Event
+created_again =
+    Create a (Exp 2 1 1) ∷ Value a 5 (pos 1) ∷ Create b (Exp 2 1 2) ∷ Value b 1 (pos 2) ∷ Drop a ∷ Create a (Exp 2 1 1) ∷ Value a 3 (pos 9)
+    ∷ Open a 4 ∷ []
+
+-- the new stream comes last, with a number that none had: that of the dropped one is below the greatest and isn't used again
+numbers-created_again : map (λ k. map (λ s. s.number) (state (take k created_again))) (4 ∷ 5 ∷ 6 ∷ []) ≡
+    (0 ∷ 1 ∷ []) ∷ (1 ∷ []) ∷ (1 ∷ 2 ∷ []) ∷ []
+unfolding state window_index created_again a b
+numbers-created_again = refl
+
+one_value : ℕ → ℕ → Window
+one_value t v =
+    record { first = 1; summary = record { count = 1; sum = pos v; min = pos v; max = pos v; t_first = t; t_last = t } }
+
+state-created_again : state created_again ≡
+    record { number = 1; name = b; params = Exp 2 1 2; windows = one_value 1 2 ∷ []; landmarks = [] }
+    ∷ record {
+      number = 2;
+      name = a;
+      params = Exp 2 1 1;
+      windows = one_value 3 9 ∷ [];
+      landmarks = record { start = 4; finish = None; values = [] } ∷ [];
+    } ∷ []
+unfolding state window_index created_again one_value a b
+state-created_again = refl
+
+-- the values of a name are those since its last create
+values-created_again : map (λ k. values_of (take k created_again) a) (4 ∷ 5 ∷ 6 ∷ 7 ∷ []) ≡
+    ((5, pos 1) ∷ []) ∷ ((5, pos 1) ∷ []) ∷ [] ∷ ((3, pos 9) ∷ []) ∷ []
+unfolding created_again a b
+values-created_again = refl
+
+landmarks-created_again : map (λ k. length (landmarks_of (take k created_again) a)) (7 ∷ 8 ∷ []) ≡ 0 ∷ 1 ∷ []
+unfolding created_again a b
+landmarks-created_again = refl
+
+-- ok 0 0 for the drop, and what the other stream has is as it was
+acks-created_again : map (λ k. ack_of a (state (take k created_again))) (4 ∷ 5 ∷ 7 ∷ []) ≡
+    record { n = 1; k = 1 } ∷ record { n = 0; k = 0 } ∷ record { n = 1; k = 1 } ∷ []
+unfolding state window_index created_again a b
+acks-created_again = refl
+
+acks-created_again_other : map (λ k. ack_of b (state (take k created_again))) (4 ∷ 5 ∷ 7 ∷ []) ≡
+    record { n = 1; k = 1 } ∷ record { n = 1; k = 1 } ∷ record { n = 1; k = 1 } ∷ []
+unfolding state window_index created_again a b
+acks-created_again_other = refl
+
+-- the records of a dropped stream need no place
+records-created_again : map (λ k. live (state (take k created_again))) (4 ∷ 5 ∷ 6 ∷ []) ≡ 4 ∷ 2 ∷ 3 ∷ []
+unfolding state window_index created_again a b
+records-created_again = refl
+
+-- a dropped name is unknown until it is created, and then known
+refusals-created_again : map (λ k. map (refuses (state (take k created_again)))
+    (Drop a ∷ Drop b ∷ Drop (codes "x") ∷ Value a 4 (pos 1) ∷ Create a (Exp 2 1 1) ∷ [])) (4 ∷ 5 ∷ 6 ∷ []) ≡
+    (None ∷ None ∷ Some Unknown ∷ Some Time ∷ Some Exists ∷ []) ∷ (Some Unknown ∷ None ∷ Some Unknown ∷ Some Unknown ∷ None ∷ [])
+    ∷ (None ∷ None ∷ Some Unknown ∷ None ∷ Some Exists ∷ []) ∷ []
+unfolding refuses state window_index created_again a b
+refusals-created_again = refl
+
+steps-created_again : stepped (state (take 4 created_again)) (Drop a) ≡ state (take 5 created_again)
+unfolding stepped state window_index created_again a b
+steps-created_again = refl
+
+without-created_again : map (λ name. map (λ s. s.number) (without_named name (state created_again))) (a ∷ b ∷ codes "x" ∷ []) ≡
+    (1 ∷ []) ∷ (2 ∷ []) ∷ (1 ∷ 2 ∷ []) ∷ []
+unfolding state window_index created_again a b
+without-created_again = refl
+
+-- the number after the greatest that stands: that of a dropped stream, where none of a greater number stands
+numbers-greatest : map (λ events. map (λ s. s.number) (state (Create a (Exp 2 1 1) ∷ events)))
+    ((Create b (Exp 2 1 1) ∷ Drop b ∷ Create (codes "c") (Exp 2 1 1) ∷ []) ∷ (Create b (Exp 2 1 1) ∷ Drop a ∷ Create (codes "c") (Exp 2 1 1) ∷ [])
+    ∷ (Drop a ∷ Create b (Exp 2 1 1) ∷ []) ∷ (Drop a ∷ []) ∷ []) ≡
+    (0 ∷ 1 ∷ []) ∷ (1 ∷ 2 ∷ []) ∷ (0 ∷ []) ∷ [] ∷ []
+unfolding state window_index a b
+numbers-greatest = refl
+
+-- what a name was given isn't changed by its drop, and each drop can be said
+given-drop : (given : Given) → given_after given (Drop a) ≡ given
+given-drop given = refl
+
+said-drop : (name : List ℕ) → CanBeSaid (Drop name)
+said-drop name = tt
+
+-- a stream that has all its values, or needs the last record, can be dropped
+refusals-drop_full : map (λ streams. refuses streams (Drop a)) (full_stream ∷ almost_full ∷ replicate 4096 (bare 1) ∷ []) ≡ None ∷ None ∷ None ∷ []
+unfolding refuses full_stream almost_full bare a
+refusals-drop_full = refl
+
+-- a history may drop what stands, and nothing else
+history-drop : IsHistory (Create a (Exp 2 1 1) ∷ Drop a ∷ [])
+unfolding refuses state window_index a
+history-drop =
+    IsHistory_push (Create a (Exp 2 1 1) ∷ []) (Drop a) (record {
+      before = IsHistory_push [] (Create a (Exp 2 1 1)) (record { before = IsHistory-nil; said = tt; accepted = refl });
+      said = tt;
+      accepted = refl;
+    })
+
+history-drop_unknown : IsHistory (Create a (Exp 2 1 1) ∷ Drop b ∷ []) → ⊥
+unfolding refuses state window_index a b
+history-drop_unknown whole =
+    let wrong : Some Unknown ≡ None = (GoesOn-push (Create a (Exp 2 1 1) ∷ []) (Drop b) whole).accepted in
+    cc
+
+-- an open landmark goes with its stream: a value after the next create is one outside landmarks, at whatever time
+dropped_open : List Event
+dropped_open =
+    Create a (Exp 2 1 1) ∷ Value a 5 (pos 1) ∷ Open a 6 ∷ Value a 6 (pos 2) ∷ Drop a ∷ Create a (Power 1 0 1 2) ∷ Value a 1 (pos 9) ∷ []
+
+landmarks-dropped_open : map (λ k. length (landmarks_of (take k dropped_open) a)) (4 ∷ 6 ∷ 7 ∷ []) ≡ 1 ∷ 0 ∷ 0 ∷ []
+unfolding dropped_open a
+landmarks-dropped_open = refl
+
+state-dropped_open : state dropped_open ≡
+    record { number = 0; name = a; params = Power 1 0 1 2; windows = one_value 1 9 ∷ []; landmarks = [] } ∷ []
+unfolding state window_index power_length dropped_open one_value a
+state-dropped_open = refl
+
+refusals-dropped_open : map (λ k. refuses (state (take k dropped_open)) (Value a 1 (pos 9))) (4 ∷ 5 ∷ 6 ∷ 7 ∷ []) ≡
+    Some Time ∷ Some Unknown ∷ None ∷ Some Time ∷ []
+unfolding refuses state window_index power_length dropped_open a
+refusals-dropped_open = refl
+
+-- the place and the last number of a stream are free again once it was dropped
+refusals-last_dropped : map (λ streams. refuses streams (Create b (Exp 2 1 1)))
+    ((bare 4294967295 ∷ []) ∷ stepped (bare 4294967295 ∷ []) (Drop a) ∷ replicate 4096 (bare 1) ∷ stepped (replicate 4096 (bare 1)) (Drop a) ∷ []) ≡
+    Some Streams ∷ None ∷ Some Streams ∷ None ∷ []
+unfolding refuses stepped bare a b
+refusals-last_dropped = refl

@@ -15,6 +15,7 @@ pub mod EventLemmas
 pub mod NameLemmas
 pub mod StepLemmas
 pub mod FoundLemmas
+pub mod DropLemmas
 pub mod StreamLemmas
 pub mod StandLemmas
 pub mod HistoryLemmas

@@ -1,6 +1,7 @@
 -- Names that are the same, and names that aren't.
-use Rattle.std.proofs.Common.{◌≡◌, ℕ, true, List, refl, sym}
+use Rattle.std.proofs.Common.{◌≡◌, ◌≢◌, ℕ, true, false, List, refl, sym, inl, inr}
 use Rattle.std.specs.Bool.{Decides}
+use Rattle.std.proofs.lemmas.Bool.{cases_Bool}
 use Rattle.std.proofs.lemmas.Bool.Decides.{same_from_decides}
 use Rattle.std.proofs.lemmas.Slice.Eq.{bytes_eq-Decides}
 use Rattle.ss_catalog.specs.Names.{same_name}
@@ -16,3 +17,9 @@ same_name-swap a b =
     let there = same_name-Decides a b in
     let back = same_name-Decides b a in
     same_from_decides (same_name a b) (same_name b a) there ((λ same. sym (back.0 same)), (λ same. back.1 (sym same)))
+
+pub same_name-differ : (a b : List ℕ) → a ≢ b → same_name a b ≡ false
+same_name-differ a b apart = elim (cases_Bool (same_name a b)) [
+  | inl same ↦ absurd (apart ((same_name-Decides a b).0 same))
+  | inr other ↦ other
+]

@@ -8,7 +8,7 @@ use Rattle.std.proofs.lemmas.List.Sums.{sum_by-cons}
 use Rattle.ss_catalog.specs.Names.{same_name}
 use Rattle.ss_catalog.specs.declared.TheConstants.{LAST_STREAM}
 use Rattle.ss_catalog.specs.declared.event.Event.{Event}
-use Rattle.ss_catalog.specs.declared.event.Event.TheVariants.{Create, Value, Open, Close}
+use Rattle.ss_catalog.specs.declared.event.Event.TheVariants.{Create, Value, Open, Close, Drop}
 use Rattle.ss_landmarks.specs.Landmark.{all_values}
 use Rattle.ss_windowing.specs.declared.decay.TheConstants.{MOST_VALUES}
 use Rattle.ss_model.specs.Marks.{has_open}
@@ -102,3 +102,4 @@ refuses-outlines streams others (Close name t) same =
       of_named-outlines (λ s. not (has_open s.landmarks)) (λ s u alike. ap (λ ls. not (has_open ls)) alike.landmarks) name streams others same,
       of_named-outlines (λ s. is_before (last_time s) t) (λ s u alike. ap (λ o. is_before o t) alike.last_time) name streams others same,
     ) refl
+refuses-outlines streams others (Drop name) same = rw (read-outlines is_some (λ s u alike. refl) name streams others same) refl

@@ -8,7 +8,7 @@ use Rattle.std.proofs.lemmas.List.Folds.{find-append}
 use Rattle.ss_catalog.specs.Events.{event_name}
 use Rattle.ss_catalog.specs.Names.{same_name}
 use Rattle.ss_catalog.specs.declared.event.Event.{Event}
-use Rattle.ss_catalog.specs.declared.event.Event.TheVariants.{Create, Value, Open, Close}
+use Rattle.ss_catalog.specs.declared.event.Event.TheVariants.{Create, Value, Open, Close, Drop}
 use Rattle.ss_target.specs.Lengths.{has_target, lengths_of}
 use Rattle.ss_target.proofs.LengthLemmas.{lengths_of-positive, lengths_of-never_fall}
 use Rattle.ss_model.specs.Decay.{cover, IsWithinTarget}
@@ -19,20 +19,15 @@ use Rattle.ss_model.specs.Standing.{IsStream}
 use Rattle.ss_model.specs.State.{Created, Stream, state, standing, stream_after, stream_named, values_in}
 use Rattle.ss_model.specs.Steps.{change_named, stepped, with_taken, with_plain_value}
 use Rattle.ss_model.proofs.DecayLemmas.{length-windows, IsWithinTarget-windows}
+use Rattle.ss_model.proofs.DropLemmas.{stream_named-without}
 use Rattle.ss_model.proofs.HistoryLemmas.{IsState-state}
-use Rattle.ss_model.proofs.NameLemmas.{same_name-Decides}
+use Rattle.ss_model.proofs.NameLemmas.{same_name-Decides, same_name-differ}
 use Rattle.ss_model.proofs.Stretches.{taken-windows}
 
 -- what holds of each stream as a history leaves it holds in its state
 pub All-state : (P : Stream → Type 0) (history : List Event) → ((c : Created) → P (stream_after history c)) → All P (state history)
 unfolding state
 All-state P history each = All-map P (stream_after history) (standing history) (λ k d inside. each (get_or (standing history) k d))
-
-differs : (a b : List ℕ) → a ≢ b → same_name a b ≡ false
-differs a b apart = elim (cases_Bool (same_name a b)) [
-  | inl same ↦ absurd (apart ((same_name-Decides a b).0 same))
-  | inr other ↦ other
-]
 
 -- a change that keeps names changes no stream of another name
 named-changed_other : (name other : List ℕ) (change : Stream → Stream) (streams : List Stream) → name ≢ other →
@@ -43,7 +38,7 @@ named-changed_other name other change (s ∷ ss) apart keeps =
     elim (cases_Bool (same_name other s.name)) [
       | inl same ↦
           (let is : other ≡ s.name = (same_name-Decides other s.name).0 same in
-          let wrong : same_name name s.name ≡ false = differs name s.name (λ e. apart (e ∙ sym is)) in
+          let wrong : same_name name s.name ≡ false = same_name-differ name s.name (λ e. apart (e ∙ sym is)) in
           let still : same_name name (change s).name ≡ false = ap (same_name name) (keeps s) ∙ wrong in
           rw (same, wrong, still, rest) refl)
       | inr differ ↦ rw (differ, rest) refl
@@ -61,13 +56,14 @@ pub stream_named-stepped : (streams : List Stream) (event : Event) (name : List 
     stream_named name (stepped streams event) ≡ stream_named name streams
 unfolding stepped
 stream_named-stepped streams (Create other params) name apart =
-    let differ = differs name other apart in
+    let differ = same_name-differ name other apart in
     rw (find-append (λ (s : Stream). same_name name s.name) streams _, differ) (option_or-none (stream_named name streams))
 stream_named-stepped streams (Value other t v) name apart = named-changed_other name other (λ s. with_taken s t v) streams apart (name-taken t v)
 stream_named-stepped streams (Open other t) name apart =
     named-changed_other name other (λ s. record s { landmarks = with_opened s.landmarks t }) streams apart (λ s. refl)
 stream_named-stepped streams (Close other t) name apart =
     named-changed_other name other (λ s. record s { landmarks = with_closed s.landmarks t }) streams apart (λ s. refl)
+stream_named-stepped streams (Drop other) name apart = stream_named-without name other streams apart
 
 pub decay-state : (history : List Event) →
     All (λ s. 0 < values_in s → length s.windows + 1 ≤ 2 * cover (lengths_of s.params) (values_in s)) (state history)

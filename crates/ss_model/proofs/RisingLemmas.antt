@@ -9,7 +9,7 @@ use Rattle.std.proofs.lemmas.List.Elements.{All-head, All-tail}
 use Rattle.ss_catalog.specs.Events.{event_name}
 use Rattle.ss_catalog.specs.Names.{same_name}
 use Rattle.ss_catalog.specs.declared.event.Event.{Event}
-use Rattle.ss_catalog.specs.declared.event.Event.TheVariants.{Create, Value, Open, Close}
+use Rattle.ss_catalog.specs.declared.event.Event.TheVariants.{Create, Value, Open, Close, Drop}
 use Rattle.ss_landmarks.specs.Free.{is_free}
 use Rattle.ss_landmarks.specs.Landmark.{Landmark, open_landmark}
 use Rattle.ss_landmarks.specs.Order.{AreLandmarks}
@@ -235,6 +235,8 @@ LieFree-for history name (Close other t) whole accepted is before =
     let here = subst (λ n. refuses (state history) (Close n t) ≡ None) (sym is) accepted in
     subst LieFree (sym (given_to-event history name (Close other t) ((same_name-Decides name other).1 is) refl))
     (LieFree-closed history name t whole here before)
+LieFree-for history name (Drop other) whole accepted is before =
+    subst LieFree (sym (given_to-event history name (Drop other) ((same_name-Decides name other).1 is) refl)) before
 
 LieFree-event : (history : List Event) (name : List ℕ) (event : Event) → IsHistory history → refuses (state history) event ≡ None
     → LieFree (given_to history name) → LieFree (given_to (history ++ event ∷ []) name)

@@ -12,7 +12,7 @@ use Rattle.std.proofs.lemmas.List.Elements.{All-nil, All-head, All-tail, All-con
 use Rattle.std.proofs.lemmas.List.Sums.{sum_by-append, sum_by-cons, sum_by_push}
 use Rattle.ss_catalog.specs.declared.TheConstants.{MOST_STREAMS, LAST_STREAM, LAST_TIME}
 use Rattle.ss_catalog.specs.declared.event.Event.{Event}
-use Rattle.ss_catalog.specs.declared.event.Event.TheVariants.{Create, Value, Open, Close}
+use Rattle.ss_catalog.specs.declared.event.Event.TheVariants.{Create, Value, Open, Close, Drop}
 use Rattle.ss_catalog.specs.declared.params.Params.{Params}
 use Rattle.ss_target.specs.Lengths.{lengths_of}
 use Rattle.ss_summary.specs.Figures.{IsPossible}
@@ -30,6 +30,7 @@ use Rattle.ss_model.specs.State.{Stream, next_number, numbers_of, names_of, stre
 use Rattle.ss_model.specs.Steps.{change_named, single_window, stepped, with_taken, with_plain_value}
 use Rattle.ss_model.specs.declared.types.TheConstants.{MOST_RECORDS}
 use Rattle.ss_model.specs.declared.types.Window.{Window}
+use Rattle.ss_model.proofs.DropLemmas.{IsState-without}
 use Rattle.ss_model.proofs.FoundLemmas.{IsFound, found, changed-found, stream_named-at, below_next, IsStrictlyIncreasing_push, IsDistinct_push, All-around}
 use Rattle.ss_model.proofs.StepLemmas.{CanCreate, CanAppend, CanOpenAt, CanCloseAt, CanCreate-refuses, CanAppend-refuses, CanOpenAt-refuses, CanCloseAt-refuses}
 use Rattle.ss_model.proofs.StreamLemmas.{IsStream-closed, IsStream-marked, IsStream-opened, IsStream-value, past-early, records_of-closed}
@@ -234,9 +235,14 @@ IsState-close streams name t was can early =
     (sym (of_named-found at (λ s. is_before (last_time s) t)) ∙ can.later) early)
     (omega (arith, was.room))
 
+IsState-dropped : (streams : List Stream) (name : List ℕ) → IsState streams → IsState (stepped streams (Drop name))
+unfolding stepped
+IsState-dropped streams name was = IsState-without name streams was
+
 pub IsState-stepped : (streams : List Stream) (event : Event) → IsState streams → CanBeSaid event → refuses streams event ≡ None →
     IsState (stepped streams event)
 IsState-stepped streams (Create name params) was said none = IsState-create streams name params was (CanCreate-refuses streams name params none)
 IsState-stepped streams (Value name t v) was said none = IsState-value streams name t v was (CanAppend-refuses streams name t v none) said.0 said.1
 IsState-stepped streams (Open name t) was said none = IsState-open streams name t was (CanOpenAt-refuses streams name t none) said
 IsState-stepped streams (Close name t) was said none = IsState-close streams name t was (CanCloseAt-refuses streams name t none) said
+IsState-stepped streams (Drop name) was said none = IsState-dropped streams name was

@@ -1,23 +1,24 @@
 -- The state of a history with one more event.
-use Rattle.std.proofs.Common.{◌≡◌, ℕ, ℤ, Bool, not, true, false, List, [], ◌∷◌, ◌++◌, map, refl, ap, sym, ◌∙◌, arith, None, inl, inr}
-use Rattle.std.specs.Prelude.{if◌then◌else◌}
-use Rattle.std.proofs.lemmas.Bool.{cases_Bool}
+use Rattle.std.proofs.Common.{◌≡◌, ℕ, ℤ, Bool, not, true, false, List, [], ◌∷◌, ◌++◌, map, refl, ap, sym, ◌∙◌, arith, None, Some, inl, inr}
+use Rattle.std.specs.Prelude.{if◌then◌else◌, filter}
+use Rattle.std.proofs.lemmas.Bool.{cases_Bool, cond_both}
 use Rattle.std.proofs.lemmas.List.{map-append}
 use Rattle.std.proofs.lemmas.List.Sums.{fold-append}
 use Rattle.std.proofs.lemmas.Grind.{common_steps}
 use Rattle.ss_catalog.specs.Events.{event_name}
 use Rattle.ss_catalog.specs.Names.{same_name}
 use Rattle.ss_catalog.specs.declared.event.Event.{Event}
-use Rattle.ss_catalog.specs.declared.event.Event.TheVariants.{Create, Value, Open, Close}
+use Rattle.ss_catalog.specs.declared.event.Event.TheVariants.{Create, Value, Open, Close, Drop}
 use Rattle.ss_catalog.specs.declared.params.Params.{Params}
 use Rattle.ss_catalog.specs.declared.refusal.Refusal.{Refusal}
+use Rattle.ss_catalog.specs.declared.refusal.Refusal.TheVariants as refusal
 use Rattle.ss_target.specs.Lengths.{has_target, lengths_of}
 use Rattle.ss_model.specs.History.{Given, creates, given_after, given_to}
 use Rattle.ss_model.specs.Marks.{has_open, with_closed, with_opened}
 use Rattle.ss_model.specs.State.{Created, Stream, next_number, standing_after, standing, stream_after, state, last_time}
 use Rattle.ss_model.specs.Refusals.{stands, has_all_streams, has_all_records, is_before, is_early, has_most_values, is_past, first_that_applies, of_named}
 use Rattle.ss_model.specs.Refusals.{refuses}
-use Rattle.ss_model.specs.Steps.{change_named, with_taken, with_plain_value, stepped}
+use Rattle.ss_model.specs.Steps.{change_named, with_taken, with_plain_value, without_named, stepped}
 use Rattle.ss_model.specs.Windows.{windows}
 use Rattle.ss_model.proofs.EventLemmas.{given_to-created, given_to-event, given_to-other}
 use Rattle.ss_model.proofs.NameLemmas.{same_name-same, same_name-swap}
@@ -31,6 +32,14 @@ pub map-map : {X Y Z : Type 0} (f : Y → Z) (g : X → Y) (xs : List X) → map
 map-map f g [] = refl
 map-map f g (x ∷ xs) = ap (λ ys. f (g x) ∷ ys) (map-map f g xs)
 
+-- a filter of what a function makes
+pub filter-map : {X Y : Type 0} (p : Y → Bool) (f : X → Y) (xs : List X) → filter p (map f xs) ≡ map f (filter (λ x. p (f x)) xs)
+filter-map p f [] = refl
+filter-map p f (x ∷ xs) = elim (cases_Bool (p (f x))) [
+  | inl passes ↦ rw (passes, filter-map p f xs) refl
+  | inr fails ↦ rw (fails, filter-map p f xs) refl
+]
+
 -- two functions that agree everywhere make the same list
 pub map-same : {X Y : Type 0} (f g : X → Y) (xs : List X) → ((x : X) → f x ≡ g x) → map f xs ≡ map g xs
 map-same f g [] same = refl
@@ -40,12 +49,13 @@ map-same f g (x ∷ xs) same = rw (same x, map-same f g xs same) refl
 abbrev pub changed : List ℕ → (Stream → Stream) → Stream → Stream
 changed name change s = if same_name name s.name then change s else s
 
--- what an event does to the stream that it names, where it creates none
+-- what an event does to the stream that it names, where it creates none and drops none
 abbrev pub change_by : Event → Stream → Stream
 change_by (Create name params) s = s
 change_by (Value name t v) s = with_taken s t v
 change_by (Open name t) s = record s { landmarks = with_opened s.landmarks t }
 change_by (Close name t) s = record s { landmarks = with_closed s.landmarks t }
+change_by (Drop name) s = s
 
 -- a value changes the stream that it names
 abbrev pub valued : List ℕ → ℕ → ℤ → Stream → Stream
@@ -76,6 +86,7 @@ stream_given-after c given (Create name params) = refl
 stream_given-after c given (Value name t v) = stream_given-value c given name t v (has_open given.landmarks) refl
 stream_given-after c given (Open name t) = refl
 stream_given-after c given (Close name t) = refl
+stream_given-after c given (Drop name) = refl
 
 stream_after-event : (history : List Event) (event : Event) (c : Created) → creates c.name event ≡ false →
     stream_after (history ++ event ∷ []) c ≡ changed (event_name event) (change_by event) (stream_after history c)
@@ -128,6 +139,21 @@ state-create history name params none =
       streams-create history name params (standing history) none,
       map-map (λ s. s.number) (stream_after history) (standing history),
     ) (ap (λ (x : Stream). map (stream_after history) (standing history) ++ x ∷ []) made)
+
+-- a drop leaves of each stream what it was
+stream_after-drop : (history : List Event) (name : List ℕ) (c : Created) → stream_after (history ++ Drop name ∷ []) c ≡ stream_after history c
+stream_after-drop history name c =
+    stream_after-event history (Drop name) c refl
+    ∙ cond_both (same_name name c.name) (stream_after history c) (stream_after history c) (λ s. s ≡ stream_after history c) (λ same. refl) (λ other. refl)
+
+state-drop : (history : List Event) (name : List ℕ) → state (history ++ Drop name ∷ []) ≡ without_named name (state history)
+unfolding state
+state-drop history name =
+    rw (
+      standing-push history (Drop name),
+      map-same (stream_after (history ++ Drop name ∷ [])) (stream_after history) (filter (λ s. not (same_name name s.name)) (standing history))
+          (stream_after-drop history name),
+    ) (sym (filter-map (λ s. not (same_name name s.name)) (stream_after history) (standing history)))
 
 -- why an event wasn't refused
 pub record CanCreate (streams : List Stream) (name : List ℕ) (params : Params) : Type 0 where
@@ -191,6 +217,14 @@ CanCloseAt-refuses streams name t none =
     (of_named name streams (λ s. is_before (last_time s) t)) _ _ _ none in
     record { known = passed.0; begun = passed.1; later = passed.2 }
 
+-- a drop is refused where no stream of the name stands, and nowhere else
+pub stands-refuses : (streams : List Stream) (name : List ℕ) → refuses streams (Drop name) ≡ None → stands name streams ≡ true
+unfolding refuses
+stands-refuses streams name none = elim (cases_Bool (stands name streams)) [
+  | inl known ↦ known
+  | inr unknown ↦ (let wrong : Some refusal.Unknown ≡ None = rw unknown at none in cc)
+]
+
 pub state-push : (history : List Event) (event : Event) → refuses (state history) event ≡ None →
     state (history ++ event ∷ []) ≡ stepped (state history) event
 unfolding stepped
@@ -200,3 +234,4 @@ state-push history (Create name params) none =
 state-push history (Value name t v) none = state-changed history (Value name t v) refl (λ n. refl)
 state-push history (Open name t) none = state-changed history (Open name t) refl (λ n. refl)
 state-push history (Close name t) none = state-changed history (Close name t) refl (λ n. refl)
+state-push history (Drop name) none = state-drop history name

@@ -6,7 +6,7 @@ use Rattle.ss_catalog.specs.Events.{event_name}
 use Rattle.ss_catalog.specs.Names.{same_name}
 use Rattle.ss_catalog.specs.declared.TheConstants.{LAST_TIME}
 use Rattle.ss_catalog.specs.declared.event.Event.{Event}
-use Rattle.ss_catalog.specs.declared.event.Event.TheVariants.{Create, Value, Open, Close}
+use Rattle.ss_catalog.specs.declared.event.Event.TheVariants.{Create, Value, Open, Close, Drop}
 use Rattle.ss_landmarks.specs.Landmark.{Landmark}
 use Rattle.ss_model.specs.Marks.{has_open, marked_values, with_closed, with_marked, with_opened}
 
@@ -20,6 +20,7 @@ creates name (Create other params) = same_name name other
 creates name (Value other t v) = false
 creates name (Open other t) = false
 creates name (Close other t) = false
+creates name (Drop other) = false
 
 -- the events of a stream: those that name it after its last create
 abbrev pub events_of : List Event → List ℕ → List Event
@@ -43,6 +44,7 @@ given_after given (Value name t v) =
     else record given { plain = given.plain ++ (t, v) ∷ [] }
 given_after given (Open name t) = record given { landmarks = with_opened given.landmarks t }
 given_after given (Close name t) = record given { landmarks = with_closed given.landmarks t }
+given_after given (Drop name) = given
 
 -- what a history gave the stream of a name
 abbrev pub given_to : List Event → List ℕ → Given
@@ -66,3 +68,4 @@ CanBeSaid (Create name params) = Unit
 CanBeSaid (Value name t v) = (t ≤ LAST_TIME) × FitsSigned w64 v
 CanBeSaid (Open name t) = t ≤ LAST_TIME
 CanBeSaid (Close name t) = t ≤ LAST_TIME
+CanBeSaid (Drop name) = Unit

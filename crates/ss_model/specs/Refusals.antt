@@ -5,7 +5,7 @@ use Rattle.std.specs.List.{list_any}
 use Rattle.std.specs.Option.{option_map_or}
 use Rattle.ss_catalog.specs.declared.TheConstants.{MOST_STREAMS, LAST_STREAM}
 use Rattle.ss_catalog.specs.declared.event.Event.{Event}
-use Rattle.ss_catalog.specs.declared.event.Event.TheVariants.{Create, Value, Open, Close}
+use Rattle.ss_catalog.specs.declared.event.Event.TheVariants.{Create, Value, Open, Close, Drop}
 use Rattle.ss_catalog.specs.declared.refusal.Refusal.TheVariants as refusal
 use Rattle.ss_catalog.specs.declared.refusal.Refusal.{Refusal}
 use Rattle.ss_landmarks.specs.Landmark.{Landmark, open_landmark}
@@ -74,6 +74,7 @@ refusals streams (Close name t) =
     (not (stands name streams), refusal.Unknown)
     ∷ (of_named name streams (λ s. not (has_open s.landmarks)), refusal.NotOpen)
     ∷ (of_named name streams (λ s. is_before (last_time s) t), refusal.Time) ∷ []
+refusals streams (Drop name) = (not (stands name streams), refusal.Unknown) ∷ []
 
 -- the first refusal that applies
 abbrev pub first_that_applies : List (Bool × Refusal) → Option Refusal

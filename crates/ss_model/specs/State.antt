@@ -1,8 +1,8 @@
 -- The state after a history: the streams that stand, each with its windows and its landmarks.
-use Rattle.std.specs.Prelude.{ℕ, ◌+◌, max, ◌==◌, List, [], ◌∷◌, ◌++◌, map, find, fold, length, sum_by, Option}
+use Rattle.std.specs.Prelude.{ℕ, ◌+◌, max, ◌==◌, not, List, [], ◌∷◌, ◌++◌, map, filter, find, fold, length, sum_by, Option}
 use Rattle.ss_catalog.specs.Names.{same_name}
 use Rattle.ss_catalog.specs.declared.event.Event.{Event}
-use Rattle.ss_catalog.specs.declared.event.Event.TheVariants.{Create, Value, Open, Close}
+use Rattle.ss_catalog.specs.declared.event.Event.TheVariants.{Create, Value, Open, Close, Drop}
 use Rattle.ss_catalog.specs.declared.params.Params.{Params}
 use Rattle.ss_landmarks.specs.Landmark.{Landmark, all_values}
 use Rattle.ss_target.specs.Lengths.{lengths_of}
@@ -37,8 +37,9 @@ standing_after standing (Create name params) =
 standing_after standing (Value name t v) = standing
 standing_after standing (Open name t) = standing
 standing_after standing (Close name t) = standing
+standing_after standing (Drop name) = filter (λ s. not (same_name name s.name)) standing
 
--- the streams that stand after a history, in order of creation
+-- the streams that stand after a history, in order of creation: those that weren't dropped after their last create
 abbrev pub standing : List Event → List Created
 standing history = fold standing_after [] history
 

@@ -1,8 +1,8 @@
 -- How one more event changes a state.
-use Rattle.std.specs.Prelude.{ℕ, ℤ, ◌+◌, if◌then◌else◌, List, [], ◌∷◌, ◌++◌, map, length, Option, Some, None}
+use Rattle.std.specs.Prelude.{ℕ, ℤ, ◌+◌, not, if◌then◌else◌, List, [], ◌∷◌, ◌++◌, map, filter, length, Option, Some, None}
 use Rattle.ss_catalog.specs.Names.{same_name}
 use Rattle.ss_catalog.specs.declared.event.Event.{Event}
-use Rattle.ss_catalog.specs.declared.event.Event.TheVariants.{Create, Value, Open, Close}
+use Rattle.ss_catalog.specs.declared.event.Event.TheVariants.{Create, Value, Open, Close, Drop}
 use Rattle.ss_summary.specs.Summaries.{summary_of}
 use Rattle.ss_target.specs.Lengths.{lengths_of}
 use Rattle.ss_model.specs.Closed.{closed}
@@ -29,6 +29,10 @@ with_taken s t v = if has_open s.landmarks then record s { landmarks = with_mark
 abbrev pub change_named : List ℕ → (Stream → Stream) → List Stream → List Stream
 change_named name change streams = map (λ s. if same_name name s.name then change s else s) streams
 
+-- the streams, without that of a name
+abbrev pub without_named : List ℕ → List Stream → List Stream
+without_named name streams = filter (λ s. not (same_name name s.name)) streams
+
 -- the state after one more event that isn't refused. A landmark's event touches no window.
 unfoldable pub stepped : List Stream → Event → List Stream
 stepped streams (Create name params) =
@@ -36,6 +40,7 @@ stepped streams (Create name params) =
 stepped streams (Value name t v) = change_named name (λ s. with_taken s t v) streams
 stepped streams (Open name t) = change_named name (λ s. record s { landmarks = with_opened s.landmarks t }) streams
 stepped streams (Close name t) = change_named name (λ s. record s { landmarks = with_closed s.landmarks t }) streams
+stepped streams (Drop name) = without_named name streams
 
 -- what is said of a stream, and zeros where it doesn't stand
 abbrev pub said_of : Option Stream → Ack

@@ -1,5 +1,5 @@
--- The truth of a query: the answer over all values that were ever accepted, which a store no longer has one by one. The values
--- outside landmarks and those of landmarks are two lists of (time, value).
+-- The truth of a query: the answer over all values that a stream took since it was created, which a store no longer has one by
+-- one. The values outside landmarks and those of landmarks are two lists of (time, value).
 use Rattle.std.specs.Prelude.{◌≡◌, ℕ, ◌+◌, ◌≤◌, Bool, true, ℤ, List, [], ◌∷◌, ◌++◌, length, Option}
 use Rattle.ss_bounds.specs.Either.{least_in, greatest_in}
 use Rattle.ss_bounds.specs.Truth.{asked, total}

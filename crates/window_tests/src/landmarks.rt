@@ -94,13 +94,15 @@ fn take(landmarks: &mut Landmarks, last: u64, step: Step, slot: u32) -> Result<u
 }
 
 // A script, and what is told after it: the free times of ranges, the values in ranges, how many landmarks and values there
-// are, and which landmark is open. The slot of a step is its number in the script, from 1.
+// are, the slots of the landmarks and then of the values, and which landmark is open. The slot of a step is its number in
+// the script, from 1.
 struct Row {
     steps: &'static [Step],
     free: &'static [(u64, u64, u64)],
     values: &'static [(u64, u64, Figures)],
     count: u32,
     number: u32,
+    slots: &'static [u32],
     opened: Option<(u64, u32, u32)>,
 }
 
@@ -116,6 +118,7 @@ const ROWS: [Row; 7] = [
         values: &[(0, 10, NOTHING)],
         count: 0,
         number: 0,
+        slots: &[],
         opened: None,
     },
     // One time, with the value at its opening.
@@ -129,6 +132,7 @@ const ROWS: [Row; 7] = [
         ],
         count: 1,
         number: 1,
+        slots: &[1, 2],
         opened: None,
     },
     // Both ends are covered, also after the last value.
@@ -156,6 +160,7 @@ const ROWS: [Row; 7] = [
         ],
         count: 1,
         number: 2,
+        slots: &[1, 2, 3],
         opened: None,
     },
     // An open one covers all times from its opening on.
@@ -182,6 +187,7 @@ const ROWS: [Row; 7] = [
         ],
         count: 2,
         number: 3,
+        slots: &[1, 5, 2, 3, 6],
         opened: Some((80, 5, 1)),
     },
     // Steps that may not follow: a second opening, equal and earlier times, no open landmark.
@@ -203,6 +209,7 @@ const ROWS: [Row; 7] = [
         values: &[(0, 100, (1, 1, Some(1), Some(1)))],
         count: 2,
         number: 1,
+        slots: &[1, 11, 3],
         opened: Some((11, 11, 0)),
     },
     // The greatest times.
@@ -224,6 +231,7 @@ const ROWS: [Row; 7] = [
         ],
         count: 2,
         number: 2,
+        slots: &[1, 4, 2, 5],
         opened: Some((LATEST_TIME - 1, 4, 1)),
     },
     // The greatest and the least values.
@@ -255,6 +263,7 @@ const ROWS: [Row; 7] = [
         ],
         count: 1,
         number: 3,
+        slots: &[1, 2, 3, 4],
         opened: None,
     },
 ];
@@ -289,6 +298,20 @@ fn has_values(landmarks: &Landmarks, rows: &[(u64, u64, Figures)]) -> bool {
     true
 }
 
+// Whether the slots of all landmarks, and then those of all values, are these.
+fn has_slots(landmarks: &Landmarks, slots: &[u32]) -> bool {
+    let count = landmarks.count() + landmarks.values();
+    if slots.len() != count as usize {
+        return false;
+    }
+    for (place, slot) in slots.iter().enumerate() {
+        if landmarks.slot_at(place as u32) != *slot {
+            return false;
+        }
+    }
+    true
+}
+
 // Whether all is told of a row's landmarks as the row says.
 fn is_told(alloc: Global, row: &Row) -> Result<bool, AllocError> {
     let landmarks = landmarks_of(alloc, row.steps)?;
@@ -296,6 +319,7 @@ fn is_told(alloc: Global, row: &Row) -> Result<bool, AllocError> {
     Ok(
         counts
             && landmarks.opened() == row.opened
+            && has_slots(&landmarks, row.slots)
             && has_free(&landmarks, row.free)
             && has_values(&landmarks, row.values),
     )

@@ -2,4 +2,4 @@ use Rattle.ss_codec.proofs.RecordLemmas.{IsStream-is_valid}
 use Rattle.ss_codec.proofs.encoding.encode.Goals as goal
 
 pub write_stream-requires-clause-short_name : goal.write_stream-requires-clause-short_name
-write_stream-requires-clause-short_name c = (IsStream-is_valid _ _ _ (rw c.in-Stream.is at c.requires)).short
+write_stream-requires-clause-short_name c = (IsStream-is_valid _ _ _ _ (rw c.in-Stream.is at c.requires)).short
