@@ -33,7 +33,7 @@ use Rattle.ss_recover.specs.declared.recover_error.RecoverError.TheVariants.{Bad
 use Rattle.ss_recover.specs.Parts.{lowest_bad_slot}
 use Rattle.ss_recover.specs.Usable.{in_slot}
 use Rattle.ss_recover.specs.declared.found.Found.{Found}
-use Rattle.ss_recover.proofs.HeldRecords.{decoded-free}
+use Rattle.ss_recover.proofs.FreeSlots.{decoded-free}
 use Rattle.ss_recover.proofs.Lists.{range_with_len-append}
 use Rattle.ss_recover.proofs.Occupied.{filled, filled-append, filled-live, filled-zeros}
 use Rattle.ss_recover.proofs.WholeSlots.{HasWholeSlots-StandsFor}

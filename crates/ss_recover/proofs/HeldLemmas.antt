@@ -1,10 +1,10 @@
 -- What is held is what the map carries.
-use Rattle.std.proofs.Common.{◌≡◌, ℕ, ◌≤◌, Bool, true, not, List, [], ◌∷◌, filter, map, length, refl, sym, ap, ap₂, subst, ◌∙◌, arith}
+use Rattle.std.proofs.Common.{◌≡◌, ℕ, ◌≤◌, true, false, List, [], ◌∷◌, filter, map, length, refl, sym, ap, ap₂, subst, ◌∙◌, arith}
 use Rattle.std.proofs.Common.{IsPermutation, None, Option}
 use Rattle.std.specs.Prelude.{is_none}
 use Rattle.std.specs.List.{AllByRecursion, IsDistinct, filter_map, list_all}
 use Rattle.std.specs.List.Sorted.{IsStrictlyIncreasing}
-use Rattle.std.proofs.lemmas.Bool.{and_from}
+use Rattle.std.proofs.lemmas.Bool.{and_from, or_right}
 use Rattle.std.proofs.lemmas.List.{length-map}
 use Rattle.std.proofs.lemmas.List.Elements.{All-from_recursion, recursion_from_All}
 use Rattle.std.proofs.lemmas.List.Sorted.{All-permutation}
@@ -19,24 +19,22 @@ use Rattle.ss_model.specs.Standing.{IsState, IsStream}
 use Rattle.ss_model.specs.State.{Created, Stream, live, records_of}
 use Rattle.ss_model.specs.declared.types.TheConstants.{MOST_RECORDS}
 use Rattle.ss_model.specs.declared.types.Window.{Window}
-use Rattle.ss_recover.specs.Carried.{created_by, is_mark_of, marks_carried, stream_number, spelled, streams_created, window_of, windows_carried}
-use Rattle.ss_recover.specs.Conditions.{is_sound, tile, times_rise}
+use Rattle.ss_recover.specs.Carried.{created_by, is_dropped, is_mark_of, marks_carried, stands_by, stream_number, spelled, streams_created, streams_standing}
+use Rattle.ss_recover.specs.Carried.{window_of, windows_carried}
+use Rattle.ss_recover.specs.Conditions.{has_sound_values, is_sound, tile, times_rise}
 use Rattle.ss_recover.specs.Held.{AreHeld, HasWholeSlots}
 use Rattle.ss_recover.specs.Marked.{are_marks, landmarks_made}
-use Rattle.ss_recover.specs.Parts.{carried, carries, judged, lowest_in, lowest_bad_slot, lowest_bad_stream, records_in, stream_carried, streams_carried}
+use Rattle.ss_recover.specs.Parts.{carried, carries, judged, lowest_bad_slot, lowest_bad_stream, records_in, stream_carried, streams_carried}
 use Rattle.ss_recover.specs.declared.parts.StreamParts.{StreamParts}
-use Rattle.ss_recover.proofs.HeldRecords.{every_slot_spells, made_of_records}
+use Rattle.ss_recover.proofs.DroppedRecords.{IsNoneOf}
+use Rattle.ss_recover.proofs.HeldRecords.{every_slot_spells, made-none, made_of_records, standing-all_walked}
 use Rattle.ss_recover.proofs.InOrder.{Rise, Rise-increasing, in_order-IsPermutation}
-use Rattle.ss_recover.proofs.Lists.{all_both, all_weaker, filter_map-kept, kept, position-none, all-from_map, map-map}
+use Rattle.ss_recover.proofs.Lists.{all_both, all_weaker, filter-none, filter_map-kept, kept, position-none, all-from_map, map-map}
 use Rattle.ss_recover.proofs.Marks.{are_marks-marks_of, in_order-marks_of, landmarks_made-marks_of, length-marks_of, marks_of}
+use Rattle.ss_recover.proofs.SoundNumbers.{is_sound-from, none_bad-AreSound}
 use Rattle.ss_recover.proofs.SoundStreams.{Rise-AreWindows, stands_alone, stands_alone-each, stands_alone-moved}
 use Rattle.ss_recover.proofs.SoundStreams.{tile-AreWindows, times_rise-AreWindows}
 use Rattle.ss_recover.proofs.HeldRecords.{HasOwn, HasOwn-each, all-number_of, all_walked, created, created-all_walked}
-
--- where all are sound, none is the least that isn't
-filter-sound : (test : ℕ → Bool) (ns : List ℕ) → AllByRecursion (λ n. test n ≡ true) ns → filter (λ n. not (test n)) ns ≡ []
-filter-sound test [] all = refl
-filter-sound test (n ∷ ns) all = rw all.0 (filter-sound test ns all.1)
 
 -- the streams of a state, and of each the windows and the landmarks that records carry
 abbrev Carries : List Record → Stream → Type 0
@@ -55,21 +53,18 @@ each-records_of [] most room = tt
 each-records_of (s ∷ ss) most room =
     let all = sum_by-cons records_of s ss in (omega (arith, all, room), each-records_of ss most (omega (arith, all, room)))
 
--- records of which is made what is made of those of streams
-module _ (streams : List Stream) (records : List Record) (state : IsState streams)
-    (made : (Y : Type 0) (f : Record → Option Y) → f Free ≡ None → IsPermutation (filter_map f (all_walked streams)) (filter_map f records)) where
-  rise : Rise (λ (s : Stream). s.number) streams
-  rise = Rise-increasing (λ (s : Stream). s.number) streams state.numbers
+-- Records have those of each stream, in some order: these streams stand, and each has its windows and its landmarks.
+pub record HaveThose (streams : List Stream) (records : List Record) : Type 0 where
+  pub standing : IsPermutation (map created streams) (streams_standing records)
+  pub windows : AllByRecursion (λ s. IsPermutation s.windows (filter_map (window_of s.number) records)) streams
+  pub marks : AllByRecursion (λ s. IsPermutation (marks_of s.number 1 s.landmarks) (filter (is_mark_of s.number) records)) streams
 
+-- the streams of a state, of which records have those
+module _ (streams : List Stream) (records : List Record) (state : IsState streams) (those : HaveThose streams records) where
   rise_created : Rise (λ (s : Created). s.number) (map created streams)
   rise_created =
       Rise-increasing (λ (s : Created). s.number) (map created streams)
       (subst IsStrictlyIncreasing (sym (map-map (λ (s : Created). s.number) created streams)) state.numbers)
-
-  moved : IsPermutation (map created streams) (streams_created records)
-  moved =
-      subst (λ l. IsPermutation l (streams_created records)) (created-all_walked streams)
-      (made Created created_by refl)
 
   each_is : AllByRecursion IsStream streams
   each_is = recursion_from_All IsStream streams state.each
@@ -77,33 +72,22 @@ module _ (streams : List Stream) (records : List Record) (state : IsState stream
   -- the windows of each stream
   windows_are : AllByRecursion (λ s. windows_carried s.number records ≡ s.windows) streams
   windows_are =
-      all_both (HasOwn streams) IsStream (λ s. windows_carried s.number records ≡ s.windows)
-      (λ s has is.
-      in_order-IsPermutation (λ (w : Window). w.first) (filter_map (window_of s.number) records) s.windows
-      (subst (λ l. IsPermutation l (filter_map (window_of s.number) records)) has.windows
-      (made Window (window_of s.number) refl))
-      (Rise-AreWindows s.windows is.windows))
-      streams (HasOwn-each streams rise) each_is
-
-  -- the landmarks of each stream
-  marks_moved : (number : ℕ) →
-      IsPermutation (filter (is_mark_of number) (all_walked streams)) (filter (is_mark_of number) records)
-  marks_moved number =
-      subst (λ l. IsPermutation l (filter (is_mark_of number) records)) (filter_map-kept (is_mark_of number) (all_walked streams))
-      (subst (λ l. IsPermutation (filter_map (kept (is_mark_of number)) (all_walked streams)) l) (filter_map-kept (is_mark_of number) records)
-      (made Record (kept (is_mark_of number)) refl))
+      all_both (λ s. IsPermutation s.windows (filter_map (window_of s.number) records)) IsStream (λ s. windows_carried s.number records ≡ s.windows)
+      (λ s moved is.
+      in_order-IsPermutation (λ (w : Window). w.first) (filter_map (window_of s.number) records) s.windows moved (Rise-AreWindows s.windows is.windows))
+      streams those.windows each_is
 
   abbrev MarksAre : Stream → Type 0
   MarksAre s = marks_carried s.number records ≡ marks_of s.number 1 s.landmarks
 
+  -- the landmarks of each stream
   marks_are : AllByRecursion MarksAre streams
   marks_are =
-      all_both (HasOwn streams) (λ s. records_of s ≤ MOST_RECORDS) MarksAre
-      (λ s has room.
-      in_order-marks_of s.number 1 s.landmarks (filter (is_mark_of s.number) records)
-      (subst (λ l. IsPermutation l (filter (is_mark_of s.number) records)) has.marks (marks_moved s.number))
+      all_both (λ s. IsPermutation (marks_of s.number 1 s.landmarks) (filter (is_mark_of s.number) records)) (λ s. records_of s ≤ MOST_RECORDS) MarksAre
+      (λ s moved room.
+      in_order-marks_of s.number 1 s.landmarks (filter (is_mark_of s.number) records) moved
       (omega (arith, length-marks_of s.number 1 s.landmarks, room)))
-      streams (HasOwn-each streams rise) (each-records_of streams MOST_RECORDS state.room)
+      streams those.marks (each-records_of streams MOST_RECORDS state.room)
 
   carries_each : AllByRecursion (Carries records) streams
   carries_each =
@@ -116,26 +100,69 @@ module _ (streams : List Stream) (records : List Record) (state : IsState stream
   pub streams_are : streams_carried records ≡ streams
   streams_are =
       ap (map (stream_carried records))
-      (in_order-IsPermutation (λ (s : Created). s.number) (streams_created records) (map created streams) moved rise_created)
+      (in_order-IsPermutation (λ (s : Created). s.number) (streams_standing records) (map created streams) those.standing rise_created)
       ∙ map-stream_carried records streams carries_each
 
-  -- the conditions
+-- records of which is made what is made of those of streams, where nothing is made of others
+pub HaveThose-made : (beside : List Record) (streams : List Stream) (records : List Record) → IsState streams →
+    ((Y : Type 0) (f : Record → Option Y) → f Free ≡ None → filter_map f beside ≡ [] →
+    IsPermutation (filter_map f (all_walked streams)) (filter_map f records)) →
+    AllByRecursion (λ r. stands_by r ≡ None) beside → AllByRecursion (λ s. AllByRecursion (IsNoneOf s.number) beside) streams → HaveThose streams records
+HaveThose-made beside streams records state made none apart =
+    let own = HasOwn-each streams (Rise-increasing (λ (s : Stream). s.number) streams state.numbers) in
+    let Apart : Stream → Type 0 = λ s. AllByRecursion (IsNoneOf s.number) beside in
+    record {
+      standing =
+          subst (λ l. IsPermutation l (streams_standing records)) (standing-all_walked streams)
+          (made Created stands_by refl (made-none stands_by beside none));
+      windows =
+          all_both (HasOwn streams) Apart (λ s. IsPermutation s.windows (filter_map (window_of s.number) records))
+          (λ s has other.
+          subst (λ l. IsPermutation l (filter_map (window_of s.number) records)) has.windows
+          (made Window (window_of s.number) refl (made-none (window_of s.number) beside
+          (all_weaker (IsNoneOf s.number) (λ r. window_of s.number r ≡ None) (λ r is. is.window) beside other)))) streams own apart;
+      marks =
+          all_both (HasOwn streams) Apart (λ s. IsPermutation (marks_of s.number 1 s.landmarks) (filter (is_mark_of s.number) records))
+          (λ s has other.
+          subst (λ l. IsPermutation l (filter (is_mark_of s.number) records)) has.marks
+          (subst (λ l. IsPermutation l (filter (is_mark_of s.number) records)) (filter_map-kept (is_mark_of s.number) (all_walked streams))
+          (subst (λ l. IsPermutation (filter_map (kept (is_mark_of s.number)) (all_walked streams)) l) (filter_map-kept (is_mark_of s.number) records)
+          (made Record (kept (is_mark_of s.number)) refl (filter_map-kept (is_mark_of s.number) beside ∙ filter-none (is_mark_of s.number) beside
+          (all_weaker (IsNoneOf s.number) (λ r. is_mark_of s.number r ≡ false) (λ r is. is.mark) beside other)))))) streams own apart;
+    }
+
+-- where no record is of a dropped stream
+module _ (streams : List Stream) (records : List Record) (state : IsState streams)
+    (made : (Y : Type 0) (f : Record → Option Y) → f Free ≡ None → IsPermutation (filter_map f (all_walked streams)) (filter_map f records)) where
+  pub those_made : HaveThose streams records
+  those_made = HaveThose-made [] streams records state (λ Y f free none. made Y f free) tt (nothing streams)
+    where
+      nothing : (ss : List Stream) → AllByRecursion (λ s. AllByRecursion (IsNoneOf s.number) []) ss
+      nothing [] = tt
+      nothing (s ∷ ss) = (tt, nothing ss)
+
+  moved : IsPermutation (map created streams) (streams_created records)
+  moved =
+      subst (λ l. IsPermutation l (streams_created records)) (created-all_walked streams)
+      (made Created created_by refl)
+
   few : length (map created streams) ≤ MOST_STREAMS
   few = omega (arith, state.few, length-map streams created)
 
+  -- the conditions
   alone : AllByRecursion (λ (s : Stream). stands_alone s.number (streams_created records) ≡ true) streams
   alone =
       let names = subst (IsDistinct same_name) (sym (map-map (λ (s : Created). s.name) created streams)) state.names in
       all-from_map (λ s. stands_alone s.number (streams_created records) ≡ true) created streams
       (all_weaker (λ s. stands_alone s.number (map created streams) ≡ true) (λ s. stands_alone s.number (streams_created records) ≡ true)
       (λ s is. sym (stands_alone-moved s.number (map created streams) (streams_created records) moved) ∙ is) (map created streams)
-      (stands_alone-each (map created streams) rise_created names few))
+      (stands_alone-each (map created streams) (rise_created streams records state those_made) names few))
 
   sound : AllByRecursion (λ s. is_sound records s.number ≡ true) streams
-  unfolding is_sound
   sound =
       let Alone : Stream → Type 0 = λ s. stands_alone s.number (streams_created records) ≡ true in
-      let Both : Stream → Type 0 = λ s. Carries records s × MarksAre s in
+      let Own : Stream → Type 0 = MarksAre streams records state those_made in
+      let Both : Stream → Type 0 = λ s. Carries records s × Own s in
       let All : Stream → Type 0 = λ s. Both s × IsStream s in
       all_both Alone All (λ s. is_sound records s.number ≡ true)
       (λ s one all.
@@ -146,10 +173,12 @@ module _ (streams : List Stream) (records : List Record) (state : IsState stream
       let f : are_marks (marks_carried s.number records) ≡ true = ap are_marks all.0.1 ∙ are_marks-marks_of s.number s.landmarks all.1.landmarks in
       let g : list_all (lies_free (landmarks_made (marks_carried s.number records))) (windows_carried s.number records) ≡ true =
       ap₂ (λ ls ws. list_all (lies_free ls) ws) landmarks windows ∙ all.1.free in
-      and_from _ _ (and_from _ _ (and_from _ _ (and_from _ _ one d) e) f) g)
+      is_sound-from records s.number one
+      (or_right (is_dropped s.number records) (has_sound_values records s.number) (and_from _ _ (and_from _ _ (and_from _ _ d e) f) g)))
       streams alone
       (all_both Both IsStream All (λ s both is. (both, is)) streams
-      (all_both (Carries records) MarksAre Both (λ s carries marks. (carries, marks)) streams carries_each marks_are) each_is)
+      (all_both (Carries records) Own Both (λ s carries marks. (carries, marks)) streams (carries_each streams records state those_made)
+      (marks_are streams records state those_made)) (each_is streams records state those_made))
 
   pub none_bad : lowest_bad_stream records ≡ None
   none_bad =
@@ -159,7 +188,7 @@ module _ (streams : List Stream) (records : List Record) (state : IsState stream
       recursion_from_All P numbers
       (All-permutation P (filter_map stream_number (all_walked streams)) numbers (made ℕ stream_number refl)
       (All-from_recursion P (filter_map stream_number (all_walked streams)) (all-number_of P streams sound))) in
-      ap lowest_in (filter-sound (is_sound records) numbers all)
+      none_bad-AreSound records all
 
 -- what is held over a map of whole slots
 pub carried-AreHeld : (parts : List StreamParts) (streams : List Stream) (found : SlotMap) → HasWholeSlots found → AreHeld parts streams found →
@@ -170,4 +199,5 @@ carried-AreHeld parts streams found whole held =
     let slot : lowest_bad_slot (spelled found) ≡ None = position-none is_none (spelled found) (every_slot_spells parts streams found whole held) in
     ap (λ o. judged o (lowest_bad_stream rs) (streams_carried rs)) slot
     ∙ ap (λ o. judged None o (streams_carried rs)) (none_bad streams rs held.state (λ Y f free. made_of_records parts streams found whole held f free))
-    ∙ ap (judged None None) (streams_are streams rs held.state (λ Y f free. made_of_records parts streams found whole held f free))
+    ∙ ap (judged None None)
+    (streams_are streams rs held.state (those_made streams rs held.state (λ Y f free. made_of_records parts streams found whole held f free)))

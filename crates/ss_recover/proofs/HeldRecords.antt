@@ -1,36 +1,32 @@
 -- The records of streams, as a walk takes them and as they are held, and those that the slots of a map spell.
-use Rattle.std.proofs.Common.{◌≡◌, ◌∙◌, ℕ, ◌<◌, false, List, [], ◌∷◌, ◌++◌, map, filter, flat_map, Option, None, refl, ap, ap₂, arith, append-nil, true, ◌||◌}
-use Rattle.std.proofs.Common.{append_assoc, length, replicate, sym, subst, inl, inr, IsPermutation, Some}
+use Rattle.std.proofs.Common.{◌≡◌, ◌∙◌, ℕ, ◌<◌, false, List, [], ◌∷◌, ◌++◌, map, filter, flat_map, Option, None, refl, ap, ap₂, arith, append-nil}
+use Rattle.std.proofs.Common.{append_assoc, length, sym, subst, IsPermutation, Some}
 use Rattle.std.specs.Prelude.{is_none, zip}
 use Rattle.std.specs.List.{AllByRecursion, filter_map, cons_option, list_any, range_with_len}
-use Rattle.std.proofs.lemmas.Bool.{eq-eqb, cases_Bool}
+use Rattle.std.proofs.lemmas.Bool.{eq-eqb}
 use Rattle.std.proofs.lemmas.List.Concat.{flat_map-append}
 use Rattle.std.proofs.lemmas.List.Elements.{filter-append, filter_map-append}
 use Rattle.ss_codec.specs.declared.record.Record.{Record}
 use Rattle.ss_codec.specs.declared.record.Record.TheVariants as records
 use Rattle.ss_model.specs.State.{Stream, Created}
 use Rattle.ss_model.specs.declared.types.Window.{Window}
-use Rattle.ss_recover.specs.Carried.{created_by, is_mark_of, window_of, stream_number, spelled}
+use Rattle.ss_recover.specs.Carried.{created_by, is_mark_of, window_of, stands_by, stream_number, spelled}
 use Rattle.ss_recover.specs.Held.{stream_record, window_record, AllAgree, AreHeld, Agrees, HasWholeSlots, all_value_records, entries_of, landmark_records}
 use Rattle.ss_recover.specs.Held.{marks_held, mark_slots, slots_held, window_slots, occupied, records_held, span_held, span_of}
 use Rattle.ss_recover.specs.Order.{stream_of}
 use Rattle.ss_recover.proofs.InOrder.{Rise, Rise-split}
-use Rattle.ss_recover.proofs.Lists.{all_append, all_weaker, map-map, range-within}
+use Rattle.ss_recover.proofs.Lists.{all_append, all_behind, map-map}
 use Rattle.ss_recover.proofs.Marks.{each-mark_of, marks_of, own-marks, length-all_value_records, length-landmark_records, IsPermutation-walked}
 use Rattle.std.proofs.lemmas.List.{length-map, map-append, length-append}
 use Rattle.std.proofs.lemmas.List.Sorted.{IsPermutation-map, list_any-IsPermutation, IsPermutation-refl, IsPermutation-trans}
-use Rattle.ss_journal.specs.Redo.{SlotMap, zeros}
-use Rattle.ss_records.specs.Live.{are_zeros}
-use Rattle.ss_records.proofs.LiveLemmas.{replicate-are_zeros}
-use Rattle.ss_codec.specs.Decoded.{decoded}
+use Rattle.ss_journal.specs.Redo.{SlotMap}
 use Rattle.ss_codec.specs.declared.record.Record.TheVariants.{Free}
-use Rattle.ss_codec.proofs.RecordLemmas.{decoded-spelling, is_valid-free, spelling-free}
 use Rattle.ss_landmarks.specs.Landmark.{all_values}
 use Rattle.ss_line.specs.declared.entry.Entry.{Entry}
 use Rattle.ss_recover.specs.Parts.{records_in}
 use Rattle.ss_recover.specs.declared.parts.StreamParts.{StreamParts}
 use Rattle.ss_recover.proofs.RunSound.{marks-own, windows-own}
-use Rattle.ss_recover.proofs.Occupied.{filled, filled-live, filled-zeros}
+use Rattle.ss_recover.proofs.FreeSlots.{filter_map-filled, list_any-filled, zeros_are_free}
 use Rattle.ss_recover.proofs.Permutations.{IsPermutation-filter_map, IsPermutation-append_both}
 use Rattle.std.proofs.lemmas.Slice.Zip.{seconds-zip}
 
@@ -45,7 +41,7 @@ abbrev pub all_walked : List Stream → List Record
 all_walked streams = flat_map walked streams
 
 -- records of which nothing is made
-made-none : {Y : Type 0} (f : Record → Option Y) (rs : List Record) → AllByRecursion (λ r. f r ≡ None) rs → filter_map f rs ≡ []
+pub made-none : {Y : Type 0} (f : Record → Option Y) (rs : List Record) → AllByRecursion (λ r. f r ≡ None) rs → filter_map f rs ≡ []
 made-none f [] none = refl
 made-none f (r ∷ rs) none = rw none.0 (made-none f rs none.1)
 
@@ -68,6 +64,29 @@ created-walked s =
 pub created-all_walked : (ss : List Stream) → filter_map created_by (all_walked ss) ≡ map created ss
 created-all_walked [] = refl
 created-all_walked (s ∷ ss) = filter_map-append created_by (walked s) (all_walked ss) ∙ ap₂ ◌++◌ (created-walked s) (created-all_walked ss)
+
+-- all of them stand
+made-same : {Y : Type 0} (f g : Record → Option Y) (rs : List Record) → AllByRecursion (λ r. f r ≡ g r) rs → filter_map f rs ≡ filter_map g rs
+made-same f g [] same = refl
+made-same f g (r ∷ rs) same = (λ i. cons_option (same.0 i) (filter_map f rs)) ∙ ap (cons_option (g r)) (made-same f g rs same.1)
+
+stands-walked : (s : Stream) → AllByRecursion (λ r. stands_by r ≡ created_by r) (walked s)
+stands-walked s = (
+  refl,
+  all_append (λ r. stands_by r ≡ created_by r) (marks_of s.number 1 s.landmarks) (map (window_record s.number) s.windows)
+      (each-mark_of (λ r. stands_by r ≡ created_by r) s.number (λ n values start finish. refl) (λ n index t v. refl) 1 s.landmarks) (go s.windows),
+)
+  where
+    go : (ws : List Window) → AllByRecursion (λ r. stands_by r ≡ created_by r) (map (window_record s.number) ws)
+    go [] = tt
+    go (w ∷ ws) = (refl, go ws)
+
+pub standing-all_walked : (ss : List Stream) → filter_map stands_by (all_walked ss) ≡ map created ss
+standing-all_walked ss = made-same stands_by created_by (all_walked ss) (go ss) ∙ created-all_walked ss
+  where
+    go : (ss : List Stream) → AllByRecursion (λ r. stands_by r ≡ created_by r) (all_walked ss)
+    go [] = tt
+    go (s ∷ ss) = all_append (λ r. stands_by r ≡ created_by r) (walked s) (all_walked ss) (stands-walked s) (go ss)
 
 pub own-windows : (number : ℕ) (ws : List Window) → filter_map (window_of number) (map (window_record number) ws) ≡ ws
 own-windows number [] = refl
@@ -111,6 +130,11 @@ pub all-all_walked : (P : ℕ → Type 0) (ss : List Stream) → AllByRecursion 
 all-all_walked P [] all = tt
 all-all_walked P (s ∷ ss) all = all_append (λ r. P (stream_of r)) (walked s) (all_walked ss) (all-own P s all.0) (all-all_walked P ss all.1)
 
+-- what holds of the numbers of their records holds of streams
+pub each-all_walked : (P : ℕ → Type 0) (ss : List Stream) → AllByRecursion (λ r. P (stream_of r)) (all_walked ss) → AllByRecursion (λ s. P s.number) ss
+each-all_walked P [] all = tt
+each-all_walked P (s ∷ ss) all = (all.0, each-all_walked P ss (all_behind (λ r. P (stream_of r)) (walked s) (all_walked ss) all))
+
 -- those of lower and of greater numbers are of other streams
 own-each : (xs ys : List Stream) → Rise (λ s. s.number) (xs ++ ys) → AllByRecursion (HasOwn (xs ++ ys)) ys
 own-each xs [] rise = tt
@@ -135,16 +159,16 @@ own-each xs (y ∷ ys) rise =
 pub HasOwn-each : (ss : List Stream) → Rise (λ s. s.number) ss → AllByRecursion (HasOwn ss) ss
 HasOwn-each ss rise = own-each [] ss rise
 
+pub each-number : (P : ℕ → Type 0) (rs : List Record) → AllByRecursion (λ r. P (stream_of r)) rs → AllByRecursion P (filter_map stream_number rs)
+each-number P [] each = tt
+each-number P (records.Free ∷ rs) each = each-number P rs each.1
+each-number P (records.Stream id name params dropped ∷ rs) each = (each.0, each-number P rs each.1)
+each-number P (records.Window id first summary ∷ rs) each = (each.0, each-number P rs each.1)
+each-number P (records.Landmark id number values start finish ∷ rs) each = (each.0, each-number P rs each.1)
+each-number P (records.Value id number index t v ∷ rs) each = (each.0, each-number P rs each.1)
+
 pub all-number_of : (P : ℕ → Type 0) (ss : List Stream) → AllByRecursion (λ s. P s.number) ss → AllByRecursion P (filter_map stream_number (all_walked ss))
-all-number_of P ss all = go (all_walked ss) (all-all_walked P ss all)
-  where
-    go : (rs : List Record) → AllByRecursion (λ r. P (stream_of r)) rs → AllByRecursion P (filter_map stream_number rs)
-    go [] each = tt
-    go (records.Free ∷ rs) each = go rs each.1
-    go (records.Stream id name params ∷ rs) each = (each.0, go rs each.1)
-    go (records.Window id first summary ∷ rs) each = (each.0, go rs each.1)
-    go (records.Landmark id number values start finish ∷ rs) each = (each.0, go rs each.1)
-    go (records.Value id number index t v ∷ rs) each = (each.0, go rs each.1)
+all-number_of P ss all = each-number P (all_walked ss) (all-all_walked P ss all)
 
 -- ---- as they are held
 
@@ -155,11 +179,11 @@ records_of_stream s =
     ∷ map (window_record s.number) s.windows
     ++ (landmark_records s.number 1 s.landmarks ++ all_value_records s.number 1 s.landmarks)
 
-abbrev records_of_streams : List Stream → List Record
+abbrev pub records_of_streams : List Stream → List Record
 records_of_streams streams = flat_map records_of_stream streams
 
 -- as a walk takes them they are the same, in another order
-IsPermutation-all_walked : (ss : List Stream) → IsPermutation (all_walked ss) (records_of_streams ss)
+pub IsPermutation-all_walked : (ss : List Stream) → IsPermutation (all_walked ss) (records_of_streams ss)
 IsPermutation-all_walked [] = IsPermutation-refl []
 IsPermutation-all_walked (s ∷ ss) =
     IsPermutation-append_both (walked s) (records_of_stream s) (all_walked ss) (records_of_streams ss) (IsPermutation-walked s)
@@ -238,7 +262,7 @@ module _ (part : StreamParts) (s : Stream) (agrees : Agrees part s) where
         length-map others Some,
       )
 
-second-held : (parts : List StreamParts) (streams : List Stream) → AllAgree parts streams →
+pub second-held : (parts : List StreamParts) (streams : List Stream) → AllAgree parts streams →
     map (λ (e : ℕ × Option Record). e.1) (flat_map records_held (zip parts streams)) ≡ map Some (records_of_streams streams)
 second-held [] [] each = refl
 second-held [] (s ∷ ss) each = absurd each
@@ -250,53 +274,11 @@ second-held (part ∷ parts) (s ∷ ss) each =
     ∙ seconds-zip (slots_held part) (map Some (records_of_stream s)) (sym (held-long part s each.0))) (second-held parts ss each.1)
     ∙ sym (map-append Some (records_of_stream s) (records_of_streams ss))
 
-records_in-Some : (rs : List Record) → records_in (map Some rs) ≡ rs
+pub records_in-Some : (rs : List Record) → records_in (map Some rs) ≡ rs
 records_in-Some [] = refl
 records_in-Some (r ∷ rs) = ap (λ l. r ∷ l) (records_in-Some rs)
 
--- a whole slot of zeros is free
-abbrev ZerosAreFree : (ℕ → List ℕ) → ℕ → Type 0
-ZerosAreFree bytes slot = are_zeros (bytes slot) ≡ true → decoded (bytes slot) ≡ Some Free
-
-pub decoded-free : (bytes : List ℕ) → length bytes ≡ 128 → are_zeros bytes ≡ true → decoded bytes ≡ Some Free
-decoded-free bytes whole zeros =
-    ap decoded (replicate-are_zeros bytes zeros ∙ ap (λ n. replicate n 0) whole ∙ sym spelling-free) ∙ decoded-spelling Free is_valid-free
-
-pub zeros_are_free : (found : SlotMap) → HasWholeSlots found → AllByRecursion (ZerosAreFree found.bytes) (range_with_len 0 found.extent)
-zeros_are_free found whole =
-    all_weaker (λ slot. slot < found.extent) (ZerosAreFree found.bytes)
-    (λ slot below zeros. let few = whole.few in decoded-free (found.bytes slot) (whole.whole slot (omega arith)) zeros)
-    (range_with_len 0 found.extent) (range-within 0 found.extent found.extent (omega arith))
-
--- free slots give nothing to what is made of records
-module _ {Y : Type 0} (f : Record → Option Y) (free : f Free ≡ None) (bytes : ℕ → List ℕ) where
-  pub filter_map-filled : (slots : List ℕ) → AllByRecursion (ZerosAreFree bytes) slots →
-      filter_map f (records_in (map (λ slot. decoded (bytes slot)) slots)) ≡ filter_map f (records_in (map (λ e. e.1) (filled bytes slots)))
-  filter_map-filled [] each = refl
-  filter_map-filled (slot ∷ slots) each =
-      let rest = filter_map-filled slots each.1 in
-      elim (cases_Bool (are_zeros (bytes slot))) [
-        | inl zeros ↦ rw (filled-zeros bytes slot slots zeros, each.0 zeros, free) rest
-        | inr live ↦
-            rw (filled-live bytes slot slots live)
-            (elim (decoded (bytes slot)) as (λ o. filter_map f (cons_option o (records_in (map (λ slot. decoded (bytes slot)) slots)))
-            ≡ filter_map f (cons_option o (records_in (map (λ e. e.1) (filled bytes slots))))) [
-              | None ↦ rest
-              | Some r ↦ ap (cons_option (f r)) rest
-            ])
-      ]
-
--- nor to whether a slot spells nothing
-list_any-filled : (bytes : ℕ → List ℕ) (slots : List ℕ) → AllByRecursion (ZerosAreFree bytes) slots →
-    list_any is_none (map (λ slot. decoded (bytes slot)) slots) ≡ list_any is_none (map (λ e. e.1) (filled bytes slots))
-list_any-filled bytes [] each = refl
-list_any-filled bytes (slot ∷ slots) each =
-    let rest = list_any-filled bytes slots each.1 in
-    elim (cases_Bool (are_zeros (bytes slot))) [
-      | inl zeros ↦ rw (filled-zeros bytes slot slots zeros, each.0 zeros) rest
-      | inr live ↦ rw (filled-live bytes slot slots live) (ap (λ b. is_none (decoded (bytes slot)) || b) rest)
-    ]
-
+-- every record is one
 list_any-Some : (rs : List Record) → list_any is_none (map Some rs) ≡ false
 list_any-Some [] = refl
 list_any-Some (r ∷ rs) = list_any-Some rs

@@ -1,5 +1,5 @@
 -- A list in the order of its keys: where its elements are those of a list whose keys rise, it is that list.
-use Rattle.std.proofs.Common.{◌≡◌, ℕ, ◌+◌, ◌<◌, ◌≤◌, true, false, zero, suc, cond, List, [], ◌∷◌, ◌++◌, map, refl, ap, arith, IsPermutation}
+use Rattle.std.proofs.Common.{◌≡◌, ℕ, ◌+◌, ◌<◌, ◌≤◌, Bool, true, false, zero, suc, cond, List, [], ◌∷◌, ◌++◌, filter, map, refl, ap, arith, IsPermutation}
 use Rattle.std.specs.Prelude.{nat_le, nat_lt, sum_by}
 use Rattle.std.specs.List.{AllByRecursion, AllPairs}
 use Rattle.std.specs.List.Sorted.{IsStrictlyIncreasing}
@@ -10,7 +10,7 @@ use Rattle.std.proofs.lemmas.List.Kept.{AllPairs-from_increasing}
 use Rattle.std.proofs.lemmas.List.Sorted.{IsPermutation-refl, IsPermutation-trans, IsPermutation-cons, All-permutation, sum_by-IsPermutation}
 use Rattle.std.proofs.lemmas.List.Sums.{sum_by-cons}
 use Rattle.ss_recover.specs.Carried.{put_in_order, in_order}
-use Rattle.ss_recover.proofs.Lists.{all_behind}
+use Rattle.ss_recover.proofs.Lists.{all-kept, all_behind}
 pub use Rattle.ss_recover.proofs.Lists.{all_weaker}
 use Rattle.ss_recover.proofs.Permutations.{IsPermutation-turn}
 use Rattle.ss_recover.specs.Order.{Rises}
@@ -121,14 +121,27 @@ module _ {X : Type 0} (key : X → ℕ) where
       go [] above those = tt
       go (x ∷ xs) above those = ((λ same. absurd (omega (arith, above.0, same)), those.0), go xs above.1 those.1)
 
-  -- the elements of a list whose keys rise, in any order, are put in that order
+  -- the elements of a list whose keys rise, in another order in which they don't fall, are in that order
+  pub Rises-IsPermutation : (xs ys : List X) → Rises key xs → IsPermutation ys xs → Rise ys → xs ≡ ys
+  Rises-IsPermutation xs ys rises moved rise =
+      same-in_order xs ys rises rise
+      (λ f. sum_by-IsPermutation f ys xs moved)
+      (recursion_from_All (AreThose ys) xs
+      (All-permutation (AreThose ys) ys xs moved (All-from_recursion (AreThose ys) ys (AreThose-Rise ys rise))))
+
+  -- in any order, they are put in that order
   pub in_order-IsPermutation : (xs ys : List X) → IsPermutation ys xs → Rise ys → in_order key xs ≡ ys
   in_order-IsPermutation xs ys moved rise =
-      let all_moved = IsPermutation-trans ys xs (in_order key xs) moved (IsPermutation-in_order xs) in
-      same-in_order (in_order key xs) ys (Rises-in_order xs) rise
-      (λ f. sum_by-IsPermutation f ys (in_order key xs) all_moved)
-      (recursion_from_All (AreThose ys) (in_order key xs)
-      (All-permutation (AreThose ys) ys (in_order key xs) all_moved (All-from_recursion (AreThose ys) ys (AreThose-Rise ys rise))))
+      Rises-IsPermutation (in_order key xs) ys (Rises-in_order xs)
+      (IsPermutation-trans ys xs (in_order key xs) moved (IsPermutation-in_order xs)) rise
+
+  -- those that pass a test
+  pub Rise-filter : (test : X → Bool) (xs : List X) → Rise xs → Rise (filter test xs)
+  Rise-filter test [] rise = tt
+  Rise-filter test (x ∷ xs) rise =
+      cond_both (test x) (x ∷ filter test xs) (filter test xs) Rise
+      (λ passes. (all-kept (λ y. key x < key y) test xs rise.0, Rise-filter test xs rise.1))
+      (λ fails. Rise-filter test xs rise.1)
 
   -- what comes before and after an element
   pub Rise-split : (xs : List X) (y : X) (ys : List X) → Rise (xs ++ y ∷ ys) →

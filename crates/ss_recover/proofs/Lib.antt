@@ -7,11 +7,19 @@ pub mod MarksSoFar
 pub mod Occupied
 pub mod PutLemmas
 pub mod WholeSlots
+pub mod FreeSlots
 pub mod HeldRecords
 pub mod SoundStreams
+pub mod SoundNumbers
+pub mod DroppedRecords
+pub mod DroppedStreams
+pub mod DroppedMaps
 pub mod GatherLemmas
 pub mod Unordered
 pub mod HeldTimes
+pub mod DoomedLemmas
+pub mod DoomedTurns
+pub mod RebuiltRecords
 pub mod RebuiltParts
 pub mod HeldLemmas
 pub mod ValidRecords
@@ -19,6 +27,7 @@ pub mod CarriedStates
 pub mod Latest
 pub mod RunLaws
 pub mod RunSound
+pub mod RunStanding
 pub mod RunMarks
 pub mod RunSteps
 pub mod RunOrder
@@ -27,4 +36,6 @@ pub mod RunStream
 pub mod RunHeld
 pub mod RunsDone
 mod Rows
+mod DropRows
+mod RunRows
 mod TimeRows

@@ -217,7 +217,7 @@ Stands-value number id n index t said v before (Some l) m' rs same early fits st
 Stands-record : (number : ℕ) (m m' : Marked) (rs : List Record) (r : Record) → is_mark_of number r ≡ true → IsUsable r → Stands number m rs →
     marked_with m r ≡ Some m' → Stands number m' (rs ++ r ∷ [])
 Stands-record number m m' rs records.Free own usable stands is = absurd (cc)
-Stands-record number m m' rs (records.Stream id name params) own usable stands is = absurd (cc)
+Stands-record number m m' rs (records.Stream id name params dropped) own usable stands is = absurd (cc)
 Stands-record number m m' rs (records.Window id first f) own usable stands is = absurd (cc)
 Stands-record number m m' rs (records.Landmark id n said start finish) own usable stands is =
     Stands-landmark number id n said start finish m m' rs (eqb-true id number own)

@@ -57,13 +57,13 @@ filled-with_put put bytes slots beside =
     (λ slot other. cond-false (nat_eq slot put.slot) put.bytes (bytes slot) other) slots beside)
 
 -- the slots below one, and those above it below another
-abbrev front : ℕ → List ℕ
+abbrev pub front : ℕ → List ℕ
 front p = range_with_len 0 p
 
-abbrev back : ℕ → ℕ → List ℕ
+abbrev pub back : ℕ → ℕ → List ℕ
 back p n = range_with_len (p + 1) (n - (p + 1))
 
-range-at : (p n : ℕ) → p < n → range_with_len 0 n ≡ front p ++ p ∷ back p n
+pub range-at : (p n : ℕ) → p < n → range_with_len 0 n ≡ front p ++ p ∷ back p n
 range-at p n below =
     let first : range_with_len 0 n ≡ front p ++ range_with_len p (n - p) = range_with_len-append 0 p (n - p) n p (omega arith) (omega arith) in
     let second : range_with_len p (n - p) ≡ p ∷ back p n = range_with_len-append p 1 (n - (p + 1)) (n - p) (p + 1) (omega arith) refl in

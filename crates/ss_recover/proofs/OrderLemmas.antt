@@ -84,7 +84,8 @@ same_order key (x ∷ xs) (y ∷ ys) up_x up_y same =
     let rest : xs ≡ ys = same_order key xs ys up_x.1 up_y.1 (λ z. tails key z x xs ys (same z ∙ ap (λ h. filter (λ w. eqb (key w) (key z)) (h ∷ ys)) head)) in
     ap (λ h. h ∷ xs) (sym head) ∙ ap (λ zs. y ∷ zs) rest
 
-Rises-from_sorted : {X : Type 0} (key : X → ℕ) (xs : List X) → IsNonDecreasingBy key xs → Rises key xs
+-- so do elements that are sorted by it
+pub Rises-from_sorted : {X : Type 0} (key : X → ℕ) (xs : List X) → IsNonDecreasingBy key xs → Rises key xs
 Rises-from_sorted key [] up = tt
 Rises-from_sorted key (x ∷ xs) up = (
   recursion_from_All (λ y. key x ≤ key y) xs (λ k d lt. up 0 (suc k) d (omega arith) (omega arith)),

@@ -45,7 +45,7 @@ extent-next put found next =
     let same : nat_eq put.slot found.extent ≡ true = grind (arith, nat_tests) in
     cond-true (nat_eq put.slot found.extent) (found.extent + 1) found.extent same
 
-extent-stays : (put : Put) (found : SlotMap) → put.slot < found.extent → (changed found (put ∷ [])).extent ≡ found.extent
+pub extent-stays : (put : Put) (found : SlotMap) → put.slot < found.extent → (changed found (put ∷ [])).extent ≡ found.extent
 extent-stays put found below =
     let other : nat_eq put.slot found.extent ≡ false = grind (arith, nat_tests) in
     cond-false (nat_eq put.slot found.extent) (found.extent + 1) found.extent other

@@ -1,13 +1,14 @@
 -- What rebuilding answers, from what was read and what the walk over it answers.
-use Rattle.std.proofs.Common.{◌≡◌, ◌∙◌, ◌+◌, ◌-◌, ◌<◌, ◌≤◌, ℕ, zero, suc, Bool, false, not, ◌&&◌, All, List, [], ◌∷◌, ◌++◌, map, filter, flat_map}
-use Rattle.std.proofs.Common.{length, max, MatchOption, Option, Some, None, Result, Ok, Err, IfOk, Vec, Global, refl, sym, ap, ap₂, subst, arith, IsPermutation}
+use Rattle.std.proofs.Common.{◌≡◌, ◌∙◌, ◌+◌, ◌-◌, ◌<◌, ◌≤◌, ℕ, zero, suc, Bool, true, false, not, All, List, [], ◌∷◌, ◌++◌, map, filter, flat_map}
+use Rattle.std.proofs.Common.{length, max, MatchOption, Option, Some, None, Result, Ok, Err, IfOk, Vec, Global, refl, sym, ap, ap₂, subst, arith, inl, inr}
+use Rattle.std.proofs.Common.{IsPermutation}
 use Rattle.std.specs.Prelude.{zip, is_none, ◌≢◌}
-use Rattle.std.specs.List.{AllByRecursion, filter_map, list_all, list_any, range_with_len, IsDistinct}
+use Rattle.std.specs.List.{AllByRecursion, filter_map, list_any, range_with_len, IsDistinct}
 use Rattle.std.specs.List.Sorted.{IsStrictlyIncreasing}
-use Rattle.std.proofs.lemmas.Bool.{or_from}
+use Rattle.std.proofs.lemmas.Bool.{cases_Bool, or_from}
 use Rattle.std.proofs.lemmas.List.{length-map, map-append}
 use Rattle.std.proofs.lemmas.List.Elements.{All-from_recursion, All-nil, recursion_from_All}
-use Rattle.std.proofs.lemmas.List.Sorted.{IsPermutation-map, IsPermutation-sym, IsPermutation-trans}
+use Rattle.std.proofs.lemmas.List.Sorted.{IsPermutation-append_left, IsPermutation-map, IsPermutation-sym, IsPermutation-trans}
 use Rattle.std.proofs.lemmas.List.Sums.{sum_by-cons}
 use Rattle.ss_journal.specs.Redo.{SlotMap}
 use Rattle.ss_records.specs.Live.{is_live}
@@ -21,35 +22,40 @@ use Rattle.ss_landmarks.specs.Order.{AllEndBy, EndsBy}
 use Rattle.ss_landmarks.proofs.TimeLemmas.{AllEndBy-later}
 use Rattle.ss_line.specs.declared.entry.Entry.{Entry}
 use Rattle.ss_windowing.specs.declared.decay.TheConstants.{MOST_VALUES}
-use Rattle.ss_model.specs.Marks.{later, latest_of, lies_free}
+use Rattle.ss_model.specs.Marks.{later, latest_of}
 use Rattle.ss_model.specs.Standing.{IsStream}
 use Rattle.ss_model.specs.State.{Stream, last_time, names_of, numbers_of}
 use Rattle.ss_model.specs.Tiling.{StandFrom}
 use Rattle.ss_model.specs.Windows.{newest_time, taken}
 use Rattle.ss_model.specs.declared.types.Window.{Window}
-use Rattle.ss_recover.specs.Carried.{created_by, in_order, is_mark_of, marks_carried, stream_number, spelled, streams_created, window_of, windows_carried}
-use Rattle.ss_recover.specs.Conditions.{has_new_name, has_one_record, has_place, is_sound, tile, times_rise}
+use Rattle.ss_recover.specs.Carried.{created_by, in_order, is_drop_of, is_dropped, is_mark_of, stream_number, spelled, window_of}
+use Rattle.ss_recover.specs.Conditions.{is_sound}
 use Rattle.ss_recover.specs.Gathered.{AreFound, GathersAs}
-use Rattle.ss_recover.specs.Held.{Agrees, AllAgree, AreHeld, AreWhole, EndByLast, HasWholeSlots, RiseToLast, TileFrom, entries_of}
-use Rattle.ss_recover.specs.Held.{occupied, records_held, slots_held, span_held, span_of}
-use Rattle.ss_recover.specs.Marked.{are_marks, landmarks_made}
-use Rattle.ss_recover.specs.Order.{found_key, key_of, place_of}
-use Rattle.ss_recover.specs.Parts.{bad_slot, bad_stream, carried, judged, lowest_in, lowest_bad_slot, lowest_bad_stream, records_in, streams_carried}
+use Rattle.ss_recover.specs.Held.{Agrees, AllAgree, AreWholeBeside, EndByLast, HasWholeSlots, RiseToLast, TileFrom, entries_of}
+use Rattle.ss_recover.specs.Held.{records_held, slots_held, span_held, span_of}
+use Rattle.ss_recover.specs.Order.{found_key, key_of}
+use Rattle.ss_recover.specs.Parts.{bad_slot, bad_stream, carried, carries, judged, lowest_in, lowest_bad_slot, lowest_bad_stream, records_in, streams_carried}
 use Rattle.ss_outside.specs.Verdict.{Verdict, fine, refused, no_memory}
 use Rattle.ss_recover.specs.Rebuilt.{RebuildsAs, verdict_of_rebuild}
-use Rattle.ss_recover.specs.Runs.{IsLowestUnsound, WalksAs}
-use Rattle.ss_recover.specs.Usable.{IsUsable, in_slot, without_slots}
+use Rattle.ss_recover.specs.Runs.{IsLowestUnsound, WalksAs, doomed_found}
+use Rattle.ss_recover.specs.Usable.{IsUsable, in_slot, slots_found, without_slots}
 use Rattle.ss_recover.specs.declared.found.Found.{Found}
 use Rattle.ss_recover.specs.declared.parts.Parts.{Parts}
 use Rattle.ss_recover.specs.declared.parts.StreamParts.{StreamParts}
 use Rattle.ss_recover.specs.declared.recover_error.RecoverError.{RecoverError}
 use Rattle.ss_recover.specs.declared.recover_error.RecoverError.TheVariants.{BadSlot, BadStream, Disk, OutOfMemory}
-use Rattle.ss_recover.proofs.HeldLemmas.{carried-AreHeld}
+use Rattle.ss_recover.proofs.DoomedLemmas.{first-in_slot}
+use Rattle.ss_recover.proofs.DoomedTurns.{Rise-found, doomed_slots-found, slots-in_order}
+use Rattle.ss_recover.proofs.FreeSlots.{filter_map-filled, zeros_are_free}
+use Rattle.ss_recover.proofs.HeldLemmas.{streams_are}
 use Rattle.ss_recover.proofs.HeldTimes.{times-agree}
-use Rattle.ss_recover.proofs.HeldRecords.{filter_map-filled, zeros_are_free, held-long, held-zip, records_of_stream}
+use Rattle.ss_recover.proofs.HeldRecords.{held-long, held-zip, records_of_stream}
 use Rattle.ss_recover.proofs.Latest.{AllEndBy-latest, none-latest}
 use Rattle.ss_recover.proofs.Lists.{filter_map-kept, kept, position-none, map-all}
 use Rattle.ss_recover.proofs.OrderLemmas.{map-in_order}
+use Rattle.ss_recover.proofs.Permutations.{IsPermutation-append_both}
+use Rattle.ss_recover.proofs.RebuiltRecords.{all-held, have_those, in_turn-built, sound_numbers}
+use Rattle.ss_recover.proofs.SoundNumbers.{is_sound-made, none_bad-AreSound}
 use Rattle.ss_recover.proofs.Unordered.{lowest-bad}
 use Rattle.std.proofs.lemmas.Slice.Zip.{firsts-zip}
 
@@ -66,20 +72,29 @@ made-found f free found all whole are =
     ∙ ap (λ (es : List (ℕ × Option Record)). filter_map f (records_in (map (λ e. e.1) es))) (sym are.occupied_by)
     ∙ ap (filter_map f) (records_in-found all)
 
-pub is_sound-made : (rs us : List Record) (n : ℕ) → streams_created rs ≡ streams_created us → filter_map (window_of n) rs ≡ filter_map (window_of n) us →
-    filter (is_mark_of n) rs ≡ filter (is_mark_of n) us → is_sound rs n ≡ is_sound us n
-unfolding is_sound
-is_sound-made rs us n created windows marks =
-    let ordered : windows_carried n rs ≡ windows_carried n us = ap (in_order (λ (w : Window). w.first)) windows in
-    let marked : marks_carried n rs ≡ marks_carried n us = ap (in_order place_of) marks in
-    λ i. has_one_record n (created i) && has_place n (created i) && has_new_name n (created i) && tile (ordered i) && times_rise (ordered i)
-    && are_marks (marked i) && list_all (lies_free (landmarks_made (marked i))) (ordered i)
-
 marks-made : (n : ℕ) (found : SlotMap) (all : List Found) → HasWholeSlots found → AreFound all found →
     filter (is_mark_of n) (records_in (spelled found)) ≡ filter (is_mark_of n) (without_slots all)
 marks-made n found all whole are =
     sym (filter_map-kept (is_mark_of n) (records_in (spelled found))) ∙ made-found (kept (is_mark_of n)) refl found all whole are
     ∙ filter_map-kept (is_mark_of n) (without_slots all)
+
+-- a test that no free slot passes
+any-passing : {X : Type 0} (p : X → Bool) (xs : List X) → list_any p (filter p xs) ≡ list_any p xs
+any-passing p [] = refl
+any-passing p (x ∷ xs) = elim (cases_Bool (p x)) [
+  | inl passes ↦ rw (passes, passes) refl
+  | inr fails ↦ rw fails (any-passing p xs)
+]
+
+dropped-made : (n : ℕ) (found : SlotMap) (all : List Found) → HasWholeSlots found → AreFound all found →
+    is_dropped n (records_in (spelled found)) ≡ is_dropped n (without_slots all)
+dropped-made n found all whole are =
+    let test = is_drop_of n in
+    let rs = records_in (spelled found) in
+    let us = without_slots all in
+    sym (any-passing test rs)
+    ∙ ap (list_any test) (sym (filter_map-kept test rs) ∙ made-found (kept test) refl found all whole are ∙ filter_map-kept test us)
+    ∙ any-passing test us
 
 lowest-made : (found : SlotMap) (all : List Found) → HasWholeSlots found → AreFound all found →
     lowest_bad_stream (records_in (spelled found)) ≡ lowest_bad_stream (without_slots all)
@@ -87,8 +102,8 @@ lowest-made found all whole are =
     let rs = records_in (spelled found) in
     let us = without_slots all in
     let sound : (n : ℕ) → is_sound rs n ≡ is_sound us n =
-    λ n. is_sound-made rs us n (made-found created_by refl found all whole are) (made-found (window_of n) refl found all whole are)
-    (marks-made n found all whole are) in
+    λ n. is_sound-made rs us n (made-found created_by refl found all whole are) (dropped-made n found all whole are)
+    (made-found (window_of n) refl found all whole are) (marks-made n found all whole are) in
     let numbers : filter_map stream_number rs ≡ filter_map stream_number us = made-found stream_number refl found all whole are in
     λ i. lowest_in (filter (λ m. not (sound m i)) (numbers i))
 
@@ -117,18 +132,41 @@ pub carried-bad_slot : (found : SlotMap) (n : ℕ) → lowest_bad_slot (spelled 
 unfolding carried
 carried-bad_slot found n slot = λ i. judged (slot i) (lowest_bad_stream (records_in (spelled found))) (streams_carried (records_in (spelled found)))
 
+carried-streams : (found : SlotMap) (streams : List Stream) → lowest_bad_slot (spelled found) ≡ None → lowest_bad_stream (records_in (spelled found)) ≡ None →
+    streams_carried (records_in (spelled found)) ≡ streams → carried found ≡ carries streams
+unfolding carried
+carried-streams found streams slot number same = λ i. judged (slot i) (number i) (same i)
+
 -- what is rebuilt is what the map carries
 pub rebuilds : (found : SlotMap) (all sorted : List Found) (result : Result Parts RecoverError) → HasWholeSlots found → AreFound all found →
     All (λ (f : Found). IsUsable f.holds) all → sorted ≡ in_order found_key all → IsPermutation all sorted → WalksAs sorted result → RebuildsAs found result
 rebuilds found all sorted (Ok parts) whole are usable order moved walks =
-    let held : AreHeld parts.streams.items walks.0 found = record {
-      each = walks.1.each;
-      records =
-          IsPermutation-trans (flat_map records_held (zip parts.streams.items walks.0)) (map in_slot sorted) (occupied found) walks.1.records
-          (subst (IsPermutation (map in_slot sorted)) are.occupied_by (IsPermutation-map in_slot sorted all (IsPermutation-sym all sorted moved)));
-      state = walks.1.state;
-    } in
-    (walks.0, carried-AreHeld parts.streams.items walks.0 found whole held, held)
+    let streams = walks.0 in
+    let built = walks.1 in
+    let rs = records_in (spelled found) in
+    let items = doomed_found false all ++ doomed_found true all in
+    let rise = Rise-found all found are.occupied_by in
+    let same : parts.doomed.items ≡ slots_found (doomed_found false all) ++ slots_found (doomed_found true all) =
+    built.doomed ∙ ap₂ (λ (a b : List ℕ). a ++ b) (slots-in_order false built.others all sorted built.of_others moved rise)
+    (slots-in_order true built.heads all sorted built.of_heads moved rise) in
+    record {
+      streams = streams;
+      doomed = map in_slot items;
+      carried =
+          carried-streams found streams (no-bad-slot found are.spelled_all)
+          (lowest-made found all whole are ∙ none_bad-AreSound (without_slots all) (sound_numbers parts streams all sorted built order moved))
+          (streams_are streams rs built.state (have_those parts streams all sorted built order moved rs (λ Y f free. made-found f free found all whole are)));
+      held = record {
+        each = built.each;
+        records = subst (IsPermutation (map in_slot items ++ flat_map records_held (zip parts.streams.items streams))) are.occupied_by
+            (all-held parts streams all sorted built order moved);
+        state = built.state;
+      };
+      slots =
+          first-in_slot items ∙ map-append (λ (f : Found). f.slot) (doomed_found false all) (doomed_found true all) ∙ sym same;
+      ordered = same ∙ doomed_slots-found all found are.occupied_by;
+      in_turn = in_turn-built parts streams all sorted built order moved;
+    }
 rebuilds found all sorted (Err (BadStream n)) whole are usable order moved walks =
     let rs = without_slots all in
     let in_records : without_slots sorted ≡ in_order key_of rs = ap without_slots order ∙ map-in_order key_of (λ (f : Found). f.holds) all in
@@ -211,13 +249,9 @@ landmarks-agree [] ss each = tt
 landmarks-agree (p ∷ ps) [] each = absurd each
 landmarks-agree (p ∷ ps) (s ∷ ss) each = ((each.0.known, EndByLast-Agrees p s each.0), landmarks-agree ps ss each.1)
 
-first-in_slot : (all : List Found) → map (λ (e : ℕ × Option Record). e.0) (map in_slot all) ≡ map (λ (f : Found). f.slot) all
-first-in_slot [] = refl
-first-in_slot (f ∷ fs) = ap (λ l. f.slot ∷ l) (first-in_slot fs)
-
 pub whole-from_walk : (live : List Bool) (all sorted : List Found) (result : Result Parts RecoverError) →
     map (λ (f : Found). f.slot) all ≡ filter (is_live live) (range_with_len 0 (length live)) → IsPermutation all sorted → WalksAs sorted result →
-    IfOk result (λ parts. AreWhole parts.streams.items live)
+    IfOk result (λ parts. AreWholeBeside parts.doomed.items parts.streams.items live)
 whole-from_walk live all sorted (Err error) slots moved walks = tt
 whole-from_walk live all sorted (Ok parts) slots moved walks =
     let ps = parts.streams.items in
@@ -225,10 +259,21 @@ whole-from_walk live all sorted (Ok parts) slots moved walks =
     let built = walks.1 in
     let numbers = numbers-agree ps ss built.each in
     let first : ℕ × Option Record → ℕ = λ e. e.0 in
-    let held : IsPermutation (flat_map slots_held ps) (map (λ (f : Found). f.slot) sorted) =
-    subst (λ l. IsPermutation l (map (λ (f : Found). f.slot) sorted)) (slots-agree ps ss built.each)
-    (subst (IsPermutation (map first (flat_map records_held (zip ps ss)))) (first-in_slot sorted)
-    (IsPermutation-map first (flat_map records_held (zip ps ss)) (map in_slot sorted) built.records)) in
+    let items = doomed_found false sorted ++ doomed_found true sorted in
+    let own = flat_map slots_held ps in
+    let slots_doomed : IsPermutation parts.doomed.items (slots_found items) =
+    subst (λ l. IsPermutation l (slots_found items)) (sym built.doomed)
+    (subst (IsPermutation (built.others ++ built.heads)) (sym (map-append (λ (f : Found). f.slot) (doomed_found false sorted) (doomed_found true sorted)))
+    (IsPermutation-append_both built.others (slots_found (doomed_found false sorted)) built.heads (slots_found (doomed_found true sorted))
+    built.of_others.are built.of_heads.are)) in
+    let both : map first (map in_slot items ++ flat_map records_held (zip ps ss)) ≡ slots_found items ++ own =
+    map-append first (map in_slot items) (flat_map records_held (zip ps ss)) ∙ ap₂ ◌++◌ (first-in_slot items) (slots-agree ps ss built.each) in
+    let held : IsPermutation (parts.doomed.items ++ own) (slots_found sorted) =
+    IsPermutation-trans (parts.doomed.items ++ own) (slots_found items ++ own) (slots_found sorted)
+    (IsPermutation-append_left own parts.doomed.items (slots_found items) slots_doomed)
+    (subst (λ l. IsPermutation l (slots_found sorted)) both
+    (subst (IsPermutation (map first (map in_slot items ++ flat_map records_held (zip ps ss)))) (first-in_slot sorted)
+    (IsPermutation-map first (map in_slot items ++ flat_map records_held (zip ps ss)) (map in_slot sorted) built.records))) in
     let few = built.state.few in
     record {
       few = omega (
@@ -246,7 +291,7 @@ whole-from_walk live all sorted (Ok parts) slots moved walks =
       landmarks =
           All-from_recursion (λ (part : StreamParts). AreKnown part.landmarks × EndByLast part) ps (landmarks-agree ps ss built.each);
       slots =
-          IsPermutation-trans (flat_map slots_held ps) (map (λ (f : Found). f.slot) sorted) (filter (is_live live) (range_with_len 0 (length live))) held
+          IsPermutation-trans (parts.doomed.items ++ own) (slots_found sorted) (filter (is_live live) (range_with_len 0 (length live))) held
           (subst (IsPermutation (map (λ (f : Found). f.slot) sorted)) slots
           (IsPermutation-map (λ (f : Found). f.slot) sorted all (IsPermutation-sym all sorted moved)));
     }

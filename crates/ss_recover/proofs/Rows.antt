@@ -1,7 +1,7 @@
 -- Worked maps of a few slots, and what each carries or where it is damaged.
 use Rattle.std.specs.Prelude.{◌≡◌, ℕ, ◌+◌, ◌-◌, ◌*◌, ◌^◌, true, false, pos, negsuc, List, [], ◌∷◌, length, replicate, slice_index_or, slice_set, map, Ok, Err}
-use Rattle.std.specs.Prelude.{◌≤◌, Bool, Option, Some, None}
-use Rattle.std.proofs.Common.{refl}
+use Rattle.std.specs.Prelude.{◌≤◌, Bool, Option, Some, None, filter}
+use Rattle.std.proofs.Common.{refl, ◌∙◌}
 use Rattle.ss_fields.specs.Fields as Numbers
 use Rattle.ss_summary.specs.Figures.{Figures}
 use Rattle.ss_summary.specs.Possible as Possible
@@ -21,11 +21,16 @@ use Rattle.ss_model.specs.declared.types.Window.{Window}
 use Rattle.ss_recover.specs.Carried.{spelled}
 use Rattle.ss_recover.specs.Conditions.{is_sound, has_place, tile}
 use Rattle.ss_recover.specs.Parts.{Carried, bad_slot, bad_stream, carries, carried}
+use Rattle.std.specs.List.{range_with_len}
+use Rattle.std.specs.List.Sorted.{IsPermutation}
+use Rattle.ss_records.specs.Live.{is_live}
 use Rattle.ss_outside.specs.Disk.{Told}
 use Rattle.ss_outside.specs.Verdict.{fine, refused, failed, no_memory}
 use Rattle.ss_records.specs.Kept.{AreKept, RecordsState}
-use Rattle.ss_recover.specs.Held.{AreWhole}
-use Rattle.ss_recover.specs.Rebuilt.{Rebuilds, verdict_of_rebuild}
+use Rattle.ss_recover.specs.Doomed.{doomed_slots}
+use Rattle.ss_recover.specs.Held.{AreWhole, AreWholeBeside, occupied}
+use Rattle.ss_recover.specs.Rebuilt.{HasParts, Rebuilds, verdict_of_rebuild}
+use Rattle.ss_recover.specs.declared.parts.Parts.{Parts}
 use Rattle.ss_recover.specs.declared.parts.StreamParts.{StreamParts}
 use Rattle.ss_recover.specs.declared.recover_error.RecoverError.TheVariants.{BadSlot, BadStream, Disk, OutOfMemory}
 
@@ -35,7 +40,7 @@ map_of slots = record { bytes = λ slot. slice_index_or slots slot zeros; extent
 
 -- the bytes of a stream's record, and the stream with these windows. Each stream here has the target `exp 2 1 1`.
 abbrev stream_slot : ℕ → List ℕ → List ℕ
-stream_slot number name = spelling (records.Stream number name (Exp 2 1 1))
+stream_slot number name = spelling (records.Stream number name (Exp 2 1 1) false)
 
 abbrev marked_stream : ℕ → List ℕ → List Window → List Landmark → Stream
 marked_stream number name windows landmarks =
@@ -65,6 +70,10 @@ value_slot number n index t = spelling (records.Value number n index t (pos 7))
 -- a landmark, with values 7 at these times
 abbrev landmark : ℕ → Option ℕ → List ℕ → Landmark
 landmark start finish times = record { start = start; finish = finish; values = map (λ t. record { t = t; v = pos 7 }) times }
+
+-- the bytes of the record of a stream that was dropped
+abbrev dropped_slot : ℕ → List ℕ → List ℕ
+dropped_slot number name = spelling (records.Stream number name (Exp 2 1 1) true)
 
 -- the names `a` and `b`
 abbrev a : List ℕ
@@ -241,6 +250,56 @@ unfolding carried spelled is_sound decoded record_in stream_in window_in landmar
     Names.is_name Possible.is_possible Fields.with_field Numbers.number_at Numbers.number_bytes Marks.lies_free
 carried-among = refl
 
+-- streams that were dropped
+carried-dropped : AreCarried (
+    -- one with a window, and one that stands
+    (dropped_slot 0 a ∷ window_slot 0 1 first_four ∷ stream_slot 1 b ∷ [], carries (stream 1 b [] ∷ []))
+    ∷ (
+      window_slot 1 1 (fives 1 10 10) ∷ stream_slot 1 b ∷ window_slot 0 1 first_four ∷ dropped_slot 0 a ∷ [],
+      carries (stream 1 b (window 1 (fives 1 10 10) ∷ []) ∷ []),
+    )
+    -- nothing is asked of its windows and landmarks: windows with a gap, one twice, and a value of no landmark
+    ∷ (
+      dropped_slot 0 a ∷ window_slot 0 5 (fives 1 20 20) ∷ window_slot 0 5 (fives 1 20 20) ∷ value_slot 0 3 2 10 ∷ [],
+      carries [],
+    )
+    -- two records of one number, whichever says that it was dropped
+    ∷ (dropped_slot 0 a ∷ dropped_slot 0 b ∷ [], bad_stream 0)
+    ∷ (dropped_slot 0 a ∷ stream_slot 0 b ∷ [], bad_stream 0)
+    ∷ (stream_slot 0 b ∷ dropped_slot 0 a ∷ [], bad_stream 0)
+    -- the name of a lower number, whichever of them was dropped
+    ∷ (dropped_slot 0 a ∷ stream_slot 3 a ∷ [], bad_stream 3)
+    ∷ (stream_slot 0 a ∷ dropped_slot 3 a ∷ [], bad_stream 3)
+    ∷ (dropped_slot 3 a ∷ dropped_slot 0 a ∷ [], bad_stream 3)
+    -- a window without its stream, and a stream that stands whose windows have a gap
+    ∷ (dropped_slot 0 a ∷ window_slot 6 1 (fives 1 10 10) ∷ [], bad_stream 6)
+    ∷ (dropped_slot 0 a ∷ stream_slot 1 b ∷ window_slot 1 2 (fives 1 20 20) ∷ [], bad_stream 1)
+    -- a state that is neither is no valid record
+    ∷ (slice_set (dropped_slot 0 a) 3 0 ∷ [], carries (stream 0 a [] ∷ []))
+    ∷ (slice_set (dropped_slot 0 a) 3 2 ∷ [], bad_slot 0)
+    ∷ []
+    )
+unfolding carried spelled is_sound decoded record_in stream_in window_in landmark_in value_in finish_in params_in is_valid spelling
+    Names.is_name Possible.is_possible Fields.with_field Numbers.number_at Numbers.number_bytes Marks.lies_free
+carried-dropped = refl
+
+-- the streams 0 and 2 were dropped, and 1 stands
+abbrev dropped_map : SlotMap
+dropped_map = map_of (
+    window_slot 0 1 (fives 1 10 10) ∷ zeros ∷ dropped_slot 2 (99 ∷ []) ∷ stream_slot 1 b ∷ window_slot 1 1 (fives 1 10 10) ∷
+    value_slot 2 1 1 20 ∷ dropped_slot 0 a ∷ landmark_slot 0 1 0 20 None ∷ landmark_slot 1 1 0 20 None ∷ []
+    )
+
+-- their slots: those of a window, a value and a landmark, and then those of the streams
+doomed_slots-dropped : doomed_slots (occupied dropped_map) ≡ 0 ∷ 5 ∷ 7 ∷ 2 ∷ 6 ∷ []
+unfolding decoded record_in stream_in window_in landmark_in value_in finish_in params_in is_valid spelling
+    Names.is_name Possible.is_possible Fields.with_field Numbers.number_at Numbers.number_bytes
+doomed_slots-dropped = refl
+
+-- the slots that parts of that map name
+parts-dropped : (parts : Parts) → HasParts parts dropped_map → parts.doomed.items ≡ 0 ∷ 5 ∷ 7 ∷ 2 ∷ 6 ∷ []
+parts-dropped parts has = has.ordered ∙ doomed_slots-dropped
+
 -- the most streams: 4,095 lower numbers may have a record, and no more
 abbrev lower : Created
 lower = record { number = 0; name = a; params = Exp 2 1 1 }
@@ -284,3 +343,7 @@ module _ (records : RecordsState) (n : ℕ) (old new : Told) where
 -- no more streams are held than may stand
 whole-few : (parts : List StreamParts) (live : List Bool) → AreWhole parts live → length parts ≤ 4096
 whole-few parts live whole = whole.few
+
+-- a slot of a dropped stream is live, and none other is beside those that are held
+whole-doomed : (live : List Bool) → AreWholeBeside (1 ∷ []) [] live → IsPermutation (1 ∷ []) (filter (is_live live) (range_with_len 0 (length live)))
+whole-doomed live whole = whole.slots

@@ -16,7 +16,7 @@ use Rattle.ss_model.specs.Marks.{later, latest_of}
 use Rattle.ss_model.specs.State.{Stream, names_of}
 use Rattle.ss_model.specs.Windows.{newest_time}
 use Rattle.ss_model.specs.declared.types.Window.{Window}
-use Rattle.ss_recover.specs.Carried.{created_by, is_mark_of, window_of}
+use Rattle.ss_recover.specs.Carried.{created_by, is_dropped, is_mark_of, window_of}
 use Rattle.ss_recover.specs.Held.{Agrees, AllAgree, all_value_records, in_slots, landmark_record, landmark_records, records_held, stream_record}
 use Rattle.ss_recover.specs.Held.{value_records, window_record, windows_held}
 use Rattle.ss_recover.specs.Marked.{landmarks_made}
@@ -29,6 +29,8 @@ use Rattle.ss_recover.specs.declared.parts.StreamParts.{StreamParts}
 use Rattle.ss_recover.proofs.Lists.{all_weaker, filter-none, map-all}
 use Rattle.ss_recover.proofs.Marks.{each-mark_of, marks_of}
 use Rattle.ss_recover.proofs.Permutations.{IsPermutation-append_both}
+use Rattle.ss_recover.proofs.RunSound.{alone-drops}
+use Rattle.ss_recover.proofs.RunStanding.{names-more, names_created}
 use Rattle.ss_recover.proofs.RunStream.{AreWalked, AreWalked-none, AreWalked-run, meets, rest-order, stream_made}
 
 -- of the records of landmarks, those of the landmarks and the others
@@ -118,7 +120,7 @@ parts-found (f ∷ fs) usable none =
         ++ (found_by is_landmark (record { slot = slot; holds = r } ∷ fs) ++ found_by is_value (record { slot = slot; holds = r } ∷ fs)))
         (record { slot = slot; holds = r } ∷ fs)
     go slot records.Free usable none rest = absurd usable
-    go slot (records.Stream id name params) usable none rest = cc
+    go slot (records.Stream id name params dropped) usable none rest = cc
     go slot (records.Window id first summary) usable none rest =
         IsPermutation-cons (record { slot = slot; holds = records.Window id first summary }) (ws ++ (ls ++ vs)) fs (rest none)
     go slot (records.Landmark id n said start finish) usable none rest =
@@ -155,7 +157,7 @@ module _ (front : List Record) (streams : List Stream) (done : AreWalked front s
   rs = without_slots held.rest
 
   abbrev head : Record
-  head = records.Stream held.head.number held.head.name held.head.params
+  head = records.Stream held.head.number held.head.name held.head.params false
 
   split : without_slots all ≡ head ∷ rs
   split = ap without_slots held.split
@@ -203,6 +205,18 @@ module _ (front : List Record) (streams : List Stream) (done : AreWalked front s
     last_time = held.last_time ∙ ap (λ ls. later (newest_time ws) (latest_of ls)) held.landmarks;
   }
 
+  pub alone : filter_map created_by rs ≡ []
+  alone = (meets front streams done held.head rs lower-head own-rest usable-all rises-all run-all).alone
+
+  -- they say that no stream was dropped, and have one name
+  pub stays : is_dropped n (without_slots all) ≡ false
+  stays = ap (is_dropped n) split ∙ alone-drops n rs alone
+
+  pub names-all : (before : List Record) → names_created (before ++ without_slots all) ≡ names_created before ++ part.name ∷ []
+  names-all before =
+      ap (λ us. names_created (before ++ us)) split ∙ names-more before rs held.head.number held.head.name held.head.params false alone
+      ∙ ap (λ (name : List ℕ). names_created before ++ name ∷ []) (sym held.name)
+
   order-rest : rs ≡ marks_of held.head.number 1 (landmarks_made ms) ++ map (window_record held.head.number) ws
   order-rest = rest-order front streams done held.head rs lower-head own-rest usable-all rises-all run-all
 
@@ -242,8 +256,7 @@ module _ (front : List Record) (streams : List Stream) (done : AreWalked front s
       let fs = found_by is_window held.rest in
       let us = found_by is_landmark held.rest ++ found_by is_value held.rest in
       let moved : IsPermutation (h ∷ (fs ++ us)) all =
-      subst (IsPermutation (h ∷ (fs ++ us))) (sym held.split) (IsPermutation-cons h (fs ++ us) held.rest (parts-found held.rest usable-rest
-      (meets front streams done held.head rs lower-head own-rest usable-all rises-all run-all).alone)) in
+      subst (IsPermutation (h ∷ (fs ++ us))) (sym held.split) (IsPermutation-cons h (fs ++ us) held.rest (parts-found held.rest usable-rest alone)) in
       let parts : records_held (part, done_stream) ≡ map in_slot (h ∷ (fs ++ us)) =
       ap₂ ◌++◌ windows-held (ap₂ ◌++◌ landmarks-held values-held ∙ sym (map-append in_slot (found_by is_landmark held.rest) (found_by is_value held.rest)))
       ∙ sym (map-append in_slot (h ∷ fs) us) in

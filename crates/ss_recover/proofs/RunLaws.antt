@@ -73,7 +73,7 @@ module _ (n : ℕ) where
   pub no-marks : (rs : List Record) → AllByRecursion IsUsable rs → AllByRecursion IsBehind rs → marks rs ≡ []
   no-marks [] usable behind = refl
   no-marks (records.Free ∷ rs) usable behind = no-marks rs usable.1 behind.1
-  no-marks (records.Stream id name params ∷ rs) usable behind = no-marks rs usable.1 behind.1
+  no-marks (records.Stream id name params dropped ∷ rs) usable behind = no-marks rs usable.1 behind.1
   no-marks (records.Window id first summary ∷ rs) usable behind = no-marks rs usable.1 behind.1
   no-marks (records.Landmark id number values start finish ∷ rs) usable behind =
       absurd (let few = usable.0.1 in let late = behind.0 in omega (arith, few, late))
@@ -86,7 +86,7 @@ module _ (n : ℕ) where
       ≡ (tile_from next (windows rs) && rise_from newest (windows rs) && list_all (lies_free ls) (windows rs))
   fold-windows [] own usable behind ls next newest = refl
   fold-windows (records.Free ∷ rs) own usable behind ls next newest = absurd usable.0
-  fold-windows (records.Stream id name params ∷ rs) own usable behind ls next newest = absurd (let late = behind.0 in omega (arith, late))
+  fold-windows (records.Stream id name params dropped ∷ rs) own usable behind ls next newest = absurd (let late = behind.0 in omega (arith, late))
   fold-windows (records.Window id first summary ∷ rs) own usable behind ls next newest =
       let w : Window = record { first = first; summary = summary } in
       let after = tiling ls (next + summary.count) (Some summary.t_last) in
@@ -133,7 +133,7 @@ module _ (n : ℕ) where
       go true = refl
       go false = refl
   fold-run (records.Free ∷ rs) own usable rises none m = absurd usable.0
-  fold-run (records.Stream id name params ∷ rs) own usable rises none m = cc
+  fold-run (records.Stream id name params dropped ∷ rs) own usable rises none m = cc
   fold-run (records.Landmark id number values start finish ∷ rs) own usable rises none m =
       rw (eq-eqb id n own.0) (fold-mark rs (marked_with m (records.Landmark id number values start finish)) (fold-run rs own.1 usable.1 rises.1 none))
   fold-run (records.Value id number index t v ∷ rs) own usable rises none m =

@@ -16,7 +16,7 @@ use Rattle.ss_recover.proofs.Lists.{all_behind, all_both, all_front, all_weaker,
 -- places have 65 bits
 place-below : (r : Record) → IsUsable r → place_of r < 2 ^ 65
 place-below records.Free usable = absurd usable
-place-below (records.Stream id name params) usable = omega arith
+place-below (records.Stream id name params dropped) usable = omega arith
 place-below (records.Window id first summary) usable = omega (arith, usable.1)
 place-below (records.Landmark id number values start finish) usable = omega (arith, usable.1)
 place-below (records.Value id number index t v) usable = omega (arith, usable.1, usable.2)

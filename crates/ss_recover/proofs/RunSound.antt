@@ -1,12 +1,13 @@
 -- The records of a number are sound, among those of others, where they are a run.
 use Rattle.std.proofs.Common.{◌≡◌, ◌∙◌, ℕ, ◌+◌, ◌^◌, ◌<◌, ◌≤◌, Bool, true, false, not, ◌&&◌, cond, List, [], ◌∷◌, ◌++◌, map, length, refl, sym, ap}
 use Rattle.std.proofs.Common.{ap₂, inl, inr, arith, append-nil, Option, Some, None}
-use Rattle.std.specs.Prelude.{◌==◌, nat_le, nat_lt, fold}
+use Rattle.std.specs.Prelude.{◌==◌, ◌||◌, nat_le, nat_lt, fold}
 use Rattle.std.specs.List.{AllByRecursion, cons_option, filter_map, list_all, list_any}
-use Rattle.std.proofs.lemmas.Bool.{and_from, and_left, and_parts, and_right, cases_Bool, eq-eqb, eqb-true, ne_eqb}
+use Rattle.std.proofs.lemmas.Bool.{and_from, and_left, and_parts, and_right, cases_Bool, eq-eqb, eqb-true, ne_eqb, or_from}
 use Rattle.std.proofs.lemmas.Bool.{le-leb}
 use Rattle.std.proofs.lemmas.List.{length-map}
 use Rattle.std.proofs.lemmas.List.Elements.{filter-append, filter_map-append}
+use Rattle.std.proofs.lemmas.List.Folds.{list_any-append}
 use Rattle.std.proofs.lemmas.List.Sums.{sum_by-cons}
 use Rattle.ss_catalog.specs.Names.{same_name}
 use Rattle.ss_catalog.specs.declared.TheConstants.{MOST_STREAMS}
@@ -18,15 +19,16 @@ use Rattle.ss_model.specs.Windows.{taken}
 use Rattle.ss_model.specs.declared.types.Window.{Window}
 use Rattle.ss_summary.specs.declared.summary.TheConstants.{GREATEST_COUNT}
 use Rattle.ss_windowing.specs.declared.decay.TheConstants.{MOST_VALUES}
-use Rattle.ss_recover.specs.Carried.{created_by, is_mark_of, streams_created, window_of}
+use Rattle.ss_recover.specs.Carried.{created_by, is_drop_of, is_dropped, is_mark_of, streams_created, window_of}
 use Rattle.ss_recover.specs.Conditions.{has_new_name, has_one_record, has_place, tile, tile_from, times_rise}
+use Rattle.ss_recover.specs.Doomed.{is_own}
 use Rattle.ss_recover.specs.Held.{window_record}
 use Rattle.ss_recover.specs.Marked.{are_marks, landmarks_made, nothing_marked}
 use Rattle.ss_recover.specs.Order.{Rises, place_of, stream_of}
 use Rattle.ss_recover.specs.Runs.{Run, is_run, is_sound_in_order, marking, run_of, run_on}
 use Rattle.ss_recover.specs.Usable.{IsUsable}
 use Rattle.ss_recover.proofs.Lists.{all_weaker}
-use Rattle.ss_recover.proofs.SoundStreams.{MeetsAll-and, count-at, count-below, new-name}
+use Rattle.ss_recover.proofs.SoundStreams.{count-at, count-below, new-name}
 use Rattle.ss_recover.proofs.RunLaws.{ends, fold-none, fold-run, marks, no-marks, rise-times, windows}
 
 -- more than one stream record ends no run
@@ -34,7 +36,7 @@ twice : (rs : List Record) (run : Option Run) (c : Created) (cs : List Created) 
 twice [] run c cs is = cc
 twice (r ∷ rs) None c cs is = fold-none rs
 twice (records.Free ∷ rs) (Some run) c cs is = twice rs (run_on (Some run) records.Free) c cs is
-twice (records.Stream id name params ∷ rs) (Some run) c cs is = fold-none rs
+twice (records.Stream id name params dropped ∷ rs) (Some run) c cs is = fold-none rs
 twice (records.Window id first summary ∷ rs) (Some run) c cs is = twice rs (run_on (Some run) (records.Window id first summary)) c cs is
 twice (records.Landmark id number values start finish ∷ rs) (Some run) c cs is =
     twice rs (run_on (Some run) (records.Landmark id number values start finish)) c cs is
@@ -44,7 +46,7 @@ twice (records.Value id number index t v ∷ rs) (Some run) c cs is = twice rs (
 created-of : (P : ℕ → Type 0) (rs : List Record) → AllByRecursion (λ r. P (stream_of r)) rs → AllByRecursion (λ c. P c.number) (filter_map created_by rs)
 created-of P [] all = tt
 created-of P (records.Free ∷ rs) all = created-of P rs all.1
-created-of P (records.Stream id name params ∷ rs) all = (all.0, created-of P rs all.1)
+created-of P (records.Stream id name params dropped ∷ rs) all = (all.0, created-of P rs all.1)
 created-of P (records.Window id first summary ∷ rs) all = created-of P rs all.1
 created-of P (records.Landmark id number values start finish ∷ rs) all = created-of P rs all.1
 created-of P (records.Value id number index t v ∷ rs) all = created-of P rs all.1
@@ -53,7 +55,7 @@ created-of P (records.Value id number index t v ∷ rs) all = created-of P rs al
 none-created : (rs : List Record) → AllByRecursion (λ r. 1 ≤ place_of r) rs → filter_map created_by rs ≡ []
 none-created [] all = refl
 none-created (records.Free ∷ rs) all = none-created rs all.1
-none-created (records.Stream id name params ∷ rs) all = absurd (let first = all.0 in omega (arith, first))
+none-created (records.Stream id name params dropped ∷ rs) all = absurd (let first = all.0 in omega (arith, first))
 none-created (records.Window id first summary ∷ rs) all = none-created rs all.1
 none-created (records.Landmark id number values start finish ∷ rs) all = none-created rs all.1
 none-created (records.Value id number index t v ∷ rs) all = none-created rs all.1
@@ -61,7 +63,7 @@ none-created (records.Value id number index t v ∷ rs) all = none-created rs al
 windows-apart : (n : ℕ) (rs : List Record) → AllByRecursion (λ r. stream_of r ≡ n → ⊥) rs → windows n rs ≡ []
 windows-apart n [] apart = refl
 windows-apart n (records.Free ∷ rs) apart = windows-apart n rs apart.1
-windows-apart n (records.Stream id name params ∷ rs) apart = windows-apart n rs apart.1
+windows-apart n (records.Stream id name params dropped ∷ rs) apart = windows-apart n rs apart.1
 windows-apart n (records.Window id first summary ∷ rs) apart = rw (ne_eqb id n apart.0) (windows-apart n rs apart.1)
 windows-apart n (records.Landmark id number values start finish ∷ rs) apart = windows-apart n rs apart.1
 windows-apart n (records.Value id number index t v ∷ rs) apart = windows-apart n rs apart.1
@@ -69,7 +71,7 @@ windows-apart n (records.Value id number index t v ∷ rs) apart = windows-apart
 marks-apart : (n : ℕ) (rs : List Record) → AllByRecursion (λ r. stream_of r ≡ n → ⊥) rs → marks n rs ≡ []
 marks-apart n [] apart = refl
 marks-apart n (records.Free ∷ rs) apart = marks-apart n rs apart.1
-marks-apart n (records.Stream id name params ∷ rs) apart = marks-apart n rs apart.1
+marks-apart n (records.Stream id name params dropped ∷ rs) apart = marks-apart n rs apart.1
 marks-apart n (records.Window id first summary ∷ rs) apart = marks-apart n rs apart.1
 marks-apart n (records.Landmark id number values start finish ∷ rs) apart = rw (ne_eqb id n apart.0) (marks-apart n rs apart.1)
 marks-apart n (records.Value id number index t v ∷ rs) apart = rw (ne_eqb id n apart.0) (marks-apart n rs apart.1)
@@ -79,7 +81,7 @@ tile-windows : (n first : ℕ) (rs : List Record) → AllByRecursion IsUsable rs
     first + taken (windows n rs) ≤ GREATEST_COUNT + 1
 tile-windows n first [] usable low tiles = omega (arith, low)
 tile-windows n first (records.Free ∷ rs) usable low tiles = tile-windows n first rs usable.1 low tiles
-tile-windows n first (records.Stream id name params ∷ rs) usable low tiles = tile-windows n first rs usable.1 low tiles
+tile-windows n first (records.Stream id name params dropped ∷ rs) usable low tiles = tile-windows n first rs usable.1 low tiles
 tile-windows n first (records.Landmark id number values start finish ∷ rs) usable low tiles = tile-windows n first rs usable.1 low tiles
 tile-windows n first (records.Value id number index t v ∷ rs) usable low tiles = tile-windows n first rs usable.1 low tiles
 tile-windows n first (records.Window id place summary ∷ rs) usable low tiles =
@@ -105,20 +107,85 @@ tile-run n rs usable =
       | inr fails ↦ fails ∙ sym (and_left (tile_from 1 (windows n rs)) (nat_le (taken (windows n rs)) MOST_VALUES) fails)
     ]
 
--- the conditions on windows and landmarks
-abbrev Conditions : List Window → List Record → Bool → Bool
-Conditions ws ms b = b && tile ws && times_rise ws && are_marks ms && list_all (lies_free (landmarks_made ms)) ws
+-- what says that its stream was dropped is of its number
+pub drops-apart : (n : ℕ) (rs : List Record) → AllByRecursion (λ r. stream_of r ≡ n → ⊥) rs → is_dropped n rs ≡ false
+drops-apart n [] apart = refl
+drops-apart n (records.Free ∷ rs) apart = drops-apart n rs apart.1
+drops-apart n (records.Stream id name params dropped ∷ rs) apart =
+    or_from (dropped && (id == n)) (is_dropped n rs) (and_right dropped (id == n) (ne_eqb id n apart.0)) (drops-apart n rs apart.1)
+drops-apart n (records.Window id first summary ∷ rs) apart = drops-apart n rs apart.1
+drops-apart n (records.Landmark id number values start finish ∷ rs) apart = drops-apart n rs apart.1
+drops-apart n (records.Value id number index t v ∷ rs) apart = drops-apart n rs apart.1
 
-joined : (a b t u v w x : Bool) → a ≡ true → ((b && t) && ((u && v) && w && x)) ≡ (a && b && t && u && v && w && x)
-joined true true true true v w x is = refl
-joined true true true false v w x is = refl
-joined true true false u v w x is = refl
-joined true false t u v w x is = refl
-joined false b t u v w x is = cc
+-- where no stream is created, no record is a stream's own, and none says that one was dropped
+pub alone-own : (rs : List Record) → filter_map created_by rs ≡ [] → list_any is_own rs ≡ false
+alone-own [] none = refl
+alone-own (records.Free ∷ rs) none = alone-own rs none
+alone-own (records.Stream id name params dropped ∷ rs) none = cc
+alone-own (records.Window id first summary ∷ rs) none = alone-own rs none
+alone-own (records.Landmark id number values start finish ∷ rs) none = alone-own rs none
+alone-own (records.Value id number index t v ∷ rs) none = alone-own rs none
 
-never : (a b t u v w x : Bool) → a ≡ false → (a && b && t && u && v && w && x) ≡ false
-never false b t u v w x is = refl
-never true b t u v w x is = cc
+pub alone-drops : (n : ℕ) (rs : List Record) → filter_map created_by rs ≡ [] → is_dropped n rs ≡ false
+alone-drops n [] none = refl
+alone-drops n (records.Free ∷ rs) none = alone-drops n rs none
+alone-drops n (records.Stream id name params dropped ∷ rs) none = cc
+alone-drops n (records.Window id first summary ∷ rs) none = alone-drops n rs none
+alone-drops n (records.Landmark id number values start finish ∷ rs) none = alone-drops n rs none
+alone-drops n (records.Value id number index t v ∷ rs) none = alone-drops n rs none
+
+-- and the other way round
+pub own-alone : (rs : List Record) → list_any is_own rs ≡ false → filter_map created_by rs ≡ []
+own-alone [] none = refl
+own-alone (records.Free ∷ rs) none = own-alone rs none
+own-alone (records.Stream id name params dropped ∷ rs) none = cc
+own-alone (records.Window id first summary ∷ rs) none = own-alone rs none
+own-alone (records.Landmark id number values start finish ∷ rs) none = own-alone rs none
+own-alone (records.Value id number index t v ∷ rs) none = own-alone rs none
+
+own-created : (rs : List Record) (c : Created) (cs : List Created) → filter_map created_by rs ≡ c ∷ cs → list_any is_own rs ≡ true
+own-created rs c cs is =
+    elim (cases_Bool (list_any is_own rs)) [
+      | inl some ↦ some
+      | inr none ↦ (let empty = own-alone rs none in absurd (cc))
+    ]
+
+joined : (a b t w : Bool) → a ≡ true → ((b && t) && w) ≡ (a && b && t && w)
+joined true true t w is = refl
+joined true false t w is = refl
+joined false b t w is = cc
+
+never : (a b t w : Bool) → a ≡ false → (a && b && t && w) ≡ false
+never false b t w is = refl
+never true b t w is = cc
+
+first-part : (a b t w : Bool) → (a && b && t && w) ≡ true → a ≡ true
+first-part true b t w is = refl
+first-part false b t w is = cc
+
+value-parts : (a b t d v w x y : Bool) → d ≡ false → (a && b && t && (d || (v && w && x && y))) ≡ true →
+    (v ≡ true) × (w ≡ true) × (x ≡ true) × (y ≡ true)
+value-parts true true true false true true true y none is = (refl, refl, refl, is)
+value-parts true true true false true true false y none is = absurd (cc)
+value-parts true true true false true false x y none is = absurd (cc)
+value-parts true true true false false w x y none is = absurd (cc)
+value-parts true true true true v w x y none is = absurd (cc)
+value-parts true true false d v w x y none is = absurd (cc)
+value-parts true false t d v w x y none is = absurd (cc)
+value-parts false b t d v w x y none is = absurd (cc)
+
+-- what is asked of a run whose first record alone is a stream's own
+asked : (dropped same drops own values ended : Bool) → same ≡ true → drops ≡ false → own ≡ false → ended ≡ values →
+    (((dropped && same) || drops) || values) ≡ cond dropped (not own) ended
+asked true true drops false values ended a b c is = refl
+asked true true drops true values ended a b c is = cc
+asked true false drops own values ended a b c is = cc
+asked false same false own values ended a b c is = sym is
+asked false same true own values ended a b c is = cc
+
+refused : (dropped own ended : Bool) → own ≡ true → ended ≡ false → cond dropped (not own) ended ≡ false
+refused true own ended some fails = ap not some
+refused false own ended some fails = fails
 
 -- Records of lower numbers, those of a number, and those of greater ones.
 module _ (front run back : List Record) (n : ℕ) (lower : AllByRecursion (λ r. stream_of r < n) front) (own : AllByRecursion (λ r. stream_of r ≡ n) run)
@@ -163,20 +230,34 @@ module _ (front run back : List Record) (n : ℕ) (lower : AllByRecursion (λ r.
   later-above : AllByRecursion (λ c. n < c.number) later
   later-above = created-of (λ k. n < k) back above
 
+  dropped-own : is_dropped n all ≡ is_dropped n run
+  dropped-own =
+      list_any-append (is_drop_of n) front (run ++ back) ∙ ap (λ b. b || is_dropped n (run ++ back)) (drops-apart n front front-apart)
+      ∙ list_any-append (is_drop_of n) run back ∙ ap (λ b. is_dropped n run || b) (drops-apart n back back-apart) ∙ or-none (is_dropped n run)
+    where
+      or-none : (b : Bool) → (b || false) ≡ b
+      or-none true = refl
+      or-none false = refl
+
+  -- what its windows and landmarks meet
+  abbrev meets_values : Bool
+  meets_values =
+      tile (windows n run) && times_rise (windows n run) && are_marks (marks n run)
+      && list_all (lies_free (landmarks_made (marks n run))) (windows n run)
+
   -- they are sound where the streams, of which so many are of the number, and the other records are
   sound-parts : is_sound_in_order all n
-      ≡ ((length here == 1) && nat_lt (length cs) MOST_STREAMS && has_new_name n (cs ++ (here ++ later)) && tile (windows n run) && times_rise (windows n run)
-      && are_marks (marks n run) && list_all (lies_free (landmarks_made (marks n run))) (windows n run))
+      ≡ ((length here == 1) && nat_lt (length cs) MOST_STREAMS && has_new_name n (cs ++ (here ++ later)) && (is_dropped n run || meets_values))
   sound-parts =
       let one = count-at cs here later n cs-below here-own later-above in
       let place = count-below cs here later n cs-below here-own later-above in
-      (λ i. has_one_record n (created-parts i) && has_place n (created-parts i) && has_new_name n (created-parts i) && tile (windows-own i)
-      && times_rise (windows-own i) && are_marks (marks-own i) && list_all (lies_free (landmarks_made (marks-own i))) (windows-own i))
-      ∙ (λ i. (one i == 1) && nat_lt (place i) MOST_STREAMS && has_new_name n (cs ++ (here ++ later)) && tile (windows n run) && times_rise (windows n run)
-      && are_marks (marks n run) && list_all (lies_free (landmarks_made (marks n run))) (windows n run))
+      (λ i. has_one_record n (created-parts i) && has_place n (created-parts i) && has_new_name n (created-parts i)
+      && (dropped-own i || (tile (windows-own i) && times_rise (windows-own i) && are_marks (marks-own i)
+      && list_all (lies_free (landmarks_made (marks-own i))) (windows-own i))))
+      ∙ (λ i. (one i == 1) && nat_lt (place i) MOST_STREAMS && has_new_name n (cs ++ (here ++ later)) && (is_dropped n run || meets_values))
 
   sound-never : (length here ≡ 1 → ⊥) → is_sound_in_order all n ≡ false
-  sound-never other = sound-parts ∙ never _ _ _ _ _ _ _ (ne_eqb (length here) 1 other)
+  sound-never other = sound-parts ∙ never _ _ _ _ (ne_eqb (length here) 1 other)
 
 -- the records of a number are sound where they are a run
 pub is_run-sound : (front run back : List Record) (n : ℕ) → AllByRecursion (λ r. stream_of r < n) front → AllByRecursion (λ r. stream_of r ≡ n) run →
@@ -198,8 +279,8 @@ is_run-sound front (records.Value id number index t v ∷ rest) back n lower own
     let low = usable.0.0 in
     let none = none-created rest (all_weaker (λ q. place_of r ≤ place_of q) (λ q. 1 ≤ place_of q) (λ q le. omega (arith, le, low)) rest rises.0) in
     sound-never front (r ∷ rest) back n lower own above (λ one. absurd (omega (arith, one, ap (λ (l : List Created). length l) none)))
-is_run-sound front (records.Stream id name params ∷ rest) back n lower own above usable rises some =
-    let r = records.Stream id name params in
+is_run-sound front (records.Stream id name params dropped ∷ rest) back n lower own above usable rises some =
+    let r = records.Stream id name params dropped in
     let c : Created = record { number = id; name = name; params = params } in
     let names = map (λ (o : Created). o.name) (streams_created front) in
     let may = nat_lt (length names) MOST_STREAMS && not (list_any (same_name name) names) in
@@ -213,19 +294,22 @@ is_run-sound front (records.Stream id name params ∷ rest) back n lower own abo
           (later-above front (r ∷ rest) back n lower own above) c own.0 in
           let tiles = tile-run n rest usable.1 in
           let times = rise-times ws in
-          let whole : ends (run_of rest)
-          ≡ (tile ws && times_rise ws && are_marks (marks n rest) && list_all (lies_free (landmarks_made (marks n rest))) ws) =
+          let values = tile ws && times_rise ws && are_marks (marks n rest) && list_all (lies_free (landmarks_made (marks n rest))) ws in
+          let whole : ends (run_of rest) ≡ values =
           fold-run n rest own.1 usable.1 rises.1 none nothing_marked
           ∙ (λ i. tiles i && times i && are_marks (marks n rest) && list_all (lies_free (landmarks_made (marks n rest))) ws) in
+          let last = asked dropped (id == n) (is_dropped n rest) (list_any is_own rest) values (ends (run_of rest)) (eq-eqb id n own.0)
+          (alone-drops n rest none) (alone-own rest none) whole in
           sound-parts front (r ∷ rest) back n lower own above
           ∙ sym (joined (length (c ∷ streams_created rest) == 1) (nat_lt (length (streams_created front)) MOST_STREAMS)
-          (has_new_name n (streams_created front ++ ((c ∷ streams_created rest) ++ streams_created back))) (tile ws) (times_rise ws)
-          (are_marks (marks n rest)) (list_all (lies_free (landmarks_made (marks n rest))) ws)
+          (has_new_name n (streams_created front ++ ((c ∷ streams_created rest) ++ streams_created back))) (is_dropped n (r ∷ rest) || values)
           (ap (λ (l : List Created). length (c ∷ l) == 1) none))
-          ∙ (λ i. nat_lt (sym few i) MOST_STREAMS && new i && sym whole i)
+          ∙ (λ i. (nat_lt (sym few i) MOST_STREAMS && new i) && last i)
       | u ∷ us ↦ λ is.
           sound-never front (r ∷ rest) back n lower own above (λ one. absurd (omega (arith, one, ap (λ (l : List Created). length l) is)))
-          ∙ sym (ap (λ o. may && ends o) (twice rest (Some (marking nothing_marked)) u us is) ∙ and_right may false refl)
+          ∙ sym (and_right may (cond dropped (not (list_any is_own rest)) (ends (run_of rest)))
+          (refused dropped (list_any is_own rest) (ends (run_of rest)) (own-created rest u us is)
+          (ap ends (twice rest (Some (marking nothing_marked)) u us is))))
     ] refl
 
 -- what the records of a run meet
@@ -237,16 +321,21 @@ pub record MeetsRun (front rest : List Record) (head : Created) : Type 0 where
   pub free : list_all (lies_free (landmarks_made (marks head.number rest))) (windows head.number rest) ≡ true
 
 pub run-meets : (front rest : List Record) (head : Created) → AllByRecursion (λ r. stream_of r < head.number) front →
-    AllByRecursion (λ r. stream_of r ≡ head.number) rest → AllByRecursion IsUsable (records.Stream head.number head.name head.params ∷ rest) →
-    Rises place_of (records.Stream head.number head.name head.params ∷ rest) →
-    is_run (map (λ (c : Created). c.name) (streams_created front)) (records.Stream head.number head.name head.params ∷ rest) ≡ true →
+    AllByRecursion (λ r. stream_of r ≡ head.number) rest → AllByRecursion IsUsable (records.Stream head.number head.name head.params false ∷ rest) →
+    Rises place_of (records.Stream head.number head.name head.params false ∷ rest) →
+    is_run (map (λ (c : Created). c.name) (streams_created front)) (records.Stream head.number head.name head.params false ∷ rest) ≡ true →
     MeetsRun front rest head
 run-meets front rest head lower own usable rises run =
-    let r = records.Stream head.number head.name head.params in
-    let all = MeetsAll-and _ _ _ _ _ _ _ (sym (sound-parts front (r ∷ rest) [] head.number lower (refl, own) tt)
-    ∙ is_run-sound front (r ∷ rest) [] head.number lower (refl, own) tt usable rises (omega arith) ∙ run) in
-    let one = eqb-true (length (head ∷ streams_created rest)) 1 all.one in
-    record { alone = nothing (streams_created rest) (omega (arith, one)); tiles = all.tiles; rising = all.rising; landmarks = all.marks; free = all.free }
+    let r = records.Stream head.number head.name head.params false in
+    let n = head.number in
+    let all = sym (sound-parts front (r ∷ rest) [] n lower (refl, own) tt)
+    ∙ is_run-sound front (r ∷ rest) [] n lower (refl, own) tt usable rises (omega arith) ∙ run in
+    let one = eqb-true (length (head ∷ streams_created rest)) 1 (first-part _ _ _ _ all) in
+    let alone : filter_map created_by rest ≡ [] = nothing (streams_created rest) (omega (arith, one)) in
+    let stays : is_dropped n (r ∷ rest) ≡ false = alone-drops n rest alone in
+    let values = value-parts (length (streams_created (r ∷ rest)) == 1) (nat_lt (length (streams_created front)) MOST_STREAMS)
+    (has_new_name n (streams_created front ++ (streams_created (r ∷ rest) ++ streams_created []))) _ _ _ _ _ stays all in
+    record { alone = alone; tiles = values.0; rising = values.1; landmarks = values.2; free = values.3 }
   where
     nothing : (us : List Created) → length us ≡ 0 → us ≡ []
     nothing [] none = refl
@@ -257,7 +346,7 @@ pub run-order : (n : ℕ) (rs : List Record) → AllByRecursion (λ r. stream_of
     filter_map created_by rs ≡ [] → rs ≡ marks n rs ++ map (window_record n) (windows n rs)
 run-order n [] own usable rises none = refl
 run-order n (records.Free ∷ rs) own usable rises none = absurd usable.0
-run-order n (records.Stream id name params ∷ rs) own usable rises none = cc
+run-order n (records.Stream id name params dropped ∷ rs) own usable rises none = cc
 run-order n (records.Landmark id number values start finish ∷ rs) own usable rises none =
     rw (eq-eqb id n own.0) (ap (λ l. records.Landmark id number values start finish ∷ l) (run-order n rs own.1 usable.1 rises.1 none))
 run-order n (records.Value id number index t v ∷ rs) own usable rises none =

@@ -1,10 +1,10 @@
 -- Streams that records in order are of, one run after another.
 use Rattle.std.proofs.Common.{◌≡◌, ◌∙◌, ℕ, suc, zero, ◌<◌, ◌≤◌, true, false, List, [], ◌∷◌, ◌++◌, filter, map, length, refl, sym, ap, subst, arith}
 use Rattle.std.proofs.Common.{append_assoc, append-nil, inl, inr}
-use Rattle.std.specs.Prelude.{nat_lt, not}
+use Rattle.std.specs.Prelude.{◌==◌, nat_lt, not}
 use Rattle.std.specs.Option.{option_map_or}
 use Rattle.std.specs.List.{AllByRecursion, IsDistinct, filter_map, list_any}
-use Rattle.std.proofs.lemmas.Bool.{and_parts, cases_eq, ltb-true, not-true, or_parts}
+use Rattle.std.proofs.lemmas.Bool.{and_parts, cases_eq, eq-eqb, ltb-true, not-true, or_left, or_parts}
 use Rattle.std.proofs.lemmas.List.{length-append, length-map, map-append}
 use Rattle.std.proofs.lemmas.List.Concat.{flat_map-append}
 use Rattle.std.proofs.lemmas.List.Elements.{All-from_recursion}
@@ -12,6 +12,7 @@ use Rattle.std.proofs.lemmas.List.Sums.{sum_by-cons}
 use Rattle.std.proofs.lemmas.Map.Keys.{IsDistinct-cons, IsDistinct-from_apart, IsDistinct-head, IsDistinct-tail}
 use Rattle.ss_catalog.specs.Names.{same_name}
 use Rattle.ss_catalog.specs.declared.TheConstants.{MOST_STREAMS}
+use Rattle.ss_catalog.specs.declared.params.Params.{Params}
 use Rattle.ss_codec.specs.declared.record.Record.{Record}
 use Rattle.ss_codec.specs.declared.record.Record.TheVariants as records
 use Rattle.ss_model.proofs.NameLemmas.{same_name-swap}
@@ -20,19 +21,22 @@ use Rattle.ss_model.specs.State as Streams
 use Rattle.ss_model.specs.State.{Created, Stream, live, names_of}
 use Rattle.ss_model.specs.declared.types.TheConstants.{MOST_RECORDS}
 use Rattle.ss_model.specs.declared.types.Window.{Window}
-use Rattle.ss_recover.specs.Carried.{is_mark_of, streams_created, window_of}
+use Rattle.ss_recover.specs.Carried.{is_dropped, is_mark_of, streams_created, window_of}
+use Rattle.ss_recover.specs.Doomed.{is_own}
 use Rattle.ss_recover.specs.Held.{window_record}
 use Rattle.ss_recover.specs.Marked.{landmarks_made}
 use Rattle.ss_recover.specs.Order.{Rises, key_of, place_of, stream_of}
 use Rattle.ss_recover.specs.Runs.{is_ended, is_run, is_sound_in_order, may_stand, run_of}
 use Rattle.ss_recover.specs.Usable.{IsUsable}
-use Rattle.ss_recover.proofs.HeldRecords.{all_walked, created, created-all_walked, walked}
+use Rattle.ss_recover.proofs.HeldRecords.{all_walked, created, created-all_walked, each-all_walked, walked}
 use Rattle.ss_recover.proofs.InOrder.{Rise, increasing-Rise}
 use Rattle.ss_recover.proofs.Lists.{all-kept, all-passing, all_append, all_behind, all_front, all_push, all_weaker, map-map}
 use Rattle.ss_recover.proofs.Marks.{length-marks_of, marks_of}
 use Rattle.ss_recover.proofs.MarksSoFar.{AreOf, AreOf-are_marks}
 use Rattle.ss_recover.proofs.RunOrder.{places-rise, streams-rise, Rises-parts}
-use Rattle.ss_recover.proofs.RunSound.{MeetsRun, is_run-sound, run-meets, run-order}
+use Rattle.ss_recover.proofs.RunSound.{MeetsRun, alone-drops, is_run-sound, own-alone, run-meets, run-order}
+use Rattle.ss_recover.proofs.RunStanding.{AreFewer, AreFewer-more, AreFewer-nil, AreFewer-push, is_run-fewer, names-more, names_created}
+use Rattle.ss_recover.proofs.RunStanding.{stands_in, standing-more}
 use Rattle.ss_recover.proofs.SoundStreams.{AreWindows-tile}
 use Rattle.ss_recover.proofs.ValidRecords.{all-window_of}
 
@@ -96,11 +100,6 @@ pub nothing-before : (back : List Record) → AreBefore [] back
 nothing-before [] = tt
 nothing-before (r ∷ rs) = (tt, nothing-before rs)
 
--- the numbers of streams are those of their records
-numbers-walked : (P : ℕ → Type 0) (ss : List Stream) → AllByRecursion (λ r. P (stream_of r)) (all_walked ss) → AllByRecursion (λ s. P s.number) ss
-numbers-walked P [] all = tt
-numbers-walked P (s ∷ ss) all = (all.0, numbers-walked P ss (all_behind (λ r. P (stream_of r)) (walked s) (all_walked ss) all))
-
 -- what comes before a run and the run itself come before what comes after it
 pub AreBefore-run : (front run back : List Record) (n : ℕ) → AllByRecursion (λ r. stream_of r < n) front → AllByRecursion (λ r. stream_of r ≡ n) run →
     AllByRecursion (λ r. n < stream_of r) back → AreBefore (front ++ run) back
@@ -120,11 +119,11 @@ names-front front streams done =
 -- A run after the records of streams.
 module _ (front : List Record) (streams : List Stream) (done : AreWalked front streams) (head : Created) (rest : List Record)
     (lower : AllByRecursion (λ r. stream_of r < head.number) front) (own : AllByRecursion (λ r. stream_of r ≡ head.number) rest)
-    (usable : AllByRecursion IsUsable (records.Stream head.number head.name head.params ∷ rest))
-    (rises : Rises place_of (records.Stream head.number head.name head.params ∷ rest))
-    (run : is_run (names_of streams) (records.Stream head.number head.name head.params ∷ rest) ≡ true) where
+    (usable : AllByRecursion IsUsable (records.Stream head.number head.name head.params false ∷ rest))
+    (rises : Rises place_of (records.Stream head.number head.name head.params false ∷ rest))
+    (run : is_run (names_of streams) (records.Stream head.number head.name head.params false ∷ rest) ≡ true) where
   abbrev first : Record
-  first = records.Stream head.number head.name head.params
+  first = records.Stream head.number head.name head.params false
 
   pub meets : MeetsRun front rest head
   meets = run-meets front rest head lower own usable rises (ap (λ ns. is_run ns (first ∷ rest)) (names-front front streams done) ∙ run)
@@ -160,7 +159,7 @@ module _ (front : List Record) (streams : List Stream) (done : AreWalked front s
   AreWalked-run =
       let both = and_parts (may_stand (names_of streams) head.name) (option_map_or is_ended (run_of rest) false) run in
       let may = and_parts (nat_lt (length (names_of streams)) MOST_STREAMS) (not (list_any (same_name head.name) (names_of streams))) both.0 in
-      let below = numbers-walked (λ k. k < head.number) streams (subst (AllByRecursion (λ r. stream_of r < head.number)) done.order lower) in
+      let below = each-all_walked (λ k. k < head.number) streams (subst (AllByRecursion (λ r. stream_of r < head.number)) done.order lower) in
       let least = ltb-true (length (names_of streams)) MOST_STREAMS may.0 in
       record {
         order =
@@ -200,21 +199,72 @@ cut n (r ∷ rs) low rises =
           })
     ]
 
-step : (front : List Record) (streams : List Stream) → AreWalked front streams → (r : Record) (own : List Record) →
+-- Of some records, those of streams that stand are those of streams of a state, and these have no other names than all.
+pub record AreStanding (front : List Record) (streams : List Stream) : Type 0 where
+  pub walked : AreWalked (filter (stands_in front) front) streams
+  pub fewer : AreFewer (names_of streams) (names_created front)
+
+pub AreStanding-none : AreStanding [] []
+AreStanding-none = record { walked = AreWalked-none; fewer = AreFewer-nil [] }
+
+module _ (front : List Record) (streams : List Stream) (done : AreStanding front streams) (id : ℕ) (name : List ℕ) (params : Params) (own : List Record)
+    (lower : AllByRecursion (λ q. stream_of q < id) front) (same : AllByRecursion (λ q. stream_of q ≡ id) own) where
+  -- one more that stands
+  step-standing : (usable : AllByRecursion IsUsable (records.Stream id name params false ∷ own)) →
+      Rises place_of (records.Stream id name params false ∷ own) → is_run (names_created front) (records.Stream id name params false ∷ own) ≡ true →
+      (ss : List Stream) × AreStanding (front ++ records.Stream id name params false ∷ own) ss
+  step-standing usable rises run =
+      let r = records.Stream id name params false in
+      let head : Created = record { number = id; name = name; params = params } in
+      let kept = filter (stands_in front) front in
+      let below = all-kept (λ q. stream_of q < id) (stands_in front) front lower in
+      let fewer = is_run-fewer (names_of streams) (names_created front) done.fewer (r ∷ own) run in
+      let alone = (meets kept streams done.walked head own below same usable rises fewer).alone in
+      let s = stream_made kept streams done.walked head own below same usable rises fewer in
+      let more : filter (stands_in (front ++ r ∷ own)) (front ++ r ∷ own) ≡ kept ++ r ∷ own =
+      standing-more (λ q. q) front (r ∷ own) id lower (refl, same) front (r ∷ own) lower (refl, same) false (alone-drops id own alone) in (
+        streams ++ s ∷ [],
+        record {
+          walked = subst (λ l. AreWalked l (streams ++ s ∷ [])) (sym more)
+              (AreWalked-run kept streams done.walked head own below same usable rises fewer);
+          fewer = subst (AreFewer (names_of (streams ++ s ∷ []))) (sym (names-more front own id name params false alone))
+              (subst (λ l. AreFewer l (names_created front ++ name ∷ [])) (sym (map-append (λ (u : Stream). u.name) streams (s ∷ [])))
+              (AreFewer-push (names_of streams) (names_created front) done.fewer name));
+        },
+      )
+
+  -- one more that was dropped
+  step-dropped : is_run (names_created front) (records.Stream id name params true ∷ own) ≡ true →
+      AreStanding (front ++ records.Stream id name params true ∷ own) streams
+  step-dropped run =
+      let r = records.Stream id name params true in
+      let none = not-true (list_any is_own own) (and_parts (may_stand (names_created front) name) (not (list_any is_own own)) run).1 in
+      let alone = own-alone own none in
+      let more : filter (stands_in (front ++ r ∷ own)) (front ++ r ∷ own) ≡ filter (stands_in front) front ++ [] =
+      standing-more (λ q. q) front (r ∷ own) id lower (refl, same) front (r ∷ own) lower (refl, same) true
+      (or_left (id == id) (is_dropped id own) (eq-eqb id id refl)) in
+      record {
+        walked = subst (λ l. AreWalked l streams) (sym (more ∙ append-nil (filter (stands_in front) front))) done.walked;
+        fewer = subst (AreFewer (names_of streams)) (sym (names-more front own id name params true alone))
+            (AreFewer-more (names_of streams) (names_created front) done.fewer name);
+      }
+
+step : (front : List Record) (streams : List Stream) → AreStanding front streams → (r : Record) (own : List Record) →
     AllByRecursion (λ q. stream_of q < stream_of r) front → AllByRecursion (λ q. stream_of q ≡ stream_of r) own → AllByRecursion IsUsable (r ∷ own) →
-    Rises place_of (r ∷ own) → is_run (names_of streams) (r ∷ own) ≡ true → (s : Stream) × AreWalked (front ++ r ∷ own) (streams ++ s ∷ [])
+    Rises place_of (r ∷ own) → is_run (names_created front) (r ∷ own) ≡ true → (ss : List Stream) × AreStanding (front ++ r ∷ own) ss
 step front streams done records.Free own lower same usable rises run = absurd usable.0
-step front streams done (records.Window id first summary) own lower same usable rises run = absurd (cc)
+step front streams done (records.Window id place summary) own lower same usable rises run = absurd (cc)
 step front streams done (records.Landmark id n said start finish) own lower same usable rises run = absurd (cc)
 step front streams done (records.Value id n index t v) own lower same usable rises run = absurd (cc)
-step front streams done (records.Stream id name params) own lower same usable rises run =
-    let head : Created = record { number = id; name = name; params = params } in
-    (stream_made front streams done head own lower same usable rises run, AreWalked-run front streams done head own lower same usable rises run)
+step front streams done (records.Stream id name params false) own lower same usable rises run =
+    step-standing front streams done id name params own lower same usable rises run
+step front streams done (records.Stream id name params true) own lower same usable rises run =
+    (streams, step-dropped front streams done id name params own lower same run)
 
-pub walk : (most : ℕ) (front back : List Record) (streams : List Stream) → length back ≤ most → AreWalked front streams → AreBefore front back →
+pub walk : (most : ℕ) (front back : List Record) (streams : List Stream) → length back ≤ most → AreStanding front streams → AreBefore front back →
     AllByRecursion IsUsable back → Rises key_of back → AllByRecursion (λ r. is_sound_in_order (front ++ back) (stream_of r) ≡ true) back →
-    (ss : List Stream) × AreWalked (front ++ back) ss
-walk most front [] streams few done before usable order sound = (streams, subst (λ l. AreWalked l streams) (sym (append-nil front)) done)
+    (ss : List Stream) × AreStanding (front ++ back) ss
+walk most front [] streams few done before usable order sound = (streams, subst (λ l. AreStanding l streams) (sym (append-nil front)) done)
 walk zero front (r ∷ more) streams few done before usable order sound = absurd (omega (arith, few))
 walk (suc most) front (r ∷ more) streams few done before usable order sound =
     let n = stream_of r in
@@ -227,17 +277,17 @@ walk (suc most) front (r ∷ more) streams few done before usable order sound =
     let orders = Rises-parts key_of run c.back (subst (Rises key_of) whole order) in
     let own : AllByRecursion (λ q. stream_of q ≡ n) run = (refl, c.same) in
     let rises : Rises place_of run = subst (Rises place_of) (map-same run) (places-rise (λ (q : Record). q) n run orders.0 own) in
-    let is : is_run (names_of streams) run ≡ true =
-    sym (is_run-sound front run c.back n before.0 own c.above usable_run rises (omega arith) ∙ ap (λ ns. is_run ns run) (names-front front streams done))
+    let is : is_run (names_created front) run ≡ true =
+    sym (is_run-sound front run c.back n before.0 own c.above usable_run rises (omega arith))
     ∙ ap (λ l. is_sound_in_order (front ++ l) n) (sym whole) ∙ sound.0 in
     let next = step front streams done r c.own before.0 c.same usable_run rises is in
     let long = ap (λ (l : List Record). length l) c.split in
     let sounds = all_behind (λ q. is_sound_in_order (front ++ r ∷ more) (stream_of q) ≡ true) run c.back
     (subst (AllByRecursion (λ q. is_sound_in_order (front ++ r ∷ more) (stream_of q) ≡ true)) whole sound) in
-    let rest = walk most (front ++ run) c.back (streams ++ next.0 ∷ []) (omega (arith, few, long, length-append c.own c.back)) next.1
+    let rest = walk most (front ++ run) c.back next.0 (omega (arith, few, long, length-append c.own c.back)) next.1
     (AreBefore-run front run c.back n before.0 own c.above) (all_behind IsUsable run c.back (subst (AllByRecursion IsUsable) whole usable)) orders.1
     (subst (λ l. AllByRecursion (λ q. is_sound_in_order l (stream_of q) ≡ true) c.back) same sounds) in
-    (rest.0, subst (λ l. AreWalked l rest.0) (sym same) rest.1)
+    (rest.0, subst (λ l. AreStanding l rest.0) (sym same) rest.1)
   where
     map-same : (rs : List Record) → map (λ (q : Record). q) rs ≡ rs
     map-same [] = refl

@@ -69,7 +69,7 @@ module _ (first old : Open) (own : List Found) (so_far : IsSoFar first old own) 
 
   -- a record that may not come ends no run
   pub not-run : (names : List (List ℕ)) (id : ℕ) (name : List ℕ) (params : Params) (more : List Found) → run_with so_far.run x.holds ≡ None →
-      is_run names (records.Stream id name params ∷ without_slots (own ++ x ∷ more)) ≡ false
+      is_run names (records.Stream id name params false ∷ without_slots (own ++ x ∷ more)) ≡ false
   not-run names id name params more none =
       and_right (may_stand names name) _
       (ap (λ o. option_map_or is_ended o false)

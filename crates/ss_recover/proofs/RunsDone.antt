@@ -1,67 +1,84 @@
 -- Runs that are done, one after another, and what the next one makes of them.
-use Rattle.std.proofs.Common.{◌≡◌, ◌∙◌, ℕ, ◌+◌, ◌<◌, ◌≤◌, true, false, List, [], ◌∷◌, ◌++◌, map, length, refl, sym, ap, ap₂, subst, arith}
-use Rattle.std.proofs.Common.{All, take, drop, Ok, Err}
-use Rattle.std.proofs.Common.{append_assoc}
-use Rattle.std.specs.Prelude.{◌==◌}
+use Rattle.std.proofs.Common.{◌≡◌, ◌∙◌, ◌⊎◌, ℕ, ◌+◌, ◌<◌, ◌≤◌, Bool, true, false, not, ◌&&◌, cond, List, [], ◌∷◌, ◌++◌, map, filter, flat_map, length, refl}
+use Rattle.std.proofs.Common.{All, take, drop, Result, Ok, Err, IfOk, IfErr, sym, ap, ap₂, subst, arith, inl, inr, append_assoc, append-nil, IsPermutation}
+use Rattle.std.specs.Prelude.{◌==◌, if◌then◌else◌, zip}
 use Rattle.std.specs.List.{AllByRecursion, list_any}
-use Rattle.std.proofs.lemmas.Bool.{eq-eqb, or_left, or_right}
+use Rattle.std.proofs.lemmas.Bool.{and_parts, eq-eqb, not-true, or_left, or_right}
 use Rattle.std.proofs.Math.Seq.{drop-append_seam, take-add, take-append_seam}
 use Rattle.std.proofs.lemmas.List.{drop-drop, length-map, map-append, take-append-drop}
 use Rattle.std.proofs.lemmas.List.Elements.{recursion_from_All}
 use Rattle.std.proofs.lemmas.List.Folds.{list_any-append}
-use Rattle.ss_catalog.specs.declared.stream_id.StreamId.{StreamId}
+use Rattle.std.proofs.lemmas.List.Sorted.{IsPermutation-append_right, IsPermutation-map, IsPermutation-trans}
+use Rattle.std.proofs.lemmas.List.Sums.{count_by-le-length, length-filter}
 use Rattle.ss_codec.specs.declared.record.Record.{Record}
-use Rattle.ss_model.specs.State.{Created, Stream, names_of}
+use Rattle.ss_codec.specs.declared.record.Record.TheVariants as records
+use Rattle.ss_model.specs.State.{Stream, names_of}
 use Rattle.ss_model.specs.declared.types.TheConstants.{MOST_RECORDS}
-use Rattle.ss_recover.specs.Carried.{streams_created}
+use Rattle.ss_recover.specs.Carried.{is_dropped}
+use Rattle.ss_recover.specs.Doomed.{is_doomed, is_own}
+use Rattle.ss_recover.specs.Held.{AllAgree, records_held}
 use Rattle.ss_recover.specs.Order.{Rises, found_key, place_of, stream_of}
-use Rattle.ss_recover.specs.Runs.{AreBuilt, IsLowestUnsound, WalksAs, is_run, is_sound_in_order}
-use Rattle.ss_recover.specs.Shown.{IsHeldOf, IsNextRun, RunsAs, names_in}
-use Rattle.ss_recover.specs.Usable.{IsUsable, without_slots}
+use Rattle.ss_recover.specs.Runs.{AreBuilt, IsLowestUnsound, WalksAs, doomed_found, is_run, is_sound_in_order, may_stand}
+use Rattle.ss_recover.specs.Shown.{EndsWalk, HasNothing, HasTakenDropped, HasTakenStanding, IsNextRun, TakesAs, names_in}
+use Rattle.ss_recover.specs.Usable.{IsUsable, in_slot, slots_found, without_slots}
 use Rattle.ss_recover.specs.declared.found.Found.{Found}
+use Rattle.ss_recover.specs.declared.parts.Parts.{Parts}
 use Rattle.ss_recover.specs.declared.parts.StreamParts.{StreamParts}
 use Rattle.ss_recover.specs.declared.recover_error.RecoverError.{RecoverError}
 use Rattle.ss_recover.specs.declared.recover_error.RecoverError.TheVariants.{BadSlot, BadStream, Disk, OutOfMemory}
-use Rattle.ss_recover.proofs.Lists.{all_append, all_behind, all_weaker, map-all}
-use Rattle.ss_recover.proofs.RunHeld.{AreHeldSoFar, AreHeldSoFar-none, done-push, done_stream}
-use Rattle.ss_recover.proofs.RunSound.{is_run-sound}
-use Rattle.ss_recover.proofs.RunStream.{AreBefore, AreBefore-run, IsState-walked, names-front}
+use Rattle.ss_recover.specs.declared.walking.Walk.{Walk}
+use Rattle.ss_recover.proofs.Lists.{all-from_map, all-kept, all_append, all_behind, all_weaker, map-all}
+use Rattle.ss_recover.proofs.RunHeld.{AreHeldSoFar, AreHeldSoFar-none, done-push, done_stream, names-all, stays}
 use Rattle.ss_recover.proofs.RunOrder.{Rises-parts, places-rise}
+use Rattle.ss_recover.proofs.RunSound.{is_run-sound, own-alone}
+use Rattle.ss_recover.proofs.RunStanding.{AreFewer, AreFewer-more, AreFewer-nil, AreFewer-push, doomed-is, doomed-more, doomed-stay, in-three}
+use Rattle.ss_recover.proofs.RunStanding.{is_run-fewer, names-more, names_created, none-own, standing-more, stands_in}
+use Rattle.ss_recover.proofs.RunStream.{AreBefore, AreBefore-run, IsState-walked}
 
--- Parts are held of streams with these names that the records so far are of, and they are sound whatever comes after them.
-pub record AreDone (names : List (List ℕ × StreamId)) (parts : List StreamParts) (front : List Found) : Type 0 where
+-- those of some records that are of streams that stand
+abbrev pub standing_found : List Found → List Found
+standing_found all = filter (λ (f : Found). stands_in (without_slots all) f.holds) all
+
+-- What a walk has so far is of the records so far: parts are held of streams that stand, the names are those of all streams, the
+-- slots are those of the records of dropped ones, and all are sound whatever comes after them.
+pub record AreDone (walk : Walk) (front : List Found) : Type 0 where
   pub streams : List Stream
-  pub held : AreHeldSoFar parts streams front
-  pub names_are : names_in names ≡ names_of streams
+  pub held : AreHeldSoFar walk.done.items streams (standing_found front)
+  pub names_are : names_in walk.names ≡ names_created (without_slots front)
+  pub fewer : AreFewer (names_of streams) (names_in walk.names)
+  pub others : walk.others.items ≡ slots_found (doomed_found false front)
+  pub heads : walk.heads.items ≡ slots_found (doomed_found true front)
   pub sound : (back : List Record) → AreBefore (without_slots front) back →
       AllByRecursion (λ r. is_sound_in_order (without_slots front ++ back) (stream_of r) ≡ true) (without_slots front)
 
-pub AreDone-none : (names : List (List ℕ × StreamId)) → names ≡ [] → AreDone names [] []
-AreDone-none names none = record { streams = []; held = AreHeldSoFar-none; names_are = ap names_in none; sound = λ back before. tt }
+pub AreDone-none : (walk : Walk) → HasNothing walk → AreDone walk []
+AreDone-none walk none = record {
+  streams = [];
+  held = subst (λ ps. AreHeldSoFar ps [] []) (sym none.done) AreHeldSoFar-none;
+  names_are = ap names_in none.names;
+  fewer = AreFewer-nil (names_in walk.names);
+  others = none.others;
+  heads = none.heads;
+  sound = λ back before. tt;
+}
 
 -- a run after those that are done
-module _ (names : List (List ℕ × StreamId)) (parts : List StreamParts) (front : List Found) (done : AreDone names parts front)
-    (first : Found) (run : List Found)
-    (lower : AllByRecursion (λ r. stream_of r < stream_of first.holds) (without_slots front))
-    (own : AllByRecursion (λ r. stream_of r ≡ stream_of first.holds) (without_slots (first ∷ run)))
-    (usable : AllByRecursion (λ (f : Found). IsUsable f.holds) (first ∷ run)) (rises : Rises place_of (without_slots (first ∷ run))) where
-  abbrev n : ℕ
-  n = stream_of first.holds
-
+module _ (old : Walk) (front : List Found) (done : AreDone old front) (n : ℕ) (here : List Found)
+    (lower : AllByRecursion (λ r. stream_of r < n) (without_slots front))
+    (own : AllByRecursion (λ r. stream_of r ≡ n) (without_slots here))
+    (usable : AllByRecursion (λ (f : Found). IsUsable f.holds) here) (rises : Rises place_of (without_slots here)) (some : 1 ≤ length here) where
   abbrev fs : List Record
   fs = without_slots front
 
   abbrev rs : List Record
-  rs = without_slots (first ∷ run)
-
-  of_front : map (λ (c : Created). c.name) (streams_created fs) ≡ names_in names
-  of_front = names-front fs done.streams done.held.walked ∙ sym done.names_are
+  rs = without_slots here
 
   is-sound : (rest : List Record) → AllByRecursion (λ r. n < stream_of r) rest →
-      is_sound_in_order (fs ++ (rs ++ rest)) n ≡ is_run (names_in names) rs
+      is_sound_in_order (fs ++ (rs ++ rest)) n ≡ is_run (names_in old.names) rs
   is-sound rest above =
-      is_run-sound fs rs rest n lower own above (map-all IsUsable (λ (f : Found). f.holds) (first ∷ run) usable) rises (omega arith)
-      ∙ ap (λ ns. is_run ns rs) of_front
+      is_run-sound fs rs rest n lower own above (map-all IsUsable (λ (f : Found). f.holds) here usable) rises
+      (omega (arith, some, length-map here (λ (f : Found). f.holds)))
+      ∙ ap (λ ns. is_run ns rs) (sym done.names_are)
 
   -- the records before it come before it and all after it
   before-all : (rest : List Record) → AllByRecursion (λ r. n < stream_of r) rest → AreBefore fs (rs ++ rest)
@@ -72,39 +89,134 @@ module _ (names : List (List ℕ × StreamId)) (parts : List StreamParts) (front
       (all_weaker (λ q. n < stream_of q) (λ q. AllByRecursion (λ r. stream_of r < stream_of q) fs)
       (λ q more. all_weaker (λ r. stream_of r < n) (λ r. stream_of r < stream_of q) (λ r lt. omega (arith, lt, more)) fs lower) rest above)
 
-  pub AreDone-more : (new : List (List ℕ × StreamId)) (part : StreamParts) → is_run (names_in names) rs ≡ true →
-      names_in new ≡ names_in names ++ part.name ∷ [] →
-      IsHeldOf part (first ∷ run) → AreDone new (parts ++ part ∷ []) (front ++ first ∷ run)
-  AreDone-more new part sound more held =
-      let run_is : is_run (names_of done.streams) rs ≡ true = ap (λ ns. is_run ns rs) (sym done.names_are) ∙ sound in
-      let s = done_stream fs done.streams done.held.walked (first ∷ run) n part held lower own usable rises run_is in
-      let whole : without_slots (front ++ first ∷ run) ≡ fs ++ rs = map-append (λ (f : Found). f.holds) front (first ∷ run) in
+  sound-more : is_run (names_in old.names) rs ≡ true → (rest : List Record) → AreBefore (without_slots (front ++ here)) rest →
+      AllByRecursion (λ r. is_sound_in_order (without_slots (front ++ here) ++ rest) (stream_of r) ≡ true) (without_slots (front ++ here))
+  sound-more sound rest before =
+      let whole : without_slots (front ++ here) ≡ fs ++ rs = map-append (λ (f : Found). f.holds) front here in
+      let both : AreBefore (fs ++ rs) rest = subst (λ us. AreBefore us rest) whole before in
+      let above = all_weaker (λ q. AllByRecursion (λ r. stream_of r < stream_of q) (fs ++ rs)) (λ q. n < stream_of q)
+      (λ q all. below-first rs own (omega (arith, some, length-map here (λ (f : Found). f.holds))) q
+      (all_behind (λ r. stream_of r < stream_of q) fs rs all)) rest both in
+      let same : (fs ++ rs) ++ rest ≡ fs ++ (rs ++ rest) = append_assoc fs rs rest in
+      subst (λ us. AllByRecursion (λ r. is_sound_in_order (us ++ rest) (stream_of r) ≡ true) us) (sym whole)
+      (subst (λ us. AllByRecursion (λ r. is_sound_in_order us (stream_of r) ≡ true) (fs ++ rs)) (sym same)
+      (all_append (λ r. is_sound_in_order (fs ++ (rs ++ rest)) (stream_of r) ≡ true) fs rs (done.sound (rs ++ rest) (before-all rest above))
+      (all_weaker (λ r. stream_of r ≡ n) (λ r. is_sound_in_order (fs ++ (rs ++ rest)) (stream_of r) ≡ true)
+      (λ r is. ap (is_sound_in_order (fs ++ (rs ++ rest))) is ∙ is-sound rest above ∙ sound) rs own)))
+    where
+      below-first : (us : List Record) → AllByRecursion (λ r. stream_of r ≡ n) us → 1 ≤ length us → (q : Record) →
+          AllByRecursion (λ r. stream_of r < stream_of q) us → n < stream_of q
+      below-first [] is many q all = absurd (omega (arith, many))
+      below-first (u ∷ us) is many q all = let less = all.0 in let at = is.0 in omega (arith, less, at)
+
+  whole : without_slots (front ++ here) ≡ fs ++ rs
+  whole = map-append (λ (f : Found). f.holds) front here
+
+  lower-found : AllByRecursion (λ (f : Found). stream_of f.holds < n) front
+  lower-found = all-from_map (λ r. stream_of r < n) (λ (f : Found). f.holds) front lower
+
+  own-found : AllByRecursion (λ (f : Found). stream_of f.holds ≡ n) here
+  own-found = all-from_map (λ r. stream_of r ≡ n) (λ (f : Found). f.holds) here own
+
+  stand-more : (d : Bool) → is_dropped n rs ≡ d → standing_found (front ++ here) ≡ standing_found front ++ cond d [] here
+  stand-more d is =
+      ap (λ us. filter (λ (f : Found). stands_in us f.holds) (front ++ here)) whole
+      ∙ standing-more (λ (f : Found). f.holds) fs rs n lower own front here lower-found own-found d is
+
+  -- where the stream stands
+  abbrev kept : List Found
+  kept = standing_found front
+
+  below : AllByRecursion (λ r. stream_of r < n) (without_slots kept)
+  below =
+      map-all (λ r. stream_of r < n) (λ (f : Found). f.holds) kept
+      (all-kept (λ (f : Found). stream_of f.holds < n) (λ (f : Found). stands_in fs f.holds) front lower-found)
+
+  done-standing : (new : Walk) → HasTakenStanding old new here → AreDone new (front ++ here)
+  done-standing new took =
+      let fewer = is_run-fewer (names_of done.streams) (names_in old.names) done.fewer rs took.runs in
+      let before = without_slots kept in
+      let s = done_stream before done.streams done.held.walked here n took.part took.held below own usable rises fewer in
+      let still = stays before done.streams done.held.walked here n took.part took.held below own usable rises fewer in
+      let held = done-push before done.streams done.held.walked here n took.part took.held below own usable rises fewer old.done.items kept refl
+      done.held.each done.held.records in
+      let same : (kind : Bool) → slots_found (doomed_found kind (front ++ here)) ≡ slots_found (doomed_found kind front) =
+      λ kind. ap slots_found (ap (λ us. filter (λ (f : Found). is_doomed kind us f.holds) (front ++ here)) whole
+      ∙ doomed-stay (λ (f : Found). f.holds) fs rs n lower own kind front here lower-found own-found usable still
+      ∙ append-nil (doomed_found kind front)) in
       record {
         streams = done.streams ++ s ∷ [];
-        held = done-push fs done.streams done.held.walked (first ∷ run) n part held lower own usable rises run_is parts front refl done.held.each
-            done.held.records;
+        held =
+            subst (λ ps. AreHeldSoFar ps (done.streams ++ s ∷ []) (standing_found (front ++ here))) (sym took.done)
+            (subst (AreHeldSoFar (old.done.items ++ took.part ∷ []) (done.streams ++ s ∷ [])) (sym (stand-more false still)) held);
         names_are =
-            more ∙ ap₂ (λ (a : List (List ℕ)) (b : List ℕ). a ++ b ∷ []) done.names_are held.name
-            ∙ sym (map-append (λ (u : Stream). u.name) done.streams (s ∷ []));
-        sound = λ rest before.
-            let both : AreBefore (fs ++ rs) rest = subst (λ us. AreBefore us rest) whole before in
-            let above = all_weaker (λ q. AllByRecursion (λ r. stream_of r < stream_of q) (fs ++ rs)) (λ q. n < stream_of q)
-            (λ q all. (all_behind (λ r. stream_of r < stream_of q) fs rs all).0) rest both in
-            let same : (fs ++ rs) ++ rest ≡ fs ++ (rs ++ rest) = append_assoc fs rs rest in
-            subst (λ us. AllByRecursion (λ r. is_sound_in_order (us ++ rest) (stream_of r) ≡ true) us) (sym whole)
-            (subst (λ us. AllByRecursion (λ r. is_sound_in_order us (stream_of r) ≡ true) (fs ++ rs)) (sym same)
-            (all_append (λ r. is_sound_in_order (fs ++ (rs ++ rest)) (stream_of r) ≡ true) fs rs (done.sound (rs ++ rest) (before-all rest above))
-            (all_weaker (λ r. stream_of r ≡ n) (λ r. is_sound_in_order (fs ++ (rs ++ rest)) (stream_of r) ≡ true)
-            (λ r is. ap (is_sound_in_order (fs ++ (rs ++ rest))) is ∙ is-sound rest above ∙ sound) rs own)));
+            took.names ∙ ap (λ (ns : List (List ℕ)). ns ++ took.part.name ∷ []) done.names_are
+            ∙ sym (names-all before done.streams done.held.walked here n took.part took.held below own usable rises fewer fs)
+            ∙ ap names_created (sym whole);
+        fewer =
+            subst (AreFewer (names_of (done.streams ++ s ∷ []))) (sym took.names)
+            (subst (λ l. AreFewer l (names_in old.names ++ took.part.name ∷ []))
+            (ap (λ (name : List ℕ). names_of done.streams ++ name ∷ []) took.held.name
+            ∙ sym (map-append (λ (u : Stream). u.name) done.streams (s ∷ [])))
+            (AreFewer-push (names_of done.streams) (names_in old.names) done.fewer took.part.name));
+        others = took.others ∙ done.others ∙ sym (same false);
+        heads = took.heads ∙ done.heads ∙ sym (same true);
+        sound = sound-more took.runs;
       }
 
+  -- where it was dropped
+  done-dropped : (new : Walk) → HasTakenDropped old new here → AreDone new (front ++ here)
+  done-dropped new took =
+      let x : Found = record { slot = took.slot; holds = records.Stream took.head.number took.head.name took.head.params true } in
+      let asked = subst (λ l. is_run (names_in old.names) (without_slots l) ≡ true) took.split took.runs in
+      let none : list_any is_own (without_slots took.rest) ≡ false =
+      not-true (list_any is_own (without_slots took.rest))
+      (and_parts (may_stand (names_in old.names) took.head.name) (not (list_any is_own (without_slots took.rest))) asked).1 in
+      let alone = own-alone (without_slots took.rest) none in
+      let at = (subst (AllByRecursion (λ (f : Found). stream_of f.holds ≡ n)) took.split own-found).0 in
+      let dropped : is_dropped n rs ≡ true =
+      ap (λ l. is_dropped n (without_slots l)) took.split
+      ∙ or_left (took.head.number == n) (is_dropped n (without_slots took.rest)) (eq-eqb took.head.number n at) in
+      let more : (kind : Bool) → doomed_found kind (front ++ here) ≡ doomed_found kind front ++ cond kind (x ∷ []) took.rest =
+      λ kind. ap (λ us. filter (λ (f : Found). is_doomed kind us f.holds) (front ++ here)) whole
+      ∙ ap (λ l. filter (λ (f : Found). is_doomed kind (fs ++ rs) f.holds) (front ++ l)) took.split
+      ∙ doomed-more (λ (f : Found). f.holds) fs rs n lower own kind front x took.rest lower-found
+      (subst (AllByRecursion (λ (f : Found). stream_of f.holds ≡ n)) took.split own-found)
+      (subst (AllByRecursion (λ (f : Found). IsUsable f.holds)) took.split usable) dropped refl
+      (none-own (λ (f : Found). f.holds) took.rest none) in
+      record {
+        streams = done.streams;
+        held =
+            subst (λ ps. AreHeldSoFar ps done.streams (standing_found (front ++ here))) (sym took.done)
+            (subst (AreHeldSoFar old.done.items done.streams) (sym (stand-more true dropped ∙ append-nil kept)) done.held);
+        names_are =
+            took.names ∙ ap (λ (ns : List (List ℕ)). ns ++ took.head.name ∷ []) done.names_are
+            ∙ sym (names-more fs (without_slots took.rest) took.head.number took.head.name took.head.params true alone)
+            ∙ ap (λ l. names_created (fs ++ without_slots l)) (sym took.split) ∙ ap names_created (sym whole);
+        fewer =
+            subst (AreFewer (names_of done.streams)) (sym took.names)
+            (AreFewer-more (names_of done.streams) (names_in old.names) done.fewer took.head.name);
+        others =
+            took.others ∙ ap (λ (l : List ℕ). l ++ slots_found took.rest) done.others
+            ∙ sym (ap slots_found (more false) ∙ map-append (λ (f : Found). f.slot) (doomed_found false front) took.rest);
+        heads =
+            took.heads ∙ ap (λ (l : List ℕ). l ++ took.slot ∷ []) done.heads
+            ∙ sym (ap slots_found (more true) ∙ map-append (λ (f : Found). f.slot) (doomed_found true front) (x ∷ []));
+        sound = sound-more took.runs;
+      }
+
+  pub AreDone-more : (new : Walk) → HasTakenStanding old new here ⊎ HasTakenDropped old new here → AreDone new (front ++ here)
+  AreDone-more new (inl took) = done-standing new took
+  AreDone-more new (inr took) = done-dropped new took
+
   -- the number of a run that isn't sound is the lowest
-  pub lowest : (back : List Record) → AllByRecursion (λ r. n < stream_of r) back → is_run (names_in names) rs ≡ false →
+  pub lowest : (back : List Record) → AllByRecursion (λ r. n < stream_of r) back → is_run (names_in old.names) rs ≡ false →
       IsLowestUnsound n (fs ++ (rs ++ back))
   lowest back above fails = record {
     has =
         list_any-append (λ r. stream_of r == n) fs (rs ++ back)
-        ∙ or_right (list_any (λ r. stream_of r == n) fs) _ (or_left (n == n) _ (eq-eqb n n refl));
+        ∙ or_right (list_any (λ r. stream_of r == n) fs) (list_any (λ r. stream_of r == n) (rs ++ back))
+        (has-first rs own (omega (arith, some, length-map here (λ (f : Found). f.holds))));
     unsound = is-sound back above ∙ fails;
     lower =
         all_append (λ r. stream_of r < n → is_sound_in_order (fs ++ (rs ++ back)) (stream_of r) ≡ true) fs (rs ++ back)
@@ -117,90 +229,127 @@ module _ (names : List (List ℕ × StreamId)) (parts : List StreamParts) (front
         (all_weaker (λ r. n < stream_of r) (λ r. stream_of r < n → is_sound_in_order (fs ++ (rs ++ back)) (stream_of r) ≡ true)
         (λ r more lt. absurd (omega (arith, more, lt))) back above));
   }
+    where
+      has-first : (us : List Record) → AllByRecursion (λ r. stream_of r ≡ n) us → 1 ≤ length us → list_any (λ r. stream_of r == n) (us ++ back) ≡ true
+      has-first [] is many = absurd (omega (arith, many))
+      has-first (u ∷ us) is many = or_left (stream_of u == n) (list_any (λ r. stream_of r == n) (us ++ back)) (eq-eqb (stream_of u) n is.0)
 
 -- ---- a walk as far as a place
 
 -- What is done so far, before records of greater numbers.
-pub record IsDoneTo (all : List Found) (at : ℕ) (names : List (List ℕ × StreamId)) (parts : List StreamParts) : Type 0 where
+pub record IsDoneTo (all : List Found) (at : ℕ) (walk : Walk) : Type 0 where
   pub within : at ≤ length all
-  pub done : AreDone names parts (take at all)
+  pub done : AreDone walk (take at all)
   pub below : AreBefore (without_slots (take at all)) (without_slots (drop at all))
 
-module _ (all : List Found) (at n : ℕ) (run : List Found) (names : List (List ℕ × StreamId)) (parts : List StreamParts) (to : IsDoneTo all at names parts)
-    (next : IsNextRun all at n run) (order : Rises found_key all) where
-  abbrev x : Found
-  x = next.first
+module _ (all : List Found) (at n : ℕ) (run : List Found) (walk : Walk) (to : IsDoneTo all at walk) (next : IsNextRun all at n run)
+    (order : Rises found_key all) where
+  parted : all ≡ take at all ++ (run ++ next.back)
+  parted = sym (take-append-drop at all) ∙ ap (λ l. take at all ++ l) next.split
 
-  abbrev here : List Found
-  here = x ∷ next.rest
+  run-usable : AllByRecursion (λ (f : Found). IsUsable f.holds) run
+  run-usable = recursion_from_All (λ (f : Found). IsUsable f.holds) run next.usable
 
-  of-first : stream_of x.holds ≡ n
-  of-first = (recursion_from_All (λ (f : Found). stream_of f.holds ≡ n) here (subst (All (λ (f : Found). stream_of f.holds ≡ n)) next.is next.own)).0
+  own-run : AllByRecursion (λ (f : Found). stream_of f.holds ≡ n) run
+  own-run = recursion_from_All (λ (f : Found). stream_of f.holds ≡ n) run next.own
 
-  parted : all ≡ take at all ++ (here ++ next.back)
-  parted = sym (take-append-drop at all) ∙ ap (λ l. take at all ++ l) (next.split ∙ ap (λ l. l ++ next.back) next.is)
+  run-own : AllByRecursion (λ r. stream_of r ≡ n) (without_slots run)
+  run-own = map-all (λ r. stream_of r ≡ n) (λ (f : Found). f.holds) run own-run
 
-  run-usable : AllByRecursion (λ (f : Found). IsUsable f.holds) here
-  run-usable = recursion_from_All (λ (f : Found). IsUsable f.holds) here (subst (All (λ (f : Found). IsUsable f.holds)) next.is next.usable)
-
-  own-found : AllByRecursion (λ (f : Found). stream_of f.holds ≡ stream_of x.holds) here
-  own-found =
-      all_weaker (λ (f : Found). stream_of f.holds ≡ n) (λ f. stream_of f.holds ≡ stream_of x.holds) (λ f is. is ∙ sym of-first) here
-      (recursion_from_All (λ (f : Found). stream_of f.holds ≡ n) here (subst (All (λ (f : Found). stream_of f.holds ≡ n)) next.is next.own))
-
-  run-own : AllByRecursion (λ r. stream_of r ≡ stream_of x.holds) (without_slots here)
-  run-own = map-all (λ r. stream_of r ≡ stream_of x.holds) (λ (f : Found). f.holds) here own-found
-
-  run-rises : Rises place_of (without_slots here)
+  run-rises : Rises place_of (without_slots run)
   run-rises =
-      places-rise (λ (f : Found). f.holds) (stream_of x.holds) here
-      (Rises-parts found_key here next.back (Rises-parts found_key (take at all) (here ++ next.back) (subst (Rises found_key) parted order)).1).0 own-found
+      places-rise (λ (f : Found). f.holds) n run
+      (Rises-parts found_key run next.back (Rises-parts found_key (take at all) (run ++ next.back) (subst (Rises found_key) parted order)).1).0 own-run
 
-  lower : AllByRecursion (λ r. stream_of r < stream_of x.holds) (without_slots (take at all))
-  lower = (subst (λ fs. AreBefore (without_slots (take at all)) (without_slots fs)) (next.split ∙ ap (λ l. l ++ next.back) next.is) to.below).0
+  below-run : AllByRecursion (λ r. stream_of r < n) (without_slots (take at all))
+  below-run =
+      let first : stream_of next.first.holds ≡ n = (subst (AllByRecursion (λ (f : Found). stream_of f.holds ≡ n)) next.is own-run).0 in
+      subst (λ (k : ℕ). AllByRecursion (λ r. stream_of r < k) (without_slots (take at all))) first
+      (subst (λ fs. AreBefore (without_slots (take at all)) (without_slots fs)) (next.split ∙ ap (λ l. l ++ next.back) next.is) to.below).0
 
-  above : AllByRecursion (λ r. stream_of x.holds < stream_of r) (without_slots next.back)
-  above = map-all (λ r. stream_of x.holds < stream_of r) (λ (f : Found). f.holds) next.back
-      (all_weaker (λ (f : Found). n < stream_of f.holds) (λ f. stream_of x.holds < stream_of f.holds) (λ f lt. omega (arith, lt, of-first)) next.back
-      next.above)
+  above : AllByRecursion (λ r. n < stream_of r) (without_slots next.back)
+  above = map-all (λ r. n < stream_of r) (λ (f : Found). f.holds) next.back next.above
 
-  pub IsDoneTo-more : (new : List (List ℕ × StreamId)) (part : StreamParts) → RunsAs names new n run (Ok part) →
-      IsDoneTo all (at + length run) new (parts ++ part ∷ [])
-  IsDoneTo-more new part runs =
-      let whole : take (at + length run) all ≡ take at all ++ here =
-      take-add at (length run) all ∙ ap (λ l. take at all ++ l) (ap (take (length run)) next.split ∙ take-append_seam run next.back ∙ next.is) in
+  pub IsDoneTo-more : (new : Walk) → HasTakenStanding walk new run ⊎ HasTakenDropped walk new run → IsDoneTo all (at + length run) new
+  IsDoneTo-more new took =
+      let whole : take (at + length run) all ≡ take at all ++ run =
+      take-add at (length run) all ∙ ap (λ l. take at all ++ l) (ap (take (length run)) next.split ∙ take-append_seam run next.back) in
       let others : drop (at + length run) all ≡ next.back =
       sym (drop-drop (length run) at all) ∙ ap (drop (length run)) next.split ∙ drop-append_seam run next.back in
       record {
         within = next.within;
         done =
-            subst (AreDone new (parts ++ part ∷ [])) (sym whole)
-            (AreDone-more names parts (take at all) to.done x next.rest lower run-own run-usable run-rises new part
-            (subst (λ fs. is_run (names_in names) (without_slots fs) ≡ true) next.is runs.0) runs.1 (subst (IsHeldOf part) next.is runs.2));
+            subst (AreDone new) (sym whole)
+            (AreDone-more walk (take at all) to.done n run below-run run-own run-usable run-rises next.some new took);
         below =
             subst (λ rs. AreBefore rs (without_slots (drop (at + length run) all)))
-            (sym (ap without_slots whole ∙ map-append (λ (f : Found). f.holds) (take at all) here))
-            (subst (λ fs. AreBefore (without_slots (take at all) ++ without_slots here) (without_slots fs)) (sym others)
-            (AreBefore-run (without_slots (take at all)) (without_slots here) (without_slots next.back) (stream_of x.holds) lower run-own above));
+            (sym (ap without_slots whole ∙ map-append (λ (f : Found). f.holds) (take at all) run))
+            (subst (λ fs. AreBefore (without_slots (take at all) ++ without_slots run) (without_slots fs)) (sym others)
+            (AreBefore-run (without_slots (take at all)) (without_slots run) (without_slots next.back) n below-run run-own above));
       }
 
   -- what is answered where the run isn't sound
-  pub walk-refused : (new : List (List ℕ × StreamId)) (e : RecoverError) → RunsAs names new n run (Err e) → WalksAs all (Err e)
+  pub walk-refused : (new : Walk) (e : RecoverError) → TakesAs walk new n run (Err e) → WalksAs all (Err e)
   walk-refused new (BadStream k) runs =
-      subst (λ (m : ℕ). IsLowestUnsound m (without_slots all)) (of-first ∙ sym runs.0)
-      (subst (IsLowestUnsound (stream_of x.holds)) (sym (ap without_slots parted ∙ map-append (λ (f : Found). f.holds) (take at all) (here ++ next.back)
-      ∙ ap (λ l. without_slots (take at all) ++ l) (map-append (λ (f : Found). f.holds) here next.back)))
-      (lowest names parts (take at all) to.done x next.rest lower run-own run-usable run-rises (without_slots next.back) above
-      (subst (λ fs. is_run (names_in names) (without_slots fs) ≡ false) next.is runs.1)))
+      subst (λ (m : ℕ). IsLowestUnsound m (without_slots all)) (sym runs.0)
+      (subst (IsLowestUnsound n) (sym (ap without_slots parted ∙ map-append (λ (f : Found). f.holds) (take at all) (run ++ next.back)
+      ∙ ap (λ l. without_slots (take at all) ++ l) (map-append (λ (f : Found). f.holds) run next.back)))
+      (lowest walk (take at all) to.done n run below-run run-own run-usable run-rises next.some (without_slots next.back) above runs.1))
   walk-refused new OutOfMemory runs = tt
   walk-refused new (BadSlot k) runs = absurd runs
   walk-refused new Disk runs = absurd runs
 
--- at the end all streams are held
-pub AreBuilt-done : (names : List (List ℕ × StreamId)) (parts : List StreamParts) (all : List Found) (done : AreDone names parts all) →
-    length all ≤ MOST_RECORDS → AreBuilt parts done.streams all
-AreBuilt-done names parts all done few = record {
-  each = done.held.each;
-  records = done.held.records;
-  state = IsState-walked (without_slots all) done.streams done.held.walked (omega (arith, few, length-map all (λ (f : Found). f.holds)));
-}
+-- of each record that is usable, whether it is doomed says what its number and its kind do
+doomed-filter : (kind : Bool) (us : List Record) (all : List Found) → AllByRecursion (λ (f : Found). IsUsable f.holds) all →
+    filter (λ (f : Found). is_doomed kind us f.holds) all
+    ≡ filter (λ (f : Found). (if kind then is_own f.holds else not (is_own f.holds)) && is_dropped (stream_of f.holds) us) all
+doomed-filter kind us [] usable = refl
+doomed-filter kind us (f ∷ fs) usable =
+    let same = doomed-is kind us f.holds usable.0 in
+    let rest = doomed-filter kind us fs usable.1 in
+    λ i. cond (same i) (f ∷ rest i) (rest i)
+
+-- at the end all records are those of streams that are held, and those that are doomed
+pub AreBuilt-done : (walk : Walk) (parts : Parts) (all : List Found) (done : AreDone walk all) → EndsWalk walk parts →
+    All (λ (f : Found). IsUsable f.holds) all → length all ≤ MOST_RECORDS → AreBuilt parts done.streams all
+AreBuilt-done walk parts all done ends usable few =
+    let us = without_slots all in
+    let each_usable = recursion_from_All (λ (f : Found). IsUsable f.holds) all usable in
+    let doomed = doomed_found false all ++ doomed_found true all in
+    let kept = standing_found all in
+    let split : IsPermutation (doomed ++ kept) all =
+    subst (λ l. IsPermutation (l ++ kept) all)
+    (ap₂ ◌++◌ (sym (doomed-filter false us all each_usable)) (sym (doomed-filter true us all each_usable)))
+    (in-three (λ (f : Found). is_dropped (stream_of f.holds) us) (λ (f : Found). is_own f.holds) all) in
+    let held = flat_map records_held (zip walk.done.items done.streams) in
+    let none : AreBefore us [] = tt in
+    record {
+      each = subst (λ ps. AllAgree ps done.streams) (sym ends.streams) done.held.each;
+      records =
+          subst (λ (ps : List StreamParts). IsPermutation (map in_slot doomed ++ flat_map records_held (zip ps done.streams)) (map in_slot all))
+          (sym ends.streams)
+          (IsPermutation-trans (map in_slot doomed ++ held) (map in_slot doomed ++ map in_slot kept) (map in_slot all)
+          (IsPermutation-append_right (map in_slot doomed) held (map in_slot kept) done.held.records)
+          (subst (λ l. IsPermutation l (map in_slot all)) (map-append in_slot doomed kept) (IsPermutation-map in_slot (doomed ++ kept) all split)));
+      state =
+          IsState-walked (without_slots kept) done.streams done.held.walked
+          (omega (
+            arith,
+            few,
+            length-map kept (λ (f : Found). f.holds),
+            length-filter (λ (f : Found). stands_in us f.holds) all,
+            count_by-le-length (λ (f : Found). stands_in us f.holds) all,
+          ));
+      sound =
+          subst (λ rs. AllByRecursion (λ r. is_sound_in_order rs (stream_of r) ≡ true) us) (append-nil us) (done.sound [] none);
+      others = ends.others;
+      heads = ends.heads;
+      doomed = ends.doomed;
+      of_others = record { rising = ends.others_rise; are = subst (IsPermutation ends.others) done.others ends.of_others };
+      of_heads = record { rising = ends.heads_rise; are = subst (IsPermutation ends.heads) done.heads ends.of_heads };
+    }
+
+pub walks-end : (walk : Walk) (all : List Found) → AreDone walk all → All (λ (f : Found). IsUsable f.holds) all → length all ≤ MOST_RECORDS →
+    (result : Result Parts RecoverError) → IfOk result (EndsWalk walk) → IfErr result (λ error. error ≡ OutOfMemory) → WalksAs all result
+walks-end walk all done usable few (Ok parts) ends none = (done.streams, AreBuilt-done walk parts all done ends usable few)
+walks-end walk all done usable few (Err error) ends none = subst (λ e. WalksAs all (Err e)) (sym none) tt

@@ -22,7 +22,8 @@ use Rattle.ss_recover.specs.Conditions.{has_new_name, has_one_record, has_place,
 use Rattle.ss_recover.proofs.InOrder.{Rise, Rise-split}
 use Rattle.ss_recover.proofs.Lists.{all-from_map, all_behind, all_weaker}
 
-abbrev digit : Bool → ℕ
+-- 1 where a test passes
+abbrev pub digit : Bool → ℕ
 digit b = cond b 1 0
 
 abbrev is_at : ℕ → Created → Bool
@@ -40,7 +41,7 @@ count-all : (p : Created → Bool) (cs : List Created) → AllByRecursion (λ c.
 count-all p [] all = refl
 count-all p (c ∷ cs) all = omega (arith, sum_by-cons (λ (x : Created). digit (p x)) c cs, ap digit all.0, count-all p cs all.1)
 
-none-passes : (p : Created → Bool) (cs : List Created) → AllByRecursion (λ c. p c ≡ false) cs → list_any p cs ≡ false
+pub none-passes : {X : Type 0} (p : X → Bool) (cs : List X) → AllByRecursion (λ c. p c ≡ false) cs → list_any p cs ≡ false
 none-passes p [] all = refl
 none-passes p (c ∷ cs) all = or_from (p c) (list_any p cs) all.0 (none-passes p cs all.1)
 
@@ -247,7 +248,7 @@ Rise-StandFrom first time (w ∷ ws) stand =
 pub Rise-AreWindows : (ws : List Window) → AreWindows ws → Rise (λ w. w.first) ws
 Rise-AreWindows ws are = Rise-StandFrom 1 0 ws are.stand
 
--- the conditions of a sound number, one by one
+-- the conditions of a sound number that wasn't dropped, one by one
 pub record MeetsAll (a b c d e f g : Bool) : Type 0 where
   pub one : a ≡ true
   pub place : b ≡ true
@@ -257,12 +258,13 @@ pub record MeetsAll (a b c d e f g : Bool) : Type 0 where
   pub marks : f ≡ true
   pub free : g ≡ true
 
-pub MeetsAll-and : (a b c d e f g : Bool) → (a && b && c && d && e && f && g) ≡ true → MeetsAll a b c d e f g
-MeetsAll-and a b c d e f g all =
-    let seventh = and_parts (a && b && c && d && e && f) g all in
-    let sixth = and_parts (a && b && c && d && e) f seventh.0 in
-    let fifth = and_parts (a && b && c && d) e sixth.0 in
-    let fourth = and_parts (a && b && c) d fifth.0 in
-    let third = and_parts (a && b) c fourth.0 in
+pub MeetsAll-and : (a b c gone d e f g : Bool) → gone ≡ false → (a && b && c && (gone || (d && e && f && g))) ≡ true → MeetsAll a b c d e f g
+MeetsAll-and a b c gone d e f g stands all =
+    let both = and_parts (a && b && c) (gone || (d && e && f && g)) all in
+    let third = and_parts (a && b) c both.0 in
     let second = and_parts a b third.0 in
-    record { one = second.0; place = second.1; new = third.1; tiles = fourth.1; rising = fifth.1; marks = sixth.1; free = seventh.1 }
+    let values : (d && e && f && g) ≡ true = sym (ap (λ h. h || (d && e && f && g)) stands) ∙ both.1 in
+    let seventh = and_parts (d && e && f) g values in
+    let sixth = and_parts (d && e) f seventh.0 in
+    let fifth = and_parts d e sixth.0 in
+    record { one = second.0; place = second.1; new = third.1; tiles = fifth.0; rising = fifth.1; marks = sixth.1; free = seventh.1 }

@@ -1,8 +1,7 @@
 -- Worked rows: the times of a stream's windows, as they are held.
-use Rattle.std.proofs.Common.{◌≡◌, ℕ, ◌<◌, ◌≤◌, Bool, List, [], ◌∷◌, map, All, MatchOption, Some, None, refl, arith, subst}
+use Rattle.std.proofs.Common.{◌≡◌, ℕ, Bool, List, [], ◌∷◌, map, All, MatchOption, Some, None, refl, arith, subst}
 use Rattle.ss_line.specs.declared.entry.Entry.{Entry}
 use Rattle.ss_model.specs.State.{Stream}
-use Rattle.ss_model.specs.declared.types.Window.{Window}
 use Rattle.ss_summary.specs.Figures.{Figures}
 use Rattle.ss_recover.specs.Held.{Agrees, AreWhole, RiseToLast, TimesRise, entries_of, times_held, times_of}
 use Rattle.ss_recover.specs.declared.parts.StreamParts.{StreamParts}

@@ -1,5 +1,5 @@
 -- Which numbers are sound doesn't hang on the order of the records.
-use Rattle.std.proofs.Common.{◌≡◌, ◌⊎◌, ◌∙◌, ℕ, ◌+◌, ◌*◌, ◌^◌, ◌<◌, ◌≤◌, Bool, true, false, not, ◌&&◌, leb, List, [], ◌∷◌, filter, fold, min}
+use Rattle.std.proofs.Common.{◌≡◌, ◌⊎◌, ◌∙◌, ℕ, ◌+◌, ◌*◌, ◌^◌, ◌<◌, ◌≤◌, Bool, true, false, not, ◌&&◌, ◌||◌, leb, List, [], ◌∷◌, filter, fold, min}
 use Rattle.std.proofs.Common.{Option, Some, None, refl, sym, ap, ap₂, inl, inr, arith, IsPermutation}
 use Rattle.std.specs.Prelude.{◌==◌}
 use Rattle.std.specs.List.{AllByRecursion, cons_option, filter_map, list_all, list_any}
@@ -11,7 +11,8 @@ use Rattle.ss_codec.specs.declared.record.Record.{Record}
 use Rattle.ss_codec.specs.declared.record.Record.TheVariants as records
 use Rattle.ss_model.specs.Marks.{lies_free}
 use Rattle.ss_model.specs.declared.types.Window.{Window}
-use Rattle.ss_recover.specs.Carried.{created_by, in_order, is_mark_of, marks_carried, stream_number, put_in_order, streams_created, window_of, windows_carried}
+use Rattle.ss_recover.specs.Carried.{created_by, in_order, is_drop_of, is_mark_of, marks_carried, stream_number, put_in_order, streams_created, window_of}
+use Rattle.ss_recover.specs.Carried.{windows_carried}
 use Rattle.ss_recover.specs.Conditions.{is_sound, tile, times_rise}
 use Rattle.ss_recover.specs.Marked.{are_marks, landmarks_made}
 use Rattle.ss_recover.specs.Order.{Rises, key_of, place_of, stream_of}
@@ -75,7 +76,7 @@ module _ {X Y : Type 0} (key : X → ℕ) (key' : Y → ℕ) (h : X → Option Y
 -- the key of a window of a number
 window-key : (n : ℕ) (r : Record) (z : Window) → window_of n r ≡ Some z → key_of r ≡ n * 2 ^ 65 + (2 ^ 64 + z.first)
 window-key n records.Free z is = cc
-window-key n (records.Stream id name params) z is = cc
+window-key n (records.Stream id name params dropped) z is = cc
 window-key n (records.Window id first summary) z is =
     elim (cases_Bool (id == n)) [
       | inl same ↦
@@ -90,7 +91,7 @@ window-key n (records.Value id number index t v) z is = cc
 -- the key of a landmark's record or a value's of a number
 mark-key : (n : ℕ) (r : Record) → is_mark_of n r ≡ true → key_of r ≡ n * 2 ^ 65 + place_of r
 mark-key n records.Free is = absurd (true≢false (sym is))
-mark-key n (records.Stream id name params) is = absurd (true≢false (sym is))
+mark-key n (records.Stream id name params dropped) is = absurd (true≢false (sym is))
 mark-key n (records.Window id first summary) is = absurd (true≢false (sym is))
 mark-key n (records.Landmark id number values start finish) is =
     ap (λ (a : ℕ). a * 2 ^ 65 + place_of (records.Landmark id number values start finish)) (eqb-true id n is)
@@ -110,8 +111,8 @@ window-order n x y z w is also =
 windows-in_order : (n : ℕ) (rs : List Record) → windows_carried n rs ≡ filter_map (window_of n) (in_order key_of rs)
 windows-in_order n rs = sym (filter_map-in_order key_of (λ (w : Window). w.first) (window_of n) (window-order n) rs)
 
--- a record that is kept passes the test, and is what is made of it
-kept-is : (p : Record → Bool) (r z : Record) → kept p r ≡ Some z → (p r ≡ true) × (r ≡ z)
+-- an element that is kept passes the test, and is what is made of it
+pub kept-is : {X : Type 0} (p : X → Bool) (r z : X) → kept p r ≡ Some z → (p r ≡ true) × (r ≡ z)
 kept-is p r z is = elim (cases_Bool (p r)) [
   | inl passes ↦ let some : Some r ≡ Some z = sym (cond-true (p r) _ _ passes) ∙ is in (passes, cc)
   | inr fails ↦ let none : None ≡ Some z = sym (cond-false (p r) _ _ fails) ∙ is in cc
@@ -140,8 +141,9 @@ is_sound-in_order rs n =
     let alone = stands_alone-moved n (streams_created rs) (streams_created qs) moved in
     let windows = windows-in_order n rs in
     let marks = marks-in_order n rs in
-    λ i. alone i && tile (windows i) && times_rise (windows i) && are_marks (marks i)
-    && list_all (lies_free (landmarks_made (marks i))) (windows i)
+    let gone = list_any-IsPermutation (is_drop_of n) rs qs (IsPermutation-in_order key_of rs) in
+    λ i. alone i && (gone i || (tile (windows i) && times_rise (windows i) && are_marks (marks i)
+    && list_all (lies_free (landmarks_made (marks i))) (windows i)))
 
 -- the least of some numbers
 fold-least : (n a : ℕ) (xs : List ℕ) → n ≤ a → AllByRecursion (λ x. n ≤ x) xs → (a ≡ n) ⊎ (list_any (λ x. x == n) xs ≡ true) → fold min a xs ≡ n
@@ -165,7 +167,7 @@ least-is n (x ∷ xs) all has = ap Some (fold-least n x xs all.0 all.1 (go (or_c
 
 number-usable : (r : Record) → IsUsable r → stream_number r ≡ Some (stream_of r)
 number-usable records.Free usable = absurd usable
-number-usable (records.Stream id name params) usable = refl
+number-usable (records.Stream id name params dropped) usable = refl
 number-usable (records.Window id first summary) usable = refl
 number-usable (records.Landmark id number values start finish) usable = refl
 number-usable (records.Value id number index t v) usable = refl

@@ -25,8 +25,8 @@ HasValidTimes-interval values start (Some f) is = (is.1, is.2)
 
 pub IsUsable-valid : (r : Record) → IsTrue (is_valid r) → (r ≡ Free → ⊥) → IsUsable r
 IsUsable-valid Free valid other = absurd (other refl)
-IsUsable-valid (Stream id name params) valid other =
-    let is = IsStream-is_valid id name params valid in (is.ranged, omega (arith, is.number))
+IsUsable-valid (Stream id name params dropped) valid other =
+    let is = IsStream-is_valid id name params dropped valid in (is.ranged, omega (arith, is.number))
 IsUsable-valid (Window id first summary) valid other =
     let is = IsWindow-is_valid id first summary valid in
     let possible = is.possible in
@@ -76,7 +76,7 @@ pub all-window_of : (number : ℕ) (rs : List Record) → AllByRecursion IsFine 
     AllByRecursion (λ w. IsPossible w.summary) (filter_map (window_of number) rs)
 all-window_of number [] valid = tt
 all-window_of number (Free ∷ rs) valid = all-window_of number rs valid.1
-all-window_of number (Stream id name params ∷ rs) valid = all-window_of number rs valid.1
+all-window_of number (Stream id name params dropped ∷ rs) valid = all-window_of number rs valid.1
 all-window_of number (Window id first f ∷ rs) valid =
     let rest = all-window_of number rs valid.1 in
     elim (cases_Bool (id == number)) [

@@ -91,7 +91,7 @@ occupied-same first second few same =
     filled-same first.bytes second.bytes (range_with_len 0 first.extent) (same-slots first second few same)
     ∙ ap (λ n. occupied (record { bytes = second.bytes; extent = n })) same.extent
 
-spells-same : (first second : ℕ → List ℕ) (slots : List ℕ) → AllByRecursion (λ slot. first slot ≡ second slot) slots →
+pub spells-same : (first second : ℕ → List ℕ) (slots : List ℕ) → AllByRecursion (λ slot. first slot ≡ second slot) slots →
     map (λ slot. decoded (first slot)) slots ≡ map (λ slot. decoded (second slot)) slots
 spells-same first second [] same = refl
 spells-same first second (slot ∷ slots) same =

@@ -1,5 +1,5 @@
 -- What the records of one stream number have to meet, one condition after another.
-use Rattle.std.specs.Prelude.{ℕ, ◌+◌, Bool, true, not, ◌==◌, ◌&&◌, nat_le, nat_lt, List, [], ◌∷◌, count_by}
+use Rattle.std.specs.Prelude.{ℕ, ◌+◌, Bool, true, not, ◌==◌, ◌&&◌, ◌||◌, nat_le, nat_lt, List, [], ◌∷◌, count_by}
 use Rattle.std.specs.List.{list_all, list_any}
 use Rattle.ss_catalog.specs.Names.{same_name}
 use Rattle.ss_catalog.specs.declared.TheConstants.{MOST_STREAMS}
@@ -9,7 +9,7 @@ use Rattle.ss_model.specs.Marks.{lies_free}
 use Rattle.ss_model.specs.State.{Created}
 use Rattle.ss_model.specs.Windows.{taken}
 use Rattle.ss_model.specs.declared.types.Window.{Window}
-use Rattle.ss_recover.specs.Carried.{marks_carried, streams_created, windows_carried}
+use Rattle.ss_recover.specs.Carried.{is_dropped, marks_carried, streams_created, windows_carried}
 use Rattle.ss_recover.specs.Marked.{are_marks, landmarks_made}
 
 -- exactly one stream record has the number
@@ -43,13 +43,18 @@ times_rise [] = true
 times_rise (w ∷ []) = true
 times_rise (w ∷ v ∷ ws) = nat_lt w.summary.t_last v.summary.t_first && times_rise (v ∷ ws)
 
--- the records of the number meet all conditions
+-- its windows and its landmarks meet theirs
+abbrev pub has_sound_values : List Record → ℕ → Bool
+has_sound_values records number =
+    tile (windows_carried number records)
+    && times_rise (windows_carried number records)
+    && are_marks (marks_carried number records)
+    && list_all (lies_free (landmarks_made (marks_carried number records))) (windows_carried number records)
+
+-- The records of the number meet all conditions. Of a dropped stream nothing is asked of its windows and its landmarks.
 unfoldable pub is_sound : List Record → ℕ → Bool
 is_sound records number =
     has_one_record number (streams_created records)
     && has_place number (streams_created records)
     && has_new_name number (streams_created records)
-    && tile (windows_carried number records)
-    && times_rise (windows_carried number records)
-    && are_marks (marks_carried number records)
-    && list_all (lies_free (landmarks_made (marks_carried number records))) (windows_carried number records)
+    && (is_dropped number records || has_sound_values records number)

@@ -1,5 +1,6 @@
 -- Streams as they are held in memory, with the slot of each record.
-use Rattle.std.specs.Prelude.{◌≡◌, ◌≢◌, ℕ, ◌+◌, ◌<◌, ◌≤◌, Bool, not, List, [], ◌∷◌, length, map, filter, flat_map, zip, All, Option, Some, MatchOption, ◌++◌, ⊤}
+use Rattle.std.specs.Prelude.{◌≡◌, ◌≢◌, ℕ, ◌+◌, ◌<◌, ◌≤◌, Bool, false, not, List, [], ◌∷◌, length, map, filter, flat_map, zip, All, Option, Some, MatchOption}
+use Rattle.std.specs.Prelude.{◌++◌, ⊤}
 use Rattle.std.specs.Option.{option_map_or}
 use Rattle.std.specs.List.{range_with_len, IsDistinct}
 use Rattle.std.specs.List.Sorted.{IsPermutation, IsStrictlyIncreasing}
@@ -64,7 +65,7 @@ AllAgree (part ∷ parts) (s ∷ ss) = Agrees part s × AllAgree parts ss
 
 -- the record of a stream, and of a window of the stream with a number
 abbrev pub stream_record : Stream → Record
-stream_record s = records.Stream s.number s.name s.params
+stream_record s = records.Stream s.number s.name s.params false
 
 abbrev pub window_record : ℕ → Window → Record
 window_record number w = records.Window number w.first w.summary
@@ -127,12 +128,16 @@ pub record IsRecord (put : Put) (r : Record) : Type 0 where
   pub spelled : Spells put.bytes r
   pub some : r ≢ records.Free
 
--- What is held stands for the streams of a map: it agrees with each of them, in order, and the slots that aren't zeros are
--- those of their records, each in the slot where it is held.
-pub record AreHeld (parts : List StreamParts) (streams : List Stream) (found : SlotMap) : Type 0 where
+-- What is held stands for the streams of a map, beside records of dropped streams: it agrees with each of them, in order, and
+-- the slots that aren't zeros are those of their records, each in the slot where it is held, and the others.
+pub record AreHeldBeside (doomed : List (ℕ × Option Record)) (parts : List StreamParts) (streams : List Stream) (found : SlotMap) : Type 0 where
   pub each : AllAgree parts streams
-  pub records : IsPermutation (flat_map records_held (zip parts streams)) (occupied found)
+  pub records : IsPermutation (doomed ++ flat_map records_held (zip parts streams)) (occupied found)
   pub state : IsState streams
+
+-- the same, and no stream was dropped
+abbrev pub AreHeld : List StreamParts → List Stream → SlotMap → Type 0
+AreHeld = AreHeldBeside []
 
 -- entries hold each position from this one on, and none past the last that a stream can have
 abbrev pub TileFrom : ℕ → List Entry → Type 0
@@ -163,13 +168,17 @@ abbrev pub EndByLast : StreamParts → Type 0
 EndByLast part = MatchOption part.last_time (part.landmarks.landmarks ≡ []) (λ last. AllEndBy last part.landmarks.landmarks)
 
 -- What is true of what is held over every disk, whatever it tells: numbers rise, names differ, the windows of each stream
--- hold its positions, their times rise to its last time, its landmarks end by it, and the slots are those that are live, each
--- once.
-pub record AreWhole (parts : List StreamParts) (live : List Bool) : Type 0 where
+-- hold its positions, their times rise to its last time, its landmarks end by it, and the slots, with those of dropped streams,
+-- are those that are live, each once.
+pub record AreWholeBeside (doomed : List ℕ) (parts : List StreamParts) (live : List Bool) : Type 0 where
   pub few : length parts ≤ MOST_STREAMS
   pub numbers : IsStrictlyIncreasing (map (λ (part : StreamParts). part.id.0) parts)
   pub names : IsDistinct same_name (map (λ (part : StreamParts). part.name) parts)
   pub tiles : All (λ part. TileFrom 1 (entries_of part)) parts
   pub times : All RiseToLast parts
   pub landmarks : All (λ part. AreKnown part.landmarks × EndByLast part) parts
-  pub slots : IsPermutation (flat_map slots_held parts) (filter (is_live live) (range_with_len 0 (length live)))
+  pub slots : IsPermutation (doomed ++ flat_map slots_held parts) (filter (is_live live) (range_with_len 0 (length live)))
+
+-- the same, and no stream was dropped
+abbrev pub AreWhole : List StreamParts → List Bool → Type 0
+AreWhole = AreWholeBeside []

@@ -4,6 +4,7 @@ pub mod Marked
 pub mod Conditions
 pub mod Parts
 pub mod Held
+pub mod Doomed
 pub mod Rebuilt
 pub mod Usable
 pub mod Runs

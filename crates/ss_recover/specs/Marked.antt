@@ -50,7 +50,7 @@ is_next_value marked number index t =
 -- the landmarks with one more record of a landmark or a value, if it may come after those so far. Others change nothing.
 abbrev pub marked_with : Marked → Record → Option Marked
 marked_with marked Free = Some marked
-marked_with marked (Stream id name params) = Some marked
+marked_with marked (Stream id name params dropped) = Some marked
 marked_with marked (Window id first summary) = Some marked
 marked_with marked (Landmark id number values start finish) =
     if is_next_landmark marked number start

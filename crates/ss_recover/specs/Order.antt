@@ -8,7 +8,7 @@ use Rattle.ss_recover.specs.declared.found.Found.{Found}
 -- the number of the stream that a record is of
 abbrev pub stream_of : Record → ℕ
 stream_of Free = 0
-stream_of (Stream id name params) = id
+stream_of (Stream id name params dropped) = id
 stream_of (Window id first summary) = id
 stream_of (Landmark id number values start finish) = id
 stream_of (Value id number index t v) = id
@@ -17,7 +17,7 @@ stream_of (Value id number index t v) = id
 -- with its values by their indexes, in places of 64 bits; and then the windows by their first positions.
 abbrev pub place_of : Record → ℕ
 place_of Free = 0
-place_of (Stream id name params) = 0
+place_of (Stream id name params dropped) = 0
 place_of (Landmark id number values start finish) = number * 2 ^ 32
 place_of (Value id number index t v) = number * 2 ^ 32 + index
 place_of (Window id first summary) = 2 ^ 64 + first

@@ -4,7 +4,7 @@ use Rattle.std.specs.List.{filter_map, position}
 use Rattle.ss_journal.specs.Redo.{SlotMap}
 use Rattle.ss_codec.specs.declared.record.Record.{Record}
 use Rattle.ss_model.specs.State.{Created, Stream}
-use Rattle.ss_recover.specs.Carried.{spelled, stream_number, in_order, marks_carried, streams_created, windows_carried}
+use Rattle.ss_recover.specs.Carried.{spelled, stream_number, in_order, marks_carried, streams_standing, windows_carried}
 use Rattle.ss_recover.specs.Conditions.{is_sound}
 use Rattle.ss_recover.specs.Marked.{landmarks_made}
 
@@ -41,9 +41,9 @@ stream_carried records s = record {
   landmarks = landmarks_made (marks_carried s.number records);
 }
 
--- the streams that records have, in the order of their numbers
+-- the streams that records have and that aren't dropped, in the order of their numbers
 abbrev pub streams_carried : List Record → List Stream
-streams_carried records = map (stream_carried records) (in_order (λ s. s.number) (streams_created records))
+streams_carried records = map (stream_carried records) (in_order (λ s. s.number) (streams_standing records))
 
 -- a damaged slot is told before a damaged stream
 abbrev pub judged : Option ℕ → Option ℕ → List Stream → Carried

@@ -1,20 +1,32 @@
 -- What rebuilding answers.
-use Rattle.std.specs.Prelude.{◌≡◌, List, Result, Ok, Err, ⊤}
+use Rattle.std.specs.Prelude.{◌≡◌, ℕ, List, flat_map, map, zip, Option, Result, Ok, Err, ⊤}
 use Rattle.ss_outside.specs.Crash.{OnlyReads}
 use Rattle.ss_outside.specs.Disk.{Told}
 use Rattle.ss_outside.specs.Verdict.{Verdict, UnlessFailed, fine, refused, no_memory, failed}
 use Rattle.ss_journal.specs.Redo.{SlotMap, StandsFor}
 use Rattle.ss_records.specs.Kept.{AreKept, RecordsState}
+use Rattle.ss_codec.specs.declared.record.Record.{Record}
 use Rattle.ss_model.specs.State.{Stream}
-use Rattle.ss_recover.specs.Held.{AreHeld}
+use Rattle.ss_recover.specs.Doomed.{GoInTurn, doomed_slots}
+use Rattle.ss_recover.specs.Held.{AreHeldBeside, occupied, records_held}
 use Rattle.ss_recover.specs.Parts.{carried, bad_slot, bad_stream, carries}
 use Rattle.ss_recover.specs.declared.parts.Parts.{Parts}
 use Rattle.ss_recover.specs.declared.recover_error.RecoverError.{RecoverError}
 use Rattle.ss_recover.specs.declared.recover_error.RecoverError.TheVariants.{BadSlot, BadStream, Disk, OutOfMemory}
 
+-- These parts are what a map carries: its streams, and the slots of the records of dropped ones, which may go in turn.
+pub record HasParts (parts : Parts) (found : SlotMap) : Type 0 where
+  pub streams : List Stream
+  pub doomed : List (ℕ × Option Record)
+  pub carried : carried found ≡ carries streams
+  pub held : AreHeldBeside doomed parts.streams.items streams found
+  pub slots : map (λ (e : ℕ × Option Record). e.0) doomed ≡ parts.doomed.items
+  pub ordered : parts.doomed.items ≡ doomed_slots (occupied found)
+  pub in_turn : GoInTurn doomed (flat_map records_held (zip parts.streams.items streams))
+
 -- the streams that a map carries are rebuilt, or it is told what is damaged
 abbrev pub RebuildsAs : SlotMap → Result Parts RecoverError → Type 0
-RebuildsAs found (Ok parts) = (streams : List Stream) × (carried found ≡ carries streams) × AreHeld parts.streams.items streams found
+RebuildsAs found (Ok parts) = HasParts parts found
 RebuildsAs found (Err (BadSlot n)) = carried found ≡ bad_slot n
 RebuildsAs found (Err (BadStream id)) = carried found ≡ bad_stream id
 RebuildsAs found (Err Disk) = ⊤

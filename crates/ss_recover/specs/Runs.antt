@@ -1,5 +1,6 @@
 -- The records of one stream after another, in order: what a record more makes of them, and which of them meet all conditions.
-use Rattle.std.specs.Prelude.{◌≡◌, ℕ, ◌+◌, ◌<◌, Bool, true, false, not, ◌==◌, ◌&&◌, nat_lt, if◌then◌else◌, List, [], ◌∷◌, length, filter, flat_map, zip}
+use Rattle.std.specs.Prelude.{◌≡◌, ℕ, ◌+◌, ◌<◌, Bool, true, false, not, ◌==◌, ◌&&◌, ◌||◌, nat_lt, if◌then◌else◌, List, [], ◌∷◌, length, filter, flat_map, zip}
+use Rattle.std.specs.Prelude.{◌++◌}
 use Rattle.std.specs.Prelude.{fold, is_some, map, option_and_then, Option, Some, None, Result, Ok, Err, ⊤}
 use Rattle.std.specs.Option.{option_map_or}
 use Rattle.std.specs.List.{AllByRecursion, filter_map, list_all, list_any}
@@ -14,15 +15,15 @@ use Rattle.ss_model.specs.Marks.{lies_free}
 use Rattle.ss_model.specs.Standing.{IsState}
 use Rattle.ss_model.specs.State as Streams
 use Rattle.ss_model.specs.declared.types.Window.{Window}
-use Rattle.ss_recover.specs.Carried.{is_mark_of, streams_created, window_of}
+use Rattle.ss_recover.specs.Carried.{is_dropped, is_mark_of, streams_created, window_of}
 use Rattle.ss_recover.specs.Conditions.{has_one_record, has_place, has_new_name, tile, times_rise}
+use Rattle.ss_recover.specs.Doomed.{is_doomed, is_own}
 use Rattle.ss_recover.specs.Held.{AllAgree, records_held}
 use Rattle.ss_recover.specs.Marked.{Marked, are_marks, has_all_values, landmarks_in, landmarks_made, marked_with, nothing_marked}
-use Rattle.ss_recover.specs.Order.{stream_of}
-use Rattle.ss_recover.specs.Usable.{in_slot, without_slots}
+use Rattle.ss_recover.specs.Order.{Rises, stream_of}
+use Rattle.ss_recover.specs.Usable.{in_slot, slots_found, without_slots}
 use Rattle.ss_recover.specs.declared.found.Found.{Found}
 use Rattle.ss_recover.specs.declared.parts.Parts.{Parts}
-use Rattle.ss_recover.specs.declared.parts.StreamParts.{StreamParts}
 use Rattle.ss_recover.specs.declared.recover_error.RecoverError.{RecoverError}
 use Rattle.ss_recover.specs.declared.recover_error.RecoverError.TheVariants.{BadSlot, BadStream, Disk, OutOfMemory}
 
@@ -59,7 +60,7 @@ marking_with (tiling landmarks next newest) r = None
 -- one more record, if it may come after those so far
 abbrev pub run_with : Run → Record → Option Run
 run_with run Free = None
-run_with run (Stream id name params) = None
+run_with run (Stream id name params dropped) = None
 run_with run (records.Window id first summary) =
     option_and_then (λ q. tiled_with q (record { first = first; summary = summary })) (windows_from run)
 run_with run (records.Landmark id number values start finish) = marking_with run (records.Landmark id number values start finish)
@@ -77,19 +78,41 @@ run_of records = fold run_on (Some (marking nothing_marked)) records
 abbrev pub is_ended : Run → Bool
 is_ended run = is_some (windows_from run)
 
+-- whether a record is a stream's own and says that it was dropped
+abbrev pub is_drop : Record → Bool
+is_drop Free = false
+is_drop (Stream id name params dropped) = dropped
+is_drop (records.Window id first summary) = false
+is_drop (records.Landmark id number values start finish) = false
+is_drop (records.Value id number index t v) = false
+
+-- whether the first of some records is that
+abbrev pub begins_dropped : List Record → Bool
+begins_dropped [] = false
+begins_dropped (r ∷ rs) = is_drop r
+
 -- a stream may stand beside those with these names: its name is new, and they aren't as many as can be
 abbrev pub may_stand : List (List ℕ) → List ℕ → Bool
 may_stand names name = nat_lt (length names) MOST_STREAMS && not (list_any (same_name name) names)
 
 -- The records of one number after the streams with these names: the first one creates a stream, which may stand with a name that is
--- new, and the others may come after it, one by one.
+-- new, and the others may come after it, one by one. Where it says that the stream was dropped, they may be any but a stream's own.
 abbrev pub is_run : List (List ℕ) → List Record → Bool
 is_run names [] = false
 is_run names (Free ∷ rest) = false
-is_run names (Stream id name params ∷ rest) = may_stand names name && option_map_or is_ended (run_of rest) false
+is_run names (Stream id name params dropped ∷ rest) =
+    may_stand names name && (if dropped then not (list_any is_own rest) else option_map_or is_ended (run_of rest) false)
 is_run names (records.Window id first summary ∷ rest) = false
 is_run names (records.Landmark id number values start finish ∷ rest) = false
 is_run names (records.Value id number index t v ∷ rest) = false
+
+-- the windows and the landmarks of the number meet their conditions, where those of each stream come in order
+abbrev pub has_sound_values_in_order : List Record → ℕ → Bool
+has_sound_values_in_order records number =
+    tile (filter_map (window_of number) records)
+    && times_rise (filter_map (window_of number) records)
+    && are_marks (filter (is_mark_of number) records)
+    && list_all (lies_free (landmarks_made (filter (is_mark_of number) records))) (filter_map (window_of number) records)
 
 -- the records of the number meet all conditions, where those of each stream come in order
 abbrev pub is_sound_in_order : List Record → ℕ → Bool
@@ -97,16 +120,31 @@ is_sound_in_order records number =
     has_one_record number (streams_created records)
     && has_place number (streams_created records)
     && has_new_name number (streams_created records)
-    && tile (filter_map (window_of number) records)
-    && times_rise (filter_map (window_of number) records)
-    && are_marks (filter (is_mark_of number) records)
-    && list_all (lies_free (landmarks_made (filter (is_mark_of number) records))) (filter_map (window_of number) records)
+    && (is_dropped number records || has_sound_values_in_order records number)
 
--- These parts agree with streams that the records are of, whose order is another.
-pub record AreBuilt (parts : List StreamParts) (streams : List Streams.Stream) (all : List Found) : Type 0 where
-  pub each : AllAgree parts streams
-  pub records : IsPermutation (flat_map records_held (zip parts streams)) (map in_slot all)
+-- those of some records that are of dropped streams, their own or the others
+abbrev pub doomed_found : Bool → List Found → List Found
+doomed_found own all = filter (λ (f : Found). is_doomed own (without_slots all) f.holds) all
+
+-- slots, rising, are those of these records
+pub record AreSlotsOf (slots : List ℕ) (found : List Found) : Type 0 where
+  pub rising : Rises (λ slot. slot) slots
+  pub are : IsPermutation slots (slots_found found)
+
+-- These parts are of some records, whose order is another: the streams agree with those of which the records are that aren't of
+-- dropped ones, and the slots are those of the records of dropped ones, the streams' own last. The records of each number meet all
+-- conditions.
+pub record AreBuilt (parts : Parts) (streams : List Streams.Stream) (all : List Found) : Type 0 where
+  pub each : AllAgree parts.streams.items streams
+  pub records : IsPermutation (map in_slot (doomed_found false all ++ doomed_found true all) ++ flat_map records_held (zip parts.streams.items streams))
+      (map in_slot all)
   pub state : IsState streams
+  pub sound : AllByRecursion (λ r. is_sound_in_order (without_slots all) (stream_of r) ≡ true) (without_slots all)
+  pub others : List ℕ
+  pub heads : List ℕ
+  pub doomed : parts.doomed.items ≡ others ++ heads
+  pub of_others : AreSlotsOf others (doomed_found false all)
+  pub of_heads : AreSlotsOf heads (doomed_found true all)
 
 -- The number is that of some record, and the lowest whose records break a condition.
 pub record IsLowestUnsound (number : ℕ) (records : List Record) : Type 0 where
@@ -116,7 +154,7 @@ pub record IsLowestUnsound (number : ℕ) (records : List Record) : Type 0 where
 
 -- what a walk over records in order answers
 abbrev pub WalksAs : List Found → Result Parts RecoverError → Type 0
-WalksAs all (Ok parts) = (streams : List Streams.Stream) × AreBuilt parts.streams.items streams all
+WalksAs all (Ok parts) = (streams : List Streams.Stream) × AreBuilt parts streams all
 WalksAs all (Err (BadStream number)) = IsLowestUnsound number (without_slots all)
 WalksAs all (Err OutOfMemory) = ⊤
 WalksAs all (Err (BadSlot n)) = ⊥

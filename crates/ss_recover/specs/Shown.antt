@@ -1,10 +1,11 @@
 -- What is held of the stream whose records come shows what they are, and what a walk over the records of one stream answers.
-use Rattle.std.specs.Prelude.{◌≡◌, ℕ, ℤ, ◌+◌, ◌-◌, ◌<◌, ◌≤◌, Bool, true, false, ◌==◌, ◌&&◌, ◌||◌, nat_le, nat_lt, is_none, List, [], ◌∷◌, ◌++◌}
+use Rattle.std.specs.Prelude.{◌≡◌, ◌⊎◌, ℕ, ℤ, ◌+◌, ◌-◌, ◌<◌, ◌≤◌, Bool, true, false, ◌==◌, ◌&&◌, ◌||◌, nat_le, nat_lt, is_none, List, [], ◌∷◌, ◌++◌}
 use Rattle.std.specs.Prelude.{length, map, filter}
 use Rattle.std.specs.Prelude.{All, drop}
 use Rattle.std.specs.Prelude.{IfSome, MatchOption, Option, Some, None, Result, Ok, Err, ⊤}
 use Rattle.std.specs.Option.{option_map_or}
 use Rattle.std.specs.List.{AllByRecursion, filter_map, list_all}
+use Rattle.std.specs.List.Sorted.{IsPermutation}
 use Rattle.ss_catalog.specs.declared.stream_id.StreamId.{StreamId}
 use Rattle.ss_catalog.specs.declared.params.Params.{Params}
 use Rattle.ss_codec.specs.declared.record.Record.{Record}
@@ -26,16 +27,18 @@ use Rattle.ss_model.specs.declared.types.TheConstants.{MOST_RECORDS}
 use Rattle.ss_recover.specs.Carried.{is_mark_of, window_of}
 use Rattle.ss_recover.specs.Held.{span_held, span_of, times_held, times_of}
 use Rattle.ss_recover.specs.Marked.{Marked, landmarks_made, marked_by, nothing_marked}
-use Rattle.ss_recover.specs.Order.{stream_of}
+use Rattle.ss_recover.specs.Order.{Rises, stream_of}
 use Rattle.ss_recover.specs.Runs.{Run, is_ended, is_run, marking, may_stand, tiling}
 use Rattle.ss_recover.specs.Usable.{IsUsable, slots_found, without_slots}
 use Rattle.ss_recover.specs.declared.found.Found.{Found}
+use Rattle.ss_recover.specs.declared.parts.Parts.{Parts}
 use Rattle.ss_recover.specs.declared.parts.StreamParts.{StreamParts}
 use Rattle.ss_recover.specs.declared.run.Last.{Last}
 use Rattle.ss_recover.specs.declared.run.Marks.{Marks}
 use Rattle.ss_recover.specs.declared.run.Open.{Open}
 use Rattle.ss_recover.specs.declared.run.Stage.{Stage}
 use Rattle.ss_recover.specs.declared.run.Stage.TheVariants as stages
+use Rattle.ss_recover.specs.declared.walking.Walk.{Walk}
 use Rattle.ss_recover.specs.declared.recover_error.RecoverError.{RecoverError}
 use Rattle.ss_recover.specs.declared.recover_error.RecoverError.TheVariants.{BadSlot, BadStream, Disk, OutOfMemory}
 
@@ -125,28 +128,28 @@ IsRunOf number (tiling landmarks next newest) rs =
 -- which record was found
 abbrev pub is_landmark : Record → Bool
 is_landmark records.Free = false
-is_landmark (records.Stream id name params) = false
+is_landmark (records.Stream id name params dropped) = false
 is_landmark (records.Window id first summary) = false
 is_landmark (records.Landmark id number values start finish) = true
 is_landmark (records.Value id number index t v) = false
 
 abbrev pub is_value : Record → Bool
 is_value records.Free = false
-is_value (records.Stream id name params) = false
+is_value (records.Stream id name params dropped) = false
 is_value (records.Window id first summary) = false
 is_value (records.Landmark id number values start finish) = false
 is_value (records.Value id number index t v) = true
 
 abbrev pub is_window : Record → Bool
 is_window records.Free = false
-is_window (records.Stream id name params) = false
+is_window (records.Stream id name params dropped) = false
 is_window (records.Window id first summary) = true
 is_window (records.Landmark id number values start finish) = false
 is_window (records.Value id number index t v) = false
 
 -- the stream's own record
 abbrev pub head_found : ℕ → Created → Found
-head_found slot head = record { slot = slot; holds = records.Stream head.number head.name head.params }
+head_found slot head = record { slot = slot; holds = records.Stream head.number head.name head.params false }
 
 abbrev pub found_by : (Record → Bool) → List Found → List Found
 found_by p all = filter (λ (f : Found). p f.holds) all
@@ -264,10 +267,16 @@ pub record IsHeldOf (part : StreamParts) (all : List Found) : Type 0 where
 abbrev pub names_in : List (List ℕ × StreamId) → List (List ℕ)
 names_in names = map (λ n. n.0) names
 
+-- a name is taken for a stream, or none of this name may be added
+abbrev pub AddsName : List (List ℕ × StreamId) → List (List ℕ × StreamId) → List ℕ → Result Bool RecoverError → Type 0
+AddsName old new name (Ok true) = (may_stand (names_in old) name ≡ true) × (names_in new ≡ names_in old ++ name ∷ [])
+AddsName old new name (Ok false) = may_stand (names_in old) name ≡ false
+AddsName old new name (Err error) = error ≡ OutOfMemory
+
 -- The first record of a stream is taken: its own, with a name that is new.
 pub record HasTakenFirst (old new : List (List ℕ × StreamId)) (found : Found) (stream : Open) : Type 0 where
   pub head : Created
-  pub holds : found.holds ≡ records.Stream head.number head.name head.params
+  pub holds : found.holds ≡ records.Stream head.number head.name head.params false
   pub begun : HasBegun stream found.slot head.number head.name head.params
   pub names : names_in new ≡ names_in old ++ head.name ∷ []
   pub stands : may_stand (names_in old) head.name ≡ true
@@ -285,6 +294,56 @@ RunsAs old new id all (Err (BadStream n)) = (n ≡ id) × (is_run (names_in old)
 RunsAs old new id all (Err OutOfMemory) = ⊤
 RunsAs old new id all (Err (BadSlot n)) = ⊥
 RunsAs old new id all (Err Disk) = ⊥
+
+-- ---- a walk
+
+-- no record came yet
+pub record HasNothing (walk : Walk) : Type 0 where
+  pub names : walk.names ≡ []
+  pub done : walk.done.items ≡ []
+  pub others : walk.others.items ≡ []
+  pub heads : walk.heads.items ≡ []
+
+-- The records of a stream that stands are taken: it is held, and its name is one more.
+pub record HasTakenStanding (old new : Walk) (run : List Found) : Type 0 where
+  pub part : StreamParts
+  pub runs : is_run (names_in old.names) (without_slots run) ≡ true
+  pub names : names_in new.names ≡ names_in old.names ++ part.name ∷ []
+  pub held : IsHeldOf part run
+  pub done : new.done.items ≡ old.done.items ++ part ∷ []
+  pub others : new.others.items ≡ old.others.items
+  pub heads : new.heads.items ≡ old.heads.items
+
+-- Those of a dropped stream are taken: its name is one more, and so are their slots, its own apart.
+pub record HasTakenDropped (old new : Walk) (run : List Found) : Type 0 where
+  pub head : Created
+  pub slot : ℕ
+  pub rest : List Found
+  pub split : run ≡ record { slot = slot; holds = records.Stream head.number head.name head.params true } ∷ rest
+  pub runs : is_run (names_in old.names) (without_slots run) ≡ true
+  pub names : names_in new.names ≡ names_in old.names ++ head.name ∷ []
+  pub done : new.done.items ≡ old.done.items
+  pub others : new.others.items ≡ old.others.items ++ slots_found rest
+  pub heads : new.heads.items ≡ old.heads.items ++ slot ∷ []
+
+-- what the records of one number answer
+abbrev pub TakesAs : Walk → Walk → ℕ → List Found → Result ⊤ RecoverError → Type 0
+TakesAs old new id run (Ok done) = HasTakenStanding old new run ⊎ HasTakenDropped old new run
+TakesAs old new id run (Err (BadStream n)) = (n ≡ id) × (is_run (names_in old.names) (without_slots run) ≡ false)
+TakesAs old new id run (Err OutOfMemory) = ⊤
+TakesAs old new id run (Err (BadSlot n)) = ⊥
+TakesAs old new id run (Err Disk) = ⊥
+
+-- all records came: the slots, each kind in order, the streams' own last
+pub record EndsWalk (walk : Walk) (parts : Parts) : Type 0 where
+  pub streams : parts.streams.items ≡ walk.done.items
+  pub others : List ℕ
+  pub heads : List ℕ
+  pub doomed : parts.doomed.items ≡ others ++ heads
+  pub others_rise : Rises (λ slot. slot) others
+  pub heads_rise : Rises (λ slot. slot) heads
+  pub of_others : IsPermutation others walk.others.items
+  pub of_heads : IsPermutation heads walk.heads.items
 
 -- The records from a place on that are of one number, with the first of them. Those behind them are of greater ones.
 pub record IsNextRun (all : List Found) (at n : ℕ) (run : List Found) : Type 0 where

@@ -19,7 +19,7 @@ HasValidTimes values start (Some finish) = (start ≤ finish) × (finish ≤ LAT
 -- stream can have, and landmarks and their values have numbers from 1 on and times that they can have.
 abbrev pub IsUsable : Record → Type 0
 IsUsable Free = ⊥
-IsUsable (Stream id name params) = IsTrue (has_target params) × (id ≤ LAST_STREAM)
+IsUsable (Stream id name params dropped) = IsTrue (has_target params) × (id ≤ LAST_STREAM)
 IsUsable (Window id first summary) = (1 ≤ first) × (first + summary.count ≤ GREATEST_COUNT + 1) × IsPossible summary
 IsUsable (Landmark id number values start finish) = (1 ≤ number) × (number < 2 ^ 32) × HasValidTimes values start finish
 IsUsable (Value id number index t v) = (1 ≤ number) × (number < 2 ^ 32) × (index < 2 ^ 32) × (t ≤ LATEST_TIME) × FitsSigned w64 v

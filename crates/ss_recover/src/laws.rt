@@ -1,5 +1,5 @@
 // Laws over what slots hold, each the contract of a function that does nothing.
-ghost use Rattle.std.specs.Prelude.{◌≡◌, ◌≤◌, ◌<◌, ℕ, List, [], ◌∷◌, ◌++◌, Option, Some, true};
+ghost use Rattle.std.specs.Prelude.{◌≡◌, ◌≤◌, ◌<◌, ℕ, IsTrue, List, [], ◌∷◌, ◌++◌, Option, Some, true, false};
 ghost use Rattle.std.specs.List.Sorted.{IsPermutation};
 ghost use Rattle.ss_journal.specs.Redo.{SlotMap, SameMap, StandsFor, changed, zeros};
 ghost use Rattle.ss_journal.specs.declared.put.Put.{Put};
@@ -9,7 +9,9 @@ ghost use Rattle.ss_codec.specs.Record.{Spells};
 ghost use Rattle.ss_codec.specs.declared.record.Record.{Record};
 ghost use Rattle.ss_codec.specs.declared.record.Record.TheVariants.{Free};
 ghost use Rattle.ss_model.specs.Standing.{IsState};
-ghost use Rattle.ss_model.specs.State.{Stream};
+ghost use Rattle.ss_codec.specs.declared.record.Record.TheVariants as records;
+ghost use Rattle.ss_model.specs.State.{Created, Stream};
+ghost use Rattle.ss_recover.specs.Doomed.{may_go, records_beside, without_numbered};
 ghost use Rattle.ss_recover.specs.Held.{AreHeld, HasWholeSlots, IsRecord, occupied};
 ghost use Rattle.ss_recover.specs.Parts.{carried, carries};
 ghost use Rattle.ss_recover.specs.declared.parts.StreamParts.{StreamParts};
@@ -50,6 +52,21 @@ pub fn a_slot_that_is_freed()
     ensures { (found : SlotMap) (put : Put) (was : Option Record) (rest : List (ℕ × Option Record)) →
         put.bytes ≡ zeros → IsPermutation ((put.slot, was) ∷ rest) (occupied found) →
         IsPermutation rest (occupied (changed found (put ∷ []))) }
+{}
+
+/// A record of a dropped stream may go: without it the map carries the same streams.
+pub fn a_dropped_record_that_goes()
+    ensures { (found : SlotMap) (put : Put) (streams : List Stream) (gone : Record) (others : List (ℕ × Option Record)) →
+        HasWholeSlots found → put.bytes ≡ zeros → carried found ≡ carries streams → IsTrue (may_go gone (records_beside others)) →
+        IsPermutation ((put.slot, Some gone) ∷ others) (occupied found) → carried (changed found (put ∷ [])) ≡ carries streams }
+{}
+
+/// A stream whose record says from now on that it was dropped is carried no more, and the others are as they were.
+pub fn a_stream_that_is_dropped()
+    ensures { (found : SlotMap) (put : Put) (streams : List Stream) (s : Created) (others : List (ℕ × Option Record)) →
+        HasWholeSlots found → IsRecord put (records.Stream s.number s.name s.params true) → carried found ≡ carries streams →
+        IsPermutation ((put.slot, Some (records.Stream s.number s.name s.params false)) ∷ others) (occupied found) →
+        carried (changed found (put ∷ [])) ≡ carries (without_numbered s.number streams) }
 {}
 
 /// What a map carries is a state.

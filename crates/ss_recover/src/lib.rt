@@ -14,9 +14,9 @@ mod walking;
 
 pub use free::lies_free;
 pub use laws::{
-    a_record_in_a_free_slot, a_record_in_place_of_another, a_slot_that_is_freed,
-    images_have_whole_slots, same_maps_carry_the_same, what_is_carried_is_a_state,
-    what_is_held_is_carried,
+    a_dropped_record_that_goes, a_record_in_a_free_slot, a_record_in_place_of_another,
+    a_slot_that_is_freed, a_stream_that_is_dropped, images_have_whole_slots,
+    same_maps_carry_the_same, what_is_carried_is_a_state, what_is_held_is_carried,
 };
 pub use parts::{Parts, StreamParts};
 pub use rebuilding::rebuild;

@@ -5,7 +5,7 @@ ghost use Rattle.ss_outside.specs.Step.{Step};
 ghost use Rattle.ss_outside.specs.Verdict.{OnFailed, UnlessFailed};
 ghost use Rattle.ss_journal.specs.Kept.{HasStopped, IsRunning, IsSealed};
 ghost use Rattle.ss_records.specs.Kept.{AreKept};
-ghost use Rattle.ss_recover.specs.Held.{AreWhole};
+ghost use Rattle.ss_recover.specs.Held.{AreWholeBeside};
 ghost use Rattle.ss_recover.specs.Rebuilt.{Rebuilds, verdict_of_rebuild};
 
 use crate::gathering::gather;
@@ -18,8 +18,9 @@ use std::alloc::Global;
 use std::marker::Brand;
 use std::sync::ledger::Blank;
 
-/// The streams that the records carry, each record with its slot, in the order of the streams' numbers. It reads each live slot
-/// once, and writes nothing. At an error other than `Disk` the records are as they were.
+/// The streams that the records carry, each record with its slot, in the order of the streams' numbers, and the slots of the
+/// records of dropped streams. It reads each live slot once, and writes nothing. At an error other than `Disk` the records
+/// are as they were.
 pub fn rebuild<D: Disk>(
     alloc: Global,
     records: &mut Records,
@@ -31,7 +32,7 @@ pub fn rebuild<D: Disk>(
     // The streams of the content's map, or its lowest damaged slot, or else its lowest damaged stream. Nothing is written.
     ensures rebuilds { Step (verdict_of_rebuild result) (D.seen disk.old) (D.seen disk.new) (Rebuilds records.new result) }
     // What is true of them over every disk, also one that tells nothing.
-    ensures whole { IfOk result (λ parts. AreWhole parts.streams.items records.old.live) }
+    ensures whole { IfOk result (λ parts. AreWholeBeside parts.doomed.items parts.streams.items records.old.live) }
     ensures journal { UnlessFailed (verdict_of_rebuild result) (records.new.journal ≡ records.old.journal) }
     ensures live { records.new.live ≡ records.old.live }
     ensures stopped { OnFailed (verdict_of_rebuild result) (HasStopped records.new.journal) }

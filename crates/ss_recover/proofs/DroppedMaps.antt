@@ -1,0 +1,181 @@
+-- Maps without a record of a dropped stream, and those of a stream that is dropped.
+use Rattle.std.proofs.Common.{◌≡◌, ◌∙◌, ℕ, ◌+◌, ◌-◌, ◌<◌, Bool, true, false, ◌||◌, cond, nat_eq, List, [], ◌∷◌, ◌++◌, map, length, refl, sym, ap, ap₂, subst}
+use Rattle.std.proofs.Common.{arith, inl, inr, IsPermutation, IsTrue, Option, Some, None}
+use Rattle.std.specs.Prelude.{is_none, nat_lt, not}
+use Rattle.std.specs.List.{AllByRecursion, filter_map, list_any, position_or_len, range_with_len}
+use Rattle.std.proofs.lemmas.Bool.{cases_Bool, cond-false, cond-true}
+use Rattle.std.proofs.lemmas.Bool.Decides.{nat_tests}
+use Rattle.std.proofs.lemmas.List.{length-append, map-append}
+use Rattle.std.proofs.lemmas.List.Elements.{All-from_recursion, filter_map-append, recursion_from_All}
+use Rattle.std.proofs.lemmas.List.Folds.{list_any-append}
+use Rattle.std.proofs.lemmas.List.Sorted.{All-permutation, IsPermutation-sym, list_any-IsPermutation}
+use Rattle.ss_journal.specs.Puts.{with_put}
+use Rattle.ss_journal.specs.Redo.{SlotMap, changed, zeros}
+use Rattle.ss_journal.specs.declared.put.Put.{Put}
+use Rattle.ss_records.specs.Live.{are_zeros}
+use Rattle.ss_codec.specs.Decoded.{decoded}
+use Rattle.ss_codec.specs.declared.record.Record.{Record}
+use Rattle.ss_codec.specs.declared.record.Record.TheVariants as records
+use Rattle.ss_codec.proofs.RecordLemmas.{decoded-Spells, decoded-spelling, is_valid-free, spelling-free}
+use Rattle.ss_model.specs.State.{Created, Stream}
+use Rattle.ss_recover.specs.Carried.{spelled, stream_number}
+use Rattle.ss_recover.specs.Doomed.{may_go, records_beside, without_numbered}
+use Rattle.ss_recover.specs.Held.{HasWholeSlots, IsRecord, occupied}
+use Rattle.ss_recover.specs.Parts.{carried, carries, judged, lowest_bad_slot, lowest_bad_stream, records_in, streams_carried}
+use Rattle.ss_recover.proofs.DroppedRecords.{CarryThem, may-goes, may_go-same}
+use Rattle.ss_recover.proofs.DroppedStreams.{is-dropped}
+use Rattle.ss_recover.proofs.FreeSlots.{ZerosAreFree, any-filled, zeros_are_free}
+use Rattle.ss_recover.proofs.Lists.{all_behind, all_front, all_weaker, range-above, range-below}
+use Rattle.ss_recover.proofs.Occupied.{IsAmong, IsAmong-filled, back, filled, filled-live, filled-zeros, front, range-at}
+use Rattle.ss_recover.proofs.Permutations.{IsPermutation-filter_map}
+use Rattle.ss_recover.proofs.PutLemmas.{extent-stays}
+use Rattle.ss_recover.proofs.SoundNumbers.{AreSound, AreSound-none_bad, carries-judged}
+use Rattle.ss_recover.proofs.WholeSlots.{spells-same}
+
+-- what is beside a slot is what its bytes spell
+filled-spells : (bytes : ℕ → List ℕ) (slots : List ℕ) → AllByRecursion (λ e. e.1 ≡ decoded (bytes e.0)) (filled bytes slots)
+filled-spells bytes [] = tt
+filled-spells bytes (slot ∷ slots) = elim (cases_Bool (are_zeros (bytes slot))) [
+  | inl zeros ↦
+      subst (AllByRecursion (λ e. e.1 ≡ decoded (bytes e.0))) (sym (filled-zeros bytes slot slots zeros)) (filled-spells bytes slots)
+  | inr live ↦
+      subst (AllByRecursion (λ e. e.1 ≡ decoded (bytes e.0))) (sym (filled-live bytes slot slots live)) (refl, filled-spells bytes slots)
+]
+
+entry-spells : (bytes : ℕ → List ℕ) (p n : ℕ) (was : Option Record) (rest : List (ℕ × Option Record)) →
+    IsPermutation ((p, was) ∷ rest) (filled bytes (range_with_len 0 n)) → was ≡ decoded (bytes p)
+entry-spells bytes p n was rest moved =
+    let P : ℕ × Option Record → Type 0 = λ e. e.1 ≡ decoded (bytes e.0) in
+    (recursion_from_All P ((p, was) ∷ rest)
+    (All-permutation P (filled bytes (range_with_len 0 n)) ((p, was) ∷ rest) (IsPermutation-sym _ _ moved)
+    (All-from_recursion P (filled bytes (range_with_len 0 n)) (filled-spells bytes (range_with_len 0 n))))).0
+
+-- what slots spell, those below one, that one and those above it
+abbrev spells : (ℕ → List ℕ) → List ℕ → List (Option Record)
+spells bytes slots = map (λ slot. decoded (bytes slot)) slots
+
+spells-at : (bytes : ℕ → List ℕ) (p n : ℕ) (r : Record) → p < n → decoded (bytes p) ≡ Some r →
+    spells bytes (range_with_len 0 n) ≡ spells bytes (front p) ++ Some r ∷ spells bytes (back p n)
+spells-at bytes p n r below is =
+    ap (spells bytes) (range-at p n below) ∙ map-append (λ slot. decoded (bytes slot)) (front p) (p ∷ back p n)
+    ∙ ap (λ o. spells bytes (front p) ++ o ∷ spells bytes (back p n)) is
+
+records_in-at : (xs ys : List (Option Record)) (r : Record) → records_in (xs ++ Some r ∷ ys) ≡ records_in xs ++ r ∷ records_in ys
+records_in-at xs ys r = filter_map-append (λ o. o) xs (Some r ∷ ys)
+
+-- one record in the place of another leaves the slots that spell none
+place-changed : (xs ys : List (Option Record)) (r q : Record) → position_or_len is_none (xs ++ Some r ∷ ys) ≡ position_or_len is_none (xs ++ Some q ∷ ys)
+place-changed [] ys r q = refl
+place-changed (x ∷ xs) ys r q = ap (λ n. cond (not (is_none x)) (1 + n) 0) (place-changed xs ys r q)
+
+bad_slot-changed : (xs ys : List (Option Record)) (r q : Record) → lowest_bad_slot (xs ++ Some r ∷ ys) ≡ lowest_bad_slot (xs ++ Some q ∷ ys)
+bad_slot-changed xs ys r q =
+    let place = place-changed xs ys r q in
+    let long : length (xs ++ Some r ∷ ys) ≡ length (xs ++ Some q ∷ ys) = length-append xs (Some r ∷ ys) ∙ sym (length-append xs (Some q ∷ ys)) in
+    λ i. cond (nat_lt (place i) (long i)) (Some (place i)) None
+
+-- A put in the place of a record.
+module _ (found : SlotMap) (put : Put) (r q : Record) (below : put.slot < found.extent) (was : decoded (found.bytes put.slot) ≡ Some r)
+    (is : decoded put.bytes ≡ Some q) where
+  abbrev xs : List (Option Record)
+  xs = spells found.bytes (front put.slot)
+
+  abbrev ys : List (Option Record)
+  ys = spells found.bytes (back put.slot found.extent)
+
+  spelled-before : spelled found ≡ xs ++ Some r ∷ ys
+  unfolding spelled
+  spelled-before = spells-at found.bytes put.slot found.extent r below was
+
+  leaves : (slots : List ℕ) → AllByRecursion (λ slot. nat_eq slot put.slot ≡ false) slots → spells (with_put put found.bytes) slots ≡ spells found.bytes slots
+  leaves slots others =
+      spells-same (with_put put found.bytes) found.bytes slots
+      (all_weaker (λ slot. nat_eq slot put.slot ≡ false) (λ slot. with_put put found.bytes slot ≡ found.bytes slot)
+      (λ slot other. cond-false (nat_eq slot put.slot) put.bytes (found.bytes slot) other) slots others)
+
+  spelled-after : spelled (changed found (put ∷ [])) ≡ xs ++ Some q ∷ ys
+  unfolding spelled
+  spelled-after =
+      let same : nat_eq put.slot put.slot ≡ true = grind (arith, nat_tests) in
+      let here : decoded (with_put put found.bytes put.slot) ≡ Some q =
+      ap decoded (cond-true (nat_eq put.slot put.slot) put.bytes (found.bytes put.slot) same) ∙ is in
+      ap (λ n. spells (with_put put found.bytes) (range_with_len 0 n)) (extent-stays put found below)
+      ∙ spells-at (with_put put found.bytes) put.slot found.extent q below here
+      ∙ ap₂ (λ (a b : List (Option Record)). a ++ Some q ∷ b) (leaves (front put.slot) (range-below put.slot 0 put.slot (omega arith)))
+      (leaves (back put.slot found.extent) (range-above put.slot (put.slot + 1) (found.extent - (put.slot + 1)) (omega arith)))
+
+  carried-put : (F : List Stream → List Stream) (streams : List Stream) →
+      (AreSound (records_in xs ++ r ∷ records_in ys) (filter_map stream_number (records_in xs ++ r ∷ records_in ys)) →
+      CarryThem (records_in xs ++ q ∷ records_in ys) (F (streams_carried (records_in xs ++ r ∷ records_in ys)))) →
+      carried found ≡ carries streams → carried (changed found (put ∷ [])) ≡ carries (F streams)
+  unfolding carried
+  carried-put F streams step carries_them =
+      let first : records_in (spelled found) ≡ records_in xs ++ r ∷ records_in ys = ap records_in spelled-before ∙ records_in-at xs ys r in
+      let second : records_in (spelled (changed found (put ∷ []))) ≡ records_in xs ++ q ∷ records_in ys =
+      ap records_in spelled-after ∙ records_in-at xs ys q in
+      let parts = carries-judged (lowest_bad_slot (spelled found)) (lowest_bad_stream (records_in (spelled found)))
+      (streams_carried (records_in (spelled found))) streams carries_them in
+      let them = step (subst (λ l. AreSound l (filter_map stream_number l)) first (AreSound-none_bad (records_in (spelled found)) parts.1)) in
+      let slot : lowest_bad_slot (spelled (changed found (put ∷ []))) ≡ None =
+      ap lowest_bad_slot spelled-after ∙ bad_slot-changed xs ys q r ∙ sym (ap lowest_bad_slot spelled-before) ∙ parts.0 in
+      let number : lowest_bad_stream (records_in (spelled (changed found (put ∷ [])))) ≡ None = ap lowest_bad_stream second ∙ them.sound in
+      let streams_now : streams_carried (records_in (spelled (changed found (put ∷ [])))) ≡ F streams =
+      ap streams_carried second ∙ them.same ∙ ap F (ap streams_carried (sym first) ∙ parts.2) in
+      λ i. judged (slot i) (number i) (streams_now i)
+
+-- the records beside one
+module _ (found : SlotMap) (p : ℕ) (r : Record) (others : List (ℕ × Option Record)) (whole : HasWholeSlots found)
+    (moved : IsPermutation ((p, Some r) ∷ others) (occupied found)) where
+  among : IsAmong found.bytes p found.extent others
+  among = IsAmong-filled found.bytes p found.extent (Some r) others moved
+
+  entry : decoded (found.bytes p) ≡ Some r
+  entry = sym (entry-spells found.bytes p found.extent (Some r) others moved)
+
+  abbrev below_it : List Record
+  below_it = records_in (spells found.bytes (front p))
+
+  abbrev above_it : List Record
+  above_it = records_in (spells found.bytes (back p found.extent))
+
+  any-others : (test : Record → Bool) → test records.Free ≡ false → list_any test (records_beside others) ≡ list_any test (below_it ++ above_it)
+  any-others test free =
+      let first = filled found.bytes (front p) in
+      let second = filled found.bytes (back p found.extent) in
+      let free_all = subst (AllByRecursion (ZerosAreFree found.bytes)) (range-at p found.extent among.below) (zeros_are_free found whole) in
+      let free_back = all_behind (ZerosAreFree found.bytes) (front p) (p ∷ back p found.extent) free_all in
+      list_any-IsPermutation test (records_beside others) (records_beside (first ++ second))
+      (IsPermutation-filter_map (λ (e : ℕ × Option Record). e.1) others (first ++ second) among.others)
+      ∙ ap (list_any test) (filter_map-append (λ (e : ℕ × Option Record). e.1) first second)
+      ∙ list_any-append test (records_beside first) (records_beside second)
+      ∙ ap₂ (λ (a b : Bool). a || b)
+      (any-filled test free found.bytes (front p) (all_front (ZerosAreFree found.bytes) (front p) (p ∷ back p found.extent) free_all))
+      (any-filled test free found.bytes (back p found.extent) free_back.1)
+      ∙ sym (list_any-append test below_it above_it)
+
+decoded-cleared : (put : Put) → put.bytes ≡ zeros → decoded put.bytes ≡ Some records.Free
+decoded-cleared put is = ap decoded (is ∙ sym spelling-free) ∙ decoded-spelling records.Free is_valid-free
+
+-- a record of a dropped stream may go
+pub carried-goes : (found : SlotMap) (put : Put) (streams : List Stream) (gone : Record) (others : List (ℕ × Option Record)) →
+    HasWholeSlots found → put.bytes ≡ zeros → carried found ≡ carries streams → IsTrue (may_go gone (records_beside others)) →
+    IsPermutation ((put.slot, Some gone) ∷ others) (occupied found) → carried (changed found (put ∷ [])) ≡ carries streams
+carried-goes found put streams gone others whole cleared carries_them may moved =
+    let xs = below_it found put.slot gone others whole moved in
+    let ys = above_it found put.slot gone others whole moved in
+    let is = among found put.slot gone others whole moved in
+    let same = may_go-same gone (records_beside others) (xs ++ ys) (any-others found put.slot gone others whole moved) in
+    carried-put found put gone records.Free is.below (entry found put.slot gone others whole moved) (decoded-cleared put cleared) (λ ss. ss) streams
+    (may-goes xs ys gone (sym same ∙ may)) carries_them
+
+-- a stream is dropped
+pub carried-dropped : (found : SlotMap) (put : Put) (streams : List Stream) (s : Created) (others : List (ℕ × Option Record)) →
+    HasWholeSlots found → IsRecord put (records.Stream s.number s.name s.params true) → carried found ≡ carries streams →
+    IsPermutation ((put.slot, Some (records.Stream s.number s.name s.params false)) ∷ others) (occupied found) →
+    carried (changed found (put ∷ [])) ≡ carries (without_numbered s.number streams)
+carried-dropped found put streams s others whole is carries_them moved =
+    let was = records.Stream s.number s.name s.params false in
+    let place = among found put.slot was others whole moved in
+    carried-put found put was (records.Stream s.number s.name s.params true) place.below (entry found put.slot was others whole moved)
+    (decoded-Spells put.bytes (records.Stream s.number s.name s.params true) is.spelled) (without_numbered s.number) streams
+    (is-dropped (below_it found put.slot was others whole moved) (above_it found put.slot was others whole moved) s) carries_them

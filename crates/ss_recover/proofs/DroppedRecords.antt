@@ -1,0 +1,290 @@
+-- Records without one of a dropped stream.
+use Rattle.std.proofs.Common.{◌≡◌, ◌⊎◌, ◌∙◌, ℕ, ◌+◌, Bool, true, false, not, ◌&&◌, ◌||◌, List, [], ◌∷◌, ◌++◌, map, refl, sym, ap}
+use Rattle.std.proofs.Common.{ap₂, subst, inl, inr, arith, Option, Some, None}
+use Rattle.std.specs.Prelude.{◌==◌, count_by, nat_lt}
+use Rattle.std.specs.List.{AllByRecursion, cons_option, filter_map, list_any}
+use Rattle.std.specs.Option.{option_map_or}
+use Rattle.std.proofs.lemmas.Bool.{and_cases, and_from, and_left, and_parts, and_right, cases_Bool, cond-false, eq-eqb, eqb-true, lt-ltb, ltb-true}
+use Rattle.std.proofs.lemmas.Bool.{not-true, or_from, or_parts, true≢false}
+use Rattle.std.proofs.lemmas.List.Elements.{filter_map-append}
+use Rattle.std.proofs.lemmas.List.Folds.{list_any-append}
+use Rattle.std.proofs.lemmas.List.Sums.{sum_by-append, sum_by-cons}
+use Rattle.ss_catalog.specs.declared.params.Params.{Params}
+use Rattle.ss_catalog.specs.declared.TheConstants.{MOST_STREAMS}
+use Rattle.ss_codec.specs.declared.record.Record.{Record}
+use Rattle.ss_codec.specs.declared.record.Record.TheVariants as records
+use Rattle.ss_model.specs.State.{Created, Stream}
+use Rattle.ss_recover.specs.Carried.{created_by, in_order, is_drop_of, is_dropped, is_mark_of, stands_by, stream_number, streams_created, streams_standing}
+use Rattle.ss_recover.specs.Carried.{window_of}
+use Rattle.ss_recover.specs.Conditions.{has_new_name, has_one_record, has_place, is_named_before, is_sound}
+use Rattle.ss_recover.specs.Doomed.{is_of, may_go}
+use Rattle.ss_recover.specs.Order.{stream_of}
+use Rattle.ss_recover.specs.Parts.{lowest_bad_stream, stream_carried, streams_carried}
+use Rattle.ss_recover.proofs.InOrder.{all-in_order}
+use Rattle.ss_recover.proofs.Lists.{all_append, all_behind, all_both, all_front, all_weaker, filter_map-kept, kept}
+use Rattle.ss_recover.proofs.SoundNumbers.{AreSound, HaveSameValues, all-false, is_numbered, is_sound-kept, none_bad-AreSound, one-dropped, one-sound}
+use Rattle.ss_recover.proofs.SoundNumbers.{stands_at}
+use Rattle.ss_recover.proofs.SoundNumbers.{stream_carried-same}
+use Rattle.ss_recover.proofs.SoundStreams.{digit, none-passes, stands_alone}
+
+-- one element in the place of another, of which the same is made
+pub made-changed : {X Y : Type 0} (f : X → Option Y) (xs ys : List X) (r q : X) → f r ≡ f q → filter_map f (xs ++ r ∷ ys) ≡ filter_map f (xs ++ q ∷ ys)
+made-changed f xs ys r q same =
+    filter_map-append f xs (r ∷ ys) ∙ ap (λ o. filter_map f xs ++ cons_option o (filter_map f ys)) same ∙ sym (filter_map-append f xs (q ∷ ys))
+
+list_any-changed : {X : Type 0} (p : X → Bool) (xs ys : List X) (r q : X) → p r ≡ p q → list_any p (xs ++ r ∷ ys) ≡ list_any p (xs ++ q ∷ ys)
+list_any-changed p xs ys r q same =
+    list_any-append p xs (r ∷ ys) ∙ ap (λ b. list_any p xs || (b || list_any p ys)) same ∙ sym (list_any-append p xs (q ∷ ys))
+
+-- one element less
+pub list_any-without : {X : Type 0} (p : X → Bool) (xs ys : List X) (q : X) → p q ≡ false → list_any p (xs ++ q ∷ ys) ≡ list_any p (xs ++ ys)
+list_any-without p xs ys q fails =
+    list_any-append p xs (q ∷ ys) ∙ ap (λ b. list_any p xs || (b || list_any p ys)) fails ∙ sym (list_any-append p xs ys)
+
+list_any-fewer : {X : Type 0} (p : X → Bool) (xs ys : List X) (q : X) → list_any p (xs ++ q ∷ ys) ≡ false → list_any p (xs ++ ys) ≡ false
+list_any-fewer p xs ys q none =
+    let both = or_parts (list_any p xs) (p q || list_any p ys) (sym (list_any-append p xs (q ∷ ys)) ∙ none) in
+    let rest = or_parts (p q) (list_any p ys) both.1 in
+    list_any-append p xs ys ∙ or_from (list_any p xs) (list_any p ys) both.0 rest.1
+
+-- A record is no window and no landmark of a number, and no value of one.
+pub record IsNoneOf (n : ℕ) (r : Record) : Type 0 where
+  pub window : window_of n r ≡ None
+  pub mark : is_mark_of n r ≡ false
+
+pub IsNoneOf-apart : (n : ℕ) (r : Record) → (stream_of r == n) ≡ false → IsNoneOf n r
+IsNoneOf-apart n records.Free apart = record { window = refl; mark = refl }
+IsNoneOf-apart n (records.Stream id name params dropped) apart = record { window = refl; mark = refl }
+IsNoneOf-apart n (records.Window id first summary) apart = record { window = rw apart refl; mark = refl }
+IsNoneOf-apart n (records.Landmark id number values start finish) apart = record { window = refl; mark = apart }
+IsNoneOf-apart n (records.Value id number index t v) apart = record { window = refl; mark = apart }
+
+pub HaveSameValues-changed : (n : ℕ) (xs ys : List Record) (r q : Record) → IsNoneOf n r → IsNoneOf n q → HaveSameValues n (xs ++ r ∷ ys) (xs ++ q ∷ ys)
+HaveSameValues-changed n xs ys r q first second = record {
+  windows = made-changed (window_of n) xs ys r q (first.window ∙ sym second.window);
+  marks =
+      sym (filter_map-kept (is_mark_of n) (xs ++ r ∷ ys))
+      ∙ made-changed (kept (is_mark_of n)) xs ys r q (cond-false _ _ _ first.mark ∙ sym (cond-false _ _ _ second.mark))
+      ∙ filter_map-kept (is_mark_of n) (xs ++ q ∷ ys);
+}
+
+-- the same streams, where each has the same values
+streams-same : (rs us : List Record) (cs : List Created) → AllByRecursion (λ c. HaveSameValues c.number rs us) cs →
+    map (stream_carried us) cs ≡ map (stream_carried rs) cs
+streams-same rs us [] same = refl
+streams-same rs us (c ∷ cs) same = ap₂ (λ (s : Stream) (ss : List Stream). s ∷ ss) (sym (stream_carried-same rs us c same.0)) (streams-same rs us cs same.1)
+
+pub all-each : {X : Type 0} (P : X → Type 0) → ((x : X) → P x) → (xs : List X) → AllByRecursion P xs
+all-each P each [] = tt
+all-each P each (x ∷ xs) = (each x, all-each P each xs)
+
+eq-swap : (m n : ℕ) → (n == m) ≡ false → (m == n) ≡ false
+eq-swap m n other = elim (cases_Bool (m == n)) [
+  | inl same ↦ absurd (true≢false (sym (eq-eqb n m (sym (eqb-true m n same))) ∙ other))
+  | inr apart ↦ apart
+]
+
+-- the numbers of records, of which one goes
+pub numbers-without : (P : ℕ → Type 0) (xs ys : List Record) (r : Record) (id : ℕ) → stream_number r ≡ Some id →
+    AllByRecursion P (filter_map stream_number (xs ++ r ∷ ys)) → P id × AllByRecursion P (filter_map stream_number (xs ++ records.Free ∷ ys))
+numbers-without P xs ys r id is all =
+    let parts = subst (AllByRecursion P) (filter_map-append stream_number xs (r ∷ ys) ∙ ap (λ o. filter_map stream_number xs
+    ++ cons_option o (filter_map stream_number ys)) is) all in
+    let back = all_behind P (filter_map stream_number xs) (id ∷ filter_map stream_number ys) parts in (
+      back.0,
+      subst (AllByRecursion P) (sym (filter_map-append stream_number xs (records.Free ∷ ys)))
+          (all_append P (filter_map stream_number xs) (filter_map stream_number ys)
+          (all_front P (filter_map stream_number xs) (id ∷ filter_map stream_number ys) parts) back.1),
+    )
+
+-- Records carry the streams that others do, and no number of theirs is unsound.
+pub record CarryThem (us : List Record) (streams : List Stream) : Type 0 where
+  pub sound : lowest_bad_stream us ≡ None
+  pub same : streams_carried us ≡ streams
+
+-- ---- one that is no stream's own goes
+
+-- A record of a number that is no stream's own.
+record IsOther (id : ℕ) (r : Record) : Type 0 where
+  created : created_by r ≡ None
+  stands : stands_by r ≡ None
+  drops : (n : ℕ) → is_drop_of n r ≡ false
+  number : stream_number r ≡ Some id
+  apart : (n : ℕ) → (id == n) ≡ false → IsNoneOf n r
+
+module _ (xs ys : List Record) (r : Record) (id : ℕ) (is : IsOther id r) (gone : is_dropped id (xs ++ ys) ≡ true) where
+  abbrev rs : List Record
+  rs = xs ++ r ∷ ys
+
+  abbrev us : List Record
+  us = xs ++ records.Free ∷ ys
+
+  same-other : (n : ℕ) → (id == n) ≡ false → HaveSameValues n rs us
+  same-other n apart = HaveSameValues-changed n xs ys r records.Free (is.apart n apart) (record { window = refl; mark = refl })
+
+  other-goes : AreSound rs (filter_map stream_number rs) → CarryThem us (streams_carried rs)
+  other-goes sound =
+      let parts = numbers-without (λ n. is_sound rs n ≡ true) xs ys r id is.number sound in
+      let created : streams_created rs ≡ streams_created us = made-changed created_by xs ys r records.Free is.created in
+      let standing : streams_standing rs ≡ streams_standing us = made-changed stands_by xs ys r records.Free is.stands in
+      let dropped : (n : ℕ) → is_dropped n rs ≡ is_dropped n us = λ n. list_any-changed (is_drop_of n) xs ys r records.Free (is.drops n) in
+      let gone_us : is_dropped id us ≡ true = list_any-without (is_drop_of id) xs ys records.Free refl ∙ gone in
+      let each : (n : ℕ) → is_sound rs n ≡ true → is_sound us n ≡ true =
+      λ n. is_sound-kept rs us n (λ a. ap (stands_alone n) (sym created) ∙ a) (λ g. sym (dropped n) ∙ g) (choice gone_us n (cases_Bool (id == n))) in
+      let none = one-dropped id rs (one-sound rs id parts.0) (dropped id ∙ gone_us) in
+      let apart : AllByRecursion (λ (c : Created). (c.number == id) ≡ false) (streams_standing rs) =
+      all-false (is_numbered id) (streams_standing rs) (standing-any rs ∙ none) in
+      let ordered = in_order (λ (c : Created). c.number) (streams_standing rs) in
+      let same : AllByRecursion (λ (c : Created). HaveSameValues c.number rs us) ordered =
+      all_weaker (λ (c : Created). (c.number == id) ≡ false) (λ (c : Created). HaveSameValues c.number rs us)
+      (λ c other. same-other c.number (eq-swap id c.number other)) ordered
+      (all-in_order (λ (c : Created). c.number) (λ c. (c.number == id) ≡ false) (streams_standing rs) apart) in
+      record {
+        sound = none_bad-AreSound us
+            (all_weaker (λ n. is_sound rs n ≡ true) (λ n. is_sound us n ≡ true) each (filter_map stream_number us) parts.1);
+        same =
+            ap (λ cs. map (stream_carried us) (in_order (λ (c : Created). c.number) cs)) (sym standing) ∙ streams-same rs us ordered same;
+      }
+    where
+      choice : is_dropped id us ≡ true → (n : ℕ) → ((id == n) ≡ true) ⊎ ((id == n) ≡ false) → (is_dropped n us ≡ true) ⊎ HaveSameValues n rs us
+      choice gone n (inl here) = inl (subst (λ m. is_dropped m us ≡ true) (eqb-true id n here) gone)
+      choice gone n (inr other) = inr (same-other n other)
+
+      standing-any : (qs : List Record) → list_any (is_numbered id) (streams_standing qs) ≡ list_any (stands_at id) qs
+      standing-any [] = refl
+      standing-any (q ∷ qs) = go (stands_by q) (standing-any qs)
+        where
+          go : (o : Option Created) → list_any (is_numbered id) (streams_standing qs) ≡ list_any (stands_at id) qs →
+              list_any (is_numbered id) (cons_option o (streams_standing qs)) ≡ (option_map_or (is_numbered id) o false || list_any (stands_at id) qs)
+          go None rest = rest
+          go (Some c) rest = ap (λ b. is_numbered id c || b) rest
+
+-- ---- a stream's own goes, and no other is of its number
+
+-- how many of some streams are of a number, with one more or none
+pub numbered-cons : (n : ℕ) (o : Option Created) (cs : List Created) → count_by (is_numbered n) (cons_option o cs)
+    ≡ digit (option_map_or (is_numbered n) o false) + count_by (is_numbered n) cs
+numbered-cons n None cs = omega arith
+numbered-cons n (Some c) cs = sum_by-cons (λ (d : Created). digit (is_numbered n d)) c cs
+
+-- a stream less leaves the others alone
+alone-fewer : (n : ℕ) (cs ds : List Created) (c : Created) → (c.number == n) ≡ false → stands_alone n (cs ++ c ∷ ds) ≡ true →
+    stands_alone n (cs ++ ds) ≡ true
+alone-fewer n cs ds c other alone =
+    let parts = and_parts (has_one_record n (cs ++ c ∷ ds) && has_place n (cs ++ c ∷ ds)) (has_new_name n (cs ++ c ∷ ds)) alone in
+    let first = and_parts (has_one_record n (cs ++ c ∷ ds)) (has_place n (cs ++ c ∷ ds)) parts.0 in
+    and_from _ _ (and_from _ _ (one first.0) (place first.1)) (new parts.1)
+  where
+    one : has_one_record n (cs ++ c ∷ ds) ≡ true → has_one_record n (cs ++ ds) ≡ true
+    one is =
+        let at : Created → ℕ = λ d. digit (d.number == n) in
+        let here : at c ≡ 0 = cond-false (c.number == n) 1 0 other in
+        let all : count_by (λ d. d.number == n) (cs ++ c ∷ ds) ≡ 1 = eqb-true (count_by (λ d. d.number == n) (cs ++ c ∷ ds)) 1 is in
+        eq-eqb (count_by (λ d. d.number == n) (cs ++ ds)) 1
+        (omega (arith, sum_by-append at cs (c ∷ ds), sum_by-append at cs ds, sum_by-cons at c ds, here, all))
+
+    place : has_place n (cs ++ c ∷ ds) ≡ true → has_place n (cs ++ ds) ≡ true
+    place is =
+        let low : Created → ℕ = λ d. digit (nat_lt d.number n) in
+        let all = ltb-true (count_by (λ d. nat_lt d.number n) (cs ++ c ∷ ds)) MOST_STREAMS is in
+        lt-ltb (count_by (λ d. nat_lt d.number n) (cs ++ ds)) MOST_STREAMS
+        (omega (arith, sum_by-append low cs (c ∷ ds), sum_by-append low cs ds, sum_by-cons low c ds, all))
+
+    new : has_new_name n (cs ++ c ∷ ds) ≡ true → has_new_name n (cs ++ ds) ≡ true
+    new is =
+        let all = cs ++ c ∷ ds in
+        let taken : Created → Bool = λ d. d.number == n && is_named_before all d in
+        let taken_now : Created → Bool = λ d. d.number == n && is_named_before (cs ++ ds) d in
+        let none = list_any-fewer taken cs ds c (not-true (list_any taken all) is) in
+        ap not (none-passes taken_now (cs ++ ds) (all_weaker (λ d. taken d ≡ false) (λ d. taken_now d ≡ false) (λ d fails. still d fails) (cs ++ ds)
+        (all-false taken (cs ++ ds) none)))
+      where
+        still : (d : Created) → (d.number == n && is_named_before (cs ++ c ∷ ds) d) ≡ false → (d.number == n && is_named_before (cs ++ ds) d) ≡ false
+        still d fails = elim (and_cases (d.number == n) (is_named_before (cs ++ c ∷ ds) d) fails) [
+          | inl apart ↦ and_left (d.number == n) (is_named_before (cs ++ ds) d) apart
+          | inr free ↦ and_right (d.number == n) (is_named_before (cs ++ ds) d) (list_any-fewer _ cs ds c free)
+        ]
+
+module _ (xs ys : List Record) (id : ℕ) (name : List ℕ) (params : Params) (none : list_any (is_of id) (xs ++ ys) ≡ false) where
+  abbrev own : Record
+  own = records.Stream id name params true
+
+  abbrev head : Created
+  head = record { number = id; name = name; params = params }
+
+  abbrev held : List Record
+  held = xs ++ own ∷ ys
+
+  abbrev freed : List Record
+  freed = xs ++ records.Free ∷ ys
+
+  same-own : (n : ℕ) → HaveSameValues n held freed
+  same-own n =
+      HaveSameValues-changed n xs ys own records.Free (record { window = refl; mark = refl }) (record { window = refl; mark = refl })
+
+  -- no number of theirs is that of the stream
+  others : AllByRecursion (λ n. (n == id) ≡ false) (filter_map stream_number freed)
+  others = go freed (list_any-without (is_of id) xs ys records.Free refl ∙ none)
+    where
+      go : (qs : List Record) → list_any (is_of id) qs ≡ false → AllByRecursion (λ n. (n == id) ≡ false) (filter_map stream_number qs)
+      go [] fails = tt
+      go (q ∷ qs) fails = let parts = or_parts (is_of id q) (list_any (is_of id) qs) fails in each (stream_number q) parts.0 (go qs parts.1)
+        where
+          each : (o : Option ℕ) → option_map_or (λ n. n == id) o false ≡ false → AllByRecursion (λ n. (n == id) ≡ false) (filter_map stream_number qs) →
+              AllByRecursion (λ n. (n == id) ≡ false) (cons_option o (filter_map stream_number qs))
+          each None other rest = rest
+          each (Some n) other rest = (other, rest)
+
+  own-goes : AreSound held (filter_map stream_number held) → CarryThem freed (streams_carried held)
+  own-goes sound =
+      let parts = numbers-without (λ n. is_sound held n ≡ true) xs ys own id refl sound in
+      let standing : streams_standing held ≡ streams_standing freed = made-changed stands_by xs ys own records.Free refl in
+      let created : streams_created held ≡ streams_created xs ++ head ∷ streams_created ys = filter_map-append created_by xs (own ∷ ys) in
+      let fewer : streams_created freed ≡ streams_created xs ++ streams_created ys = filter_map-append created_by xs (records.Free ∷ ys) in
+      let dropped : (n : ℕ) → (id == n) ≡ false → is_dropped n held ≡ is_dropped n freed =
+      λ n other. list_any-changed (is_drop_of n) xs ys own records.Free other in
+      let each : (n : ℕ) → (n == id) ≡ false → is_sound held n ≡ true → is_sound freed n ≡ true =
+      λ n apart.
+      let other = eq-swap id n apart in
+      is_sound-kept held freed n
+      (λ a. ap (stands_alone n) fewer ∙ alone-fewer n (streams_created xs) (streams_created ys) head other (sym (ap (stands_alone n) created) ∙ a))
+      (λ g. sym (dropped n other) ∙ g) (inr (same-own n)) in
+      let ordered = in_order (λ (c : Created). c.number) (streams_standing held) in
+      record {
+        sound = none_bad-AreSound freed
+            (all_both (λ n. (n == id) ≡ false) (λ n. is_sound held n ≡ true) (λ n. is_sound freed n ≡ true) each (filter_map stream_number freed)
+            others parts.1);
+        same =
+            ap (λ cs. map (stream_carried freed) (in_order (λ (c : Created). c.number) cs)) (sym standing)
+            ∙ streams-same held freed ordered (all-each (λ (c : Created). HaveSameValues c.number held freed) (λ c. same-own c.number) ordered);
+      }
+
+-- a record that may go
+pub may-goes : (xs ys : List Record) (r : Record) → may_go r (xs ++ ys) ≡ true → AreSound (xs ++ r ∷ ys) (filter_map stream_number (xs ++ r ∷ ys)) →
+    CarryThem (xs ++ records.Free ∷ ys) (streams_carried (xs ++ r ∷ ys))
+may-goes xs ys records.Free may sound = absurd (true≢false (sym may))
+may-goes xs ys (records.Stream id name params true) may sound =
+    own-goes xs ys id name params (not-true (list_any (is_of id) (xs ++ ys)) may) sound
+may-goes xs ys (records.Stream id name params false) may sound = absurd (true≢false (sym may))
+may-goes xs ys (records.Window id first summary) may sound =
+    let r = records.Window id first summary in
+    other-goes xs ys r id
+    (record { created = refl; stands = refl; drops = λ n. refl; number = refl; apart = λ n apart. IsNoneOf-apart n r apart }) may sound
+may-goes xs ys (records.Landmark id number values start finish) may sound =
+    let r = records.Landmark id number values start finish in
+    other-goes xs ys r id
+    (record { created = refl; stands = refl; drops = λ n. refl; number = refl; apart = λ n apart. IsNoneOf-apart n r apart }) may sound
+may-goes xs ys (records.Value id number index t v) may sound =
+    let r = records.Value id number index t v in
+    other-goes xs ys r id
+    (record { created = refl; stands = refl; drops = λ n. refl; number = refl; apart = λ n apart. IsNoneOf-apart n r apart }) may sound
+
+-- whether a record may go hangs on what tests some of the others pass
+pub may_go-same : (r : Record) (first second : List Record) →
+    ((test : Record → Bool) → test records.Free ≡ false → list_any test first ≡ list_any test second) →
+    may_go r first ≡ may_go r second
+may_go-same records.Free first second same = refl
+may_go-same (records.Stream id name params dropped) first second same = ap (λ b. dropped && not b) (same (is_of id) refl)
+may_go-same (records.Window id position summary) first second same = same (is_drop_of id) refl
+may_go-same (records.Landmark id number values start finish) first second same = same (is_drop_of id) refl
+may_go-same (records.Value id number index t v) first second same = same (is_drop_of id) refl

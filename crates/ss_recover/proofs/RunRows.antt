@@ -1,0 +1,113 @@
+-- Worked rows: records in order of which some are of dropped streams, as a walk takes them.
+use Rattle.std.proofs.Common.{◌≡◌, ℕ, Bool, true, false, pos, List, [], ◌∷◌, refl}
+use Rattle.ss_catalog.specs.declared.params.Params.TheVariants.{Exp}
+use Rattle.ss_codec.specs.declared.record.Record.{Record}
+use Rattle.ss_codec.specs.declared.record.Record.TheVariants as records
+use Rattle.ss_model.specs.Marks as Marks
+use Rattle.ss_recover.specs.Runs.{begins_dropped, doomed_found, is_drop, is_run, is_sound_in_order}
+use Rattle.ss_recover.specs.Usable.{slots_found}
+use Rattle.ss_recover.specs.declared.found.Found.{Found}
+
+-- the names `a` and `b`
+abbrev a : List ℕ
+a = 97 ∷ []
+
+abbrev b : List ℕ
+b = 98 ∷ []
+
+-- a stream's own record, and that of a window of two values 5 from a position on
+abbrev own : ℕ → List ℕ → Bool → Record
+own number name dropped = records.Stream number name (Exp 2 1 1) dropped
+
+abbrev window : ℕ → ℕ → Record
+window number first =
+    records.Window number first (record { count = 2; sum = pos 10; min = pos 5; max = pos 5; t_first = 10; t_last = 20 })
+
+-- a dropped stream is a run with any records that aren't a stream's own, and one that stands with those alone that may come
+dropped-alone : is_run [] (own 0 a true ∷ []) ≡ true
+dropped-alone = refl
+
+dropped-any : is_run [] (own 0 a true ∷ window 0 7 ∷ window 0 3 ∷ []) ≡ true
+dropped-any = refl
+
+standing-any : is_run [] (own 0 a false ∷ window 0 7 ∷ window 0 3 ∷ []) ≡ false
+standing-any = refl
+
+standing-some : is_run [] (own 0 a false ∷ window 0 1 ∷ []) ≡ true
+unfolding Marks.lies_free
+standing-some = refl
+
+-- neither has two records of its own, and each has a name that is new
+dropped-twice : is_run [] (own 0 a true ∷ own 0 a true ∷ []) ≡ false
+dropped-twice = refl
+
+dropped-stands : is_run [] (own 0 a true ∷ window 0 1 ∷ own 0 a false ∷ []) ≡ false
+dropped-stands = refl
+
+dropped-named : is_run (a ∷ []) (own 1 a true ∷ []) ≡ false
+dropped-named = refl
+
+dropped-other : is_run (a ∷ []) (own 1 b true ∷ []) ≡ true
+dropped-other = refl
+
+-- which record says that its stream was dropped
+says-dropped : is_drop (own 3 a true) ≡ true
+says-dropped = refl
+
+says-standing : is_drop (own 3 a false) ≡ false
+says-standing = refl
+
+says-nothing : is_drop (window 3 1) ≡ false
+says-nothing = refl
+
+begins-with_nothing : begins_dropped [] ≡ false
+begins-with_nothing = refl
+
+begins-standing : begins_dropped (own 0 a false ∷ own 0 a true ∷ []) ≡ false
+begins-standing = refl
+
+begins-with_drop : begins_dropped (own 0 a true ∷ window 0 1 ∷ []) ≡ true
+begins-with_drop = refl
+
+-- of a dropped number no more is asked than that it has one record of its own, with a place and a name that is new
+abbrev some : Bool → List ℕ → List Record
+some dropped name = own 0 a dropped ∷ window 0 7 ∷ own 1 name false ∷ window 1 1 ∷ []
+
+sound-dropped : is_sound_in_order (some true b) 0 ≡ true
+sound-dropped = refl
+
+sound-standing : is_sound_in_order (some false b) 0 ≡ false
+sound-standing = refl
+
+sound-beside : is_sound_in_order (some true b) 1 ≡ true
+unfolding Marks.lies_free
+sound-beside = refl
+
+-- its name counts for those of greater numbers, and its number has no two records of its own
+sound-named : is_sound_in_order (some true a) 1 ≡ false
+sound-named = refl
+
+sound-first_named : is_sound_in_order (some true a) 0 ≡ true
+sound-first_named = refl
+
+sound-twice : is_sound_in_order (own 0 a true ∷ own 0 b true ∷ []) 0 ≡ false
+sound-twice = refl
+
+sound-without : is_sound_in_order (window 0 1 ∷ []) 0 ≡ false
+sound-without = refl
+
+-- the slots of the records of dropped streams, the streams' own and the others
+abbrev found : List Found
+found =
+    record { slot = 8; holds = own 0 a true }
+    ∷ record { slot = 5; holds = window 0 7 }
+    ∷ record { slot = 2; holds = window 0 9 }
+    ∷ record { slot = 6; holds = own 1 b false }
+    ∷ record { slot = 1; holds = window 1 1 }
+    ∷ []
+
+doomed-others : slots_found (doomed_found false found) ≡ 5 ∷ 2 ∷ []
+doomed-others = refl
+
+doomed-own : slots_found (doomed_found true found) ≡ 8 ∷ []
+doomed-own = refl

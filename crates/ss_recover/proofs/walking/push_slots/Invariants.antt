@@ -1,0 +1,6 @@
+use Rattle.std.proofs.Common.{◌≡◌, ◌++◌, take}
+use Rattle.ss_recover.specs.Usable.{slots_found}
+use Rattle.ss_recover.proofs.walking.push_slots.Given as goal
+
+abbrev pub invariant-loop-one : goal.invariant-loop-one
+invariant-loop-one l = l.slots.items ≡ l.initial.slots.items ++ slots_found (take l.one-index l.found)
