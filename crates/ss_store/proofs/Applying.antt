@@ -1,5 +1,5 @@
 -- What an event does to a store: refused, out of memory, failed, done.
-use Rattle.std.proofs.Common.{◌≡◌, ◌∙◌, ℕ, ◌+◌, ◌≤◌, true, false, max, Err, List, None, Ok, Option, Result, Some, ap, flat_map, inl, length, map, refl, sym}
+use Rattle.std.proofs.Common.{◌≡◌, ◌∙◌, ℕ, ◌+◌, ◌≤◌, true, false, max, Err, List, None, Ok, Option, Result, Some, ap, flat_map, length, refl, sym}
 use Rattle.std.specs.Prelude.{Contains, IfSome, IsTrue}
 use Rattle.ss_outside.proofs.CrashLemmas.{reads-none}
 use Rattle.ss_outside.specs.Crash.{KnowsNow}
@@ -13,7 +13,7 @@ use Rattle.ss_model.specs.Steps.{stepped}
 use Rattle.ss_model.specs.declared.types.Ack.{Ack}
 use Rattle.ss_recover.specs.Held.{slots_held}
 use Rattle.ss_recover.specs.declared.parts.StreamParts.{StreamParts}
-use Rattle.ss_store.specs.Applied.{Applies, IsFew, StandsOn, is_creation, is_plain_value}
+use Rattle.ss_store.specs.Applied.{Applies, IsFew, StandsOn, leaves_no_value, is_plain_value}
 use Rattle.ss_records.specs.Kept.{RecordsState}
 use Rattle.ss_store.specs.Calls.{RecoversToEither, StepsState}
 use Rattle.ss_store.specs.Causes.{said_of_held}
@@ -65,7 +65,7 @@ module _ (event : Event) (old : StoreState) where
     stands = stands;
     ack = tt;
     decay = λ plain. tt;
-    created = λ made. tt;
+    empty = λ made. tt;
     refused = refused-exactly (refuses_held old.streams event) r is;
     same = refl;
     starved = tt;
@@ -83,7 +83,7 @@ module _ (event : Event) (old : StoreState) where
       stands = stands;
       ack = tt;
       decay = λ plain. tt;
-      created = λ made. tt;
+      empty = λ made. tt;
       refused = accepted-exactly (refuses_held old.streams event) (Err apply.OutOfMemory) none (λ r wrong. cc);
       same = tt;
       starved = same;
@@ -96,7 +96,7 @@ module _ (event : Event) (old : StoreState) where
     module _ (before after : DiskView) where
       pub Applies-done : (ack : Ack) → Step fine before after
           (λ o n. StepsState {E = ApplyError} event old.records new.records (Ok ack) o n × StoreIsKept new n.content) →
-          (is_creation event ≡ true → ack ≡ record { n = 0; k = 0 }) → ack ≡ said_of_held (part_named (event_name event) new.streams) →
+          (leaves_no_value event ≡ true → ack ≡ record { n = 0; k = 0 }) → ack ≡ said_of_held (part_named (event_name event) new.streams) →
           (is_plain_value old.streams event ≡ true → IsFew new.streams event ack) →
           new.stopped ≡ old.stopped →
           new.records.journal.extent ≤ max old.records.journal.extent (length (flat_map slots_held old.streams) + 1) →
@@ -106,7 +106,7 @@ module _ (event : Event) (old : StoreState) where
         stands = λ run told. (step.told (sym step.tells ∙ told)).1;
         ack = said;
         decay = few;
-        created = new_one;
+        empty = new_one;
         refused = accepted-exactly (refuses_held old.streams event) (Ok ack) none (λ r wrong. cc);
         same = tt;
         starved = tt;
@@ -128,7 +128,7 @@ module _ (event : Event) (old : StoreState) where
         stands = λ run. let wrong : true ≡ false = sym stops ∙ run in cc;
         ack = tt;
         decay = λ plain. tt;
-        created = λ made. tt;
+        empty = λ made. tt;
         refused = accepted-exactly (refuses_held old.streams event) (Err apply.Disk) none (λ r wrong. cc);
         same = tt;
         starved = tt;
@@ -142,7 +142,7 @@ module _ (event : Event) (old : StoreState) where
         stands = λ run. let wrong : true ≡ false = sym stops ∙ run in cc;
         ack = tt;
         decay = λ plain. tt;
-        created = λ made. tt;
+        empty = λ made. tt;
         refused = accepted-exactly (refuses_held old.streams event) (Err (apply.Changed slot)) none (λ r wrong. cc);
         same = tt;
         starved = tt;

@@ -28,10 +28,10 @@ use Rattle.ss_recover.specs.Held.{slots_held}
 use Rattle.ss_recover.specs.declared.parts.StreamParts.{StreamParts}
 use Rattle.ss_target.specs.Lengths.{lengths_of}
 use Rattle.ss_target.specs.Targets.{params_of}
-use Rattle.ss_store.specs.Applied.{Answers, Applies, IsFew, Looks, SealsStore, Sees, ShowsWindow, is_creation, is_plain_value}
+use Rattle.ss_store.specs.Applied.{Answers, Applies, IsFew, Looks, SealsStore, Sees, ShowsWindow, is_plain_value, leaves_no_value}
 use Rattle.ss_store.specs.Calls.{StagesEvent, StandsForEither}
 use Rattle.ss_store.specs.Errors.{stopped_after, verdict_of_apply, verdict_of_opening}
-use Rattle.ss_store.specs.Kept.{SameButSpare, StoreState, is_of_landmark, part_named, without_spare}
+use Rattle.ss_store.specs.Kept.{SameButSpare, StoreState, is_of_landmark, part_named}
 use Rattle.ss_store.specs.declared.error.ApplyError.{ApplyError}
 use Rattle.ss_store.specs.Recover.{Recovers, Stands}
 use Rattle.ss_store.specs.Surveyed.{survey_of}
@@ -87,15 +87,23 @@ unfolding refuses state
 Stands-no_close image stands =
     let accepted : Some refusal.Unknown ≡ None = stands.is_history.accepted [] [] (events.Close (97 ∷ []) 10) refl in cc
 
--- which events are values outside landmarks, and which create a stream
-abbrev events_of : List Event
-events_of = events.Create a (Exp 2 1 1) ∷ events.Value a 10 (pos 5) ∷ events.Open a 10 ∷ events.Close a 10 ∷ []
+Stands-no_drop : (image : List ℕ) → Stands (events.Drop (97 ∷ []) ∷ []) image → ⊥
+unfolding refuses state
+Stands-no_drop image stands =
+    let accepted : Some refusal.Unknown ≡ None = stands.is_history.accepted [] [] (events.Drop (97 ∷ [])) refl in cc
 
-kinds-plain_value : map (λ event. is_plain_value [] event) events_of ≡ false ∷ true ∷ false ∷ false ∷ []
+-- which events are values outside landmarks, which are of landmarks, and which leave no value
+abbrev events_of : List Event
+events_of = events.Create a (Exp 2 1 1) ∷ events.Value a 10 (pos 5) ∷ events.Open a 10 ∷ events.Close a 10 ∷ events.Drop a ∷ []
+
+kinds-plain_value : map (λ event. is_plain_value [] event) events_of ≡ false ∷ true ∷ false ∷ false ∷ false ∷ []
 kinds-plain_value = refl
 
-kinds-creation : map is_creation events_of ≡ true ∷ false ∷ false ∷ false ∷ []
-kinds-creation = refl
+kinds-of_landmark : map (λ event. is_of_landmark [] event) events_of ≡ false ∷ false ∷ true ∷ true ∷ false ∷ []
+kinds-of_landmark = refl
+
+kinds-empty : map leaves_no_value events_of ≡ true ∷ false ∷ false ∷ false ∷ true ∷ []
+kinds-empty = refl
 
 -- at most 2K - 1 windows
 few-windows : (parts : List StreamParts) (event : Event) (ack : Ack) → IsFew parts event ack →
@@ -108,8 +116,8 @@ module _ (event : Event) (old new : StoreState) (before after : DiskView) where
       new.records.journal.extent ≤ max old.records.journal.extent (length (flat_map slots_held old.streams) + 1)
   applies-extent ack applies = applies.extent
 
-  applies-created : (ack : Ack) → is_creation event ≡ true → Applies event old new before after (Ok ack) → ack ≡ record { n = 0; k = 0 }
-  applies-created ack is applies = applies.created is
+  applies-empty : (ack : Ack) → leaves_no_value event ≡ true → Applies event old new before after (Ok ack) → ack ≡ record { n = 0; k = 0 }
+  applies-empty ack is applies = applies.empty is
 
   applies-decay : (ack : Ack) → is_plain_value old.streams event ≡ true → Applies event old new before after (Ok ack) → IsFew new.streams event ack
   applies-decay ack is applies = applies.decay is

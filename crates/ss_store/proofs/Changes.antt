@@ -1,6 +1,6 @@
 -- What a transaction of puts makes of the records in the slots of an image, and of the slots that are live.
-use Rattle.std.proofs.Common.{Bool, IsPermutation, IsTrue, List, Option, Result, Some, [], ap, arith, cond, false, inl, inr, length, not, refl, set}
-use Rattle.std.proofs.Common.{suc, subst, sym, true, zero, ◌+◌, ◌∷◌, ◌<◌, ◌≡◌, ◌≢◌, ◌≤◌, ◌⊎◌, ◌∙◌, ℕ}
+use Rattle.std.proofs.Common.{Bool, IsPermutation, IsTrue, List, Option, Some, [], ap, arith, cond, false, inl, inr, length, not, refl, set}
+use Rattle.std.proofs.Common.{suc, subst, sym, true, zero, ◌+◌, ◌∷◌, ◌<◌, ◌≡◌, ◌≢◌, ◌≤◌, ◌∙◌, ℕ}
 use borrow.Author.Tests.{ltb-true, ltb-false}
 use Rattle.std.proofs.lemmas.Bool.{cases_Bool, cases_eq, cond-false, cond-true, cond_both, not-false}
 use Rattle.std.proofs.lemmas.Bool.Decides.{nat_tests}
@@ -21,8 +21,7 @@ use Rattle.ss_recover.specs.Held.{IsRecord, occupied}
 use Rattle.ss_recover.proofs.Permutations.{IsPermutation-turn}
 use Rattle.ss_recover.proofs.PutLemmas.{live-IsRecord, occupied-free, occupied-freed, occupied-replaced}
 use Rattle.ss_store.specs.Slots.{LiveSlotsGo, live_slots, pair_put, record_put, zeros_put}
-use Rattle.ss_query.specs.Slots.{HasRecords}
-use Rattle.ss_store.proofs.LiveSlots.{AreTwoLive, LiveSlotsGo-freed, LiveSlotsGo-taken, live_slots-freed_first, live_slots-kept_first}
+use Rattle.ss_store.proofs.LiveSlots.{AreTwoLive, IsOneLive-permutation, LiveSlotsGo-freed, LiveSlotsGo-taken, live_slots-freed_first, live_slots-kept_first}
 
 -- a put of a record that isn't free
 IsRecord-put : (slot : ℕ) (r : Record) → IsTrue (is_valid r) → r ≢ Free → IsRecord (record_put slot r) r
@@ -80,18 +79,22 @@ module _ (slot : ℕ) (r : Record) (valid : IsTrue (is_valid r)) (some : r ≢ F
   live_after-again live is = ap (λ (b : Bool). set live slot b) live-put ∙ set-live live slot is
 
 -- a put below the extent
-module _ (slot : ℕ) (r : Record) where
-  pub IsTxn-one : slot < MOST_SLOTS → IsTxn (record_put slot r ∷ [])
+module _ (put : Put) where
+  pub IsTxn-one : put.slot < MOST_SLOTS → IsTxn (put ∷ [])
   IsTxn-one below =
-      let least : nat_le 0 slot ≡ true = grind (arith, nat_tests) in
-      let within : nat_lt slot MOST_SLOTS ≡ true = grind (arith, nat_tests) in
+      let least : nat_le 0 put.slot ≡ true = grind (arith, nat_tests) in
+      let within : nat_lt put.slot MOST_SLOTS ≡ true = grind (arith, nat_tests) in
       record { some = omega arith; few = omega arith; rise = rw (least, within) refl }
 
-  pub slots_fit-one : (extent : ℕ) → slot < extent → IsTrue (slots_fit (record_put slot r ∷ []) extent)
-  slots_fit-one extent below = let within : nat_le slot extent ≡ true = grind (arith, nat_tests) in rw within refl
+  pub slots_fit-one : (extent : ℕ) → put.slot < extent → IsTrue (slots_fit (put ∷ []) extent)
+  slots_fit-one extent below = let within : nat_le put.slot extent ≡ true = grind (arith, nat_tests) in rw within refl
 
-  pub extent_after-one : (extent : ℕ) → slot < extent → extent_after (record_put slot r ∷ []) extent ≡ extent
-  extent_after-one extent below = let other : nat_eq slot extent ≡ false = grind (arith, nat_tests) in rw other refl
+  pub extent_after-one : (extent : ℕ) → put.slot < extent → extent_after (put ∷ []) extent ≡ extent
+  extent_after-one extent below = let other : nat_eq put.slot extent ≡ false = grind (arith, nat_tests) in rw other refl
+
+-- zeros in place of the record of a slot
+pub LiveSlotsGo-zeros : (live : List Bool) (slot : ℕ) → LiveSlotsGo (slot ∷ []) [] live (live_after (zeros_put slot ∷ []) live)
+LiveSlotsGo-zeros live slot others is = (IsOneLive-permutation live slot others is).others
 
 module _ (kept freed : ℕ) (r : Record) (valid : IsTrue (is_valid r)) (some : r ≢ Free) where
   -- the two orders of the puts

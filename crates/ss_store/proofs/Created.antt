@@ -111,11 +111,11 @@ zip-push (u ∷ us) (v ∷ vs) x y same = ap (λ l. (u, v) ∷ l) (zip-push us v
 -- the records with that of the new stream
 all-pushed : (parts : List StreamParts) (streams : List Stream) (part : StreamParts) (name : List ℕ) (params : Params) → AllAgree parts streams →
     IsFreshPart part name params → part.id.0 ≡ next_number (numbers_of streams) →
-    IsPermutation ((part.slot, Some (records.Stream part.id.0 name params)) ∷ flat_map records_held (zip parts streams))
+    IsPermutation ((part.slot, Some (records.Stream part.id.0 name params false)) ∷ flat_map records_held (zip parts streams))
     (flat_map records_held (zip (parts ++ part ∷ []) (stepped streams (Create name params))))
 all-pushed parts streams part name params each fresh number =
     let s = created_in streams name params in
-    let first : ℕ × Option Record = (part.slot, Some (records.Stream part.id.0 name params)) in
+    let first : ℕ × Option Record = (part.slot, Some (records.Stream part.id.0 name params false)) in
     let all = flat_map records_held (zip parts streams) in
     let one : records_held (part, s) ≡ first ∷ [] = rw (fresh.entries, fresh.landmarks, number) refl in
     let is : flat_map records_held (zip (parts ++ part ∷ []) (stepped streams (Create name params))) ≡ all ++ first ∷ [] =
@@ -144,15 +144,15 @@ module _ (parts : List StreamParts) (streams : List Stream) (part : StreamParts)
       (AllAgree-push parts streams part (created_in streams name params) each (Agrees-created part streams name params fresh number-of))
 
   pub HasRecords-created : (image : List ℕ) →
-      HasRecords ((part.slot, Some (records.Stream part.id.0 name params)) ∷ flat_map records_held (zip parts streams)) image →
+      HasRecords ((part.slot, Some (records.Stream part.id.0 name params false)) ∷ flat_map records_held (zip parts streams)) image →
       HasRecords (flat_map records_held (zip (parts ++ part ∷ []) (stepped streams (Create name params)))) image
   HasRecords-created image has =
-      HasRecords-permutation ((part.slot, Some (records.Stream part.id.0 name params)) ∷ flat_map records_held (zip parts streams))
+      HasRecords-permutation ((part.slot, Some (records.Stream part.id.0 name params false)) ∷ flat_map records_held (zip parts streams))
       (flat_map records_held (zip (parts ++ part ∷ []) (stepped streams (Create name params)))) image
       (all-pushed parts streams part name params each fresh number-of) has
 
   pub Recovers-created : (image : List ℕ) → IsState streams → refuses streams (Create name params) ≡ None → closed_state streams ≡ streams →
-      HasRecords ((part.slot, Some (records.Stream part.id.0 name params)) ∷ flat_map records_held (zip parts streams)) image →
+      HasRecords ((part.slot, Some (records.Stream part.id.0 name params false)) ∷ flat_map records_held (zip parts streams)) image →
       Recovers (stepped streams (Create name params)) image
   Recovers-created image state none closed has =
       let now = IsState-stepped streams (Create name params) state tt none in
@@ -164,7 +164,7 @@ module _ (store : StoreState) (content : List ℕ) (kept : StoreIsIn store conte
     (fresh : IsFreshPart part name params) (number : part.id.0 ≡ next_number (numbers_held store.streams))
     (none : refuses kept.streams (Create name params) ≡ None) where
   pub StoreIsKept-created : (records_now : RecordsState) (stopped : Bool) (now : List ℕ) → AreKept records_now now →
-      HasRecords ((part.slot, Some (records.Stream part.id.0 name params)) ∷ flat_map records_held (zip store.streams kept.streams))
+      HasRecords ((part.slot, Some (records.Stream part.id.0 name params false)) ∷ flat_map records_held (zip store.streams kept.streams))
       (shown_by records_now now) →
       StoreIsKept (record { streams = store.streams ++ part ∷ []; records = records_now; stopped = stopped }) now
   StoreIsKept-created records_now stopped now are has = record {
@@ -180,11 +180,11 @@ module _ (store : StoreState) (content : List ℕ) (kept : StoreIsIn store conte
 
   pub StepsState-created : {T E : Type 0} (was_records is_records : RecordsState) (old new : Told) (call : Result T E) →
       shown_by was_records old.content ≡ content →
-      StagesRecord part.slot (records.Stream part.id.0 name params) was_records is_records call old new →
+      StagesRecord part.slot (records.Stream part.id.0 name params false) was_records is_records call old new →
       StepsState (Create name params) was_records is_records call old new
   StepsState-created was_records is_records old new call same stages =
       let others = flat_map records_held (zip store.streams kept.streams) in
-      let pushed = (part.slot, Some (records.Stream part.id.0 name params)) ∷ others in
+      let pushed = (part.slot, Some (records.Stream part.id.0 name params false)) ∷ others in
       let after : (image : List ℕ) → HasRecords pushed image → Recovers (stepped kept.streams (Create name params)) image =
       λ image has. Recovers-created store.streams kept.streams part name params kept.agree fresh number image kept.state none kept.closed has in
       let before : (image : List ℕ) → HasRecords others image → Recovers kept.streams image =

@@ -72,7 +72,7 @@ module _ {store : StoreState} {catalog : List (List ℕ × StreamId)} {name : Li
   pub applies-created : (now : RecordsState) (after : DiskView) (done : Unit {0}) → now.journal.extent ≤ max store.records.journal.extent (part.slot + 1) →
       Step fine before after
       (Makes {T = Unit {0}} {E = Failed}
-      (StagesRecord {T = Unit {0}} {E = Failed} part.slot (records.Stream part.id.0 name params) store.records now (Ok done)) now (Ok done)) →
+      (StagesRecord {T = Unit {0}} {E = Failed} part.slot (records.Stream part.id.0 name params false) store.records now (Ok done)) now (Ok done)) →
       Applies (Create name params) store (with_part now store.stopped) before after (Ok (record { n = 0; k = 0 }))
   applies-created now after done extent step =
       let low = is.is_new.low in
@@ -96,7 +96,7 @@ module _ {store : StoreState} {catalog : List (List ℕ × StreamId)} {name : Li
   pub applies-unwritten : (now : RecordsState) (after : DiskView) (e : Failed) →
       Step failed before after
       (Makes {T = Unit {0}} {E = Failed}
-      (StagesRecord {T = Unit {0}} {E = Failed} part.slot (records.Stream part.id.0 name params) store.records now (Err e)) now (Err e)) →
+      (StagesRecord {T = Unit {0}} {E = Failed} part.slot (records.Stream part.id.0 name params false) store.records now (Err e)) now (Err e)) →
       Applies (Create name params) store (with_part now true) before after (Err Disk)
   applies-unwritten now after e step =
       Applies-failed (Create name params) store (with_part now true) is.none before after fault.Disk

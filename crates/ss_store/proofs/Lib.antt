@@ -1,4 +1,8 @@
 pub mod OneOfMany
+pub mod Removed
+pub mod DroppedRecords
+pub mod WindowSlots
+pub mod Dropping
 pub mod ShorterStates
 pub mod Among
 pub mod HeldCounts
@@ -13,6 +17,8 @@ pub mod FewWindows
 pub mod Joinings
 pub mod LiveSlots
 pub mod ClosingAll
+pub mod Clearings
+pub mod Settlings
 pub mod Opens
 pub mod SurveyAnswers
 pub mod Pairs
@@ -43,6 +49,8 @@ pub mod AnsweredQueries
 mod Rows
 mod AskRows
 mod CallRows
+mod DropRows
+mod ClearingRows
 pub mod FoundAlike
 pub mod Wholes
 pub mod Sealings
@@ -52,6 +60,7 @@ pub mod Sealed
 pub mod Taking
 pub mod MarkTaking
 pub mod Creating
+pub mod Dropped
 pub mod KeyedWindows
 pub mod Rising
 pub mod IndexedStreams

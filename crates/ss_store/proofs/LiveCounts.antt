@@ -1,5 +1,5 @@
 -- How many slots are live, and how many records the streams need.
-use Rattle.std.proofs.Common.{◌≡◌, ℕ, ◌+◌, ◌<◌, ◌≤◌, Bool, false, List, [], ◌∷◌, length, map, flat_map, refl, ap, sym, ◌∙◌, arith, cond, None, Some}
+use Rattle.std.proofs.Common.{◌≡◌, ℕ, ◌+◌, ◌<◌, ◌≤◌, Bool, false, List, [], ◌∷◌, ◌++◌, length, map, flat_map, refl, ap, sym, ◌∙◌, arith, cond, None, Some}
 use Rattle.std.specs.Prelude.{nat_le, count_by, slice_get, Option, IfSome, IsNone, IsTrue, ◌↔◌}
 use Rattle.std.specs.List.{range_with_len}
 use Rattle.std.proofs.lemmas.Bool.Decides.{nat_tests}
@@ -15,7 +15,7 @@ use Rattle.ss_landmarks.specs.Landmark.{all_values}
 use Rattle.ss_records.specs.Live.{is_live, live_count}
 use Rattle.ss_model.specs.State.{Stream, live, records_of}
 use Rattle.ss_model.specs.declared.types.TheConstants.{MOST_RECORDS}
-use Rattle.ss_recover.specs.Held.{Agrees, AllAgree, AreWhole, entries_of, mark_slots, slots_held, window_slots}
+use Rattle.ss_recover.specs.Held.{Agrees, AllAgree, AreWhole, AreWholeBeside, entries_of, mark_slots, slots_held, window_slots}
 use Rattle.ss_recover.specs.declared.parts.StreamParts.{StreamParts}
 use Rattle.ss_store.specs.Slots.{live_slots}
 use Rattle.ss_store.proofs.HeldCounts.{length-Agrees}
@@ -81,7 +81,14 @@ length-slots (part ∷ parts) (s ∷ ss) each =
       length-slots_one part s each.0,
     )
 
--- each live slot is that of a record
+-- each live slot is that of a record, which may be one of a dropped stream
+pub live_count-beside : (doomed : List ℕ) (parts : List StreamParts) (slots : List Bool) → AreWholeBeside doomed parts slots →
+    live_count slots ≡ length doomed + length (flat_map slots_held parts)
+live_count-beside doomed parts slots whole =
+    sym (length-live_slots slots) ∙ length_permutation (doomed ++ flat_map slots_held parts) (live_slots slots) whole.slots
+    ∙ length-append doomed (flat_map slots_held parts)
+
+-- or of a stream that stands
 pub live_count-slots : (parts : List StreamParts) (slots : List Bool) → AreWhole parts slots → live_count slots ≡ length (flat_map slots_held parts)
 live_count-slots parts slots whole =
     sym (length-live_slots slots) ∙ length_permutation (flat_map slots_held parts) (live_slots slots) whole.slots

@@ -17,7 +17,7 @@ use Rattle.ss_records.specs.Kept.{RecordsState, shown_by}
 use Rattle.ss_recover.specs.Held.{entries_of, mark_slots, slots_held}
 use Rattle.ss_recover.specs.declared.parts.StreamParts.{StreamParts}
 use Rattle.ss_store.specs.Admitted.{IsMarker}
-use Rattle.ss_store.specs.Applied.{Applies, StandsOn, is_creation, is_plain_value}
+use Rattle.ss_store.specs.Applied.{Applies, StandsOn, leaves_no_value, is_plain_value}
 use Rattle.ss_store.specs.Changing.{CanTakeMark, HasRoomFor, HasSameWindows, HasTakenMark, KeepsWhole, TakesMark}
 use Rattle.ss_store.specs.Held.{IsOrdered, values_held}
 use Rattle.ss_store.specs.Kept.{IsSound, SameButSpare, StoreIsKept, StoreState, of_part, refuses_held, without_spare}
@@ -68,7 +68,7 @@ taking-mark {store} {view} {catalog} {name} {t} {mark} {place} {slot} {was} {mar
 }
 
 -- nor does a mark create a stream
-not-creation : (name : List ℕ) (t : ℕ) (mark : Mark) → is_creation (event_of name t mark) ≡ true → ⊥
+not-creation : (name : List ℕ) (t : ℕ) (mark : Mark) → leaves_no_value (event_of name t mark) ≡ true → ⊥
 not-creation name t marks.Open made = let wrong : false ≡ true = made in cc
 not-creation name t (marks.Value v) made = let wrong : false ≡ true = made in cc
 not-creation name t marks.Close made = let wrong : false ≡ true = made in cc

@@ -5,7 +5,7 @@ use Rattle.ss_outside.specs.Crash.{KnowsNow, OnlyReads}
 use Rattle.ss_outside.specs.Disk.{Told}
 use Rattle.ss_outside.specs.Verdict as verdicts
 use Rattle.ss_outside.specs.Verdict.{IfUndone, IsFirm, Verdict}
-use Rattle.ss_journal.specs.Calls.{KeepsMap, verdict_of_open}
+use Rattle.ss_journal.specs.Calls.{verdict_of_open}
 use Rattle.ss_journal.specs.Kept as Journals
 use Rattle.ss_journal.specs.Kept.{IsSealed, JournalState}
 use Rattle.ss_journal.specs.Redo.{SlotMap, StandsFor}
@@ -27,12 +27,12 @@ use Rattle.ss_recover.specs.declared.recover_error.RecoverError.TheVariants as r
 use Rattle.ss_store.specs.Calls.{KeepsHistory, KeepsState, Turns}
 use Rattle.ss_store.specs.Applied.{OpensStore}
 use Rattle.ss_store.specs.Causes.{OpensAs}
-use Rattle.ss_store.specs.Changing.{ClosesAll}
+use Rattle.ss_store.specs.Settling.{SettlesAll}
 use Rattle.ss_store.specs.Errors.{open_of_fault, open_of_journal, open_of_recover, verdict_of_opening}
 use Rattle.ss_query.specs.Reading.{verdict_of_read}
 use Rattle.ss_store.specs.Kept.{StoreIsKept, StoreState}
 use Rattle.ss_query.specs.Slots.{HasRecords}
-use Rattle.ss_store.specs.Rebuilt.{HasRebuilt, IsRebuilt}
+use Rattle.ss_store.specs.Rebuilt.{HasRebuilt, HasRebuiltBeside, IsRebuilt}
 use Rattle.ss_store.specs.Recover.{Recovers, Stands, recover, recovered_from, recovered_of}
 use Rattle.ss_store.specs.declared.error.OpenError.{OpenError}
 use Rattle.ss_query.specs.declared.read_error.ReadError.{ReadError}
@@ -41,7 +41,7 @@ use Rattle.ss_store.proofs.Among.{Recovers-held, recover-StandsFor}
 use Rattle.ss_store.proofs.Calls.{Turns-answers, Turns-failed, Turns-reads, Turns-then, Turns-weaker}
 use Rattle.ss_store.proofs.ClosingAll.{IsState-closed_state, closed_state-again}
 use Rattle.ss_store.proofs.KeptStates.{Recovers-same}
-use Rattle.ss_store.proofs.Slots.{Turns-settle}
+use Rattle.ss_store.proofs.Settlings.{Recovers-beside}
 
 -- why there is no store
 pub OpensAs-journal : (content : List ℕ) (error : JournalError) → Journals.OpensMapAs content (Err error) → OpensAs content (Err (open_of_journal error))
@@ -101,27 +101,32 @@ StandsFor-kept records content kept sealed =
 
 -- What was rebuilt of the records that are kept.
 pub IsRebuilt-from : (records : RecordsState) (parts : Parts) (content : List ℕ) → IsSealed records.journal → AreKept records content →
-    ((found : SlotMap) → StandsFor content found → RebuildsAs found (Ok parts)) → IsRebuilt parts.streams.items content
+    ((found : SlotMap) → StandsFor content found → RebuildsAs found (Ok parts)) → IsRebuilt parts.doomed.items parts.streams.items content
 IsRebuilt-from records parts content sealed kept rebuilds =
     let found = kept.journal.shown.found in
     let is = StandsFor-kept records content kept sealed in
     let built = rebuilds found is in
     record {
-      streams = built.0;
-      state = built.2.state;
-      agree = built.2.each;
-      records = record { found = found; map = is; occupied = built.2.records };
+      streams = built.streams;
+      state = built.held.state;
+      agree = built.held.each;
+      records = record {
+        doomed = built.doomed;
+        lie_in = built.slots;
+        records = record { found = found; map = is; occupied = built.held.records; carried = built.carried; in_turn = built.in_turn };
+      };
     }
 
 -- what was rebuilt of a disk that was only read
-pub IsRebuilt-opened : (records : RecordsState) (parts : Parts) (held : List StreamParts) (old opened : Told) → OnlyReads old opened →
-    IsSealed records.journal → AreKept records opened.content → ((found : SlotMap) → StandsFor opened.content found → RebuildsAs found (Ok parts)) →
-    held ≡ parts.streams.items → IsRebuilt held old.content
-IsRebuilt-opened records parts held old opened reads sealed kept rebuilds is =
-    rw (is, ← reads.same.content) (IsRebuilt-from records parts opened.content sealed kept rebuilds)
+pub IsRebuilt-opened : (records : RecordsState) (parts : Parts) (old opened : Told) → OnlyReads old opened → IsSealed records.journal →
+    AreKept records opened.content → ((found : SlotMap) → StandsFor opened.content found → RebuildsAs found (Ok parts)) →
+    IsRebuilt parts.doomed.items parts.streams.items old.content
+IsRebuilt-opened records parts old opened reads sealed kept rebuilds =
+    rw (← reads.same.content) (IsRebuilt-from records parts opened.content sealed kept rebuilds)
 
-pub Recovers-rebuilt : (parts : List StreamParts) (content : List ℕ) (is : IsRebuilt parts content) → Recovers (closed_state is.streams) content
-Recovers-rebuilt parts content is = Recovers-held parts is.streams content is.agree is.state is.records
+pub Recovers-rebuilt : (slots : List ℕ) (parts : List StreamParts) (content : List ℕ) (is : IsRebuilt slots parts content) →
+    Recovers (closed_state is.streams) content
+Recovers-rebuilt slots parts content is = Recovers-beside slots parts is.streams content is.records
 
 -- what holds of closed streams that are held
 pub Recovers-closed : (now : List StreamParts) (streams : List Stream) (image : List ℕ) → IsState streams → AllAgree now (closed_state streams) →
@@ -130,77 +135,59 @@ Recovers-closed now streams image state agree has =
     subst (λ l. Recovers l image) (closed_state-again streams state)
     (Recovers-held now (closed_state streams) image agree (IsState-closed_state streams state) has)
 
--- settling failed: the records are those from before, and recover to the closed state
-pub Turns-unsettled : {S F T E : Type 0} (parts now : List StreamParts) (streams : List Stream) (old new : Told) (step : Result S F) (result : Result T E) →
-    AllAgree parts streams → IsState streams → KeepsMap old new step → IsErr result →
-    Turns (HasRebuilt parts streams) (Recovers (closed_state streams)) (HasRebuilt now (closed_state streams)) old new result
-Turns-unsettled parts now streams old new step result agree state keeps failed =
-    let has = HasRebuilt parts streams in
-    let closed = HasRebuilt now (closed_state streams) in
-    Turns-weaker has has has (Recovers (closed_state streams)) closed closed old new result (λ held. held)
-    (λ held image left. Recovers-held parts streams image agree state left) (λ held image left. left)
-    (Turns-failed has has has closed old new step result failed (Turns-settle (flat_map records_held (zip parts streams)) old new step keeps))
-
--- a call that leaves the records, and then one that closes the streams
-pub Turns-opened : {F T E : Type 0} (parts now : List StreamParts) (streams : List Stream) (old mid new : Told) (result : Result T E) →
-    AllAgree parts streams → IsState streams →
-    Turns {T = Unit {0}} {E = F} (HasRebuilt parts streams) (HasRebuilt parts streams) (HasRebuilt parts streams) old mid (Ok tt) →
-    Turns (HasRebuilt parts streams) (Recovers (closed_state streams)) (HasRebuilt now (closed_state streams)) mid new result →
-    Turns (HasRebuilt parts streams) (Recovers (closed_state streams)) (HasRebuilt now (closed_state streams)) old new result
-Turns-opened {F} parts now streams old mid new result agree state first second =
-    let has = HasRebuilt parts streams in
-    let is = Recovers (closed_state streams) in
-    Turns-then {S = Unit {0}} {F = F} has has has is (HasRebuilt now (closed_state streams)) is old mid new tt result first second
-    (λ image held. Recovers-held parts streams image agree state held) (λ image left. left)
-
 -- a call that leaves the state of what was rebuilt keeps the state
-pub KeepsState-rebuilt : {T E : Type 0} (parts : List StreamParts) (old new : Told) (result : Result T E) (is : IsRebuilt parts old.content)
-    (M Q : List ℕ → Type 0) → ((image : List ℕ) → M image → Recovers (closed_state is.streams) image) →
+pub KeepsState-rebuilt : {T E : Type 0} (slots : List ℕ) (parts : List StreamParts) (old new : Told) (result : Result T E)
+    (is : IsRebuilt slots parts old.content) (M Q : List ℕ → Type 0) → ((image : List ℕ) → M image → Recovers (closed_state is.streams) image) →
     ((image : List ℕ) → Q image → Recovers (closed_state is.streams) image) →
-    Turns (HasRebuilt parts is.streams) M Q old new result → KeepsState old new result
-KeepsState-rebuilt parts old new result is M Q crash after turns streams =
+    Turns (HasRebuiltBeside slots parts is.streams) M Q old new result → KeepsState old new result
+KeepsState-rebuilt slots parts old new result is M Q crash after turns streams =
     let same : Recovers streams old.content → (image : List ℕ) → Recovers (closed_state is.streams) image → Recovers streams image =
     λ has image left. subst (λ l. Recovers l image)
-    (Recovers-same (closed_state is.streams) streams old.content (Recovers-rebuilt parts old.content is) has) left in
-    Turns-weaker (HasRebuilt parts is.streams) (Recovers streams) M (Recovers streams) Q (Recovers streams) old new result
+    (Recovers-same (closed_state is.streams) streams old.content (Recovers-rebuilt slots parts old.content is) has) left in
+    Turns-weaker (HasRebuiltBeside slots parts is.streams) (Recovers streams) M (Recovers streams) Q (Recovers streams) old new result
     (λ has. is.records) (λ has image left. same has image (crash image left)) (λ has image left. same has image (after image left)) turns
 
 -- the streams were rebuilt, and then the store was settled and the streams closed
-module _ (parts now : List StreamParts) (old read new : Told) (knows : KnowsNow old) (is : IsRebuilt parts old.content) (reads : OnlyReads old read) where
+module _ (slots : List ℕ) (parts now : List StreamParts) (old read new : Told) (knows : KnowsNow old) (is : IsRebuilt slots parts old.content)
+    (reads : OnlyReads old read) where
   abbrev Closes : {T E : Type 0} → Result T E → Type 0
-  Closes step = Turns (HasRebuilt parts is.streams) (Recovers (closed_state is.streams)) (HasRebuilt now (closed_state is.streams)) read new step
+  Closes step =
+      Turns (HasRebuiltBeside slots parts is.streams) (Recovers (closed_state is.streams)) (HasRebuilt now (closed_state is.streams)) read new step
 
-  pub held_read : HasRebuilt parts is.streams read.content
-  held_read = subst (HasRebuilt parts is.streams) (sym reads.same.content) is.records
+  pub held_read : HasRebuiltBeside slots parts is.streams read.content
+  held_read = subst (HasRebuiltBeside slots parts is.streams) (sym reads.same.content) is.records
 
   closed-from_start : {T E : Type 0} (step : Result T E) → Closes step →
-      Turns (HasRebuilt parts is.streams) (Recovers (closed_state is.streams)) (HasRebuilt now (closed_state is.streams)) old new step
+      Turns (HasRebuiltBeside slots parts is.streams) (Recovers (closed_state is.streams)) (HasRebuilt now (closed_state is.streams)) old new step
   closed-from_start step closes =
-      let has = HasRebuilt parts is.streams in
-      Turns-opened {F = Unit {0}} parts now is.streams old read new step is.agree is.state
+      let has = HasRebuiltBeside slots parts is.streams in
+      let recovers = Recovers (closed_state is.streams) in
+      Turns-then {S = Unit {0}} {F = Unit {0}} has has has recovers (HasRebuilt now (closed_state is.streams)) recovers old read new tt step
       (Turns-reads has has old read (Ok tt) knows reads (λ held. held)) closes
+      (λ image held. Recovers-beside slots parts is.streams image held) (λ image left. left)
 
   -- closing failed
   pub KeepsState-unclosed : {S F T E : Type 0} (step : Result S F) (result : Result T E) → Closes step → IsErr result → KeepsState old new result
   KeepsState-unclosed step result closes failed =
-      let has = HasRebuilt parts is.streams in
+      let has = HasRebuiltBeside slots parts is.streams in
       let recovers = Recovers (closed_state is.streams) in
-      KeepsState-rebuilt parts old new result is recovers recovers (λ image left. left) (λ image left. left)
+      KeepsState-rebuilt slots parts old new result is recovers recovers (λ image left. left) (λ image left. left)
       (Turns-failed has recovers (HasRebuilt now (closed_state is.streams)) recovers old new step result failed (closed-from_start step closes))
 
   -- the streams were closed
   pub KeepsState-closed : {S F T E : Type 0} (value : S) (result : Result T E) → Closes {T = S} {E = F} (Ok value) → AllAgree now (closed_state is.streams) →
       KeepsState old new result
   KeepsState-closed value result closes agree =
-      let has = HasRebuilt parts is.streams in
+      let has = HasRebuiltBeside slots parts is.streams in
       let recovers = Recovers (closed_state is.streams) in
       let held = HasRebuilt now (closed_state is.streams) in
-      KeepsState-rebuilt parts old new result is recovers held (λ image left. left)
+      KeepsState-rebuilt slots parts old new result is recovers held (λ image left. left)
       (λ image left. Recovers-closed now is.streams image is.state agree left)
       (Turns-answers has recovers held old new value result (closed-from_start (Ok value) closes))
 
   pub OpensAs-closed : (store : StoreState) → AllAgree store.streams (closed_state is.streams) → OpensAs old.content (Ok store)
-  OpensAs-closed store agree = (closed_state is.streams, Recovers-rebuilt parts old.content is, agree, IsState-closed_state is.streams is.state)
+  OpensAs-closed store agree =
+      (closed_state is.streams, Recovers-rebuilt slots parts old.content is, agree, IsState-closed_state is.streams is.state)
 
   pub StoreIsKept-closed : (store : StoreState) → Closes {T = Unit {0}} {E = ReadError} (Ok tt) → AreKept store.records new.content →
       IsSealed store.records.journal → store.streams ≡ now → AllAgree now (closed_state is.streams) → StoreIsKept store new.content
@@ -253,17 +240,17 @@ OpensStore-read error old new knows reads opens =
     }
 
 -- what was read was settled and closed, or it failed at that
-module _ (parts now : List StreamParts) (old read new : Told) (knows : KnowsNow old) (is : IsRebuilt parts old.content) (reads : OnlyReads old read)
-    (records : RecordsState) where
+module _ (slots : List ℕ) (parts now : List StreamParts) (old read new : Told) (knows : KnowsNow old) (is : IsRebuilt slots parts old.content)
+    (reads : OnlyReads old read) (records : RecordsState) where
   judged-rebuilt : ((streams : List Stream) → Recovers streams old.content → ⊥) → OnlyReads old new
-  judged-rebuilt none = absurd (none (closed_state is.streams) (Recovers-rebuilt parts old.content is))
+  judged-rebuilt none = absurd (none (closed_state is.streams) (Recovers-rebuilt slots parts old.content is))
 
-  pub OpensStore-unclosed : (why : ReadError) → ClosesAll parts now records (Err why) read new → OpensStore (Err (open_of_fault why)) old new
+  pub OpensStore-unclosed : (why : ReadError) → SettlesAll slots parts now records (Err why) read new → OpensStore (Err (open_of_fault why)) old new
   OpensStore-unclosed why closes =
       let failed : Result StoreState OpenError = Err (open_of_fault why) in
-      let has = held_read parts now old read new knows is reads in
+      let has = held_read slots parts now old read new knows is reads in
       let keeps : KeepsState old new failed =
-      KeepsState-unclosed parts now old read new knows is reads (Err why) failed (closes.turns is.streams is.state is.agree) refl in
+      KeepsState-unclosed slots parts now old read new knows is reads (Err why) failed (closes.turns is.streams is.state is.agree) refl in
       record {
         opens = OpensAs-firm old.content why (closes.firm is.streams is.state is.agree has);
         kept = tt;
@@ -273,17 +260,17 @@ module _ (parts now : List StreamParts) (old read new : Told) (knows : KnowsNow 
         judged = judged-rebuilt;
       }
 
-  pub OpensStore-closed : (store : StoreState) → ClosesAll parts now records (Ok tt) read new → store.streams ≡ now → store.records ≡ records →
+  pub OpensStore-closed : (store : StoreState) → SettlesAll slots parts now records (Ok tt) read new → store.streams ≡ now → store.records ≡ records →
       IsSealed store.records.journal → OpensStore (Ok store) old new
   OpensStore-closed store closes same same_records sealed =
-      let has = held_read parts now old read new knows is reads in
+      let has = held_read slots parts now old read new knows is reads in
       let agree = closes.agree is.streams is.state is.agree has in
       let turns = closes.turns is.streams is.state is.agree in
       let keeps : KeepsState {T = StoreState} {E = OpenError} old new (Ok store) =
-      KeepsState-closed parts now old read new knows is reads tt (Ok store) turns agree in
+      KeepsState-closed slots parts now old read new knows is reads tt (Ok store) turns agree in
       record {
-        opens = OpensAs-closed parts now old read new knows is reads store (rw same agree);
-        kept = StoreIsKept-closed parts now old read new knows is reads store turns (rw same_records closes.kept) sealed same agree;
+        opens = OpensAs-closed slots parts now old read new knows is reads store (rw same agree);
+        kept = StoreIsKept-closed slots parts now old read new knows is reads store turns (rw same_records closes.kept) sealed same agree;
         state = keeps;
         history = KeepsHistory-state old new (Ok store) keeps;
         unwritten = tt;

@@ -62,6 +62,17 @@ refuses_held-unmarked parts name t marks.Open none = rw none refl
 refuses_held-unmarked parts name t (marks.Value v) none = rw none refl
 refuses_held-unmarked parts name t marks.Close none = rw none refl
 
+-- a drop is judged by one test
+pub refuses_held-undropped : (parts : List StreamParts) (name : List ℕ) → part_named name parts ≡ None →
+    refuses_held parts (events.Drop name) ≡ Some refusal.Unknown
+unfolding refuses_held
+refuses_held-undropped parts name none = rw none refl
+
+pub refuses_held-dropped : (parts : List StreamParts) (name : List ℕ) (part : StreamParts) → part_named name parts ≡ Some part →
+    refuses_held parts (events.Drop name) ≡ None
+unfolding refuses_held
+refuses_held-dropped parts name part named = rw named refl
+
 -- where none is open, none opened at a time
 none-opening : (ls : List Landmark) (t : ℕ) → has_open ls ≡ false → is_opening ls t ≡ false
 none-opening ls t none = rw (none_is_some (open_landmark ls) none) refl
@@ -192,3 +203,6 @@ refuses_held-is parts streams (events.Close name t) each state =
     let closed = closed-alike parts streams each state name in
     let before = before-alike parts streams each state name t in
     λ i. first_that_applies ((not (known i), refusal.Unknown) ∷ (closed i, refusal.NotOpen) ∷ (before i, refusal.Time) ∷ [])
+refuses_held-is parts streams (events.Drop name) each state =
+    let known = stands-held name parts streams each in
+    λ i. first_that_applies ((not (known i), refusal.Unknown) ∷ [])

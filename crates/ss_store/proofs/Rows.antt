@@ -1,5 +1,5 @@
 -- Worked images, whole, and what each recovers to.
-use Rattle.std.specs.Prelude.{◌≡◌, ℕ, ℤ, ◌*◌, pos, negsuc, List, [], ◌∷◌, ◌++◌, flat_map, replicate, slice_set, take, Some, None}
+use Rattle.std.specs.Prelude.{◌≡◌, ℕ, ℤ, false, ◌*◌, pos, negsuc, List, [], ◌∷◌, ◌++◌, flat_map, replicate, slice_set, take, Some, None}
 use Rattle.std.proofs.Common.{refl}
 use Rattle.ss_fields.specs.Fields as Numbers
 use Rattle.ss_summary.specs.Figures.{Figures}
@@ -43,7 +43,7 @@ put slot bytes = record { slot = slot; bytes = bytes }
 
 -- the bytes of a stream's record and of a window's, and a slot that spells no record
 abbrev stream_slot : ℕ → List ℕ → Params → List ℕ
-stream_slot number name params = spelling (records.Stream number name params)
+stream_slot number name params = spelling (records.Stream number name params false)
 
 abbrev window_slot : ℕ → ℕ → Figures → List ℕ
 window_slot number first f = spelling (records.Window number first f)

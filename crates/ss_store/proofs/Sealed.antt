@@ -21,7 +21,7 @@ use Rattle.ss_model.specs.Steps.{stepped}
 use Rattle.ss_model.specs.declared.types.Ack.{Ack}
 use Rattle.ss_query.specs.declared.read_error.ReadError.TheVariants as fault
 use Rattle.ss_records.specs.Calls.{SealsRecords}
-use Rattle.ss_records.specs.Kept.{AreKept, RecordsState, shown_by}
+use Rattle.ss_records.specs.Kept.{RecordsState, shown_by}
 use Rattle.ss_recover.specs.declared.parts.StreamParts.{StreamParts}
 use Rattle.ss_store.specs.Applied.{Applies, IsFew, SealsStore}
 use Rattle.ss_store.specs.Calls.{AddsEvent, RecoversToEither, SealsHistory, StagesEvent, StandsForEither, StepsState, TurnsShown}
@@ -156,7 +156,7 @@ module _ (event : Event) (old between new : StoreState) (before mid after : Disk
     stands = λ run told. (seals.told (sym seals.tells ∙ told)).kept;
     ack = subst (λ (parts : List StreamParts). ack ≡ said_of_held (part_named (event_name event) parts)) (sym same) staged.ack;
     decay = λ plain. subst (λ (parts : List StreamParts). IsFew parts event ack) (sym same) (staged.decay plain);
-    created = staged.created;
+    empty = staged.empty;
     refused = staged.refused;
     same = tt;
     starved = tt;

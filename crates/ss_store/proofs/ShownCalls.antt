@@ -114,6 +114,10 @@ IsOfMap P = (image : List ℕ) → P image → (found : SlotMap) × StandsFor im
 pub HasRecords-of_map : (slots : List (ℕ × Option Record)) → IsOfMap (HasRecords slots)
 HasRecords-of_map slots image has = (has.found, has.map, λ other is. record { found = has.found; map = is; occupied = has.occupied })
 
+-- that an image stands for a map is one
+pub StandsFor-of_map : (found : SlotMap) → IsOfMap (λ image. StandsFor image found)
+StandsFor-of_map found image is = (found, is, λ other also. also)
+
 -- what is like an image of a property of maps has it
 pub of_map-like : (P : List ℕ → Type 0) → IsOfMap P → (image : List ℕ) → StandsLike P image → P image
 of_map-like P maps image like = let its = maps like.0 like.1 in its.2 image (like.2 its.0 its.1)
@@ -169,6 +173,20 @@ module _ (was between : RecordsState) (slots : List (ℕ × Option Record)) (old
     any_moment = room.any_moment;
     durable = λ none. on_ok result (room.durable none);
   }
+
+-- room is made, and then puts are staged, whichever map is shown
+pub TurnsShown-changed : {S F T E : Type 0} (was between is : RecordsState) (found : SlotMap) (old mid : Told) (puts : List Put) (value : S)
+    (result : Result T E) → AreKept was old.content → AreKept between mid.content → StagesPuts puts between is mid.content →
+    KeepsShown {T = S} {E = F} was.journal between.journal old mid (Ok value) →
+    TurnsShown was is (λ image. StandsFor image found) (λ image. StandsFor image found) (λ image. StandsFor image (changed found puts)) old mid result
+TurnsShown-changed {F} was between is found old mid puts value result kept kept_mid stages keeps =
+    let P = λ (image : List ℕ). StandsFor image found in
+    let room = TurnsShown-kept {E = F} was between P old mid (Ok value) (StandsFor-of_map found) kept keeps in
+    record {
+      content = λ has. on_ok result (stages.map kept_mid found (room.content has));
+      any_moment = room.any_moment;
+      durable = λ none. on_ok result (room.durable none);
+    }
 
 -- what was reached of what is shown is reached of the content, where nothing is staged any more
 sealed_content : {T E : Type 0} (is : RecordsState) (Q : List ℕ → Type 0) (new : Told) (result : Result T E) (found : SlotMap) →

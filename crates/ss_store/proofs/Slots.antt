@@ -1,21 +1,19 @@
--- The records in the slots of an image, in whichever order, and the calls that leave them.
-use Rattle.std.proofs.Common.{List, Option, Result, ℕ}
+-- The calls that leave the map of a disk.
+use Rattle.std.proofs.Common.{List, Result, ℕ}
 use Rattle.std.proofs.lemmas.Result.{on_ok_weaker}
 use Rattle.ss_outside.proofs.CrashLemmas.{weaker}
 use Rattle.ss_outside.specs.Disk.{Told}
 use Rattle.ss_journal.specs.Calls.{KeepsMap}
 use Rattle.ss_journal.specs.Redo.{StandsFor}
-use Rattle.ss_codec.specs.declared.record.Record.{Record}
 use Rattle.ss_store.specs.Calls.{Turns}
-use Rattle.ss_query.specs.Slots.{HasRecords}
+use Rattle.ss_store.proofs.ShownCalls.{IsOfMap}
 
--- a call that keeps the map keeps the records, also in a crash
-pub Turns-settle : {T E : Type 0} (slots : List (ℕ × Option Record)) (old new : Told) (result : Result T E) → KeepsMap old new result →
-    Turns (HasRecords slots) (HasRecords slots) (HasRecords slots) old new result
-Turns-settle slots old new result keeps = record {
-  content = λ has. on_ok_weaker result (λ is. record { found = has.found; map = is; occupied = has.occupied }) (keeps.map has.found has.map);
+-- a call that keeps the map keeps each property of maps, also in a crash
+pub Turns-kept : {T E : Type 0} (P : List ℕ → Type 0) (old new : Told) (result : Result T E) → IsOfMap P → KeepsMap old new result →
+    Turns P P P old new result
+Turns-kept P old new result maps keeps = record {
+  content = λ has. let its = maps old.content has in on_ok_weaker result (its.2 new.content) (keeps.map its.0 its.1);
   any_moment = λ none has.
-      weaker old new (λ image. StandsFor image has.found) (HasRecords slots) (λ image is. record { found = has.found; map = is; occupied = has.occupied })
-      (keeps.any_moment none has.found has.map);
+      let its = maps old.content has in weaker old new (λ image. StandsFor image its.0) P its.2 (keeps.any_moment none its.0 its.1);
   durable = keeps.durable;
 }

@@ -24,7 +24,7 @@ SurveysAs-error content opening.OutOfMemory opens = tt
 SurveysAs-error content (opening.Changed slot) opens = opens
 
 -- what was rebuilt closes to the state that is surveyed
-pub SurveysAs-rebuilt : (parts : List StreamParts) (content : List ℕ) (survey : Survey) → IsRebuilt parts content →
+pub SurveysAs-rebuilt : (slots : List ℕ) (parts : List StreamParts) (content : List ℕ) (survey : Survey) → IsRebuilt slots parts content →
     ((all : List Stream) → IsState all → AllAgree parts all → survey ≡ survey_of (closed_state all)) → SurveysAs content (Ok survey)
-SurveysAs-rebuilt parts content survey is said =
-    (closed_state is.streams, Recovers-rebuilt parts content is, said is.streams is.state is.agree)
+SurveysAs-rebuilt slots parts content survey is said =
+    (closed_state is.streams, Recovers-rebuilt slots parts content is, said is.streams is.state is.agree)

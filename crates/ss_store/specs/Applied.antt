@@ -8,7 +8,7 @@ use Rattle.ss_outside.specs.Verdict.{Verdict, IfChanged, IfUndone, IsFirm, OnFin
 use Rattle.ss_outside.specs.declared.source.Failed.{Failed}
 use Rattle.ss_catalog.specs.Events.{event_name}
 use Rattle.ss_catalog.specs.declared.event.Event.{Event}
-use Rattle.ss_catalog.specs.declared.event.Event.TheVariants.{Create, Value, Open, Close}
+use Rattle.ss_catalog.specs.declared.event.Event.TheVariants.{Create, Value, Open, Close, Drop}
 use Rattle.ss_catalog.specs.declared.query.Query.{Query}
 use Rattle.ss_catalog.specs.declared.refusal.Refusal.{Refusal}
 use Rattle.ss_line.specs.declared.entry.At.{At}
@@ -51,13 +51,15 @@ is_plain_value parts (Create name params) = false
 is_plain_value parts (Value name t v) = not (is_of_landmark parts (Value name t v))
 is_plain_value parts (Open name t) = false
 is_plain_value parts (Close name t) = false
+is_plain_value parts (Drop name) = false
 
--- whether an event is the creation of a stream
-abbrev pub is_creation : Event → Bool
-is_creation (Create name params) = true
-is_creation (Value name t v) = false
-is_creation (Open name t) = false
-is_creation (Close name t) = false
+-- whether an event leaves no value in its stream: it creates or drops it
+abbrev pub leaves_no_value : Event → Bool
+leaves_no_value (Create name params) = true
+leaves_no_value (Value name t v) = false
+leaves_no_value (Open name t) = false
+leaves_no_value (Close name t) = false
+leaves_no_value (Drop name) = true
 
 -- at most 2K - 1 windows stand where K target windows cover the values
 abbrev pub IsFew : List StreamParts → Event → Ack → Type 0
@@ -73,8 +75,8 @@ pub record Applies (event : Event) (old new : StoreState) (before after : DiskVi
   pub ack : IfOk result (λ ack. ack ≡ said_of_held (part_named (event_name event) new.streams))
   -- over every disk, and whatever was opened
   pub decay : is_plain_value old.streams event ≡ true → IfOk result (IsFew new.streams event)
-  -- a stream that was just created has no value and no window
-  pub created : is_creation event ≡ true → IfOk result (λ ack. ack ≡ record { n = 0; k = 0 })
+  -- a stream that was just created or dropped has no value and no window
+  pub empty : leaves_no_value event ≡ true → IfOk result (λ ack. ack ≡ record { n = 0; k = 0 })
   -- each refusal exactly where it applies
   pub refused : (r : Refusal) → (result ≡ Err (apply.Refused r)) ↔ (refuses_held old.streams event ≡ Some r)
   pub same : OnRefused (verdict_of_apply result) (new ≡ old)

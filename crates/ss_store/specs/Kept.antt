@@ -7,7 +7,7 @@ use Rattle.std.specs.List.Sorted.{IsStrictlyIncreasing}
 use Rattle.ss_catalog.specs.Names.{same_name}
 use Rattle.ss_catalog.specs.declared.TheConstants.{MOST_STREAMS, LAST_STREAM}
 use Rattle.ss_catalog.specs.declared.event.Event.{Event}
-use Rattle.ss_catalog.specs.declared.event.Event.TheVariants.{Create, Value, Open, Close}
+use Rattle.ss_catalog.specs.declared.event.Event.TheVariants.{Create, Value, Open, Close, Drop}
 use Rattle.ss_catalog.specs.declared.refusal.Refusal.{Refusal}
 use Rattle.ss_catalog.specs.declared.refusal.Refusal.TheVariants as refusal
 use Rattle.ss_catalog.specs.declared.stream_id.StreamId.{StreamId}
@@ -122,6 +122,7 @@ is_of_landmark parts (Create name params) = false
 is_of_landmark parts (Value name t v) = of_part name parts (λ part. has_open part.landmarks.landmarks)
 is_of_landmark parts (Open name t) = true
 is_of_landmark parts (Close name t) = true
+is_of_landmark parts (Drop name) = false
 
 -- the refusals of an event by what is held of the streams, in the order of their numbers, each with whether it applies
 abbrev pub refusals_held : List StreamParts → Event → List (Bool × Refusal)
@@ -144,6 +145,7 @@ refusals_held parts (Close name t) =
     (not (is_some (part_named name parts)), refusal.Unknown)
     ∷ (of_part name parts (λ part. not (has_open part.landmarks.landmarks)), refusal.NotOpen)
     ∷ (of_part name parts (λ part. is_before part.last_time t), refusal.Time) ∷ []
+refusals_held parts (Drop name) = (not (is_some (part_named name parts)), refusal.Unknown) ∷ []
 
 -- why an event is refused by what is held of the streams, where it is
 unfoldable pub refuses_held : List StreamParts → Event → Option Refusal

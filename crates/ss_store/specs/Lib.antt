@@ -1,6 +1,7 @@
 pub mod Recover
 pub mod Calls
 pub mod Slots
+pub mod Clearing
 pub mod Held
 pub mod Joining
 pub mod Kept
@@ -11,6 +12,8 @@ pub mod Admitted
 pub mod Asked
 pub mod Surveyed
 pub mod Rebuilt
+pub mod Settling
 pub mod Changing
 pub mod Indexed
+pub mod Dropping
 pub mod Applied

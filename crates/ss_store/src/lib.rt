@@ -2,6 +2,7 @@
 #![tactic(auto)]
 
 mod appending;
+mod clearing;
 mod closing;
 mod error;
 mod index;

@@ -9,16 +9,18 @@ ghost use Rattle.ss_catalog.specs.declared.TheConstants.{MOST_STREAMS};
 ghost use Rattle.ss_journal.specs.Kept.{IsRunning, IsSealed};
 ghost use Rattle.ss_journal.specs.declared.format.TheConstants.{MOST_SLOTS};
 ghost use Rattle.ss_records.specs.Kept.{AreAtRest, AreKept};
-ghost use Rattle.ss_recover.specs.Held.{AreWhole};
+ghost use Rattle.ss_recover.specs.Held.{AreWhole, AreWholeBeside};
 ghost use Rattle.ss_recover.specs.declared.parts.StreamParts.{StreamParts};
 ghost use Rattle.ss_store.specs.Changing.{ClosesAll, SomeChangedIsHeld};
 ghost use Rattle.ss_store.specs.Errors.{verdict_of_opening};
 ghost use Rattle.ss_query.specs.Reading.{verdict_of_read};
 ghost use Rattle.ss_store.specs.Kept.{entry_of};
 ghost use Rattle.ss_store.specs.Rebuilt.{ReadsAll};
+ghost use Rattle.ss_store.specs.Settling.{SettlesAll};
 ghost use Rattle.ss_store.specs.Indexed.{IsKeyedFor, IsScheduled};
 
 use crate::OpenError;
+use crate::clearing::clear_all;
 use crate::closing::close_windows;
 use crate::index::Index;
 use ss_catalog::Catalog;
@@ -31,20 +33,17 @@ use std::alloc::{AllocError, Global};
 use std::sync::ledger::Ledger;
 
 // Reads and judges all that a disk holds, and writes nothing.
-pub fn read_all<D: Disk>(
-    alloc: Global,
-    disk: &mut D,
-) -> Result<(Records, Vec<StreamParts>), OpenError>
+pub fn read_all<D: Disk>(alloc: Global, disk: &mut D) -> Result<(Records, Parts), OpenError>
     ensures reads { Step (verdict_of_opening result) (D.seen disk.old) (D.seen disk.new) (ReadsAll result) }
     // Over every disk no record has changed: each was read once.
     ensures unchanged { IsFirm (verdict_of_opening result) }
-    ensures whole { IfOk result (λ read. AreWhole read.1.items read.0.live) }
+    ensures whole { IfOk result (λ read. AreWholeBeside read.1.doomed.items read.1.streams.items read.0.live) }
     ensures running { IfOk result (λ read. IsRunning read.0.journal) }
     ensures sealed { IfOk result (λ read. IsSealed read.0.journal) }
 {
     let mut records = Records::open(alloc, disk)?;
-    let Parts { streams } = rebuild(alloc, &mut records, disk)?;
-    Ok((records, streams))
+    let parts = rebuild(alloc, &mut records, disk)?;
+    Ok((records, parts))
 }
 
 // The names and numbers of streams.
@@ -95,21 +94,22 @@ pub fn close_all<D: Disk, L: Ledger>(
     Ok(())
 }
 
-// Settles the entries in use, and makes the merges that are due in each stream.
+// Settles the entries in use, clears the records of dropped streams, and makes the merges that are due in each stream.
 pub fn settle_all<D: Disk, L: Ledger>(
     records: &mut Records,
     disk: &mut D,
+    doomed: &[u32],
     streams: &mut [StreamParts],
     indexes: &mut [Index],
     steps: &mut Steps<L>,
 ) -> Result<(), ReadError>
     requires running { IsRunning records.old.journal }
     requires sealed { IsSealed records.old.journal }
-    requires whole { AreWhole streams.old records.old.live }
+    requires whole { AreWholeBeside doomed.now streams.old records.old.live }
     requires keyed { AllZip IsKeyedFor streams.old indexes.old }
     requires one_disk { OfContent (D.seen disk.old) (AreKept records.old) }
-    ensures closes { Step (verdict_of_read result) (D.seen disk.old) (D.seen disk.new)
-        (ClosesAll streams.old streams.new records.new result) }
+    ensures settles { Step (verdict_of_read result) (D.seen disk.old) (D.seen disk.new)
+        (SettlesAll doomed.now streams.old streams.new records.new result) }
     ensures entries { map entry_of streams.new ≡ map entry_of streams.old }
     ensures whole { OnOk result (AreWhole streams.new records.new.live) }
     ensures at_rest { OnOk result (AreAtRest records.new) }
@@ -117,5 +117,6 @@ pub fn settle_all<D: Disk, L: Ledger>(
     ensures changed { SomeChangedIsHeld (verdict_of_read result) streams.new }
 {
     records.settle(disk)?;
+    clear_all(records, disk, doomed)?;
     close_all(records, disk, streams, indexes, steps)
 }

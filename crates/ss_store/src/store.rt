@@ -3,6 +3,7 @@ mod append;
 mod apply;
 mod ask;
 mod create;
+mod drop;
 mod landmarks;
 mod list;
 mod mark;

@@ -95,9 +95,9 @@ impl Store {
         // Over every disk no record has changed: each was read once.
         ensures unchanged { IsFirm (verdict_of_opening result) }
     {
-        let (records, streams) = read_all(alloc, disk)?;
+        let (records, parts) = read_all(alloc, disk)?;
         // Each slot that is live is one of those that a disk has.
         let _live = records.live();
-        Ok(surveyed_in::<Brand>(&streams, Blank::new(1)))
+        Ok(surveyed_in::<Brand>(&parts.streams, Blank::new(1)))
     }
 }

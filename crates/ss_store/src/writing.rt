@@ -10,7 +10,8 @@ ghost use Rattle.ss_records.specs.Live.{lowest_free};
 ghost use Rattle.ss_codec.specs.Record.{is_valid};
 ghost use Rattle.ss_codec.specs.declared.record.Record.TheVariants.{Free};
 ghost use Rattle.ss_store.specs.Changing.{Makes};
-ghost use Rattle.ss_store.specs.Slots.{AreSomeLive, LiveSlotsGo, StagesRecord, StagesReplaced, StagesTwo, pair_put, record_put};
+ghost use Rattle.ss_store.specs.Slots.{AreSomeLive, LiveSlotsGo, StagesRecord, StagesReplaced, StagesTwo, pair_put, record_put, zeros_put};
+ghost use Rattle.ss_store.specs.Clearing.{StagesChange};
 
 use ss_codec::{Record, SLOT_SIZE, encode};
 use ss_journal::{MOST_SLOTS, Put, Txn};
@@ -69,6 +70,8 @@ pub fn stage_replaced<D: Disk>(
     requires one_disk { OfContent (D.seen disk.old) (AreKept records.old) }
     ensures stages { Step (verdict result) (D.seen disk.old) (D.seen disk.new)
         (Makes (StagesReplaced slot written.now records.old records.new result) records.new result) }
+    ensures changes { Step (verdict result) (D.seen disk.old) (D.seen disk.new)
+        (StagesChange (record_put slot written.now ∷ []) records.old records.new result) }
     ensures settled { OnOk result (IsSettled records.new.journal) }
     ensures live { records.new.live ≡ records.old.live }
     ensures extent { OnOk result (records.new.journal.extent ≡ records.old.journal.extent) }
@@ -77,6 +80,37 @@ pub fn stage_replaced<D: Disk>(
     prove!(records.live() <= MOST_SLOTS);
     records.make_room(disk)?;
     records.stage(&put_of(slot, written));
+    Ok(())
+}
+
+// Zeros for one slot.
+fn zeros_of(slot: u32) -> Txn
+    ensures { result.items ≡ zeros_put slot ∷ [] }
+{
+    let mut txn = Txn::new();
+    txn.push(Put {
+        slot,
+        bytes: [0; SLOT_SIZE],
+    });
+    txn
+}
+
+/// Stages zeros in place of a record.
+pub fn stage_zeros<D: Disk>(records: &mut Records, disk: &mut D, slot: u32) -> Result<(), Failed>
+    requires settled { IsSettled records.old.journal }
+    requires live { AreSomeLive (slot ∷ []) records.old.live }
+    requires one_disk { OfContent (D.seen disk.old) (AreKept records.old) }
+    ensures changes { Step (verdict result) (D.seen disk.old) (D.seen disk.new)
+        (Makes (StagesChange (zeros_put slot ∷ []) records.old records.new result) records.new result) }
+    ensures settled { OnOk result (IsSettled records.new.journal) }
+    ensures live { OnOk result (LiveSlotsGo (slot ∷ []) [] records.old.live records.new.live) }
+    ensures extent { OnOk result (records.new.journal.extent ≡ records.old.journal.extent) }
+    ensures err { OnErr result (records.new.live ≡ records.old.live) }
+{
+    // The records are sound: each slot that is live lies below the extent.
+    prove!(records.live() <= MOST_SLOTS);
+    records.make_room(disk)?;
+    records.stage(&zeros_of(slot));
     Ok(())
 }
 

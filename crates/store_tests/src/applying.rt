@@ -1,6 +1,6 @@
 // Worked rows over a disk in memory: what events answer, and what they leave.
 use crate::passing::pass;
-use crate::running::Asked::{Close, Create, Open, Value};
+use crate::running::Asked::{self, Close, Create, Open, Value};
 use crate::running::{DOUBLING, Row};
 use crate::steps::Step::{self, Apply, Lists, Play, Reopen, Surveys};
 use crate::steps::first_wrong;
@@ -101,4 +101,46 @@ const STAYS_OPEN: [Step; 9] = [
 #[test]
 fn landmarks_stay_open(rt: HostRuntime) -> Result<(), Fail> {
     pass(first_wrong(rt.alloc(), &STAYS_OPEN)?)
+}
+
+// A stream with windows and an open landmark that is dropped.
+pub const DROPPED: [Row; 7] = [
+    (b'a', Create(DOUBLING), Ok((0, 0))),
+    (b'a', Value(10, 5), Ok((1, 1))),
+    (b'a', Value(20, -3), Ok((2, 2))),
+    (b'a', Open(30), Ok((2, 2))),
+    (b'a', Value(30, 1), Ok((2, 2))),
+    (b'a', Value(31, 2), Ok((2, 2))),
+    (b'a', Asked::Drop, Ok((0, 0))),
+];
+
+const NOTHING: Survey = Survey {
+    streams: 0,
+    windows: 0,
+    landmarks: 0,
+    values: 0,
+};
+
+// A name that was dropped may come again, and takes earlier times then.
+const DROPS: [Step; 15] = [
+    Play(&READINGS),
+    Apply(b'x', Asked::Drop, Err(Refused(Refusal::Unknown))),
+    Apply(b'a', Asked::Drop, Ok((0, 0))),
+    Surveys(NOTHING),
+    Apply(b'a', Asked::Drop, Err(Refused(Refusal::Unknown))),
+    Apply(b'a', Value(80, 1), Err(Refused(Refusal::Unknown))),
+    Apply(b'a', Create(DOUBLING), Ok((0, 0))),
+    Apply(b'a', Value(5, 1), Ok((1, 1))),
+    Lists((b'a', 1, 1, 0, 0)),
+    Reopen,
+    Lists((b'a', 1, 1, 0, 0)),
+    Apply(b'a', Asked::Drop, Ok((0, 0))),
+    Play(&DROPPED),
+    Reopen,
+    Surveys(NOTHING),
+];
+
+#[test]
+fn a_drop_takes_all_that_a_stream_holds(rt: HostRuntime) -> Result<(), Fail> {
+    pass(first_wrong(rt.alloc(), &DROPS)?)
 }

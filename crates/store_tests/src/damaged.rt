@@ -1,5 +1,5 @@
 // What the records of small images don't carry, each damage once.
-use crate::images::Slot::{self, Bad, Free, Landmark, Stream, Value, Window};
+use crate::images::Slot::{self, Bad, Dropped, Free, Landmark, Stream, Value, Window};
 use crate::passing::pass;
 use crate::rebuilding::damage;
 use ss_journal::JournalError;
@@ -102,7 +102,29 @@ const OF_ONE: [[Slot; 3]; 28] = [
 ];
 
 // Records with free slots after them, and which damage is told.
-const TOLD: [([Slot; 4], RecoverError); 17] = [
+const TOLD: [([Slot; 4], RecoverError); 21] = [
+    // a stream that is dropped: two of one number, one name of two, and damage beside it
+    (
+        [Dropped(3, b'a'), Stream(3, b'b'), Free, Free],
+        BadStream { id: 3 },
+    ),
+    (
+        [Dropped(1, b'a'), Stream(8, b'a'), Free, Free],
+        BadStream { id: 8 },
+    ),
+    (
+        [Dropped(4, b'a'), Window(4, 9, 1, 1, 1), Bad, Free],
+        BadSlot { n: 2 },
+    ),
+    (
+        [
+            Dropped(4, b'a'),
+            Window(4, 9, 1, 1, 1),
+            Stream(6, b'b'),
+            Window(6, 2, 1, 1, 1),
+        ],
+        BadStream { id: 6 },
+    ),
     (
         [Stream(0, b'a'), Bad, Window(4, 1, 1, 1, 1), Free],
         BadSlot { n: 1 },

@@ -9,6 +9,8 @@ pub enum Slot {
     Free,
     /// A stream's number, and its name of one letter.
     Stream(u32, u8),
+    /// The same of a stream that is dropped.
+    Dropped(u32, u8),
     /// A window of a stream: the stream's number, the first position, how many values, and the first and last time.
     Window(u32, u64, u64, u64, u64),
     /// A landmark: the stream's number, its own, how many values it has, and when it opens and closes.
@@ -39,17 +41,20 @@ fn put_u64(bytes: &mut [u8; 128], at: usize, field: u64) {
     put(bytes, at, &field.to_be_bytes());
 }
 
+fn put_stream(bytes: &mut [u8; 128], id: u32, letter: u8, dropped: u8) {
+    put(bytes, 0, &[1, 1, 1, dropped]);
+    put_u32(bytes, 4, id);
+    put(bytes, 8, &[0, 0, 0, 2, 0, 0, 0, 1, 0, 0, 0, 1]);
+    put(bytes, 24, &[letter]);
+}
+
 // The bytes of a slot: those of a stream have the target `exp 2 1 1`, and those of a window only the value 0.
 fn spelled(slot: Slot) -> [u8; 128] {
     let mut bytes = [0; 128];
     match slot {
         Slot::Free => {}
-        Slot::Stream(id, letter) => {
-            put(&mut bytes, 0, &[1, 1, 1]);
-            put_u32(&mut bytes, 4, id);
-            put(&mut bytes, 8, &[0, 0, 0, 2, 0, 0, 0, 1, 0, 0, 0, 1]);
-            put(&mut bytes, 24, &[letter]);
-        }
+        Slot::Stream(id, letter) => put_stream(&mut bytes, id, letter, 0),
+        Slot::Dropped(id, letter) => put_stream(&mut bytes, id, letter, 1),
         Slot::Window(id, first, count, t_first, t_last) => {
             put(&mut bytes, 0, &[2]);
             put_u32(&mut bytes, 4, id);

@@ -1,5 +1,5 @@
 // What opening and a survey make of an image.
-use crate::images::Slot::{self, Bad, Stream, Window};
+use crate::images::Slot::{self, Bad, Dropped, Landmark, Stream, Value, Window};
 use crate::images::{FORMATTED, image};
 use crate::passing::pass;
 use crate::running::{store_on, surveyed};
@@ -9,15 +9,19 @@ use ss_store::{OpenError, Survey};
 use std::alloc::{AllocError, Global};
 use std::test::Fail;
 
-// Of three windows of one value two wait for a merge.
-const WAITING: [Slot; 4] = [
+// Of three windows of one value two wait for a merge. Records of a stream that is dropped wait for their clearing.
+const WAITING: [Slot; 8] = [
     Stream(0, b'a'),
     Window(0, 1, 1, 1, 1),
+    Dropped(1, b'b'),
+    Window(1, 5, 1, 9, 9),
     Window(0, 2, 1, 2, 2),
+    Landmark(1, 4, 0, 1, None),
     Window(0, 3, 1, 3, 3),
+    Value(1, 2, 1, 5, 5),
 ];
 
-// A survey counts them as one.
+// A survey counts the two as one, and nothing of the dropped stream.
 const MERGED: Survey = Survey {
     streams: 1,
     windows: 2,

@@ -1,7 +1,7 @@
 // What the records of small images carry.
 ghost use Rattle.ss_steps.specs.Steps.{IsFresh};
 
-use crate::images::Slot::{self, Free, Landmark, Stream, Value, Window};
+use crate::images::Slot::{self, Dropped, Free, Landmark, Stream, Value, Window};
 use crate::images::{FORMATTED, image};
 use crate::passing::pass;
 use ss_journal::JournalError;
@@ -261,4 +261,64 @@ const WHOLE: [(&[Slot], &[Read]); 10] = [
 #[test]
 fn whole_images_are_read(rt: HostRuntime) -> Result<(), Fail> {
     pass(unread(rt.alloc(), &WHOLE)?)
+}
+
+// Whether of an image these slots are to be cleared, and this many streams stand.
+fn is_doomed(
+    alloc: Global,
+    slots: &[Slot],
+    doomed: &[u32],
+    standing: usize,
+) -> Result<bool, JournalError> {
+    match rebuilt(alloc, slots)? {
+        Ok(parts) => Ok(parts.doomed.as_slice() == doomed && parts.streams.len() == standing),
+        Err(_) => Ok(false),
+    }
+}
+
+// Images, which of their slots are to be cleared, in which order, and how many streams stand.
+const DOOMED: [(&[Slot], &[u32], usize); 4] = [
+    (&[Free, Stream(0, b'a'), Window(0, 1, 1, 1, 1)], &[], 1),
+    (&[Dropped(0, b'a')], &[0], 0),
+    // records of a dropped stream need not fit together
+    (
+        &[
+            Dropped(2, b'b'),
+            Window(2, 7, 1, 1, 1),
+            Stream(3, b'a'),
+            Landmark(2, 9, 0, 1, None),
+            Window(3, 1, 1, 1, 1),
+            Value(2, 1, 1, 1, 1),
+        ],
+        &[1, 3, 5, 0],
+        1,
+    ),
+    // the records of streams come last
+    (
+        &[
+            Dropped(5, b'b'),
+            Window(5, 1, 1, 1, 1),
+            Dropped(1, b'c'),
+            Window(1, 1, 1, 1, 1),
+        ],
+        &[1, 3, 0, 2],
+        0,
+    ),
+];
+
+fn undoomed(
+    alloc: Global,
+    rows: &[(&[Slot], &[u32], usize)],
+) -> Result<Option<usize>, JournalError> {
+    for (row, (slots, doomed, standing)) in rows.iter().enumerate() {
+        if !is_doomed(alloc, slots, doomed, *standing)? {
+            return Ok(Some(row));
+        }
+    }
+    Ok(None)
+}
+
+#[test]
+fn records_of_dropped_streams_are_to_be_cleared(rt: HostRuntime) -> Result<(), Fail> {
+    pass(undoomed(rt.alloc(), &DOOMED)?)
 }

@@ -16,6 +16,7 @@ pub enum Asked {
     Value(u64, i64),
     Open(u64),
     Close(u64),
+    Drop,
 }
 
 use Asked::{Close, Create, Open, Value};
@@ -85,6 +86,7 @@ fn event_of(letter: u8, asked: Asked) -> Option<Event>
         Value(t, v) if t <= LAST_TIME => Some(Event::Value { name, t, v }),
         Open(t) if t <= LAST_TIME => Some(Event::Open { name, t }),
         Close(t) if t <= LAST_TIME => Some(Event::Close { name, t }),
+        Asked::Drop => Some(Event::Drop { name }),
         _ => None,
     }
 }

@@ -1,7 +1,7 @@
 // What each stop of the disk leaves of the events.
-use crate::applying::{IN_TURN, READINGS};
+use crate::applying::{DROPPED, IN_TURN, READINGS};
 use crate::passing::pass;
-use crate::running::Asked::{Create, Open, Value};
+use crate::running::Asked::{self, Create, Open, Value};
 use crate::running::{
     DOUBLING, Held, Row, Running, answered, empty, fresh, held, opened, play, reopen,
 };
@@ -16,9 +16,12 @@ use std::test::Fail;
 // What the one stream holds after the first of some rows.
 fn held_after(rows: &[Row], count: usize) -> Held {
     let taken = count.checked_sub(1)?;
-    let (_, _, answer) = rows.get(taken)?;
+    let (_, asked, answer) = rows.get(taken)?;
     let (_, windows) = answer.ok()?;
-    Some((taken as u64, windows))
+    match asked {
+        Asked::Drop => None,
+        _ => Some((taken as u64, windows)),
+    }
 }
 
 const CRASHES: [Choice; 4] = [
@@ -62,8 +65,13 @@ fn is_stopped(running: &mut Running) -> bool {
 fn left_by(alloc: Global, running: &mut Running, rows: &[Row]) -> Result<(usize, bool), OpenError> {
     let count = play(running, rows);
     let left = held_after(rows, count);
-    let next = held_after(rows, count.saturating_add(1)).or(left);
-    let is_over = count == rows.len() || is_stopped(running);
+    let is_whole = count == rows.len();
+    let next = if is_whole {
+        left
+    } else {
+        held_after(rows, count.saturating_add(1))
+    };
+    let is_over = is_whole || is_stopped(running);
     Ok((
         count,
         is_over && survives(alloc, &running.disk, left, next)?,
@@ -103,14 +111,17 @@ fn lost_at(alloc: Global, rows: &[Row], stops: usize) -> Result<Option<usize>, O
 }
 
 fn first_lost(alloc: Global) -> Result<Option<usize>, OpenError> {
-    match lost_at(alloc, &READINGS, 300)? {
-        None => lost_at(alloc, &IN_TURN, 100),
-        lost => Ok(lost),
+    let scripts: [(&[Row], usize); 3] = [(&READINGS, 300), (&IN_TURN, 100), (&DROPPED, 100)];
+    for (rows, stops) in scripts {
+        if let Some(stop) = lost_at(alloc, rows, stops)? {
+            return Ok(Some(stop));
+        }
     }
+    Ok(None)
 }
 
 #[test]
-fn each_stop_leaves_the_first_readings_and_landmarks(rt: HostRuntime) -> Result<(), Fail> {
+fn each_stop_leaves_the_first_events(rt: HostRuntime) -> Result<(), Fail> {
     pass(first_lost(rt.alloc())?)
 }
 

@@ -82,6 +82,7 @@ impl Store {
             Event::Close { name, t } => {
                 self.stage_mark::<D, Brand>(disk, &name, t, Mark::Close, Blank::new(1))
             }
+            Event::Drop { name } => self.stage_drop::<D, Brand>(disk, &name, Blank::new(1)),
         }
     }
 

@@ -1,5 +1,5 @@
 // Staging the creation of a stream.
-ghost use Rattle.std.specs.Prelude.{◌≡◌, ◌∷◌, ◌++◌, [], IsTrue, OnOk, OnErr};
+ghost use Rattle.std.specs.Prelude.{◌≡◌, ◌∷◌, ◌++◌, [], false, IsTrue, OnOk, OnErr};
 ghost use Rattle.ss_codec.specs.Record.{is_valid};
 ghost use Rattle.ss_codec.specs.declared.record.Record.TheVariants as record_kinds;
 ghost use Rattle.ss_target.specs.Lengths.{has_target};
@@ -51,7 +51,7 @@ fn grow(
 // The record of a new stream.
 fn record_of(id: u32, name: &Name, params: Params) -> Record
     requires { IsTrue (has_target params) }
-    ensures value { result ≡ record_kinds.Stream id name.now params }
+    ensures value { result ≡ record_kinds.Stream id name.now params false }
     ensures valid { IsTrue (is_valid result) }
 {
     let _word = name.as_bytes();
@@ -59,6 +59,7 @@ fn record_of(id: u32, name: &Name, params: Params) -> Record
         id,
         name: *name,
         params,
+        dropped: false,
     }
 }
 

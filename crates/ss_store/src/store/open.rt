@@ -4,6 +4,7 @@ use crate::OpenError;
 use crate::indexing::indexes_of;
 use crate::opening::{catalog_of, read_all, settle_all};
 use ss_outside::Disk;
+use ss_recover::Parts;
 use ss_steps::Steps;
 use std::alloc::Global;
 use std::marker::Brand;
@@ -19,8 +20,9 @@ impl Store {
     ghost use Rattle.ss_store.specs.Applied.{OpensStore};
     ghost use Rattle.ss_store.specs.Errors.{verdict_of_opening};
 
-    /// Opens the store on a disk: it reads and judges all of it before it writes, settles the entries in use, and makes the
-    /// merges that are due. At an error there is no store, and at all but `Disk` and `Changed` nothing was written.
+    /// Opens the store on a disk: it reads and judges all of it before it writes, settles the entries in use, clears what a
+    /// crash left of dropped streams, and makes the merges that are due. At an error there is no store, and at all but `Disk`
+    /// and `Changed` nothing was written.
     pub fn open<D: Disk>(alloc: Global, disk: &mut D) -> Result<Store, OpenError>
         // The streams that the content recovers to, or why it recovers to none; and nothing is written before that is known.
         ensures opens { Step (verdict_of_opening result) (D.seen disk.old) (D.seen disk.new) (OpensStore result) }
@@ -39,11 +41,22 @@ impl Store {
         ensures opens { Step (verdict_of_opening result) (D.seen disk.old) (D.seen disk.new) (OpensStore result) }
         ensures runs { IfOk result (λ store. (store.stopped ≡ false) × IsSealed store.records.journal) }
     {
-        let (mut records, mut streams) = read_all(alloc, disk)?;
+        let (mut records, parts) = read_all(alloc, disk)?;
+        let Parts {
+            mut streams,
+            doomed,
+        } = parts;
         let catalog = catalog_of(alloc, &streams)?;
         let mut steps = Steps::<L>::new(blank);
         let mut indexes = indexes_of(alloc, &streams, &mut steps)?;
-        settle_all(&mut records, disk, &mut streams, &mut indexes, &mut steps)?;
+        settle_all(
+            &mut records,
+            disk,
+            &doomed,
+            &mut streams,
+            &mut indexes,
+            &mut steps,
+        )?;
         Ok(Store {
             streams,
             indexes,

@@ -1,4 +1,4 @@
-use Rattle.std.proofs.Common.{refl, subst, List, Err, ℕ}
+use Rattle.std.proofs.Common.{subst, List, Err, ℕ}
 use Rattle.std.proofs.lemmas.Result.{err_from_is_err_and}
 use Rattle.ss_outside.proofs.CrashLemmas.{reads-joined}
 use Rattle.ss_outside.proofs.StepLemmas.{step-then, step-verdict}
@@ -30,12 +30,12 @@ returns-in_err-records-clause-unchanged g c =
 pub rebuild-requires-clause-one_disk : goal.rebuild-requires-clause-one_disk
 rebuild-requires-clause-one_disk g c = after-step c.in_ok-records.ensures.opens (λ told has. has.kept)
 
-pub returns-in_err-streams-clause-reads : goal.returns-in_err-streams-clause-reads
-returns-in_err-streams-clause-reads g c =
-    let why = c.in_err-streams.field-0.0 in
-    let p = err_from_is_err_and c.from_residual-in_err-streams.result c.from_residual-in_err-streams.ensures.1 in
+pub returns-in_err-parts-clause-reads : goal.returns-in_err-parts-clause-reads
+returns-in_err-parts-clause-reads g c =
+    let why = c.in_err-parts.field-0.0 in
+    let p = err_from_is_err_and c.from_residual-in_err-parts.result c.from_residual-in_err-parts.ensures.1 in
     rw (p.1, p.2)
-    (step-handed (verdict-recover (Unit {0}) (Unit {0}) why) c.in_ok-records.ensures.opens c.in_err-streams.ensures.rebuilds (λ told first second.
+    (step-handed (verdict-recover (Unit {0}) (Unit {0}) why) c.in_ok-records.ensures.opens c.in_err-parts.ensures.rebuilds (λ told first second.
     let is = StandsFor-kept c.in_ok-records.records _ first.kept c.in_ok-records.ensures.sealed in
     record {
       rebuilt = tt;
@@ -45,16 +45,15 @@ returns-in_err-streams-clause-reads g c =
       reads = reads-joined _ _ _ first.reads second.reads;
     }))
 
-pub returns-in_err-streams-clause-unchanged : goal.returns-in_err-streams-clause-unchanged
-returns-in_err-streams-clause-unchanged g c =
-    let p = err_from_is_err_and c.from_residual-in_err-streams.result c.from_residual-in_err-streams.ensures.1 in
-    rw (p.1, p.2) (firm-recover (Unit {0}) c.in_err-streams.field-0.0)
+pub returns-in_err-parts-clause-unchanged : goal.returns-in_err-parts-clause-unchanged
+returns-in_err-parts-clause-unchanged g c =
+    let p = err_from_is_err_and c.from_residual-in_err-parts.result c.from_residual-in_err-parts.ensures.1 in
+    rw (p.1, p.2) (firm-recover (Unit {0}) c.in_err-parts.field-0.0)
 
 pub returns-clause-reads : goal.returns-clause-reads
 returns-clause-reads g c =
-    step-then c.in_ok-records.ensures.opens c.in_ok-streams.ensures.rebuilds (λ first second. record {
-      rebuilt = IsRebuilt-opened c.in_ok-records.records c.in_ok-streams.field-0 c.in_ok-streams.field-0.streams.items _ _ first.reads
-          c.in_ok-records.ensures.sealed first.kept second.carried refl;
+    step-then c.in_ok-records.ensures.opens c.in_ok-parts.ensures.rebuilds (λ first second. record {
+      rebuilt = IsRebuilt-opened c.in_ok-records.records c.in_ok-parts.parts _ _ first.reads c.in_ok-records.ensures.sealed first.kept second.carried;
       opens = tt;
       kept = second.kept;
       reads = reads-joined _ _ _ first.reads second.reads;

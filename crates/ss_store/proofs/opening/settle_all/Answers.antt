@@ -1,40 +1,74 @@
-use Rattle.std.proofs.Common.{Ok, refl}
+use Rattle.std.proofs.Common.{[], Ok, flat_map, refl, subst, sym, List, Bool}
 use Rattle.std.proofs.lemmas.Result.{err_from_is_err_and}
-use Rattle.std.specs.Prelude.{flat_map, zip}
 use Rattle.ss_outside.specs.declared.source.Failed.{Failed}
 use Rattle.ss_outside.proofs.StepLemmas.{step-as, step-then}
-use Rattle.ss_journal.proofs.StepLemmas.{after-step}
-use Rattle.ss_recover.specs.Held.{records_held}
-use Rattle.ss_store.proofs.Opens.{Turns-opened, Turns-unsettled}
-use Rattle.ss_store.proofs.Slots.{Turns-settle}
+use Rattle.ss_journal.proofs.StepLemmas.{after-step, step-pair}
+use Rattle.ss_model.specs.ClosedState.{closed_state}
+use Rattle.ss_recover.specs.Held.{slots_held}
+use Rattle.ss_store.specs.Rebuilt.{HasRebuilt, HasRebuiltBeside}
+use Rattle.ss_store.specs.Recover.{Recovers}
+use Rattle.ss_store.specs.Slots.{AreSomeLive, LiveSlotsGo}
+use Rattle.ss_store.proofs.Calls.{Turns-failed, Turns-joined}
+use Rattle.ss_store.proofs.Settlings.{AreWhole-cleared, Turns-settled, Turns-unsettled}
 use Rattle.ss_store.proofs.opening.settle_all.Goals as goal
 
-pub returns-in_err-settle-clause-closes : goal.returns-in_err-settle-clause-closes
-returns-in_err-settle-clause-closes g c =
-    let was = c.args.streams.now in
+pub returns-in_err-settle-clause-settles : goal.returns-in_err-settle-clause-settles
+returns-in_err-settle-clause-settles g c =
     let p = err_from_is_err_and c.from_residual.result c.from_residual.ensures.1 in
     rw (p.1, p.2)
     (step-as c.in_err-settle.ensures.settles (λ settled. record {
-      turns = λ all state agree. Turns-unsettled was was all _ _ _ _ agree state settled.keeps_map refl;
+      turns = λ all state agree.
+          Turns-unsettled c.args.doomed.now c.args.streams.now all (HasRebuilt c.args.streams.now (closed_state all)) _ _ _ _ refl settled.keeps_map;
       agree = λ all state agree has. tt;
       firm = λ all state agree has. tt;
       kept = tt;
     }))
 
-pub close_all-requires-clause-one_disk : goal.close_all-requires-clause-one_disk
-close_all-requires-clause-one_disk g c = after-step c.in_ok-settle.ensures.settles (λ told has. has.kept)
+pub clear_all-requires-clause-live : goal.clear_all-requires-clause-live
+clear_all-requires-clause-live g c =
+    subst (λ (live : List Bool). AreSomeLive c.args.doomed.now live) (sym c.settle.ensures.live)
+    (flat_map slots_held c.args.streams.now, c.requires.whole.slots)
 
-pub returns-clause-closes : goal.returns-clause-closes
-returns-clause-closes g c =
+pub clear_all-requires-clause-one_disk : goal.clear_all-requires-clause-one_disk
+clear_all-requires-clause-one_disk g c = after-step c.in_ok-settle.ensures.settles (λ told has. has.kept)
+
+pub returns-in_err-clear_all-clause-settles : goal.returns-in_err-clear_all-clause-settles
+returns-in_err-clear_all-clause-settles g c =
+    let slots = c.args.doomed.now in
+    let was = c.args.streams.now in
+    let p = err_from_is_err_and c.from_residual-in_err-clear_all.result c.from_residual-in_err-clear_all.ensures.1 in
+    rw (p.1, p.2)
+    (step-then c.in_ok-settle.ensures.settles c.in_err-clear_all.ensures.clears (λ first second. record {
+      turns = λ all state agree.
+          Turns-failed (HasRebuiltBeside slots was all) (Recovers (closed_state all)) (HasRebuilt was all) (HasRebuilt was (closed_state all)) _ _ _ _ refl
+          (Turns-settled slots was all {F = Failed} _ _ _ tt _ first.keeps_map second.changes);
+      agree = λ all state agree has. tt;
+      firm = λ all state agree has. tt;
+      kept = tt;
+    }))
+
+pub close_all-requires-clause-whole : goal.close_all-requires-clause-whole
+close_all-requires-clause-whole g c =
+    AreWhole-cleared c.args.doomed.now c.args.streams.now c.args.records.now.live c.clear_all.new.records.live c.requires.whole
+    (subst (λ (live : List Bool). LiveSlotsGo c.args.doomed.now [] live c.clear_all.new.records.live) c.settle.ensures.live c.in_ok-clear_all.ensures.live)
+
+pub close_all-requires-clause-one_disk : goal.close_all-requires-clause-one_disk
+close_all-requires-clause-one_disk g c = after-step c.in_ok-clear_all.ensures.clears (λ told has. has.kept)
+
+pub returns-clause-settles : goal.returns-clause-settles
+returns-clause-settles g c =
+    let slots = c.args.doomed.now in
     let was = c.args.streams.now in
     let now = c.close_all.new.streams in
-    step-then c.in_ok-settle.ensures.settles c.close_all.ensures.closes (λ first second. record {
+    step-then (step-pair c.in_ok-settle.ensures.settles c.in_ok-clear_all.ensures.clears) c.close_all.ensures.closes (λ cleared third. record {
       turns = λ all state agree.
-          Turns-opened {F = Failed} was now all _ _ _ _ agree state (Turns-settle (flat_map records_held (zip was all)) _ _ (Ok tt) first.keeps_map)
-          (second.turns all state agree);
+          Turns-joined (HasRebuiltBeside slots was all) (Recovers (closed_state all)) (HasRebuilt was all) (HasRebuilt now (closed_state all)) _ _ _ tt _
+          (Turns-settled slots was all {F = Failed} _ _ _ tt (Ok tt) cleared.1.keeps_map cleared.2.changes) (third.turns all state agree);
       agree = λ all state agree has.
-          second.agree all state agree ((Turns-settle {E = Failed} (flat_map records_held (zip was all)) _ _ (Ok tt) first.keeps_map).content has);
+          third.agree all state agree
+          ((Turns-settled slots was all {F = Failed} {E = Failed} _ _ _ tt (Ok tt) cleared.1.keeps_map cleared.2.changes).content has);
       firm = λ all state agree has.
-          second.firm all state agree ((Turns-settle {E = Failed} (flat_map records_held (zip was all)) _ _ (Ok tt) first.keeps_map).content has);
-      kept = second.kept;
+          third.firm all state agree
+          ((Turns-settled slots was all {F = Failed} {E = Failed} _ _ _ tt (Ok tt) cleared.1.keeps_map cleared.2.changes).content has);
+      kept = third.kept;
     })

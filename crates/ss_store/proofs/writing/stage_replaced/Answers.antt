@@ -1,6 +1,7 @@
-use Rattle.std.proofs.Common.{IsTrue, List, Option, Some, [], ap₂, arith, refl, subst, sym, ◌∷◌, ◌<◌, ◌≡◌, ◌∙◌, ℕ}
+use Rattle.std.proofs.Common.{IsTrue, List, Option, Some, [], ap₂, arith, refl, subst, sym, ◌∷◌, ◌<◌, ◌∙◌, ℕ}
 use Rattle.std.proofs.lemmas.Result.{err_from_is_err_and}
 use Rattle.ss_journal.specs.Puts.{IsTxn, extent_after, slots_fit}
+use Rattle.ss_journal.specs.Redo.{StandsFor, changed}
 use Rattle.ss_journal.specs.declared.format.TheConstants.{MOST_SLOTS}
 use Rattle.ss_journal.specs.declared.put.Put.{Put}
 use Rattle.ss_records.specs.Live.{live_after}
@@ -10,14 +11,14 @@ use Rattle.ss_query.specs.Slots.{HasRecords}
 use Rattle.ss_store.specs.Slots.{record_put}
 use Rattle.ss_store.proofs.Changes.{IsTxn-one, extent_after-one, live_after-again, moves-replaced, slots_fit-one}
 use Rattle.ss_store.proofs.LiveSlots.{IsOneLive-permutation}
-use Rattle.ss_store.proofs.ShownCalls.{TurnsShown-failed, TurnsShown-keeps, TurnsShown-staged}
+use Rattle.ss_store.proofs.ShownCalls.{StandsFor-of_map, TurnsShown-changed, TurnsShown-failed, TurnsShown-kept, TurnsShown-keeps, TurnsShown-staged}
 use Rattle.ss_store.proofs.writing.stage_replaced.Goals as goal
 
 pub stage-requires-clause-txn : goal.stage-requires-clause-txn
 stage-requires-clause-txn g c =
     let one = IsOneLive-permutation c.args.records.now.live c.args.slot c.requires.live.0 c.requires.live.1 in
     let below : c.args.slot < MOST_SLOTS = omega (arith, one.below, c.live.ensures.sound.slots) in
-    subst IsTxn (sym c.put_of.ensures) (IsTxn-one c.args.slot c.args.written.now below)
+    subst IsTxn (sym c.put_of.ensures) (IsTxn-one (record_put c.args.slot c.args.written.now) below)
 
 pub stage-requires-clause-fit : goal.stage-requires-clause-fit
 stage-requires-clause-fit g c =
@@ -26,7 +27,7 @@ stage-requires-clause-fit g c =
     let extent = c.args.records.now.journal.extent in
     subst (λ (e : ℕ). IsTrue (slots_fit c.put_of.result.items e)) (sym c.in_ok-make_room.ensures.made.extent)
     (subst (λ (l : List Put). IsTrue (slots_fit l extent)) (sym c.put_of.ensures)
-    (slots_fit-one c.args.slot c.args.written.now extent (below c.args.slot one.is)))
+    (slots_fit-one (record_put c.args.slot c.args.written.now) extent (below c.args.slot one.is)))
 
 pub returns-in_err-make_room-clause-stages : goal.returns-in_err-make_room-clause-stages
 returns-in_err-make_room-clause-stages g c =
@@ -55,6 +56,24 @@ returns-clause-stages g c =
       kept = stages.kept made.kept;
     })
 
+pub returns-in_err-make_room-clause-changes : goal.returns-in_err-make_room-clause-changes
+returns-in_err-make_room-clause-changes g c =
+    let p = err_from_is_err_and c.from_residual.result c.from_residual.ensures.1 in
+    rw (p.1, p.2)
+    (step-from c.in_err-make_room.ensures.makes_room (λ told made found.
+    let is = λ (image : List ℕ). StandsFor image found in
+    TurnsShown-failed c.args.records.now c.make_room.new.self c.make_room.new.self is is is
+    (λ image. StandsFor image (changed found (record_put c.args.slot c.args.written.now ∷ []))) _ _ _ _ refl
+    (TurnsShown-kept c.args.records.now c.make_room.new.self is _ _ _ (StandsFor-of_map found) (c.requires.one_disk told) made.keeps_shown)))
+
+pub returns-clause-changes : goal.returns-clause-changes
+returns-clause-changes g c =
+    step-from c.in_ok-make_room.ensures.makes_room (λ told made found.
+    let mid = g.D.Disk.seen c.make_room.new.disk in
+    let stages = c.stage.ensures.stages mid.told.content in
+    TurnsShown-changed c.args.records.now c.make_room.new.self c.stage.new.self found _ _ (record_put c.args.slot c.args.written.now ∷ [])
+    c.in_ok-make_room.field-0 _ (c.requires.one_disk told) made.kept (rw c.put_of.ensures at stages) made.keeps_shown)
+
 pub returns-clause-live : goal.returns-clause-live
 returns-clause-live g c =
     let live = c.args.records.now.live in
@@ -68,4 +87,4 @@ returns-clause-extent g c =
     let one = IsOneLive-permutation c.args.records.now.live c.args.slot c.requires.live.0 c.requires.live.1 in
     let below = c.live.ensures.sound.below (λ stopped. absurd (cc)) in
     c.stage.ensures.staged.extent ∙ ap₂ extent_after c.put_of.ensures c.in_ok-make_room.ensures.made.extent
-    ∙ extent_after-one c.args.slot c.args.written.now extent (below c.args.slot one.is)
+    ∙ extent_after-one (record_put c.args.slot c.args.written.now) extent (below c.args.slot one.is)

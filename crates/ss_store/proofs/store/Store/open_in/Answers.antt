@@ -47,9 +47,9 @@ invariant_of-result g c =
     let whole = c.in_ok-settle_all.ensures.whole in (
       subst (λ (streams : List StreamParts). IsSound (record { streams = streams; records = c.settle_all.new.records; stopped = false })
           c.in_ok-catalog.catalog)
-          (sym (items_are c.in_ok-records.streams now c.deref_mut.result.now entries c.deref_mut.ensures.len))
+          (sym (items_are c.in_ok-records.parts.streams now c.deref_mut.result.now entries c.deref_mut.ensures.len))
           (record { listed = listed; numbers = whole.numbers; settled = λ runs. c.in_ok-settle_all.ensures.at_rest.0; whole = λ runs. whole }),
-      λ run. scheduled_are c.in_ok-records.streams c.in_ok-indexes.indexes now c.deref_mut.result.now c.settle_all.new.indexes
+      λ run. scheduled_are c.in_ok-records.parts.streams c.in_ok-indexes.indexes now c.deref_mut.result.now c.settle_all.new.indexes
           c.in_ok-settle_all.ensures.scheduled entries c.deref_mut.ensures.len (keyed_long g c),
     )
 
@@ -63,7 +63,8 @@ returns-in_err-records-clause-opens g c =
 pub indexes_of-requires : goal.indexes_of-requires
 indexes_of-requires g c =
     let whole = c.in_ok-records.ensures.whole in
-    subst (λ (parts : List StreamParts). All IsOrdered parts) (sym c.deref-2.ensures.value) (ordered-all c.in_ok-records.streams.items whole.tiles whole.times)
+    subst (λ (parts : List StreamParts). All IsOrdered parts) (sym c.deref-2.ensures.value)
+    (ordered-all c.in_ok-records.parts.streams.items whole.tiles whole.times)
 
 pub returns-in_err-catalog-clause-opens : goal.returns-in_err-catalog-clause-opens
 returns-in_err-catalog-clause-opens g c =
@@ -82,9 +83,9 @@ returns-in_err-settle_all-clause-opens g c =
     let why = c.in_err-settle_all.field-0.0 in
     let p = err_from_is_err_and c.from_residual-in_err-settle_all.result c.from_residual-in_err-settle_all.ensures.1 in
     rw (p.1, p.2)
-    (step-handed (verdict-fault (Unit {0}) (Unit {0}) why) c.in_ok-records.ensures.reads c.in_err-settle_all.ensures.closes (λ told read closes.
-    OpensStore-unclosed parts c.settle_all.new.streams _ _ _ (g.met.D.Disk.knows_now c.args.disk.now told) (rw c.deref_mut.ensures.value read.rebuilt)
-    read.reads c.settle_all.new.records why closes))
+    (step-handed (verdict-fault (Unit {0}) (Unit {0}) why) c.in_ok-records.ensures.reads c.in_err-settle_all.ensures.settles (λ told read closes.
+    OpensStore-unclosed c.deref-3.result.now parts c.settle_all.new.streams _ _ _ (g.met.D.Disk.knows_now c.args.disk.now told)
+    (rw (c.deref_mut.ensures.value, c.deref-3.ensures.value) read.rebuilt) read.reads c.settle_all.new.records why closes))
 
 pub settle_all-requires-clause-one_disk : goal.settle_all-requires-clause-one_disk
 settle_all-requires-clause-one_disk g c = after-step c.in_ok-records.ensures.reads (λ told has. has.kept)
@@ -93,10 +94,11 @@ pub returns-clause-opens : goal.returns-clause-opens
 returns-clause-opens g c =
     let parts = c.deref_mut.result.now in
     let now = c.settle_all.new.streams in
-    let same = items_are c.in_ok-records.streams now parts c.in_ok-settle_all.ensures.entries c.deref_mut.ensures.len in
-    let store : StoreState = record { streams = (with_items c.in_ok-records.streams now).items; records = c.settle_all.new.records; stopped = false } in
-    step-next c.in_ok-records.ensures.reads c.in_ok-settle_all.ensures.closes (λ told told_read read closes.
-    OpensStore-closed parts now _ _ _ (g.met.D.Disk.knows_now c.args.disk.now told) (rw c.deref_mut.ensures.value read.rebuilt) read.reads
+    let same = items_are c.in_ok-records.parts.streams now parts c.in_ok-settle_all.ensures.entries c.deref_mut.ensures.len in
+    let store : StoreState = record { streams = (with_items c.in_ok-records.parts.streams now).items; records = c.settle_all.new.records; stopped = false } in
+    step-next c.in_ok-records.ensures.reads c.in_ok-settle_all.ensures.settles (λ told told_read read closes.
+    OpensStore-closed c.deref-3.result.now parts now _ _ _ (g.met.D.Disk.knows_now c.args.disk.now told)
+    (rw (c.deref_mut.ensures.value, c.deref-3.ensures.value) read.rebuilt) read.reads
     c.settle_all.new.records store closes same refl c.in_ok-settle_all.ensures.at_rest.1)
 
 pub returns-in_err-indexes-clause-opens : goal.returns-in_err-indexes-clause-opens

@@ -126,3 +126,29 @@ returns-else-has_open-clause-failed g c own =
     let wrong : of_part c.in-Value.name c.args.self.now.streams (λ part. has_open part.landmarks.landmarks) ≡ true =
     subst (λ (e : Event). is_of_landmark c.args.self.now.streams e ≡ true) c.in-Value.is own in
     absurd (cc)
+
+pub returns-in-Drop-clause-applies : goal.returns-in-Drop-clause-applies
+returns-in-Drop-clause-applies g c runs =
+    let is = c.in-Drop.is in
+    subst (λ (e : Event). Applies e c.args.self.now c.stage_drop.new.self (g.D.Disk.seen c.args.disk.now) (g.D.Disk.seen c.stage_drop.new.disk)
+    c.stage_drop.result)
+    (sym is) c.stage_drop.ensures.applies
+
+pub returns-in-Drop-clause-history : goal.returns-in-Drop-clause-history
+returns-in-Drop-clause-history g c runs told =
+    let is = c.in-Drop.is in
+    let old = g.D.Disk.seen c.args.disk.now in
+    let new = g.D.Disk.seen c.stage_drop.new.disk in
+    let applied = subst (λ (e : Event). Applies e c.args.self.now c.stage_drop.new.self old new c.stage_drop.result) (sym is)
+    c.stage_drop.ensures.applies in
+    StagesEvent-applied c.args.event.now c.args.self.now c.stage_drop.new.self (λ d. g.D.Disk.seen d) c.args.disk.now c.stage_drop.new.disk
+    c.stage_drop.result applied
+    (subst (λ e. CanBeSaid e) (sym is) tt)
+    c.stage_drop.ensures.uncalled told (g.met.D.Disk.knows_now c.args.disk.now told)
+    (c.requires.one_disk runs told)
+
+pub returns-in-Drop-clause-failed : goal.returns-in-Drop-clause-failed
+returns-in-Drop-clause-failed g c own =
+    let is = c.in-Drop.is in
+    let wrong : false ≡ true = subst (λ (e : Event). is_of_landmark c.args.self.now.streams e ≡ true) is own in
+    absurd (cc)

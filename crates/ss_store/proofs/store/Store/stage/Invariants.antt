@@ -5,3 +5,6 @@ ghosts-stage_value g a = record { name = a.blank.name; parts = a.blank.parts }
 
 abbrev pub ghosts-stage_mark : goal.ghosts-stage_mark
 ghosts-stage_mark g a = record { name = a.blank.name; parts = a.blank.parts }
+
+abbrev pub ghosts-stage_drop : goal.ghosts-stage_drop
+ghosts-stage_drop g a = record { name = a.blank.name; parts = a.blank.parts }

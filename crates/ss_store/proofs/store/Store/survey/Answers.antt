@@ -3,14 +3,14 @@ use Rattle.ss_journal.specs.declared.format.TheConstants.{MOST_SLOTS}
 use Rattle.ss_recover.specs.Held.{slots_held}
 use Rattle.std.proofs.lemmas.Result.{err_from_is_err_and}
 use Rattle.ss_outside.proofs.StepLemmas.{step-as}
-use Rattle.ss_store.proofs.LiveCounts.{live_count-slots}
+use Rattle.ss_store.proofs.LiveCounts.{live_count-beside}
 use Rattle.ss_store.proofs.SurveyAnswers.{SurveysAs-error, SurveysAs-rebuilt}
 use Rattle.ss_store.proofs.store.Store.survey.Goals as goal
 
 pub surveyed_in-requires-clause-few : goal.surveyed_in-requires-clause-few
 surveyed_in-requires-clause-few g c =
-    let parts = c.in_ok-records.streams.items in
-    let slots = live_count-slots parts c.in_ok-records.records.live c.in_ok-records.ensures.whole in
+    let parts = c.in_ok-records.parts.streams.items in
+    let slots = live_count-beside c.in_ok-records.parts.doomed.items parts c.in_ok-records.records.live c.in_ok-records.ensures.whole in
     let few : length (flat_map slots_held parts) ≤ MOST_SLOTS = omega (arith, slots, c.live-live.ensures.value, c.live-live.ensures.most) in
     rw c.deref.ensures.value few
 
@@ -23,6 +23,7 @@ returns-in_err-records-clause-surveys g c =
 pub returns-clause-surveys : goal.returns-clause-surveys
 returns-clause-surveys g c =
     step-as c.in_ok-records.ensures.reads (λ read. record {
-      surveys = SurveysAs-rebuilt c.deref.result.now _ c.surveyed_in.result (rw c.deref.ensures.value read.rebuilt) c.surveyed_in.ensures;
+      surveys = SurveysAs-rebuilt c.in_ok-records.parts.doomed.items c.deref.result.now _ c.surveyed_in.result (rw c.deref.ensures.value read.rebuilt)
+          c.surveyed_in.ensures;
       reads = read.reads;
     })

@@ -1,0 +1,344 @@
+-- A store in which a stream is dropped: what is held then, and what the event does.
+use Rattle.std.proofs.Common.{◌≡◌, ◌∙◌, ℕ, zero, suc, ◌<◌, Bool, true, false, List, [], ◌∷◌, ◌++◌, length, map}
+use Rattle.std.proofs.Common.{flat_map, remove, slice_get, zip}
+use Rattle.std.proofs.Common.{refl, ap, sym, subst, arith, inl, inr, Err, Ok, None, Result, Some, IsPermutation, get_or}
+use Rattle.std.specs.Prelude.{◌==◌}
+use Rattle.std.specs.List.{AllByRecursion, IsDistinct, list_any}
+use Rattle.std.proofs.lemmas.Bool.{cases_eq, eq-eqb, ne_eqb}
+use Rattle.std.proofs.lemmas.List.{length-map}
+use Rattle.std.proofs.lemmas.List.Edits.{length-remove}
+use Rattle.std.proofs.lemmas.List.Sorted.{IsPermutation-append_comm, IsPermutation-append_left, IsPermutation-trans}
+use Rattle.std.proofs.lemmas.Option.{get_or_from_slice_get, slice_get-map, slice_get_within}
+use Rattle.ss_outside.specs.Disk.{DiskView, OfContent, Told}
+use Rattle.ss_outside.specs.Step.{Step}
+use Rattle.ss_outside.specs.Verdict.{failed, fine}
+use Rattle.ss_outside.specs.declared.source.Failed.{Failed}
+use Rattle.ss_journal.specs.Kept.{IsSettled}
+use Rattle.ss_journal.proofs.StepLemmas.{step-from}
+use Rattle.ss_catalog.specs.Catalog.{without_name}
+use Rattle.ss_catalog.specs.Names.{same_name}
+use Rattle.ss_catalog.specs.declared.event.Event.TheVariants.{Drop}
+use Rattle.ss_catalog.specs.declared.stream_id.StreamId.{StreamId}
+use Rattle.ss_landmarks.specs.Landmarks.{AreKnown}
+use Rattle.ss_line.specs.declared.entry.Entry.{Entry}
+use Rattle.ss_records.specs.Kept.{AreKept, RecordsState, shown_by}
+use Rattle.ss_model.specs.ClosedState.{closed_state, closed_stream}
+use Rattle.ss_model.specs.Standing.{IsState}
+use Rattle.ss_model.specs.State.{Stream, numbers_of}
+use Rattle.ss_model.specs.Steps.{stepped, without_named}
+use Rattle.ss_model.specs.declared.types.Ack.{Ack}
+use Rattle.ss_model.proofs.DropLemmas.{IsState-without, without_named-place, without_number-place}
+use Rattle.ss_model.proofs.NameLemmas.{same_name-Decides, same_name-swap}
+use Rattle.ss_query.specs.Slots.{HasRecords}
+use Rattle.ss_query.specs.declared.read_error.ReadError.TheVariants as fault
+use Rattle.ss_recover.specs.Doomed.{is_of, records_beside, without_numbered}
+use Rattle.ss_recover.specs.Held.{AllAgree, AreWhole, EndByLast, RiseToLast, TileFrom, entries_of, mark_slots, occupied, records_held, slots_held}
+use Rattle.ss_recover.specs.declared.parts.StreamParts.{StreamParts}
+use Rattle.ss_recover.proofs.Lists.{all_weaker, map-all}
+use Rattle.ss_recover.proofs.WholeSlots.{HasWholeSlots-StandsFor}
+use Rattle.ss_store.specs.Applied.{Applies}
+use Rattle.ss_store.specs.Calls.{RecoversToEither, StepsState}
+use Rattle.ss_store.specs.Causes.{said_of_held}
+use Rattle.ss_store.specs.Changing.{Makes}
+use Rattle.ss_store.specs.Dropping.{IsHeldBeside, RecoversWithOrWithout, StagesDrop, slots_in_turn}
+use Rattle.ss_store.specs.Kept.{IsSound, StoreIsKept, StoreState, entry_of, part_named, refuses_held}
+use Rattle.ss_store.specs.Recover.{Recovers}
+use Rattle.ss_store.specs.Slots.{AreSomeLive, LiveSlotsGo, live_slots}
+use Rattle.ss_store.specs.declared.error.ApplyError.TheVariants.{Disk}
+use Rattle.ss_store.proofs.Among.{Agrees-both, Recovers-held, length-AllAgree, others_of}
+use Rattle.ss_store.proofs.Applying.{Applies-done, Applies-failed}
+use Rattle.ss_recover.proofs.HeldLemmas.{carried-AreHeld}
+use Rattle.ss_store.proofs.DroppedRecords.{none-of-all}
+use Rattle.ss_store.proofs.KeptStates.{Recovers-StoreIsIn}
+use Rattle.ss_store.proofs.Named.{IsAtPlace, IsPair-at}
+use Rattle.ss_store.proofs.OneOfMany.{IsPermutation-parted, slice_get-zip}
+use Rattle.ss_store.proofs.Refusals.{refuses_held-dropped}
+use Rattle.ss_store.proofs.Removed.{All-remove, IsDistinct-remove, IsStrictlyIncreasing-remove, all-zip, filter-remove, find-none, find-passes}
+use Rattle.ss_store.proofs.Removed.{map-remove, numbers-differ, others-differ, zip-remove}
+use Rattle.ss_store.proofs.Stepping.{StepsState-answers, StepsState-failed, StepsState-turns}
+
+-- ---- what is held without the stream at a place
+
+AllAgree-remove : (parts : List StreamParts) (streams : List Stream) (place : ℕ) → AllAgree parts streams →
+    AllAgree (remove parts place) (remove streams place)
+AllAgree-remove [] [] zero each = each
+AllAgree-remove [] [] (suc place) each = each
+AllAgree-remove [] (s ∷ ss) place each = absurd each
+AllAgree-remove (p ∷ ps) [] place each = absurd each
+AllAgree-remove (p ∷ ps) (s ∷ ss) zero each = each.1
+AllAgree-remove (p ∷ ps) (s ∷ ss) (suc place) each = (each.0, AllAgree-remove ps ss place each.1)
+
+-- the others of the slots that are live, and those of the stream
+slots-turned : (part : StreamParts) (others : List ℕ) → IsPermutation (slots_in_turn part ++ others) (slots_held part ++ others)
+slots-turned part others =
+    let front = map (λ (e : Entry). e.slot) (entries_of part) ++ mark_slots part in
+    IsPermutation-append_left others (front ++ part.slot ∷ []) (part.slot ∷ front) (IsPermutation-append_comm front (part.slot ∷ []))
+
+slots-live : (parts : List StreamParts) (live : List Bool) (place : ℕ) (part : StreamParts) → AreWhole parts live → slice_get parts place ≡ Some part →
+    IsPermutation (slots_in_turn part ++ flat_map slots_held (remove parts place)) (live_slots live)
+slots-live parts live place part whole at =
+    let others = flat_map slots_held (remove parts place) in
+    IsPermutation-trans (slots_in_turn part ++ others) (slots_held part ++ others) (live_slots live) (slots-turned part others)
+    (IsPermutation-trans (slots_held part ++ others) (flat_map slots_held parts) (live_slots live) (IsPermutation-parted slots_held parts place part at)
+    whole.slots)
+
+pub AreSomeLive-turned : (parts : List StreamParts) (live : List Bool) (place : ℕ) (part : StreamParts) → AreWhole parts live →
+    slice_get parts place ≡ Some part → AreSomeLive (slots_in_turn part) live
+AreSomeLive-turned parts live place part whole at = (flat_map slots_held (remove parts place), slots-live parts live place part whole at)
+
+AreWhole-dropped : (parts : List StreamParts) (live live_now : List Bool) (place : ℕ) (part : StreamParts) → AreWhole parts live →
+    slice_get parts place ≡ Some part → LiveSlotsGo (slots_in_turn part) [] live live_now → AreWhole (remove parts place) live_now
+AreWhole-dropped parts live live_now place part whole at go =
+    let number : StreamParts → ℕ = λ p. p.id.0 in
+    let name : StreamParts → List ℕ = λ p. p.name in
+    let inside = slice_get_within parts place part at in
+    record {
+      few = omega (arith, whole.few, length-remove parts place inside);
+      numbers = rw (map-remove number parts place)
+          (IsStrictlyIncreasing-remove (map number parts) place (omega (arith, inside, length-map parts number)) whole.numbers);
+      names = rw (map-remove name parts place) (IsDistinct-remove same_name (map name parts) place whole.names);
+      tiles = All-remove (λ (p : StreamParts). TileFrom 1 (entries_of p)) parts place whole.tiles;
+      times = All-remove RiseToLast parts place whole.times;
+      landmarks = All-remove (λ (p : StreamParts). AreKnown p.landmarks × EndByLast p) parts place whole.landmarks;
+      slots = go (flat_map slots_held (remove parts place)) (slots-live parts live place part whole at);
+    }
+
+-- the others have other names
+names-apart : (name : List ℕ) (parts : List StreamParts) (place : ℕ) (part : StreamParts) → IsDistinct same_name (map (λ (p : StreamParts). p.name) parts) →
+    IsAtPlace name place parts part → AllByRecursion (λ (p : StreamParts). same_name name p.name ≡ false) (remove parts place)
+names-apart name parts place part distinct is =
+    let its : name ≡ part.name = (same_name-Decides name part.name).0 (find-passes (λ (p : StreamParts). same_name name p.name) parts part is.named) in
+    subst (λ n. AllByRecursion (λ (p : StreamParts). same_name n p.name ≡ false) (remove parts place)) (sym its)
+    (others-differ same_name same_name-swap (λ (p : StreamParts). p.name) parts place part is.at distinct)
+
+IsSound-dropped : (store : StoreState) (catalog : List (List ℕ × StreamId)) (name : List ℕ) (place : ℕ) (part : StreamParts) (now : RecordsState)
+    (stopped : Bool) → IsSound store catalog → store.stopped ≡ false → IsAtPlace name place store.streams part →
+    (stopped ≡ false → IsSettled now.journal × LiveSlotsGo (slots_in_turn part) [] store.records.live now.live) →
+    IsSound (record { streams = remove store.streams place; records = now; stopped = stopped }) (without_name name catalog)
+IsSound-dropped store catalog name place part now stopped sound runs is goes =
+    let parts = store.streams in
+    let whole = sound.whole runs in
+    let number : StreamParts → ℕ = λ p. p.id.0 in
+    let passes : List ℕ × StreamId → Bool = λ e. same_name name e.0 in
+    let inside = slice_get_within parts place part is.at in
+    let apart : AllByRecursion (λ (e : List ℕ × StreamId). passes e ≡ false) (remove (map entry_of parts) place) =
+    subst (λ l. AllByRecursion (λ (e : List ℕ × StreamId). passes e ≡ false) l) (map-remove entry_of parts place)
+    (map-all (λ (e : List ℕ × StreamId). passes e ≡ false) entry_of (remove parts place) (names-apart name parts place part whole.names is)) in
+    let at : slice_get (map entry_of parts) place ≡ Some (entry_of part) = rw (slice_get-map entry_of parts place, is.at) refl in
+    let named : passes (entry_of part) ≡ true = find-passes (λ (p : StreamParts). same_name name p.name) parts part is.named in
+    record {
+      listed = ap (without_name name) sound.listed ∙ filter-remove passes (map entry_of parts) place (entry_of part) at named apart
+          ∙ sym (map-remove entry_of parts place);
+      numbers = rw (map-remove number parts place)
+          (IsStrictlyIncreasing-remove (map number parts) place (omega (arith, inside, length-map parts number)) sound.numbers);
+      settled = λ run. (goes run).0;
+      whole = λ run. AreWhole-dropped parts store.records.live now.live place part whole is.at (goes run).1;
+    }
+
+-- ---- the state without the stream
+
+closed-remove : (streams : List Stream) (place : ℕ) → closed_state streams ≡ streams → closed_state (remove streams place) ≡ remove streams place
+closed-remove streams place closed = map-remove closed_stream streams place ∙ ap (λ l. remove l place) closed
+
+stepped-drop : (streams : List Stream) (name : List ℕ) → stepped streams (Drop name) ≡ without_named name streams
+unfolding stepped
+stepped-drop streams name = refl
+
+eq-swap : (a b : ℕ) → (a == b) ≡ (b == a)
+eq-swap a b = elim (cases_eq a b) [
+  | inl same ↦ eq-eqb a b same ∙ sym (eq-eqb b a (sym same))
+  | inr other ↦ ne_eqb a b other ∙ sym (ne_eqb b a (λ e. other (sym e)))
+]
+
+-- a stream of a state, and what is held of it
+module _ (parts : List StreamParts) (streams : List Stream) (name : List ℕ) (place : ℕ) (part : StreamParts) (s : Stream) (state : IsState streams)
+    (each : AllAgree parts streams) (is : IsAtPlace name place parts part) (here : slice_get streams place ≡ Some s) where
+  inside : place < length streams
+  inside = slice_get_within streams place s here
+
+  its-name : name ≡ s.name
+  its-name =
+      (same_name-Decides name part.name).0 (find-passes (λ (p : StreamParts). same_name name p.name) parts part is.named)
+      ∙ (Agrees-both parts streams place part s each is.at here).name
+
+  same-stream : get_or streams place s ≡ s
+  same-stream = get_or_from_slice_get streams place s s here
+
+  without-name : without_named name streams ≡ remove streams place
+  without-name =
+      ap (λ n. without_named n streams) (its-name ∙ ap (λ (u : Stream). u.name) (sym same-stream)) ∙ without_named-place streams place s state inside
+
+  without-number : without_numbered s.number streams ≡ remove streams place
+  without-number =
+      ap (λ n. without_numbered n streams) (ap (λ (u : Stream). u.number) (sym same-stream)) ∙ without_number-place streams place s state inside
+
+  pub stepped-remove : stepped streams (Drop name) ≡ remove streams place
+  stepped-remove = stepped-drop streams name ∙ without-name
+
+  pub IsState-remove : IsState (remove streams place)
+  IsState-remove = subst IsState without-name (IsState-without name streams state)
+
+  -- none of the others' records has its number
+  none-beside : list_any (is_of s.number) (records_beside (others_of place parts streams)) ≡ false
+  none-beside =
+      let apart : AllByRecursion (λ (u : Stream). (u.number == s.number) ≡ false) (remove streams place) =
+      all_weaker (λ (u : Stream). (s.number == u.number) ≡ false) (λ (u : Stream). (u.number == s.number) ≡ false)
+      (λ u other. eq-swap u.number s.number ∙ other) (remove streams place)
+      (others-differ (λ a b. a == b) eq-swap (λ (u : Stream). u.number) streams place s here (numbers-differ (numbers_of streams) state.numbers)) in
+      let pairs : AllByRecursion (λ (p : StreamParts × Stream). (p.1.number == s.number) ≡ false) (remove (zip parts streams) place) =
+      subst (λ l. AllByRecursion (λ (p : StreamParts × Stream). (p.1.number == s.number) ≡ false) l)
+      (zip-remove parts streams place (length-AllAgree parts streams each))
+      (all-zip (λ (u : Stream). (u.number == s.number) ≡ false) (remove parts place) (remove streams place) apart) in
+      none-of-all s.number (remove (zip parts streams) place) pairs
+
+  pub IsHeldBeside-at : (image : List ℕ) → HasRecords (flat_map records_held (zip parts streams)) image →
+      IsHeldBeside (others_of place parts streams) part s streams image
+  IsHeldBeside-at image has =
+      record {
+        agrees = Agrees-both parts streams place part s each is.at here;
+        none = none-beside;
+        found = has.found;
+        map = has.map;
+        occupied = IsPermutation-trans (records_held (part, s) ++ others_of place parts streams) (flat_map records_held (zip parts streams))
+            (occupied has.found)
+            (IsPermutation-parted records_held (zip parts streams) place (part, s) (slice_get-zip parts streams place part s is.at here)) has.occupied;
+        carried = carried-AreHeld parts streams has.found (HasWholeSlots-StandsFor image has.found has.map)
+            (record { each = each; records = has.occupied; state = state });
+      }
+
+  -- without it
+  HasRecords-remove : (image : List ℕ) → HasRecords (others_of place parts streams) image →
+      HasRecords (flat_map records_held (zip (remove parts place) (remove streams place))) image
+  HasRecords-remove image has =
+      subst (λ l. HasRecords (flat_map records_held l) image) (sym (zip-remove parts streams place (length-AllAgree parts streams each))) has
+
+  Recovers-remove : (image : List ℕ) → closed_state streams ≡ streams → HasRecords (others_of place parts streams) image →
+      Recovers (stepped streams (Drop name)) image
+  Recovers-remove image closed has =
+      subst (λ l. Recovers l image) (closed-remove streams place closed ∙ sym stepped-remove)
+      (Recovers-held (remove parts place) (remove streams place) image (AllAgree-remove parts streams place each) IsState-remove
+      (HasRecords-remove image has))
+
+  -- what a crash leaves
+  either-dropped : (image : List ℕ) → closed_state streams ≡ streams → RecoversWithOrWithout s.number streams image →
+      RecoversToEither streams (Drop name) image
+  either-dropped image closed (inl still) = inl (subst (λ l. Recovers l image) closed still)
+  either-dropped image closed (inr gone) =
+      inr (subst (λ l. Recovers l image) (ap closed_state without-number ∙ closed-remove streams place closed ∙ sym stepped-remove) gone)
+
+-- ---- the store
+
+-- What is known before the first transaction: the store is sound and runs, and this is the stream of the name, at its place.
+pub record IsDropping (store : StoreState) (catalog : List (List ℕ × StreamId)) (name : List ℕ) (place : ℕ) (part : StreamParts) (disk : DiskView) :
+    Type 0 where
+  pub one_disk : OfContent disk (StoreIsKept store)
+  pub sound : IsSound store catalog
+  pub runs : store.stopped ≡ false
+  pub stands : IsAtPlace name place store.streams part
+
+pub dropping : {store view : StoreState} {catalog : List (List ℕ × StreamId)} {name : List ℕ} {place : ℕ} {part : StreamParts} (disk : DiskView) →
+    store ≡ view → OfContent disk (StoreIsKept view) → IsSound store catalog → view.stopped ≡ false → IsAtPlace name place store.streams part →
+    IsDropping store catalog name place part disk
+dropping {store} {view} {catalog} {name} {place} {part} disk same one_disk sound runs stands = record {
+  one_disk = subst (λ (s : StoreState). OfContent disk (StoreIsKept s)) (sym same) one_disk;
+  sound = sound;
+  runs = ap (λ (s : StoreState). s.stopped) same ∙ runs;
+  stands = stands;
+}
+
+module _ {store : StoreState} {catalog : List (List ℕ × StreamId)} {name : List ℕ} {place : ℕ} {part : StreamParts} {before : DiskView}
+    (is : IsDropping store catalog name place part before) where
+  -- the store without it
+  abbrev pub without_part : RecordsState → Bool → StoreState
+  without_part now stopped = record { streams = remove store.streams place; records = now; stopped = stopped }
+
+  pub live-slots : AreSomeLive (slots_in_turn part) store.records.live
+  live-slots = AreSomeLive-turned store.streams store.records.live place part (is.sound.whole is.runs) is.stands.at
+
+  pub none-dropping : refuses_held store.streams (Drop name) ≡ None
+  none-dropping = refuses_held-dropped store.streams name part is.stands.named
+
+  pub kept-records : OfContent before (AreKept store.records)
+  kept-records told = (is.one_disk told).records
+
+  -- over every disk
+  pub sound-undropped : (now : RecordsState) → IsSound (without_part now true) (without_name name catalog)
+  sound-undropped now =
+      IsSound-dropped store catalog name place part now true is.sound is.runs is.stands (λ run. let wrong : true ≡ false = run in cc)
+
+  pub sound-dropped : (now : RecordsState) → IsSettled now.journal → LiveSlotsGo (slots_in_turn part) [] store.records.live now.live →
+      IsSound (without_part now store.stopped) (without_name name catalog)
+  sound-dropped now settled live =
+      IsSound-dropped store catalog name place part now store.stopped is.sound is.runs is.stands (λ run. (settled, live))
+
+  -- what the transactions do to the state
+  steps : {T E : Type 0} (now : RecordsState) (after : Told) (result : Result T E) → StoreIsKept store before.told.content →
+      StagesDrop part store.records now result before.told after → StepsState (Drop name) store.records now result before.told after
+  steps now after result whole stages =
+      let kept = whole.shown in
+      let streams = kept.streams in
+      let pair = IsPair-at store.streams streams place part kept.agree kept.state is.stands.at in
+      let others = others_of place store.streams streams in
+      StepsState-turns (Drop name) store.records now before.told after result streams (IsHeldBeside others part pair.stream streams)
+      (RecoversWithOrWithout pair.stream.number streams) (HasRecords others)
+      (Recovers-StoreIsIn store (shown_by store.records before.told.content) kept)
+      (IsHeldBeside-at store.streams streams name place part pair.stream kept.state kept.agree is.stands pair.here
+      (shown_by store.records before.told.content) kept.held)
+      (λ image left. either-dropped store.streams streams name place part pair.stream kept.state kept.agree is.stands pair.here image kept.closed left)
+      (λ image has. Recovers-remove store.streams streams name place part pair.stream kept.state kept.agree is.stands pair.here image kept.closed has)
+      (stages others pair.stream streams)
+
+  kept-after : (now : RecordsState) (after : Told) (done : Unit {0}) → StoreIsKept store before.told.content → AreKept now after.content →
+      StagesDrop {T = Unit {0}} {E = Failed} part store.records now (Ok done) before.told after →
+      StoreIsKept (without_part now store.stopped) after.content
+  kept-after now after done whole are stages =
+      let kept = whole.shown in
+      let streams = kept.streams in
+      let pair = IsPair-at store.streams streams place part kept.agree kept.state is.stands.at in
+      let others = others_of place store.streams streams in
+      let has : HasRecords others (shown_by now after.content) =
+      (stages others pair.stream streams).content
+      (IsHeldBeside-at store.streams streams name place part pair.stream kept.state kept.agree is.stands pair.here
+      (shown_by store.records before.told.content) kept.held) in
+      record {
+        records = are;
+        shown = record {
+          streams = remove streams place;
+          state = IsState-remove store.streams streams name place part pair.stream kept.state kept.agree is.stands pair.here;
+          agree = AllAgree-remove store.streams streams place kept.agree;
+          held = HasRecords-remove store.streams streams name place part pair.stream kept.state kept.agree is.stands pair.here
+              (shown_by now after.content) has;
+          closed = closed-remove streams place kept.closed;
+        };
+      }
+
+  said-dropped : (let zeros : Ack = record { n = 0; k = 0 } in zeros) ≡ said_of_held (part_named name (remove store.streams place))
+  said-dropped =
+      let none = find-none (λ (p : StreamParts). same_name name p.name) (remove store.streams place)
+      (names-apart name store.streams place part (is.sound.whole is.runs).names is.stands) in
+      rw none refl
+
+  -- the event is applied
+  pub applies-dropped : (now : RecordsState) (after : DiskView) (done : Unit {0}) → now.journal.extent ≡ store.records.journal.extent →
+      Step fine before after
+      (Makes {T = Unit {0}} {E = Failed} (StagesDrop {T = Unit {0}} {E = Failed} part store.records now (Ok done)) now (Ok done)) →
+      Applies (Drop name) store (without_part now store.stopped) before after (Ok (record { n = 0; k = 0 }))
+  applies-dropped now after done extent step =
+      Applies-done (Drop name) store (without_part now store.stopped) none-dropping before after (record { n = 0; k = 0 })
+      (step-from step (λ told made. (
+        StepsState-answers (Drop name) store.records now before.told after.told done (Ok (record { n = 0; k = 0 }))
+            (steps now after.told (Ok done) (is.one_disk told) made.changes),
+        kept-after now after.told done (is.one_disk told) made.kept made.changes,
+      )))
+      (λ none_left. refl) said-dropped (λ plain. let wrong : false ≡ true = plain in absurd (cc)) refl (omega (arith, extent))
+
+  -- the disk failed
+  pub applies-undropped : (now : RecordsState) (after : DiskView) (e : Failed) →
+      Step failed before after (Makes {T = Unit {0}} {E = Failed} (StagesDrop {T = Unit {0}} {E = Failed} part store.records now (Err e)) now (Err e)) →
+      Applies (Drop name) store (without_part now true) before after (Err Disk)
+  applies-undropped now after e step =
+      Applies-failed (Drop name) store (without_part now true) none-dropping before after fault.Disk
+      (step-from step (λ told made.
+      StepsState-failed (Drop name) store.records now now before.told after.told (Err e) Disk
+      (steps now after.told (Err e) (is.one_disk told) made.changes)))
+      (λ told. tt) tt refl

@@ -1,0 +1,27 @@
+use Rattle.std.proofs.Common.{refl}
+use Rattle.std.proofs.lemmas.Result.{err_from_is_err_and, on_ok_weaker}
+use Rattle.ss_outside.proofs.StepLemmas.{step-as}
+use Rattle.ss_journal.proofs.StepLemmas.{after-step, step-next}
+use Rattle.ss_store.proofs.Clearings.{ClearsSlots-not_sealed, ClearsSlots-sealed}
+use Rattle.ss_store.proofs.clearing.clear_all.Goals as goal
+
+pub returns-in_err-stage_clearing-clause-clears : goal.returns-in_err-stage_clearing-clause-clears
+returns-in_err-stage_clearing-clause-clears g c =
+    let p = err_from_is_err_and c.from_residual.result c.from_residual.ensures.1 in
+    rw (p.1, p.2)
+    (step-as c.in_err-stage_clearing.ensures.clears (λ staged. record {
+      changes = ClearsSlots-not_sealed c.args.doomed.now c.args.records.now _ c.requires.at_rest.1 c.stage_clearing.new.records _ _ _ refl staged.changes;
+      kept = tt;
+    }))
+
+pub seal-requires-clause-one_disk : goal.seal-requires-clause-one_disk
+seal-requires-clause-one_disk g c = after-step c.in_ok-stage_clearing.ensures.clears (λ told has. has.kept)
+
+pub returns-clause-clears : goal.returns-clause-clears
+returns-clause-clears g c =
+    step-next c.in_ok-stage_clearing.ensures.clears c.seal.ensures.seals (λ told then staged seals. record {
+      changes = ClearsSlots-sealed c.args.doomed.now c.args.records.now _ c.requires.at_rest.1 c.stage_clearing.new.records c.seal.new.self _ _ _ _
+          (g.met.D.Disk.knows_now c.stage_clearing.new.disk then) (on_ok_weaker c.seal.result (λ sealed. sealed.sealed) c.seal.ensures.sealed) staged.changes
+          seals.keeps_shown;
+      kept = seals.kept;
+    })

@@ -1,0 +1,48 @@
+use Rattle.std.proofs.Common.{◌≡◌, ◌∙◌, List, ℕ, refl, subst, sym, true}
+use Rattle.std.proofs.lemmas.Result.{err_from_is_err_and}
+use Rattle.ss_codec.specs.Record.{is_valid}
+use Rattle.ss_journal.proofs.StepLemmas.{after-step, step-from, step-next}
+use Rattle.ss_store.specs.Slots.{AreSomeLive}
+use Rattle.ss_store.proofs.Dropping.{TurnsShown-dropped, TurnsShown-undropped, own-live}
+use Rattle.ss_store.proofs.store.drop.stage_doomed.Goals as goal
+
+pub stage_replaced-requires-clause-some : goal.stage_replaced-requires-clause-some
+stage_replaced-requires-clause-some g c = λ free. let wrong = sym c.record_of.ensures.value ∙ free in cc wrong
+
+pub stage_replaced-requires-clause-live : goal.stage_replaced-requires-clause-live
+stage_replaced-requires-clause-live g c =
+    own-live c.args.part.now c.args.records.now.live
+    (subst (λ (l : List ℕ). AreSomeLive l c.args.records.now.live) c.requires.slots c.requires.live)
+
+pub stage_clearing-requires-clause-live : goal.stage_clearing-requires-clause-live
+stage_clearing-requires-clause-live g c = rw c.stage_replaced.ensures.live c.requires.live
+
+pub stage_clearing-requires-clause-one_disk : goal.stage_clearing-requires-clause-one_disk
+stage_clearing-requires-clause-one_disk g c = after-step c.in_ok-stage_replaced.ensures.stages (λ told made. made.kept)
+
+pub returns-in_err-stage_replaced-clause-drops : goal.returns-in_err-stage_replaced-clause-drops
+returns-in_err-stage_replaced-clause-drops g c =
+    let p = err_from_is_err_and c.from_residual.result c.from_residual.ensures.1 in
+    let valid : is_valid c.record_of.result ≡ true = c.record_of.ensures.valid in
+    rw (p.1, p.2)
+    (step-from c.in_err-stage_replaced.ensures.changes (λ told changes. record {
+      changes = λ others s streams.
+          TurnsShown-undropped c.args.part.now others s streams (rw c.record_of.ensures.value at valid) c.args.records.now c.stage_replaced.new.records
+          c.stage_replaced.new.records _ (g.D.Disk.seen c.stage_replaced.new.disk).told _ _ _ refl (rw c.record_of.ensures.value at changes);
+      kept = tt;
+    }))
+
+pub returns-clause-drops : goal.returns-clause-drops
+returns-clause-drops g c =
+    let valid : is_valid c.record_of.result ≡ true = c.record_of.ensures.valid in
+    step-next c.in_ok-stage_replaced.ensures.changes c.stage_clearing.ensures.clears (λ told then changes cleared. record {
+      changes = λ others s streams.
+          TurnsShown-dropped c.args.part.now others s streams (rw c.record_of.ensures.value at valid) c.args.records.now c.stage_replaced.new.records
+          c.stage_clearing.new.records _ _ _ c.in_ok-stage_replaced.field-0 c.stage_clearing.result
+          (g.met.D.Disk.knows_now c.stage_replaced.new.disk then) (rw c.record_of.ensures.value at changes)
+          (rw c.requires.slots at cleared.changes);
+      kept = cleared.kept;
+    })
+
+pub returns-clause-live : goal.returns-clause-live
+returns-clause-live g c = rw (← c.stage_replaced.ensures.live) c.stage_clearing.ensures.live

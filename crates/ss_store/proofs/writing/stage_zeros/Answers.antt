@@ -1,0 +1,67 @@
+use Rattle.std.proofs.Common.{Bool, IsTrue, List, [], ap₂, arith, refl, subst, sym, ◌∷◌, ◌<◌, ◌≡◌, ◌∙◌, ℕ}
+use Rattle.std.proofs.lemmas.Result.{err_from_is_err_and}
+use Rattle.ss_journal.specs.Puts.{IsTxn, extent_after, slots_fit}
+use Rattle.ss_journal.specs.Redo.{StandsFor, changed}
+use Rattle.ss_journal.specs.declared.format.TheConstants.{MOST_SLOTS}
+use Rattle.ss_journal.specs.declared.put.Put.{Put}
+use Rattle.ss_records.specs.Live.{live_after}
+use Rattle.ss_journal.proofs.StepLemmas.{step-from}
+use Rattle.ss_store.specs.Slots.{LiveSlotsGo, zeros_put}
+use Rattle.ss_store.proofs.Changes.{IsTxn-one, LiveSlotsGo-zeros, extent_after-one, slots_fit-one}
+use Rattle.ss_store.proofs.LiveSlots.{IsOneLive-permutation}
+use Rattle.ss_store.proofs.ShownCalls.{StandsFor-of_map, TurnsShown-changed, TurnsShown-failed, TurnsShown-kept}
+use Rattle.ss_store.proofs.writing.stage_zeros.Goals as goal
+
+pub stage-requires-clause-txn : goal.stage-requires-clause-txn
+stage-requires-clause-txn g c =
+    let one = IsOneLive-permutation c.args.records.now.live c.args.slot c.requires.live.0 c.requires.live.1 in
+    let below : c.args.slot < MOST_SLOTS = omega (arith, one.below, c.live.ensures.sound.slots) in
+    subst IsTxn (sym c.zeros_of.ensures) (IsTxn-one (zeros_put c.args.slot) below)
+
+pub stage-requires-clause-fit : goal.stage-requires-clause-fit
+stage-requires-clause-fit g c =
+    let one = IsOneLive-permutation c.args.records.now.live c.args.slot c.requires.live.0 c.requires.live.1 in
+    let below = c.live.ensures.sound.below (λ stopped. absurd (cc)) in
+    let extent = c.args.records.now.journal.extent in
+    subst (λ (e : ℕ). IsTrue (slots_fit c.zeros_of.result.items e)) (sym c.in_ok-make_room.ensures.made.extent)
+    (subst (λ (l : List Put). IsTrue (slots_fit l extent)) (sym c.zeros_of.ensures)
+    (slots_fit-one (zeros_put c.args.slot) extent (below c.args.slot one.is)))
+
+pub returns-in_err-make_room-clause-changes : goal.returns-in_err-make_room-clause-changes
+returns-in_err-make_room-clause-changes g c =
+    let p = err_from_is_err_and c.from_residual.result c.from_residual.ensures.1 in
+    rw (p.1, p.2)
+    (step-from c.in_err-make_room.ensures.makes_room (λ told made. record {
+      changes = λ found.
+          let is = λ (image : List ℕ). StandsFor image found in
+          TurnsShown-failed c.args.records.now c.make_room.new.self c.make_room.new.self is is is
+          (λ image. StandsFor image (changed found (zeros_put c.args.slot ∷ []))) _ _ _ _ refl
+          (TurnsShown-kept c.args.records.now c.make_room.new.self is _ _ _ (StandsFor-of_map found) (c.requires.one_disk told) made.keeps_shown);
+      kept = tt;
+    }))
+
+pub returns-clause-changes : goal.returns-clause-changes
+returns-clause-changes g c =
+    step-from c.in_ok-make_room.ensures.makes_room (λ told made.
+    let stages = c.stage.ensures.stages _ in
+    record {
+      changes = λ found.
+          TurnsShown-changed c.args.records.now c.make_room.new.self c.stage.new.self found _ _ (zeros_put c.args.slot ∷ [])
+          c.in_ok-make_room.field-0 _ (c.requires.one_disk told) made.kept (rw c.zeros_of.ensures at stages) made.keeps_shown;
+      kept = stages.kept made.kept;
+    })
+
+pub returns-clause-live : goal.returns-clause-live
+returns-clause-live g c =
+    let live = c.args.records.now.live in
+    let is : c.stage.new.self.live ≡ live_after (zeros_put c.args.slot ∷ []) live =
+    c.stage.ensures.live ∙ ap₂ live_after c.zeros_of.ensures c.make_room.ensures.live in
+    subst (λ (now : List Bool). LiveSlotsGo (c.args.slot ∷ []) [] live now) (sym is) (LiveSlotsGo-zeros live c.args.slot)
+
+pub returns-clause-extent : goal.returns-clause-extent
+returns-clause-extent g c =
+    let extent = c.args.records.now.journal.extent in
+    let one = IsOneLive-permutation c.args.records.now.live c.args.slot c.requires.live.0 c.requires.live.1 in
+    let below = c.live.ensures.sound.below (λ stopped. absurd (cc)) in
+    c.stage.ensures.staged.extent ∙ ap₂ extent_after c.zeros_of.ensures c.in_ok-make_room.ensures.made.extent
+    ∙ extent_after-one (zeros_put c.args.slot) extent (below c.args.slot one.is)

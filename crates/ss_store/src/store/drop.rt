@@ -1,0 +1,155 @@
+// Staging the drop of a stream.
+ghost use Rattle.std.specs.Prelude.{◌≡◌, [], ◌∷◌, ◌++◌, map, true, IfOk, IsTrue, OnOk};
+ghost use Rattle.ss_outside.specs.Disk.{OfContent};
+ghost use Rattle.ss_outside.specs.Step.{Step};
+ghost use Rattle.ss_outside.specs.Verdict.{verdict};
+ghost use Rattle.ss_journal.specs.Kept.{IsSettled};
+ghost use Rattle.ss_records.specs.Kept.{AreKept};
+ghost use Rattle.ss_codec.specs.Record.{is_valid};
+ghost use Rattle.ss_store.specs.Changing.{Makes};
+ghost use Rattle.ss_store.specs.Dropping.{StagesDrop, dropped_record, slots_in_turn};
+ghost use Rattle.ss_store.specs.Slots.{AreSomeLive, LiveSlotsGo};
+
+use super::Store;
+use crate::ApplyError;
+use crate::clearing::stage_clearing;
+use crate::place::{number_of, place_of};
+use crate::writing::stage_replaced;
+use ss_catalog::{Name, Refusal};
+use ss_codec::Record;
+use ss_landmarks::Landmarks;
+use ss_line::Line;
+use ss_model::Ack;
+use ss_outside::{Disk, Failed};
+use ss_records::Records;
+use ss_recover::StreamParts;
+use ss_steps::Steps;
+use std::alloc::{AllocError, Global};
+use std::sync::ledger::{Blank, Ledger};
+
+// Puts the slots of windows last, in order.
+fn push_window_slots<L: Ledger>(
+    slots: &mut Vec<u32>,
+    line: &Line,
+    steps: &mut Steps<L>,
+) -> Result<(), AllocError>
+    ensures { OnOk result (slots.new.items ≡ slots.old.items ++ map (λ e. e.slot) (map (λ e. e.1) line.now.entries)) }
+{
+    let _len = line.len();
+    let Some(mut at) = line.first() else {
+        return Ok(());
+    };
+    slots.push(line.get(at, steps).slot)?;
+    while let Some(next) = line.neighbours(at, steps).1 {
+        slots.push(line.get(next, steps).slot)?;
+        at = next;
+    }
+    Ok(())
+}
+
+// Puts the slots of landmarks and then those of their values last, in order.
+fn push_mark_slots(slots: &mut Vec<u32>, landmarks: &Landmarks) -> Result<(), AllocError>
+    ensures { OnOk result (slots.new.items ≡ slots.old.items ++ (landmarks.now.slots ++ landmarks.now.value_slots)) }
+{
+    let marks = landmarks.count() + landmarks.values();
+    for place in 0..marks {
+        slots.push(landmarks.slot_at(place))?;
+    }
+    Ok(())
+}
+
+// The slots of all records of a stream, its own last.
+fn slots_of<L: Ledger>(
+    alloc: Global,
+    part: &StreamParts,
+    steps: &mut Steps<L>,
+) -> Result<Vec<u32>, AllocError>
+    ensures { IfOk result (λ slots. slots.items ≡ slots_in_turn part.now) }
+{
+    let mut slots = Vec::new(alloc);
+    push_window_slots(&mut slots, &part.line, steps)?;
+    push_mark_slots(&mut slots, &part.landmarks)?;
+    slots.push(part.slot)?;
+    Ok(slots)
+}
+
+// The record of a stream that was dropped.
+fn record_of(part: &StreamParts) -> Record
+    ensures value { result ≡ dropped_record part.now }
+    ensures valid { IsTrue (is_valid result) }
+{
+    let _word = part.name.as_bytes();
+    Record::Stream {
+        id: number_of(part),
+        name: part.name,
+        params: part.target.params(),
+        dropped: true,
+    }
+}
+
+// Stages the drop of a stream, which decides, and then the clearing of its slots.
+fn stage_doomed<D: Disk>(
+    records: &mut Records,
+    disk: &mut D,
+    part: &StreamParts,
+    slots: &[u32],
+) -> Result<(), Failed>
+    requires settled { IsSettled records.old.journal }
+    requires slots { slots.now ≡ slots_in_turn part.now }
+    requires live { AreSomeLive slots.now records.old.live }
+    requires one_disk { OfContent (D.seen disk.old) (AreKept records.old) }
+    ensures drops { Step (verdict result) (D.seen disk.old) (D.seen disk.new)
+        (Makes (StagesDrop part.now records.old records.new result) records.new result) }
+    ensures settled { OnOk result (IsSettled records.new.journal) }
+    ensures live { OnOk result (LiveSlotsGo slots.now [] records.old.live records.new.live) }
+    ensures extent { OnOk result (records.new.journal.extent ≡ records.old.journal.extent) }
+{
+    stage_replaced(records, disk, part.slot, &record_of(part))?;
+    stage_clearing(records, disk, slots)
+}
+
+impl Store {
+    ghost use Rattle.std.specs.Prelude.{◌≢◌, false, Err};
+    ghost use Rattle.ss_outside.specs.Verdict.{IfUndone};
+    ghost use Rattle.ss_catalog.specs.declared.event.Event.TheVariants.{Drop};
+    ghost use Rattle.ss_store.specs.Applied.{Applies};
+    ghost use Rattle.ss_store.specs.Errors.{verdict_of_apply};
+    ghost use Rattle.ss_store.specs.Kept.{StoreIsKept};
+    ghost use Rattle.ss_steps.specs.Steps.{IsFresh};
+
+    // Stages the drop of a stream.
+    pub(super) fn stage_drop<D: Disk, L: Ledger>(
+        &mut self,
+        disk: &mut D,
+        name: &Name,
+        blank: Blank,
+    ) -> Result<Ack, ApplyError>
+        requires fresh { IsFresh L.name L.parts blank }
+        requires runs { self.old.stopped ≡ false }
+        requires one_disk { OfContent (D.seen disk.old) (StoreIsKept self.old) }
+        ensures applies { Applies (Drop name.now) self.old self.new (D.seen disk.old) (D.seen disk.new) result }
+        ensures running { result ≢ Err ApplyError.Stopped }
+        ensures uncalled { IfUndone (verdict_of_apply result) (disk.new ≡ disk.old) }
+    {
+        let Some(id) = self.catalog.find(name) else {
+            return Err(ApplyError::Refused(Refusal::Unknown));
+        };
+        let place = place_of(&self.streams, id);
+        let alloc = *self.streams.allocator();
+        let mut steps = Steps::<L>::new(blank);
+        let slots = match slots_of(alloc, &self.streams[place], &mut steps) {
+            Ok(slots) => slots,
+            Err(_) => return Err(ApplyError::OutOfMemory),
+        };
+        let _ = self.catalog.remove(name);
+        let part = self.streams.remove(place);
+        let _ = self.indexes.remove(place);
+        match stage_doomed(&mut self.records, disk, &part, &slots) {
+            Ok(()) => Ok(Ack { n: 0, k: 0 }),
+            Err(Failed) => {
+                self.stopped = true;
+                Err(ApplyError::Disk)
+            }
+        }
+    }
+}
