@@ -23,14 +23,23 @@ fn disk_at(alloc: Global, stop: u64) -> Result<MemDisk, AllocError> {
     Ok(stopped_at(alloc, RUN, stop)?.0)
 }
 
-// The first call at which the worked row stops after so many good syncs.
-fn call_after(alloc: Global, syncs: u64) -> Result<u64, AllocError> {
-    for stop in 0..300 {
-        if disk_at(alloc, stop)?.syncs() >= syncs {
+// The disk where a run over an input stops at a call, and how many syncs were good.
+fn disk_over(alloc: Global, input: &str, stop: u64) -> Result<(MemDisk, u64), AllocError> {
+    let mut disk = disk_of(alloc, &[])?;
+    disk.stop_from(stop);
+    let _ = answer_on(alloc, RUN, &mut disk, input)?;
+    let syncs = disk.syncs();
+    Ok((disk, syncs))
+}
+
+// The first call at which a run over an input stops after so many good syncs.
+pub fn call_after(alloc: Global, input: &str, syncs: u64) -> Result<u64, AllocError> {
+    for stop in 0..700 {
+        if disk_over(alloc, input, stop)?.1 >= syncs {
             return Ok(stop);
         }
     }
-    Ok(300)
+    Ok(700)
 }
 
 // A birth makes 3 syncs, and each event 2. At the last of these the gate of the seventh append's entries is written, and not
@@ -57,7 +66,7 @@ fn each_event_with_its_merges_is_two_syncs(rt: HostRuntime) -> Result<(), Fail> 
 
 // The sync of that gate.
 fn gate_call(alloc: Global) -> Result<u64, AllocError> {
-    Ok(call_after(alloc, SEVENTH_GATE)?.saturating_sub(1))
+    Ok(call_after(alloc, READINGS, SEVENTH_GATE)?.saturating_sub(1))
 }
 
 // Whether a run that stops at a call says so after so many replies.
@@ -162,15 +171,6 @@ fn crowded(alloc: Global) -> Result<String, AllocError> {
     Ok(lines)
 }
 
-// The disk where a run over that input stops at a call, and how many syncs were good.
-fn crowded_at(alloc: Global, input: &str, stop: u64) -> Result<(MemDisk, u64), AllocError> {
-    let mut disk = disk_of(alloc, &[])?;
-    disk.stop_from(stop);
-    let _ = answer_on(alloc, RUN, &mut disk, input)?;
-    let syncs = disk.syncs();
-    Ok((disk, syncs))
-}
-
 // The windows of the stream after six and after seven values.
 const WINDOWS: [&str; 2] = [
     "windows 4\n1 2 2 2 -3 5 10 20\n3 4 2 9 1 8 30 40\n5 5 1 9 9 9 50 50\n6 6 1 2 2 2 60 60\n",
@@ -197,7 +197,7 @@ fn stopped_in_the_middle(alloc: Global) -> Result<(bool, u64), AllocError> {
     let input = crowded(alloc)?;
     let mut most = 0;
     for stop in 0..700 {
-        let (disk, syncs) = crowded_at(alloc, &input, stop)?;
+        let (disk, syncs) = disk_over(alloc, &input, stop)?;
         if syncs >= BEFORE && !shows_windows(alloc, &disk)? {
             return Ok((false, stop));
         }

@@ -7,6 +7,8 @@ mod crashes;
 #[cfg(test)]
 mod devices;
 #[cfg(test)]
+mod drops;
+#[cfg(test)]
 mod images;
 #[cfg(test)]
 mod modes;

@@ -108,6 +108,18 @@ const MARKED: &str =
 const MARKED_REPORT: &str = "ok 0 0\nok 0 0\nok 0 0\nok 0 0\nrefused TIME\nok 1 1\n\
     sum 7 7\nlist 1\nb exp 2 1 1 1 1 1 1\n";
 
+// After the worked row: its stream is dropped, and another of its name takes an earlier time. Then each refusal of a drop.
+const DROPS: &str =
+    "create a exp 2 1 1\nappend a 10 5\nappend a 20 -3\nappend a 30 8\nappend a 40 1\n\
+    append a 50 9\nappend a 60 2\nappend a 70 7\n\
+    drop a\nlist\ndrop a\ncreate a exp 2 1 1\nappend a 5 1\nquery a count 0 100\n\
+    drop\ndrop a b\ndrop a!\ndrop x\nDROP a\nlist\n";
+
+const DROPS_REPORT: &str = "ok 0 0\nok 1 1\nok 2 2\nok 3 2\nok 4 3\nok 5 3\nok 6 4\nok 7 3\n\
+    ok 0 0\nlist 0\nrefused UNKNOWN\nok 0 0\nok 1 1\ncount 1 1\n\
+    refused SYNTAX\nrefused SYNTAX\nrefused NAME\nrefused UNKNOWN\nrefused SYNTAX\n\
+    list 1\na exp 2 1 1 1 1 0 0\n";
+
 const USAGE: &str = "usage: summarystore STORE [run | check | gen SEED COUNT]\n";
 
 // Whether an input in pieces has this report.
@@ -136,7 +148,7 @@ fn is_reported(alloc: Global, input: &str, report: &str) -> Result<bool, AllocEr
     Ok(true)
 }
 
-const ROWS: [(&str, &str); 8] = [
+const ROWS: [(&str, &str); 9] = [
     (READINGS, REPORT),
     (ORDER, ORDER_REPORT),
     (QUERIES, QUERIES_REPORT),
@@ -144,6 +156,7 @@ const ROWS: [(&str, &str); 8] = [
     (EDGES, EDGES_REPORT),
     (LINES, LINES_REPORT),
     (MARKED, MARKED_REPORT),
+    (DROPS, DROPS_REPORT),
     ("", ""),
 ];
 

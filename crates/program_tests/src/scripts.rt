@@ -74,6 +74,39 @@ pub fn readings(alloc: Global) -> Result<Script, AllocError> {
     })
 }
 
+// Adds an event and what is shown after it. It brings no values and no windows to its stream.
+fn add(alloc: Global, script: &mut Script, line: &str, shown: &str) -> Result<(), AllocError> {
+    script.input.push_str(line)?;
+    script.report.push_str("ok 0 0\n")?;
+    script.shown.push(String::from_str(alloc, shown)?)?;
+    Ok(())
+}
+
+// The worked row, and the drop of its stream.
+pub fn dropped(alloc: Global) -> Result<Script, AllocError> {
+    let mut script = readings(alloc)?;
+    add(alloc, &mut script, "drop a\n", NOTHING)?;
+    Ok(script)
+}
+
+// How many streams come and go so that the drop of another has the last entry of the file for its first transaction, and none for
+// those after it: 12 entries are taken by the worked row, and 3 by each of these streams.
+pub const PASSING: u64 = 17;
+
+const BESIDE: &str = "windows 3\n1 4 4 11 -3 8 10 40\n5 6 2 11 2 9 50 60\n7 7 1 7 7 7 70 70\n\
+    list 2\na exp 2 1 1 7 3 0 0\ns exp 2 1 1 0 0 0 0\n";
+
+// The worked row, those streams, and the drop of its stream.
+pub fn dropped_without_room(alloc: Global) -> Result<Script, AllocError> {
+    let mut script = readings(alloc)?;
+    for _ in 0..PASSING {
+        add(alloc, &mut script, "create s exp 2 1 1\n", BESIDE)?;
+        add(alloc, &mut script, "drop s\n", SEVEN)?;
+    }
+    add(alloc, &mut script, "drop a\n", NOTHING)?;
+    Ok(script)
+}
+
 // A landmark that opens, takes two values and closes, between two values of a window.
 const SPANNED: &str =
     "create c power 1 0 1 2\nappend c 10 1\nlandmark c open 20\nappend c 20 100\nappend c 30 200\n\

@@ -12,7 +12,7 @@ use std::test::Fail;
 const MOST: u64 = 2000;
 
 // How many lines are written.
-fn lines_of(written: &[u8]) -> usize {
+pub fn lines_of(written: &[u8]) -> usize {
     let mut lines = 0usize;
     for byte in written {
         if *byte == b'\n' {
@@ -24,7 +24,7 @@ fn lines_of(written: &[u8]) -> usize {
 
 // How a script is run.
 #[derive(Drop)]
-struct Way {
+pub struct Way {
     words: &'static [&'static str],
     // How many bytes a read gives.
     piece: usize,
@@ -33,7 +33,7 @@ struct Way {
 }
 
 // Each event is sealed and replied to before the next one is read.
-const PLAIN: Way = Way {
+pub const PLAIN: Way = Way {
     words: RUN,
     piece: 4096,
     ahead: 1,
@@ -47,7 +47,7 @@ const FOURS: Way = Way {
 };
 
 // A batch of which all is read at once.
-fn at_once(script: &Script) -> Way {
+pub fn at_once(script: &Script) -> Way {
     Way {
         words: BATCH,
         piece: 4096,
@@ -113,7 +113,7 @@ fn failing_at(alloc: Global, call: u64, all: bool) -> Result<MemDisk, AllocError
 
 // The first of the calls that a run over a script makes after whose failure something is lost. It fails alone, or with all later
 // ones.
-fn first_lost(
+pub fn first_lost(
     alloc: Global,
     script: &Script,
     way: &Way,
@@ -192,11 +192,10 @@ fn opens_each(alloc: Global, script: &Script, stop: u64) -> Result<(bool, bool),
     Ok((true, status == 0))
 }
 
-// The first stop of the worked row after which an opening that is stopped too shows something else.
-fn first_opening(alloc: Global) -> Result<Option<u64>, AllocError> {
-    let script = readings(alloc)?;
-    for stop in 0..MOST {
-        let (opens, is_over) = opens_each(alloc, &script, stop)?;
+// The first stop of a script, from this call on, after which an opening that is stopped too shows something else.
+pub fn first_opening(alloc: Global, script: &Script, from: u64) -> Result<Option<u64>, AllocError> {
+    for stop in from..MOST {
+        let (opens, is_over) = opens_each(alloc, script, stop)?;
         if !opens {
             return Ok(Some(stop));
         }
@@ -209,7 +208,8 @@ fn first_opening(alloc: Global) -> Result<Option<u64>, AllocError> {
 
 #[test]
 fn an_opening_that_stops_leaves_what_it_found(rt: HostRuntime) -> Result<(), Fail> {
-    assert_eq!(rt; first_opening(rt.alloc())?, None);
+    let script = readings(rt.alloc())?;
+    assert_eq!(rt; first_opening(rt.alloc(), &script, 0)?, None);
     Ok(())
 }
 

@@ -18,7 +18,7 @@ use Rattle.ss_catalog.specs.Queries.{adds_up, end_name, kind_name}
 use Rattle.ss_catalog.specs.Series.{IsSeriesInRange, rows_in}
 use Rattle.ss_catalog.specs.declared.TheConstants.{LAST_TIME, MOST_ROWS}
 use Rattle.ss_catalog.specs.declared.series.Series.{Series}
-use Rattle.ss_catalog.specs.declared.event.Event.TheVariants.{Create, Value, Open, Close}
+use Rattle.ss_catalog.specs.declared.event.Event.TheVariants.{Create, Value, Open, Close, Drop}
 use Rattle.ss_catalog.specs.declared.params.Params.TheVariants.{Exp, Power}
 use Rattle.ss_catalog.specs.declared.query.End.{End}
 use Rattle.ss_catalog.specs.declared.query.End.TheVariants as ends
@@ -213,6 +213,13 @@ meaning-close : (name : List ℕ) (t : ℕ) → is_name name ≡ true → t ≤ 
 meaning-close name t is early =
     landmark-words name (codes "close") t is (literal (codes "close") refl) (omega arith) early ∙ rw (time_of-decimal t early, name_of-name name is) refl
 
+meaning-drop : (name : List ℕ) → is_name name ≡ true → meaning (spaced (codes "drop") (name ∷ [])) ≡ Ok (Some (commands.Do (Drop name)))
+meaning-drop name is =
+    let rest = name ∷ [] in
+    let short : length (spaced (codes "drop") rest) ≤ 256 = omega (arith, length-spaced rest (codes "drop"), length-is_name name is) in
+    meaning-spaced (codes "drop") rest (literal (codes "drop") refl) (IsWord-name name is, tt) short refl
+    ∙ rw (name_of-name name is) refl
+
 -- the name of what is asked for
 IsWord-kind : (kind : Kind) → IsWord (kind_name kind)
 IsWord-kind kinds.Count = literal (codes "count") refl
@@ -347,6 +354,7 @@ meaning-printed (commands.Do (Create name (Power p q r s))) sayable = meaning-po
 meaning-printed (commands.Do (Value name t v)) sayable = meaning-value name t v sayable.0 sayable.1 sayable.2
 meaning-printed (commands.Do (Open name t)) sayable = meaning-open name t sayable.0 sayable.1
 meaning-printed (commands.Do (Close name t)) sayable = meaning-close name t sayable.0 sayable.1
+meaning-printed (commands.Do (Drop name)) sayable = meaning-drop name sayable
 meaning-printed (commands.Ask query) sayable = meaning-query query.name query.kind query.from query.to sayable.0 sayable.1.0 sayable.1.1
 meaning-printed (commands.Series series) sayable = meaning-series series sayable.0 sayable.1
 meaning-printed (commands.Windows name) sayable = meaning-windows name sayable

@@ -4,7 +4,7 @@ use Rattle.std.specs.Prelude.{codes, replicate, pos, negsuc}
 use Rattle.std.specs.Fmt.{digits}
 use Rattle.ss_fields.specs.Words.{is_number, number_of, number_up_to, signed_of}
 use Rattle.ss_catalog.specs.Names.{is_name}
-use Rattle.ss_catalog.specs.declared.event.Event.TheVariants.{Create, Value, Open, Close}
+use Rattle.ss_catalog.specs.declared.event.Event.TheVariants.{Create, Value, Open, Close, Drop}
 use Rattle.ss_catalog.specs.declared.params.Params.TheVariants.{Exp, Power}
 use Rattle.ss_catalog.specs.declared.query.End.TheVariants as ends
 use Rattle.ss_catalog.specs.declared.query.Kind.TheVariants as kinds
@@ -126,6 +126,18 @@ means-landmarks_refused :
 unfolding meaning words is_number number_of number_up_to signed_of is_name
 means-landmarks_refused = refl
 
+means-drops : map meaning (codes "drop a" ∷ codes " drop\tabcdefghijklmnopqrstuvwxyz012345 " ∷ [])
+    ≡ Ok (Some (commands.Do (Drop (codes "a")))) ∷ Ok (Some (commands.Do (Drop (codes "abcdefghijklmnopqrstuvwxyz012345")))) ∷ []
+unfolding meaning words is_name
+means-drops = refl
+
+-- the order of the refusals
+means-drops_refused :
+    map meaning (codes "drop" ∷ codes "drop a b" ∷ codes "drop x! b" ∷ codes "Drop a" ∷ codes "drop x!" ∷ codes "drop abcdefghijklmnopqrstuvwxyz0123456" ∷ [])
+    ≡ map refused (refusals.Syntax ∷ refusals.Syntax ∷ refusals.Syntax ∷ refusals.Syntax ∷ refusals.Name ∷ refusals.Name ∷ [])
+unfolding meaning words is_name
+means-drops_refused = refl
+
 -- `list` with blanks after it, up to the longest line and one past it
 means-256_bytes : meaning (codes "list" ++ replicate 252 32) ≡ Ok (Some commands.List)
 unfolding meaning words
@@ -146,6 +158,10 @@ printed-landmarks : map printed (commands.Do (Open (codes "a") 80) ∷ commands.
     ∷ codes "landmark a close 4611686018427387904" ∷ []
 unfolding printed digits
 printed-landmarks = refl
+
+printed-drop : printed (commands.Do (Drop (codes "a"))) ≡ codes "drop a"
+unfolding printed
+printed-drop = refl
 
 printed-query : printed (commands.Ask (record { name = codes "a"; kind = kinds.Max; from = 45; to = 65 })) ≡ codes "query a max 45 65"
 unfolding printed digits

@@ -10,12 +10,12 @@ use Rattle.ss_catalog.specs.Names.{is_name}
 use Rattle.ss_catalog.specs.Queries.{adds_up}
 use Rattle.ss_catalog.specs.Series.{rows_in}
 use Rattle.ss_catalog.specs.declared.TheConstants.{LAST_TIME, MOST_ROWS}
-use Rattle.ss_catalog.specs.declared.event.Event.TheVariants.{Create, Value, Open, Close}
+use Rattle.ss_catalog.specs.declared.event.Event.TheVariants.{Create, Value, Open, Close, Drop}
 use Rattle.ss_catalog.specs.declared.params.Params.TheVariants.{Exp, Power}
 use Rattle.ss_catalog.specs.declared.query.Kind.{Kind}
 use Rattle.ss_catalog.specs.declared.refusal.Refusal.{Refusal}
 use Rattle.ss_command.specs.declared.TheConstants.{LONGEST_LINE}
-use Rattle.ss_command.specs.Grammar.{◌>>=◌, added_of, append_of, certify_of, close_of, command_of, create_of, end_of, exp_of, is_comment, landmark_of}
+use Rattle.ss_command.specs.Grammar.{◌>>=◌, added_of, append_of, certify_of, close_of, command_of, create_of, drop_of, end_of, exp_of, is_comment, landmark_of}
 use Rattle.ss_command.specs.Grammar.{list_of, meaning}
 use Rattle.ss_command.specs.Grammar.{meaning_of_words, kind_of, name_of, open_of, or_number, parameter_of, power_of, query_of, series_of, step_of, time_of}
 use Rattle.ss_command.specs.Grammar.{value_of}
@@ -156,6 +156,14 @@ landmark-sayable (name ∷ change ∷ time ∷ []) c same =
     same
 landmark-sayable (name ∷ change ∷ time ∷ more ∷ rest) c same = cc
 
+drop-sayable : (ws : List (List ℕ)) (c : Command) → drop_of ws ≡ Ok c → IsSayable c
+drop-sayable [] c same = cc
+drop-sayable (name ∷ []) c same =
+    let stream = bind-Ok (name_of name) _ c same in
+    let is : commands.Do (Drop stream.0) ≡ c = cc (stream.2) in
+    subst IsSayable is (name-is name stream.0 stream.1)
+drop-sayable (name ∷ more ∷ rest) c same = cc
+
 query-sayable : (ws : List (List ℕ)) (c : Command) → query_of ws ≡ Ok c → IsSayable c
 query-sayable [] c same = cc
 query-sayable (name ∷ []) c same = cc
@@ -237,11 +245,12 @@ command-sayable verb rest c same =
     choice (IsSayable c) (is_word verb (codes "create")) _ _ c (create-sayable rest c)
     (choice (IsSayable c) (is_word verb (codes "append")) _ _ c (append-sayable rest c)
     (choice (IsSayable c) (is_word verb (codes "landmark")) _ _ c (landmark-sayable rest c)
+    (choice (IsSayable c) (is_word verb (codes "drop")) _ _ c (drop-sayable rest c)
     (choice (IsSayable c) (is_word verb (codes "query")) _ _ c (query-sayable rest c)
     (choice (IsSayable c) (is_word verb (codes "series")) _ _ c (series-sayable rest c)
     (choice (IsSayable c) (is_word verb (codes "windows")) _ _ c (windows-sayable rest c)
     (choice (IsSayable c) (is_word verb (codes "list")) _ _ c (list-sayable rest c)
-    (choice (IsSayable c) (is_word verb (codes "certify")) _ _ c (certify-sayable rest c) (λ wrong. cc (wrong)))))))))
+    (choice (IsSayable c) (is_word verb (codes "certify")) _ _ c (certify-sayable rest c) (λ wrong. cc (wrong))))))))))
     same
 
 words-sayable : (ws : List (List ℕ)) (c : Command) → meaning_of_words ws ≡ Ok (Some c) → IsSayable c

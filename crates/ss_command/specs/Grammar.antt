@@ -7,7 +7,7 @@ use Rattle.ss_catalog.specs.Names.{is_name}
 use Rattle.ss_catalog.specs.Queries.{adds_up}
 use Rattle.ss_catalog.specs.Series.{rows_in}
 use Rattle.ss_catalog.specs.declared.TheConstants.{LAST_TIME, MOST_ROWS}
-use Rattle.ss_catalog.specs.declared.event.Event.TheVariants.{Create, Value, Open, Close}
+use Rattle.ss_catalog.specs.declared.event.Event.TheVariants.{Create, Value, Open, Close, Drop}
 use Rattle.ss_catalog.specs.declared.params.Params.TheVariants.{Exp, Power}
 use Rattle.ss_catalog.specs.declared.query.End.{End}
 use Rattle.ss_catalog.specs.declared.query.End.TheVariants as ends
@@ -113,6 +113,13 @@ landmark_of (name ∷ change ∷ time ∷ []) =
     else Err refusals.Syntax)
 landmark_of _ = Err refusals.Syntax
 
+-- `drop NAME`, from its name on
+abbrev pub drop_of : List (List ℕ) → Result Command Refusal
+drop_of (name ∷ []) = do
+  stream ← name_of name
+  Ok (commands.Do (Drop stream))
+drop_of _ = Err refusals.Syntax
+
 -- what is asked for: one of these words
 abbrev pub kind_of : List ℕ → Result Kind Refusal
 kind_of word =
@@ -185,12 +192,13 @@ command_of verb rest =
     if is_word verb (codes "create") then create_of rest
     else (if is_word verb (codes "append") then append_of rest
     else (if is_word verb (codes "landmark") then landmark_of rest
+    else (if is_word verb (codes "drop") then drop_of rest
     else (if is_word verb (codes "query") then query_of rest
     else (if is_word verb (codes "series") then series_of rest
     else (if is_word verb (codes "windows") then windows_of rest
     else (if is_word verb (codes "list") then list_of rest
     else (if is_word verb (codes "certify") then certify_of rest
-    else Err refusals.Syntax)))))))
+    else Err refusals.Syntax))))))))
 
 -- what words mean: nothing, where there are none, or a command
 abbrev pub meaning_of_words : List (List ℕ) → Result (Option Command) Refusal

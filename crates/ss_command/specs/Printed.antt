@@ -7,7 +7,7 @@ use Rattle.ss_catalog.specs.Names.{is_name}
 use Rattle.ss_catalog.specs.Queries.{IsQueryInTime, adds_up, end_name, kind_name}
 use Rattle.ss_catalog.specs.Series.{IsSeriesInRange}
 use Rattle.ss_catalog.specs.declared.TheConstants.{LAST_TIME}
-use Rattle.ss_catalog.specs.declared.event.Event.TheVariants.{Create, Value, Open, Close}
+use Rattle.ss_catalog.specs.declared.event.Event.TheVariants.{Create, Value, Open, Close, Drop}
 use Rattle.ss_catalog.specs.declared.params.Params.{Params}
 use Rattle.ss_catalog.specs.declared.params.Params.TheVariants.{Exp, Power}
 use Rattle.ss_command.specs.declared.command.Command.{Command}
@@ -32,6 +32,7 @@ printed (commands.Do (Create name params)) = spaced (codes "create") (name ∷ t
 printed (commands.Do (Value name t v)) = spaced (codes "append") (name ∷ decimal t ∷ signed_decimal v ∷ [])
 printed (commands.Do (Open name t)) = spaced (codes "landmark") (name ∷ codes "open" ∷ decimal t ∷ [])
 printed (commands.Do (Close name t)) = spaced (codes "landmark") (name ∷ codes "close" ∷ decimal t ∷ [])
+printed (commands.Do (Drop name)) = spaced (codes "drop") (name ∷ [])
 printed (commands.Ask query) = spaced (codes "query") (query.name ∷ kind_name query.kind ∷ decimal query.from ∷ decimal query.to ∷ [])
 printed (commands.Series series) =
     spaced (codes "series") (series.name ∷ kind_name series.kind ∷ decimal series.from ∷ decimal series.to ∷ decimal series.step ∷ [])
@@ -51,6 +52,7 @@ IsSayable (commands.Do (Create name params)) = (is_name name ≡ true) × HasPar
 IsSayable (commands.Do (Value name t v)) = (is_name name ≡ true) × (t ≤ LAST_TIME) × FitsSigned w64 v
 IsSayable (commands.Do (Open name t)) = (is_name name ≡ true) × (t ≤ LAST_TIME)
 IsSayable (commands.Do (Close name t)) = (is_name name ≡ true) × (t ≤ LAST_TIME)
+IsSayable (commands.Do (Drop name)) = is_name name ≡ true
 IsSayable (commands.Ask query) = (is_name query.name ≡ true) × IsQueryInTime query
 IsSayable (commands.Series series) = (is_name series.name ≡ true) × IsSeriesInRange series
 IsSayable (commands.Windows name) = is_name name ≡ true

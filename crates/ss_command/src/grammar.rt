@@ -1,7 +1,7 @@
 // What a line means.
 ghost use Rattle.std.specs.Prelude.{◌≡◌, ◌≤◌, length, codes, true, IfOk, IfSome};
 ghost use Rattle.ss_catalog.specs.Queries.{adds_up};
-ghost use Rattle.ss_command.specs.Grammar.{added_of, append_of, certify_of, close_of, command_of, create_of, end_of, exp_of, is_comment, kind_of};
+ghost use Rattle.ss_command.specs.Grammar.{added_of, append_of, certify_of, close_of, command_of, create_of, drop_of, end_of, exp_of, is_comment, kind_of};
 ghost use Rattle.ss_command.specs.Grammar.{landmark_of, list_of, meaning};
 ghost use Rattle.ss_command.specs.Grammar.{open_of, power_of, query_of, series_of, windows_of};
 ghost use Rattle.ss_command.specs.Printed.{IsCommandInTime, IsSayable};
@@ -115,6 +115,17 @@ fn landmark(mut words: Words) -> Result<Command, Refusal>
     } else {
         Err(Refusal::Syntax)
     }
+}
+
+// Reads `drop NAME`, from its name on.
+fn drop(mut words: Words) -> Result<Command, Refusal>
+    ensures meaning { result ≡ drop_of words.entry }
+    ensures time { IfOk result IsCommandInTime }
+{
+    let name = words.word()?;
+    words.end()?;
+    let name = read_name(name)?;
+    Ok(Command::Do(Event::Drop { name }))
 }
 
 // What is asked for.
@@ -261,6 +272,8 @@ fn command(verb: &[u8], words: Words) -> Result<Command, Refusal>
         append(words)
     } else if is_word(verb, "landmark") {
         landmark(words)
+    } else if is_word(verb, "drop") {
+        drop(words)
     } else if is_word(verb, "query") {
         query(words)
     } else if is_word(verb, "series") {

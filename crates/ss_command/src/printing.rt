@@ -43,6 +43,10 @@ fn print_event(event: &Event, out: &mut ArrayString<256>)
             out.push_str(" close");
             put_number(*t, out);
         }
+        Event::Drop { name } => {
+            out.push_str("drop");
+            put_name(name, out);
+        }
     }
 }
 

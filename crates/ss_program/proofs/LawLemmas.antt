@@ -2,7 +2,7 @@
 use Rattle.std.proofs.Common.{◌≡◌, ◌∙◌, ◌++◌, List, [], ◌∷◌, ℕ, map, Option, Some, None, IsSome, true, Result, Ok, Err, refl, sym, ap, subst}
 use Rattle.std.proofs.lemmas.List.{append-nil}
 use Rattle.ss_catalog.specs.declared.event.Event.{Event}
-use Rattle.ss_catalog.specs.declared.event.Event.TheVariants.{Create, Value, Open, Close}
+use Rattle.ss_catalog.specs.declared.event.Event.TheVariants.{Create, Value, Open, Close, Drop}
 use Rattle.ss_catalog.specs.Queries.{adds_up}
 use Rattle.ss_catalog.specs.declared.query.End.{End}
 use Rattle.ss_catalog.specs.declared.query.Query.{Query}
@@ -55,6 +55,7 @@ sayable-said (Create name params) sayable = tt
 sayable-said (Value name t v) sayable = (sayable.1, sayable.2)
 sayable-said (Open name t) sayable = sayable.1
 sayable-said (Close name t) sayable = sayable.1
+sayable-said (Drop name) sayable = tt
 
 -- what brings no event leaves the history
 still : (history : History) (brought : Brought) → brought.event ≡ None → IsHistory history → IsHistory (history_after history brought)

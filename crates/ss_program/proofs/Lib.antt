@@ -15,6 +15,7 @@ pub mod OpeningLemmas
 pub mod EndLemmas
 pub mod GenerateLemmas
 pub mod LawLemmas
+pub mod UnknownLemmas
 pub mod Rows
 pub mod FieldRows
 pub mod SharedRows

@@ -4,7 +4,7 @@ use Rattle.std.specs.Prelude.{ℕ, List, Some, None, codes, map, pos, negsuc, fl
 use Rattle.std.specs.Fmt.{digits}
 use Rattle.ss_catalog.specs.Names.{is_name}
 use Rattle.ss_catalog.specs.declared.event.Event.{Event}
-use Rattle.ss_catalog.specs.declared.event.Event.TheVariants.{Create, Value}
+use Rattle.ss_catalog.specs.declared.event.Event.TheVariants.{Create, Value, Drop}
 use Rattle.ss_catalog.specs.declared.params.Params.TheVariants.{Exp}
 use Rattle.ss_catalog.specs.declared.refusal.Refusal.TheVariants as refusal
 use Rattle.ss_command.specs.Grammar.{meaning}
@@ -90,6 +90,24 @@ report-mistakes = refl
 after_lines-mistakes : after_lines history (lines mistakes) ≡ history ++ Create (codes "b") (Exp 2 1 4) ∷ Value (codes "a") 80 (negsuc 0) ∷ []
 unfolding ended_lines unended meaning words is_number number_of number_up_to signed_of is_name state refuses refuses_reading window_index
 after_lines-mistakes = refl
+
+-- after that history: its stream is dropped, and created again
+abbrev drops : List ℕ
+drops =
+    text (codes "drop a" ∷ codes "list" ∷ codes "drop a" ∷ codes "query a count 0 100" ∷ codes "windows a" ∷ codes "append a 80 1"
+    ∷ codes "create a exp 2 1 1" ∷ codes "append a 5 1" ∷ codes "query a count 0 100" ∷ codes "drop a b" ∷ codes "drop a!" ∷ [])
+
+report-drops : report history drops
+    ≡ text (codes "ok 0 0" ∷ codes "list 0" ∷ codes "refused UNKNOWN" ∷ codes "refused UNKNOWN" ∷ codes "refused UNKNOWN" ∷ codes "refused UNKNOWN"
+    ∷ codes "ok 0 0" ∷ codes "ok 1 1" ∷ codes "count 1 1" ∷ codes "refused SYNTAX" ∷ codes "refused NAME" ∷ [])
+unfolding ended_lines unended meaning words is_number number_of number_up_to signed_of is_name state refuses refuses_query refuses_reading outcome_of
+    window_index digits
+report-drops = refl
+
+accepted-drops : accepted history (lines drops) ≡ Drop (codes "a") ∷ Create (codes "a") (Exp 2 1 1) ∷ Value (codes "a") 5 (pos 1) ∷ []
+unfolding ended_lines unended meaning words is_number number_of number_up_to signed_of is_name state refuses refuses_query refuses_reading outcome_of
+    window_index
+accepted-drops = refl
 
 -- after that history: queries where no window is split, one is, or two are, and each refusal of a query
 abbrev queries : List ℕ

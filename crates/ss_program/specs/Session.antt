@@ -1,6 +1,10 @@
 -- A session: what is replied to an input after a history, and which events are accepted of it.
-use Rattle.std.specs.Prelude.{ℕ, List, [], ◌∷◌, ◌++◌, flat_map}
+use Rattle.std.specs.Prelude.{◌≢◌, ℕ, List, [], ◌∷◌, ◌++◌, flat_map, All, Some, Ok}
 use Rattle.ss_catalog.specs.declared.event.Event.{Event}
+use Rattle.ss_catalog.specs.declared.event.Event.TheVariants.{Create}
+use Rattle.ss_catalog.specs.declared.params.Params.{Params}
+use Rattle.ss_command.specs.Grammar.{meaning}
+use Rattle.ss_command.specs.declared.command.Command.TheVariants.{Do}
 use Rattle.ss_command.specs.Lines.{lines, lines_so_far}
 use Rattle.ss_report.specs.Text.{reply_line}
 use Rattle.ss_report.specs.declared.reply.Reply.{Reply}
@@ -36,3 +40,7 @@ report history input = text_of history (lines input)
 -- the report of the lines that a line end ends
 abbrev pub report_so_far : History → List ℕ → List ℕ
 report_so_far history input = text_of history (lines_so_far input)
+
+-- none of some lines creates the stream of a name
+abbrev pub NoneCreates : List ℕ → List (List ℕ) → Type 0
+NoneCreates name ls = All (λ line. (params : Params) → meaning line ≢ Ok (Some (Do (Create name params)))) ls

@@ -1,23 +1,26 @@
 // Laws of what lines bring, each the contract of a function that does nothing.
-ghost use Rattle.std.specs.Prelude.{◌≡◌, ◌++◌, ◌∷◌, ℕ, List, map, Some, None, Ok};
+ghost use Rattle.std.specs.Prelude.{◌≡◌, ◌++◌, [], ◌∷◌, ℕ, List, map, Some, None, Ok};
 ghost use Rattle.ss_catalog.specs.Series.{row_count, row_start, rows_of};
+ghost use Rattle.ss_catalog.specs.declared.event.Event.TheVariants.{Create, Drop};
+ghost use Rattle.ss_catalog.specs.declared.params.Params.{Params};
 ghost use Rattle.ss_catalog.specs.declared.query.End.{End};
 ghost use Rattle.ss_catalog.specs.declared.query.Query.{Query};
+ghost use Rattle.ss_catalog.specs.declared.refusal.Refusal.TheVariants.{Unknown};
 ghost use Rattle.ss_catalog.specs.declared.series.Series.{Series};
 ghost use Rattle.ss_certify.specs.Told.{told};
 ghost use Rattle.ss_certify.specs.declared.evidence.Evidence.{Evidence};
 ghost use Rattle.ss_command.specs.Grammar.{meaning};
-ghost use Rattle.ss_command.specs.declared.command.Command.TheVariants.{Ask, Certify, Series as AskRows};
+ghost use Rattle.ss_command.specs.declared.command.Command.TheVariants.{Do, Ask, Certify, Series as AskRows};
 ghost use Rattle.ss_model.specs.Answers.{HoldsTruth, refuses_query};
 ghost use Rattle.ss_model.specs.History.{marked_of, values_of};
 ghost use Rattle.ss_model.specs.Refusals.{IsHistory};
 ghost use Rattle.ss_model.specs.Series.{AnswersRow, refuses_series};
 ghost use Rattle.ss_model.specs.State.{state};
 ghost use Rattle.ss_model.specs.declared.outcome.Outcome.{Outcome};
-ghost use Rattle.ss_report.specs.declared.reply.Reply.TheVariants.{Answered, SeriesHead, Row};
+ghost use Rattle.ss_report.specs.declared.reply.Reply.TheVariants.{Answered, Refused, SeriesHead, Row};
 ghost use Rattle.ss_program.specs.Certifying.{IsSharp};
 ghost use Rattle.ss_program.specs.Line.{History};
-ghost use Rattle.ss_program.specs.Session.{after_lines, replies};
+ghost use Rattle.ss_program.specs.Session.{NoneCreates, after_lines, replies};
 
 /// After a history the lines of a session leave one: each event that they add can be said, and isn't refused.
 pub fn sessions_leave_a_history()
@@ -25,8 +28,8 @@ pub fn sessions_leave_a_history()
 {}
 
 /// Each line of a session that asks a query which isn't refused then has one reply, in its place among the others: an answer
-/// that holds the truth over all values that the stream has of the history and of the lines before. So each interval in a
-/// report does.
+/// that holds the truth over all values that the stream has of the history and of the lines before, which are those since its
+/// last create. So each interval in a report does.
 pub fn queries_hold_the_truth()
     ensures { (history : History) (ls before after : List (List ℕ)) (line : List ℕ) (query : Query) → IsHistory history →
         ls ≡ before ++ line ∷ after → meaning line ≡ Ok (Some (Ask query)) →
@@ -60,4 +63,16 @@ pub fn certificates_are_sharp()
         (w : Evidence)
         × (replies history ls ≡ replies history before ++ told w ++ replies (after_lines history before) after)
         × IsSharp (after_lines history before) query end w }
+{}
+
+/// After a line that drops a stream no query of its name is answered, until a line creates the stream: each is refused. A stream
+/// that is created has no value, so answers are over the values since.
+pub fn dropped_streams_are_unknown()
+    ensures unknown { (history : History) (ls before between after : List (List ℕ)) (dropping line : List ℕ) (query : Query) →
+        ls ≡ (before ++ dropping ∷ between) ++ line ∷ after → meaning dropping ≡ Ok (Some (Do (Drop query.name))) →
+        NoneCreates query.name between → meaning line ≡ Ok (Some (Ask query)) →
+        replies history ls ≡ replies history (before ++ dropping ∷ between)
+        ++ Refused Unknown ∷ replies (after_lines history (before ++ dropping ∷ between)) after }
+    ensures anew { (history : History) (name : List ℕ) (params : Params) →
+        (values_of (history ++ Create name params ∷ []) name ≡ []) × (marked_of (history ++ Create name params ∷ []) name ≡ []) }
 {}

@@ -4,7 +4,7 @@ use ss_command::Command;
 use std::alloc::Global;
 use std::collections::HashMap;
 
-/// The last time of each stream that took an event with a time in this run.
+/// The last time of each stream that took an event with a time in this run, and wasn't dropped after it.
 #[derive(Drop)]
 pub struct LastTimes {
     times: HashMap<Name, u64>,
@@ -29,7 +29,9 @@ impl LastTimes {
 
     /// Takes a command that was accepted. Where memory runs out, the time of its stream stays unknown.
     pub fn accept(&mut self, command: &Command) {
-        if let Some((name, t)) = timed(command) {
+        if let Command::Do(Event::Drop { name }) = command {
+            let _ = self.times.remove(name);
+        } else if let Some((name, t)) = timed(command) {
             if self.times.len() < MOST_STREAMS as usize || self.times.contains_key(&name) {
                 let _ = self.times.insert(name, t);
             }

@@ -9,6 +9,9 @@ use ss_catalog::{
 use ss_command::{Command, LONGEST_LINE};
 use std::alloc::{AllocError, Global};
 
+// What is said of a refusal that has no other reason.
+const OTHERWISE: &str = "it can't be done";
+
 // A line that was refused for what it is by itself.
 fn of_words(alloc: Global, line: &[u8], refusal: Refusal) -> Result<String, AllocError> {
     let text = shown(alloc, line)?;
@@ -81,6 +84,7 @@ fn name_of_event(event: &Event) -> &Name {
         Event::Value { name, .. } => name,
         Event::Open { name, .. } => name,
         Event::Close { name, .. } => name,
+        Event::Drop { name } => name,
     }
 }
 
@@ -123,6 +127,7 @@ fn of_event(alloc: Global, event: &Event, last: Option<u64>) -> Result<String, A
         Event::Value { t, .. } => time(alloc, *t, "isn't later than", stream, last),
         Event::Open { t, .. } => time(alloc, *t, "isn't later than", stream, last),
         Event::Close { t, .. } => time(alloc, *t, "is before", stream, last),
+        Event::Drop { .. } => String::from_str(alloc, OTHERWISE),
     }
 }
 
@@ -150,7 +155,7 @@ fn of_command(
         (_, Command::Ask(query)) => range(alloc, query.from, query.to),
         (_, Command::Series(series)) => range(alloc, series.from, series.to),
         (_, Command::Certify { query, .. }) => range(alloc, query.from, query.to),
-        _ => String::from_str(alloc, "it can't be done"),
+        _ => String::from_str(alloc, OTHERWISE),
     }
 }
 

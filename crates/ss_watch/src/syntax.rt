@@ -5,8 +5,8 @@ use std::alloc::{AllocError, Global};
 const CREATE: &str = "create NAME exp B R S, or create NAME power P Q R S";
 
 // The first words of the commands.
-const VERBS: [&str; 8] = [
-    "create", "append", "landmark", "query", "series", "windows", "list", "certify",
+const VERBS: [&str; 9] = [
+    "create", "append", "landmark", "drop", "query", "series", "windows", "list", "certify",
 ];
 
 // Whether a word is the first of a command, but for its capitals.
@@ -109,6 +109,8 @@ pub fn syntax(alloc: Global, words: &[&str]) -> Result<String, AllocError> {
         unlike(alloc, "append NAME T V", 4, words, "")
     } else if verb == "landmark" {
         landmark(alloc, words)
+    } else if verb == "drop" {
+        unlike(alloc, "drop NAME", 2, words, "")
     } else if verb == "query" {
         asked(
             alloc,

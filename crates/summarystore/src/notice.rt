@@ -24,6 +24,7 @@ is on the disk before it is printed. One program at a time can use a store.
                          says that the stream has N values in K windows
   landmark NAME open T   from here on the values are kept one by one, until
   landmark NAME close T  the landmark is closed again
+  drop NAME              removes a stream and all its values: NAME is free again
   query NAME count|sum|min|max T1 T2
                          what is known of the values from the time T1 to T2: the
                          least and the greatest that the answer can be

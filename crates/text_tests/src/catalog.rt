@@ -178,6 +178,43 @@ fn wrong_step(catalog: &mut Catalog) -> Option<u32> {
     None
 }
 
+// What removing a name answers, and 99 where it is not there.
+fn remove(catalog: &mut Catalog, word: &[u8]) -> u32 {
+    match Name::of(word) {
+        None => 100,
+        Some(name) => match catalog.remove(&name) {
+            Some(id) => id.0,
+            None => 99,
+        },
+    }
+}
+
+// Adds `a`, `room` and `Room`, and removes `room`, `room` again, and `a`. The first step that is wrong.
+fn wrong_removal(catalog: &mut Catalog) -> Option<u32> {
+    add(catalog, b"a", 3);
+    add(catalog, b"room", 4);
+    add(catalog, b"Room", 5);
+    if remove(catalog, b"room") != 4 || !has(catalog, 99, 5, 2) {
+        return Some(0);
+    }
+    if remove(catalog, b"room") != 99 || !has(catalog, 99, 5, 2) {
+        return Some(1);
+    }
+    if remove(catalog, b"a") != 3 || !has(catalog, 99, 5, 1) {
+        return Some(2);
+    }
+    if add(catalog, b"room", 6) != b'+' || !has(catalog, 6, 5, 2) {
+        return Some(3);
+    }
+    None
+}
+
+#[test]
+fn names_are_removed_by_their_bytes(rt: HostRuntime) -> Result<(), Fail> {
+    let mut catalog = Catalog::new(rt.alloc());
+    pass(wrong_removal(&mut catalog))
+}
+
 #[test]
 fn names_are_found_by_their_bytes(rt: HostRuntime) -> Result<(), Fail> {
     let mut catalog = Catalog::new(rt.alloc());

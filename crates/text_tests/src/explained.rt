@@ -102,6 +102,9 @@ fn forms(rt: HostRuntime) -> Result<(), Fail> {
         create a power 1 0 1/>refused SYNTAX/=1 SYNTAX: create NAME power P Q R S has 7 words, and this line has 6;\n\
         landmark a open/>refused SYNTAX/=1 SYNTAX: landmark NAME open T, or close T, has 4 words, and this line has 3;\n\
         landmark a shut 1/>refused SYNTAX/=1 SYNTAX: \"shut\" is neither open nor close;\n\
+        drop/>refused SYNTAX/=1 SYNTAX: drop NAME has 2 words, and this line has 1;\n\
+        drop a b/>refused SYNTAX/=1 SYNTAX: drop NAME has 2 words, and this line has 3;\n\
+        Drop a/>refused SYNTAX/=1 SYNTAX: no command begins with \"Drop\": commands are in small letters;\n\
         query a sum 1/>refused SYNTAX/=1 SYNTAX: query NAME count T1 T2, or sum, min or max, has 5 words, \
         and this line has 4;\n\
         query a mean 1 2/>refused SYNTAX/=1 SYNTAX: \"mean\" is none of count, sum, min and max;\n\
@@ -140,6 +143,7 @@ fn words(rt: HostRuntime) -> Result<(), Fail> {
         create a exp 2 1 4294967296/>refused NUMBER/=1 NUMBER: 4294967296 isn't within \
         0 to 4294967295, as parameters are;\n\
         append x! 1 1/>refused NAME/=1 NAME: the name x! has more in it than letters, digits, _, - and .;\n\
+        drop x!/>refused NAME/=1 NAME: the name x! has more in it than letters, digits, _, - and .;\n\
         windows abcdefghijklmnopqrstuvwxyz0123456/>refused NAME/=1 NAME: \
         the name abcdefghijklmnopqrstuvwxyz0123456 is longer than 32 letters;\n\
         create a exp 1 0 1/>refused PARAM/=1 PARAM: B is 1, and can be 2 to 16;\n\
@@ -158,6 +162,7 @@ fn states(rt: HostRuntime) -> Result<(), Fail> {
         b"create a exp 2 1 1/>refused EXISTS/=1 EXISTS: a stream named a stands already;\n\
         create a exp 2 1 1/>refused STREAMS/=1 STREAMS: the store takes no more than 4096 streams;\n\
         windows rom/>refused UNKNOWN/=1 UNKNOWN: no stream is named rom;\n\
+        drop rom/>refused UNKNOWN/=1 UNKNOWN: no stream is named rom;\n\
         landmark a open 1/>refused OPEN/=1 OPEN: a landmark of a is open already;\n\
         landmark a close 1/>refused NOT_OPEN/=1 NOT_OPEN: no landmark of a is open;\n\
         query a sum 5 4/>refused RANGE/=1 RANGE: the range ends before it begins: 5 is later than 4;\n\
@@ -171,6 +176,10 @@ fn states(rt: HostRuntime) -> Result<(), Fail> {
         append a 70 1/append a 50 1/>ok 1 1/refused TIME/=2 TIME: 50 isn't later than the last time of a, 70;\n\
         append a 70 1/append b 9 1/append a 70 1/>ok 1 1/ok 1 1/refused TIME/=\
         3 TIME: 70 isn't later than the last time of a, 70;\n\
+        append a 70 1/drop a/append a 50 1/>ok 1 1/ok 0 0/refused TIME/=\
+        3 TIME: 50 isn't later than the last time of a;\n\
+        append a 70 1/drop b/append a 50 1/>ok 1 1/ok 0 0/refused TIME/=\
+        3 TIME: 50 isn't later than the last time of a, 70;\n\
         landmark a open 8/landmark a close 7/>ok 0 0/refused TIME/=2 TIME: 7 is before the last time of a, 8;\n\
         landmark a close 8/landmark a open 8/>ok 0 0/refused TIME/=2 TIME: 8 isn't later than the last time of a, 8;\n",
     ))

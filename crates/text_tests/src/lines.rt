@@ -56,6 +56,10 @@ fn lines_without_a_command() -> Result<(), Fail> {
         landmark a shut 1=SYNTAX\n\
         landmark a Open 1=SYNTAX\n\
         landmark x! shut y=SYNTAX\n\
+        drop=SYNTAX\n\
+        drop a b=SYNTAX\n\
+        drop x! b=SYNTAX\n\
+        Drop a=SYNTAX\n\
         query a sum 1=SYNTAX\n\
         query a sum 1 2 3=SYNTAX\n\
         query a mean 1 2=SYNTAX\n\
@@ -102,6 +106,8 @@ fn lines_without_a_command() -> Result<(), Fail> {
         create x! exp 2 1 y=NUMBER\n\
         append x! 1 1=NAME\n\
         landmark x! close 1=NAME\n\
+        drop x!=NAME\n\
+        drop abcdefghijklmnopqrstuvwxyz0123456=NAME\n\
         query x! sum 1 2=NAME\n\
         series x! sum 0 199999 2=NAME\n\
         certify x! count lo 1 2=NAME\n\
@@ -139,6 +145,8 @@ fn commands_are_printed() -> Result<(), Fail> {
         \x20landmark\ta close 81 =landmark a close 81\n\
         landmark abcdefghijklmnopqrstuvwxyz012345 close 4611686018427387904=\
         landmark abcdefghijklmnopqrstuvwxyz012345 close 4611686018427387904\n\
+        drop a=drop a\n\
+        \x20drop\tabcdefghijklmnopqrstuvwxyz012345 =drop abcdefghijklmnopqrstuvwxyz012345\n\
         query a count 10 040=query a count 10 40\n\
         \x20query\ta sum 0 4611686018427387904=query a sum 0 4611686018427387904\n\
         query a min 5 4=query a min 5 4\n\

@@ -17,3 +17,7 @@ returns-in-Open-clause-text c = search rules
 pub returns-in-Close-clause-text : goal.returns-in-Close-clause-text
 unfolding printed
 returns-in-Close-clause-text c = search rules
+
+pub returns-in-Drop-clause-text : goal.returns-in-Drop-clause-text
+unfolding printed
+returns-in-Drop-clause-text c = search rules

@@ -1,0 +1,148 @@
+-- A stream that doesn't stand stands by no line but its create.
+use Rattle.std.proofs.Common.{◌≡◌, ◌≢◌, ◌∙◌, ℕ, List, [], ◌∷◌, ◌++◌, true, false, not, Option, Some, None, Result, Ok, Err, refl, sym, ap, subst, inl, inr}
+use Rattle.std.proofs.lemmas.Bool.{cases_Bool}
+use Rattle.std.proofs.lemmas.List.Elements.{All-head, All-tail}
+use Rattle.std.specs.Prelude.{is_some}
+use Rattle.ss_catalog.specs.Events.{event_name}
+use Rattle.ss_catalog.specs.Names.{same_name}
+use Rattle.ss_catalog.specs.declared.event.Event.{Event}
+use Rattle.ss_catalog.specs.declared.event.Event.TheVariants.{Create, Value, Open, Close, Drop}
+use Rattle.ss_catalog.specs.declared.params.Params.{Params}
+use Rattle.ss_catalog.specs.declared.query.Query.{Query}
+use Rattle.ss_catalog.specs.declared.refusal.Refusal.{Refusal}
+use Rattle.ss_catalog.specs.declared.refusal.Refusal.TheVariants.{Unknown}
+use Rattle.ss_command.specs.Grammar.{meaning}
+use Rattle.ss_command.specs.declared.command.Command.{Command}
+use Rattle.ss_command.specs.declared.command.Command.TheVariants.{Do, Ask, Certify, Series as AskRows, Windows, List as ListAll}
+use Rattle.ss_model.proofs.DropLemmas.{refuses-drop, stream_named-dropped}
+use Rattle.ss_model.proofs.EventLemmas.{given_to-created}
+use Rattle.ss_model.proofs.NameLemmas.{same_name-Decides, same_name-same}
+use Rattle.ss_model.proofs.ReadLemmas.{stream_named-stepped}
+use Rattle.ss_model.proofs.StepLemmas.{state-push}
+use Rattle.ss_model.specs.Answers.{refuses_query}
+use Rattle.ss_model.specs.History.{marked_of, values_of}
+use Rattle.ss_model.specs.Marks.{marked_values}
+use Rattle.ss_model.specs.Refusals.{refuses, stands}
+use Rattle.ss_model.specs.State.{Stream, state, stream_named}
+use Rattle.ss_model.specs.Steps.{stepped}
+use Rattle.ss_program.specs.Line.{
+  Brought,
+  History,
+  accepted_event,
+  brings,
+  command_brings,
+  history_after,
+  meaning_brings,
+  nothing,
+  refused,
+  unless_refused,
+}
+use Rattle.ss_program.specs.Session.{NoneCreates, after_line, after_lines}
+use Rattle.ss_program.proofs.SessionLemmas.{after_lines-append}
+use Rattle.ss_program.proofs.AnswerLemmas.{ask-event, brings-unanswered, certify-event, history-still, series-event, windows-event}
+
+-- after this history no stream of the name stands
+abbrev IsUnknown : List ℕ → History → Type 0
+IsUnknown name history = stands name (state history) ≡ false
+
+-- an event of a stream that doesn't stand is refused, unless it creates the stream
+unknown-refuses : (name : List ℕ) (streams : List Stream) (event : Event) → stands name streams ≡ false →
+    ((params : Params) → event ≢ Create name params) → event_name event ≡ name → refuses streams event ≡ Some Unknown
+unfolding refuses
+unknown-refuses name streams (Create other params) unknown spared is = absurd (spared params (ap (λ n. Create n params) is))
+unknown-refuses name streams (Value other t v) unknown spared is = rw (is, unknown) refl
+unknown-refuses name streams (Open other t) unknown spared is = rw (is, unknown) refl
+unknown-refuses name streams (Close other t) unknown spared is = rw (is, unknown) refl
+unknown-refuses name streams (Drop other) unknown spared is = rw (is, unknown) refl
+
+-- so one that isn't refused leaves it so
+unknown-stepped : (name : List ℕ) (streams : List Stream) (event : Event) → stands name streams ≡ false →
+    ((params : Params) → event ≢ Create name params) → refuses streams event ≡ None → stands name (stepped streams event) ≡ false
+unknown-stepped name streams event unknown spared accepted = elim (cases_Bool (same_name name (event_name event))) [
+  | inl same ↦
+      (let refused = unknown-refuses name streams event unknown spared (sym ((same_name-Decides name (event_name event)).0 same)) in
+      cc)
+  | inr other ↦
+      (let apart : name ≢ event_name event = λ is. (let same = (same_name-Decides name (event_name event)).1 is in cc) in
+      ap is_some (stream_named-stepped streams event name apart) ∙ unknown)
+]
+
+-- what brings no event leaves it so too
+unknown-still : (name : List ℕ) (history : History) (brought : Brought) → brought.event ≡ None → IsUnknown name history →
+    IsUnknown name (history_after history brought)
+unknown-still name history brought none unknown = subst (λ h. IsUnknown name h) (sym (history-still history brought none)) unknown
+
+unknown-event : (name : List ℕ) (history : History) (event : Event) (refusal : Option Refusal) → refuses (state history) event ≡ refusal →
+    ((params : Params) → event ≢ Create name params) → IsUnknown name history →
+    IsUnknown name (history_after history (unless_refused refusal (accepted_event history event)))
+unknown-event name history event None accepted spared unknown =
+    ap (stands name) (state-push history event accepted) ∙ unknown-stepped name (state history) event unknown spared accepted
+unknown-event name history event (Some refusal) is spared unknown = unknown-still name history (refused refusal) refl unknown
+
+unknown-command : (name : List ℕ) (history : History) (command : Command) → ((params : Params) → command ≢ Do (Create name params)) →
+    IsUnknown name history → IsUnknown name (history_after history (command_brings history command))
+unknown-command name history (Do event) spared unknown =
+    unknown-event name history event (refuses (state history) event) refl (λ params is. spared params (ap Do is)) unknown
+unknown-command name history (Ask query) spared unknown =
+    unknown-still name history (command_brings history (Ask query)) (ask-event history query) unknown
+unknown-command name history (Certify query end) spared unknown =
+    unknown-still name history (command_brings history (Certify query end)) (certify-event history query end) unknown
+unknown-command name history (AskRows series) spared unknown =
+    unknown-still name history (command_brings history (AskRows series)) (series-event history series) unknown
+unknown-command name history (Windows other) spared unknown =
+    unknown-still name history (command_brings history (Windows other)) (windows-event history other) unknown
+unknown-command name history ListAll spared unknown = unknown-still name history (command_brings history ListAll) refl unknown
+
+unknown-meaning : (name : List ℕ) (history : History) (meant : Result (Option Command) Refusal) →
+    ((params : Params) → meant ≢ Ok (Some (Do (Create name params)))) → IsUnknown name history →
+    IsUnknown name (history_after history (meaning_brings history meant))
+unknown-meaning name history (Err refusal) spared unknown = unknown-still name history (refused refusal) refl unknown
+unknown-meaning name history (Ok None) spared unknown = unknown-still name history nothing refl unknown
+unknown-meaning name history (Ok (Some command)) spared unknown =
+    unknown-command name history command (λ params is. spared params (ap (λ c. Ok (Some c)) is)) unknown
+
+-- after lines of which none creates it, it doesn't stand either
+unknown-lines : (name : List ℕ) (history : History) (ls : List (List ℕ)) → NoneCreates name ls → IsUnknown name history →
+    IsUnknown name (after_lines history ls)
+unknown-lines name history [] spared unknown = unknown
+unknown-lines name history (line ∷ ls) spared unknown =
+    let P = λ (l : List ℕ). (params : Params) → meaning l ≢ Ok (Some (Do (Create name params))) in
+    unknown-lines name (after_line history line) ls (All-tail P line ls spared)
+    (unknown-meaning name history (meaning line) (All-head P line ls spared) unknown)
+
+-- a stream that is dropped doesn't stand, and one that couldn't be didn't before
+dropped-unknown : (name : List ℕ) (history : History) (refusal : Option Refusal) → refuses (state history) (Drop name) ≡ refusal →
+    IsUnknown name (history_after history (unless_refused refusal (accepted_event history (Drop name))))
+unfolding stepped
+dropped-unknown name history None accepted =
+    ap (stands name) (state-push history (Drop name) accepted) ∙ ap is_some (stream_named-dropped name (state history))
+dropped-unknown name history (Some refusal) is =
+    unknown-still name history (refused refusal) refl
+    (elim (cases_Bool (stands name (state history))) [
+      | inl known ↦ (let accepted = refuses-drop (state history) name in let none : refuses (state history) (Drop name) ≡ None = rw known at accepted in cc)
+      | inr unknown ↦ unknown
+    ])
+
+-- so after a line that drops it, until a line creates it, a query of it is refused
+pub query-dropped : (history : History) (before between : List (List ℕ)) (dropping line : List ℕ) (query : Query) →
+    meaning dropping ≡ Ok (Some (Do (Drop query.name))) → NoneCreates query.name between → meaning line ≡ Ok (Some (Ask query)) →
+    brings (after_lines history (before ++ dropping ∷ between)) line ≡ refused Unknown
+unfolding refuses_query
+query-dropped history before between dropping line query drops spared means =
+    let name = query.name in
+    let here = after_lines history before in
+    let dropped : IsUnknown name (after_line here dropping) =
+    subst (λ b. IsUnknown name (history_after here b)) (sym (ap (λ m. meaning_brings here m) drops))
+    (dropped-unknown name here (refuses (state here) (Drop name)) refl) in
+    let unknown : IsUnknown name (after_lines history (before ++ dropping ∷ between)) =
+    subst (λ h. IsUnknown name h) (sym (after_lines-append history before (dropping ∷ between)))
+    (unknown-lines name (after_line here dropping) between spared dropped) in
+    let there = after_lines history (before ++ dropping ∷ between) in
+    ap (λ m. meaning_brings there m) means ∙ brings-unanswered there query Unknown (rw unknown refl)
+
+-- a stream that was created holds no value
+pub created-empty : (history : History) (name : List ℕ) (params : Params) →
+    (values_of (history ++ Create name params ∷ []) name ≡ []) × (marked_of (history ++ Create name params ∷ []) name ≡ [])
+created-empty history name params =
+    let given = given_to-created history name params (same_name-same name) in
+    (ap (λ g. g.plain) given, ap (λ g. marked_values g.landmarks) given)
