@@ -36,6 +36,7 @@ bench: ## times the programs that were built last: bench/README.md
 	@test -x $(BENCH) || tools/build calls_bench all
 	@bench/durable $(PROGRAM)
 	@bench/appends $(PROGRAM)
+	@bench/drops $(PROGRAM)
 	@bench/queries $(PROGRAM)
 	@bench/commits $(BENCH)
 	@bench/records $(BENCH)

@@ -67,6 +67,17 @@ class Run:
                 fail(f"{len(self.report)} replies of {replies}, of them no `ok`: {others[:3]}")
 
 
+def calls_of(words, folder, commands, replies):
+    """How many syncs and writes of the store a run makes, by strace."""
+    trace = os.path.join(folder, "trace")
+    Run(["strace", "-f", "-c", "-o", trace, "-e", "trace=fdatasync,pwrite64", *words], commands, replies)
+    row = re.compile(r"^\s*[\d.]+\s+[\d.]+\s+\d+\s+(\d+)\s+(?:\d+\s+)?(\w+)$", re.M)
+    with open(trace) as text:
+        counts = {name: int(count) for count, name in row.findall(text.read())}
+    os.remove(trace)
+    return counts["fdatasync"], counts["pwrite64"]
+
+
 def peak_of(program, store, commands):
     """The peak memory in MB of a run over these commands. It is read when the line after them is refused, before the run ends."""
     child = subprocess.Popen([program, store], stdin=subprocess.PIPE, stdout=subprocess.PIPE)

@@ -69,11 +69,11 @@ def slots_of(image):
 
 class Stream:
     def __init__(self, bytes):
-        _, self.family, length, self.number, *self.parameters = struct.unpack_from(">BBBxI4I", bytes)
+        _, self.family, length, self.dropped, self.number, *self.parameters = struct.unpack_from(">BBBBI4I", bytes)
         self.name = bytes[24 : 24 + length]
 
     def spelled(self):
-        head = struct.pack(">BBBxI4I", 1, self.family, len(self.name), self.number, *self.parameters)
+        head = struct.pack(">BBBBI4I", 1, self.family, len(self.name), self.dropped, self.number, *self.parameters)
         return (head + self.name).ljust(SLOT, b"\0")
 
     def is_valid(self):
@@ -82,7 +82,7 @@ class Stream:
             in_range = 2 <= a <= 16 and 1 <= b <= 65536 and 1 <= c <= 65536 and d == 0
         else:
             in_range = self.family == 2 and 1 <= a <= 4 and b <= 3 and 1 <= c <= 65536 and 1 <= d <= 65536
-        return in_range and 1 <= len(self.name) <= 32 and all(byte in NAME_BYTES for byte in self.name)
+        return in_range and self.dropped <= 1 and 1 <= len(self.name) <= 32 and all(byte in NAME_BYTES for byte in self.name)
 
     def target(self):
         words = self.parameters[:3] if self.family == 1 else self.parameters
@@ -246,6 +246,8 @@ class Held:
         self.values.sort(key=lambda value: (value.landmark, value.index))
         if len(self.streams) != 1 or len(earlier) > 4095 or self.streams[0].name in earlier:
             return False
+        if self.streams[0].dropped:
+            return True
         if not are_ordered(self.windows) or not are_landmarks(self.landmarks):
             return False
         if any(value.landmark > len(self.landmarks) for value in self.values):
@@ -272,7 +274,8 @@ class Held:
 
 
 def streams_of(image):
-    """The streams for which a file stands, in order, their windows joined where they are due. Raises `Refused`, or `Holds`."""
+    """The streams for which a file stands, in order, their windows joined where they are due. One that is dropped
+    doesn't count. Raises `Refused`, or `Holds`."""
     if not is_formatted(image):
         if any(image[FIRST_SLOT:]):
             raise Holds()
@@ -290,9 +293,10 @@ def streams_of(image):
         if not held[number].is_sound(earlier):
             raise Refused(f"damaged stream {number}")
         earlier.append(held[number].streams[0].name)
-    for one in held.values():
+    standing = [held[number] for number in sorted(held) if not held[number].streams[0].dropped]
+    for one in standing:
         one.close()
-    return [held[number] for number in sorted(held)]
+    return standing
 
 
 # What the program says of it.

@@ -130,6 +130,24 @@ def script(appends):
 # What opens and closes before the value of a step.
 LANDMARKS = {17: "b open 175", 26: "b close 265", 40: "a open 405", 44: "a close 440", 50: "d open 505"}
 
+
+
+def marked(name, windows, values):
+    """A stream with so many windows, and a landmark that stays open with so many values."""
+    lines = [f"create {name} power 1 0 1 1"] + [f"append {name} {t} {t * 7919 % 2001 - 1000}" for t in range(1, windows + 1)]
+    return [*lines, f"landmark {name} open 1000", *(f"append {name} {1000 + t} {t}" for t in range(values))]
+
+
+def dropping():
+    """Commands that are all accepted, and how many of them come before the first drop. The streams that are dropped have 300
+    records beside their own, 5, one and none. Two names come again, and between the drops a further stream takes values."""
+    lines = [*marked("a", 200, 99), *marked("b", 2, 2), "create c exp 2 1 1", "append c 10 1", "create d exp 2 1 1"]
+    before = len(lines)
+    lines += ["create e exp 2 1 1", "append e 10 5", "drop d", "append e 20 6", "drop c", "append e 30 -7", "drop b"]
+    lines += ["create b exp 3 1 1", "append b 1 1", "append e 40 8", "drop a", "append e 50 9", "create a exp 2 1 1"]
+    return [*lines, "append a 1 2", "drop b", "append e 60 -3", "drop e", "append a 2 3"], before
+
+
 # A closing at 0 is never accepted: it is refused NOT_OPEN where no landmark is open, and TIME where one is.
 SHOW = ["list"]
 for name in "abcde":
@@ -166,10 +184,11 @@ def shown(program, store, mode=PLAIN):
     return status, report + complaint
 
 
-def shown_after_each(program, folder, lines):
-    """What a new store shows that was given the first j commands by a plain run, for each j from 0 on; and the reply to each."""
-    all, said = [], []
-    for j in range(len(lines) + 1):
+def shown_after_each(program, folder, lines, before=0):
+    """What a new store shows that was given the first j commands by a plain run, for each j from `before` on, and None for those
+    below; and the reply to each command."""
+    all, said = [None] * before, []
+    for j in range(before, len(lines) + 1):
         store = os.path.join(folder, "new.store")
         status, report, complaint = call([program, store], lines[:j] + SHOW)
         os.remove(store)
@@ -178,6 +197,18 @@ def shown_after_each(program, folder, lines):
         *said, rest = report.split(b"\n", j)
         all.append((0, rest))
     return all, [line + b"\n" for line in said]
+
+
+def left_by(program, folder, lines):
+    """The file that a plain run over these leaves of a new store, None where there are none."""
+    if not lines:
+        return None
+    store = os.path.join(folder, "left.store")
+    call([program, store], lines)
+    with open(store, "rb") as file:
+        image = file.read()
+    os.remove(store)
+    return image
 
 
 def which(texts, found):
