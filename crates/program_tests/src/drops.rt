@@ -32,6 +32,9 @@ const BEFORE_CROWDED: u64 = BEFORE + 4 * PASSING;
 // The drop that then has one entry left, after two syncs more.
 const DECIDED: u64 = BEFORE_CROWDED + 2;
 
+// All entries are in their slots after three more. The stream's own record says then that it was dropped, and all others are there.
+const SETTLED: u64 = DECIDED + 3;
+
 // The first stop after so many good syncs after which an opening that is stopped too shows something else.
 fn first_opening_after(
     alloc: Global,
@@ -47,10 +50,7 @@ fn an_opening_that_stops_amid_a_drop_leaves_what_it_found(rt: HostRuntime) -> Re
     let script = dropped(rt.alloc())?;
     assert_eq!(rt; first_opening_after(rt.alloc(), &script, BEFORE)?, None);
     let script = dropped_without_room(rt.alloc())?;
-    assert_eq!(rt;
-        first_opening_after(rt.alloc(), &script, BEFORE_CROWDED)?,
-        None
-    );
+    assert_eq!(rt; first_opening_after(rt.alloc(), &script, SETTLED)?, None);
     Ok(())
 }
 
