@@ -24,11 +24,27 @@ const POWER_STREAM: [u8; 25] = [
     1, 2, 1, 0, 0, 0, 0, 1, 0, 0, 0, 1, 0, 0, 0, 1, 0, 0, 0, 4, 0, 0, 0, 2, 112,
 ];
 
-// The values 5, -3, 8 and 1 at the times 10, 20, 30 and 40, the first four of stream 0.
+// The values 5, -3, 8 and 1 at the times 10, 20, 30 and 40, the first four of stream 0, with a filter that has all bits.
 const WINDOW: [u8; 72] = [
     2, 0, 0, 0, 0, 0, 0, 0, 0, 0, 0, 0, 0, 0, 0, 1, 0, 0, 0, 0, 0, 0, 0, 4, 0, 0, 0, 0, 0, 0, 0, 0,
     0, 0, 0, 0, 0, 0, 0, 11, 255, 255, 255, 255, 255, 255, 255, 253, 0, 0, 0, 0, 0, 0, 0, 8, 0, 0,
     0, 0, 0, 0, 0, 10, 0, 0, 0, 0, 0, 0, 0, 40,
+];
+
+// The same values with the filter of them alone, and with one that has all bits but one.
+const FILTERED_WINDOW: [u8; 104] = [
+    2, 1, 0, 0, 0, 0, 0, 0, 0, 0, 0, 0, 0, 0, 0, 1, 0, 0, 0, 0, 0, 0, 0, 4, 0, 0, 0, 0, 0, 0, 0, 0,
+    0, 0, 0, 0, 0, 0, 0, 11, 255, 255, 255, 255, 255, 255, 255, 253, 0, 0, 0, 0, 0, 0, 0, 8, 0, 0,
+    0, 0, 0, 0, 0, 10, 0, 0, 0, 0, 0, 0, 0, 40, 0, 0, 0, 32, 0, 128, 0, 0, 0, 0, 0, 0, 0, 0, 0, 0,
+    0, 0, 0, 0, 64, 0, 0, 0, 0, 2, 0, 0, 0, 0, 0, 0,
+];
+
+const ALL_BUT_ONE: [u8; 104] = [
+    2, 1, 0, 0, 0, 0, 0, 0, 0, 0, 0, 0, 0, 0, 0, 1, 0, 0, 0, 0, 0, 0, 0, 4, 0, 0, 0, 0, 0, 0, 0, 0,
+    0, 0, 0, 0, 0, 0, 0, 11, 255, 255, 255, 255, 255, 255, 255, 253, 0, 0, 0, 0, 0, 0, 0, 8, 0, 0,
+    0, 0, 0, 0, 0, 10, 0, 0, 0, 0, 0, 0, 0, 40, 255, 255, 255, 255, 255, 255, 255, 255, 255, 255,
+    255, 255, 255, 255, 255, 255, 255, 255, 255, 255, 255, 255, 255, 255, 255, 255, 255, 255, 255,
+    255, 255, 254,
 ];
 
 // The value -1 at the time 10, the first of stream 7.
@@ -80,7 +96,7 @@ struct Row {
     wrong: &'static [u8],
 }
 
-const ROWS: [Row; 12] = [
+const ROWS: [Row; 14] = [
     Row {
         bytes: &STREAM,
         text: "0 a Exp { b: 2, r: 1, s: 1 } false",
@@ -115,19 +131,43 @@ const ROWS: [Row; 12] = [
     },
     Row {
         bytes: &WINDOW,
-        text: "Window { id: 0, first: 1, summary: Summary { count: 4, sum: 11, min: -3, max: 8, t_first: 10, t_last: 40 } }",
+        text: "Window { id: 0, first: 1, summary: Summary { count: 4, sum: 11, min: -3, max: 8, t_first: 10, t_last: 40, \
+            filter: Filter { words: [18446744073709551615, 18446744073709551615, 18446744073709551615, 18446744073709551615] } } }",
         wrong: &[
             // another kind
             0, 1,
+            // by words, and neither so nor with all bits; a byte among its words
+            1, 1, 1, 2, 72, 1, 103, 1,
             // a byte that isn't zero where no field is
-            1, 1, 72, 1,
+            2, 1, 104, 1, 127, 1,
             // no values, a sum that is too large, before the first position, after the last one
             23, 0, 39, 22, 15, 0, 10, 1,
         ],
     },
     Row {
+        bytes: &FILTERED_WINDOW,
+        text: "Window { id: 0, first: 1, summary: Summary { count: 4, sum: 11, min: -3, max: 8, t_first: 10, t_last: 40, \
+            filter: Filter { words: [137447342080, 0, 1073741824, 562949953421312] } } }",
+        wrong: &[
+            // with all bits, and neither so nor by words
+            1, 0, 1, 2,
+            // without the bit of the least value, and without that of the greatest
+            75, 0, 97, 0,
+            // a byte that isn't zero where no field is
+            3, 1, 104, 1, 127, 1,
+        ],
+    },
+    Row {
+        bytes: &ALL_BUT_ONE,
+        text: "Window { id: 0, first: 1, summary: Summary { count: 4, sum: 11, min: -3, max: 8, t_first: 10, t_last: 40, \
+            filter: Filter { words: [18446744073709551615, 18446744073709551615, 18446744073709551615, 18446744073709551614] } } }",
+        // all bits by words
+        wrong: &[103, 255],
+    },
+    Row {
         bytes: &ONE_VALUE,
-        text: "Window { id: 7, first: 1, summary: Summary { count: 1, sum: -1, min: -1, max: -1, t_first: 10, t_last: 10 } }",
+        text: "Window { id: 7, first: 1, summary: Summary { count: 1, sum: -1, min: -1, max: -1, t_first: 10, t_last: 10, \
+            filter: Filter { words: [18446744073709551615, 18446744073709551615, 18446744073709551615, 18446744073709551615] } } }",
         // at two times, with another sum, at a time that is too late
         wrong: &[71, 11, 39, 254, 64, 128],
     },

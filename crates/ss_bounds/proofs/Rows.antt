@@ -2,6 +2,7 @@
 use Rattle.std.specs.Prelude.{◌≡◌, ◌^◌, ℕ, true, not, ℤ, pos, negsuc, [], ◌∷◌, map, None, Some}
 use Rattle.std.proofs.Common.{arith, inl, inr, lit≤, refl}
 use Rattle.std.proofs.lemmas.Int.{ints}
+use Rattle.ss_summary.specs.Points.{New}
 use Rattle.ss_bounds.specs.declared.split.TheConstants.{MOST_VALUES, MOST_TIMES}
 use Rattle.ss_bounds.specs.declared.extreme.Extreme.TheVariants.{Nothing, Sure, Maybe}
 use Rattle.ss_bounds.specs.Split.{SplitFigures, count_interval, low_sum, high_sum, sum_interval}
@@ -41,7 +42,7 @@ four_in from to = split_of (λ t. true) from to 4 (pos 11) (negsuc 2) (pos 8) 10
 figures-four : four_in 10 25 ∷ four_in 25 55 ∷ four_in 15 25 ∷ [] ≡ four 1 15 14 ∷ four 1 15 14 ∷ four 0 11 18 ∷ []
 figures-four = refl
 
-RiseFree-four : RiseFree (λ t. true) (negsuc 2) (pos 8) 0 ((10, pos 5) ∷ (20, negsuc 2) ∷ (30, pos 8) ∷ (40, pos 1) ∷ [])
+RiseFree-four : RiseFree (λ t. true) (negsuc 2) (pos 8) 0 ((10, pos 5, New) ∷ (20, negsuc 2, New) ∷ (30, pos 8, New) ∷ (40, pos 1, New) ∷ [])
 RiseFree-four = (
   lit≤ tt,
   refl,
@@ -63,10 +64,10 @@ RiseFree-four = (
 )
 
 -- its values are as the figures say, and those at 10 and 20 are the ones that are asked for from 10 to 25
-AreSplit-four : AreSplit (λ t. true) 10 25 (10, pos 5) ((20, negsuc 2) ∷ (30, pos 8) ∷ (40, pos 1) ∷ []) (four 1 15 14)
+AreSplit-four : AreSplit (λ t. true) 10 25 (10, pos 5, New) ((20, negsuc 2, New) ∷ (30, pos 8, New) ∷ (40, pos 1, New) ∷ []) (four 1 15 14)
 AreSplit-four = record { more = lit≤ tt; rising = RiseFree-four; is = refl }
 
-asked-four : asked 10 25 ((10, pos 5) ∷ (20, negsuc 2) ∷ (30, pos 8) ∷ (40, pos 1) ∷ []) ≡ pos 5 ∷ negsuc 2 ∷ []
+asked-four : asked 10 25 ((10, pos 5, New) ∷ (20, negsuc 2, New) ∷ (30, pos 8, New) ∷ (40, pos 1, New) ∷ []) ≡ pos 5 ∷ negsuc 2 ∷ []
 asked-four = refl
 
 count-four : count_interval (four 1 15 14) ≡ (1, 3)
@@ -205,7 +206,7 @@ max-known_and_two : max_interval (Some (pos 1)) (two ∷ []) ≡ Sure (pos 2) (p
 max-known_and_two = refl
 
 -- times may follow one another without a gap
-RiseFree-crowded : RiseFree (λ t. true) (pos 4) (pos 6) 0 ((10, pos 4) ∷ (11, pos 6) ∷ [])
+RiseFree-crowded : RiseFree (λ t. true) (pos 4) (pos 6) 0 ((10, pos 4, New) ∷ (11, pos 6, New) ∷ [])
 RiseFree-crowded = (
   lit≤ tt,
   refl,

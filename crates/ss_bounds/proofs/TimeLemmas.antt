@@ -3,6 +3,7 @@ use Rattle.std.specs.Prelude.{◌≡◌, ℕ, zero, suc, ◌+◌, ◌-◌, ◌<�
 use Rattle.std.specs.List.{count_by, filter, range_with_len}
 use Rattle.std.proofs.Common.{ap, arith, refl, sym, ◌∙◌, subst, zero-add}
 use Rattle.std.proofs.lemmas.List.Sums.{sum_by-cons}
+use Rattle.ss_summary.specs.Points.{Point}
 use Rattle.ss_bounds.specs.Split.{SplitFigures, least_count, greatest_count}
 use Rattle.ss_bounds.specs.Times.{lies_in}
 use Rattle.ss_summary.specs.Summaries.{time_at_end}
@@ -36,7 +37,7 @@ count_by-at test a t end from before =
     (count_by-from test a (t - a) end (omega arith))
 
 -- no time of rising ones is after the last
-time_at_end-after : (free : ℕ → Bool) (m M : ℤ) (start : ℕ) (q : ℕ × ℤ) (qs : List (ℕ × ℤ)) → RiseFree free m M start (q ∷ qs)
+time_at_end-after : (free : ℕ → Bool) (m M : ℤ) (start : ℕ) (q : Point) (qs : List Point) → RiseFree free m M start (q ∷ qs)
     → q.0 + length qs ≤ time_at_end q.0 qs
 time_at_end-after free m M start q [] rising = omega arith
 time_at_end-after free m M start q (r ∷ rs) rising =
@@ -45,14 +46,14 @@ time_at_end-after free m M start q (r ∷ rs) rising =
 
 module _ (free : ℕ → Bool) (from to : ℕ) (m M : ℤ) where
   -- of the values after the first of a window, the last one and others: how many of the others lie in the range
-  record Others (start : ℕ) (q : ℕ × ℤ) (qs : List (ℕ × ℤ)) : Type 0 where
+  record Others (start : ℕ) (q : Point) (qs : List Point) : Type 0 where
     many : ℕ
     all : length (asked from to (q ∷ qs)) ≡ many + one_if (lies_in from to (time_at_end q.0 qs))
     some : many ≤ length qs
     in_range : many ≤ count_by (λ t. free t && lies_in from to t) (range_with_len start (time_at_end q.0 qs - start))
     not_in_range : length qs ≤ many + count_by (λ t. free t && not (lies_in from to t)) (range_with_len start (time_at_end q.0 qs - start))
 
-  others-next : (start : ℕ) (q r : ℕ × ℤ) (rs : List (ℕ × ℤ)) → start ≤ q.0 → free q.0 ≡ true → q.0 < time_at_end r.0 rs
+  others-next : (start : ℕ) (q r : Point) (rs : List Point) → start ≤ q.0 → free q.0 ≡ true → q.0 < time_at_end r.0 rs
       → Others (q.0 + 1) r rs → (b : Bool) → lies_in from to q.0 ≡ b → Others start q (r ∷ rs)
   others-next start q r rs late is_free before rest true is =
       let at_inside = count_by-at (λ t. free t && lies_in from to t) start q.0 (time_at_end r.0 rs) late before in
@@ -79,11 +80,11 @@ module _ (free : ℕ → Bool) (from to : ℕ) (m M : ℤ) where
         not_in_range = omega (arith, rest.not_in_range);
       }
 
-  asked-one : (q : ℕ × ℤ) (b : Bool) → lies_in from to q.0 ≡ b → length (asked from to (q ∷ [])) ≡ one_if b
+  asked-one : (q : Point) (b : Bool) → lies_in from to q.0 ≡ b → length (asked from to (q ∷ [])) ≡ one_if b
   asked-one q true is = rw is refl
   asked-one q false is = rw is refl
 
-  others : (start : ℕ) (q : ℕ × ℤ) (qs : List (ℕ × ℤ)) → RiseFree free m M start (q ∷ qs) → Others start q qs
+  others : (start : ℕ) (q : Point) (qs : List Point) → RiseFree free m M start (q ∷ qs) → Others start q qs
   others start q [] rising = record {
     many = 0;
     all = asked-one q (lies_in from to q.0) refl ∙ sym (zero-add _);
@@ -96,12 +97,12 @@ module _ (free : ℕ → Bool) (from to : ℕ) (m M : ℤ) where
       others-next start q r rs rising.0 rising.1 (omega (arith, rising.4.0)) (others (q.0 + 1) r rs rising.4) (lies_in from to q.0) refl
 
 -- a value is among those in the range where its time is
-asked-next : (p : ℕ × ℤ) (ps : List (ℕ × ℤ)) (b : Bool) → length (values_alone (if b then p ∷ ps else ps)) ≡ one_if b + length (values_alone ps)
+asked-next : (p : Point) (ps : List Point) (b : Bool) → length (values_alone (if b then p ∷ ps else ps)) ≡ one_if b + length (values_alone ps)
 asked-next p ps true = omega arith
 asked-next p ps false = omega arith
 
 -- how many values of a window lie in the range
-pub asked-counts : (free : ℕ → Bool) (from to : ℕ) (p : ℕ × ℤ) (ps : List (ℕ × ℤ)) (s : SplitFigures) → AreSplit free from to p ps s
+pub asked-counts : (free : ℕ → Bool) (from to : ℕ) (p : Point) (ps : List Point) (s : SplitFigures) → AreSplit free from to p ps s
     → (least_count s ≤ length (asked from to (p ∷ ps))) × (length (asked from to (p ∷ ps)) ≤ greatest_count s)
 asked-counts free from to p [] s split = absurd (omega (arith, split.more))
 asked-counts free from to p (q ∷ qs) s split =

@@ -3,6 +3,7 @@ use Rattle.std.specs.Prelude.{◌≡◌, ℕ, ◌+◌, ◌-◌, ◌≤◌, Bool,
 use Rattle.std.specs.List.{filter}
 use Rattle.std.proofs.Common.{ap, arith, refl, sym, ◌∙◌}
 use Rattle.std.proofs.lemmas.Int.{ints, clamps}
+use Rattle.ss_summary.specs.Points.{Point}
 use Rattle.ss_bounds.specs.Split.{SplitFigures, least_count, greatest_count, low_sum, high_sum, sum_interval}
 use Rattle.ss_bounds.specs.Times.{lies_in}
 use Rattle.ss_bounds.specs.Truth.{total, values_alone, asked, RiseFree, AllBetween, AreSplit, MayLieThere}
@@ -19,19 +20,19 @@ total-below m M [] between = omega (arith, ints)
 total-below m M (v ∷ vs) between = let rest = total-below m M vs between.2 in omega (arith, ints)
 
 -- values at rising free times are each between m and M, also those that pass a test
-between-next : (m M : ℤ) (p : ℕ × ℤ) (ps : List (ℕ × ℤ)) → m ≤ℤ p.1 → p.1 ≤ℤ M → AllBetween m M (values_alone ps)
+between-next : (m M : ℤ) (p : Point) (ps : List Point) → m ≤ℤ p.1 → p.1 ≤ℤ M → AllBetween m M (values_alone ps)
     → (b : Bool) → AllBetween m M (values_alone (if b then p ∷ ps else ps))
 between-next m M p ps low high rest true = (low, high, rest)
 between-next m M p ps low high rest false = rest
 
-between-filter : (free : ℕ → Bool) (m M : ℤ) (test : ℕ × ℤ → Bool) (start : ℕ) (values : List (ℕ × ℤ))
+between-filter : (free : ℕ → Bool) (m M : ℤ) (test : Point → Bool) (start : ℕ) (values : List Point)
     → RiseFree free m M start values → AllBetween m M (values_alone (filter test values))
 between-filter free m M test start [] rising = tt
 between-filter free m M test start (p ∷ ps) rising =
     between-next m M p (filter test ps) rising.2 rising.3 (between-filter free m M test (p.0 + 1) ps rising.4) (test p)
 
 -- the values that pass a test and those that don't are all of them
-parted-next : (p : ℕ × ℤ) (in_them not_in_them : List (ℕ × ℤ)) (b : Bool)
+parted-next : (p : Point) (in_them not_in_them : List Point) (b : Bool)
     → (length (values_alone (if b then p ∷ in_them else in_them)) + length (values_alone (if not b then p ∷ not_in_them else not_in_them))
     ≡ 1 + (length (values_alone in_them) + length (values_alone not_in_them)))
     × ((total (values_alone (if b then p ∷ in_them else in_them)) +ℤ total (values_alone (if not b then p ∷ not_in_them else not_in_them)))
@@ -39,7 +40,7 @@ parted-next : (p : ℕ × ℤ) (in_them not_in_them : List (ℕ × ℤ)) (b : Bo
 parted-next p in_them not_in_them true = (omega arith, omega (arith, ints))
 parted-next p in_them not_in_them false = (omega arith, omega (arith, ints))
 
-parted : (test : ℕ × ℤ → Bool) (values : List (ℕ × ℤ))
+parted : (test : Point → Bool) (values : List Point)
     → (length (values_alone (filter test values)) + length (values_alone (filter (λ p. not (test p)) values)) ≡ length values)
     × ((total (values_alone (filter test values)) +ℤ total (values_alone (filter (λ p. not (test p)) values))) ≡ total (values_alone values))
 parted test [] = (refl, refl)
@@ -73,7 +74,7 @@ sum-within s inside outside count sum in_between out_between fewest most =
     let out_below = total-below s.min s.max outside out_between in
     (omega (arith, ints, clamps, at.0), omega (arith, ints, clamps, at.1))
 
-module _ (free : ℕ → Bool) (from to : ℕ) (p : ℕ × ℤ) (ps : List (ℕ × ℤ)) (s : SplitFigures) (split : AreSplit free from to p ps s) where
+module _ (free : ℕ → Bool) (from to : ℕ) (p : Point) (ps : List Point) (s : SplitFigures) (split : AreSplit free from to p ps s) where
   pub asked-MayLieThere : MayLieThere s (asked from to (p ∷ ps))
   asked-MayLieThere =
       let counts = asked-counts free from to p ps s split in

@@ -1,7 +1,8 @@
--- What is true of the values of split windows, which a store no longer has one by one. Values are a list of (time, value).
+-- What is true of the values of split windows, which a store no longer has one by one. They are points at rising times.
 use Rattle.std.specs.Prelude.{◌≡◌, ℕ, ◌+◌, ◌≤◌, Bool, true, ℤ, pos, ◌+ℤ◌, ◌≤ℤ◌, List, [], ◌∷◌, length, map, Option, MatchOption}
 use Rattle.std.specs.List.{filter, flat_map}
 use Rattle.ss_summary.specs.Summaries.{time_at_end}
+use Rattle.ss_summary.specs.Points.{Point}
 use Rattle.ss_bounds.specs.declared.extreme.Extreme.{Extreme}
 use Rattle.ss_bounds.specs.declared.extreme.Extreme.TheVariants.{Nothing, Sure, Maybe}
 use Rattle.ss_bounds.specs.Split.{SplitFigures, least_count, greatest_count}
@@ -13,20 +14,20 @@ total [] = pos 0
 total (v ∷ vs) = v +ℤ total vs
 
 -- the values alone, and those at times in from..=to
-abbrev pub values_alone : List (ℕ × ℤ) → List ℤ
+abbrev pub values_alone : List Point → List ℤ
 values_alone values = map (λ p. p.1) values
 
-abbrev pub asked : ℕ → ℕ → List (ℕ × ℤ) → List ℤ
+abbrev pub asked : ℕ → ℕ → List Point → List ℤ
 asked from to values = values_alone (filter (λ p. lies_in from to p.0) values)
 
 -- values from m to M at rising times, free ones, the first at `start` or later
-abbrev pub RiseFree : (ℕ → Bool) → ℤ → ℤ → ℕ → List (ℕ × ℤ) → Type 0
+abbrev pub RiseFree : (ℕ → Bool) → ℤ → ℤ → ℕ → List Point → Type 0
 RiseFree free m M start [] = Unit {0}
 RiseFree free m M start (p ∷ ps) =
     (start ≤ p.0) × (free p.0 ≡ true) × (m ≤ℤ p.1) × (p.1 ≤ℤ M) × RiseFree free m M (p.0 + 1) ps
 
 -- two values or more, the first given by itself, have these figures as a window that the range from..=to splits
-pub record AreSplit (free : ℕ → Bool) (from to : ℕ) (p : ℕ × ℤ) (ps : List (ℕ × ℤ)) (s : SplitFigures) : Type 0 where
+pub record AreSplit (free : ℕ → Bool) (from to : ℕ) (p : Point) (ps : List Point) (s : SplitFigures) : Type 0 where
   pub more : 1 ≤ length ps
   pub rising : RiseFree free s.min s.max 0 (p ∷ ps)
   pub is : s ≡ split_of free from to (length (p ∷ ps)) (total (values_alone (p ∷ ps))) s.min s.max p.0 (time_at_end p.0 ps)

@@ -1,5 +1,6 @@
 // Laws, each the contract of a function that does nothing.
 ghost use Rattle.std.specs.Prelude.{◌≡◌, ℕ, ◌+◌, ◌-◌, ◌≤◌, max, min, Bool, ℤ, ◌≤ℤ◌, List, ◌∷◌, Option};
+ghost use Rattle.ss_summary.specs.Points.{Point};
 ghost use Rattle.ss_bounds.specs.Split.{SplitFigures, IsSplit, least_count, greatest_count, low_sum, high_sum, sum_interval};
 ghost use Rattle.ss_bounds.specs.Attained.{IsFirstGreatest, IsFirstLeast, greatest_sum_at, least_sum_at};
 ghost use Rattle.ss_bounds.specs.Parted.{CanBeParted};
@@ -11,9 +12,9 @@ ghost use Rattle.ss_bounds.specs.Truth.{AreSplit, asked, HoldsExtreme, MayAllLie
 /// The values of a split window that lie in the range: how many they are, and each of them, is as the window allows, and
 /// their sum lies in the interval of sums.
 pub fn split_windows_hold_the_truth()
-    ensures values { (free : ℕ → Bool) (from to : ℕ) (p : ℕ × ℤ) (ps : List (ℕ × ℤ)) (s : SplitFigures)
+    ensures values { (free : ℕ → Bool) (from to : ℕ) (p : Point) (ps : List Point) (s : SplitFigures)
         → AreSplit free from to p ps s → MayLieThere s (asked from to (p ∷ ps)) }
-    ensures sum { (free : ℕ → Bool) (from to : ℕ) (p : ℕ × ℤ) (ps : List (ℕ × ℤ)) (s : SplitFigures)
+    ensures sum { (free : ℕ → Bool) (from to : ℕ) (p : Point) (ps : List Point) (s : SplitFigures)
         → AreSplit free from to p ps s → let truth = total (asked from to (p ∷ ps)) in
         ((sum_interval s).0 ≤ℤ truth) × (truth ≤ℤ (sum_interval s).1) }
 {}

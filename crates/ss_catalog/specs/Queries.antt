@@ -1,10 +1,11 @@
 -- What queries say.
-use Rattle.std.specs.Prelude.{ℕ, ◌≤◌, Bool, true, false, List, codes}
+use Rattle.std.specs.Prelude.{ℕ, ◌≤◌, Bool, true, false, FitsSigned, List, codes}
+use Rattle.std.specs.Int.{w64}
 use Rattle.ss_catalog.specs.declared.TheConstants.{LAST_TIME}
 use Rattle.ss_catalog.specs.declared.query.End.{End}
 use Rattle.ss_catalog.specs.declared.query.End.TheVariants.{Lo, Hi}
 use Rattle.ss_catalog.specs.declared.query.Kind.{Kind}
-use Rattle.ss_catalog.specs.declared.query.Kind.TheVariants.{Count, Sum, Min, Max}
+use Rattle.ss_catalog.specs.declared.query.Kind.TheVariants.{Count, Sum, Min, Max, Has}
 use Rattle.ss_catalog.specs.declared.query.Query.{Query}
 
 -- the name of what is asked for, in a command and in a reply
@@ -13,6 +14,7 @@ kind_name Count = codes "count"
 kind_name Sum = codes "sum"
 kind_name Min = codes "min"
 kind_name Max = codes "max"
+kind_name (Has value) = codes "has"
 
 -- what is asked for adds up: of all values it is what it is of some and of the others, added
 abbrev pub adds_up : Kind → Bool
@@ -20,11 +22,20 @@ adds_up Count = true
 adds_up Sum = true
 adds_up Min = false
 adds_up Max = false
+adds_up (Has value) = false
 
 -- the name of an end of an interval, in a command
 abbrev pub end_name : End → List ℕ
 end_name Lo = codes "lo"
 end_name Hi = codes "hi"
+
+-- a value that is asked for has 64 bits
+abbrev pub IsKindOfValues : Kind → Type 0
+IsKindOfValues Count = Unit
+IsKindOfValues Sum = Unit
+IsKindOfValues Min = Unit
+IsKindOfValues Max = Unit
+IsKindOfValues (Has value) = FitsSigned w64 value
 
 -- a query has no time above the last one
 abbrev pub IsQueryInTime : Query → Type 0

@@ -15,6 +15,8 @@ pub enum Kind {
     Min,
     /// The greatest of them.
     Max,
+    /// Whether a value is one of them.
+    Has { value: i64 },
 }
 
 impl Kind {
@@ -27,6 +29,7 @@ impl Kind {
             Kind::Sum => "sum",
             Kind::Min => "min",
             Kind::Max => "max",
+            Kind::Has { .. } => "has",
         }
     }
 

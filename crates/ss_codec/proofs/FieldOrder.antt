@@ -7,7 +7,7 @@ use Rattle.ss_fields.proofs.FieldLemmas.{length-number_bytes}
 use Rattle.ss_summary.specs.Figures.{Figures}
 use Rattle.ss_catalog.specs.declared.params.Params.{Params}
 use Rattle.ss_codec.specs.declared.record.Record.TheVariants.{Stream, Window, Landmark, Value}
-use Rattle.ss_codec.specs.Record.{drop_number, family, parameters, state_number, closing_time, fields}
+use Rattle.ss_codec.specs.Record.{drop_number, family, filter_number, parameters, state_number, closing_time, fields, word_spelled}
 use Rattle.ss_codec.proofs.FieldLemmas.{IsWithin, AreInOrder}
 
 -- a field of a number lies within a slot
@@ -68,29 +68,49 @@ window-in_order id first f = (
   byte-within 0 2 (lit≤ tt),
   (
     lit≤ tt,
-    number-within 4 4 id (lit≤ tt),
+    byte-within 1 (filter_number f.filter) (lit≤ tt),
     (
       lit≤ tt,
-      number-within 8 8 first (lit≤ tt),
+      number-within 4 4 id (lit≤ tt),
       (
         lit≤ tt,
-        number-within 8 16 f.count (lit≤ tt),
+        number-within 8 8 first (lit≤ tt),
         (
           lit≤ tt,
-          number-within 16 24 (cast_unsigned w128 f.sum) (lit≤ tt),
+          number-within 8 16 f.count (lit≤ tt),
           (
             lit≤ tt,
-            number-within 8 40 (cast_unsigned w64 f.min) (lit≤ tt),
+            number-within 16 24 (cast_unsigned w128 f.sum) (lit≤ tt),
             (
               lit≤ tt,
-              number-within 8 48 (cast_unsigned w64 f.max) (lit≤ tt),
+              number-within 8 40 (cast_unsigned w64 f.min) (lit≤ tt),
               (
                 lit≤ tt,
-                number-within 8 56 f.t_first (lit≤ tt),
+                number-within 8 48 (cast_unsigned w64 f.max) (lit≤ tt),
                 (
                   lit≤ tt,
-                  number-within 8 64 f.t_last (lit≤ tt),
-                  tt,
+                  number-within 8 56 f.t_first (lit≤ tt),
+                  (
+                    lit≤ tt,
+                    number-within 8 64 f.t_last (lit≤ tt),
+                    (
+                      lit≤ tt,
+                      number-within 8 72 (word_spelled f.filter 0) (lit≤ tt),
+                      (
+                        lit≤ tt,
+                        number-within 8 80 (word_spelled f.filter 1) (lit≤ tt),
+                        (
+                          lit≤ tt,
+                          number-within 8 88 (word_spelled f.filter 2) (lit≤ tt),
+                          (
+                            lit≤ tt,
+                            number-within 8 96 (word_spelled f.filter 3) (lit≤ tt),
+                            tt,
+                          ),
+                        ),
+                      ),
+                    ),
+                  ),
                 ),
               ),
             ),

@@ -19,12 +19,14 @@ use Rattle.ss_catalog.specs.Names.{is_name}
 use Rattle.ss_catalog.specs.Params.{in_range}
 use Rattle.ss_catalog.specs.declared.TheConstants.{LAST_TIME}
 use Rattle.ss_catalog.specs.declared.params.Params.{Params}
-use Rattle.ss_catalog.specs.declared.params.Params.TheVariants.{Exp, Power}
 use Rattle.ss_codec.specs.declared.record.Record.{Record}
 use Rattle.ss_codec.specs.declared.record.Record.TheVariants.{Free, Stream, Window, Landmark, Value}
-use Rattle.ss_codec.specs.Record.{is_interval, is_valid, drop_number, family, parameters, state_number, closing_time, fields, spelling, Spells}
+use Rattle.ss_codec.specs.Record.{is_interval, is_valid, drop_number, family, filter_number, parameters, state_number, closing_time, fields}
+use Rattle.ss_codec.specs.Record.{spelling, word_spelled, Spells}
 use Rattle.ss_codec.specs.Decoded.{checked, decoded, finish_in, landmark_in, params_in, record_in, stream_in, value_in, window_in}
 use Rattle.ss_codec.proofs.FieldLemmas.{AreInOrder, HasFields, HasFields-with_fields, slice_index-part}
+use Rattle.ss_codec.proofs.ParameterLemmas.{AreSmall-in_range, params_in-numbers}
+use Rattle.ss_codec.proofs.FilterSpelling.{filter_in-numbers, word_spelled-fits}
 use Rattle.ss_codec.proofs.FieldOrder.{landmark-in_order, stream-in_order, value-in_order, window-in_order}
 
 not_true : (b : Bool) → (b ≡ true → ⊥) → b ≡ false
@@ -160,35 +162,6 @@ is_valid-IsValue id number index t v stream low high index_low index_high early 
     let test = true-fits v fits in
     grind (arith, nat_tests)
 
--- parameters in range fit their fields
-record AreSmall (params : Params) : Type 0 where
-  first : (parameters params).0 < 2 ^ 32
-  second : (parameters params).1 < 2 ^ 32
-  third : (parameters params).2 < 2 ^ 32
-  fourth : (parameters params).3 < 2 ^ 32
-
-AreSmall-in_range : (params : Params) → in_range params ≡ true → AreSmall params
-AreSmall-in_range (Exp b r s) ranged = record {
-  first = grind (arith, nat_tests);
-  second = grind (arith, nat_tests);
-  third = grind (arith, nat_tests);
-  fourth = lit< tt;
-}
-AreSmall-in_range (Power p q r s) ranged = record {
-  first = grind (arith, nat_tests);
-  second = grind (arith, nat_tests);
-  third = grind (arith, nat_tests);
-  fourth = grind (arith, nat_tests);
-}
-
--- the parameters whose family and numbers stand in the bytes are read from there
-params_in-numbers : (params : Params) (bytes : List ℕ) → slice_index bytes 1 ≡ family params
-    → number_at 4 bytes 8 ≡ (parameters params).0 → number_at 4 bytes 12 ≡ (parameters params).1
-    → number_at 4 bytes 16 ≡ (parameters params).2 → number_at 4 bytes 20 ≡ (parameters params).3 → params_in bytes ≡ params
-unfolding params_in
-params_in-numbers (Exp b r s) bytes kind first second third fourth = rw (kind, first, second, third) refl
-params_in-numbers (Power p q r s) bytes kind first second third fourth = rw (kind, first, second, third, fourth) refl
-
 -- the state whose number stands in a byte is read from there
 drop_number-read : (dropped : Bool) → (drop_number dropped == 1) ≡ dropped
 drop_number-read true = refl
@@ -226,14 +199,21 @@ window_in-fields id first f bytes is has =
     let high = is.high in
     let sum_small = IsPossible-sum f possible in
     let sum_fits : FitsSigned w128 f.sum = omega (arith, ints) in
-    let number = number_at-take 4 4 id bytes (omega (arith, is.number)) has.1.0 in
-    let first_is = number_at-take 8 8 first bytes (omega arith) has.1.1.0 in
-    let count = number_at-take 8 16 f.count bytes (omega arith) has.1.1.1.0 in
-    let sum = i128_at-take 24 f.sum bytes sum_fits has.1.1.1.1.0 in
-    let min = i64_at-take 40 f.min bytes possible.min_fits has.1.1.1.1.1.0 in
-    let max = i64_at-take 48 f.max bytes possible.max_fits has.1.1.1.1.1.1.0 in
-    let t_first = number_at-take 8 56 f.t_first bytes (omega arith) has.1.1.1.1.1.1.1.0 in
-    let t_last = number_at-take 8 64 f.t_last bytes (omega arith) has.1.1.1.1.1.1.1.1.0 in
+    let fits = word_spelled-fits f.filter in
+    let kind = slice_index-part 1 (filter_number f.filter) bytes has.1.0 in
+    let number = number_at-take 4 4 id bytes (omega (arith, is.number)) has.1.1.0 in
+    let first_is = number_at-take 8 8 first bytes (omega arith) has.1.1.1.0 in
+    let count = number_at-take 8 16 f.count bytes (omega arith) has.1.1.1.1.0 in
+    let sum = i128_at-take 24 f.sum bytes sum_fits has.1.1.1.1.1.0 in
+    let min = i64_at-take 40 f.min bytes possible.min_fits has.1.1.1.1.1.1.0 in
+    let max = i64_at-take 48 f.max bytes possible.max_fits has.1.1.1.1.1.1.1.0 in
+    let t_first = number_at-take 8 56 f.t_first bytes (omega arith) has.1.1.1.1.1.1.1.1.0 in
+    let t_last = number_at-take 8 64 f.t_last bytes (omega arith) has.1.1.1.1.1.1.1.1.1.0 in
+    let first_word = number_at-take 8 72 (word_spelled f.filter 0) bytes (fits 0 (lit< tt) possible.words) has.1.1.1.1.1.1.1.1.1.1.0 in
+    let second_word = number_at-take 8 80 (word_spelled f.filter 1) bytes (fits 1 (lit< tt) possible.words) has.1.1.1.1.1.1.1.1.1.1.1.0 in
+    let third_word = number_at-take 8 88 (word_spelled f.filter 2) bytes (fits 2 (lit< tt) possible.words) has.1.1.1.1.1.1.1.1.1.1.1.1.0 in
+    let fourth_word = number_at-take 8 96 (word_spelled f.filter 3) bytes (fits 3 (lit< tt) possible.words) has.1.1.1.1.1.1.1.1.1.1.1.1.1.0 in
+    let filter = filter_in-numbers f.filter bytes possible.words kind first_word second_word third_word fourth_word in
     λ i. Window (number i) (first_is i) (record {
       count = count i;
       sum = sum i;
@@ -241,6 +221,7 @@ window_in-fields id first f bytes is has =
       max = max i;
       t_first = t_first i;
       t_last = t_last i;
+      filter = filter i;
     })
 
 -- the numbers of a landmark fit their fields
@@ -353,6 +334,10 @@ pub decoded-Spells : (bytes : List ℕ) (r : Record) → Spells bytes r → deco
 decoded-Spells bytes r spells = ap decoded spells.spelled ∙ decoded-spelling r spells.valid
 
 -- an answer that is what is decoded says what the bytes spell
+pub some-decoded : (found : Option Record) (bytes : List ℕ) → found ≡ decoded bytes → IfSome found (λ r. Spells bytes r)
+some-decoded (Some r) bytes is = Spells-decoded bytes r (sym is)
+some-decoded None bytes is = tt
+
 pub none-decoded : (found : Option Record) (bytes : List ℕ) → found ≡ decoded bytes → IfNone found ((r : Record) → ¬ Spells bytes r)
 none-decoded (Some r) bytes is = tt
 none-decoded None bytes is = λ r spells. cc (is, decoded-Spells bytes r spells)

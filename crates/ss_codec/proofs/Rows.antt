@@ -2,17 +2,16 @@
 use Rattle.std.specs.Prelude.{◌≡◌, ℕ, ◌-◌, ◌^◌, pos, negsuc, false, List, [], ◌∷◌, ◌++◌, replicate, slice_set, Some, None}
 use Rattle.std.proofs.Common.{refl}
 use Rattle.ss_fields.specs.Fields as Numbers
-use Rattle.ss_summary.specs.Possible as Possible
 use Rattle.ss_catalog.specs.Names as Names
 use Rattle.ss_summary.specs.declared.summary.TheConstants.{LATEST_TIME}
 use Rattle.ss_catalog.specs.declared.TheConstants.{LAST_TIME}
 use Rattle.ss_catalog.specs.declared.params.Params.TheVariants.{Exp, Power}
-use Rattle.ss_codec.specs.declared.record.TheConstants.{SLOT_SIZE, STREAM, WINDOW, LANDMARK, VALUE, EXPONENTIAL, POWER_LAW, OPEN, CLOSED, NAME}
+use Rattle.ss_codec.specs.declared.record.TheConstants.{SLOT_SIZE, STREAM, LANDMARK, VALUE, EXPONENTIAL, POWER_LAW, OPEN, CLOSED, NAME}
 use Rattle.ss_codec.specs.declared.record.Record.{Record}
-use Rattle.ss_codec.specs.declared.record.Record.TheVariants.{Free, Stream, Window, Landmark, Value}
+use Rattle.ss_codec.specs.declared.record.Record.TheVariants.{Free, Stream, Landmark, Value}
 use Rattle.ss_codec.specs.Fields as Fields
 use Rattle.ss_codec.specs.Record.{spelling, is_valid}
-use Rattle.ss_codec.specs.Decoded.{decoded, finish_in, landmark_in, params_in, record_in, stream_in, value_in, window_in}
+use Rattle.ss_codec.specs.Decoded.{decoded, finish_in, landmark_in, params_in, record_in, stream_in, value_in}
 
 -- the numbers of the format
 slot_size : SLOT_SIZE ≡ 128
@@ -20,9 +19,6 @@ slot_size = refl
 
 kind_of_streams : STREAM ≡ 1
 kind_of_streams = refl
-
-kind_of_windows : WINDOW ≡ 2
-kind_of_windows = refl
 
 kind_of_landmarks : LANDMARK ≡ 3
 kind_of_landmarks = refl
@@ -50,7 +46,7 @@ last_time : LAST_TIME ≡ LATEST_TIME
 last_time = refl
 
 -- a number below 256 in 8 bytes
-abbrev eight : ℕ → List ℕ
+abbrev pub eight : ℕ → List ℕ
 eight n = replicate 7 0 ++ n ∷ []
 
 -- the stream `a` with the target `exp 2 1 1` and the number 0
@@ -65,23 +61,6 @@ stream_bytes =
     ++ 97 ∷ replicate 31 0
     ++ replicate 72 0
 
--- the values 5, -3, 8 and 1 at the times 10, 20, 30 and 40, the first four of stream 0
-abbrev window : Record
-window = Window 0 1 (record { count = 4; sum = pos 11; min = negsuc 2; max = pos 8; t_first = 10; t_last = 40 })
-
-abbrev window_bytes : List ℕ
-window_bytes =
-    2 ∷ 0 ∷ 0 ∷ 0 ∷ []
-    ++ replicate 4 0
-    ++ eight 1
-    ++ eight 4
-    ++ replicate 8 0 ++ eight 11
-    ++ replicate 7 255 ++ 253 ∷ []
-    ++ eight 8
-    ++ eight 10
-    ++ eight 40
-    ++ replicate 56 0
-
 -- how these are spelled
 spelling-free : spelling Free ≡ replicate 128 0
 unfolding spelling
@@ -91,10 +70,6 @@ spelling-stream : spelling stream ≡ stream_bytes
 unfolding spelling Fields.with_field Numbers.number_bytes
 spelling-stream = refl
 
-spelling-window : spelling window ≡ window_bytes
-unfolding spelling Fields.with_field Numbers.number_bytes
-spelling-window = refl
-
 -- they are read again
 decoded-free : decoded (replicate 128 0) ≡ Some Free
 unfolding decoded record_in is_valid spelling
@@ -103,10 +78,6 @@ decoded-free = refl
 decoded-stream : decoded stream_bytes ≡ Some stream
 unfolding decoded record_in stream_in params_in is_valid spelling Names.is_name Fields.with_field Numbers.number_at Numbers.number_bytes
 decoded-stream = refl
-
-decoded-window : decoded window_bytes ≡ Some window
-unfolding decoded record_in window_in is_valid spelling Possible.is_possible Fields.with_field Numbers.number_at Numbers.number_bytes
-decoded-window = refl
 
 -- a kind that isn't there
 decoded-kind : decoded (5 ∷ replicate 127 0) ≡ None
@@ -142,34 +113,6 @@ decoded-stream_power = refl
 decoded-stream_power_5 : decoded (power_bytes 5) ≡ None
 unfolding decoded record_in stream_in params_in is_valid spelling Names.is_name Fields.with_field Numbers.number_at Numbers.number_bytes
 decoded-stream_power_5 = refl
-
--- a window of no values, of one value at two times, and of a sum that is one too large
-decoded-window_empty : decoded (slice_set window_bytes 23 0) ≡ None
-unfolding decoded record_in window_in is_valid spelling Possible.is_possible Fields.with_field Numbers.number_at Numbers.number_bytes
-decoded-window_empty = refl
-
-decoded-window_greatest : decoded (slice_set window_bytes 39 21)
-    ≡ Some (Window 0 1 (record { count = 4; sum = pos 21; min = negsuc 2; max = pos 8; t_first = 10; t_last = 40 }))
-unfolding decoded record_in window_in is_valid spelling Possible.is_possible Fields.with_field Numbers.number_at Numbers.number_bytes
-decoded-window_greatest = refl
-
-decoded-window_too_large : decoded (slice_set window_bytes 39 22) ≡ None
-unfolding decoded record_in window_in is_valid spelling Possible.is_possible Fields.with_field Numbers.number_at Numbers.number_bytes
-decoded-window_too_large = refl
-
--- one value 8, at the time 10, and at the times 10 and 40
-abbrev one_value : ℕ → List ℕ
-one_value t_last =
-    2 ∷ replicate 7 0 ++ eight 1 ++ eight 1 ++ replicate 8 0 ++ eight 8 ++ eight 8 ++ eight 8 ++ eight 10 ++ eight t_last ++ replicate 56 0
-
-decoded-one_value : decoded (one_value 10)
-    ≡ Some (Window 0 1 (record { count = 1; sum = pos 8; min = pos 8; max = pos 8; t_first = 10; t_last = 10 }))
-unfolding decoded record_in window_in is_valid spelling Possible.is_possible Fields.with_field Numbers.number_at Numbers.number_bytes
-decoded-one_value = refl
-
-decoded-one_value_twice : decoded (one_value 40) ≡ None
-unfolding decoded record_in window_in is_valid spelling Possible.is_possible Fields.with_field Numbers.number_at Numbers.number_bytes
-decoded-one_value_twice = refl
 
 -- the landmark 1 of stream 0, which opened at the time 100, in 128 bytes: the byte of its state, its values, and its closing
 -- time, each of these below 256

@@ -1,16 +1,18 @@
 -- The record that some bytes spell, computed: each field is read from its place, and what was read counts where it is a
 -- valid record and the bytes are its spelling.
-use Rattle.std.specs.Prelude.{ℕ, Bool, ◌==◌, ◌&&◌, if◌then◌else◌, List, Option, Some, None, take, drop, slice_index}
+use Rattle.std.specs.Prelude.{ℕ, ◌+◌, ◌*◌, Bool, not, ◌==◌, ◌&&◌, if◌then◌else◌, List, Option, Some, None, take, drop, slice_index}
 use Rattle.std.specs.Int.{cast_signed, w64, w128}
 use Rattle.std.specs.List.{list_all}
 use Rattle.std.specs.Str.{bytes_eq}
 use Rattle.ss_fields.specs.Fields.{number_at}
 use Rattle.ss_summary.specs.Figures.{Figures}
+use Rattle.ss_summary.specs.Filters.{four, full}
+use Rattle.ss_summary.specs.declared.filter.Filter.{Filter}
 use Rattle.ss_catalog.specs.declared.params.Params.{Params}
 use Rattle.ss_catalog.specs.declared.params.Params.TheVariants.{Exp, Power}
 use Rattle.ss_codec.specs.declared.record.Record.{Record}
 use Rattle.ss_codec.specs.declared.record.Record.TheVariants.{Free, Stream, Window, Landmark, Value}
-use Rattle.ss_codec.specs.Record.{is_valid, spelling}
+use Rattle.ss_codec.specs.Record.{is_full, is_valid, spelling}
 
 -- the parameters in the bytes of a stream
 unfoldable pub params_in : List ℕ → Params
@@ -18,6 +20,10 @@ params_in bytes =
     if slice_index bytes 1 == 1
     then Exp (number_at 4 bytes 8) (number_at 4 bytes 12) (number_at 4 bytes 16)
     else Power (number_at 4 bytes 8) (number_at 4 bytes 12) (number_at 4 bytes 16) (number_at 4 bytes 20)
+
+-- the filter in the bytes of a window
+abbrev pub filter_in : List ℕ → Filter
+filter_in bytes = if slice_index bytes 1 == 1 then four (λ k. number_at 8 bytes (72 + 8 * k)) else full
 
 -- the figures in the bytes of a window
 abbrev pub figures_in : List ℕ → Figures
@@ -28,6 +34,7 @@ figures_in bytes = record {
   max = cast_signed w64 (number_at 8 bytes 48);
   t_first = number_at 8 bytes 56;
   t_last = number_at 8 bytes 64;
+  filter = filter_in bytes;
 }
 
 -- when a landmark closes by its bytes, if it is closed
@@ -63,9 +70,18 @@ record_in bytes =
     then value_in bytes
     else Free
 
--- whether zeros stand wherever a window has no field
+-- whether the filter of a window is spelled as its spelling has it: with zeros where it has all bits, and with its words where
+-- it hasn't
+abbrev pub is_filter_spelled : List ℕ → Bool
+is_filter_spelled bytes =
+    if slice_index bytes 1 == 1
+    then not (is_full (filter_in bytes))
+    else slice_index bytes 1 == 0 && list_all (λ byte. byte == 0) (take 32 (drop 72 bytes))
+
+-- whether zeros stand wherever a window has no field, and its filter is spelled as it should be
 abbrev pub is_blank_beside : List ℕ → Bool
-is_blank_beside bytes = list_all (λ byte. byte == 0) (take 3 (drop 1 bytes)) && list_all (λ byte. byte == 0) (take 56 (drop 72 bytes))
+is_blank_beside bytes =
+    is_filter_spelled bytes && list_all (λ byte. byte == 0) (take 2 (drop 2 bytes)) && list_all (λ byte. byte == 0) (take 24 (drop 104 bytes))
 
 -- the record, if it is valid
 abbrev pub checked : Record → Option Record

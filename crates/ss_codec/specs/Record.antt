@@ -1,7 +1,10 @@
 -- Records: which there are, and how each is spelled in the 128 bytes of a slot.
 use Rattle.std.specs.Prelude.{◌≡◌, ℕ, ◌+◌, ◌-◌, ◌^◌, Bool, true, ◌&&◌, ◌==◌, if◌then◌else◌, nat_le, nat_lt, IsTrue, List, [], ◌∷◌, length, replicate}
 use Rattle.std.specs.Prelude.{Option, Some, None}
+use Rattle.std.specs.List.{list_all}
+use Rattle.ss_summary.specs.Filters.{word}
 use Rattle.ss_summary.specs.Possible.{is_possible, fits_i64}
+use Rattle.ss_summary.specs.declared.filter.Filter.{Filter}
 use Rattle.ss_summary.specs.declared.summary.TheConstants.{GREATEST_COUNT}
 use Rattle.ss_catalog.specs.Names.{is_name}
 use Rattle.ss_catalog.specs.Params.{in_range}
@@ -55,6 +58,17 @@ abbrev pub closing_time : Option ℕ → ℕ
 closing_time None = 0
 closing_time (Some finish) = finish
 
+-- whether a filter has all bits; the number of a filter's state, 1 where it hasn't; and each of its words, as it is spelled: a
+-- filter with all bits has zeros
+abbrev pub is_full : Filter → Bool
+is_full filter = list_all (λ word. word == 2 ^ 64 - 1) filter.words
+
+abbrev pub filter_number : Filter → ℕ
+filter_number filter = if is_full filter then 0 else 1
+
+abbrev pub word_spelled : Filter → ℕ → ℕ
+word_spelled filter k = if is_full filter then 0 else word filter k
+
 -- the fields of a record, each at its place. Byte 0 is the kind, and a free slot has no field.
 abbrev pub fields : Record → List Field
 fields Free = []
@@ -72,6 +86,7 @@ fields (Stream id name params dropped) =
     ∷ []
 fields (Window id first summary) =
     u8 0 2
+    ∷ u8 1 (filter_number summary.filter)
     ∷ u32 4 id
     ∷ u64 8 first
     ∷ u64 16 summary.count
@@ -80,6 +95,10 @@ fields (Window id first summary) =
     ∷ i64 48 summary.max
     ∷ u64 56 summary.t_first
     ∷ u64 64 summary.t_last
+    ∷ u64 72 (word_spelled summary.filter 0)
+    ∷ u64 80 (word_spelled summary.filter 1)
+    ∷ u64 88 (word_spelled summary.filter 2)
+    ∷ u64 96 (word_spelled summary.filter 3)
     ∷ []
 fields (Landmark id number values start finish) =
     u8 0 3

@@ -1,19 +1,19 @@
 // Records, read.
-ghost use Rattle.std.specs.Prelude.{◌≡◌, ◌+◌, ◌-◌, ◌&&◌, ◌==◌, ◌≤◌, drop, nat_le, IsTrue, IfSome, IfNone, if◌then◌else◌};
+ghost use Rattle.std.specs.Prelude.{◌≡◌, ◌≢◌, ◌+◌, ◌-◌, ◌*◌, ◌&&◌, ◌==◌, ◌≤◌, drop, take, nat_le, slice_index, IfSome, IfNone, if◌then◌else◌};
 ghost use Rattle.std.specs.List.{list_all};
-ghost use Rattle.std.specs.Str.{bytes_eq};
 ghost use Rattle.ss_summary.specs.Possible.{is_possible};
-ghost use Rattle.ss_codec.specs.Record.{Spells, counts_from_1, is_interval, is_valid, spelling};
-ghost use Rattle.ss_codec.specs.Decoded.{checked, decoded, figures_in, finish_in, is_blank_beside, landmark_in, params_in, record_in, stream_in, value_in};
-ghost use Rattle.ss_codec.specs.Decoded.{window_in};
+ghost use Rattle.ss_codec.specs.Record.{Spells, counts_from_1, is_interval};
+ghost use Rattle.ss_codec.specs.Decoded.{checked, decoded, figures_in, filter_in, finish_in, is_blank_beside, is_filter_spelled, landmark_in, params_in};
+ghost use Rattle.ss_codec.specs.Decoded.{record_in, stream_in, value_in, window_in};
 
-use crate::encoding::encode;
+use crate::encoding::{encode, is_full};
 use crate::record::{
-    CLOSED, DROPPED, EXPONENTIAL, LANDMARK, NAME, Record, SLOT_SIZE, STREAM, VALUE, WINDOW,
+    ALL_BITS, BY_WORDS, CLOSED, DROPPED, EXPONENTIAL, LANDMARK, NAME, Record, SLOT_SIZE, STREAM,
+    VALUE, WINDOW,
 };
 use ss_catalog::{LAST_TIME, LONGEST_NAME, Name, Params};
 use ss_fields::{get_i64, get_i128, get_u32, get_u64};
-use ss_summary::{GREATEST_COUNT, Summary};
+use ss_summary::{Filter, GREATEST_COUNT, Summary};
 
 // The parameters in the bytes of a stream.
 #[tactic(auto, unfolding(crate::specs::Decoded::params_in))]
@@ -63,6 +63,24 @@ fn stream_in(bytes: &[u8; SLOT_SIZE]) -> Option<Record>
     }
 }
 
+// The filter in the bytes of a window.
+fn filter_in(bytes: &[u8; SLOT_SIZE]) -> Filter
+    ensures { result ≡ filter_in bytes.now }
+{
+    if bytes[1] == BY_WORDS {
+        Filter {
+            words: [
+                get_u64(bytes, 72),
+                get_u64(bytes, 80),
+                get_u64(bytes, 88),
+                get_u64(bytes, 96),
+            ],
+        }
+    } else {
+        Filter::full()
+    }
+}
+
 // The summary in the bytes of a window, if its figures are possible.
 fn summary_in(bytes: &[u8; SLOT_SIZE]) -> Option<Summary>
     ensures { result ≡ (if is_possible (figures_in bytes.now) then Some (figures_in bytes.now) else None) }
@@ -73,7 +91,8 @@ fn summary_in(bytes: &[u8; SLOT_SIZE]) -> Option<Summary>
     let max = get_i64(bytes, 48);
     let t_first = get_u64(bytes, 56);
     let t_last = get_u64(bytes, 64);
-    Summary::of(count, sum, min, max, t_first, t_last)
+    let filter = filter_in(bytes);
+    Summary::of(count, sum, min, max, t_first, t_last, filter)
 }
 
 // Whether so many values may begin at this position.
@@ -175,25 +194,27 @@ fn value_in(bytes: &[u8; SLOT_SIZE]) -> Option<Record>
     }
 }
 
-// The one record whose spelling the bytes can be, if it is a valid one.
+// The one record whose spelling the bytes can be, if it is a valid one, and they aren't those of a window.
 #[tactic(auto, using(std::proofs::lemmas::Bool::Decides::nat_tests), unfolding(crate::specs::Decoded::record_in, crate::specs::Record::is_valid))]
-fn record_in(bytes: &[u8; SLOT_SIZE]) -> Option<Record>
+fn other_in(bytes: &[u8; SLOT_SIZE]) -> Option<Record>
+    requires { slice_index bytes.now 0 ≢ WINDOW }
     ensures { result ≡ checked (record_in bytes.now) }
 {
     match bytes[0] {
         STREAM => stream_in(bytes),
-        WINDOW => window_in(bytes),
         LANDMARK => landmark_in(bytes),
         VALUE => value_in(bytes),
         _ => Some(Record::Free),
     }
 }
 
-// Whether zeros stand after the last field of a window, by words of 8 bytes.
-fn ends_blank(bytes: &[u8; SLOT_SIZE]) -> bool
-    ensures { result ≡ list_all (λ byte. byte == 0) (drop 72 bytes.now) }
+// Whether some words of 8 bytes, up to another one, are zeros.
+fn are_zeros(bytes: &[u8; SLOT_SIZE], from: usize, to: usize) -> bool
+    requires order { from ≤ to }
+    requires inside { to ≤ 16 }
+    ensures { result ≡ list_all (λ byte. byte == 0) (take (8 * (to - from)) (drop (8 * from) bytes.now)) }
 {
-    for word in 9..16 {
+    for word in from..to {
         if get_u64(bytes, 8 * word) != 0 {
             return false;
         }
@@ -201,38 +222,60 @@ fn ends_blank(bytes: &[u8; SLOT_SIZE]) -> bool
     true
 }
 
-// Whether zeros stand wherever a window has no field.
+// Whether a filter is spelled as it should be: one with all bits by zeros, and any other by its words.
+fn is_filter_spelled(bytes: &[u8; SLOT_SIZE]) -> bool
+    ensures { result ≡ is_filter_spelled bytes.now }
+{
+    match bytes[1] {
+        ALL_BITS => are_zeros(bytes, 9, 13),
+        BY_WORDS => !is_full(filter_in(bytes)),
+        _ => false,
+    }
+}
+
+// Whether zeros stand wherever a window has no field, and its filter is spelled as it should be.
 #[tactic(auto, using(crate::proofs::ZeroLemmas::is_blank_bytes, std::proofs::lemmas::Bool::Decides::nat_tests))]
 fn is_blank(bytes: &[u8; SLOT_SIZE]) -> bool
     ensures { result ≡ is_blank_beside bytes.now }
 {
-    bytes[1] == 0 && bytes[2] == 0 && bytes[3] == 0 && ends_blank(bytes)
+    bytes[2] == 0 && bytes[3] == 0 && are_zeros(bytes, 13, 16) && is_filter_spelled(bytes)
 }
 
-// Whether the bytes are the spelling of the valid record that was read from them. The fields of a window are what was read,
-// so the other bytes tell it.
-fn is_spelling(bytes: &[u8; SLOT_SIZE], found: &Record) -> bool
-    requires valid { IsTrue (is_valid found.now) }
-    requires read { found.now ≡ record_in bytes.now }
-    ensures { result ≡ bytes_eq (spelling found.now) bytes.now }
+// The record that the bytes of a window spell. Its fields are what is read, so the other bytes tell whether it is spelled so.
+fn decode_window(bytes: &[u8; SLOT_SIZE]) -> Option<Record>
+    requires { slice_index bytes.now 0 ≡ WINDOW }
+    ensures { result ≡ decoded bytes.now }
 {
-    match found {
-        Record::Window { .. } => is_blank(bytes),
-        _ => encode(found) == *bytes,
+    if is_blank(bytes) {
+        window_in(bytes)
+    } else {
+        None
+    }
+}
+
+// The record that other bytes spell.
+#[tactic(auto, unfolding(crate::specs::Decoded::decoded))]
+fn decode_other(bytes: &[u8; SLOT_SIZE]) -> Option<Record>
+    requires { slice_index bytes.now 0 ≢ WINDOW }
+    ensures { result ≡ decoded bytes.now }
+{
+    let record = other_in(bytes)?;
+    if encode(&record) == *bytes {
+        Some(record)
+    } else {
+        None
     }
 }
 
 /// The record that the bytes spell. None says that they are the spelling of no valid record.
-#[tactic(auto, unfolding(crate::specs::Decoded::decoded))]
 pub fn decode(bytes: &[u8; SLOT_SIZE]) -> Option<Record>
     ensures some { IfSome result (λ r. Spells bytes.now r) }
     ensures none { IfNone result ((r : Record) → ¬ Spells bytes.now r) }
     ensures exact { result ≡ decoded bytes.now }
 {
-    let record = record_in(bytes)?;
-    if is_spelling(bytes, &record) {
-        Some(record)
+    if bytes[0] == WINDOW {
+        decode_window(bytes)
     } else {
-        None
+        decode_other(bytes)
     }
 }

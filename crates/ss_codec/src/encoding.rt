@@ -1,15 +1,16 @@
 // Records, spelled.
-ghost use Rattle.std.specs.Prelude.{◌≡◌, ◌≤◌, length, IsTrue};
-ghost use Rattle.ss_codec.specs.Fields.{with_fields};
-ghost use Rattle.ss_codec.specs.Record.{closing_time, drop_number, family, fields, is_valid, parameters, spelling, state_number};
+ghost use Rattle.std.specs.Prelude.{◌≡◌, ◌≤◌, [], ◌∷◌, length, IsTrue};
+ghost use Rattle.ss_codec.specs.Fields.{u64, with_fields};
+ghost use Rattle.ss_codec.specs.Record.{closing_time, drop_number, family, fields, filter_number, is_full, is_valid, parameters, spelling, state_number};
+ghost use Rattle.ss_codec.specs.Record.{word_spelled};
 
 use crate::fields::{write_i64, write_i128, write_text, write_u8, write_u32, write_u64};
 use crate::record::{
-    CLOSED, DROPPED, EXPONENTIAL, LANDMARK, NAME, OPEN, POWER_LAW, Record, SLOT_SIZE, STANDING,
-    STREAM, VALUE, WINDOW,
+    ALL_BITS, BY_WORDS, CLOSED, DROPPED, EXPONENTIAL, LANDMARK, NAME, OPEN, POWER_LAW, Record,
+    SLOT_SIZE, STANDING, STREAM, VALUE, WINDOW,
 };
 use ss_catalog::{LONGEST_NAME, Name, Params};
-use ss_summary::Summary;
+use ss_summary::{Filter, Summary};
 
 // The number of a target's family.
 fn family(params: &Params) -> u8
@@ -58,12 +59,45 @@ fn write_stream(bytes: &mut [u8], id: u32, name: &Name, params: &Params, dropped
     write_text(bytes, NAME, word);
 }
 
+// Whether a filter has all bits.
+pub fn is_full(filter: Filter) -> bool
+    ensures { result ≡ is_full filter }
+{
+    let words = filter.words;
+    words[0] == u64::MAX && words[1] == u64::MAX && words[2] == u64::MAX && words[3] == u64::MAX
+}
+
+// The number of a filter's state.
+fn filter_state(filter: Filter) -> u8
+    ensures { result ≡ filter_number filter }
+{
+    if is_full(filter) { ALL_BITS } else { BY_WORDS }
+}
+
+// Writes the words of a filter, and zeros where it has all bits.
+fn write_words(bytes: &mut [u8], filter: Filter)
+    requires { SLOT_SIZE ≤ length bytes.old }
+    ensures { bytes.new ≡ with_fields bytes.old (u64 72 (word_spelled filter 0) ∷ u64 80 (word_spelled filter 1)
+        ∷ u64 88 (word_spelled filter 2) ∷ u64 96 (word_spelled filter 3) ∷ []) }
+{
+    let words = if is_full(filter) {
+        [0; 4]
+    } else {
+        filter.words
+    };
+    write_u64(bytes, 72, words[0]);
+    write_u64(bytes, 80, words[1]);
+    write_u64(bytes, 88, words[2]);
+    write_u64(bytes, 96, words[3]);
+}
+
 // Writes the fields of a window.
 fn write_window(bytes: &mut [u8], id: u32, first: u64, summary: Summary)
     requires { SLOT_SIZE ≤ length bytes.old }
     ensures { bytes.new ≡ with_fields bytes.old (fields (Record.Window id first summary)) }
 {
     write_u8(bytes, 0, WINDOW);
+    write_u8(bytes, 1, filter_state(summary.filter));
     write_u32(bytes, 4, id);
     write_u64(bytes, 8, first);
     write_u64(bytes, 16, summary.count);
@@ -72,6 +106,7 @@ fn write_window(bytes: &mut [u8], id: u32, first: u64, summary: Summary)
     write_i64(bytes, 48, summary.max);
     write_u64(bytes, 56, summary.t_first);
     write_u64(bytes, 64, summary.t_last);
+    write_words(bytes, summary.filter);
 }
 
 // The number of a landmark's state.

@@ -24,6 +24,11 @@ pub const STANDING: u8 = 0;
 
 pub const DROPPED: u8 = 1;
 
+// The second byte of a window's record says whether its filter has all bits or is spelled by its words.
+pub const ALL_BITS: u8 = 0;
+
+pub const BY_WORDS: u8 = 1;
+
 // The second byte of a landmark's record says whether it is open or closed.
 pub const OPEN: u8 = 1;
 

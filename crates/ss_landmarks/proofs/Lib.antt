@@ -1,6 +1,7 @@
 pub mod Rows
 pub mod Counting
 pub mod ValueLemmas
+pub mod AmongLemmas
 pub mod StoredLemmas
 pub mod OrderLemmas
 pub mod HeldLemmas

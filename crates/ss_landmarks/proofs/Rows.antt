@@ -1,10 +1,10 @@
 -- Worked rows, each computed.
-use Rattle.std.proofs.Common.{◌≡◌, ℕ, ◌+◌, ◌-◌, ◌^◌, ℤ, pos, negsuc, List, [], ◌∷◌, ◌++◌, length, map, slice_get, Some, None, refl, arith}
+use Rattle.std.proofs.Common.{◌≡◌, ℕ, ◌+◌, ◌-◌, ◌^◌, true, false, ℤ, pos, negsuc, List, [], ◌∷◌, ◌++◌, length, map, slice_get, Some, None, refl, arith}
 use Rattle.ss_landmarks.specs.Landmark.{Landmark, opened_at, with_value, closed_at, change_last}
 use Rattle.ss_landmarks.specs.Landmarks.{LandmarksState, opened}
 use Rattle.ss_landmarks.specs.Free.{free}
 use Rattle.ss_landmarks.specs.Order.{CanOpen, CanTake, CanClose}
-use Rattle.ss_landmarks.specs.ValuesIn.{values_between, tally_of}
+use Rattle.ss_landmarks.specs.ValuesIn.{is_among, values_between, tally_of}
 use Rattle.ss_landmarks.specs.declared.landmarks.TheConstants.{LATEST_TIME, MOST_LANDMARK_SLOTS}
 
 pub LATEST_TIME-is : LATEST_TIME ≡ 2 ^ 62
@@ -67,6 +67,17 @@ values_between-whole = refl
 pub values_between-part : tally_of (values_between one 21 30) ≡ record { count = 1; sum = pos 200; least = Some (pos 200); greatest = Some (pos 200) }
 values_between-part = refl
 
+-- both ends of the times belong to the range; 300 is the sum of the two, and neither
+pub is_among-whole : map (λ v. is_among v (values_between one 20 30)) (pos 100 ∷ pos 200 ∷ pos 300 ∷ []) ≡ true ∷ true ∷ false ∷ []
+is_among-whole = refl
+
+-- a value at a time outside the range isn't among those of the range
+pub is_among-part : map (λ v. is_among v (values_between one 21 29)) (pos 100 ∷ pos 200 ∷ []) ≡ false ∷ false ∷ []
+is_among-part = refl
+
+pub is_among-backwards : is_among (pos 100) (values_between one 40 20) ≡ false
+is_among-backwards = refl
+
 -- ---- a second one that is open, from 80 on, with the value -3 at 90
 
 abbrev two : List Landmark
@@ -81,6 +92,16 @@ free-both = refl
 
 pub values_between-both : tally_of (values_between two 30 90) ≡ record { count = 2; sum = pos 197; least = Some (negsuc 2); greatest = Some (pos 200) }
 values_between-both = refl
+
+-- the value of the open one is there at its time, and not before; its opposite is not
+pub is_among-open : is_among (negsuc 2) (values_between two 90 90) ≡ true
+is_among-open = refl
+
+pub is_among-before : is_among (negsuc 2) (values_between two 0 89) ≡ false
+is_among-before = refl
+
+pub is_among-opposite : is_among (pos 3) (values_between two 0 90) ≡ false
+is_among-opposite = refl
 
 pub opened-two : opened (record { landmarks = two; slots = 5 ∷ 8 ∷ []; value_slots = 6 ∷ 7 ∷ 9 ∷ []; room = 0; value_room = 3 }) ≡ Some (80, 8, 1)
 opened-two = refl
@@ -113,6 +134,9 @@ free-late-between = refl
 pub values_between-late : tally_of (values_between late (2 ^ 62) (2 ^ 64 - 1))
     ≡ record { count = 1; sum = pos 5; least = Some (pos 5); greatest = Some (pos 5) }
 values_between-late = refl
+
+pub is_among-late : is_among (pos 5) (values_between late (2 ^ 62) (2 ^ 62)) ≡ true
+is_among-late = refl
 
 -- ---- when a landmark may be opened, take a value and be closed
 

@@ -1,7 +1,8 @@
--- The landmark values of a range of time, and what they add up to.
+-- The landmark values of a range of time, which values are among them, and what they add up to.
 use Rattle.std.specs.Prelude.{ℕ, ℤ, pos, ◌+ℤ◌, Bool, ◌&&◌, nat_le, List, [], ◌∷◌, length, Option, Some, None}
-use Rattle.std.specs.List.{filter}
+use Rattle.std.specs.List.{filter, list_any}
 use Rattle.std.specs.Int.{int_min, int_max}
+use Rattle.std.specs.Ordering.{int_eq}
 use Rattle.ss_landmarks.specs.Landmark.{Landmark, LandmarkValue, all_values}
 use Rattle.ss_landmarks.specs.declared.tally.Tally.{Tally}
 
@@ -12,6 +13,10 @@ lies_in a b value = nat_le a value.t && nat_le value.t b
 -- the landmark values with time in a..=b
 abbrev pub values_between : List Landmark → ℕ → ℕ → List LandmarkValue
 values_between landmarks a b = filter (lies_in a b) (all_values landmarks)
+
+-- some value of the list is v
+abbrev pub is_among : ℤ → List LandmarkValue → Bool
+is_among v values = list_any (λ value. int_eq value.v v) values
 
 -- the lesser of a value and of another, if there is one
 abbrev pub lesser : ℤ → Option ℤ → ℤ

@@ -3,7 +3,7 @@ ghost use Rattle.std.specs.Prelude.{◌≡◌};
 ghost use Rattle.ss_landmarks.specs.Stored.{one_open};
 
 use crate::Tally;
-use crate::search::{free_before, values_in};
+use crate::search::{free_before, is_among, values_in};
 use crate::stored::{Closed, Opened, StoredValue};
 use crate::tally::tally_of;
 use std::alloc::{AllocError, Global};
@@ -59,12 +59,15 @@ fn one_open(current: &Option<Opened>) -> usize
 }
 
 impl Landmarks {
-    ghost use Rattle.std.specs.Prelude.{◌≡◌, ◌+◌, ◌<◌, ◌≤◌, ◌↔◌, [], ◌∷◌, ◌++◌, length, slice_get, IsNone, OnOk, Some};
+    ghost use Rattle.std.specs.Prelude.{◌≡◌, ◌+◌, ◌<◌, ◌≤◌, ◌↔◌, FitsSigned, [], ◌∷◌, ◌++◌, length, map, slice_get, IsNone, OnOk, Some};
+    ghost use Rattle.std.specs.Int.{w64};
+    ghost use Rattle.std.specs.List.{All};
     ghost use Rattle.ss_landmarks.specs.Free.{free};
     ghost use Rattle.ss_landmarks.specs.Landmark.{LandmarkValue, opened_at, with_value, closed_at, change_last, open_landmark, all_values};
     ghost use Rattle.ss_landmarks.specs.Landmarks.{AreKnown, opened};
     ghost use Rattle.ss_landmarks.specs.Order.{CanOpen, CanTake, CanClose};
-    ghost use Rattle.ss_landmarks.specs.ValuesIn.{values_between, tally_of};
+    ghost use Rattle.ss_landmarks.specs.Stored.{bare_value};
+    ghost use Rattle.ss_landmarks.specs.ValuesIn.{is_among, values_between, tally_of};
 
     /// No landmarks, and room for none.
     pub fn new(alloc: Global) -> Landmarks
@@ -222,11 +225,27 @@ impl Landmarks {
             - free_before(&self.closed, &self.current, p)
     }
 
+    // The values with time in a..=b.
+    fn values_between(&self, a: u64, b: u64) -> &[StoredValue]
+        ensures values { map bare_value result.now ≡ values_between self.now.landmarks a b }
+        ensures fit { All (λ value. FitsSigned w64 value.v) result.now }
+    {
+        values_in(&self.values, a, b)
+    }
+
     /// What the values with time in `a..=b` add up to. It takes the logarithm of the number of values to find them, and
     /// looks at each of them once, and at no other.
     pub fn values_in(&self, a: u64, b: u64) -> Tally
         ensures { result ≡ tally_of (values_between self.now.landmarks a b) }
     {
-        tally_of(values_in(&self.values, a, b))
+        tally_of(self.values_between(a, b))
+    }
+
+    /// Whether some value with time in `a..=b` is `v`. It takes the logarithm of the number of values to find them, and
+    /// looks at each of them once at most, and at no other.
+    pub fn holds(&self, a: u64, b: u64, v: i64) -> bool
+        ensures { result ≡ is_among v (values_between self.now.landmarks a b) }
+    {
+        is_among(self.values_between(a, b), v)
     }
 }

@@ -1,11 +1,12 @@
 // Laws of landmarks, each the contract of a function that does nothing.
-ghost use Rattle.std.specs.Prelude.{◌≡◌, ℕ, ◌+◌, ◌-◌, ◌<◌, ◌≤◌, FitsSigned, List, [], ◌∷◌, ◌++◌, length};
+ghost use Rattle.std.specs.Prelude.{◌≡◌, ◌↔◌, ℕ, ℤ, ◌+◌, ◌-◌, ◌<◌, ◌≤◌, FitsSigned, IsTrue, List, [], ◌∷◌, ◌++◌, length, map, Contains};
 ghost use Rattle.std.specs.Prelude.{Some, IsNone, IsSome, MatchOption};
 ghost use Rattle.std.specs.Int.{w64};
 ghost use Rattle.ss_landmarks.specs.Free.{free};
 ghost use Rattle.ss_landmarks.specs.Landmark.{Landmark, LandmarkValue, all_values, open_landmark};
 ghost use Rattle.ss_landmarks.specs.Landmark.{opened_at, with_value, closed_at, change_last};
 ghost use Rattle.ss_landmarks.specs.Order.{AllEndBy, AreLandmarks, CanOpen, CanTake, CanClose};
+ghost use Rattle.ss_landmarks.specs.ValuesIn.{is_among};
 
 use crate::LATEST_TIME;
 
@@ -58,4 +59,9 @@ pub fn values_come_last()
 pub fn free_times_add_up()
     ensures both { (ls : List Landmark) (p q r : ℕ) → p ≤ q + 1 → q ≤ r → free ls p q + free ls (q + 1) r ≡ free ls p r }
     ensures most { (ls : List Landmark) (p q : ℕ) → free ls p q ≤ q + 1 - p }
+{}
+
+/// A value is among some landmark values exactly where one of them is this value.
+pub fn which_values_are_among_them()
+    ensures { (v : ℤ) (values : List LandmarkValue) → IsTrue (is_among v values) ↔ Contains (map (λ value. value.v) values) v }
 {}

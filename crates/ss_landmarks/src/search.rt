@@ -4,7 +4,7 @@ ghost use Rattle.std.specs.Int.{w64};
 ghost use Rattle.std.specs.List.{filter, All};
 ghost use Rattle.ss_landmarks.specs.Order.{RiseFrom};
 ghost use Rattle.ss_landmarks.specs.Stored.{bare_value, landmarks_from, free_before, KnowFree};
-ghost use Rattle.ss_landmarks.specs.ValuesIn.{lies_in};
+ghost use Rattle.ss_landmarks.specs.ValuesIn.{is_among, lies_in};
 
 use crate::stored::{Closed, Opened, StoredValue};
 
@@ -36,4 +36,11 @@ pub fn values_in(values: &[StoredValue], a: u64, b: u64) -> &[StoredValue]
     let from = values.partition_point(|value| value.t < a);
     let to = values.partition_point(|value| value.t <= b);
     &values[from..to.max(from)]
+}
+
+// Whether some value is v.
+pub fn is_among(values: &[StoredValue], v: i64) -> bool
+    ensures { result ≡ is_among v (map bare_value values.now) }
+{
+    values.iter().any(|value| value.v == v)
 }

@@ -1,4 +1,5 @@
 pub mod Bounds
+pub mod FilterLemmas
 pub mod PossibleLemmas
 pub mod Rows
 pub mod SummaryLemmas

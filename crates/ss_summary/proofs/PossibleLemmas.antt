@@ -1,11 +1,16 @@
 -- The test of possible figures tells which figures are possible.
-use Rattle.std.specs.Prelude.{◌≡◌, ◌↔◌, ℕ, ◌+◌, ◌-◌, ◌^◌, ◌<◌, ◌≤◌, true, ◌&&◌, ℤ, pos, negsuc, ◌+ℤ◌, ◌*ℤ◌, ◌≤ℤ◌, int_le, FitsSigned, IsTrue}
+use Rattle.std.specs.Prelude.{◌≡◌, ◌↔◌, ℕ, ◌+◌, ◌-◌, ◌^◌, ◌<◌, ◌≤◌, Bool, true, false, ◌&&◌, ◌==◌, nat_lt, length, FitsSigned, IsTrue}
+use Rattle.std.specs.Prelude.{ℤ, pos, negsuc, ◌+ℤ◌, ◌*ℤ◌, ◌≤ℤ◌, int_le}
 use Rattle.std.specs.Int.{w64}
-use Rattle.std.proofs.Common.{arith, refl}
+use Rattle.std.specs.List.{list_all}
+use Rattle.std.proofs.Common.{arith, eq-eqb, eqb-true, refl}
+use Rattle.std.proofs.lemmas.List.Sums.{AllPass-from_list_all, list_all-from_AllPass}
 use Rattle.std.proofs.lemmas.Bool.Decides.{nat_tests}
 use Rattle.std.proofs.lemmas.Int.{ints}
 use Rattle.ss_summary.specs.Figures.{Figures, IsPossible}
-use Rattle.ss_summary.specs.Possible.{fits_i64, has_times, has_sum, is_possible}
+use Rattle.ss_summary.specs.Filters.{has, is_filter, IsFilter}
+use Rattle.ss_summary.specs.Possible.{fits_i64, has_bits, has_times, has_sum, is_possible}
+use Rattle.ss_summary.specs.declared.filter.Filter.{Filter}
 use Rattle.ss_summary.specs.declared.summary.TheConstants.{LATEST_TIME, GREATEST_COUNT}
 
 -- what the test of times says
@@ -56,10 +61,40 @@ true-fits : (z : ℤ) → FitsSigned w64 z → fits_i64 z ≡ true
 true-fits (pos n) fits = let small : n < 2 ^ 63 = fits.sfits in grind (arith, nat_tests)
 true-fits (negsuc n) fits = let small : n < 2 ^ 63 = fits.sfits in grind (arith, nat_tests)
 
+and-left : (a b : Bool) → (a && b) ≡ true → a ≡ true
+and-left true b both = refl
+and-left false b both = cc
+
+and-right : (a b : Bool) → (a && b) ≡ true → b ≡ true
+and-right true b both = both
+and-right false b both = cc
+
+-- the test of a filter's words
+below : {n : ℕ} → nat_lt n (2 ^ 64) ≡ true → n < 2 ^ 64
+below test = grind (arith, nat_tests)
+
+above : {n : ℕ} → n < 2 ^ 64 → nat_lt n (2 ^ 64) ≡ true
+above fits = grind (arith, nat_tests)
+
+IsFilter-true : (filter : Filter) → is_filter filter ≡ true → IsFilter filter
+IsFilter-true filter test =
+    let words = and-left (length filter.words == 4) (list_all (λ word. nat_lt word (2 ^ 64)) filter.words) test in
+    let each = and-right (length filter.words == 4) (list_all (λ word. nat_lt word (2 ^ 64)) filter.words) test in
+    record {
+      words = eqb-true (length filter.words) 4 words;
+      fit = λ k d here. below (AllPass-from_list_all (λ word. nat_lt word (2 ^ 64)) filter.words each k d here);
+    }
+
+true-IsFilter : (filter : Filter) → IsFilter filter → is_filter filter ≡ true
+true-IsFilter filter sound =
+    let each : list_all (λ word. nat_lt word (2 ^ 64)) filter.words ≡ true =
+    list_all-from_AllPass (λ word. nat_lt word (2 ^ 64)) filter.words (λ k d here. above (sound.fit k d here)) in
+    rw (eq-eqb (length filter.words) 4 sound.words) each
+
 -- figures are possible where their times, their numbers and their sum are
 pub IsPossible-tests : (f : Figures) → has_times f.count f.t_first f.t_last ≡ true → FitsSigned w64 f.min → FitsSigned w64 f.max
-    → has_sum f.count f.sum f.min f.max ≡ true → IsPossible f
-IsPossible-tests f times min max sum =
+    → has_sum f.count f.sum f.min f.max ≡ true → IsFilter f.filter → has_bits f.filter f.min f.max ≡ true → IsPossible f
+IsPossible-tests f times min max sum words bits =
     let t = times-true f.count f.t_first f.t_last times in
     let s = sum-true f.count f.sum f.min f.max sum in
     record {
@@ -73,6 +108,9 @@ IsPossible-tests f times min max sum =
       order = s.order;
       sum_low = s.low;
       sum_high = s.high;
+      words = words;
+      min_bit = and-left (has f.filter f.min) (has f.filter f.max) bits;
+      max_bit = and-right (has f.filter f.min) (has f.filter f.max) bits;
     }
 
 pub is_possible-tells : (f : Figures) → IsTrue (is_possible f) ↔ IsPossible f
@@ -83,12 +121,15 @@ is_possible-tells f = (
       let min : fits_i64 f.min ≡ true = grind arith in
       let max : fits_i64 f.max ≡ true = grind arith in
       let sum : has_sum f.count f.sum f.min f.max ≡ true = grind arith in
-      IsPossible-tests f times (fits-true f.min min) (fits-true f.max max) sum,
+      let words : is_filter f.filter ≡ true = grind arith in
+      let bits : has_bits f.filter f.min f.max ≡ true = grind arith in
+      IsPossible-tests f times (fits-true f.min min) (fits-true f.max max) sum (IsFilter-true f.filter words) bits,
   λ possible.
       let times = true-times f.count f.t_first f.t_last
       (record { low = possible.count_low; high = possible.count_high; times = possible.times; last = possible.last; one = possible.one }) in
       let min = true-fits f.min possible.min_fits in
       let max = true-fits f.max possible.max_fits in
       let sum = true-sum f.count f.sum f.min f.max (record { order = possible.order; low = possible.sum_low; high = possible.sum_high }) in
-      rw (times, min, max, sum) refl,
+      let words = true-IsFilter f.filter possible.words in
+      rw (times, min, max, sum, words, possible.min_bit, possible.max_bit) refl,
 )

@@ -1,3 +1,5 @@
+pub mod Points
+pub mod Filters
 pub mod Figures
 pub mod Summaries
 pub mod Possible

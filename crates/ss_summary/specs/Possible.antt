@@ -1,6 +1,8 @@
 -- Whether figures are possible, as a test that computes.
 use Rattle.std.specs.Prelude.{ℕ, ◌-◌, ◌^◌, Bool, ◌&&◌, ◌||◌, ◌==◌, nat_le, nat_lt, ℤ, pos, negsuc, ◌+ℤ◌, ◌*ℤ◌, int_le}
 use Rattle.ss_summary.specs.Figures.{Figures}
+use Rattle.ss_summary.specs.Filters.{has, is_filter}
+use Rattle.ss_summary.specs.declared.filter.Filter.{Filter}
 use Rattle.ss_summary.specs.declared.summary.TheConstants.{LATEST_TIME, GREATEST_COUNT}
 
 -- a signed number of 64 bits
@@ -19,7 +21,12 @@ abbrev pub has_sum : ℕ → ℤ → ℤ → ℤ → Bool
 has_sum count sum min max =
     int_le min max && int_le (max +ℤ pos (count - 1) *ℤ min) sum && int_le sum (min +ℤ pos (count - 1) *ℤ max)
 
+-- a filter has the bits of this least and of this greatest value
+abbrev pub has_bits : Filter → ℤ → ℤ → Bool
+has_bits filter min max = has filter min && has filter max
+
 -- the figures are possible
 unfoldable pub is_possible : Figures → Bool
 is_possible f =
     has_times f.count f.t_first f.t_last && fits_i64 f.min && fits_i64 f.max && has_sum f.count f.sum f.min f.max
+    && is_filter f.filter && has_bits f.filter f.min f.max

@@ -1,7 +1,8 @@
 // Which figures are possible.
 ghost use Rattle.std.specs.Prelude.{◌≡◌, ◌-◌, ◌≤◌, pos, ◌+ℤ◌, ◌*ℤ◌};
-ghost use Rattle.ss_summary.specs.Possible.{has_sum, has_times};
+ghost use Rattle.ss_summary.specs.Possible.{has_bits, has_sum, has_times};
 
+use crate::Filter;
 use crate::summary::{GREATEST_COUNT, LATEST_TIME};
 
 // Whether so many values can have these first and last times.
@@ -32,4 +33,11 @@ pub fn has_sum(count: u64, sum: i128, min: i64, max: i64) -> bool
     ensures { result ≡ has_sum count sum min max }
 {
     min <= max && sum_of(count, max, min) <= sum && sum <= sum_of(count, min, max)
+}
+
+// Whether a filter has the bits of this least and of this greatest value.
+pub fn has_bits(filter: Filter, min: i64, max: i64) -> bool
+    ensures { result ≡ has_bits filter min max }
+{
+    filter.has(min) && filter.has(max)
 }

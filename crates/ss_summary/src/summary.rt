@@ -1,5 +1,7 @@
 // Summaries of timestamped values.
-use crate::possible::{has_sum, has_times};
+use crate::Filter;
+use crate::filter::words_fit;
+use crate::possible::{has_bits, has_sum, has_times};
 use std::marker::Model;
 
 /// The latest time that a value may have, a whole number in the caller's unit.
@@ -10,9 +12,9 @@ pub const GREATEST_COUNT: u64 = 1 << 40;
 
 /// Figures such as one or more values with rising times have. Times and values are whole numbers, and the sum never wraps.
 /// Every `Summary` meets the conditions of possible figures, `IsPossible` (docs/DEFINITIONS.md, "Possible summaries"): at
-/// least one value and at most 2^40, no more of them than times from the first to the last, no time above 2^62, and a sum
-/// that this count allows between the least and the greatest. Which values it is of, only contracts say, as those of `one`
-/// and `join`.
+/// least one value and at most 2^40, no more of them than times from the first to the last, no time above 2^62, a sum
+/// that this count allows between the least and the greatest, and a filter that has the bits of these two. Which values it
+/// is of, only contracts say, as those of `one` and `join`.
 #[derive(Clone, Copy, Debug)]
 pub struct Summary {
     pub count: u64,
@@ -21,6 +23,7 @@ pub struct Summary {
     pub max: i64,
     pub t_first: u64,
     pub t_last: u64,
+    pub filter: Filter,
 }
 
 impl Model for Summary {
@@ -35,6 +38,7 @@ impl Model for Summary {
       max = s.max;
       t_first = s.t_first;
       t_last = s.t_last;
+      filter = s.filter;
     } };
 
     ghost invariant = { λ s. IsPossible (record {
@@ -44,6 +48,7 @@ impl Model for Summary {
       max = s.max;
       t_first = s.t_first;
       t_last = s.t_last;
+      filter = s.filter;
     }) };
 
     ghost inverse = { λ f. record {
@@ -53,18 +58,20 @@ impl Model for Summary {
       max = f.max;
       t_first = f.t_first;
       t_last = f.t_last;
+      filter = f.filter;
     } };
 }
 
 impl Summary {
     ghost use Rattle.std.specs.Prelude.{◌≡◌, ◌↔◌, ◌+◌, ◌<◌, ◌≤◌, ℕ, ℤ, List, [], ◌∷◌, ◌++◌, IsSome, IfSome};
     ghost use Rattle.ss_summary.specs.Figures.{Figures, IsPossible};
+    ghost use Rattle.ss_summary.specs.Points.{Point, New};
     ghost use Rattle.ss_summary.specs.Summaries.{summary_of, Summarizes, joined};
 
     /// The summary of the value `v` at the time `t`.
     pub fn one(t: u64, v: i64) -> Summary
         requires { t ≤ LATEST_TIME }
-        ensures { result ≡ summary_of ((t, v) ∷ []) }
+        ensures { result ≡ summary_of ((t, v, New) ∷ []) }
     {
         Summary {
             count: 1,
@@ -73,6 +80,7 @@ impl Summary {
             max: v,
             t_first: t,
             t_last: t,
+            filter: Filter::of(v),
         }
     }
 
@@ -81,7 +89,7 @@ impl Summary {
         requires later { a.t_last < b.t_first }
         requires few { a.count + b.count ≤ GREATEST_COUNT }
         ensures exact { result ≡ joined a b }
-        ensures lists { (xs ys : List (ℕ × ℤ)) → Summarizes a xs → Summarizes b ys
+        ensures lists { (xs ys : List Point) → Summarizes a xs → Summarizes b ys
             → Summarizes result (xs ++ ys) }
     {
         Summary {
@@ -91,6 +99,7 @@ impl Summary {
             max: a.max.max(b.max),
             t_first: a.t_first,
             t_last: b.t_last,
+            filter: Filter::union(a.filter, b.filter),
         }
     }
 
@@ -102,15 +111,20 @@ impl Summary {
         max: i64,
         t_first: u64,
         t_last: u64,
+        filter: Filter,
     ) -> Option<Summary>
         ensures possible { IsSome result
-            ↔ IsPossible (record { count = count; sum = sum; min = min; max = max; t_first = t_first; t_last = t_last }) }
+            ↔ IsPossible (record { count = count; sum = sum; min = min; max = max; t_first = t_first; t_last = t_last; filter = filter }) }
         ensures figures { IfSome result (λ summary. summary
-            ≡ record { count = count; sum = sum; min = min; max = max; t_first = t_first; t_last = t_last }) }
+            ≡ record { count = count; sum = sum; min = min; max = max; t_first = t_first; t_last = t_last; filter = filter }) }
     {
-        if !has_times(count, t_first, t_last) || !has_sum(count, sum, min, max) {
+        if !has_times(count, t_first, t_last)
+            || !has_sum(count, sum, min, max)
+            || !has_bits(filter, min, max)
+        {
             return None;
         }
+        words_fit(filter);
         Some(Summary {
             count,
             sum,
@@ -118,6 +132,7 @@ impl Summary {
             max,
             t_first,
             t_last,
+            filter,
         })
     }
 }

@@ -4,7 +4,7 @@ use ss_bounds::{
     extremes_hold_the_truth, free_times_are_parted, greatest_sum_at, least_sum_at, max_bounds,
     min_bounds, split_windows_hold_the_truth, sum_bounds, values_can_be_parted,
 };
-use ss_summary::{LATEST_TIME, Summary};
+use ss_summary::{Filter, LATEST_TIME, Summary};
 
 // The count, sum, least and greatest of a window, its ends in the range, and the times inside it and outside.
 type Window = (u64, i128, i64, i64, u64, u64, u64);
@@ -44,7 +44,7 @@ const FULL: Window = (
 // The window as a split one, if it can be one.
 fn split_of(window: Window) -> Option<Split> {
     let (count, sum, min, max, ends, inside, outside) = window;
-    let summary = Summary::of(count, sum, min, max, 0, LATEST_TIME)?;
+    let summary = Summary::of(count, sum, min, max, 0, LATEST_TIME, Filter::full())?;
     if count < 2 || ends > 1 || inside > MOST_TIMES || outside > MOST_TIMES {
         return None;
     }

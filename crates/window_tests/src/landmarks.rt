@@ -4,7 +4,7 @@ ghost use Rattle.ss_landmarks.specs.Order.{AllEndBy};
 
 use ss_landmarks::{
     LATEST_TIME, Landmarks, free_times_add_up, landmarks_stay_in_order, last_times_rise,
-    the_last_is_open, times_may_follow, values_come_last,
+    the_last_is_open, times_may_follow, values_come_last, which_values_are_among_them,
 };
 use std::alloc::{AllocError, Global};
 
@@ -93,13 +93,14 @@ fn take(landmarks: &mut Landmarks, last: u64, step: Step, slot: u32) -> Result<u
     })
 }
 
-// A script, and what is told after it: the free times of ranges, the values in ranges, how many landmarks and values there
-// are, the slots of the landmarks and then of the values, and which landmark is open. The slot of a step is its number in
-// the script, from 1.
+// A script, and what is told after it: the free times of ranges, the values in ranges, which values these hold, how many
+// landmarks and values there are, the slots of the landmarks and then of the values, and which landmark is open. The slot of
+// a step is its number in the script, from 1.
 struct Row {
     steps: &'static [Step],
     free: &'static [(u64, u64, u64)],
     values: &'static [(u64, u64, Figures)],
+    holds: &'static [(u64, u64, i64, bool)],
     count: u32,
     number: u32,
     slots: &'static [u32],
@@ -116,6 +117,7 @@ const ROWS: [Row; 7] = [
         steps: &[Step::Add(5, 5), Step::Close(6)],
         free: &[(0, 10, 11), (5, 4, 0), (0, LATEST_TIME, LATEST_TIME + 1)],
         values: &[(0, 10, NOTHING)],
+        holds: &[(0, 10, 5, false)],
         count: 0,
         number: 0,
         slots: &[],
@@ -130,6 +132,7 @@ const ROWS: [Row; 7] = [
             (101, 200, NOTHING),
             (0, 99, NOTHING),
         ],
+        holds: &[(100, 100, 7, true), (0, 99, 7, false), (101, 200, 7, false)],
         count: 1,
         number: 1,
         slots: &[1, 2],
@@ -158,6 +161,14 @@ const ROWS: [Row; 7] = [
             (31, 40, NOTHING),
             (40, 20, NOTHING),
         ],
+        holds: &[
+            (20, 30, 100, true),
+            (20, 30, 200, true),
+            (21, 30, 100, false),
+            (20, 29, 200, false),
+            (20, 40, 300, false),
+            (40, 20, 100, false),
+        ],
         count: 1,
         number: 2,
         slots: &[1, 2, 3],
@@ -185,6 +196,12 @@ const ROWS: [Row; 7] = [
             (31, 90, (1, -3, Some(-3), Some(-3))),
             (0, 89, (2, 300, Some(100), Some(200))),
         ],
+        holds: &[
+            (90, 90, -3, true),
+            (0, 89, -3, false),
+            (0, 90, 3, false),
+            (0, 90, 200, true),
+        ],
         count: 2,
         number: 3,
         slots: &[1, 5, 2, 3, 6],
@@ -207,6 +224,7 @@ const ROWS: [Row; 7] = [
         ],
         free: &[(9, 11, 1), (0, 9, 10), (10, 100, 0)],
         values: &[(0, 100, (1, 1, Some(1), Some(1)))],
+        holds: &[(0, 100, 1, true), (0, 100, 2, false), (10, 10, 3, false)],
         count: 2,
         number: 1,
         slots: &[1, 11, 3],
@@ -228,6 +246,11 @@ const ROWS: [Row; 7] = [
         values: &[
             (LATEST_TIME, u64::MAX, (1, 5, Some(5), Some(5))),
             (0, u64::MAX, (2, 5, Some(0), Some(5))),
+        ],
+        holds: &[
+            (LATEST_TIME, LATEST_TIME, 5, true),
+            (0, LATEST_TIME - 1, 5, false),
+            (0, u64::MAX, 0, true),
         ],
         count: 2,
         number: 2,
@@ -260,6 +283,12 @@ const ROWS: [Row; 7] = [
                 3,
                 (1, -9223372036854775808, Some(i64::MIN), Some(i64::MIN)),
             ),
+        ],
+        holds: &[
+            (1, 3, i64::MIN, true),
+            (1, 2, i64::MIN, false),
+            (2, 2, i64::MAX, true),
+            (3, 3, i64::MAX, false),
         ],
         count: 1,
         number: 3,
@@ -298,6 +327,16 @@ fn has_values(landmarks: &Landmarks, rows: &[(u64, u64, Figures)]) -> bool {
     true
 }
 
+// Whether the landmarks hold in each range the value of its row exactly where the row says so.
+fn holds_values(landmarks: &Landmarks, rows: &[(u64, u64, i64, bool)]) -> bool {
+    for (a, b, v, held) in rows {
+        if landmarks.holds(*a, *b, *v) != *held {
+            return false;
+        }
+    }
+    true
+}
+
 // Whether the slots of all landmarks, and then those of all values, are these.
 fn has_slots(landmarks: &Landmarks, slots: &[u32]) -> bool {
     let count = landmarks.count() + landmarks.values();
@@ -321,7 +360,8 @@ fn is_told(alloc: Global, row: &Row) -> Result<bool, AllocError> {
             && landmarks.opened() == row.opened
             && has_slots(&landmarks, row.slots)
             && has_free(&landmarks, row.free)
-            && has_values(&landmarks, row.values),
+            && has_values(&landmarks, row.values)
+            && holds_values(&landmarks, row.holds),
     )
 }
 
@@ -341,4 +381,5 @@ fn laws_are_called() {
     the_last_is_open();
     values_come_last();
     free_times_add_up();
+    which_values_are_among_them();
 }

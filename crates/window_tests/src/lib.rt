@@ -5,6 +5,8 @@
 #[cfg(test)]
 mod bounds;
 #[cfg(test)]
+mod filters;
+#[cfg(test)]
 mod landmarks;
 #[cfg(test)]
 mod line;

@@ -1,6 +1,6 @@
 // Worked rows: the figures of a few values, joined one after the other.
 use ss_summary::{
-    LATEST_TIME, Summary, joined_is_of_the_joined_list, joining_is_associative,
+    Filter, LATEST_TIME, Summary, joined_is_of_the_joined_list, joining_is_associative,
     possible_figures_are_those_of_values, possible_figures_pass_the_test,
 };
 
@@ -112,10 +112,10 @@ const POSSIBLE: [(Figures, bool); 16] = [
     ),
 ];
 
-// Whether there is a summary of these figures, and it has them, or none.
-fn is_so(f: Figures, possible: bool) -> bool {
-    match Summary::of(f.0, f.1, f.2, f.3, f.4, f.5) {
-        Some(summary) => possible && figures(summary) == f,
+// Whether there is a summary of these figures, and it has them and the filter, or none.
+fn is_so(f: Figures, filter: Filter, possible: bool) -> bool {
+    match Summary::of(f.0, f.1, f.2, f.3, f.4, f.5, filter) {
+        Some(summary) => possible && figures(summary) == f && summary.filter == filter,
         None => !possible,
     }
 }
@@ -123,6 +123,22 @@ fn is_so(f: Figures, possible: bool) -> bool {
 #[test]
 fn figures_make_a_summary(rt: HostRuntime) {
     for (k, row) in POSSIBLE.iter().enumerate() {
-        assert!(rt; is_so(row.0, row.1), "row {k}");
+        assert!(rt; is_so(row.0, Filter::full(), row.1), "row {k}");
+    }
+}
+
+// The values of a filter, and whether figures with the least value -3 and the greatest 8 may have it.
+const FILTERED: [((i64, i64), bool); 4] = [
+    ((-3, 8), true),
+    ((-3, 5), false),
+    ((5, 8), false),
+    ((5, 1), false),
+];
+
+#[test]
+fn a_filter_has_the_bits_of_the_ends(rt: HostRuntime) {
+    for (k, row) in FILTERED.iter().enumerate() {
+        let filter = Filter::union(Filter::of(row.0.0), Filter::of(row.0.1));
+        assert!(rt; is_so((4, 11, -3, 8, 10, 40), filter, row.1), "row {k}");
     }
 }

@@ -23,6 +23,7 @@ returns c =
       max = c.get_i64-max.result;
       t_first = c.get_u64-t_first.result;
       t_last = c.get_u64-t_last.result;
+      filter = c.filter_in-filter.result;
     } in
     let same : found ≡ figures_in c.args.bytes.now = λ i. record {
       count = c.get_u64-count.ensures i;
@@ -31,6 +32,7 @@ returns c =
       max = c.get_i64-max.ensures i;
       t_first = c.get_u64-t_first.ensures i;
       t_last = c.get_u64-t_last.ensures i;
+      filter = c.filter_in-filter.ensures i;
     } in
     let possible = rw (sum_is, min_is, max_is) at c.of.ensures.possible in
     let figures = rw (sum_is, min_is, max_is) at c.of.ensures.figures in

@@ -7,7 +7,7 @@ use Rattle.ss_summary.proofs.SummaryLemmas.{IsPossible-joined, IsPossible-sum, c
 use Rattle.ss_summary.proofs.summary.Summary.join.Goals as goal
 
 -- the arguments, joined, are possible
-possible : (c : goal.After-max) → IsPossible (joined c.args.a c.args.b)
+possible : (c : goal.After-union) → IsPossible (joined c.args.a c.args.b)
 possible c =
     let left = subst IsPossible c.a.view_is c.a.invariant in
     let right = subst IsPossible c.b.view_is c.b.invariant in
@@ -23,7 +23,7 @@ pub returns-clause-exact : goal.returns-clause-exact
 returns-clause-exact c =
     let same = ap₂ joined c.a.view_is c.b.view_is in
     let both = subst IsPossible (sym same) (possible c) in
-    computed-joined _ _ _ _ c.a.invariant c.b.invariant both c.min.ensures.value c.max.ensures.value ∙ same
+    computed-joined _ _ _ _ _ c.a.invariant c.b.invariant both c.min.ensures.value c.max.ensures.value c.union.ensures ∙ same
 
 pub invariant_of-result : goal.invariant_of-result
 invariant_of-result c = subst IsPossible (sym (returns-clause-exact c)) (possible c)
