@@ -7,19 +7,18 @@ use Rattle.std.proofs.lemmas.List.{length-append}
 use Rattle.std.proofs.lemmas.List.Elements.{All-get_or, All-head, All-tail}
 use Rattle.ss_bounds.specs.Truth.{asked}
 use Rattle.ss_catalog.specs.Names.{same_name}
-use Rattle.ss_catalog.specs.declared.event.Event.{Event}
 use Rattle.ss_catalog.specs.declared.query.Kind.TheVariants as kinds
 use Rattle.ss_catalog.specs.declared.query.Query.{Query}
 use Rattle.ss_landmarks.specs.Free.{is_free}
 use Rattle.ss_target.specs.Lengths.{lengths_of}
-use Rattle.ss_model.specs.History.{landmarks_of, values_of}
+use Rattle.ss_model.specs.History.{landmarks_of, values_of, Happened}
 use Rattle.ss_model.specs.Interval.{interval_of_count, interval_of_sum, known_count, known_sum, split_windows}
 use Rattle.ss_model.specs.Marks.{marked_values}
 use Rattle.ss_model.specs.Refusals.{IsHistory}
 use Rattle.ss_model.specs.Standing.{IsStream}
 use Rattle.ss_model.specs.State.{Stream, state, stream_after, stream_named}
 use Rattle.ss_model.specs.Windows.{windows}
-use Rattle.ss_model.proofs.IntervalLemmas.{count-lies, sum-lies}
+use Rattle.ss_model.proofs.IntervalLemmas.{AreOf, count-lies, sum-lies}
 use Rattle.ss_model.proofs.HistoryLemmas.{IsState-state}
 use Rattle.ss_model.proofs.PieceLemmas.{AreOf-windows}
 use Rattle.ss_model.proofs.ReadLemmas.{All-state}
@@ -29,7 +28,7 @@ use Rattle.ss_contents.specs.Attained.{IsAttained, MayBeTrue, truth_of_kind}
 use Rattle.ss_contents.specs.Contents.{Contents, contents_of, own_windows, AreContents, Like, count_in, sum_in}
 use Rattle.ss_contents.specs.Rebuilt.{rebuilt}
 use Rattle.ss_contents.specs.Sides.{Sides, AllFit, count_inside, sum_inside}
-use Rattle.ss_contents.proofs.PieceLemmas.{length-others, windows-others}
+use Rattle.ss_contents.proofs.PieceLemmas.{AreOf-alike, length-others, windows-others}
 use Rattle.ss_contents.proofs.ReplacedLemmas.{AreReplaced, replaced-all, total-append}
 use Rattle.ss_contents.proofs.SayableLemmas.{sayable-others, sayable-standing}
 
@@ -81,29 +80,26 @@ module _ (c : Contents) (from to : ℕ) (sides : List Sides) (sound : AreContent
 
 -- the intervals that the windows of some contents give hold the truth over all contents like them
 module _ (c d : Contents) (from to : ℕ) (sound : AreContents d) (like : Like d c) where
+  own : AreOf (own_windows c) d.plain
+  own = AreOf-alike (own_windows d) (own_windows c) d.plain like.windows (AreOf-windows (lengths_of d.params) d.plain)
+
   pub count_in-lies : let answer = interval_of_count (is_free c.landmarks) from to (own_windows c) (marked_values c.landmarks) in
       (answer.0 ≤ count_in from to d) × (count_in from to d ≤ answer.1)
   count_in-lies =
       subst (λ ls. let answer = interval_of_count (is_free ls) from to (own_windows c) (marked_values ls) in
       (answer.0 ≤ count_in from to d) × (count_in from to d ≤ answer.1)) like.landmarks
-      (subst (λ ws. let answer = interval_of_count (is_free d.landmarks) from to ws (marked_values d.landmarks) in
-      (answer.0 ≤ count_in from to d) × (count_in from to d ≤ answer.1)) like.windows
-      (count-lies (is_free d.landmarks) from to (own_windows d) d.plain (marked_values d.landmarks) 0
-      (AreOf-windows (lengths_of d.params) d.plain) sound.rising))
+      (count-lies (is_free d.landmarks) from to (own_windows c) d.plain (marked_values d.landmarks) 0 own sound.rising)
 
   pub sum_in-lies : let answer = interval_of_sum (is_free c.landmarks) from to (own_windows c) (marked_values c.landmarks) in
       (answer.0 ≤ℤ sum_in from to d) × (sum_in from to d ≤ℤ answer.1)
   sum_in-lies =
       subst (λ ls. let answer = interval_of_sum (is_free ls) from to (own_windows c) (marked_values ls) in
       (answer.0 ≤ℤ sum_in from to d) × (sum_in from to d ≤ℤ answer.1)) like.landmarks
-      (subst (λ ws. let answer = interval_of_sum (is_free d.landmarks) from to ws (marked_values d.landmarks) in
-      (answer.0 ≤ℤ sum_in from to d) × (sum_in from to d ≤ℤ answer.1)) like.windows
-      (sum-lies (is_free d.landmarks) from to (own_windows d) d.plain (marked_values d.landmarks) 0
-      (AreOf-windows (lengths_of d.params) d.plain) sound.rising))
+      (sum-lies (is_free d.landmarks) from to (own_windows c) d.plain (marked_values d.landmarks) 0 own sound.rising)
 
 -- ---- the streams of a history
 
-pub AreContents-contents_of : (history : List Event) → IsHistory history → All (λ s. AreContents (contents_of history s)) (state history)
+pub AreContents-contents_of : (history : List Happened) → IsHistory history → All (λ s. AreContents (contents_of history s)) (state history)
 AreContents-contents_of history whole =
     λ k d inside.
     let each = All-get_or IsStream (state history) k d inside (IsState-state history whole).each in
@@ -123,13 +119,13 @@ AreContents-contents_of history whole =
     })) each
 
 -- what contents like those of a stream may have in a range, with values that fit the windows that it splits
-abbrev IsAttainedBySides : List Event → Stream → Type 0
+abbrev IsAttainedBySides : List Happened → Stream → Type 0
 IsAttainedBySides history s =
     (from to : ℕ) (sides : List Sides) → AllFit (split_windows (is_free s.landmarks) from to s.windows) sides
     → IsAttained (contents_of history s) from to (known_count from to s.windows (marked_values s.landmarks) + count_inside sides)
     (known_sum from to s.windows (marked_values s.landmarks) +ℤ sum_inside sides)
 
-pub IsAttained-state : (history : List Event) → IsHistory history
+pub IsAttained-state : (history : List Happened) → IsHistory history
     → All (λ s. (from to : ℕ) (sides : List Sides) → AllFit (split_windows (is_free s.landmarks) from to s.windows) sides
     → IsAttained (contents_of history s) from to (known_count from to s.windows (marked_values s.landmarks) + count_inside sides)
     (known_sum from to s.windows (marked_values s.landmarks) +ℤ sum_inside sides)) (state history)
@@ -148,12 +144,12 @@ All-named P name (u ∷ us) s all found = elim (cases_Bool (same_name name u.nam
   | inr other ↦ (let later : stream_named name us ≡ Some s = rw other at found in All-named P name us s (All-tail P u us all) later)
 ]
 
-pub AreContents-named : (history : List Event) (name : List ℕ) (s : Stream) → IsHistory history → stream_named name (state history) ≡ Some s
+pub AreContents-named : (history : List Happened) (name : List ℕ) (s : Stream) → IsHistory history → stream_named name (state history) ≡ Some s
     → AreContents (contents_of history s)
 AreContents-named history name s whole found =
     All-named (λ u. AreContents (contents_of history u)) name (state history) s (AreContents-contents_of history whole) found
 
-pub IsAttained-named : (history : List Event) (name : List ℕ) (s : Stream) (from to : ℕ) (sides : List Sides) → IsHistory history
+pub IsAttained-named : (history : List Happened) (name : List ℕ) (s : Stream) (from to : ℕ) (sides : List Sides) → IsHistory history
     → stream_named name (state history) ≡ Some s → AllFit (split_windows (is_free s.landmarks) from to s.windows) sides
     → IsAttained (contents_of history s) from to (known_count from to s.windows (marked_values s.landmarks) + count_inside sides)
     (known_sum from to s.windows (marked_values s.landmarks) +ℤ sum_inside sides)
@@ -170,7 +166,7 @@ module _ (streams : List Stream) (query : Query) (s : Stream) (sides : List Side
   abbrev sum : ℤ
   sum = known_sum query.from query.to s.windows (marked_values s.landmarks) +ℤ sum_inside sides
 
-  attained : (history : List Event) (u : Stream) → IsHistory history → state history ≡ streams → stream_named query.name streams ≡ Some u
+  attained : (history : List Happened) (u : Stream) → IsHistory history → state history ≡ streams → stream_named query.name streams ≡ Some u
       → IsAttained (contents_of history u) query.from query.to count sum
   attained history u whole is other =
       let both : Some s ≡ Some u = sym found ∙ other in

@@ -5,6 +5,7 @@ use Rattle.std.proofs.Common.{ap, ap₂, arith, refl, sym, ◌∙◌, subst, app
 use Rattle.std.proofs.lemmas.List.{append-nil, length-drop, take-append-drop}
 use Rattle.ss_bounds.specs.Times.{lies_in}
 use Rattle.ss_bounds.proofs.TimeLemmas.{count_by-cons}
+use Rattle.ss_summary.specs.Points.{Point}
 use Rattle.ss_model.specs.Truth.{RiseAtFree}
 use Rattle.ss_contents.specs.Rebuilt.{one_if, at_time, placed_at_times}
 use Rattle.ss_contents.proofs.PickedLemmas.{picked, left, picked-append, picked-at_true, picked-at_false}
@@ -18,7 +19,7 @@ one-value [] one = absurd (omega arith)
 one-value (v ∷ []) one = (v, refl)
 one-value (v ∷ u ∷ us) one = absurd (omega arith)
 
-pub RiseAtFree-earlier : (free : ℕ → Bool) (start later : ℕ) (values : List (ℕ × ℤ)) → start ≤ later → RiseAtFree free later values
+pub RiseAtFree-earlier : (free : ℕ → Bool) (start later : ℕ) (values : List Point) → start ≤ later → RiseAtFree free later values
     → RiseAtFree free start values
 RiseAtFree-earlier free start later [] earlier rising = tt
 RiseAtFree-earlier free start later (p ∷ ps) earlier rising = let late = rising.0 in (omega arith, rising.1, rising.2)
@@ -75,7 +76,7 @@ module _ (free : ℕ → Bool) (from to : ℕ) where
       (placed_at_times free from to ts (drop i inside) (drop o outside))
       ∙ ap₂ (λ x y. x ++ y) here.1 rest ∙ take-append-drop o outside
 
-  RiseAtFree-both : (f l : Bool) (t : ℕ) (inside outside : List ℤ) (rest : List (ℕ × ℤ)) → free t ≡ f → RiseAtFree free (t + 1) rest
+  RiseAtFree-both : (f l : Bool) (t : ℕ) (inside outside : List ℤ) (rest : List Point) → free t ≡ f → RiseAtFree free (t + 1) rest
       → RiseAtFree free t (at_time t (of_both f l inside outside) ++ rest)
   RiseAtFree-both true true t [] outside rest is rising = RiseAtFree-earlier free t (t + 1) rest (omega arith) rising
   RiseAtFree-both true true t (v ∷ vs) outside rest is rising = (omega arith, is, rising)
@@ -83,7 +84,7 @@ module _ (free : ℕ → Bool) (from to : ℕ) where
   RiseAtFree-both true false t inside (v ∷ vs) rest is rising = (omega arith, is, rising)
   RiseAtFree-both false l t inside outside rest is rising = RiseAtFree-earlier free t (t + 1) rest (omega arith) rising
 
-  pub RiseAtFree-placed_at_times : (n s : ℕ) (inside outside : List ℤ) (rest : List (ℕ × ℤ)) → RiseAtFree free (s + n) rest
+  pub RiseAtFree-placed_at_times : (n s : ℕ) (inside outside : List ℤ) (rest : List Point) → RiseAtFree free (s + n) rest
       → RiseAtFree free s (placed_at_times free from to (range_with_len s n) inside outside ++ rest)
   RiseAtFree-placed_at_times zero s inside outside rest rising = RiseAtFree-earlier free s (s + 0) rest (omega arith) rising
   RiseAtFree-placed_at_times (suc n) s inside outside rest rising =

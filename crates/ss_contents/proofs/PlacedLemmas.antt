@@ -3,12 +3,15 @@ use Rattle.std.specs.Prelude.{◌≡◌, ℕ, suc, ◌+◌, ◌-◌, ◌<◌, �
 use Rattle.std.specs.List.{count_by, range_with_len}
 use Rattle.std.proofs.Common.{ap, ap₂, arith, refl, sym, ◌∙◌, subst, append_assoc}
 use Rattle.std.proofs.lemmas.List.{append-nil, drop_all, length-append, length-drop, length-take, take-append-drop}
+use Rattle.ss_summary.specs.Figures.{unfiltered}
+use Rattle.ss_summary.specs.Filters.{full}
 use Rattle.ss_summary.specs.Summaries.{summary_of, time_at_end}
 use Rattle.ss_summary.specs.Summaries as summaries
 use Rattle.ss_summary.proofs.SummaryLemmas.{time_at_end-append}
 use Rattle.ss_bounds.specs.Times.{lies_in, ends_in, split_of, times}
 use Rattle.ss_bounds.specs.Truth.{AllBetween, total}
 use Rattle.ss_bounds.proofs.TimeLemmas.{count_by-cons}
+use Rattle.ss_summary.specs.Points.{Point, New}
 use Rattle.ss_model.specs.Truth.{RiseAtFree}
 use Rattle.ss_model.specs.declared.types.Window.{Window}
 use Rattle.ss_model.proofs.IntervalLemmas.{AreOf}
@@ -85,7 +88,7 @@ module _ (free : ℕ → Bool) (from to first last count : ℕ) (sum m M : ℤ) 
   abbrev o : ℕ
   o = length v.outside - one_if (not (lies_in from to last))
 
-  abbrev all : List (ℕ × ℤ)
+  abbrev all : List Point
   all = placed free from to first last v
 
   -- there is a time for each value, and a value for each end
@@ -136,8 +139,8 @@ module _ (free : ℕ → Bool) (from to first last count : ℕ) (sum m M : ℤ) 
       ∙ take-append-drop o v.outside
 
   -- the first of these values, and those between it and the last one
-  starts : (x : ℤ) × (between : List (ℕ × ℤ))
-      × (placed_at_times free from to (range_with_len first (last - first)) (take i v.inside) (take o v.outside) ≡ (first, x) ∷ between)
+  starts : (x : ℤ) × (between : List Point)
+      × (placed_at_times free from to (range_with_len first (last - first)) (take i v.inside) (take o v.outside) ≡ (first, x, New) ∷ between)
   starts =
       let k = one_if (free first && lies_in from to first) in
       let l = one_if (free first && not (lies_in from to first)) in
@@ -155,7 +158,7 @@ module _ (free : ℕ → Bool) (from to first last count : ℕ) (sum m M : ℤ) 
   ends = one-value (drop i v.inside ++ drop o v.outside)
       (length-last (lies_in from to last) v.inside v.outside has_room.last_inside has_room.last_outside)
 
-  pub RiseAtFree-placed : (rest : List (ℕ × ℤ)) → RiseAtFree free (last + 1) rest → RiseAtFree free first (all ++ rest)
+  pub RiseAtFree-placed : (rest : List Point) → RiseAtFree free (last + 1) rest → RiseAtFree free first (all ++ rest)
   RiseAtFree-placed rest rising =
       let ts = range_with_len first (last - first) in
       let front = placed_at_times free from to ts (take i v.inside) (take o v.outside) in
@@ -168,16 +171,17 @@ module _ (free : ℕ → Bool) (from to first last count : ℕ) (sum m M : ℤ) 
       (subst (λ z. RiseAtFree free z (back ++ rest)) (sym end) behind))
 
   -- the first value, and all behind it
-  shape-placed : (p : ℕ × ℤ) × (ps : List (ℕ × ℤ)) × (all ≡ p ∷ ps) × (p.0 ≡ first) × (time_at_end p.0 ps ≡ last)
+  shape-placed : (p : Point) × (ps : List Point) × (all ≡ p ∷ ps) × (p.0 ≡ first) × (time_at_end p.0 ps ≡ last)
   shape-placed = (
-    (first, starts.0),
-    starts.1 ++ (last, ends.0) ∷ [],
+    (first, starts.0, New),
+    starts.1 ++ (last, ends.0, New) ∷ [],
     ap₂ (λ xs ys. xs ++ at_time last ys) starts.2 ends.1,
     refl,
-    time_at_end-append first starts.1 (last, ends.0) [],
+    time_at_end-append first starts.1 (last, ends.0, New) [],
   )
 
-  pub summary_of-placed : summary_of all ≡ record { count = count; sum = sum; min = m; max = M; t_first = first; t_last = last }
+  pub summary_of-placed : unfiltered (summary_of all)
+      ≡ record { count = count; sum = sum; min = m; max = M; t_first = first; t_last = last; filter = full }
   summary_of-placed =
       let p = shape-placed.0 in
       let ps = shape-placed.1 in
@@ -193,7 +197,7 @@ module _ (free : ℕ → Bool) (from to first last count : ℕ) (sum m M : ℤ) 
       (subst (λ vs. Contains vs M) (sym (ap₂ (λ xs ys. xs ++ ys) inside outside)) fit.greatest) in
       let count_is : length (p ∷ ps) ≡ count = sym parts.0 ∙ number ∙ fit.number in
       let sum_is : summaries.total (p ∷ ps) ≡ sum = sym parts.1 ∙ sums ∙ fit.sum in
-      ap summary_of shape-placed.2
+      ap (λ values. unfiltered (summary_of values)) shape-placed.2
       ∙ (λ k. record {
         count = count_is k;
         sum = sum_is k;
@@ -201,16 +205,18 @@ module _ (free : ℕ → Bool) (from to first last count : ℕ) (sum m M : ℤ) 
         max = extremes.1 k;
         t_first = shape-placed.3 k;
         t_last = shape-placed.4 k;
+        filter = full;
       })
 
   -- a window of this summary is of these values
-  pub AreOf-placed : (w : Window) (ws : List Window) (rest : List (ℕ × ℤ))
-      → w.summary ≡ record { count = count; sum = sum; min = m; max = M; t_first = first; t_last = last } → AreOf ws rest → AreOf (w ∷ ws) (all ++ rest)
+  pub AreOf-placed : (w : Window) (ws : List Window) (rest : List Point)
+      → unfiltered w.summary ≡ record { count = count; sum = sum; min = m; max = M; t_first = first; t_last = last; filter = full }
+      → AreOf ws rest → AreOf (w ∷ ws) (all ++ rest)
   AreOf-placed w ws rest is of = (
     shape-placed.0,
     shape-placed.1,
     rest,
     ap (λ xs. xs ++ rest) shape-placed.2,
-    is ∙ sym summary_of-placed ∙ ap summary_of shape-placed.2,
+    is ∙ sym summary_of-placed ∙ ap (λ values. unfiltered (summary_of values)) shape-placed.2,
     of,
   )

@@ -4,10 +4,11 @@ use Rattle.std.proofs.Common.{ap, ap₂, arith, refl, sym, ◌∙◌, subst}
 use Rattle.std.proofs.lemmas.Int.{ints}
 use Rattle.std.proofs.lemmas.List.{drop_at, length-append, length-map, take_at}
 use Rattle.std.proofs.lemmas.List.Sums.{sum_by-cons}
-use Rattle.ss_summary.specs.Figures.{Figures}
+use Rattle.ss_summary.specs.Figures.{AreAlike, Figures}
 use Rattle.ss_summary.specs.Summaries.{summary_of, time_at_end}
 use Rattle.ss_bounds.specs.Times.{ends_in}
 use Rattle.ss_bounds.specs.Truth.{asked, total}
+use Rattle.ss_summary.specs.Points.{Point}
 use Rattle.ss_model.specs.Interval.{is_split, is_whole, split_figures, split_windows, whole_windows}
 use Rattle.ss_model.specs.Truth.{RiseAtFree}
 use Rattle.ss_model.specs.declared.types.Window.{Window}
@@ -42,18 +43,18 @@ sums_of ws = total (map (λ (w : Window). w.summary.sum) ws)
 
 module _ (free : ℕ → Bool) (from to : ℕ) where
   -- other values of the same windows, of which so many lie in the range, and of this sum
-  pub record AreReplaced (start : ℕ) (ws : List Window) (sides : List Sides) (values : List (ℕ × ℤ)) : Type 0 where
+  pub record AreReplaced (start : ℕ) (ws : List Window) (sides : List Sides) (values : List Point) : Type 0 where
     pub of : AreOf ws values
     pub rising : RiseAtFree free start values
     pub count : length (asked from to values) ≡ counts_of (whole_windows from to ws) + count_inside sides
     pub sum : total (asked from to values) ≡ (sums_of (whole_windows from to ws) +ℤ sum_inside sides)
 
-  abbrev new : List Window → List Sides → List (ℕ × ℤ) → List (ℕ × ℤ)
+  abbrev new : List Window → List Sides → List Point → List Point
   new ws sides values = replaced free from to ws sides values
 
   -- a window whose values stay
-  replaced-kept : (start : ℕ) (w : Window) (ws : List Window) (sides : List Sides) (p : ℕ × ℤ) (ps rest : List (ℕ × ℤ))
-      → w.summary ≡ summary_of (p ∷ ps) → RiseAtFree free start (p ∷ ps) → is_split from to w ≡ false
+  replaced-kept : (start : ℕ) (w : Window) (ws : List Window) (sides : List Sides) (p : Point) (ps rest : List Point)
+      → AreAlike w.summary (summary_of (p ∷ ps)) → RiseAtFree free start (p ∷ ps) → is_split from to w ≡ false
       → length (asked from to (p ∷ ps)) + counts_of (whole_windows from to ws) ≡ counts_of (whole_windows from to (w ∷ ws))
       → (total (asked from to (p ∷ ps)) +ℤ sums_of (whole_windows from to ws)) ≡ sums_of (whole_windows from to (w ∷ ws))
       → AreReplaced (time_at_end p.0 ps + 1) ws sides (new ws sides rest)
@@ -74,8 +75,8 @@ module _ (free : ℕ → Bool) (from to : ℕ) where
       })
 
   -- a window whose values are others
-  replaced-split : (start : ℕ) (w : Window) (ws : List Window) (v : Sides) (sides : List Sides) (p : ℕ × ℤ) (ps rest : List (ℕ × ℤ))
-      → w.summary ≡ summary_of (p ∷ ps) → RiseAtFree free start (p ∷ ps) → 1 ≤ length ps → is_whole from to w ≡ false → is_split from to w ≡ true
+  replaced-split : (start : ℕ) (w : Window) (ws : List Window) (v : Sides) (sides : List Sides) (p : Point) (ps rest : List Point)
+      → AreAlike w.summary (summary_of (p ∷ ps)) → RiseAtFree free start (p ∷ ps) → 1 ≤ length ps → is_whole from to w ≡ false → is_split from to w ≡ true
       → FitSplit (split_figures free from to w) v
       → AreReplaced (time_at_end p.0 ps + 1) ws sides (new ws sides rest)
       → AreReplaced start (w ∷ ws) (v ∷ sides) (new (w ∷ ws) (v ∷ sides) ((p ∷ ps) ++ rest))
@@ -118,8 +119,8 @@ module _ (free : ℕ → Bool) (from to : ℕ) where
             (omega (arith, ints, ap total values, total-append v.inside (asked from to behind), later.sum));
       })
 
-  next : (start : ℕ) (w : Window) (ws : List Window) (sides : List Sides) (p : ℕ × ℤ) (ps rest : List (ℕ × ℤ))
-      → w.summary ≡ summary_of (p ∷ ps) → RiseAtFree free start (p ∷ ps) → AllFit (split_windows free from to (w ∷ ws)) sides
+  next : (start : ℕ) (w : Window) (ws : List Window) (sides : List Sides) (p : Point) (ps rest : List Point)
+      → AreAlike w.summary (summary_of (p ∷ ps)) → RiseAtFree free start (p ∷ ps) → AllFit (split_windows free from to (w ∷ ws)) sides
       → ((others : List Sides) → AllFit (split_windows free from to ws) others → AreReplaced (time_at_end p.0 ps + 1) ws others (new ws others rest))
       → Asked free from to w p ps → AreReplaced start (w ∷ ws) sides (new (w ∷ ws) sides ((p ∷ ps) ++ rest))
   next start w ws sides p ps rest is rising fit later (whole is_in not_split all) =
@@ -138,7 +139,7 @@ module _ (free : ℕ → Bool) (from to : ℕ) where
       let fit : FitSplit (split_figures free from to w) v × AllFit (split_windows free from to ws) sides = rw splits_it at fit in
       replaced-split start w ws v sides p ps rest is rising figures.more not_whole splits_it fit.0 (later sides fit.1)
 
-  pub replaced-all : (start : ℕ) (ws : List Window) (sides : List Sides) (values : List (ℕ × ℤ)) → AreOf ws values → RiseAtFree free start values
+  pub replaced-all : (start : ℕ) (ws : List Window) (sides : List Sides) (values : List Point) → AreOf ws values → RiseAtFree free start values
       → AllFit (split_windows free from to ws) sides → AreReplaced start ws sides (new ws sides values)
   replaced-all start [] [] values of rising fit =
       subst (AreReplaced start [] []) (sym of) (record { of = refl; rising = tt; count = refl; sum = refl })

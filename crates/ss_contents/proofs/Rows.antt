@@ -1,11 +1,11 @@
 -- Worked rows, each computed.
 use Rattle.std.specs.Prelude.{◌≡◌, ℕ, ◌≤◌, true, not, ℤ, pos, negsuc, IsTrue, List, [], ◌∷◌, ◌++◌, length, map, All, None, Some, codes}
+use Rattle.std.specs.Int.{bit_at}
 use Rattle.std.proofs.Common.{arith, lit≤, refl}
 use Rattle.std.proofs.lemmas.Int.{ints}
 use Rattle.ss_windowing.specs.Windowing.{window_index}
 use Rattle.ss_windowing.specs.declared.decay.TheConstants.{MOST_VALUES}
 use Rattle.ss_bounds.specs.Times.{lies_in}
-use Rattle.ss_catalog.specs.declared.event.Event.{Event}
 use Rattle.ss_catalog.specs.declared.event.Event.TheVariants.{Create, Value, Drop}
 use Rattle.ss_catalog.specs.declared.params.Params.TheVariants.{Exp}
 use Rattle.ss_catalog.specs.declared.query.Kind.{Kind}
@@ -14,19 +14,23 @@ use Rattle.ss_catalog.specs.declared.query.Query.{Query}
 use Rattle.ss_landmarks.specs.Free.{is_free}
 use Rattle.ss_landmarks.specs.Order.{AreLandmarks}
 use Rattle.ss_target.specs.Lengths.{has_target}
+use Rattle.ss_summary.specs.Points.{Point, New, Old}
+use Rattle.ss_summary.specs.Filters.{bit_of, filter_of, full, union, word}
+use Rattle.ss_model.specs.History.{added, Happened}
 use Rattle.ss_model.specs.Interval.{split_windows}
 use Rattle.ss_model.specs.Refusals.{IsHistory}
 use Rattle.ss_model.specs.State.{Stream, state, stream_named}
 use Rattle.ss_model.specs.Truth.{RiseAtFree}
+use Rattle.ss_model.specs.declared.types.Window.{Window}
 use Rattle.ss_contents.specs.Attained.{IsAttained, MayBeTrue, truth_of_kind}
-use Rattle.ss_contents.specs.Contents.{Contents, AreContents, IsSayableValue, Like, contents_of, count_in, sum_in, own_windows}
+use Rattle.ss_contents.specs.Contents.{Contents, AreContents, IsSayableValue, Like, contents_of, count_in, sum_in, own_windows, unfiltered_windows}
 use Rattle.ss_contents.specs.Rebuilt.{placed_at_times, placed, rebuilt}
 use Rattle.ss_contents.specs.Sides.{Sides, AllFit, count_inside, sum_inside}
 use Rattle.ss_contents.proofs.ContentsLemmas.{MayBeTrue-sum}
 
 -- seven values, whose windows are those of positions 1 to 4, 5 to 6, and 7
-abbrev seven : List (ℕ × ℤ)
-seven = (10, pos 5) ∷ (20, negsuc 2) ∷ (30, pos 8) ∷ (40, pos 1) ∷ (50, pos 9) ∷ (60, pos 2) ∷ (70, pos 7) ∷ []
+abbrev seven : List Point
+seven = (10, pos 5, New) ∷ (20, negsuc 2, New) ∷ (30, pos 8, New) ∷ (40, pos 1, New) ∷ (50, pos 9, New) ∷ (60, pos 2, New) ∷ (70, pos 7, New) ∷ []
 
 abbrev readings : Contents
 readings = record { params = Exp 2 1 1; plain = seven; landmarks = [] }
@@ -35,25 +39,25 @@ readings = record { params = Exp 2 1 1; plain = seven; landmarks = [] }
 abbrev a : List ℕ
 a = codes "a"
 
-abbrev history : List Event
+abbrev history : List Happened
 history =
-    Create a (Exp 2 1 1) ∷ Value a 10 (pos 5) ∷ Value a 20 (negsuc 2) ∷ Value a 30 (pos 8) ∷ Value a 40 (pos 1)
-    ∷ Value a 50 (pos 9) ∷ Value a 60 (pos 2) ∷ Value a 70 (pos 7) ∷ []
+    map added (Create a (Exp 2 1 1) ∷ Value a 10 (pos 5) ∷ Value a 20 (negsuc 2) ∷ Value a 30 (pos 8) ∷ Value a 40 (pos 1)
+    ∷ Value a 50 (pos 9) ∷ Value a 60 (pos 2) ∷ Value a 70 (pos 7) ∷ [])
 
 contents_of-history : map (contents_of history) (state history) ≡ readings ∷ []
 unfolding state window_index
 contents_of-history = refl
 
 -- a stream that is dropped and created again has what came since alone
-abbrev created_again : List Event
-created_again = history ++ Drop a ∷ Create a (Exp 2 1 1) ∷ Value a 5 (pos 1) ∷ []
+abbrev created_again : List Happened
+created_again = history ++ map added (Drop a ∷ Create a (Exp 2 1 1) ∷ Value a 5 (pos 1) ∷ [])
 
 contents_of-created_again : map (contents_of created_again) (state created_again) ≡
-    record { params = Exp 2 1 1; plain = (5, pos 1) ∷ []; landmarks = [] } ∷ []
+    record { params = Exp 2 1 1; plain = (5, pos 1, New) ∷ []; landmarks = [] } ∷ []
 unfolding state window_index
 contents_of-created_again = refl
 
-contents_of-dropped : map (contents_of (history ++ Drop a ∷ [])) (state (history ++ Drop a ∷ [])) ≡ []
+contents_of-dropped : map (contents_of (history ++ added (Drop a) ∷ [])) (state (history ++ added (Drop a) ∷ [])) ≡ []
 unfolding state window_index
 contents_of-dropped = refl
 
@@ -78,13 +82,29 @@ AllFit-least_sum = (
 )
 
 plain-least_sum : (rebuilt 10 25 least_sum readings).plain
-    ≡ (10, negsuc 2) ∷ (11, negsuc 1) ∷ (26, pos 8) ∷ (40, pos 8) ∷ (50, pos 9) ∷ (60, pos 2) ∷ (70, pos 7) ∷ []
+    ≡ (10, negsuc 2, New) ∷ (11, negsuc 1, New) ∷ (26, pos 8, New) ∷ (40, pos 8, New) ∷ (50, pos 9, New) ∷ (60, pos 2, New) ∷ (70, pos 7, New) ∷ []
 unfolding window_index
 plain-least_sum = refl
 
-windows-least_sum : own_windows (rebuilt 10 25 least_sum readings) ≡ own_windows readings
+windows-least_sum : unfiltered_windows (own_windows (rebuilt 10 25 least_sum readings)) ≡ unfiltered_windows (own_windows readings)
 unfolding window_index
 windows-least_sum = refl
+
+-- values that a store without filters took are like those that one with filters took, whose windows have other filters
+abbrev of_old : Contents
+of_old = record { params = Exp 2 1 1; plain = map (λ (p : Point). (p.0, p.1, Old)) seven; landmarks = [] }
+
+windows-of_old : unfiltered_windows (own_windows of_old) ≡ unfiltered_windows (own_windows readings)
+unfolding window_index
+windows-of_old = refl
+
+filters-of_old : map (λ (w : Window). w.summary.filter) (own_windows of_old) ≡ full ∷ full ∷ full ∷ []
+unfolding window_index full union
+filters-of_old = refl
+
+filters-readings : map (λ (w : Window). bit_at (word w.summary.filter 0) 23) (own_windows readings) ≡ 1 ∷ 0 ∷ 0 ∷ []
+unfolding window_index bit_of filter_of union
+filters-readings = refl
 
 sums-least_sum : map (sum_in 10 25) (readings ∷ rebuilt 10 25 least_sum readings ∷ []) ≡ pos 2 ∷ negsuc 4 ∷ []
 unfolding window_index
@@ -96,11 +116,11 @@ greatest_sum =
     record { inside = pos 8 ∷ pos 8 ∷ []; outside = negsuc 2 ∷ negsuc 1 ∷ [] } ∷ record { inside = pos 9 ∷ []; outside = pos 2 ∷ [] } ∷ []
 
 plain-greatest_sum : (rebuilt 25 55 greatest_sum readings).plain
-    ≡ (10, negsuc 2) ∷ (11, negsuc 1) ∷ (25, pos 8) ∷ (40, pos 8) ∷ (50, pos 9) ∷ (60, pos 2) ∷ (70, pos 7) ∷ []
+    ≡ (10, negsuc 2, New) ∷ (11, negsuc 1, New) ∷ (25, pos 8, New) ∷ (40, pos 8, New) ∷ (50, pos 9, New) ∷ (60, pos 2, New) ∷ (70, pos 7, New) ∷ []
 unfolding window_index
 plain-greatest_sum = refl
 
-windows-greatest_sum : own_windows (rebuilt 25 55 greatest_sum readings) ≡ own_windows readings
+windows-greatest_sum : unfiltered_windows (own_windows (rebuilt 25 55 greatest_sum readings)) ≡ unfiltered_windows (own_windows readings)
 unfolding window_index
 windows-greatest_sum = refl
 
@@ -136,7 +156,7 @@ AllFit-too_many fit = fit
 abbrev spanning : Contents
 spanning = record {
   params = Exp 2 1 1;
-  plain = (10, pos 1) ∷ (45, pos 3) ∷ (46, pos 3) ∷ (50, pos 2) ∷ (60, pos 9) ∷ (70, pos 2) ∷ (80, pos 7) ∷ [];
+  plain = (10, pos 1, New) ∷ (45, pos 3, New) ∷ (46, pos 3, New) ∷ (50, pos 2, New) ∷ (60, pos 9, New) ∷ (70, pos 2, New) ∷ (80, pos 7, New) ∷ [];
   landmarks = record { start = 20; finish = Some 40; values = record { t = 30; v = pos 100 } ∷ [] } ∷ [];
 }
 
@@ -144,7 +164,7 @@ abbrev around : List Sides
 around = record { inside = pos 3 ∷ pos 3 ∷ []; outside = pos 1 ∷ pos 2 ∷ [] } ∷ []
 
 plain-around : (rebuilt 19 42 around spanning).plain
-    ≡ (10, pos 1) ∷ (19, pos 3) ∷ (41, pos 3) ∷ (50, pos 2) ∷ (60, pos 9) ∷ (70, pos 2) ∷ (80, pos 7) ∷ []
+    ≡ (10, pos 1, New) ∷ (19, pos 3, New) ∷ (41, pos 3, New) ∷ (50, pos 2, New) ∷ (60, pos 9, New) ∷ (70, pos 2, New) ∷ (80, pos 7, New) ∷ []
 unfolding window_index
 plain-around = refl
 
@@ -159,12 +179,12 @@ sums-around = refl
 -- each time takes one value of its side, and those for which there is no time are left out; the last time keeps the last one
 placed_at_times-rows : map (λ (ts : List ℕ). placed_at_times (λ t. not (lies_in 12 12 t)) 11 13 ts (pos 1 ∷ pos 2 ∷ pos 3 ∷ []) (pos 7 ∷ []))
     ((10 ∷ 11 ∷ 12 ∷ 13 ∷ 14 ∷ []) ∷ (9 ∷ 10 ∷ []) ∷ []) ≡
-    ((10, pos 7) ∷ (11, pos 1) ∷ (13, pos 2) ∷ []) ∷ ((9, pos 7) ∷ []) ∷ []
+    ((10, pos 7, New) ∷ (11, pos 1, New) ∷ (13, pos 2, New) ∷ []) ∷ ((9, pos 7, New) ∷ []) ∷ []
 placed_at_times-rows = refl
 
 placed-rows : map (placed (λ t. true) 12 20 10 15)
     (record { inside = pos 1 ∷ pos 2 ∷ []; outside = pos 7 ∷ [] } ∷ record { inside = pos 1 ∷ []; outside = pos 7 ∷ pos 8 ∷ [] } ∷ []) ≡
-    ((10, pos 7) ∷ (12, pos 1) ∷ (15, pos 2) ∷ []) ∷ ((10, pos 7) ∷ (11, pos 8) ∷ (15, pos 1) ∷ []) ∷ []
+    ((10, pos 7, New) ∷ (12, pos 1, New) ∷ (15, pos 2, New) ∷ []) ∷ ((10, pos 7, New) ∷ (11, pos 8, New) ∷ (15, pos 1, New) ∷ []) ∷ []
 placed-rows = refl
 
 -- what may be held meets each of its conditions
@@ -184,13 +204,13 @@ landmarks-AreContents : (c : Contents) → AreContents c → AreLandmarks c.land
 landmarks-AreContents c sound = sound.landmarks
 
 -- a value at 2^62 can be said, and one after it can't, nor one of more than 64 bits
-IsSayableValue-last : IsSayableValue (4611686018427387904, negsuc 9223372036854775807)
+IsSayableValue-last : IsSayableValue (4611686018427387904, negsuc 9223372036854775807, New)
 IsSayableValue-last = (lit≤ tt, omega (arith, ints))
 
-IsSayableValue-late : IsSayableValue (4611686018427387905, pos 1) → ⊥
+IsSayableValue-late : IsSayableValue (4611686018427387905, pos 1, New) → ⊥
 IsSayableValue-late said = omega (arith, said.0)
 
-IsSayableValue-large : IsSayableValue (1, pos 9223372036854775808) → ⊥
+IsSayableValue-large : IsSayableValue (1, pos 9223372036854775808, New) → ⊥
 IsSayableValue-large said = (let fits = said.1 in omega (arith, ints))
 
 -- what can't be told apart is the same in each of these
@@ -203,7 +223,7 @@ landmarks-Like c d like = like.landmarks
 number-Like : (c d : Contents) → Like c d → length c.plain ≡ length d.plain
 number-Like c d like = like.number
 
-windows-Like : (c d : Contents) → Like c d → own_windows c ≡ own_windows d
+windows-Like : (c d : Contents) → Like c d → unfiltered_windows (own_windows c) ≡ unfiltered_windows (own_windows d)
 windows-Like c d like = like.windows
 
 -- what is attained is the truth of contents that can't be told from the actual ones

@@ -1,9 +1,9 @@
 -- What may be true of a stream, as far as what a store keeps of it tells.
 use Rattle.std.specs.Prelude.{◌≡◌, ℕ, ℤ, pos, List, Option, None, Some}
-use Rattle.ss_catalog.specs.declared.event.Event.{Event}
 use Rattle.ss_catalog.specs.declared.query.Kind.{Kind}
 use Rattle.ss_catalog.specs.declared.query.Kind.TheVariants as kinds
 use Rattle.ss_catalog.specs.declared.query.Query.{Query}
+use Rattle.ss_model.specs.History.{Happened}
 use Rattle.ss_model.specs.Refusals.{IsHistory}
 use Rattle.ss_model.specs.State.{Stream, state, stream_named}
 use Rattle.ss_contents.specs.Contents.{Contents, AreContents, Like, contents_of, count_in, sum_in}
@@ -22,6 +22,7 @@ truth_of_kind kinds.Count from to c = Some (pos (count_in from to c))
 truth_of_kind kinds.Sum from to c = Some (sum_in from to c)
 truth_of_kind kinds.Min from to c = None
 truth_of_kind kinds.Max from to c = None
+truth_of_kind (kinds.Has value) from to c = None
 
 -- contents like the actual ones have this true answer
 pub record IsTruthOfLike (actual : Contents) (query : Query) (answer : ℤ) : Type 0 where
@@ -34,5 +35,5 @@ pub record IsTruthOfLike (actual : Contents) (query : Query) (answer : ℤ) : Ty
 -- have this true answer.
 abbrev pub MayBeTrue : List Stream → Query → ℤ → Type 0
 MayBeTrue streams query answer =
-    (history : List Event) (s : Stream) → IsHistory history → state history ≡ streams → stream_named query.name streams ≡ Some s
+    (history : List Happened) (s : Stream) → IsHistory history → state history ≡ streams → stream_named query.name streams ≡ Some s
     → IsTruthOfLike (contents_of history s) query answer

@@ -1,9 +1,9 @@
 // Laws of what a stream may hold, each the contract of a function that does nothing.
 ghost use Rattle.std.specs.Prelude.{◌≡◌, ℕ, ◌+◌, ◌≤◌, pos, ◌+ℤ◌, ◌≤ℤ◌, List, All, Some};
-ghost use Rattle.ss_catalog.specs.declared.event.Event.{Event};
 ghost use Rattle.ss_catalog.specs.declared.query.Kind.TheVariants as kinds;
 ghost use Rattle.ss_catalog.specs.declared.query.Query.{Query};
 ghost use Rattle.ss_landmarks.specs.Free.{is_free};
+ghost use Rattle.ss_model.specs.History.{Happened};
 ghost use Rattle.ss_model.specs.Interval.{interval_of_count, interval_of_sum, known_count, known_sum, split_windows};
 ghost use Rattle.ss_model.specs.Marks.{marked_values};
 ghost use Rattle.ss_model.specs.Refusals.{IsHistory};
@@ -15,9 +15,9 @@ ghost use Rattle.ss_contents.specs.Sides.{AllFit, count_inside, Sides, sum_insid
 
 /// What a history gave a stream is something that a stream may hold, and the windows and landmarks of the stream are those of it.
 pub fn histories_give_contents()
-    ensures sound { (history : List Event) → IsHistory history → All (λ s. AreContents (contents_of history s)) (state history) }
-    ensures windows { (history : List Event) → All (λ s. own_windows (contents_of history s) ≡ s.windows) (state history) }
-    ensures landmarks { (history : List Event) → All (λ s. (contents_of history s).landmarks ≡ s.landmarks) (state history) }
+    ensures sound { (history : List Happened) → IsHistory history → All (λ s. AreContents (contents_of history s)) (state history) }
+    ensures windows { (history : List Happened) → All (λ s. own_windows (contents_of history s) ≡ s.windows) (state history) }
+    ensures landmarks { (history : List Happened) → All (λ s. (contents_of history s).landmarks ≡ s.landmarks) (state history) }
 {}
 
 /// The intervals that the windows of some contents give hold the truth over all contents that are like these.
@@ -48,11 +48,11 @@ pub fn rebuilt_is_like()
 /// So for each stream of a state, whatever history it is the state of: values that fit the windows that a range splits lie there in
 /// some contents like those that the history gave the stream.
 pub fn fitting_values_are_attained()
-    ensures each { (history : List Event) → IsHistory history →
+    ensures each { (history : List Happened) → IsHistory history →
         All (λ s. (from to : ℕ) (sides : List Sides) → AllFit (split_windows (is_free s.landmarks) from to s.windows) sides →
         IsAttained (contents_of history s) from to (known_count from to s.windows (marked_values s.landmarks) + count_inside sides)
         (known_sum from to s.windows (marked_values s.landmarks) +ℤ sum_inside sides)) (state history) }
-    ensures named { (history : List Event) (name : List ℕ) (s : Stream) (from to : ℕ) (sides : List Sides) → IsHistory history →
+    ensures named { (history : List Happened) (name : List ℕ) (s : Stream) (from to : ℕ) (sides : List Sides) → IsHistory history →
         stream_named name (state history) ≡ Some s → AllFit (split_windows (is_free s.landmarks) from to s.windows) sides →
         IsAttained (contents_of history s) from to (known_count from to s.windows (marked_values s.landmarks) + count_inside sides)
         (known_sum from to s.windows (marked_values s.landmarks) +ℤ sum_inside sides) }

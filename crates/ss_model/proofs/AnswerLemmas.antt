@@ -1,16 +1,16 @@
 -- What the answers of states hold.
-use Rattle.std.proofs.Common.{◌≡◌, ℕ, ℤ, Bool, true, false, List, [], map, refl, ap, sym, ◌∙◌, subst, Some, None, inl, inr, IsSome}
+use Rattle.std.proofs.Common.{◌≡◌, ℕ, Bool, true, false, List, [], map, refl, ap, sym, ◌∙◌, subst, Some, None, inl, inr, IsSome}
 use Rattle.std.specs.Prelude.{Option, option_map, is_some}
 use Rattle.std.specs.List.{filter}
 use Rattle.std.proofs.lemmas.Bool.{cases_Bool}
-use Rattle.ss_catalog.specs.declared.event.Event.{Event}
 use Rattle.ss_catalog.specs.declared.query.Kind.{Kind}
 use Rattle.ss_catalog.specs.declared.query.Kind.TheVariants as kinds
 use Rattle.ss_catalog.specs.declared.query.Query.{Query}
 use Rattle.ss_landmarks.specs.Free.{is_free}
 use Rattle.ss_target.specs.Lengths.{lengths_of}
+use Rattle.ss_summary.specs.Points.{Point}
 use Rattle.ss_model.specs.Answers.{HoldsTruth, IsExactOutcome, IsOfKind, answer_of, answer_of_kind, outcome_of, refuses_query, split_by}
-use Rattle.ss_model.specs.History.{landmarks_of, marked_of, values_of}
+use Rattle.ss_model.specs.History.{landmarks_of, marked_of, values_of, Happened}
 use Rattle.ss_model.specs.Interval.{is_split, split_figures, split_windows}
 use Rattle.ss_model.specs.Marks.{marked_values}
 use Rattle.ss_model.specs.Outline.{SameOutlines}
@@ -20,10 +20,11 @@ use Rattle.ss_model.specs.Truth.{RiseAtFree}
 use Rattle.ss_model.specs.Windows.{windows}
 use Rattle.ss_model.specs.declared.outcome.Outcome.{Outcome}
 use Rattle.ss_model.specs.declared.types.Window.{Window}
-use Rattle.ss_model.proofs.IntervalLemmas.{AreOf, count-lies, sum-lies, least-HoldsExtreme, greatest-HoldsExtreme, count-exact, sum-exact, least-exact}
-use Rattle.ss_model.proofs.IntervalLemmas.{greatest-exact}
+use Rattle.ss_model.proofs.IntervalLemmas.{AreExactlyOf, AreOf-exactly, count-lies, sum-lies, least-HoldsExtreme, greatest-HoldsExtreme}
+use Rattle.ss_model.proofs.IntervalLemmas.{count-exact, sum-exact, least-exact, greatest-exact}
 use Rattle.ss_model.proofs.OutlineLemmas.{read-outlines}
-use Rattle.ss_model.proofs.PieceLemmas.{AreOf-windows}
+use Rattle.ss_model.proofs.PieceLemmas.{AreExactlyOf-windows}
+use Rattle.ss_model.proofs.PresenceLemmas.{presence-holds}
 use Rattle.ss_model.proofs.RisingLemmas.{named-after, values-rise}
 
 -- what a choice gave it gave of something
@@ -32,22 +33,28 @@ mapped f None b same = cc
 mapped f (Some a) b same = (a, refl, cc)
 
 -- each kind of answer holds the truth
-kind-holds : (kind : Kind) (free : ℕ → Bool) (query : Query) (ws : List Window) (plain marked : List (ℕ × ℤ)) → AreOf ws plain
-    → RiseAtFree free 0 plain → HoldsTruth query plain marked (answer_of_kind kind free query.from query.to ws marked)
-kind-holds kinds.Count free query ws plain marked of rising = count-lies free query.from query.to ws plain marked 0 of rising
-kind-holds kinds.Sum free query ws plain marked of rising = sum-lies free query.from query.to ws plain marked 0 of rising
-kind-holds kinds.Min free query ws plain marked of rising = least-HoldsExtreme free query.from query.to ws plain marked 0 of rising
-kind-holds kinds.Max free query ws plain marked of rising = greatest-HoldsExtreme free query.from query.to ws plain marked 0 of rising
+kind-holds : (kind : Kind) (free : ℕ → Bool) (query : Query) (ws : List Window) (plain marked : List Point) → AreExactlyOf ws plain
+    → RiseAtFree free 0 plain → kind ≡ query.kind → HoldsTruth query plain marked (answer_of_kind kind free query.from query.to ws marked)
+kind-holds kinds.Count free query ws plain marked of rising is =
+    count-lies free query.from query.to ws plain marked 0 (AreOf-exactly ws plain of) rising
+kind-holds kinds.Sum free query ws plain marked of rising is =
+    sum-lies free query.from query.to ws plain marked 0 (AreOf-exactly ws plain of) rising
+kind-holds kinds.Min free query ws plain marked of rising is =
+    least-HoldsExtreme free query.from query.to ws plain marked 0 (AreOf-exactly ws plain of) rising
+kind-holds kinds.Max free query ws plain marked of rising is =
+    greatest-HoldsExtreme free query.from query.to ws plain marked 0 (AreOf-exactly ws plain of) rising
+kind-holds (kinds.Has v) free query ws plain marked of rising is =
+    (v, sym is, presence-holds v free query.from query.to ws plain marked 0 of rising)
 
 -- the answer of a stream that stands as a history leaves it
-stream-holds : (history : List Event) (query : Query) (c : Created) → IsHistory history
+stream-holds : (history : List Happened) (query : Query) (c : Created) → IsHistory history
     → HoldsTruth query (values_of history c.name) (marked_of history c.name) (answer_of query (stream_after history c))
 stream-holds history query c whole =
     let values = values_of history c.name in
     kind-holds query.kind (is_free (landmarks_of history c.name)) query (windows (lengths_of c.params) values) values (marked_of history c.name)
-    (AreOf-windows (lengths_of c.params) values) (values-rise history c.name whole)
+    (AreExactlyOf-windows (lengths_of c.params) values) (values-rise history c.name whole) refl
 
-pub answer-holds : (history : List Event) (query : Query) (outcome : Outcome) → IsHistory history → outcome_of (state history) query ≡ Some outcome
+pub answer-holds : (history : List Happened) (query : Query) (outcome : Outcome) → IsHistory history → outcome_of (state history) query ≡ Some outcome
     → HoldsTruth query (values_of history query.name) (marked_of history query.name) outcome
 unfolding outcome_of state
 answer-holds history query outcome whole answered =
@@ -58,12 +65,13 @@ answer-holds history query outcome whole answered =
     (stream-holds history query of.created whole) in
     subst (λ n. HoldsTruth query (values_of history n) (marked_of history n) outcome) of.named holds
 
-kind-is : (kind : Kind) (free : ℕ → Bool) (query : Query) (ws : List Window) (marked : List (ℕ × ℤ))
+kind-is : (kind : Kind) (free : ℕ → Bool) (query : Query) (ws : List Window) (marked : List Point)
     → IsOfKind kind (answer_of_kind kind free query.from query.to ws marked)
 kind-is kinds.Count free query ws marked = refl
 kind-is kinds.Sum free query ws marked = refl
 kind-is kinds.Min free query ws marked = refl
 kind-is kinds.Max free query ws marked = refl
+kind-is (kinds.Has v) free query ws marked = (v, refl)
 
 pub answer-kind : (streams : List Stream) (query : Query) (outcome : Outcome) → outcome_of streams query ≡ Some outcome → IsOfKind query.kind outcome
 unfolding outcome_of
@@ -72,12 +80,13 @@ answer-kind streams query outcome answered =
     subst (IsOfKind query.kind) s.2 (kind-is query.kind (is_free s.0.landmarks) query s.0.windows (marked_values s.0.landmarks))
 
 -- where nothing is split, nothing is left open
-kind-exact : (kind : Kind) (free : ℕ → Bool) (query : Query) (ws : List Window) (marked : List (ℕ × ℤ)) → split_windows free query.from query.to ws ≡ []
+kind-exact : (kind : Kind) (free : ℕ → Bool) (query : Query) (ws : List Window) (marked : List Point) → split_windows free query.from query.to ws ≡ []
     → IsExactOutcome (answer_of_kind kind free query.from query.to ws marked)
 kind-exact kinds.Count free query ws marked unsplit = count-exact free query.from query.to ws marked unsplit
 kind-exact kinds.Sum free query ws marked unsplit = sum-exact free query.from query.to ws marked unsplit
 kind-exact kinds.Min free query ws marked unsplit = least-exact free query.from query.to ws marked unsplit
 kind-exact kinds.Max free query ws marked unsplit = greatest-exact free query.from query.to ws marked unsplit
+kind-exact (kinds.Has v) free query ws marked unsplit = tt
 
 pub answer-exact : (streams : List Stream) (query : Query) (outcome : Outcome) → outcome_of streams query ≡ Some outcome
     → split_by streams query ≡ [] → IsExactOutcome outcome

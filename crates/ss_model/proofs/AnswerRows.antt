@@ -4,7 +4,6 @@ use Rattle.std.proofs.Common.{arith, refl}
 use Rattle.std.proofs.lemmas.Int.{ints}
 use Rattle.ss_windowing.specs.Windowing.{window_index}
 use Rattle.ss_power.specs.Power.{power_length}
-use Rattle.ss_catalog.specs.declared.event.Event.{Event}
 use Rattle.ss_catalog.specs.declared.event.Event.TheVariants.{Create, Value, Open, Close, Drop}
 use Rattle.ss_catalog.specs.declared.params.Params.{Params}
 use Rattle.ss_catalog.specs.declared.params.Params.TheVariants.{Exp, Power}
@@ -17,6 +16,8 @@ use Rattle.ss_catalog.specs.declared.refusal.Refusal.TheVariants.{Unknown, Range
 use Rattle.ss_bounds.specs.declared.extreme.Extreme.TheVariants.{Nothing, Sure, Maybe}
 use Rattle.ss_bounds.specs.Split.{SplitFigures, sum_interval}
 use Rattle.ss_landmarks.specs.Free.{is_free}
+use Rattle.ss_summary.specs.Points.{New}
+use Rattle.ss_model.specs.History.{Happened, added}
 use Rattle.ss_model.specs.Answers.{HoldsTruth, IsExactOutcome, IsOfKind, outcome_of, query_refusals, refuses_query}
 use Rattle.ss_model.specs.Interval.{IsExact, split_windows}
 use Rattle.ss_model.specs.Refusals.{refusals}
@@ -28,10 +29,10 @@ a : List ℕ
 a = codes "a"
 
 -- a stream and seven readings
-readings : List Event
-readings =
+readings : List Happened
+readings = map added (
     Create a (Exp 2 1 1) ∷ Value a 10 (pos 5) ∷ Value a 20 (negsuc 2) ∷ Value a 30 (pos 8) ∷ Value a 40 (pos 1)
-    ∷ Value a 50 (pos 9) ∷ Value a 60 (pos 2) ∷ Value a 70 (pos 7) ∷ []
+    ∷ Value a 50 (pos 9) ∷ Value a 60 (pos 2) ∷ Value a 70 (pos 7) ∷ [])
 
 query : Kind → ℕ → ℕ → Query
 query kind from to = record { name = a; kind = kind; from = from; to = to }
@@ -70,8 +71,8 @@ unfolding why refuses_query query state window_index readings a
 refusals-readings = refl
 
 -- where no stream stands there is no answer, and a stream without values answers all the same
-bare : List Event
-bare = Create a (Exp 2 1 1) ∷ []
+bare : List Happened
+bare = map added (Create a (Exp 2 1 1) ∷ [])
 
 answers-bare : map (outcome_of (state bare))
     (record { name = codes "x"; kind = kinds.Count; from = 0; to = 4 } ∷ query kinds.Count 0 4 ∷ query kinds.Sum 0 4 ∷ query kinds.Max 0 4 ∷ []) ≡
@@ -80,9 +81,9 @@ unfolding outcome_of query state window_index bare a
 answers-bare = refl
 
 -- four values at four times in one window of four: the free times are used up
-close_times : List Event
-close_times =
-    Create a (Power 1 0 1 4) ∷ Value a 10 (pos 4) ∷ Value a 11 (pos 4) ∷ Value a 12 (pos 6) ∷ Value a 13 (pos 6) ∷ []
+close_times : List Happened
+close_times = map added (
+    Create a (Power 1 0 1 4) ∷ Value a 10 (pos 4) ∷ Value a 11 (pos 4) ∷ Value a 12 (pos 6) ∷ Value a 13 (pos 6) ∷ [])
 
 answers-close_times : map (outcome_of (state close_times)) (query kinds.Count 10 11 ∷ query kinds.Sum 10 11 ∷ []) ≡
     Some (Count 2 2) ∷ Some (Sum (pos 8) (pos 12)) ∷ []
@@ -90,8 +91,8 @@ unfolding outcome_of query state power_length window_index sum_interval close_ti
 answers-close_times = refl
 
 -- a value in a landmark at one time, and a value after it
-at_one_time : List Event
-at_one_time = Create a (Exp 2 1 1) ∷ Open a 100 ∷ Value a 100 (pos 7) ∷ Close a 100 ∷ Value a 101 (pos 8) ∷ []
+at_one_time : List Happened
+at_one_time = map added (Create a (Exp 2 1 1) ∷ Open a 100 ∷ Value a 100 (pos 7) ∷ Close a 100 ∷ Value a 101 (pos 8) ∷ [])
 
 answers-at_one_time : map (outcome_of (state at_one_time))
     (query kinds.Sum 100 100 ∷ query kinds.Sum 101 101 ∷ query kinds.Count 100 101 ∷ query kinds.Max 0 200 ∷ query kinds.Min 0 99 ∷ []) ≡
@@ -100,10 +101,10 @@ unfolding outcome_of query state window_index sum_interval at_one_time a
 answers-at_one_time = refl
 
 -- a landmark from 20 to 40 within a window from 10 to 50
-around : List Event
-around =
+around : List Happened
+around = map added (
     Create a (Power 1 0 1 2) ∷ Value a 10 (pos 1) ∷ Open a 20 ∷ Value a 20 (pos 100) ∷ Value a 30 (pos 200) ∷ Close a 40
-    ∷ Value a 50 (pos 3) ∷ []
+    ∷ Value a 50 (pos 3) ∷ [])
 
 split_around : ℕ → ℕ → List (List SplitFigures)
 split_around from to = map (λ (s : Stream). split_windows (is_free s.landmarks) from to s.windows) (state around)
@@ -130,8 +131,8 @@ unfolding outcome_of query state power_length window_index sum_interval around a
 answers-around_part = refl
 
 -- the values of a landmark that is open are asked for like those of others
-begun : List Event
-begun = Create a (Exp 2 1 1) ∷ Value a 10 (pos 1) ∷ Open a 20 ∷ Value a 20 (pos 5) ∷ Value a 30 (pos 6) ∷ []
+begun : List Happened
+begun = map added (Create a (Exp 2 1 1) ∷ Value a 10 (pos 1) ∷ Open a 20 ∷ Value a 20 (pos 5) ∷ Value a 30 (pos 6) ∷ [])
 
 answers-begun : map (outcome_of (state begun)) (query kinds.Count 15 25 ∷ query kinds.Sum 10 30 ∷ query kinds.Max 31 40 ∷ []) ≡
     Some (Count 1 1) ∷ Some (Sum (pos 12) (pos 12)) ∷ Some (Max Nothing) ∷ []
@@ -140,7 +141,7 @@ answers-begun = refl
 
 -- of one value, 1 at time 5, an answer is wrong by one at either end
 abbrev holds_of_one : Kind → Outcome → Type 0
-holds_of_one kind outcome = HoldsTruth (record { name = []; kind = kind; from = 0; to = 9 }) ((5, pos 1) ∷ []) [] outcome
+holds_of_one kind outcome = HoldsTruth (record { name = []; kind = kind; from = 0; to = 9 }) ((5, pos 1, New) ∷ []) [] outcome
 
 truth-count_above : holds_of_one kinds.Count (Count 0 0) → ⊥
 truth-count_above holds = omega (arith, holds.1)

@@ -8,34 +8,35 @@ use Rattle.std.proofs.lemmas.Bool.Decides.{nat_tests}
 use Rattle.std.proofs.lemmas.Int.{ints, clamps}
 use Rattle.std.proofs.lemmas.List.Elements.{filter-append}
 use Rattle.std.proofs.lemmas.List.{map-append}
-use Rattle.ss_summary.specs.Figures.{Figures}
+use Rattle.ss_summary.specs.Figures.{AreAlike, Figures}
 use Rattle.ss_summary.specs.Summaries.{summary_of, least, greatest, time_at_end}
 use Rattle.ss_summary.specs.Summaries as summaries
 use Rattle.ss_bounds.specs.Extremes.{chosen}
 use Rattle.ss_bounds.specs.Times.{lies_in, split_of}
 use Rattle.ss_bounds.specs.Truth.{asked, values_alone, total, RiseFree, AreSplit}
+use Rattle.ss_summary.specs.Points.{Point}
 use Rattle.ss_model.specs.Interval.{is_whole, is_split, split_figures}
 use Rattle.ss_model.specs.Truth.{RiseAtFree}
 use Rattle.ss_model.specs.declared.types.Window.{Window}
 
 -- what a summary says of values is what they say one by one
-pub total-alone : (ps : List (ℕ × ℤ)) → summaries.total ps ≡ total (values_alone ps)
+pub total-alone : (ps : List Point) → summaries.total ps ≡ total (values_alone ps)
 total-alone [] = refl
 total-alone (p ∷ ps) = ap (λ z. p.1 +ℤ z) (total-alone ps)
 
-pub least-alone : (v : ℤ) (ps : List (ℕ × ℤ)) → least v ps ≡ chosen int_min v (values_alone ps)
+pub least-alone : (v : ℤ) (ps : List Point) → least v ps ≡ chosen int_min v (values_alone ps)
 least-alone v [] = refl
 least-alone v (p ∷ ps) = ap (int_min v) (least-alone p.1 ps)
 
-pub greatest-alone : (v : ℤ) (ps : List (ℕ × ℤ)) → greatest v ps ≡ chosen int_max v (values_alone ps)
+pub greatest-alone : (v : ℤ) (ps : List Point) → greatest v ps ≡ chosen int_max v (values_alone ps)
 greatest-alone v [] = refl
 greatest-alone v (p ∷ ps) = ap (int_max v) (greatest-alone p.1 ps)
 
-time_at_end-after : (free : ℕ → Bool) (p : ℕ × ℤ) (ps : List (ℕ × ℤ)) → RiseAtFree free (p.0 + 1) ps → p.0 ≤ time_at_end p.0 ps
+time_at_end-after : (free : ℕ → Bool) (p : Point) (ps : List Point) → RiseAtFree free (p.0 + 1) ps → p.0 ≤ time_at_end p.0 ps
 time_at_end-after free p [] rising = omega arith
 time_at_end-after free p (q ∷ qs) rising = omega (arith, rising.0, time_at_end-after free q qs rising.2)
 
-RiseFree-RiseAtFree : (free : ℕ → Bool) (m M : ℤ) (start : ℕ) (p : ℕ × ℤ) (ps : List (ℕ × ℤ)) → RiseAtFree free start (p ∷ ps)
+RiseFree-RiseAtFree : (free : ℕ → Bool) (m M : ℤ) (start : ℕ) (p : Point) (ps : List Point) → RiseAtFree free start (p ∷ ps)
     → m ≤ℤ least p.1 ps → greatest p.1 ps ≤ℤ M → RiseFree free m M start (p ∷ ps)
 RiseFree-RiseAtFree free m M start p [] rising low high = (rising.0, rising.1, low, high, tt)
 RiseFree-RiseAtFree free m M start p (q ∷ qs) rising low high = (
@@ -56,13 +57,13 @@ lies_in-after : (from to t : ℕ) → to < t → lies_in from to t ≡ false
 lies_in-after from to t after = grind (arith, nat_tests)
 
 -- the values of a list and then another
-pub asked-append : (from to : ℕ) (xs ys : List (ℕ × ℤ)) → asked from to (xs ++ ys) ≡ asked from to xs ++ asked from to ys
+pub asked-append : (from to : ℕ) (xs ys : List Point) → asked from to (xs ++ ys) ≡ asked from to xs ++ asked from to ys
 asked-append from to xs ys =
     ap values_alone (filter-append (λ p. lies_in from to p.0) xs ys) ∙
     map-append (λ p. p.1) (filter (λ p. lies_in from to p.0) xs) (filter (λ p. lies_in from to p.0) ys)
 
 module _ (free : ℕ → Bool) (from to : ℕ) where
-  asked-whole : (p : ℕ × ℤ) (ps : List (ℕ × ℤ)) → RiseAtFree free (p.0 + 1) ps → from ≤ p.0 → time_at_end p.0 ps ≤ to
+  asked-whole : (p : Point) (ps : List Point) → RiseAtFree free (p.0 + 1) ps → from ≤ p.0 → time_at_end p.0 ps ≤ to
       → asked from to (p ∷ ps) ≡ values_alone (p ∷ ps)
   asked-whole p [] rising begins ends =
       let here = lies_in-true from to p.0 begins ends in
@@ -74,7 +75,7 @@ module _ (free : ℕ → Bool) (from to : ℕ) where
       let rest = asked-whole q qs rising.2 (omega arith) ends in
       rw here (ap (λ z. p.1 ∷ z) rest)
 
-  asked-before : (p : ℕ × ℤ) (ps : List (ℕ × ℤ)) → RiseAtFree free (p.0 + 1) ps → time_at_end p.0 ps < from → asked from to (p ∷ ps) ≡ []
+  asked-before : (p : Point) (ps : List Point) → RiseAtFree free (p.0 + 1) ps → time_at_end p.0 ps < from → asked from to (p ∷ ps) ≡ []
   asked-before p [] rising before =
       let not_here = lies_in-before from to p.0 before in
       rw not_here refl
@@ -84,7 +85,7 @@ module _ (free : ℕ → Bool) (from to : ℕ) where
       let not_here : lies_in from to p.0 ≡ false = lies_in-before from to p.0 (omega arith) in
       rw not_here (asked-before q qs rising.2 before)
 
-  asked-after : (p : ℕ × ℤ) (ps : List (ℕ × ℤ)) → RiseAtFree free (p.0 + 1) ps → to < p.0 → asked from to (p ∷ ps) ≡ []
+  asked-after : (p : Point) (ps : List Point) → RiseAtFree free (p.0 + 1) ps → to < p.0 → asked from to (p ∷ ps) ≡ []
   asked-after p [] rising after =
       let not_here = lies_in-after from to p.0 after in
       rw not_here refl
@@ -94,13 +95,13 @@ module _ (free : ℕ → Bool) (from to : ℕ) where
       rw not_here (asked-after q qs rising.2 (omega arith))
 
   -- where a window of these values lies, with what a query asks of them
-  pub data Asked (w : Window) (p : ℕ × ℤ) (ps : List (ℕ × ℤ)) : Type 0 where
+  pub data Asked (w : Window) (p : Point) (ps : List Point) : Type 0 where
     whole : is_whole from to w ≡ true → is_split from to w ≡ false → asked from to (p ∷ ps) ≡ values_alone (p ∷ ps) → Asked w p ps
     apart : is_whole from to w ≡ false → is_split from to w ≡ false → asked from to (p ∷ ps) ≡ [] → Asked w p ps
     split : is_whole from to w ≡ false → is_split from to w ≡ true
         → AreSplit free from to p ps (split_figures free from to w) → Asked w p ps
 
-  split-of : (w : Window) (p : ℕ × ℤ) (ps : List (ℕ × ℤ)) → w.summary ≡ summary_of (p ∷ ps) → RiseAtFree free p.0 (p ∷ ps)
+  split-of : (w : Window) (p : Point) (ps : List Point) → AreAlike w.summary (summary_of (p ∷ ps)) → RiseAtFree free p.0 (p ∷ ps)
       → (first : ¬ ((from ≤ p.0) × (time_at_end p.0 ps ≤ to))) → from ≤ time_at_end p.0 ps → p.0 ≤ to
       → AreSplit free from to p ps (split_figures free from to w)
   split-of w p [] is rising not_whole late early = absurd (not_whole (late, early))
@@ -118,7 +119,7 @@ module _ (free : ℕ → Bool) (from to : ℕ) where
         is = λ i. split_of free from to (count i) (sum i) w.summary.min w.summary.max (first i) (last i);
       }
 
-  pub asked-of : (w : Window) (p : ℕ × ℤ) (ps : List (ℕ × ℤ)) → w.summary ≡ summary_of (p ∷ ps) → RiseAtFree free p.0 (p ∷ ps) → Asked w p ps
+  pub asked-of : (w : Window) (p : Point) (ps : List Point) → AreAlike w.summary (summary_of (p ∷ ps)) → RiseAtFree free p.0 (p ∷ ps) → Asked w p ps
   asked-of w p ps is rising =
       let last = ap (λ (f : Figures). f.t_last) is in
       let first = ap (λ (f : Figures). f.t_first) is in

@@ -1,5 +1,5 @@
 -- How many windows stand once those that are due are joined, and how long each is.
-use Rattle.std.proofs.Common.{◌≡◌, ℕ, zero, suc, ◌+◌, ◌-◌, ◌*◌, ◌/◌, ◌^◌, ◌<◌, ◌≤◌, ℤ, inl, inr, true, false, List, [], ◌∷◌, ◌++◌, length, take, drop}
+use Rattle.std.proofs.Common.{◌≡◌, ℕ, zero, suc, ◌+◌, ◌-◌, ◌*◌, ◌/◌, ◌^◌, ◌<◌, ◌≤◌, inl, inr, true, false, List, [], ◌∷◌, ◌++◌, length, take, drop}
 use Rattle.std.proofs.Common.{refl, arith, lit≤, add_assoc, add-one, append_assoc}
 use Rattle.std.proofs.Math.Nat.{div-one, pow-suc, one-le-pow}
 use Rattle.std.proofs.lemmas.List.{append-nil, length_push}
@@ -11,6 +11,7 @@ use Rattle.ss_windowing.specs.declared.decay.TheConstants.{MOST_VALUES}
 use Rattle.ss_windowing.specs.Windowing.{cut, window_index, ArePositive, NeverFall, fits}
 use Rattle.ss_windowing.proofs.WindowingLemmas.{cut-monotone, holds-window_index, window_index-monotone}
 use Rattle.ss_summary.specs.Summaries.{summary_of}
+use Rattle.ss_summary.specs.Points.{Point}
 use Rattle.ss_model.specs.Boundaries.{boundaries}
 use Rattle.ss_model.specs.Windows.{stretches, windows, taken}
 use Rattle.ss_model.specs.Closed.{last_position, joined_window, closed_onto, closed}
@@ -48,7 +49,7 @@ TileFrom-StandFrom first time (w ∷ ws) stands =
     let possible = stands.1 in
     (stands.0, possible.count_low, TileFrom-StandFrom (first + w.summary.count) (w.summary.t_last + 1) ws stands.3)
 
-TileFrom-stretches : (before end : ℕ) (bs : List ℕ) (values : List (ℕ × ℤ)) → before + length values ≡ end → Rises before bs end →
+TileFrom-stretches : (before end : ℕ) (bs : List ℕ) (values : List Point) → before + length values ≡ end → Rises before bs end →
     TileFrom (before + 1) (stretches (before + 1) bs values)
 TileFrom-stretches before end bs [] count rising = tt
 TileFrom-stretches before end [] (p ∷ ps) count rising = (refl, omega arith, tt)
@@ -62,7 +63,7 @@ TileFrom-stretches before end (b ∷ bs) (p ∷ ps) count rising =
     let next : before + 1 + (summary_of (take k (p ∷ ps))).count ≡ b + 1 = omega arith in
     (refl, omega arith, rw next (TileFrom-stretches b end bs (drop k (p ∷ ps)) back rising.1))
 
-TileFrom-windows : (len : ℕ → ℕ) (values : List (ℕ × ℤ)) → TileFrom 1 (windows len values)
+TileFrom-windows : (len : ℕ → ℕ) (values : List Point) → TileFrom 1 (windows len values)
 TileFrom-windows len [] = tt
 TileFrom-windows len (p ∷ ps) = TileFrom-stretches 0 (length (p ∷ ps)) (boundaries len (length (p ∷ ps))) (p ∷ ps) (omega arith)
     (Rises-boundaries len (length (p ∷ ps)) (omega arith))
@@ -172,25 +173,25 @@ length-closed len n ws tiles all some =
     length_tiles len n (closed len n ws) (TileFrom-closed len n ws (TileFrom-StandFrom 1 0 ws tiles.stand)) (NoneIsDue-closed len n ws tiles) some
 
 -- what holds of some values, and stays when one more is put after, holds whatever is put after
-by_pushes : (P : List (ℕ × ℤ) → Type 0) → ((us : List (ℕ × ℤ)) (p : ℕ × ℤ) → P us → P (us ++ p ∷ [])) →
-    (us vs : List (ℕ × ℤ)) → P us → P (us ++ vs)
+by_pushes : (P : List Point → Type 0) → ((us : List Point) (p : Point) → P us → P (us ++ p ∷ [])) →
+    (us vs : List Point) → P us → P (us ++ vs)
 by_pushes P step us [] given = rw append-nil given
 by_pushes P step us (p ∷ ps) given = rw (append_assoc us (p ∷ []) ps) at (by_pushes P step (us ++ p ∷ []) ps (step us p given))
 
-pub TileFrom-pushed : (len : ℕ → ℕ) (us : List (ℕ × ℤ)) (p : ℕ × ℤ) →
+pub TileFrom-pushed : (len : ℕ → ℕ) (us : List Point) (p : Point) →
     TileFrom 1 (windows len us ++ record { first = length us + 1; summary = summary_of (p ∷ []) } ∷ [])
 TileFrom-pushed len us p =
     TileFrom_push 1 (windows len us) (record { first = length us + 1; summary = summary_of (p ∷ []) }) (TileFrom-windows len us)
     (omega (arith, taken-windows len us)) (omega arith)
 
-pub NoneIsDue-windows : (len : ℕ → ℕ) (values : List (ℕ × ℤ)) → NoneIsDue len (length values) (windows len values)
+pub NoneIsDue-windows : (len : ℕ → ℕ) (values : List Point) → NoneIsDue len (length values) (windows len values)
 NoneIsDue-windows len values =
     by_pushes (λ us. NoneIsDue len (length us) (windows len us))
     (λ us p _. rw (windows_push len us p, length_push us p)
     (NoneIsDue-tiles len (length us + 1) (windows len us ++ record { first = length us + 1; summary = summary_of (p ∷ []) } ∷ []) (TileFrom-pushed len us p)))
     [] values tt
 
-pub length-windows : (len : ℕ → ℕ) (values : List (ℕ × ℤ)) → 0 < length values →
+pub length-windows : (len : ℕ → ℕ) (values : List Point) → 0 < length values →
     length (windows len values) + 1 ≤ 2 * cover len (length values)
 length-windows len values some =
     length_tiles len (length values) (windows len values) (TileFrom-windows len values) (NoneIsDue-windows len values) some
@@ -241,7 +242,7 @@ IsWithinTarget-later : (len : ℕ → ℕ) (n : ℕ) (w : Window) → NeverFall 
 IsWithinTarget-later len n w rising within =
     omega (arith, within, len-monotone len _ _ rising (window_index-monotone len (n - last_position w) (n + 1 - last_position w) (omega arith)))
 
-pub IsWithinTarget-windows : (len : ℕ → ℕ) (values : List (ℕ × ℤ)) → ArePositive len → NeverFall len →
+pub IsWithinTarget-windows : (len : ℕ → ℕ) (values : List Point) → ArePositive len → NeverFall len →
     All (IsWithinTarget len (length values)) (windows len values)
 IsWithinTarget-windows len values full rising =
     by_pushes (λ us. All (IsWithinTarget len (length us)) (windows len us))

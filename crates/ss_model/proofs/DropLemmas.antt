@@ -19,7 +19,7 @@ use Rattle.ss_model.specs.ClosedState.{closed_state, closed_stream}
 use Rattle.ss_model.specs.Refusals.{refuses, stands}
 use Rattle.ss_model.specs.Standing.{IsState, IsStream}
 use Rattle.ss_model.specs.State.{Stream, live, names_of, numbers_of, records_of, stream_named}
-use Rattle.ss_model.specs.Steps.{ack_of, said_of, stepped, without_named}
+use Rattle.ss_model.specs.Steps.{ack_of, said_of, stepped, without_named, stepped_from}
 use Rattle.ss_model.proofs.NameLemmas.{same_name-Decides, same_name-differ, same_name-same, same_name-swap}
 use Rattle.ss_model.proofs.FoundLemmas.{IsFound, stands-others}
 use Rattle.ss_model.proofs.StepLemmas.{filter-map}
@@ -94,7 +94,7 @@ closed_state-without name streams = sym (filter-map (λ s. not (same_name name s
 -- a state with nothing left to join has nothing left to join without the stream
 pub closed_state-dropped : (name : List ℕ) (streams : List Stream) → closed_state streams ≡ streams →
     closed_state (stepped streams (Drop name)) ≡ stepped streams (Drop name)
-unfolding stepped
+unfolding stepped_from
 closed_state-dropped name streams closed = closed_state-without name streams ∙ ap (without_named name) closed
 
 pub stream_named-dropped : (name : List ℕ) (streams : List Stream) → stream_named name (without_named name streams) ≡ None

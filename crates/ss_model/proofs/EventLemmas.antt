@@ -9,7 +9,8 @@ use Rattle.ss_catalog.specs.Names.{same_name}
 use Rattle.ss_catalog.specs.declared.event.Event.{Event}
 use Rattle.ss_catalog.specs.declared.event.Event.TheVariants.{Create, Value, Open, Close, Drop}
 use Rattle.ss_catalog.specs.declared.params.Params.{Params}
-use Rattle.ss_model.specs.History.{is_for, creates, events_of, given_after, given_to, nothing_given}
+use Rattle.ss_summary.specs.Points.{Origin}
+use Rattle.ss_model.specs.History.{is_for, creates, events_of, given_after, given_to, nothing_given, Happened}
 
 suffix_len-push_yes : {X : Type 0} (p : X → Bool) (xs : List X) (x : X) → p x ≡ true → suffix_len p (xs ++ x ∷ []) ≡ 1 + suffix_len p xs
 suffix_len-push_yes p xs x passes = rw (reverse-append xs (x ∷ []), passes) refl
@@ -33,20 +34,20 @@ after_last-push_no p xs x fails =
     rw k (drop-append-le (length xs - suffix_len (λ y. not (p y)) xs) xs (x ∷ []) (omega arith))
 
 -- a stream that is created has been given nothing
-pub given_to-created : (history : List Event) (name : List ℕ) (params : Params) → same_name name name ≡ true →
-    given_to (history ++ Create name params ∷ []) name ≡ nothing_given
-given_to-created history name params same =
-    rw (after_last-push_yes (creates name) history (Create name params) same) refl
+pub given_to-created : (history : List Happened) (name : List ℕ) (params : Params) (origin : Origin) → same_name name name ≡ true →
+    given_to (history ++ (Create name params, origin) ∷ []) name ≡ nothing_given
+given_to-created history name params origin same =
+    rw (after_last-push_yes (λ e. creates name e.0) history (Create name params, origin) same) refl
 
 -- an event of the stream that doesn't create it comes last
-pub given_to-event : (history : List Event) (name : List ℕ) (event : Event) → is_for name event ≡ true → creates name event ≡ false →
-    given_to (history ++ event ∷ []) name ≡ given_after (given_to history name) event
-given_to-event history name event own spared =
+pub given_to-event : (history : List Happened) (name : List ℕ) (event : Event) (origin : Origin) → is_for name event ≡ true → creates name event ≡ false →
+    given_to (history ++ (event, origin) ∷ []) name ≡ given_after origin (given_to history name) event
+given_to-event history name event origin own spared =
     rw (
-      after_last-push_no (creates name) history event spared,
-      filter-append (is_for name) (after_last (creates name) history) (event ∷ []),
+      after_last-push_no (λ e. creates name e.0) history (event, origin) spared,
+      filter-append (λ e. is_for name e.0) (after_last (λ e. creates name e.0) history) ((event, origin) ∷ []),
       own,
-      fold-append given_after nothing_given (events_of history name) (event ∷ []),
+      fold-append (λ given (e : Happened). given_after e.1 given e.0) nothing_given (events_of history name) ((event, origin) ∷ []),
     ) refl
 
 -- an event for another stream creates none
@@ -58,13 +59,13 @@ creates-no name (Close other t) fails = refl
 creates-no name (Drop other) fails = refl
 
 -- an event for another stream gives none
-pub given_to-other : (history : List Event) (name : List ℕ) (event : Event) → is_for name event ≡ false →
-    given_to (history ++ event ∷ []) name ≡ given_to history name
-given_to-other history name event fails =
+pub given_to-other : (history : List Happened) (name : List ℕ) (event : Event) (origin : Origin) → is_for name event ≡ false →
+    given_to (history ++ (event, origin) ∷ []) name ≡ given_to history name
+given_to-other history name event origin fails =
     let spared : creates name event ≡ false = creates-no name event fails in
     rw (
-      after_last-push_no (creates name) history event spared,
-      filter-append (is_for name) (after_last (creates name) history) (event ∷ []),
+      after_last-push_no (λ e. creates name e.0) history (event, origin) spared,
+      filter-append (λ e. is_for name e.0) (after_last (λ e. creates name e.0) history) ((event, origin) ∷ []),
       fails,
       append-nil (events_of history name),
     ) refl

@@ -2,8 +2,7 @@
 use Rattle.std.proofs.Common.{◌≡◌, List, [], ◌∷◌, ◌++◌, refl, sym, None, append_assoc, subst, inl, inr}
 use Rattle.std.specs.Prelude.{◌⊎◌}
 use Rattle.std.proofs.lemmas.List.{append-nil}
-use Rattle.ss_catalog.specs.declared.event.Event.{Event}
-use Rattle.ss_model.specs.History.{CanBeSaid}
+use Rattle.ss_model.specs.History.{CanBeSaid, Happened}
 use Rattle.ss_model.specs.Refusals.{IsHistory, refuses}
 use Rattle.ss_model.specs.Standing.{IsState}
 use Rattle.ss_model.specs.State.{state}
@@ -43,15 +42,15 @@ IsHistory-nil = record {
 }
 
 -- one event after a history
-pub record GoesOn (history : List Event) (event : Event) : Type 0 where
+pub record GoesOn (history : List Happened) (event : Happened) : Type 0 where
   pub before : IsHistory history
-  pub said : CanBeSaid event
-  pub accepted : refuses (state history) event ≡ None
+  pub said : CanBeSaid event.0
+  pub accepted : refuses (state history) event.0 ≡ None
 
-pub IsHistory_push : (history : List Event) (event : Event) → GoesOn history event → IsHistory (history ++ event ∷ [])
+pub IsHistory_push : (history : List Happened) (event : Happened) → GoesOn history event → IsHistory (history ++ event ∷ [])
 IsHistory_push history event on = record {
   said = λ before after e same. elim (split_push history event before e after same) [
-    | inl last ↦ subst (λ x. CanBeSaid x) last.last on.said
+    | inl last ↦ subst (λ (x : Happened). CanBeSaid x.0) last.last on.said
     | inr earlier ↦ on.before.said before earlier.rest e earlier.front
   ];
   accepted = λ before after e same. elim (split_push history event before e after same) [
@@ -60,7 +59,7 @@ IsHistory_push history event on = record {
   ];
 }
 
-pub GoesOn-push : (history : List Event) (event : Event) → IsHistory (history ++ event ∷ []) → GoesOn history event
+pub GoesOn-push : (history : List Happened) (event : Happened) → IsHistory (history ++ event ∷ []) → GoesOn history event
 GoesOn-push history event whole = record {
   before = record {
     said = λ before after e same. whole.said before (after ++ event ∷ []) e (rw same (append_assoc before (e ∷ after) (event ∷ [])));
@@ -75,11 +74,12 @@ pub by_pushes : {X : Type 0} (P : List X → Type 0) → ((us : List X) (x : X) 
 by_pushes P step us [] given = rw (append-nil us) given
 by_pushes P step us (x ∷ xs) given = rw (append_assoc us (x ∷ []) xs) at (by_pushes P step (us ++ x ∷ []) xs (step us x given))
 
-pub IsState-state : (history : List Event) → IsHistory history → IsState (state history)
+pub IsState-state : (history : List Happened) → IsHistory history → IsState (state history)
 unfolding state
 IsState-state history =
     by_pushes (λ us. IsHistory us → IsState (state us))
     (λ us event before whole.
     let on = GoesOn-push us event whole in
-    subst (λ ss. IsState ss) (sym (state-push us event on.accepted)) (IsState-stepped (state us) event (before on.before) on.said on.accepted))
+    subst (λ ss. IsState ss) (sym (state-push us event.0 event.1 on.accepted))
+    (IsState-stepped event.1 (state us) event.0 (before on.before) on.said on.accepted))
     [] history (λ none. IsState-nil)

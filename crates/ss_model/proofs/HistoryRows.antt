@@ -8,14 +8,17 @@ use Rattle.ss_catalog.specs.declared.event.Event.TheVariants.{Create, Value, Ope
 use Rattle.ss_catalog.specs.declared.params.Params.TheVariants.{Exp, Power}
 use Rattle.ss_catalog.specs.declared.refusal.Refusal.{Refusal}
 use Rattle.ss_catalog.specs.declared.refusal.Refusal.TheVariants.{Param, Exists, Streams, Unknown, Time, StreamFull}
-use Rattle.ss_model.specs.History.{CanBeSaid, Given, given_after, landmarks_of, values_of}
+use Rattle.ss_summary.specs.Filters.{bit_of, filter_of, full, union}
+use Rattle.ss_summary.specs.Points.{New, Old, Origin}
+use Rattle.ss_model.specs.History.{CanBeSaid, Given, Happened, added, given_after, landmarks_of, values_of}
 use Rattle.ss_model.specs.State.{Stream, state, next_number, live, last_time}
 use Rattle.ss_model.specs.Refusals.{IsHistory, refuses, refuses_reading, has_all_records, has_all_streams}
 use Rattle.ss_model.specs.Standing.{IsState}
-use Rattle.ss_model.specs.Steps.{ack_of, stepped, without_named}
+use Rattle.ss_model.specs.Steps.{ack_of, stepped, stepped_from, without_named}
 use Rattle.ss_model.specs.Shown.{row_of, placed_of}
 use Rattle.ss_model.specs.declared.types.Window.{Window}
 use Rattle.ss_model.specs.declared.types.TheConstants.{MOST_RECORDS}
+use Rattle.ss_model.proofs.Rows.{readings_windows}
 use Rattle.ss_model.proofs.HistoryLemmas.{GoesOn-push, IsHistory-nil, IsHistory_push}
 
 most_records : MOST_RECORDS ≡ 2 ^ 20
@@ -25,20 +28,13 @@ a : List ℕ
 a = codes "a"
 
 -- a stream and seven readings
-readings : List Event
-readings =
+readings : List Happened
+readings = map added (
     Create a (Exp 2 1 1) ∷ Value a 10 (pos 5) ∷ Value a 20 (negsuc 2) ∷ Value a 30 (pos 8) ∷ Value a 40 (pos 1)
-    ∷ Value a 50 (pos 9) ∷ Value a 60 (pos 2) ∷ Value a 70 (pos 7) ∷ []
-
-readings_windows : List Window
-readings_windows =
-    record { first = 1; summary = record { count = 4; sum = pos 11; min = negsuc 2; max = pos 8; t_first = 10; t_last = 40 } }
-    ∷ record { first = 5; summary = record { count = 2; sum = pos 11; min = pos 2; max = pos 9; t_first = 50; t_last = 60 } }
-    ∷ record { first = 7; summary = record { count = 1; sum = pos 7; min = pos 7; max = pos 7; t_first = 70; t_last = 70 } }
-    ∷ []
+    ∷ Value a 50 (pos 9) ∷ Value a 60 (pos 2) ∷ Value a 70 (pos 7) ∷ [])
 
 state-readings : state readings ≡ record { number = 0; name = a; params = Exp 2 1 1; windows = readings_windows; landmarks = [] } ∷ []
-unfolding state window_index readings readings_windows a
+unfolding state window_index readings a bit_of filter_of union
 state-readings = refl
 
 -- ok 0 0, ok 1 1, ok 2 2, ok 3 2, ok 4 3, ok 5 3, ok 6 4, ok 7 3
@@ -50,7 +46,6 @@ acks-readings = refl
 
 -- windows a, list
 shown-windows : map (λ w. (placed_of w).last) readings_windows ≡ 4 ∷ 6 ∷ 7 ∷ []
-unfolding readings_windows
 shown-windows = refl
 
 shown-list : map row_of (state readings) ≡
@@ -77,8 +72,8 @@ unfolding refuses_reading state window_index readings a
 reading-readings = refl
 
 -- after the greatest time, every later append is past it
-greatest_time : List Event
-greatest_time = readings ++ Value a (2 ^ 62) (negsuc (2 ^ 63 - 1)) ∷ []
+greatest_time : List Happened
+greatest_time = readings ++ added (Value a (2 ^ 62) (negsuc (2 ^ 63 - 1))) ∷ []
 
 refusals-greatest_time : map (refuses (state greatest_time)) (Value a (2 ^ 62) (pos 1) ∷ Value a 0 (pos 1) ∷ []) ≡ Some Time ∷ Some Time ∷ []
 unfolding refuses state window_index readings greatest_time a
@@ -89,13 +84,13 @@ unfolding state window_index readings greatest_time a
 ack-greatest_time = refl
 
 -- each stream has its own values, and the windows that its own parameters give
-two_streams : List Event
-two_streams =
+two_streams : List Happened
+two_streams = map added (
     Create a (Exp 2 1 1) ∷ Value a 5 (pos 1) ∷ Create (codes "b") (Exp 2 1 2) ∷ Value (codes "b") 1 (pos 2) ∷ Value a 6 (pos 3)
-    ∷ Value (codes "b") 2 (pos 4) ∷ []
+    ∷ Value (codes "b") 2 (pos 4) ∷ [])
 
 values-two_streams : map (values_of two_streams) (a ∷ codes "b" ∷ codes "x" ∷ []) ≡
-    ((5, pos 1) ∷ (6, pos 3) ∷ []) ∷ ((1, pos 2) ∷ (2, pos 4) ∷ []) ∷ [] ∷ []
+    ((5, pos 1, New) ∷ (6, pos 3, New) ∷ []) ∷ ((1, pos 2, New) ∷ (2, pos 4, New) ∷ []) ∷ [] ∷ []
 unfolding two_streams a
 values-two_streams = refl
 
@@ -108,7 +103,7 @@ unfolding state window_index two_streams a
 last_times-two_streams = refl
 
 steps-two_streams : stepped (state (take 5 two_streams)) (Value (codes "b") 2 (pos 4)) ≡ state two_streams
-unfolding stepped state window_index two_streams a
+unfolding stepped_from state window_index two_streams a
 steps-two_streams = refl
 
 -- numbers rise also where some are missing
@@ -128,7 +123,7 @@ full_stream = record {
   number = 0;
   name = a;
   params = Exp 2 1 1;
-  windows = record { first = 1; summary = record { count = 2 ^ 40; sum = pos 0; min = pos 0; max = pos 0; t_first = 1; t_last = 2 ^ 40 } } ∷ [];
+  windows = record { first = 1; summary = record { count = 2 ^ 40; sum = pos 0; min = pos 0; max = pos 0; t_first = 1; t_last = 2 ^ 40; filter = full } } ∷ [];
   landmarks = [];
 } ∷ []
 
@@ -144,7 +139,7 @@ almost_full = record {
   name = a;
   params = Exp 2 1 1;
   windows =
-      record { first = 1; summary = record { count = 2 ^ 40 - 1; sum = pos 0; min = pos 0; max = pos 0; t_first = 1; t_last = 2 ^ 40 } } ∷ [];
+      record { first = 1; summary = record { count = 2 ^ 40 - 1; sum = pos 0; min = pos 0; max = pos 0; t_first = 1; t_last = 2 ^ 40; filter = full } } ∷ [];
   landmarks = [];
 } ∷ []
 
@@ -175,10 +170,10 @@ b : List ℕ
 b = codes "b"
 
 -- a name is dropped and created again
-created_again : List Event
-created_again =
+created_again : List Happened
+created_again = map added (
     Create a (Exp 2 1 1) ∷ Value a 5 (pos 1) ∷ Create b (Exp 2 1 2) ∷ Value b 1 (pos 2) ∷ Drop a ∷ Create a (Exp 2 1 1) ∷ Value a 3 (pos 9)
-    ∷ Open a 4 ∷ []
+    ∷ Open a 4 ∷ [])
 
 -- the new stream comes last, with a number that none had: that of the dropped one is below the greatest and isn't used again
 numbers-created_again : map (λ k. map (λ s. s.number) (state (take k created_again))) (4 ∷ 5 ∷ 6 ∷ []) ≡
@@ -188,7 +183,7 @@ numbers-created_again = refl
 
 one_value : ℕ → ℕ → Window
 one_value t v =
-    record { first = 1; summary = record { count = 1; sum = pos v; min = pos v; max = pos v; t_first = t; t_last = t } }
+    record { first = 1; summary = record { count = 1; sum = pos v; min = pos v; max = pos v; t_first = t; t_last = t; filter = filter_of (pos v) } }
 
 state-created_again : state created_again ≡
     record { number = 1; name = b; params = Exp 2 1 2; windows = one_value 1 2 ∷ []; landmarks = [] }
@@ -204,7 +199,7 @@ state-created_again = refl
 
 -- the values of a name are those since its last create
 values-created_again : map (λ k. values_of (take k created_again) a) (4 ∷ 5 ∷ 6 ∷ 7 ∷ []) ≡
-    ((5, pos 1) ∷ []) ∷ ((5, pos 1) ∷ []) ∷ [] ∷ ((3, pos 9) ∷ []) ∷ []
+    ((5, pos 1, New) ∷ []) ∷ ((5, pos 1, New) ∷ []) ∷ [] ∷ ((3, pos 9, New) ∷ []) ∷ []
 unfolding created_again a b
 values-created_again = refl
 
@@ -237,7 +232,7 @@ unfolding refuses state window_index created_again a b
 refusals-created_again = refl
 
 steps-created_again : stepped (state (take 4 created_again)) (Drop a) ≡ state (take 5 created_again)
-unfolding stepped state window_index created_again a b
+unfolding stepped_from state window_index created_again a b
 steps-created_again = refl
 
 without-created_again : map (λ name. map (λ s. s.number) (without_named name (state created_again))) (a ∷ b ∷ codes "x" ∷ []) ≡
@@ -246,7 +241,7 @@ unfolding state window_index created_again a b
 without-created_again = refl
 
 -- the number after the greatest that stands: that of a dropped stream, where none of a greater number stands
-numbers-greatest : map (λ events. map (λ s. s.number) (state (Create a (Exp 2 1 1) ∷ events)))
+numbers-greatest : map (λ events. map (λ s. s.number) (state (map added (Create a (Exp 2 1 1) ∷ events))))
     ((Create b (Exp 2 1 1) ∷ Drop b ∷ Create (codes "c") (Exp 2 1 1) ∷ []) ∷ (Create b (Exp 2 1 1) ∷ Drop a ∷ Create (codes "c") (Exp 2 1 1) ∷ [])
     ∷ (Drop a ∷ Create b (Exp 2 1 1) ∷ []) ∷ (Drop a ∷ []) ∷ []) ≡
     (0 ∷ 1 ∷ []) ∷ (1 ∷ 2 ∷ []) ∷ (0 ∷ []) ∷ [] ∷ []
@@ -254,8 +249,8 @@ unfolding state window_index a b
 numbers-greatest = refl
 
 -- what a name was given isn't changed by its drop, and each drop can be said
-given-drop : (given : Given) → given_after given (Drop a) ≡ given
-given-drop given = refl
+given-drop : (origin : Origin) (given : Given) → given_after origin given (Drop a) ≡ given
+given-drop origin given = refl
 
 said-drop : (name : List ℕ) → CanBeSaid (Drop name)
 said-drop name = tt
@@ -266,25 +261,25 @@ unfolding refuses full_stream almost_full bare a
 refusals-drop_full = refl
 
 -- a history may drop what stands, and nothing else
-history-drop : IsHistory (Create a (Exp 2 1 1) ∷ Drop a ∷ [])
+history-drop : IsHistory (map added (Create a (Exp 2 1 1) ∷ Drop a ∷ []))
 unfolding refuses state window_index a
 history-drop =
-    IsHistory_push (Create a (Exp 2 1 1) ∷ []) (Drop a) (record {
-      before = IsHistory_push [] (Create a (Exp 2 1 1)) (record { before = IsHistory-nil; said = tt; accepted = refl });
+    IsHistory_push (map added (Create a (Exp 2 1 1) ∷ [])) (added (Drop a)) (record {
+      before = IsHistory_push [] (added (Create a (Exp 2 1 1))) (record { before = IsHistory-nil; said = tt; accepted = refl });
       said = tt;
       accepted = refl;
     })
 
-history-drop_unknown : IsHistory (Create a (Exp 2 1 1) ∷ Drop b ∷ []) → ⊥
+history-drop_unknown : IsHistory (map added (Create a (Exp 2 1 1) ∷ Drop b ∷ [])) → ⊥
 unfolding refuses state window_index a b
 history-drop_unknown whole =
-    let wrong : Some Unknown ≡ None = (GoesOn-push (Create a (Exp 2 1 1) ∷ []) (Drop b) whole).accepted in
+    let wrong : Some Unknown ≡ None = (GoesOn-push (map added (Create a (Exp 2 1 1) ∷ [])) (added (Drop b)) whole).accepted in
     cc
 
 -- an open landmark goes with its stream: a value after the next create is one outside landmarks, at whatever time
-dropped_open : List Event
-dropped_open =
-    Create a (Exp 2 1 1) ∷ Value a 5 (pos 1) ∷ Open a 6 ∷ Value a 6 (pos 2) ∷ Drop a ∷ Create a (Power 1 0 1 2) ∷ Value a 1 (pos 9) ∷ []
+dropped_open : List Happened
+dropped_open = map added (
+    Create a (Exp 2 1 1) ∷ Value a 5 (pos 1) ∷ Open a 6 ∷ Value a 6 (pos 2) ∷ Drop a ∷ Create a (Power 1 0 1 2) ∷ Value a 1 (pos 9) ∷ [])
 
 landmarks-dropped_open : map (λ k. length (landmarks_of (take k dropped_open) a)) (4 ∷ 6 ∷ 7 ∷ []) ≡ 1 ∷ 0 ∷ 0 ∷ []
 unfolding dropped_open a
@@ -304,5 +299,26 @@ refusals-dropped_open = refl
 refusals-last_dropped : map (λ streams. refuses streams (Create b (Exp 2 1 1)))
     ((bare 4294967295 ∷ []) ∷ stepped (bare 4294967295 ∷ []) (Drop a) ∷ replicate 4096 (bare 1) ∷ stepped (replicate 4096 (bare 1)) (Drop a) ∷ []) ≡
     Some Streams ∷ None ∷ Some Streams ∷ None ∷ []
-unfolding refuses stepped bare a b
+unfolding refuses stepped_from bare a b
 refusals-last_dropped = refl
+
+-- ---- values that are old
+
+-- a store without filters took the first two values, and one with filters the third
+grown : List Happened
+grown = (Create a (Exp 2 1 1), Old) ∷ (Value a 5 (pos 1), Old) ∷ (Value a 6 (pos 2), Old) ∷ added (Value a 7 (pos 3)) ∷ []
+
+values-grown : values_of grown a ≡ (5, pos 1, Old) ∷ (6, pos 2, Old) ∷ (7, pos 3, New) ∷ []
+unfolding grown a
+values-grown = refl
+
+-- the window of the old ones has all bits, and that of the new one the bit of its value
+filters-grown : map (λ s. map (λ (w : Window). w.summary.filter) s.windows) (state grown) ≡ (full ∷ filter_of (pos 3) ∷ []) ∷ []
+unfolding state window_index grown a bit_of filter_of full union
+filters-grown = refl
+
+-- an event takes its place with where it is from
+steps-grown : stepped_from Old (state (take 2 grown)) (Value a 6 (pos 2)) ∷ stepped (state (take 3 grown)) (Value a 7 (pos 3)) ∷ [] ≡
+    state (take 3 grown) ∷ state grown ∷ []
+unfolding stepped_from state window_index grown a bit_of filter_of full union
+steps-grown = refl

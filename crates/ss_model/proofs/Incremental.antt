@@ -1,10 +1,11 @@
 -- The windows of one more value are those before and the new value, joined where they lie in one target window.
-use Rattle.std.proofs.Common.{◌≡◌, ℕ, ◌+◌, ◌-◌, ◌<◌, ◌≤◌, ℤ, Bool, true, false, cond, List, [], ◌∷◌, ◌++◌, length, take, drop, refl, ap, sym, ◌∙◌}
+use Rattle.std.proofs.Common.{◌≡◌, ℕ, ◌+◌, ◌-◌, ◌<◌, ◌≤◌, Bool, true, false, cond, List, [], ◌∷◌, ◌++◌, length, take, drop, refl, ap, sym, ◌∙◌}
 use Rattle.std.proofs.Common.{arith, add-one, append_assoc, length-append}
 use Rattle.std.proofs.lemmas.Bool.{eqb-true}
 use Rattle.std.proofs.lemmas.List.{take-append-drop, length_push}
 use Rattle.ss_windowing.specs.Windowing.{window_index, fits}
 use Rattle.ss_summary.specs.Summaries.{summary_of, joined}
+use Rattle.ss_summary.specs.Points.{Point}
 use Rattle.ss_model.specs.Boundaries.{staying, boundaries}
 use Rattle.ss_model.specs.Windows.{stretches, windows}
 use Rattle.ss_model.specs.Closed.{last_position, joined_window, closed_onto, closed}
@@ -26,7 +27,7 @@ index_of_between len a b c low high same = omega (arith, window_index-monotone l
 
 -- One test. The window from after `a` to b lies in one target window or is one old window from after `c`, and that
 -- after it ends at d.
-closed_onto_step : (len : ℕ → ℕ) (n a c b d : ℕ) (cs : List ℕ) (xs front ys : List (ℕ × ℤ)) (vs : List Window) →
+closed_onto_step : (len : ℕ → ℕ) (n a c b d : ℕ) (cs : List ℕ) (xs front ys : List Point) (vs : List Window) →
     a ≤ c → c < b → b < d → d ≤ n → a + length xs ≡ b → b + length front ≡ d →
     window_index len (n - (a + 1)) ≡ window_index len (n - (c + 1)) →
     (window_index len (n - (a + 1)) ≡ window_index len (n - (b + 1)) →
@@ -48,7 +49,7 @@ closed_onto_step len n a c b d cs xs front ys vs from_run from_old rises within 
     ∙ together (index_of_between len (n - d) (n - (b + 1)) (n - (a + 1)) (omega arith) (omega arith) ends))
     (λ (unfit : fits len (c + 1) d n ≡ false). ap (λ ws. w ∷ ws) apart ∙ sym (stretches_at a b cs xs ys run_count (omega arith)))
 
-closed_onto-stretches : (len : ℕ → ℕ) (n a c b : ℕ) (bs : List ℕ) (xs ys : List (ℕ × ℤ)) →
+closed_onto-stretches : (len : ℕ → ℕ) (n a c b : ℕ) (bs : List ℕ) (xs ys : List Point) →
     a ≤ c → c < b → a + length xs ≡ b → b + length ys ≡ n → Rises b bs n →
     window_index len (n - (a + 1)) ≡ window_index len (n - (c + 1)) →
     closed_onto len n (record { first = a + 1; summary = summary_of xs }) (stretches (b + 1) bs ys)
@@ -59,8 +60,8 @@ closed_onto-stretches len n a c b [] xs (y ∷ ys) from_run from_old run_count r
     (λ one. sym (stretches_none (a + 1) (xs ++ y ∷ ys) (omega (arith, length-append xs (y ∷ ys))))) refl
 closed_onto-stretches len n a c b (d ∷ ds) xs (y ∷ ys) from_run from_old run_count rest_count rising same =
     let k = d + 1 - (b + 1) in
-    let front : List (ℕ × ℤ) = take k (y ∷ ys) in
-    let back : List (ℕ × ℤ) = drop k (y ∷ ys) in
+    let front : List Point = take k (y ∷ ys) in
+    let back : List Point = drop k (y ∷ ys) in
     let above = rising.0 in
     let below = Rises-low d ds n rising.1 in
     let front_count = length-front b d n (y ∷ ys) rest_count above below in
@@ -74,7 +75,7 @@ closed_onto-stretches len n a c b (d ∷ ds) xs (y ∷ ys) from_run from_old run
     ∙ ap (λ zs. stretches (b + 1) cs zs) whole)
 
 -- joining what is due among the windows of any rising boundaries
-closed-stretches : (len : ℕ → ℕ) (n b : ℕ) (bs : List ℕ) (values : List (ℕ × ℤ)) → length values ≡ n → Rises 0 (b ∷ bs) n →
+closed-stretches : (len : ℕ → ℕ) (n b : ℕ) (bs : List ℕ) (values : List Point) → length values ≡ n → Rises 0 (b ∷ bs) n →
     closed len n (stretches 1 (b ∷ bs) values) ≡ stretches 1 (staying len n 0 (b ∷ bs)) values
 closed-stretches len n b bs [] count rising = let low = Rises-low 0 (b ∷ bs) n rising in absurd (omega arith)
 closed-stretches len n b bs (p ∷ ps) count rising =
@@ -84,12 +85,12 @@ closed-stretches len n b bs (p ∷ ps) count rising =
     closed_onto-stretches len n 0 0 b bs (take (b + 1 - 1) (p ∷ ps)) (drop (b + 1 - 1) (p ∷ ps)) (omega arith) rising.0 (omega arith) back rising.1 refl
     ∙ ap (λ zs. stretches 1 (staying len n 0 (b ∷ bs)) zs) (take-append-drop (b + 1 - 1) (p ∷ ps))
 
-closed-pushed : (len : ℕ → ℕ) (n m : ℕ) (bs : List ℕ) (values : List (ℕ × ℤ)) → length values ≡ n → Rises 0 (bs ++ m ∷ []) n →
+closed-pushed : (len : ℕ → ℕ) (n m : ℕ) (bs : List ℕ) (values : List Point) → length values ≡ n → Rises 0 (bs ++ m ∷ []) n →
     closed len n (stretches 1 (bs ++ m ∷ []) values) ≡ stretches 1 (staying len n 0 (bs ++ m ∷ [])) values
 closed-pushed len n m [] values count rising = closed-stretches len n m [] values count rising
 closed-pushed len n m (b ∷ bs) values count rising = closed-stretches len n b (bs ++ m ∷ []) values count rising
 
-pub windows_push : (len : ℕ → ℕ) (values : List (ℕ × ℤ)) (p : ℕ × ℤ) →
+pub windows_push : (len : ℕ → ℕ) (values : List Point) (p : Point) →
     windows len (values ++ p ∷ [])
     ≡ closed len (length values + 1) (windows len values ++ record { first = length values + 1; summary = summary_of (p ∷ []) } ∷ [])
 windows_push len [] p = refl

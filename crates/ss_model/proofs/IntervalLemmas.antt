@@ -5,7 +5,7 @@ use Rattle.std.proofs.Common.{ap, ap₂, arith, refl, sym, ◌∙◌, subst}
 use Rattle.std.proofs.lemmas.Int.{ints, clamps}
 use Rattle.std.proofs.lemmas.List.{length-append}
 use Rattle.std.proofs.lemmas.List.Sums.{sum_by-cons}
-use Rattle.ss_summary.specs.Figures.{Figures}
+use Rattle.ss_summary.specs.Figures.{AreAlike, Figures, unfiltered}
 use Rattle.ss_summary.specs.Summaries.{summary_of}
 use Rattle.ss_bounds.specs.Split.{SplitFigures, least_count, greatest_count, sum_interval}
 use Rattle.ss_bounds.specs.Either.{either, choice_in, lesser, greater, least_in, greatest_in}
@@ -14,18 +14,30 @@ use Rattle.ss_bounds.proofs.ChoiceLemmas.{IsChoice, IsChoice-min, IsChoice-max, 
 use Rattle.ss_bounds.specs.Extremes.{min_interval, max_interval}
 use Rattle.ss_bounds.proofs.ExtremeLemmas.{min_interval-HoldsExtreme, max_interval-HoldsExtreme}
 use Rattle.ss_bounds.proofs.TruthLemmas.{asked-MayLieThere, asked-sum}
+use Rattle.ss_summary.specs.Points.{Point}
 use Rattle.ss_model.specs.Interval.{is_whole, is_split, whole_windows, split_windows, split_figures, interval_of_count, interval_of_sum}
 use Rattle.ss_model.specs.Interval.{interval_of_least, interval_of_greatest, IsExact}
 use Rattle.ss_model.specs.Truth.{true_count, true_sum, true_least, true_greatest, RiseAtFree}
 use Rattle.ss_model.specs.declared.types.Window.{Window}
 use Rattle.ss_model.proofs.AskedLemmas.{Asked, whole, apart, split, asked-of, asked-append, total-alone, least-alone, greatest-alone}
 
--- the windows are of these values, each window of some of them
-abbrev pub AreOf : List Window → List (ℕ × ℤ) → Type 0
-AreOf [] values = values ≡ []
-AreOf (w ∷ ws) values =
-    (p : ℕ × ℤ) × (ps : List (ℕ × ℤ)) × (rest : List (ℕ × ℤ)) × (values ≡ (p ∷ ps) ++ rest)
-    × (w.summary ≡ summary_of (p ∷ ps)) × AreOf ws rest
+-- the windows are of these values, each window of some of them, whose figures the window has in some sense
+abbrev pub ArePartsOf : (Figures → Figures → Type 0) → List Window → List Point → Type 0
+ArePartsOf HasFigures [] values = values ≡ []
+ArePartsOf HasFigures (w ∷ ws) values =
+    (p : Point) × (ps : List Point) × (rest : List Point) × (values ≡ (p ∷ ps) ++ rest)
+    × HasFigures w.summary (summary_of (p ∷ ps)) × ArePartsOf HasFigures ws rest
+
+-- apart from filters, and with them
+abbrev pub AreOf : List Window → List Point → Type 0
+AreOf = ArePartsOf AreAlike
+
+abbrev pub AreExactlyOf : List Window → List Point → Type 0
+AreExactlyOf = ArePartsOf (λ f g. f ≡ g)
+
+pub AreOf-exactly : (ws : List Window) (values : List Point) → AreExactlyOf ws values → AreOf ws values
+AreOf-exactly [] values of = of
+AreOf-exactly (w ∷ ws) values of = (of.0, of.1, of.2, of.3, ap unfiltered of.4, AreOf-exactly ws of.2 of.5)
 
 -- each sum of values of a split window lies in its interval
 abbrev SumsLie : List (SplitFigures × List ℤ) → Type 0
@@ -96,13 +108,39 @@ choice-last {choice} is comm known last values front is_parted =
     ∙ sym (either-assoc is (choice_in choice known) (choice_in choice last) (choice_in choice values))
     ∙ ap (λ z. either choice z (choice_in choice values)) (sym (choice_in-append is known last))
 
-length-alone : (ps : List (ℕ × ℤ)) → length (values_alone ps) ≡ length ps
+length-alone : (ps : List Point) → length (values_alone ps) ≡ length ps
 length-alone [] = refl
 length-alone (p ∷ ps) = ap suc (length-alone ps)
 
+module _ (free : ℕ → Bool) where
+  RiseAtFree-front : (start : ℕ) (xs ys : List Point) → RiseAtFree free start (xs ++ ys) → RiseAtFree free start xs
+  RiseAtFree-front start [] ys rising = tt
+  RiseAtFree-front start (x ∷ xs) ys rising = (rising.0, rising.1, RiseAtFree-front (x.0 + 1) xs ys rising.2)
+
+  RiseAtFree-back : (start : ℕ) (xs ys : List Point) → RiseAtFree free start (xs ++ ys) → (later : ℕ) × RiseAtFree free later ys
+  RiseAtFree-back start [] ys rising = (start, rising)
+  RiseAtFree-back start (x ∷ xs) ys rising = RiseAtFree-back (x.0 + 1) xs ys rising.2
+
+  -- what holds of no windows, and of one more of some of the values, holds of all
+  pub over-windows : (HasFigures : Figures → Figures → Type 0) (Holds : List Window → List Point → Type 0) → Holds [] []
+      → ((w : Window) (ws : List Window) (p : Point) (ps rest : List Point) → HasFigures w.summary (summary_of (p ∷ ps))
+      → RiseAtFree free p.0 (p ∷ ps) → Holds ws rest → Holds (w ∷ ws) ((p ∷ ps) ++ rest))
+      → (ws : List Window) (values : List Point) (start : ℕ) → ArePartsOf HasFigures ws values → RiseAtFree free start values → Holds ws values
+  over-windows HasFigures Holds none next [] values start of rising = subst (λ z. Holds [] z) (sym of) none
+  over-windows HasFigures Holds none next (w ∷ ws) values start of rising =
+      let p = of.0 in
+      let ps = of.1 in
+      let rest = of.2 in
+      let cut = of.3 in
+      let rising = subst (λ z. RiseAtFree free start z) cut rising in
+      let front = RiseAtFree-front start (p ∷ ps) rest rising in
+      let back = RiseAtFree-back start (p ∷ ps) rest rising in
+      subst (λ z. Holds (w ∷ ws) z) (sym cut)
+      (next w ws p ps rest of.4 (omega arith, front.1, front.2) (over-windows HasFigures Holds none next ws rest back.0 of.5 back.1))
+
 module _ (free : ℕ → Bool) (from to : ℕ) where
   -- the values asked for are those of the whole windows and those of each window that the range splits
-  record Parted (ws : List Window) (values : List (ℕ × ℤ)) : Type 0 where
+  record Parted (ws : List Window) (values : List Point) : Type 0 where
     splits : List (SplitFigures × List ℤ)
     windows : windows_alone splits ≡ split_windows free from to ws
     may : MayAllLieThere splits
@@ -124,7 +162,7 @@ module _ (free : ℕ → Bool) (from to : ℕ) where
     greatest = refl;
   }
 
-  parted-apart : (w : Window) (ws : List Window) (front rest : List (ℕ × ℤ)) → is_whole from to w ≡ false → is_split from to w ≡ false
+  parted-apart : (w : Window) (ws : List Window) (front rest : List Point) → is_whole from to w ≡ false → is_split from to w ≡ false
       → asked from to front ≡ [] → Parted ws rest → Parted (w ∷ ws) (front ++ rest)
   parted-apart w ws front rest not_whole not_split none later =
       let values : asked from to (front ++ rest) ≡ asked from to rest = asked-append from to front rest ∙ ap (λ z. z ++ asked from to rest) none in
@@ -139,7 +177,7 @@ module _ (free : ℕ → Bool) (from to : ℕ) where
         greatest = rw (values, not_whole) later.greatest;
       }
 
-  parted-split : (w : Window) (ws : List Window) (p : ℕ × ℤ) (ps rest : List (ℕ × ℤ)) → is_whole from to w ≡ false → is_split from to w ≡ true
+  parted-split : (w : Window) (ws : List Window) (p : Point) (ps rest : List Point) → is_whole from to w ≡ false → is_split from to w ≡ true
       → AreSplit free from to p ps (split_figures free from to w) → Parted ws rest → Parted (w ∷ ws) ((p ∷ ps) ++ rest)
   parted-split w ws p ps rest not_whole splits_it figures later =
       let front = asked from to (p ∷ ps) in
@@ -158,7 +196,7 @@ module _ (free : ℕ → Bool) (from to : ℕ) where
         greatest = rw (values, not_whole) (choice-beside IsChoice-max max-comm front behind inner _ later.greatest);
       }
 
-  parted-whole : (w : Window) (ws : List Window) (p : ℕ × ℤ) (ps rest : List (ℕ × ℤ)) → w.summary ≡ summary_of (p ∷ ps)
+  parted-whole : (w : Window) (ws : List Window) (p : Point) (ps rest : List Point) → AreAlike w.summary (summary_of (p ∷ ps))
       → is_whole from to w ≡ true → is_split from to w ≡ false → asked from to (p ∷ ps) ≡ values_alone (p ∷ ps)
       → Parted ws rest → Parted (w ∷ ws) ((p ∷ ps) ++ rest)
   parted-whole w ws p ps rest is is_in not_split all later =
@@ -183,32 +221,15 @@ module _ (free : ℕ → Bool) (from to : ℕ) where
         greatest = rw (values, is_in) (choice-ahead IsChoice-max front behind (maxs_of known) inner w.summary.max (ap Some (sym max)) later.greatest);
       }
 
-  RiseAtFree-front : (start : ℕ) (xs ys : List (ℕ × ℤ)) → RiseAtFree free start (xs ++ ys) → RiseAtFree free start xs
-  RiseAtFree-front start [] ys rising = tt
-  RiseAtFree-front start (x ∷ xs) ys rising = (rising.0, rising.1, RiseAtFree-front (x.0 + 1) xs ys rising.2)
-
-  RiseAtFree-back : (start : ℕ) (xs ys : List (ℕ × ℤ)) → RiseAtFree free start (xs ++ ys) → (later : ℕ) × RiseAtFree free later ys
-  RiseAtFree-back start [] ys rising = (start, rising)
-  RiseAtFree-back start (x ∷ xs) ys rising = RiseAtFree-back (x.0 + 1) xs ys rising.2
-
-  parted-next : (w : Window) (ws : List Window) (p : ℕ × ℤ) (ps rest : List (ℕ × ℤ)) → w.summary ≡ summary_of (p ∷ ps)
+  parted-next : (w : Window) (ws : List Window) (p : Point) (ps rest : List Point) → AreAlike w.summary (summary_of (p ∷ ps))
       → Asked free from to w p ps → Parted ws rest → Parted (w ∷ ws) ((p ∷ ps) ++ rest)
   parted-next w ws p ps rest is (whole is_in not_split all) later = parted-whole w ws p ps rest is is_in not_split all later
   parted-next w ws p ps rest is (apart not_whole not_split none) later = parted-apart w ws (p ∷ ps) rest not_whole not_split none later
   parted-next w ws p ps rest is (split not_whole splits_it figures) later = parted-split w ws p ps rest not_whole splits_it figures later
 
-  parted-all : (ws : List Window) (values : List (ℕ × ℤ)) (start : ℕ) → AreOf ws values → RiseAtFree free start values → Parted ws values
-  parted-all [] values start of rising = subst (λ z. Parted [] z) (sym of) parted-none
-  parted-all (w ∷ ws) values start of rising =
-      let p = of.0 in
-      let ps = of.1 in
-      let rest = of.2 in
-      let cut = of.3 in
-      let rising = subst (λ z. RiseAtFree free start z) cut rising in
-      let front = RiseAtFree-front start (p ∷ ps) rest rising in
-      let back = RiseAtFree-back start (p ∷ ps) rest rising in
-      let which = asked-of free from to w p ps of.4 (omega arith, front.1, front.2) in
-      subst (λ z. Parted (w ∷ ws) z) (sym cut) (parted-next w ws p ps rest of.4 which (parted-all ws rest back.0 of.5 back.1))
+  parted-all : (ws : List Window) (values : List Point) (start : ℕ) → AreOf ws values → RiseAtFree free start values → Parted ws values
+  parted-all = over-windows free AreAlike Parted parted-none
+      (λ w ws p ps rest is rising later. parted-next w ws p ps rest is (asked-of free from to w p ps is rising) later)
 
 -- what the split windows say of all their values together
 counts-lie : (splits : List (SplitFigures × List ℤ)) → MayAllLieThere splits
@@ -232,7 +253,7 @@ sums-lie (w ∷ ws) lie =
     (omega (arith, ints, lie.0, rest.0), omega (arith, ints, lie.1, rest.1))
 
 -- the answers hold the truth
-module _ (free : ℕ → Bool) (from to : ℕ) (ws : List Window) (plain marked : List (ℕ × ℤ)) (start : ℕ) (of : AreOf ws plain)
+module _ (free : ℕ → Bool) (from to : ℕ) (ws : List Window) (plain marked : List Point) (start : ℕ) (of : AreOf ws plain)
     (rising : RiseAtFree free start plain) where
   pub count-lies : ((interval_of_count free from to ws marked).0 ≤ true_count from to plain marked)
       × (true_count from to plain marked ≤ (interval_of_count free from to ws marked).1)
@@ -287,7 +308,7 @@ max_table-exact None = tt
 max_table-exact (Some e) = refl
 
 -- where the range splits no window, nothing is left open
-module _ (free : ℕ → Bool) (from to : ℕ) (ws : List Window) (marked : List (ℕ × ℤ)) (unsplit : split_windows free from to ws ≡ []) where
+module _ (free : ℕ → Bool) (from to : ℕ) (ws : List Window) (marked : List Point) (unsplit : split_windows free from to ws ≡ []) where
   pub count-exact : (interval_of_count free from to ws marked).0 ≡ (interval_of_count free from to ws marked).1
   count-exact = rw unsplit refl
 

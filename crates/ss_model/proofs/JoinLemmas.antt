@@ -1,5 +1,5 @@
 -- Joining windows that are due: what it leads to, and what it leaves.
-use Rattle.std.proofs.Common.{◌≡◌, ℕ, zero, suc, ◌+◌, ◌-◌, ◌==◌, Bool, true, false, cond, List, [], ◌∷◌, ◌++◌, refl, sym, ap, ◌∙◌, subst, ℤ, length}
+use Rattle.std.proofs.Common.{◌≡◌, ℕ, zero, suc, ◌+◌, ◌-◌, ◌==◌, Bool, true, false, cond, List, [], ◌∷◌, ◌++◌, refl, sym, ap, ◌∙◌, subst, length}
 use Rattle.std.proofs.Common.{arith, append_assoc, length-append}
 use Rattle.std.specs.Prelude.{IsTrue}
 use Rattle.std.specs.List.{list_all}
@@ -9,6 +9,7 @@ use Rattle.ss_windowing.specs.Windowing.{window_index, fits}
 use Rattle.ss_landmarks.specs.Landmark.{Landmark}
 use Rattle.ss_summary.specs.Summaries.{summary_of}
 use Rattle.ss_summary.proofs.SummaryLemmas.{joined_assoc, IsPossible-joined}
+use Rattle.ss_summary.specs.Points.{Point}
 use Rattle.ss_model.specs.Windows.{windows, taken, newest_time}
 use Rattle.ss_model.specs.Closed.{last_position, joined_window, closed_onto, closed}
 use Rattle.ss_model.specs.Decay.{NoneIsDue}
@@ -123,10 +124,10 @@ closed-none_due len n (w ∷ ws) none = closed_onto-none_due len n w ws none
 pub closed-closed : (len : ℕ → ℕ) (n : ℕ) (ws : List Window) → AreWindows ws → closed len n (closed len n ws) ≡ closed len n ws
 closed-closed len n ws tiles = closed-none_due len n (closed len n ws) (NoneIsDue-closed len n ws tiles)
 
-pub closed-windows : (len : ℕ → ℕ) (values : List (ℕ × ℤ)) → closed len (length values) (windows len values) ≡ windows len values
+pub closed-windows : (len : ℕ → ℕ) (values : List Point) → closed len (length values) (windows len values) ≡ windows len values
 closed-windows len values = closed-none_due len (length values) (windows len values) (NoneIsDue-windows len values)
 
-pub closed-interrupted : (len : ℕ → ℕ) (values : List (ℕ × ℤ)) (p : ℕ × ℤ) (ws : List Window) →
+pub closed-interrupted : (len : ℕ → ℕ) (values : List Point) (p : Point) (ws : List Window) →
     JoinsDue len (length values + 1) (windows len values ++ record { first = length values + 1; summary = summary_of (p ∷ []) } ∷ []) ws →
     closed len (length values + 1) ws ≡ windows len (values ++ p ∷ [])
 closed-interrupted len values p ws joins =

@@ -3,6 +3,7 @@ mod HistoryRows
 mod MarkRows
 mod QueryRows
 mod AnswerRows
+mod PresenceRows
 mod SeriesRows
 pub mod Rises
 pub mod Stretches
@@ -23,9 +24,11 @@ pub mod ReadLemmas
 pub mod WithinLemmas
 pub mod JoinLemmas
 pub mod OutlineLemmas
+pub mod OriginLemmas
 pub mod AskedLemmas
 pub mod IntervalLemmas
 pub mod PieceLemmas
+pub mod PresenceLemmas
 pub mod RisingLemmas
 pub mod AnswerLemmas
 pub mod RowLemmas

@@ -12,6 +12,7 @@ use Rattle.ss_landmarks.proofs.Counting.{among-all, among-same}
 use Rattle.ss_landmarks.proofs.OrderLemmas.{cases-finish}
 use Rattle.ss_landmarks.proofs.TimeLemmas.{free-add}
 use Rattle.ss_summary.specs.Figures.{IsPossible}
+use Rattle.ss_summary.specs.Points.{Point}
 use Rattle.ss_model.specs.Closed.{joined_window}
 use Rattle.ss_model.specs.Marks.{has_open, later, latest_in, latest_of, lies_free, with_closed, with_marked, with_opened}
 use Rattle.ss_model.specs.Steps.{single_window}
@@ -269,10 +270,11 @@ unfolding lies_free
 lies_free-LiesFree ls w lies = rw (lies.first, lies.last) (le-leb w.summary.count (free ls w.summary.t_first w.summary.t_last) lies.few)
 
 -- a value at a free time lies free
-pub lies_free-single : (ls : List Landmark) (position t : ℕ) (v : ℤ) → is_free ls t ≡ true → lies_free ls (single_window position t v) ≡ true
-lies_free-single ls position t v is =
+pub lies_free-single : (ls : List Landmark) (position : ℕ) (p : Point) → is_free ls p.0 ≡ true → lies_free ls (single_window position p) ≡ true
+lies_free-single ls position p is =
+    let t = p.0 in
     let one : free ls t t ≡ t + 1 - t = among-all (is_free ls) t (t + 1 - t) (λ u low high. let here : u ≡ t = omega arith in ap (is_free ls) here ∙ is) in
-    lies_free-LiesFree ls (single_window position t v) (record { first = is; last = is; few = omega (arith, one) })
+    lies_free-LiesFree ls (single_window position p) (record { first = is; last = is; few = omega (arith, one) })
 
 -- two that lie free lie so as one
 pub lies_free-joined : (ls : List Landmark) (w v : Window) → AreNeighbours w v → IsPossible w.summary → IsPossible v.summary →

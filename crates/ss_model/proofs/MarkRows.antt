@@ -9,51 +9,68 @@ use Rattle.ss_catalog.specs.declared.params.Params.TheVariants.{Exp, Power}
 use Rattle.ss_catalog.specs.declared.refusal.Refusal.{Refusal}
 use Rattle.ss_catalog.specs.declared.refusal.Refusal.TheVariants as refusal
 use Rattle.ss_landmarks.specs.Landmark.{Landmark, opened_at}
-use Rattle.ss_model.specs.History.{landmarks_of, marked_of, values_of}
+use Rattle.ss_summary.specs.Filters.{filter_of, full, union}
+use Rattle.ss_summary.specs.Points.{New, Old}
+use Rattle.ss_model.specs.History.{landmarks_of, marked_of, values_of, Happened, added}
 use Rattle.ss_model.specs.Marks.{has_open, lies_free}
 use Rattle.ss_model.specs.Refusals.{first_that_applies, is_before, of_named, refuses, stands}
 use Rattle.ss_model.specs.Shown.{row_of}
 use Rattle.ss_model.specs.State.{Stream, last_time, live, state}
-use Rattle.ss_model.specs.Steps.{ack_of, stepped}
+use Rattle.ss_model.specs.Steps.{ack_of, stepped, stepped_from}
 use Rattle.ss_model.specs.declared.types.Window.{Window}
 
 b : List ℕ
 b = codes "b"
 
 -- create b exp 2 1 1, open b 100, append b 100 7, close b 100
-one_moment : List Event
-one_moment = Create b (Exp 2 1 1) ∷ Open b 100 ∷ Value b 100 (pos 7) ∷ Close b 100 ∷ []
+one_moment : List Happened
+one_moment = map added (Create b (Exp 2 1 1) ∷ Open b 100 ∷ Value b 100 (pos 7) ∷ Close b 100 ∷ [])
 
 -- append b 100 8, append b 101 8
 refusals-one_moment : map (refuses (state one_moment)) (Value b 100 (pos 8) ∷ Value b 101 (pos 8) ∷ []) ≡ Some refusal.Time ∷ None ∷ []
 unfolding refuses state window_index one_moment b
 refusals-one_moment = refl
 
-state-one_moment : state (one_moment ++ Value b 101 (pos 8) ∷ []) ≡ record {
+state-one_moment : state (one_moment ++ added (Value b 101 (pos 8)) ∷ []) ≡ record {
   number = 0;
   name = b;
   params = Exp 2 1 1;
-  windows = record { first = 1; summary = record { count = 1; sum = pos 8; min = pos 8; max = pos 8; t_first = 101; t_last = 101 } } ∷ [];
+  windows = record {
+    first = 1;
+    summary = record { count = 1; sum = pos 8; min = pos 8; max = pos 8; t_first = 101; t_last = 101; filter = filter_of (pos 8) };
+  } ∷ [];
   landmarks = record { start = 100; finish = Some 100; values = record { t = 100; v = pos 7 } ∷ [] } ∷ [];
 } ∷ []
 unfolding state window_index one_moment b
 state-one_moment = refl
 
+-- the values of a landmark are kept one by one, so also those that a store without filters took count as new
+old_moment : List Happened
+old_moment = map (λ event. (event, Old)) (Create b (Exp 2 1 1) ∷ Open b 100 ∷ Value b 100 (pos 7) ∷ Close b 100 ∷ Value b 101 (pos 8) ∷ [])
+
+marked-old_moment : marked_of old_moment b ≡ (100, pos 7, New) ∷ []
+unfolding old_moment b
+marked-old_moment = refl
+
+plain-old_moment : values_of old_moment b ≡ (101, pos 8, Old) ∷ []
+unfolding old_moment b
+plain-old_moment = refl
+
 -- create c power 1 0 1 2, append c 10 1, open c 20, append c 20 100, append c 30 200, close c 40, append c 50 3
 c : List ℕ
 c = codes "c"
 
-around : List Event
-around =
+around : List Happened
+around = map added (
     Create c (Power 1 0 1 2) ∷ Value c 10 (pos 1) ∷ Open c 20 ∷ Value c 20 (pos 100) ∷ Value c 30 (pos 200) ∷ Close c 40
-    ∷ Value c 50 (pos 3) ∷ []
+    ∷ Value c 50 (pos 3) ∷ [])
 
 -- the values outside landmarks, and those of landmarks
-plain-around : values_of around c ≡ (10, pos 1) ∷ (50, pos 3) ∷ []
+plain-around : values_of around c ≡ (10, pos 1, New) ∷ (50, pos 3, New) ∷ []
 unfolding around c
 plain-around = refl
 
-marked-around : marked_of around c ≡ (20, pos 100) ∷ (30, pos 200) ∷ []
+marked-around : marked_of around c ≡ (20, pos 100, New) ∷ (30, pos 200, New) ∷ []
 unfolding around c
 marked-around = refl
 
@@ -64,7 +81,10 @@ landmark-around = refl
 
 -- one window from 10 to 50, with two values
 window-around : map (λ s. s.windows) (state around) ≡
-    (record { first = 1; summary = record { count = 2; sum = pos 4; min = pos 1; max = pos 3; t_first = 10; t_last = 50 } } ∷ []) ∷ []
+    (record {
+      first = 1;
+      summary = record { count = 2; sum = pos 4; min = pos 1; max = pos 3; t_first = 10; t_last = 50; filter = union (filter_of (pos 1)) (filter_of (pos 3)) };
+    } ∷ []) ∷ []
 unfolding state window_index power_length around c
 window-around = refl
 
@@ -93,13 +113,13 @@ last_times-around = refl
 
 -- a step is the state of one more event
 steps-around : map (λ k. stepped (state (take k around)) (Close c 40)) (5 ∷ []) ≡ state (take 6 around) ∷ []
-unfolding stepped state window_index around c
+unfolding stepped_from state window_index around c
 steps-around = refl
 
 -- the window lies among landmarks: 21 of its 41 times are covered, and 20 are free
 free-around : map (λ (w : Window). lies_free (landmarks_of around c) w)
-    (record { first = 1; summary = record { count = 20; sum = pos 4; min = pos 1; max = pos 3; t_first = 10; t_last = 50 } }
-    ∷ record { first = 1; summary = record { count = 21; sum = pos 4; min = pos 1; max = pos 3; t_first = 10; t_last = 50 } } ∷ []) ≡
+    (record { first = 1; summary = record { count = 20; sum = pos 4; min = pos 1; max = pos 3; t_first = 10; t_last = 50; filter = full } }
+    ∷ record { first = 1; summary = record { count = 21; sum = pos 4; min = pos 1; max = pos 3; t_first = 10; t_last = 50; filter = full } } ∷ []) ≡
     true ∷ false ∷ []
 unfolding lies_free around c
 free-around = refl
@@ -143,7 +163,7 @@ full_with landmarks = record {
   number = 0;
   name = c;
   params = Exp 2 1 1;
-  windows = record { first = 1; summary = record { count = 2 ^ 40; sum = pos 0; min = pos 0; max = pos 0; t_first = 1; t_last = 2 ^ 40 } } ∷ [];
+  windows = record { first = 1; summary = record { count = 2 ^ 40; sum = pos 0; min = pos 0; max = pos 0; t_first = 1; t_last = 2 ^ 40; filter = full } } ∷ [];
   landmarks = landmarks;
 } ∷ []
 

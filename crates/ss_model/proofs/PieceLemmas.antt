@@ -1,23 +1,24 @@
 -- The windows of a list of values are of these values, piece by piece.
-use Rattle.std.proofs.Common.{◌≡◌, ℕ, suc, ◌+◌, ◌-◌, ℤ, List, [], ◌∷◌, ◌++◌, length, take, drop, refl, ap, sym, ◌∙◌, arith}
+use Rattle.std.proofs.Common.{◌≡◌, ℕ, suc, ◌+◌, ◌-◌, List, [], ◌∷◌, ◌++◌, length, take, drop, refl, ap, sym, ◌∙◌, arith}
 use Rattle.std.proofs.lemmas.List.{take-append-drop, append-nil}
 use Rattle.ss_summary.specs.Summaries.{summary_of}
+use Rattle.ss_summary.specs.Points.{Point}
 use Rattle.ss_model.specs.Boundaries.{boundaries}
 use Rattle.ss_model.specs.Windows.{stretches, windows}
 use Rattle.ss_model.proofs.Rises.{Rises, Rises-low, Rises-boundaries}
 use Rattle.ss_model.proofs.Stretches.{length-back}
-use Rattle.ss_model.proofs.IntervalLemmas.{AreOf}
+use Rattle.ss_model.proofs.IntervalLemmas.{AreExactlyOf, AreOf, AreOf-exactly}
 
-AreOf-stretches : (before end : ℕ) (bs : List ℕ) (values : List (ℕ × ℤ)) → before + length values ≡ end → Rises before bs end
-    → AreOf (stretches (before + 1) bs values) values
-AreOf-stretches before end bs [] count rising = refl
-AreOf-stretches before end [] (p ∷ ps) count rising = (p, ps, [], sym (append-nil (p ∷ ps)), refl, refl)
-AreOf-stretches before end (b ∷ bs) (p ∷ ps) count rising =
+AreExactlyOf-stretches : (before end : ℕ) (bs : List ℕ) (values : List Point) → before + length values ≡ end → Rises before bs end
+    → AreExactlyOf (stretches (before + 1) bs values) values
+AreExactlyOf-stretches before end bs [] count rising = refl
+AreExactlyOf-stretches before end [] (p ∷ ps) count rising = (p, ps, [], sym (append-nil (p ∷ ps)), refl, refl)
+AreExactlyOf-stretches before end (b ∷ bs) (p ∷ ps) count rising =
     let k = b + 1 - (before + 1) in
     let above = rising.0 in
     let below = Rises-low b bs end rising.1 in
     let back = length-back before b end (p ∷ ps) count above below in
-    let later = AreOf-stretches b end bs (drop k (p ∷ ps)) back rising.1 in
+    let later = AreExactlyOf-stretches b end bs (drop k (p ∷ ps)) back rising.1 in
     let some : k ≡ suc (k - 1) = omega arith in
     let front : take k (p ∷ ps) ≡ p ∷ take (k - 1) ps = ap (λ n. take n (p ∷ ps)) some in (
       p,
@@ -28,7 +29,10 @@ AreOf-stretches before end (b ∷ bs) (p ∷ ps) count rising =
       later,
     )
 
-pub AreOf-windows : (len : ℕ → ℕ) (values : List (ℕ × ℤ)) → AreOf (windows len values) values
-AreOf-windows len [] = refl
-AreOf-windows len (p ∷ ps) = AreOf-stretches 0 (length (p ∷ ps)) (boundaries len (length (p ∷ ps))) (p ∷ ps) (omega arith)
+pub AreExactlyOf-windows : (len : ℕ → ℕ) (values : List Point) → AreExactlyOf (windows len values) values
+AreExactlyOf-windows len [] = refl
+AreExactlyOf-windows len (p ∷ ps) = AreExactlyOf-stretches 0 (length (p ∷ ps)) (boundaries len (length (p ∷ ps))) (p ∷ ps) (omega arith)
     (Rises-boundaries len (length (p ∷ ps)) (omega arith))
+
+pub AreOf-windows : (len : ℕ → ℕ) (values : List Point) → AreOf (windows len values) values
+AreOf-windows len values = AreOf-exactly (windows len values) values (AreExactlyOf-windows len values)

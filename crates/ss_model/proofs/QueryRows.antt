@@ -8,6 +8,7 @@ use Rattle.ss_bounds.specs.declared.extreme.Extreme.TheVariants.{Nothing, Sure, 
 use Rattle.ss_bounds.specs.Split.{sum_interval}
 use Rattle.ss_landmarks.specs.Free.{is_free}
 use Rattle.ss_landmarks.specs.Landmark.{Landmark}
+use Rattle.ss_summary.specs.Points.{Point, New}
 use Rattle.ss_model.specs.Interval.{interval_of_count, interval_of_sum, interval_of_least, interval_of_greatest, split_windows}
 use Rattle.ss_model.specs.Marks.{marked_values}
 use Rattle.ss_model.specs.Truth.{true_count, true_sum}
@@ -19,8 +20,8 @@ abbrev free : ℕ → Bool
 free t = true
 
 -- seven values, whose windows under `exp 2 1 1` are those of positions 1 to 4, 5 to 6, and 7
-abbrev seven : List (ℕ × ℤ)
-seven = (10, pos 5) ∷ (20, negsuc 2) ∷ (30, pos 8) ∷ (40, pos 1) ∷ (50, pos 9) ∷ (60, pos 2) ∷ (70, pos 7) ∷ []
+abbrev seven : List Point
+seven = (10, pos 5, New) ∷ (20, negsuc 2, New) ∷ (30, pos 8, New) ∷ (40, pos 1, New) ∷ (50, pos 9, New) ∷ (60, pos 2, New) ∷ (70, pos 7, New) ∷ []
 
 abbrev count_in : ℕ × ℕ → ℕ × ℕ
 count_in range = interval_of_count free range.0 range.1 (windows (exp_length 2 1 1) seven) []
@@ -59,11 +60,11 @@ truth-sums : map (λ (range : ℕ × ℕ). true_sum range.0 range.1 seven []) ((
 truth-sums = refl
 
 -- four values at four times in one window of four: the free times are used up
-crowded : interval_of_count free 10 11 (windows (λ i. 4) ((10, pos 4) ∷ (11, pos 4) ∷ (12, pos 6) ∷ (13, pos 6) ∷ [])) [] ≡ (2, 2)
+crowded : interval_of_count free 10 11 (windows (λ i. 4) ((10, pos 4, New) ∷ (11, pos 4, New) ∷ (12, pos 6, New) ∷ (13, pos 6, New) ∷ [])) [] ≡ (2, 2)
 unfolding window_index
 crowded = refl
 
-crowded-sum : interval_of_sum free 10 11 (windows (λ i. 4) ((10, pos 4) ∷ (11, pos 4) ∷ (12, pos 6) ∷ (13, pos 6) ∷ [])) []
+crowded-sum : interval_of_sum free 10 11 (windows (λ i. 4) ((10, pos 4, New) ∷ (11, pos 4, New) ∷ (12, pos 6, New) ∷ (13, pos 6, New) ∷ [])) []
     ≡ (pos 8, pos 12)
 unfolding window_index sum_interval
 crowded-sum = refl
@@ -72,7 +73,7 @@ crowded-sum = refl
 abbrev single : List Landmark
 single = record { start = 100; finish = Some 100; values = record { t = 100; v = pos 7 } ∷ [] } ∷ []
 
-marked_before : map (λ (range : ℕ × ℕ). interval_of_sum (is_free single) range.0 range.1 (windows (exp_length 2 1 1) ((101, pos 8) ∷ []))
+marked_before : map (λ (range : ℕ × ℕ). interval_of_sum (is_free single) range.0 range.1 (windows (exp_length 2 1 1) ((101, pos 8, New) ∷ []))
     (marked_values single))
     ((100, 100) ∷ (101, 101) ∷ (0, 200) ∷ []) ≡ (pos 7, pos 7) ∷ (pos 8, pos 8) ∷ (pos 15, pos 15) ∷ []
 unfolding window_index sum_interval
@@ -82,8 +83,8 @@ marked_before = refl
 abbrev spanning : List Landmark
 spanning = record { start = 20; finish = Some 40; values = record { t = 20; v = pos 100 } ∷ record { t = 30; v = pos 200 } ∷ [] } ∷ []
 
-abbrev spanned : {A : Type 0} → ((ℕ → Bool) → ℕ → ℕ → List Window → List (ℕ × ℤ) → A) → A
-spanned answer = answer (is_free spanning) 20 40 (windows (λ i. 2) ((10, pos 1) ∷ (50, pos 3) ∷ [])) (marked_values spanning)
+abbrev spanned : {A : Type 0} → ((ℕ → Bool) → ℕ → ℕ → List Window → List Point → A) → A
+spanned answer = answer (is_free spanning) 20 40 (windows (λ i. 2) ((10, pos 1, New) ∷ (50, pos 3, New) ∷ [])) (marked_values spanning)
 
 -- of the times between its ends, the 18 outside the landmark are free
 spanned-split : spanned (λ free from to ws marked. split_windows free from to ws)
@@ -104,13 +105,13 @@ unfolding window_index
 spanned-least = refl
 
 -- two values at both ends of 64 bits
-edges : map (λ (v : ℤ). interval_of_sum free 10 15 (windows (λ i. 2) ((10, v) ∷ (20, pos 9223372036854775807) ∷ [])) [])
+edges : map (λ (v : ℤ). interval_of_sum free 10 15 (windows (λ i. 2) ((10, v, New) ∷ (20, pos 9223372036854775807, New) ∷ [])) [])
     (pos 9223372036854775807 ∷ negsuc 9223372036854775807 ∷ [])
     ≡ (pos 9223372036854775807, pos 9223372036854775807) ∷ (negsuc 9223372036854775807, pos 9223372036854775807) ∷ []
 unfolding window_index sum_interval
 edges = refl
 
-edges-whole : map (λ (v : ℤ). interval_of_sum free 0 30 (windows (λ i. 2) ((10, v) ∷ (20, pos 9223372036854775807) ∷ [])) [])
+edges-whole : map (λ (v : ℤ). interval_of_sum free 0 30 (windows (λ i. 2) ((10, v, New) ∷ (20, pos 9223372036854775807, New) ∷ [])) [])
     (pos 9223372036854775807 ∷ negsuc 9223372036854775807 ∷ [])
     ≡ (pos 18446744073709551614, pos 18446744073709551614) ∷ (negsuc 0, negsuc 0) ∷ []
 unfolding window_index sum_interval

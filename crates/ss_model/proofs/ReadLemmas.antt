@@ -1,5 +1,5 @@
 -- What is read off the state of a history.
-use Rattle.std.proofs.Common.{◌≡◌, ◌≢◌, ℕ, ◌+◌, ◌*◌, ◌<◌, ◌≤◌, ℤ, false, true, List, [], ◌∷◌, length, get_or, refl, ap, sym, ◌∙◌, arith, None, Some, inl, inr}
+use Rattle.std.proofs.Common.{◌≡◌, ◌≢◌, ℕ, ◌+◌, ◌*◌, ◌<◌, ◌≤◌, false, true, List, [], ◌∷◌, length, get_or, refl, ap, sym, ◌∙◌, arith, None, Some, inl, inr}
 use Rattle.std.specs.Prelude.{All, Option}
 use Rattle.std.specs.Option.{option_or}
 use Rattle.std.proofs.lemmas.Bool.{cases_Bool, cond_both}
@@ -11,13 +11,14 @@ use Rattle.ss_catalog.specs.declared.event.Event.{Event}
 use Rattle.ss_catalog.specs.declared.event.Event.TheVariants.{Create, Value, Open, Close, Drop}
 use Rattle.ss_target.specs.Lengths.{has_target, lengths_of}
 use Rattle.ss_target.proofs.LengthLemmas.{lengths_of-positive, lengths_of-never_fall}
+use Rattle.ss_summary.specs.Points.{Point, Origin}
 use Rattle.ss_model.specs.Decay.{cover, IsWithinTarget}
-use Rattle.ss_model.specs.History.{values_of}
+use Rattle.ss_model.specs.History.{values_of, Happened}
 use Rattle.ss_model.specs.Marks.{has_open, with_closed, with_marked, with_opened}
 use Rattle.ss_model.specs.Refusals.{IsHistory}
 use Rattle.ss_model.specs.Standing.{IsStream}
 use Rattle.ss_model.specs.State.{Created, Stream, state, standing, stream_after, stream_named, values_in}
-use Rattle.ss_model.specs.Steps.{change_named, stepped, with_taken, with_plain_value}
+use Rattle.ss_model.specs.Steps.{change_named, stepped_from, with_taken, with_plain_value}
 use Rattle.ss_model.proofs.DecayLemmas.{length-windows, IsWithinTarget-windows}
 use Rattle.ss_model.proofs.DropLemmas.{stream_named-without}
 use Rattle.ss_model.proofs.HistoryLemmas.{IsState-state}
@@ -25,7 +26,7 @@ use Rattle.ss_model.proofs.NameLemmas.{same_name-Decides, same_name-differ}
 use Rattle.ss_model.proofs.Stretches.{taken-windows}
 
 -- what holds of each stream as a history leaves it holds in its state
-pub All-state : (P : Stream → Type 0) (history : List Event) → ((c : Created) → P (stream_after history c)) → All P (state history)
+pub All-state : (P : Stream → Type 0) (history : List Happened) → ((c : Created) → P (stream_after history c)) → All P (state history)
 unfolding state
 All-state P history each = All-map P (stream_after history) (standing history) (λ k d inside. each (get_or (standing history) k d))
 
@@ -44,28 +45,29 @@ named-changed_other name other change (s ∷ ss) apart keeps =
       | inr differ ↦ rw (differ, rest) refl
     ]
 
-name-taken : (t : ℕ) (v : ℤ) (s : Stream) → (with_taken s t v).name ≡ s.name
-name-taken t v s = cond_both (has_open s.landmarks) (record s { landmarks = with_marked s.landmarks t v }) (with_plain_value s t v)
+name-taken : (p : Point) (s : Stream) → (with_taken s p).name ≡ s.name
+name-taken p s = cond_both (has_open s.landmarks) (record s { landmarks = with_marked s.landmarks p.0 p.1 }) (with_plain_value s p)
     (λ (u : Stream). u.name ≡ s.name) (λ begun. refl) (λ none. refl)
 
 option_or-none : {X : Type 0} (o : Option X) → option_or o None ≡ o
 option_or-none None = refl
 option_or-none (Some x) = refl
 
-pub stream_named-stepped : (streams : List Stream) (event : Event) (name : List ℕ) → name ≢ event_name event →
-    stream_named name (stepped streams event) ≡ stream_named name streams
-unfolding stepped
-stream_named-stepped streams (Create other params) name apart =
+pub stream_named-stepped : (origin : Origin) (streams : List Stream) (event : Event) (name : List ℕ) → name ≢ event_name event →
+    stream_named name (stepped_from origin streams event) ≡ stream_named name streams
+unfolding stepped_from
+stream_named-stepped origin streams (Create other params) name apart =
     let differ = same_name-differ name other apart in
     rw (find-append (λ (s : Stream). same_name name s.name) streams _, differ) (option_or-none (stream_named name streams))
-stream_named-stepped streams (Value other t v) name apart = named-changed_other name other (λ s. with_taken s t v) streams apart (name-taken t v)
-stream_named-stepped streams (Open other t) name apart =
+stream_named-stepped origin streams (Value other t v) name apart =
+    named-changed_other name other (λ s. with_taken s (t, v, origin)) streams apart (name-taken (t, v, origin))
+stream_named-stepped origin streams (Open other t) name apart =
     named-changed_other name other (λ s. record s { landmarks = with_opened s.landmarks t }) streams apart (λ s. refl)
-stream_named-stepped streams (Close other t) name apart =
+stream_named-stepped origin streams (Close other t) name apart =
     named-changed_other name other (λ s. record s { landmarks = with_closed s.landmarks t }) streams apart (λ s. refl)
-stream_named-stepped streams (Drop other) name apart = stream_named-without name other streams apart
+stream_named-stepped origin streams (Drop other) name apart = stream_named-without name other streams apart
 
-pub decay-state : (history : List Event) →
+pub decay-state : (history : List Happened) →
     All (λ s. 0 < values_in s → length s.windows + 1 ≤ 2 * cover (lengths_of s.params) (values_in s)) (state history)
 decay-state history =
     All-state (λ s. 0 < values_in s → length s.windows + 1 ≤ 2 * cover (lengths_of s.params) (values_in s)) history
@@ -75,7 +77,7 @@ decay-state history =
     let count = taken-windows len values in
     rw count (length-windows len values (omega arith)))
 
-pub within-state : (history : List Event) → IsHistory history →
+pub within-state : (history : List Happened) → IsHistory history →
     All (λ s. All (IsWithinTarget (lengths_of s.params) (values_in s)) s.windows) (state history)
 within-state history whole =
     λ k d inside.

@@ -15,7 +15,8 @@ use Rattle.ss_landmarks.specs.Landmark.{Landmark, open_landmark}
 use Rattle.ss_landmarks.specs.Order.{AreLandmarks}
 use Rattle.ss_summary.specs.Summaries as summaries
 use Rattle.ss_target.specs.Lengths.{lengths_of}
-use Rattle.ss_model.specs.History.{Given, given_after, given_to, is_for, landmarks_of, values_of}
+use Rattle.ss_summary.specs.Points.{Point, Origin}
+use Rattle.ss_model.specs.History.{Given, given_after, given_to, is_for, landmarks_of, values_of, Happened}
 use Rattle.ss_model.specs.Marks.{has_open, later, latest_of, with_closed, with_marked, with_opened}
 use Rattle.ss_model.specs.Refusals.{IsHistory, is_before, is_early, is_opening, is_past, refuses}
 use Rattle.ss_model.specs.Standing.{IsStream}
@@ -32,22 +33,22 @@ use Rattle.ss_model.proofs.Stretches.{newest_time-windows}
 
 -- ---- values at rising times
 
-last_time-after : (free : ℕ → Bool) (q : ℕ × ℤ) (qs : List (ℕ × ℤ)) → RiseAtFree free (q.0 + 1) qs → q.0 ≤ summaries.time_at_end q.0 qs
+last_time-after : (free : ℕ → Bool) (q : Point) (qs : List Point) → RiseAtFree free (q.0 + 1) qs → q.0 ≤ summaries.time_at_end q.0 qs
 last_time-after free q [] rising = omega arith
 last_time-after free q (r ∷ rs) rising = omega (arith, rising.0, last_time-after free r rs rising.2)
 
 -- one more value at a free time, later than the last
-RiseAtFree_push : (free : ℕ → Bool) (start : ℕ) (ps : List (ℕ × ℤ)) (t : ℕ) (v : ℤ) → RiseAtFree free start ps → start ≤ t → free t ≡ true
-    → ((old : ℕ) → time_of_last ps ≡ Some old → old < t) → RiseAtFree free start (ps ++ (t, v) ∷ [])
-RiseAtFree_push free start [] t v rising late is later = (late, is, tt)
-RiseAtFree_push free start (p ∷ []) t v rising late is later = let next = later p.0 refl in (rising.0, rising.1, (omega arith, is, tt))
-RiseAtFree_push free start (p ∷ q ∷ qs) t v rising late is later =
+RiseAtFree_push : (free : ℕ → Bool) (start : ℕ) (ps : List Point) (x : Point) → RiseAtFree free start ps → start ≤ x.0 → free x.0 ≡ true
+    → ((old : ℕ) → time_of_last ps ≡ Some old → old < x.0) → RiseAtFree free start (ps ++ x ∷ [])
+RiseAtFree_push free start [] x rising late is later = (late, is, tt)
+RiseAtFree_push free start (p ∷ []) x rising late is later = let next = later p.0 refl in (rising.0, rising.1, (omega arith, is, tt))
+RiseAtFree_push free start (p ∷ q ∷ qs) x rising late is later =
     let end = later (summaries.time_at_end q.0 qs) refl in
     let after = last_time-after free q qs rising.2.2 in
-    (rising.0, rising.1, RiseAtFree_push free (p.0 + 1) (q ∷ qs) t v rising.2 (omega (arith, rising.2.0)) is later)
+    (rising.0, rising.1, RiseAtFree_push free (p.0 + 1) (q ∷ qs) x rising.2 (omega (arith, rising.2.0)) is later)
 
 -- the times up to the last value's are free as they were
-RiseAtFree-same : (free other : ℕ → Bool) (start : ℕ) (ps : List (ℕ × ℤ)) → RiseAtFree free start ps
+RiseAtFree-same : (free other : ℕ → Bool) (start : ℕ) (ps : List Point) → RiseAtFree free start ps
     → ((last u : ℕ) → time_of_last ps ≡ Some last → u ≤ last → other u ≡ free u) → RiseAtFree other start ps
 RiseAtFree-same free other start [] rising same = tt
 RiseAtFree-same free other start (p ∷ []) rising same = (rising.0, same p.0 p.0 refl (omega arith) ∙ rising.1, tt)
@@ -100,30 +101,31 @@ LieFree given = RiseAtFree (is_free given.landmarks) 0 given.plain
 abbrev latest_given : Given → Option ℕ
 latest_given given = later (time_of_last given.plain) (latest_of given.landmarks)
 
-LieFree-value : (given : Given) (name : List ℕ) (t : ℕ) (v : ℤ) → (is_past (latest_given given) t && not (is_opening given.landmarks t)) ≡ false
-    → LieFree given → LieFree (given_after given (Value name t v))
-LieFree-value given name t v timely before = elim (cases_Bool (has_open given.landmarks)) [
+LieFree-value : (origin : Origin) (given : Given) (name : List ℕ) (t : ℕ) (v : ℤ)
+    → (is_past (latest_given given) t && not (is_opening given.landmarks t)) ≡ false
+    → LieFree given → LieFree (given_after origin given (Value name t v))
+LieFree-value origin given name t v timely before = elim (cases_Bool (has_open given.landmarks)) [
   | inl begun ↦ rw begun (RiseAtFree-same (is_free given.landmarks) (is_free (with_marked given.landmarks t v)) 0 given.plain before
       (λ last u end within. is_free-marked given.landmarks t v u))
   | inr closed ↦
       (let first : is_opening given.landmarks t ≡ false = is_opening-closed (open_landmark given.landmarks) t closed in
       let late = late-first (is_past (latest_given given) t) (is_opening given.landmarks t) timely first in
-      rw closed (RiseAtFree_push (is_free given.landmarks) 0 given.plain t v before (omega arith)
+      rw closed (RiseAtFree_push (is_free given.landmarks) 0 given.plain (t, v, origin) before (omega arith)
       (free-next (latest_given given) (time_of_last given.plain) given.landmarks t refl closed late)
       (first-is_past (time_of_last given.plain) (latest_of given.landmarks) t late)))
 ]
 
-LieFree-open : (given : Given) (name : List ℕ) (t : ℕ) → is_past (latest_given given) t ≡ false
-    → LieFree given → LieFree (given_after given (Open name t))
-LieFree-open given name t late before =
+LieFree-open : (origin : Origin) (given : Given) (name : List ℕ) (t : ℕ) → is_past (latest_given given) t ≡ false
+    → LieFree given → LieFree (given_after origin given (Open name t))
+LieFree-open origin given name t late before =
     RiseAtFree-same (is_free given.landmarks) (is_free (with_opened given.landmarks t)) 0 given.plain before
     (λ last u end within.
     let behind = first-is_past (time_of_last given.plain) (latest_of given.landmarks) t late last end in
     is_free-opened given.landmarks t u (omega arith))
 
-LieFree-close : (given : Given) (name : List ℕ) (t : ℕ) → AreLandmarks given.landmarks → has_open given.landmarks ≡ true
-    → is_before (latest_given given) t ≡ false → LieFree given → LieFree (given_after given (Close name t))
-LieFree-close given name t order begun late before =
+LieFree-close : (origin : Origin) (given : Given) (name : List ℕ) (t : ℕ) → AreLandmarks given.landmarks → has_open given.landmarks ≡ true
+    → is_before (latest_given given) t ≡ false → LieFree given → LieFree (given_after origin given (Close name t))
+LieFree-close origin given name t order begun late before =
     RiseAtFree-same (is_free given.landmarks) (is_free (with_closed given.landmarks t)) 0 given.plain before
     (λ last u end within.
     let behind = first-is_before (time_of_last given.plain) (latest_of given.landmarks) t late last end in
@@ -131,12 +133,12 @@ LieFree-close given name t order begun late before =
 
 -- ---- a stream that stands as a history leaves it
 
-pub record IsNamed (history : List Event) (name : List ℕ) (s : Stream) : Type 0 where
+pub record IsNamed (history : List Happened) (name : List ℕ) (s : Stream) : Type 0 where
   pub created : Created
   pub is : s ≡ stream_after history created
   pub named : created.name ≡ name
 
-pub named-after : (history : List Event) (name : List ℕ) (cs : List Created) (s : Stream)
+pub named-after : (history : List Happened) (name : List ℕ) (cs : List Created) (s : Stream)
     → stream_named name (map (stream_after history) cs) ≡ Some s → IsNamed history name s
 named-after history name [] s found = cc
 named-after history name (c ∷ cs) s found = elim (cases_Bool (same_name name c.name)) [
@@ -147,10 +149,10 @@ named-after history name (c ∷ cs) s found = elim (cases_Bool (same_name name c
 ]
 
 -- its landmarks and its last time are those of what the history gave it
-landmarks-named : (history : List Event) (name : List ℕ) (s : Stream) → IsNamed history name s → s.landmarks ≡ landmarks_of history name
+landmarks-named : (history : List Happened) (name : List ℕ) (s : Stream) → IsNamed history name s → s.landmarks ≡ landmarks_of history name
 landmarks-named history name s of = ap (λ (u : Stream). u.landmarks) of.is ∙ ap (landmarks_of history) of.named
 
-last_time-named : (history : List Event) (name : List ℕ) (s : Stream) → IsNamed history name s → last_time s ≡ latest_given (given_to history name)
+last_time-named : (history : List Happened) (name : List ℕ) (s : Stream) → IsNamed history name s → last_time s ≡ latest_given (given_to history name)
 last_time-named history name s of =
     let values = values_of history of.created.name in
     ap last_time of.is
@@ -179,9 +181,9 @@ not-false false is = cc
 
 -- ---- a history with one more event
 
-module _ (history : List Event) (name : List ℕ) (t : ℕ) where
+module _ (history : List Happened) (name : List ℕ) (origin : Origin) (t : ℕ) where
   LieFree-valued : (v : ℤ) → refuses (state history) (Value name t v) ≡ None → LieFree (given_to history name)
-      → LieFree (given_after (given_to history name) (Value name t v))
+      → LieFree (given_after origin (given_to history name) (Value name t v))
   unfolding state
   LieFree-valued v accepted before =
       let can = CanAppend-refuses (state history) name t v accepted in
@@ -191,22 +193,22 @@ module _ (history : List Event) (name : List ℕ) (t : ℕ) where
       ap (λ o. is_past o t && not (is_opening (landmarks_of history name) t)) (sym (last_time-named history name s.0 of))
       ∙ ap (λ ls. is_past (last_time s.0) t && not (is_opening ls t)) (sym (landmarks-named history name s.0 of))
       ∙ passed (stream_named name (state history)) (λ u. is_early u t) s.0 s.1 can.later in
-      LieFree-value (given_to history name) name t v timely before
+      LieFree-value origin (given_to history name) name t v timely before
 
   LieFree-opened : refuses (state history) (Open name t) ≡ None → LieFree (given_to history name)
-      → LieFree (given_after (given_to history name) (Open name t))
+      → LieFree (given_after origin (given_to history name) (Open name t))
   unfolding state
   LieFree-opened accepted before =
       let can = CanOpenAt-refuses (state history) name t accepted in
       let s = some-known (stream_named name (state history)) can.known in
       let of = named-after history name (standing history) s.0 s.1 in
-      LieFree-open (given_to history name) name t
+      LieFree-open origin (given_to history name) name t
       (ap (λ o. is_past o t) (sym (last_time-named history name s.0 of))
       ∙ passed (stream_named name (state history)) (λ u. is_past (last_time u) t) s.0 s.1 can.later)
       before
 
   LieFree-closed : IsHistory history → refuses (state history) (Close name t) ≡ None → LieFree (given_to history name)
-      → LieFree (given_after (given_to history name) (Close name t))
+      → LieFree (given_after origin (given_to history name) (Close name t))
   unfolding state
   LieFree-closed whole accepted before =
       let can = CanCloseAt-refuses (state history) name t accepted in
@@ -214,7 +216,7 @@ module _ (history : List Event) (name : List ℕ) (t : ℕ) where
       let of = named-after history name (standing history) s.0 s.1 in
       let sound = All-named IsStream name (state history) s.0 (IsState-state history whole).each s.1 in
       let landmarks = landmarks-named history name s.0 of in
-      LieFree-close (given_to history name) name t
+      LieFree-close origin (given_to history name) name t
       (subst AreLandmarks landmarks sound.landmarks)
       (ap has_open (sym landmarks)
       ∙ not-false (has_open s.0.landmarks) (passed (stream_named name (state history)) (λ u. not (has_open u.landmarks)) s.0 s.1 can.begun))
@@ -222,34 +224,36 @@ module _ (history : List Event) (name : List ℕ) (t : ℕ) where
       ∙ passed (stream_named name (state history)) (λ u. is_before (last_time u) t) s.0 s.1 can.later)
       before
 
-LieFree-for : (history : List Event) (name : List ℕ) (event : Event) → IsHistory history → refuses (state history) event ≡ None
-    → name ≡ event_name event → LieFree (given_to history name) → LieFree (given_to (history ++ event ∷ []) name)
-LieFree-for history name (Create other params) whole accepted is before = rw (is, given_to-created history other params (same_name-same other)) tt
-LieFree-for history name (Value other t v) whole accepted is before =
+LieFree-for : (history : List Happened) (name : List ℕ) (origin : Origin) (event : Event) → IsHistory history → refuses (state history) event ≡ None
+    → name ≡ event_name event → LieFree (given_to history name) → LieFree (given_to (history ++ (event, origin) ∷ []) name)
+LieFree-for history name origin (Create other params) whole accepted is before = rw (is, given_to-created history other params origin (same_name-same other)) tt
+LieFree-for history name origin (Value other t v) whole accepted is before =
     let here = subst (λ n. refuses (state history) (Value n t v) ≡ None) (sym is) accepted in
-    subst LieFree (sym (given_to-event history name (Value other t v) ((same_name-Decides name other).1 is) refl)) (LieFree-valued history name t v here before)
-LieFree-for history name (Open other t) whole accepted is before =
+    subst LieFree (sym (given_to-event history name (Value other t v) origin ((same_name-Decides name other).1 is) refl))
+    (LieFree-valued history name origin t v here before)
+LieFree-for history name origin (Open other t) whole accepted is before =
     let here = subst (λ n. refuses (state history) (Open n t) ≡ None) (sym is) accepted in
-    subst LieFree (sym (given_to-event history name (Open other t) ((same_name-Decides name other).1 is) refl)) (LieFree-opened history name t here before)
-LieFree-for history name (Close other t) whole accepted is before =
+    subst LieFree (sym (given_to-event history name (Open other t) origin ((same_name-Decides name other).1 is) refl))
+    (LieFree-opened history name origin t here before)
+LieFree-for history name origin (Close other t) whole accepted is before =
     let here = subst (λ n. refuses (state history) (Close n t) ≡ None) (sym is) accepted in
-    subst LieFree (sym (given_to-event history name (Close other t) ((same_name-Decides name other).1 is) refl))
-    (LieFree-closed history name t whole here before)
-LieFree-for history name (Drop other) whole accepted is before =
-    subst LieFree (sym (given_to-event history name (Drop other) ((same_name-Decides name other).1 is) refl)) before
+    subst LieFree (sym (given_to-event history name (Close other t) origin ((same_name-Decides name other).1 is) refl))
+    (LieFree-closed history name origin t whole here before)
+LieFree-for history name origin (Drop other) whole accepted is before =
+    subst LieFree (sym (given_to-event history name (Drop other) origin ((same_name-Decides name other).1 is) refl)) before
 
-LieFree-event : (history : List Event) (name : List ℕ) (event : Event) → IsHistory history → refuses (state history) event ≡ None
-    → LieFree (given_to history name) → LieFree (given_to (history ++ event ∷ []) name)
-LieFree-event history name event whole accepted before = elim (cases_Bool (is_for name event)) [
-  | inl same ↦ LieFree-for history name event whole accepted ((same_name-Decides name (event_name event)).0 same) before
-  | inr other ↦ rw (given_to-other history name event other) before
+LieFree-event : (history : List Happened) (name : List ℕ) (origin : Origin) (event : Event) → IsHistory history → refuses (state history) event ≡ None
+    → LieFree (given_to history name) → LieFree (given_to (history ++ (event, origin) ∷ []) name)
+LieFree-event history name origin event whole accepted before = elim (cases_Bool (is_for name event)) [
+  | inl same ↦ LieFree-for history name origin event whole accepted ((same_name-Decides name (event_name event)).0 same) before
+  | inr other ↦ rw (given_to-other history name event origin other) before
 ]
 
-pub values-rise : (history : List Event) (name : List ℕ) → IsHistory history
+pub values-rise : (history : List Happened) (name : List ℕ) → IsHistory history
     → RiseAtFree (is_free (landmarks_of history name)) 0 (values_of history name)
 values-rise history name =
     by_pushes (λ us. IsHistory us → LieFree (given_to us name))
     (λ us event before whole.
     let on = GoesOn-push us event whole in
-    LieFree-event us name event on.before on.accepted (before on.before))
+    LieFree-event us name event.1 event.0 on.before on.accepted (before on.before))
     [] history (λ none. tt)

@@ -4,9 +4,9 @@ use Rattle.std.proofs.lemmas.Bool.{le-ltb}
 use Rattle.std.specs.Prelude.{not, nat_lt, option_map}
 use Rattle.ss_catalog.proofs.SeriesLemmas.{row-within}
 use Rattle.ss_catalog.specs.Series.{row_count, row_query, whole_query}
-use Rattle.ss_catalog.specs.declared.event.Event.{Event}
 use Rattle.ss_catalog.specs.declared.refusal.Refusal.TheVariants.{Unknown, Range}
 use Rattle.ss_catalog.specs.declared.series.Series.{Series}
+use Rattle.ss_model.specs.History.{Happened}
 use Rattle.ss_model.specs.Answers.{answer_of, outcome_of, refuses_query}
 use Rattle.ss_model.specs.Refusals.{IsHistory, first_that_applies, stands}
 use Rattle.ss_model.specs.Series.{AnswersRow, refuses_series}
@@ -58,7 +58,7 @@ pub row-known : (streams : List Stream) (series : Series) → refuses_series str
 row-known streams series none row = some-outcome (outcome_of streams (row_query series row)) (outcome-known streams series row none)
 
 -- and it holds the truth
-pub row-answered : (history : List Event) (series : Series) (row : ℕ) → IsHistory history → refuses_series (state history) series ≡ None →
+pub row-answered : (history : List Happened) (series : Series) (row : ℕ) → IsHistory history → refuses_series (state history) series ≡ None →
     (outcome : Outcome) × AnswersRow history series row outcome
 row-answered history series row whole none =
     let it = row-known (state history) series none row in (

@@ -1,9 +1,12 @@
 -- Worked rows, each computed.
-use Rattle.std.proofs.Common.{◌≡◌, ℕ, List, [], ◌∷◌, map, refl, ℤ, pos, negsuc, lit≤, arith}
+use Rattle.std.proofs.Common.{◌≡◌, ℕ, ◌+◌, ◌^◌, List, [], ◌∷◌, map, refl, ℤ, pos, negsuc, lit≤, arith}
 use Rattle.ss_windowing.specs.declared.decay.TheConstants.{MOST_VALUES}
 use Rattle.ss_windowing.specs.Exp.{exp_length}
 use Rattle.ss_windowing.specs.Windowing.{window_index}
 use Rattle.ss_power.specs.Power.{power_length}
+use Rattle.ss_summary.specs.Filters.{bit_of, filter_of, full, union}
+use Rattle.ss_summary.specs.Points.{Point, New}
+use Rattle.ss_summary.specs.declared.filter.Filter.{Filter}
 use Rattle.ss_model.specs.Boundaries.{boundaries}
 use Rattle.ss_model.specs.Windows.{stretches, windows}
 use Rattle.ss_model.specs.Closed.{closed}
@@ -63,15 +66,40 @@ boundaries-of_one : boundary_rows (power_length 1 0 1 1) (4 ∷ []) ≡ (1 ∷ 2
 unfolding boundary_rows power_length window_index
 boundaries-of_one = refl
 
-readings : List (ℕ × ℤ)
-readings = (10, pos 5) ∷ (20, negsuc 2) ∷ (30, pos 8) ∷ (40, pos 1) ∷ (50, pos 9) ∷ (60, pos 2) ∷ (70, pos 7) ∷ []
+readings : List Point
+readings =
+    (10, pos 5, New) ∷ (20, negsuc 2, New) ∷ (30, pos 8, New) ∷ (40, pos 1, New) ∷ (50, pos 9, New) ∷ (60, pos 2, New) ∷ (70, pos 7, New) ∷ []
 
-windows-readings : windows (exp_length 2 1 1) readings ≡
-    record { first = 1; summary = record { count = 4; sum = pos 11; min = negsuc 2; max = pos 8; t_first = 10; t_last = 40 } }
-    ∷ record { first = 5; summary = record { count = 2; sum = pos 11; min = pos 2; max = pos 9; t_first = 50; t_last = 60 } }
-    ∷ record { first = 7; summary = record { count = 1; sum = pos 7; min = pos 7; max = pos 7; t_first = 70; t_last = 70 } }
+-- the filter of these words
+abbrev pub words : ℕ → ℕ → ℕ → ℕ → Filter
+words a b c d = record { words = a ∷ b ∷ c ∷ d ∷ [] }
+
+abbrev pub readings_windows : List Window
+readings_windows =
+    record {
+      first = 1;
+      summary = record {
+        count = 4;
+        sum = pos 11;
+        min = negsuc 2;
+        max = pos 8;
+        t_first = 10;
+        t_last = 40;
+        filter = words (2 ^ 23 + 2 ^ 37) 0 (2 ^ 30) (2 ^ 49);
+      };
+    }
+    ∷ record {
+      first = 5;
+      summary = record { count = 2; sum = pos 11; min = pos 2; max = pos 9; t_first = 50; t_last = 60; filter = words (2 ^ 60) 0 (2 ^ 15) 0 };
+    }
+    ∷ record {
+      first = 7;
+      summary = record { count = 1; sum = pos 7; min = pos 7; max = pos 7; t_first = 70; t_last = 70; filter = words 0 (2 ^ 19) 0 0 };
+    }
     ∷ []
-unfolding window_index readings
+
+windows-readings : windows (exp_length 2 1 1) readings ≡ readings_windows
+unfolding window_index readings bit_of filter_of union
 windows-readings = refl
 
 -- the lengths 1, 2, 4, 8 cover 1, 3, 7 and 15 positions
@@ -81,7 +109,10 @@ cover-rows = refl
 
 -- a window of two values, the first at a position
 pair_from : ℕ → Window
-pair_from first = record { first = first; summary = record { count = 2; sum = pos 3; min = pos 1; max = pos 2; t_first = 10; t_last = 20 } }
+pair_from first = record {
+  first = first;
+  summary = record { count = 2; sum = pos 3; min = pos 1; max = pos 2; t_first = 10; t_last = 20; filter = full };
+}
 
 -- of three values the last lies in a target window of 1, and those before it in one of 2
 IsWithinTarget-older : IsWithinTarget (exp_length 2 1 1) 3 (pair_from 1)
@@ -98,32 +129,44 @@ ending bs = stretches 1 bs readings
 
 -- of the windows 1 to 2, 3 to 4, 5, 6 and 7 the first two are due at 7, and so are the next two
 closed-apart : closed (exp_length 2 1 1) 7 (ending (2 ∷ 4 ∷ 5 ∷ 6 ∷ [])) ≡ ending (4 ∷ 6 ∷ [])
-unfolding window_index ending readings
+unfolding window_index ending readings bit_of filter_of union
 closed-apart = refl
 
 closed-older_joined : closed (exp_length 2 1 1) 7 (ending (4 ∷ 5 ∷ 6 ∷ [])) ≡ ending (4 ∷ 6 ∷ [])
-unfolding window_index ending readings
+unfolding window_index ending readings bit_of filter_of union
 closed-older_joined = refl
 
 closed-newer_joined : closed (exp_length 2 1 1) 7 (ending (2 ∷ 4 ∷ 6 ∷ [])) ≡ ending (4 ∷ 6 ∷ [])
-unfolding window_index ending readings
+unfolding window_index ending readings bit_of filter_of union
 closed-newer_joined = refl
 
 reading : ℕ → ℕ → ℤ → Window
-reading position t v = record { first = position; summary = record { count = 1; sum = v; min = v; max = v; t_first = t; t_last = t } }
+reading position t v = record {
+  first = position;
+  summary = record { count = 1; sum = v; min = v; max = v; t_first = t; t_last = t; filter = filter_of v };
+}
 
 older : Window
-older = record { first = 1; summary = record { count = 2; sum = pos 2; min = negsuc 2; max = pos 5; t_first = 10; t_last = 20 } }
+older = record {
+  first = 1;
+  summary = record { count = 2; sum = pos 2; min = negsuc 2; max = pos 5; t_first = 10; t_last = 20; filter = words (2 ^ 23 + 2 ^ 37) 0 0 0 };
+}
 
 newer : Window
-newer = record { first = 3; summary = record { count = 2; sum = pos 9; min = pos 1; max = pos 8; t_first = 30; t_last = 40 } }
+newer = record {
+  first = 3;
+  summary = record { count = 2; sum = pos 9; min = pos 1; max = pos 8; t_first = 30; t_last = 40; filter = words 0 0 (2 ^ 30) (2 ^ 49) };
+}
 
 pair : Window
-pair = record { first = 5; summary = record { count = 2; sum = pos 11; min = pos 2; max = pos 9; t_first = 50; t_last = 60 } }
+pair = record {
+  first = 5;
+  summary = record { count = 2; sum = pos 11; min = pos 2; max = pos 9; t_first = 50; t_last = 60; filter = words (2 ^ 60) 0 (2 ^ 15) 0 };
+}
 
 -- they are joined in either order
 JoinsDue-newer_first : JoinsDue (exp_length 2 1 1) 7 (ending (2 ∷ 4 ∷ 5 ∷ 6 ∷ [])) (ending (4 ∷ 6 ∷ []))
-unfolding window_index ending readings reading older newer pair
+unfolding window_index ending readings reading older newer pair bit_of filter_of union
 JoinsDue-newer_first = (
   2,
   (

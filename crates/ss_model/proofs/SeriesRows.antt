@@ -3,34 +3,44 @@ use Rattle.std.proofs.Common.{◌≡◌, ℕ, List, [], ◌∷◌, map, Some, No
 use Rattle.std.specs.Prelude.{codes, pos, negsuc}
 use Rattle.ss_bounds.specs.Split.{sum_interval}
 use Rattle.ss_catalog.specs.Series.{numbers_from, row_query, rows_of}
-use Rattle.ss_catalog.specs.declared.event.Event.{Event}
 use Rattle.ss_catalog.specs.declared.event.Event.TheVariants.{Create, Value}
 use Rattle.ss_catalog.specs.declared.params.Params.TheVariants.{Exp}
 use Rattle.ss_catalog.specs.declared.query.Kind.TheVariants as kinds
 use Rattle.ss_catalog.specs.declared.refusal.Refusal.TheVariants.{Unknown, Range}
 use Rattle.ss_catalog.specs.declared.series.Series.{Series}
+use Rattle.ss_summary.specs.Filters.{bit_of, filter_of, has, union}
 use Rattle.ss_windowing.specs.Windowing.{window_index}
 use Rattle.ss_model.specs.Answers.{HoldsTruth, IsExactOutcome, outcome_of, refuses_query, split_by}
-use Rattle.ss_model.specs.History.{marked_of, values_of}
+use Rattle.ss_model.specs.History.{marked_of, values_of, Happened, added}
 use Rattle.ss_model.specs.Series.{AnswersRow, refuses_series}
 use Rattle.ss_model.specs.State.{state}
 use Rattle.ss_model.specs.declared.outcome.Outcome.{Outcome}
-use Rattle.ss_model.specs.declared.outcome.Outcome.TheVariants.{Sum}
+use Rattle.ss_model.specs.declared.outcome.Outcome.TheVariants.{Has, Sum}
+use Rattle.ss_model.specs.declared.outcome.Presence.TheVariants.{Absent, Maybe}
 
 -- a stream and seven readings
-readings : List Event
-readings =
+readings : List Happened
+readings = map added (
     Create (codes "a") (Exp 2 1 1) ∷ Value (codes "a") 10 (pos 5) ∷ Value (codes "a") 20 (negsuc 2) ∷ Value (codes "a") 30 (pos 8)
-    ∷ Value (codes "a") 40 (pos 1) ∷ Value (codes "a") 50 (pos 9) ∷ Value (codes "a") 60 (pos 2) ∷ Value (codes "a") 70 (pos 7) ∷ []
+    ∷ Value (codes "a") 40 (pos 1) ∷ Value (codes "a") 50 (pos 9) ∷ Value (codes "a") 60 (pos 2) ∷ Value (codes "a") 70 (pos 7) ∷ [])
 
 abbrev series : List ℕ → ℕ → ℕ → Series
 series name from to = record { name = name; kind = kinds.Sum; from = from; to = to; step = 25 }
+
+abbrev series_of_eight : ℕ → ℕ → Series
+series_of_eight from to = record { name = codes "a"; kind = kinds.Has (pos 8); from = from; to = to; step = 25 }
 
 -- the rows 10 to 34, 35 to 59 and 60 to 70, of which each splits a window
 answers-rows : map (λ row. outcome_of (state readings) (row_query (series (codes "a") 10 70) row)) (rows_of (series (codes "a") 10 70)) ≡
     Some (Sum (negsuc 4) (pos 16)) ∷ Some (Sum (negsuc 2) (pos 25)) ∷ Some (Sum (pos 9) (pos 16)) ∷ []
 unfolding outcome_of state window_index sum_interval readings numbers_from
 answers-rows = refl
+
+-- the same rows of whether 8 is there: it isn't in the last one, where no window has both its bit and room for it
+presence-rows : map (λ row. outcome_of (state readings) (row_query (series_of_eight 10 70) row)) (rows_of (series_of_eight 10 70)) ≡
+    Some (Has Maybe) ∷ Some (Has Maybe) ∷ Some (Has Absent) ∷ []
+unfolding outcome_of state window_index readings numbers_from bit_of filter_of has union
+presence-rows = refl
 
 -- the name is tested before the range
 refusals-readings : map (refuses_series (state readings))
@@ -40,7 +50,7 @@ unfolding refuses_query state window_index readings
 refusals-readings = refl
 
 -- what the answer to a row says
-module _ (history : List Event) (s : Series) (row : ℕ) (outcome : Outcome) (answers : AnswersRow history s row outcome) where
+module _ (history : List Happened) (s : Series) (row : ℕ) (outcome : Outcome) (answers : AnswersRow history s row outcome) where
   row-is : outcome_of (state history) (row_query s row) ≡ Some outcome
   row-is = answers.is
 

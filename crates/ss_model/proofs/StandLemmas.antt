@@ -21,13 +21,14 @@ use Rattle.ss_summary.specs.declared.summary.TheConstants.{LATEST_TIME}
 use Rattle.ss_summary.proofs.Values.{IsPossible-summary_of}
 use Rattle.ss_windowing.specs.Windowing.{fits}
 use Rattle.ss_windowing.specs.declared.decay.TheConstants.{MOST_VALUES}
+use Rattle.ss_summary.specs.Points.{Point, Origin}
 use Rattle.ss_model.specs.Closed.{closed, closed_onto, joined_window, last_position}
 use Rattle.ss_model.specs.History.{CanBeSaid}
 use Rattle.ss_model.specs.Marks.{has_open, with_closed, with_marked, with_opened}
 use Rattle.ss_model.specs.Refusals.{has_all_records, is_before, is_early, has_most_values, is_past, of_named, refuses}
 use Rattle.ss_model.specs.Standing.{IsStream, IsState}
 use Rattle.ss_model.specs.State.{Stream, next_number, numbers_of, names_of, stream_named, values_in, last_time, live, records_of}
-use Rattle.ss_model.specs.Steps.{change_named, single_window, stepped, with_taken, with_plain_value}
+use Rattle.ss_model.specs.Steps.{change_named, single_window, stepped_from, with_taken, with_plain_value}
 use Rattle.ss_model.specs.declared.types.TheConstants.{MOST_RECORDS}
 use Rattle.ss_model.specs.declared.types.Window.{Window}
 use Rattle.ss_model.proofs.DropLemmas.{IsState-without}
@@ -87,10 +88,10 @@ below-has_all_records streams room = grind (arith, nat_tests)
 below-has_all_streams : (streams : List Stream) → nat_le MOST_STREAMS (length streams) ≡ false → length streams < MOST_STREAMS
 below-has_all_streams streams room = grind (arith, nat_tests)
 
-IsState-create : (streams : List Stream) (name : List ℕ) (params : Params) → IsState streams → CanCreate streams name params →
-    IsState (stepped streams (Create name params))
-unfolding stepped
-IsState-create streams name params before can =
+IsState-create : (origin : Origin) (streams : List Stream) (name : List ℕ) (params : Params) → IsState streams → CanCreate streams name params →
+    IsState (stepped_from origin streams (Create name params))
+unfolding stepped_from
+IsState-create origin streams name params before can =
     let number = next_number (numbers_of streams) in
     let new : Stream = record { number = number; name = name; params = params; windows = []; landmarks = [] } in
     let limits = or-false (nat_le MOST_STREAMS (length streams)) (list_any (λ s. s.number == LAST_STREAM) streams) can.room in
@@ -105,10 +106,10 @@ IsState-create streams name params before can =
     }
 
 -- one more record at most
-records_of-value : (s : Stream) (t : ℕ) (v : ℤ) → records_of (with_plain_value s t v) ≤ records_of s + 1
-records_of-value s t v =
+records_of-value : (s : Stream) (p : Point) → records_of (with_plain_value s p) ≤ records_of s + 1
+records_of-value s p =
     let n = values_in s + 1 in
-    omega (arith, length-closed_le (lengths_of s.params) n (s.windows ++ single_window n t v ∷ []), length_push s.windows (single_window n t v))
+    omega (arith, length-closed_le (lengths_of s.params) n (s.windows ++ single_window n p ∷ []), length_push s.windows (single_window n p))
 
 -- another stream of the same name and number in the place of one
 IsState-set : (before after : List Stream) (s u : Stream) → IsState (before ++ s ∷ after) → u.number ≡ s.number → u.name ≡ s.name →
@@ -157,31 +158,31 @@ module _ {name : List ℕ} {streams : List Stream} (at : IsFound name streams) w
   IsStream-found : IsState streams → IsStream at.stream
   IsStream-found was = (All-around IsStream at.before at.stream at.after (subst (All IsStream) at.is was.each)).one
 
-pub IsPossible-single : (t : ℕ) (v : ℤ) → t ≤ LATEST_TIME → FitsSigned w64 v → IsPossible (summary_of ((t, v) ∷ []))
-IsPossible-single t v early fits =
-    IsPossible-summary_of ((t, v) ∷ []) (record { some = omega arith; few = omega arith; rising = (omega arith, early, fits, tt) })
+pub IsPossible-single : (p : Point) → p.0 ≤ LATEST_TIME → FitsSigned w64 p.1 → IsPossible (summary_of (p ∷ []))
+IsPossible-single p early fits =
+    IsPossible-summary_of (p ∷ []) (record { some = omega arith; few = omega arith; rising = (omega arith, early, fits, tt) })
 
 -- a value, which is the open landmark's, where one is open
-pub ChangesTo-value : (s : Stream) (t : ℕ) (v : ℤ) → IsStream s → is_early s t ≡ false → has_most_values s ≡ false → t ≤ LAST_TIME → FitsSigned w64 v →
-    ChangesTo s (with_taken s t v) 1
-ChangesTo-value s t v sound later few early fits = elim (cases_Bool (has_open s.landmarks)) [
+pub ChangesTo-value : (s : Stream) (p : Point) → IsStream s → is_early s p.0 ≡ false → has_most_values s ≡ false → p.0 ≤ LAST_TIME →
+    FitsSigned w64 p.1 → ChangesTo s (with_taken s p) 1
+ChangesTo-value s p sound later few early fits = elim (cases_Bool (has_open s.landmarks)) [
   | inl begun ↦
-      (let u : Stream = record s { landmarks = with_marked s.landmarks t v } in
-      let is : with_taken s t v ≡ u = cond-true (has_open s.landmarks) u (with_plain_value s t v) begun in
-      let records = records_of-marked s t v begun in
+      (let u : Stream = record s { landmarks = with_marked s.landmarks p.0 p.1 } in
+      let is : with_taken s p ≡ u = cond-true (has_open s.landmarks) u (with_plain_value s p) begun in
+      let records = records_of-marked s p.0 p.1 begun in
       subst (λ x. ChangesTo s x 1) (sym is)
-      (record { number = refl; name = refl; sound = IsStream-marked s t v sound begun later early fits; few = omega (arith, records) }))
+      (record { number = refl; name = refl; sound = IsStream-marked s p.0 p.1 sound begun later early fits; few = omega (arith, records) }))
   | inr none ↦
-      (let u : Stream = record s { landmarks = with_marked s.landmarks t v } in
-      let is : with_taken s t v ≡ with_plain_value s t v = cond-false (has_open s.landmarks) u (with_plain_value s t v) none in
+      (let u : Stream = record s { landmarks = with_marked s.landmarks p.0 p.1 } in
+      let is : with_taken s p ≡ with_plain_value s p = cond-false (has_open s.landmarks) u (with_plain_value s p) none in
       let room : nat_le MOST_VALUES (values_in s) ≡ false = rw none at few in
       let below : values_in s < MOST_VALUES = grind (arith, nat_tests) in
       subst (λ x. ChangesTo s x 1) (sym is)
       (record {
         number = refl;
         name = refl;
-        sound = IsStream-value s t v sound none (past-early s t none later) below (IsPossible-single t v early fits);
-        few = records_of-value s t v;
+        sound = IsStream-value s p sound none (past-early s p.0 none later) below (IsPossible-single p early fits);
+        few = records_of-value s p;
       }))
 ]
 
@@ -203,21 +204,21 @@ ChangesTo-closed s t sound begun later early =
       few = omega (arith, records);
     }
 
-IsState-value : (streams : List Stream) (name : List ℕ) (t : ℕ) (v : ℤ) → IsState streams → CanAppend streams name t →
-    t ≤ LAST_TIME → FitsSigned w64 v → IsState (stepped streams (Value name t v))
-unfolding stepped
-IsState-value streams name t v was can early fits =
+IsState-value : (origin : Origin) (streams : List Stream) (name : List ℕ) (t : ℕ) (v : ℤ) → IsState streams → CanAppend streams name t →
+    t ≤ LAST_TIME → FitsSigned w64 v → IsState (stepped_from origin streams (Value name t v))
+unfolding stepped_from
+IsState-value origin streams name t v was can early fits =
     let at = found name streams was.names can.known in
     let room = below-has_all_records streams can.records in
-    IsState-change name streams at (λ s. with_taken s t v) 1 was
-    (ChangesTo-value at.stream t v (IsStream-found at was) (sym (of_named-found at (λ s. is_early s t)) ∙ can.later)
+    IsState-change name streams at (λ s. with_taken s (t, v, origin)) 1 was
+    (ChangesTo-value at.stream (t, v, origin) (IsStream-found at was) (sym (of_named-found at (λ s. is_early s t)) ∙ can.later)
     (sym (of_named-found at has_most_values) ∙ can.few) early fits)
     (omega (arith, room))
 
-IsState-open : (streams : List Stream) (name : List ℕ) (t : ℕ) → IsState streams → CanOpenAt streams name t → t ≤ LAST_TIME →
-    IsState (stepped streams (Open name t))
-unfolding stepped
-IsState-open streams name t was can early =
+IsState-open : (origin : Origin) (streams : List Stream) (name : List ℕ) (t : ℕ) → IsState streams → CanOpenAt streams name t → t ≤ LAST_TIME →
+    IsState (stepped_from origin streams (Open name t))
+unfolding stepped_from
+IsState-open origin streams name t was can early =
     let at = found name streams was.names can.known in
     let room = below-has_all_records streams can.records in
     IsState-change name streams at (λ s. record s { landmarks = with_opened s.landmarks t }) 1 was
@@ -225,24 +226,25 @@ IsState-open streams name t was can early =
     (sym (of_named-found at (λ s. is_past (last_time s) t)) ∙ can.later) early)
     (omega (arith, room))
 
-IsState-close : (streams : List Stream) (name : List ℕ) (t : ℕ) → IsState streams → CanCloseAt streams name t → t ≤ LAST_TIME →
-    IsState (stepped streams (Close name t))
-unfolding stepped
-IsState-close streams name t was can early =
+IsState-close : (origin : Origin) (streams : List Stream) (name : List ℕ) (t : ℕ) → IsState streams → CanCloseAt streams name t → t ≤ LAST_TIME →
+    IsState (stepped_from origin streams (Close name t))
+unfolding stepped_from
+IsState-close origin streams name t was can early =
     let at = found name streams was.names can.known in
     IsState-change name streams at (λ s. record s { landmarks = with_closed s.landmarks t }) 0 was
     (ChangesTo-closed at.stream t (IsStream-found at was) (sym (of_named-found at (λ s. not (has_open s.landmarks))) ∙ can.begun)
     (sym (of_named-found at (λ s. is_before (last_time s) t)) ∙ can.later) early)
     (omega (arith, was.room))
 
-IsState-dropped : (streams : List Stream) (name : List ℕ) → IsState streams → IsState (stepped streams (Drop name))
-unfolding stepped
-IsState-dropped streams name was = IsState-without name streams was
+IsState-dropped : (origin : Origin) (streams : List Stream) (name : List ℕ) → IsState streams → IsState (stepped_from origin streams (Drop name))
+unfolding stepped_from
+IsState-dropped origin streams name was = IsState-without name streams was
 
-pub IsState-stepped : (streams : List Stream) (event : Event) → IsState streams → CanBeSaid event → refuses streams event ≡ None →
-    IsState (stepped streams event)
-IsState-stepped streams (Create name params) was said none = IsState-create streams name params was (CanCreate-refuses streams name params none)
-IsState-stepped streams (Value name t v) was said none = IsState-value streams name t v was (CanAppend-refuses streams name t v none) said.0 said.1
-IsState-stepped streams (Open name t) was said none = IsState-open streams name t was (CanOpenAt-refuses streams name t none) said
-IsState-stepped streams (Close name t) was said none = IsState-close streams name t was (CanCloseAt-refuses streams name t none) said
-IsState-stepped streams (Drop name) was said none = IsState-dropped streams name was
+pub IsState-stepped : (origin : Origin) (streams : List Stream) (event : Event) → IsState streams → CanBeSaid event → refuses streams event ≡ None →
+    IsState (stepped_from origin streams event)
+IsState-stepped origin streams (Create name params) was said none = IsState-create origin streams name params was (CanCreate-refuses streams name params none)
+IsState-stepped origin streams (Value name t v) was said none =
+    IsState-value origin streams name t v was (CanAppend-refuses streams name t v none) said.0 said.1
+IsState-stepped origin streams (Open name t) was said none = IsState-open origin streams name t was (CanOpenAt-refuses streams name t none) said
+IsState-stepped origin streams (Close name t) was said none = IsState-close origin streams name t was (CanCloseAt-refuses streams name t none) said
+IsState-stepped origin streams (Drop name) was said none = IsState-dropped origin streams name was

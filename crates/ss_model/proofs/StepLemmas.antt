@@ -13,20 +13,22 @@ use Rattle.ss_catalog.specs.declared.params.Params.{Params}
 use Rattle.ss_catalog.specs.declared.refusal.Refusal.{Refusal}
 use Rattle.ss_catalog.specs.declared.refusal.Refusal.TheVariants as refusal
 use Rattle.ss_target.specs.Lengths.{has_target, lengths_of}
-use Rattle.ss_model.specs.History.{Given, creates, given_after, given_to}
+use Rattle.ss_summary.specs.Points.{Point, Origin}
+use Rattle.ss_model.specs.History.{Given, creates, given_after, given_to, Happened}
 use Rattle.ss_model.specs.Marks.{has_open, with_closed, with_opened}
 use Rattle.ss_model.specs.State.{Created, Stream, next_number, standing_after, standing, stream_after, state, last_time}
 use Rattle.ss_model.specs.Refusals.{stands, has_all_streams, has_all_records, is_before, is_early, has_most_values, is_past, first_that_applies, of_named}
 use Rattle.ss_model.specs.Refusals.{refuses}
-use Rattle.ss_model.specs.Steps.{change_named, with_taken, with_plain_value, without_named, stepped}
+use Rattle.ss_model.specs.Steps.{change_named, with_taken, with_plain_value, without_named, stepped_from}
 use Rattle.ss_model.specs.Windows.{windows}
 use Rattle.ss_model.proofs.EventLemmas.{given_to-created, given_to-event, given_to-other}
 use Rattle.ss_model.proofs.NameLemmas.{same_name-same, same_name-swap}
 use Rattle.ss_model.proofs.Incremental.{windows_push}
 use Rattle.ss_model.proofs.Stretches.{taken-windows}
 
-pub standing-push : (history : List Event) (event : Event) → standing (history ++ event ∷ []) ≡ standing_after (standing history) event
-standing-push history event = fold-append standing_after [] history (event ∷ [])
+pub standing-push : (history : List Happened) (event : Event) (origin : Origin) →
+    standing (history ++ (event, origin) ∷ []) ≡ standing_after (standing history) event
+standing-push history event origin = fold-append (λ stand (e : Happened). standing_after stand e.0) [] history ((event, origin) ∷ [])
 
 pub map-map : {X Y Z : Type 0} (f : Y → Z) (g : X → Y) (xs : List X) → map f (map g xs) ≡ map (λ x. f (g x)) xs
 map-map f g [] = refl
@@ -50,16 +52,16 @@ abbrev pub changed : List ℕ → (Stream → Stream) → Stream → Stream
 changed name change s = if same_name name s.name then change s else s
 
 -- what an event does to the stream that it names, where it creates none and drops none
-abbrev pub change_by : Event → Stream → Stream
-change_by (Create name params) s = s
-change_by (Value name t v) s = with_taken s t v
-change_by (Open name t) s = record s { landmarks = with_opened s.landmarks t }
-change_by (Close name t) s = record s { landmarks = with_closed s.landmarks t }
-change_by (Drop name) s = s
+abbrev pub change_by : Origin → Event → Stream → Stream
+change_by origin (Create name params) s = s
+change_by origin (Value name t v) s = with_taken s (t, v, origin)
+change_by origin (Open name t) s = record s { landmarks = with_opened s.landmarks t }
+change_by origin (Close name t) s = record s { landmarks = with_closed s.landmarks t }
+change_by origin (Drop name) s = s
 
 -- a value changes the stream that it names
-abbrev pub valued : List ℕ → ℕ → ℤ → Stream → Stream
-valued name t v s = changed name (λ u. with_taken u t v) s
+abbrev pub valued : List ℕ → Point → Stream → Stream
+valued name p s = changed name (λ u. with_taken u p) s
 
 -- a stream that was given something, with the windows of the values outside landmarks
 abbrev stream_given : Created → Given → Stream
@@ -71,88 +73,92 @@ stream_given c given = record {
   landmarks = given.landmarks;
 }
 
-stream_given-plain : (c : Created) (given : Given) (t : ℕ) (v : ℤ) →
-    stream_given c (record given { plain = given.plain ++ (t, v) ∷ [] }) ≡ with_plain_value (stream_given c given) t v
-stream_given-plain c given t v =
-    let len = lengths_of c.params in rw (windows_push len given.plain (t, v), taken-windows len given.plain) refl
+stream_given-plain : (c : Created) (given : Given) (p : Point) →
+    stream_given c (record given { plain = given.plain ++ p ∷ [] }) ≡ with_plain_value (stream_given c given) p
+stream_given-plain c given p =
+    let len = lengths_of c.params in rw (windows_push len given.plain p, taken-windows len given.plain) refl
 
-stream_given-value : (c : Created) (given : Given) (name : List ℕ) (t : ℕ) (v : ℤ) (begun : Bool) → has_open given.landmarks ≡ begun →
-    stream_given c (given_after given (Value name t v)) ≡ with_taken (stream_given c given) t v
-stream_given-value c given name t v true is = rw is refl
-stream_given-value c given name t v false is = rw is (stream_given-plain c given t v)
+stream_given-value : (c : Created) (origin : Origin) (given : Given) (name : List ℕ) (t : ℕ) (v : ℤ) (begun : Bool) → has_open given.landmarks ≡ begun →
+    stream_given c (given_after origin given (Value name t v)) ≡ with_taken (stream_given c given) (t, v, origin)
+stream_given-value c origin given name t v true is = rw is refl
+stream_given-value c origin given name t v false is = rw is (stream_given-plain c given (t, v, origin))
 
-stream_given-after : (c : Created) (given : Given) (event : Event) → stream_given c (given_after given event) ≡ change_by event (stream_given c given)
-stream_given-after c given (Create name params) = refl
-stream_given-after c given (Value name t v) = stream_given-value c given name t v (has_open given.landmarks) refl
-stream_given-after c given (Open name t) = refl
-stream_given-after c given (Close name t) = refl
-stream_given-after c given (Drop name) = refl
+stream_given-after : (c : Created) (origin : Origin) (given : Given) (event : Event) →
+    stream_given c (given_after origin given event) ≡ change_by origin event (stream_given c given)
+stream_given-after c origin given (Create name params) = refl
+stream_given-after c origin given (Value name t v) = stream_given-value c origin given name t v (has_open given.landmarks) refl
+stream_given-after c origin given (Open name t) = refl
+stream_given-after c origin given (Close name t) = refl
+stream_given-after c origin given (Drop name) = refl
 
-stream_after-event : (history : List Event) (event : Event) (c : Created) → creates c.name event ≡ false →
-    stream_after (history ++ event ∷ []) c ≡ changed (event_name event) (change_by event) (stream_after history c)
-stream_after-event history event c spared = elim (cases_Bool (same_name c.name (event_name event))) [
+stream_after-event : (history : List Happened) (event : Event) (origin : Origin) (c : Created) → creates c.name event ≡ false →
+    stream_after (history ++ (event, origin) ∷ []) c ≡ changed (event_name event) (change_by origin event) (stream_after history c)
+stream_after-event history event origin c spared = elim (cases_Bool (same_name c.name (event_name event))) [
   | inl same ↦
       (let back : same_name (event_name event) c.name ≡ true = sym (same_name-swap c.name (event_name event)) ∙ same in
-      rw back (ap (stream_given c) (given_to-event history c.name event same spared) ∙ stream_given-after c (given_to history c.name) event))
+      rw back (ap (stream_given c) (given_to-event history c.name event origin same spared)
+      ∙ stream_given-after c origin (given_to history c.name) event))
   | inr other ↦
       (let back : same_name (event_name event) c.name ≡ false = sym (same_name-swap c.name (event_name event)) ∙ other in
-      rw back (ap (stream_given c) (given_to-other history c.name event other)))
+      rw back (ap (stream_given c) (given_to-other history c.name event origin other)))
 ]
 
 -- an event that creates no stream changes the one that it names
-state-changed : (history : List Event) (event : Event) → standing_after (standing history) event ≡ standing history →
+state-changed : (history : List Happened) (event : Event) (origin : Origin) → standing_after (standing history) event ≡ standing history →
     ((name : List ℕ) → creates name event ≡ false) →
-    state (history ++ event ∷ []) ≡ change_named (event_name event) (change_by event) (state history)
+    state (history ++ (event, origin) ∷ []) ≡ change_named (event_name event) (change_by origin event) (state history)
 unfolding state
-state-changed history event stay spared =
-    rw (standing-push history event, stay, map-map (changed (event_name event) (change_by event)) (stream_after history) (standing history))
-    (map-same (stream_after (history ++ event ∷ [])) (λ c. changed (event_name event) (change_by event) (stream_after history c)) (standing history)
-    (λ c. stream_after-event history event c (spared c.name)))
+state-changed history event origin stay spared =
+    rw (standing-push history event origin, stay, map-map (changed (event_name event) (change_by origin event)) (stream_after history) (standing history))
+    (map-same (stream_after (history ++ (event, origin) ∷ []))
+    (λ c. changed (event_name event) (change_by origin event) (stream_after history c)) (standing history)
+    (λ c. stream_after-event history event origin c (spared c.name)))
 
-stream_after-other : (history : List Event) (name : List ℕ) (params : Params) (c : Created) → same_name name c.name ≡ false →
-    stream_after (history ++ Create name params ∷ []) c ≡ stream_after history c
-stream_after-other history name params c other =
+stream_after-other : (history : List Happened) (name : List ℕ) (params : Params) (origin : Origin) (c : Created) → same_name name c.name ≡ false →
+    stream_after (history ++ (Create name params, origin) ∷ []) c ≡ stream_after history c
+stream_after-other history name params origin c other =
     let apart : same_name c.name name ≡ false = sym (same_name-swap name c.name) ∙ other in
-    ap (stream_given c) (given_to-other history c.name (Create name params) apart)
+    ap (stream_given c) (given_to-other history c.name (Create name params) origin apart)
 
 -- a create leaves streams of other names as they were
-streams-create : (history : List Event) (name : List ℕ) (params : Params) (cs : List Created) →
+streams-create : (history : List Happened) (name : List ℕ) (params : Params) (origin : Origin) (cs : List Created) →
     stands name (map (stream_after history) cs) ≡ false →
-    map (stream_after (history ++ Create name params ∷ [])) cs ≡ map (stream_after history) cs
-streams-create history name params [] none = refl
-streams-create history name params (c ∷ cs) none = elim (cases_Bool (same_name name c.name)) [
+    map (stream_after (history ++ (Create name params, origin) ∷ [])) cs ≡ map (stream_after history) cs
+streams-create history name params origin [] none = refl
+streams-create history name params origin (c ∷ cs) none = elim (cases_Bool (same_name name c.name)) [
   | inl same ↦ (let wrong : true ≡ false = rw same at none in cc)
   | inr other ↦
       (let later : stands name (map (stream_after history) cs) ≡ false = rw other at none in
-      rw (stream_after-other history name params c other, streams-create history name params cs later) refl)
+      rw (stream_after-other history name params origin c other, streams-create history name params origin cs later) refl)
 ]
 
-state-create : (history : List Event) (name : List ℕ) (params : Params) → stands name (state history) ≡ false →
-    state (history ++ Create name params ∷ []) ≡ stepped (state history) (Create name params)
-unfolding state stepped
-state-create history name params none =
+state-create : (history : List Happened) (name : List ℕ) (params : Params) (origin : Origin) → stands name (state history) ≡ false →
+    state (history ++ (Create name params, origin) ∷ []) ≡ stepped_from origin (state history) (Create name params)
+unfolding state stepped_from
+state-create history name params origin none =
     let new : Created = record { number = next_number (map (λ s. s.number) (standing history)); name = name; params = params } in
-    let made = ap (stream_given new) (given_to-created history name params (same_name-same name)) in
+    let made = ap (stream_given new) (given_to-created history name params origin (same_name-same name)) in
     rw (
-      standing-push history (Create name params),
-      map-append (stream_after (history ++ Create name params ∷ [])) (standing history) (new ∷ []),
-      streams-create history name params (standing history) none,
+      standing-push history (Create name params) origin,
+      map-append (stream_after (history ++ (Create name params, origin) ∷ [])) (standing history) (new ∷ []),
+      streams-create history name params origin (standing history) none,
       map-map (λ s. s.number) (stream_after history) (standing history),
     ) (ap (λ (x : Stream). map (stream_after history) (standing history) ++ x ∷ []) made)
 
 -- a drop leaves of each stream what it was
-stream_after-drop : (history : List Event) (name : List ℕ) (c : Created) → stream_after (history ++ Drop name ∷ []) c ≡ stream_after history c
-stream_after-drop history name c =
-    stream_after-event history (Drop name) c refl
+stream_after-drop : (history : List Happened) (name : List ℕ) (origin : Origin) (c : Created) →
+    stream_after (history ++ (Drop name, origin) ∷ []) c ≡ stream_after history c
+stream_after-drop history name origin c =
+    stream_after-event history (Drop name) origin c refl
     ∙ cond_both (same_name name c.name) (stream_after history c) (stream_after history c) (λ s. s ≡ stream_after history c) (λ same. refl) (λ other. refl)
 
-state-drop : (history : List Event) (name : List ℕ) → state (history ++ Drop name ∷ []) ≡ without_named name (state history)
+state-drop : (history : List Happened) (name : List ℕ) (origin : Origin) → state (history ++ (Drop name, origin) ∷ []) ≡ without_named name (state history)
 unfolding state
-state-drop history name =
+state-drop history name origin =
     rw (
-      standing-push history (Drop name),
-      map-same (stream_after (history ++ Drop name ∷ [])) (stream_after history) (filter (λ s. not (same_name name s.name)) (standing history))
-          (stream_after-drop history name),
+      standing-push history (Drop name) origin,
+      map-same (stream_after (history ++ (Drop name, origin) ∷ [])) (stream_after history) (filter (λ s. not (same_name name s.name)) (standing history))
+          (stream_after-drop history name origin),
     ) (sym (filter-map (λ s. not (same_name name s.name)) (stream_after history) (standing history)))
 
 -- why an event wasn't refused
@@ -225,13 +231,13 @@ stands-refuses streams name none = elim (cases_Bool (stands name streams)) [
   | inr unknown ↦ (let wrong : Some refusal.Unknown ≡ None = rw unknown at none in cc)
 ]
 
-pub state-push : (history : List Event) (event : Event) → refuses (state history) event ≡ None →
-    state (history ++ event ∷ []) ≡ stepped (state history) event
-unfolding stepped
-state-push history (Create name params) none =
+pub state-push : (history : List Happened) (event : Event) (origin : Origin) → refuses (state history) event ≡ None →
+    state (history ++ (event, origin) ∷ []) ≡ stepped_from origin (state history) event
+unfolding stepped_from
+state-push history (Create name params) origin none =
     let can = CanCreate-refuses (state history) name params none in
-    state-create history name params can.new
-state-push history (Value name t v) none = state-changed history (Value name t v) refl (λ n. refl)
-state-push history (Open name t) none = state-changed history (Open name t) refl (λ n. refl)
-state-push history (Close name t) none = state-changed history (Close name t) refl (λ n. refl)
-state-push history (Drop name) none = state-drop history name
+    state-create history name params origin can.new
+state-push history (Value name t v) origin none = state-changed history (Value name t v) origin refl (λ n. refl)
+state-push history (Open name t) origin none = state-changed history (Open name t) origin refl (λ n. refl)
+state-push history (Close name t) origin none = state-changed history (Close name t) origin refl (λ n. refl)
+state-push history (Drop name) origin none = state-drop history name origin

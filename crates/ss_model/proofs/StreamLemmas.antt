@@ -21,6 +21,7 @@ use Rattle.ss_summary.specs.Figures.{IsPossible}
 use Rattle.ss_summary.specs.Summaries.{summary_of}
 use Rattle.ss_target.specs.Lengths.{lengths_of}
 use Rattle.ss_windowing.specs.declared.decay.TheConstants.{MOST_VALUES}
+use Rattle.ss_summary.specs.Points.{Point}
 use Rattle.ss_model.specs.Closed.{closed}
 use Rattle.ss_model.specs.Joins.{JoinsDue}
 use Rattle.ss_model.specs.Marks.{has_open, lies_free, with_closed, with_marked, with_opened}
@@ -171,16 +172,16 @@ IsStream-closed s t sound begun before early = record {
 }
 
 -- a stream with one more value outside landmarks, as a window of its own
-pub IsStream-single : (s : Stream) (t : ℕ) (v : ℤ) → IsStream s → has_open s.landmarks ≡ false → is_past (last_time s) t ≡ false →
-    values_in s < MOST_VALUES → IsPossible (summary_of ((t, v) ∷ [])) →
-    IsStream (record s { windows = s.windows ++ single_window (values_in s + 1) t v ∷ [] })
-IsStream-single s t v sound none past few possible =
-    let w = single_window (values_in s + 1) t v in
-    let one = lies_free-single s.landmarks (values_in s + 1) t v (is_free-past s t none past) in
+pub IsStream-single : (s : Stream) (p : Point) → IsStream s → has_open s.landmarks ≡ false → is_past (last_time s) p.0 ≡ false →
+    values_in s < MOST_VALUES → IsPossible (summary_of (p ∷ [])) →
+    IsStream (record s { windows = s.windows ++ single_window (values_in s + 1) p ∷ [] })
+IsStream-single s p sound none past few possible =
+    let w = single_window (values_in s + 1) p in
+    let one = lies_free-single s.landmarks (values_in s + 1) p (is_free-past s p.0 none past) in
     record {
       target = sound.target;
       number = sound.number;
-      windows = AreWindows_push s.windows t v sound.windows few (newest-past s t past) possible;
+      windows = AreWindows_push s.windows p sound.windows few (newest-past s p.0 past) possible;
       landmarks = sound.landmarks;
       free = list_all-append (lies_free s.landmarks) s.windows (w ∷ [])
           ∙ and_from (list_all (lies_free s.landmarks) s.windows) (list_all (lies_free s.landmarks) (w ∷ [])) sound.free
@@ -199,13 +200,13 @@ IsStream-joined len n s ws sound joins = record {
 }
 
 -- and after those that are due are joined
-pub IsStream-value : (s : Stream) (t : ℕ) (v : ℤ) → IsStream s → has_open s.landmarks ≡ false → is_past (last_time s) t ≡ false →
-    values_in s < MOST_VALUES → IsPossible (summary_of ((t, v) ∷ [])) → IsStream (with_plain_value s t v)
-IsStream-value s t v sound none past few possible =
+pub IsStream-value : (s : Stream) (p : Point) → IsStream s → has_open s.landmarks ≡ false → is_past (last_time s) p.0 ≡ false →
+    values_in s < MOST_VALUES → IsPossible (summary_of (p ∷ [])) → IsStream (with_plain_value s p)
+IsStream-value s p sound none past few possible =
     let len = lengths_of s.params in
     let n = values_in s + 1 in
-    let ws = s.windows ++ single_window n t v ∷ [] in
-    IsStream-joined len n (record s { windows = ws }) (closed len n ws) (IsStream-single s t v sound none past few possible) (JoinsDue-closed len n ws)
+    let ws = s.windows ++ single_window n p ∷ [] in
+    IsStream-joined len n (record s { windows = ws }) (closed len n ws) (IsStream-single s p sound none past few possible) (JoinsDue-closed len n ws)
 
 -- ---- how many records it needs then
 

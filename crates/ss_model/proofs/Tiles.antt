@@ -1,5 +1,5 @@
 -- Windows tile after an append and after a close, and what follows of two side by side.
-use Rattle.std.proofs.Common.{◌≡◌, ℕ, ◌+◌, ◌<◌, ℤ, List, [], ◌∷◌, ◌++◌, length, Some, refl, arith, add_assoc, add-zero, ◌∙◌, sym, ap, subst, get_or}
+use Rattle.std.proofs.Common.{◌≡◌, ℕ, ◌+◌, ◌<◌, List, [], ◌∷◌, ◌++◌, length, Some, refl, arith, add_assoc, add-zero, ◌∙◌, sym, ap, subst, get_or}
 use Rattle.std.proofs.Common.{take, drop, append_assoc}
 use Rattle.std.proofs.lemmas.List.{take-append-drop, drop_more}
 use Rattle.std.proofs.lemmas.Bool.{cond_both}
@@ -9,6 +9,7 @@ use Rattle.ss_windowing.specs.declared.decay.TheConstants.{MOST_VALUES}
 use Rattle.ss_summary.specs.Figures.{IsPossible}
 use Rattle.ss_summary.specs.Summaries.{summary_of, joined}
 use Rattle.ss_summary.proofs.SummaryLemmas.{IsPossible-joined}
+use Rattle.ss_summary.specs.Points.{Point}
 use Rattle.ss_model.specs.Windows.{taken, newest_time}
 use Rattle.ss_model.specs.Closed.{last_position, joined_window, closed_onto, closed}
 use Rattle.ss_model.specs.Tiling.{StandFrom, AreWindows, AreNeighbours}
@@ -36,11 +37,11 @@ stand_push : (ws : List Window) (w : Window) → StandFrom 1 0 ws → w.first �
 stand_push [] w stands place later possible = (place, possible, omega arith, tt)
 stand_push (u ∷ us) w stands place later possible = StandFrom_push 1 0 u us w stands (omega arith) later possible
 
-pub AreWindows_push : (ws : List Window) (t : ℕ) (v : ℤ) → AreWindows ws → taken ws < MOST_VALUES →
-    ((old : ℕ) → newest_time ws ≡ Some old → old < t) → IsPossible (summary_of ((t, v) ∷ [])) →
-    AreWindows (ws ++ record { first = taken ws + 1; summary = summary_of ((t, v) ∷ []) } ∷ [])
-AreWindows_push ws t v tiles room later possible =
-    let w : Window = record { first = taken ws + 1; summary = summary_of ((t, v) ∷ []) } in
+pub AreWindows_push : (ws : List Window) (p : Point) → AreWindows ws → taken ws < MOST_VALUES →
+    ((old : ℕ) → newest_time ws ≡ Some old → old < p.0) → IsPossible (summary_of (p ∷ [])) →
+    AreWindows (ws ++ record { first = taken ws + 1; summary = summary_of (p ∷ []) } ∷ [])
+AreWindows_push ws p tiles room later possible =
+    let w : Window = record { first = taken ws + 1; summary = summary_of (p ∷ []) } in
     record { stand = stand_push ws w tiles.stand refl later possible; few = omega (arith, taken-append ws (w ∷ [])) }
 
 any_time : (first time : ℕ) (ws : List Window) → StandFrom first time ws → StandFrom first 0 ws

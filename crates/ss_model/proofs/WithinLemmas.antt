@@ -3,8 +3,8 @@ use Rattle.std.proofs.Common.{◌≡◌, ℕ, zero, suc, ◌==◌, Bool, List, [
 use Rattle.std.specs.Prelude.{All}
 use Rattle.std.proofs.lemmas.Bool.{cases_Bool}
 use Rattle.std.proofs.lemmas.List.Elements.{All-head, All-tail}
-use Rattle.ss_catalog.specs.declared.event.Event.{Event}
 use Rattle.ss_target.specs.Lengths.{lengths_of}
+use Rattle.ss_model.specs.History.{Happened}
 use Rattle.ss_model.specs.Decay.{IsWithinTarget, IsReadWithinTarget}
 use Rattle.ss_model.specs.Refusals.{IsHistory}
 use Rattle.ss_model.specs.Shown.{placed_of}
@@ -34,7 +34,7 @@ IsReadWithinTarget-windows len n (w ∷ ws) zero p all read =
 IsReadWithinTarget-windows len n (w ∷ ws) (suc place) p all read =
     IsReadWithinTarget-windows len n ws place p (All-tail (IsWithinTarget len n) w ws all) read
 
-pub IsReadWithinTarget-read : (history : List Event) (streams : List Stream) (number place : ℕ) (p : Placed) → IsHistory history → streams ≡ state history →
+pub IsReadWithinTarget-read : (history : List Happened) (streams : List Stream) (number place : ℕ) (p : Placed) → IsHistory history → streams ≡ state history →
     IfSome (stream_numbered number streams) (λ s. slice_get (map placed_of s.windows) place ≡ Some p) →
     IfSome (stream_numbered number streams) (λ s. IsReadWithinTarget (lengths_of s.params) (values_in s) p)
 IsReadWithinTarget-read history streams number place p whole stand read =

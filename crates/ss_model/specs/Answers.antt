@@ -1,5 +1,5 @@
 -- What a state answers to a query, and when that is true.
-use Rattle.std.specs.Prelude.{◌≡◌, ℕ, ◌≤◌, Bool, not, nat_lt, ℤ, ◌≤ℤ◌, List, [], ◌∷◌, Option, option_map}
+use Rattle.std.specs.Prelude.{◌≡◌, ℕ, ◌≤◌, Bool, true, false, not, nat_lt, ℤ, ◌≤ℤ◌, List, [], ◌∷◌, Option, option_map}
 use Rattle.std.specs.List.{filter}
 use Rattle.std.specs.Option.{option_map_or}
 use Rattle.ss_catalog.specs.declared.query.Kind.{Kind}
@@ -9,13 +9,16 @@ use Rattle.ss_catalog.specs.declared.refusal.Refusal.{Refusal}
 use Rattle.ss_catalog.specs.declared.refusal.Refusal.TheVariants.{Unknown, Range}
 use Rattle.ss_bounds.specs.Truth.{HoldsExtreme}
 use Rattle.ss_landmarks.specs.Free.{is_free}
-use Rattle.ss_model.specs.Interval.{interval_of_count, interval_of_sum, interval_of_least, interval_of_greatest, is_split, IsExact}
+use Rattle.ss_summary.specs.Points.{Point}
+use Rattle.ss_model.specs.Interval.{interval_of_count, interval_of_sum, interval_of_least, interval_of_greatest, is_split, presence_of, IsExact}
 use Rattle.ss_model.specs.Marks.{marked_values}
 use Rattle.ss_model.specs.Refusals.{stands, first_that_applies}
 use Rattle.ss_model.specs.State.{Stream, stream_named}
-use Rattle.ss_model.specs.Truth.{true_count, true_sum, true_least, true_greatest}
+use Rattle.ss_model.specs.Truth.{true_count, true_sum, true_least, true_greatest, true_presence}
 use Rattle.ss_model.specs.declared.outcome.Outcome.{Outcome}
-use Rattle.ss_model.specs.declared.outcome.Outcome.TheVariants.{Count, Sum, Min, Max}
+use Rattle.ss_model.specs.declared.outcome.Outcome.TheVariants.{Count, Sum, Min, Max, Has}
+use Rattle.ss_model.specs.declared.outcome.Presence.{Presence}
+use Rattle.ss_model.specs.declared.outcome.Presence.TheVariants.{Absent, Present, Maybe}
 use Rattle.ss_model.specs.declared.types.Window.{Window}
 
 -- the refusals of a query in the order of their numbers, each with whether it applies
@@ -27,13 +30,14 @@ unfoldable pub refuses_query : List Stream → Query → Option Refusal
 refuses_query streams query = first_that_applies (query_refusals streams query)
 
 -- the answer of what is asked for, from which times are free, the windows of a stream and the values of its landmarks
-abbrev pub answer_of_kind : Kind → (ℕ → Bool) → ℕ → ℕ → List Window → List (ℕ × ℤ) → Outcome
+abbrev pub answer_of_kind : Kind → (ℕ → Bool) → ℕ → ℕ → List Window → List Point → Outcome
 answer_of_kind kinds.Count free from to windows marked =
     let counts = interval_of_count free from to windows marked in Count counts.0 counts.1
 answer_of_kind kinds.Sum free from to windows marked =
     let sums = interval_of_sum free from to windows marked in Sum sums.0 sums.1
 answer_of_kind kinds.Min free from to windows marked = Min (interval_of_least free from to windows marked)
 answer_of_kind kinds.Max free from to windows marked = Max (interval_of_greatest free from to windows marked)
+answer_of_kind (kinds.Has value) free from to windows marked = Has (presence_of value free from to windows marked)
 
 -- the answer of a stream
 abbrev pub answer_of : Query → Stream → Outcome
@@ -47,14 +51,22 @@ outcome_of streams query = option_map (answer_of query) (stream_named query.name
 abbrev pub split_by : List Stream → Query → List Window
 split_by streams query = option_map_or (λ s. filter (is_split query.from query.to) s.windows) (stream_named query.name streams) []
 
+-- what is known of whether a value is there is true
+abbrev pub HoldsPresence : Presence → Bool → Type 0
+HoldsPresence Absent truth = truth ≡ false
+HoldsPresence Present truth = truth ≡ true
+HoldsPresence Maybe truth = Unit {0}
+
 -- an answer holds the truth over the values of a stream, those outside landmarks and those of landmarks
-abbrev pub HoldsTruth : Query → List (ℕ × ℤ) → List (ℕ × ℤ) → Outcome → Type 0
+abbrev pub HoldsTruth : Query → List Point → List Point → Outcome → Type 0
 HoldsTruth query plain marked (Count lo hi) =
     let truth = true_count query.from query.to plain marked in (lo ≤ truth) × (truth ≤ hi)
 HoldsTruth query plain marked (Sum lo hi) =
     let truth = true_sum query.from query.to plain marked in (lo ≤ℤ truth) × (truth ≤ℤ hi)
 HoldsTruth query plain marked (Min e) = HoldsExtreme e (true_least query.from query.to plain marked)
 HoldsTruth query plain marked (Max e) = HoldsExtreme e (true_greatest query.from query.to plain marked)
+HoldsTruth query plain marked (Has presence) =
+    (value : ℤ) × (query.kind ≡ kinds.Has value) × HoldsPresence presence (true_presence value query.from query.to plain marked)
 
 -- an answer is to what was asked for
 abbrev pub IsOfKind : Kind → Outcome → Type 0
@@ -62,10 +74,13 @@ IsOfKind kind (Count lo hi) = kind ≡ kinds.Count
 IsOfKind kind (Sum lo hi) = kind ≡ kinds.Sum
 IsOfKind kind (Min e) = kind ≡ kinds.Min
 IsOfKind kind (Max e) = kind ≡ kinds.Max
+IsOfKind kind (Has _) = (value : ℤ) × (kind ≡ kinds.Has value)
 
--- an answer is one number, or says that there is no value
+-- an answer is one number, or says that there is no value. Of whether a value is there nothing is said: a window may leave that open
+-- which lies whole in the range.
 abbrev pub IsExactOutcome : Outcome → Type 0
 IsExactOutcome (Count lo hi) = lo ≡ hi
 IsExactOutcome (Sum lo hi) = lo ≡ hi
 IsExactOutcome (Min e) = IsExact e
 IsExactOutcome (Max e) = IsExact e
+IsExactOutcome (Has _) = Unit {0}

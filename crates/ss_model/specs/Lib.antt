@@ -13,6 +13,7 @@ pub mod Standing
 pub mod Steps
 pub mod Shown
 pub mod Outline
+pub mod Origins
 pub mod Truth
 pub mod Interval
 pub mod Answers

@@ -2,6 +2,7 @@
 use Rattle.std.specs.Prelude.{ℕ, ℤ, max, Bool, ◌&&◌, nat_le, is_some, List, [], ◌∷◌, ◌++◌, map, fold, option_to_list, Option, Some, None}
 use Rattle.ss_landmarks.specs.Free.{free, is_free}
 use Rattle.ss_landmarks.specs.Landmark.{Landmark, LandmarkValue, all_values, change_last, closed_at, open_landmark, opened_at, with_value}
+use Rattle.ss_summary.specs.Points.{Point, New}
 use Rattle.ss_model.specs.declared.types.Window.{Window}
 
 -- whether a landmark is open
@@ -18,9 +19,9 @@ with_marked landmarks t v = change_last (with_value (record { t = t; v = v })) l
 abbrev pub with_closed : List Landmark → ℕ → List Landmark
 with_closed landmarks t = change_last (closed_at t) landmarks
 
--- the values of all landmarks, each a (time, value)
-abbrev pub marked_values : List Landmark → List (ℕ × ℤ)
-marked_values landmarks = map (λ (value : LandmarkValue). (value.t, value.v)) (all_values landmarks)
+-- The values of all landmarks. They are kept one by one, so nothing depends on where they are from, and all count as new.
+abbrev pub marked_values : List Landmark → List Point
+marked_values landmarks = map (λ (value : LandmarkValue). (value.t, value.v, New)) (all_values landmarks)
 
 -- the later of two times, where there are any
 abbrev pub later : Option ℕ → Option ℕ → Option ℕ

@@ -11,7 +11,7 @@ use Rattle.ss_catalog.specs.declared.refusal.Refusal.{Refusal}
 use Rattle.ss_landmarks.specs.Landmark.{Landmark, open_landmark}
 use Rattle.ss_target.specs.Lengths.{has_target}
 use Rattle.ss_windowing.specs.declared.decay.TheConstants.{MOST_VALUES}
-use Rattle.ss_model.specs.History.{CanBeSaid}
+use Rattle.ss_model.specs.History.{CanBeSaid, Happened}
 use Rattle.ss_model.specs.Marks.{has_open}
 use Rattle.ss_model.specs.State.{Stream, state, stream_named, values_in, last_time, live}
 use Rattle.ss_model.specs.declared.types.TheConstants.{MOST_RECORDS}
@@ -90,6 +90,6 @@ unfoldable pub refuses_reading : List Stream → List ℕ → Option Refusal
 refuses_reading streams name = first_that_applies ((not (stands name streams), refusal.Unknown) ∷ [])
 
 -- a history: events that can be said, none of them refused in the state of the events before it
-pub record IsHistory (history : List Event) : Type 0 where
-  pub said : (before after : List Event) (event : Event) → history ≡ before ++ event ∷ after → CanBeSaid event
-  pub accepted : (before after : List Event) (event : Event) → history ≡ before ++ event ∷ after → refuses (state before) event ≡ None
+pub record IsHistory (history : List Happened) : Type 0 where
+  pub said : (before after : List Happened) (e : Happened) → history ≡ before ++ e ∷ after → CanBeSaid e.0
+  pub accepted : (before after : List Happened) (e : Happened) → history ≡ before ++ e ∷ after → refuses (state before) e.0 ≡ None

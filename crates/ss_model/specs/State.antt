@@ -6,7 +6,7 @@ use Rattle.ss_catalog.specs.declared.event.Event.TheVariants.{Create, Value, Ope
 use Rattle.ss_catalog.specs.declared.params.Params.{Params}
 use Rattle.ss_landmarks.specs.Landmark.{Landmark, all_values}
 use Rattle.ss_target.specs.Lengths.{lengths_of}
-use Rattle.ss_model.specs.History.{landmarks_of, values_of}
+use Rattle.ss_model.specs.History.{landmarks_of, values_of, Happened}
 use Rattle.ss_model.specs.Marks.{later, latest_of}
 use Rattle.ss_model.specs.Windows.{windows, taken, newest_time}
 use Rattle.ss_model.specs.declared.types.Window.{Window}
@@ -40,11 +40,11 @@ standing_after standing (Close name t) = standing
 standing_after standing (Drop name) = filter (λ s. not (same_name name s.name)) standing
 
 -- the streams that stand after a history, in order of creation: those that weren't dropped after their last create
-abbrev pub standing : List Event → List Created
-standing history = fold standing_after [] history
+abbrev pub standing : List Happened → List Created
+standing history = fold (λ stand (e : Happened). standing_after stand e.0) [] history
 
 -- a stream after a history, with the windows of the whole list of its values outside landmarks
-abbrev pub stream_after : List Event → Created → Stream
+abbrev pub stream_after : List Happened → Created → Stream
 stream_after history s = record {
   number = s.number;
   name = s.name;
@@ -54,7 +54,7 @@ stream_after history s = record {
 }
 
 -- the state after a history: the streams that stand, in order of creation
-unfoldable pub state : List Event → List Stream
+unfoldable pub state : List Happened → List Stream
 state history = map (stream_after history) (standing history)
 
 -- how many values a stream has taken outside landmarks

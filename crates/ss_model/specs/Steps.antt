@@ -1,8 +1,9 @@
 -- How one more event changes a state.
-use Rattle.std.specs.Prelude.{ℕ, ℤ, ◌+◌, not, if◌then◌else◌, List, [], ◌∷◌, ◌++◌, map, filter, length, Option, Some, None}
+use Rattle.std.specs.Prelude.{ℕ, ◌+◌, not, if◌then◌else◌, List, [], ◌∷◌, ◌++◌, map, filter, length, Option, Some, None}
 use Rattle.ss_catalog.specs.Names.{same_name}
 use Rattle.ss_catalog.specs.declared.event.Event.{Event}
 use Rattle.ss_catalog.specs.declared.event.Event.TheVariants.{Create, Value, Open, Close, Drop}
+use Rattle.ss_summary.specs.Points.{Point, Origin, New}
 use Rattle.ss_summary.specs.Summaries.{summary_of}
 use Rattle.ss_target.specs.Lengths.{lengths_of}
 use Rattle.ss_model.specs.Closed.{closed}
@@ -12,18 +13,18 @@ use Rattle.ss_model.specs.declared.types.Ack.{Ack}
 use Rattle.ss_model.specs.declared.types.Window.{Window}
 
 -- a value at a position, as a window of its own
-abbrev pub single_window : ℕ → ℕ → ℤ → Window
-single_window position t v = record { first = position; summary = summary_of ((t, v) ∷ []) }
+abbrev pub single_window : ℕ → Point → Window
+single_window position p = record { first = position; summary = summary_of (p ∷ []) }
 
 -- a stream with one more value outside landmarks: a window of its own after the others, and then those that are due are joined
-abbrev pub with_plain_value : Stream → ℕ → ℤ → Stream
-with_plain_value s t v =
+abbrev pub with_plain_value : Stream → Point → Stream
+with_plain_value s p =
     let n = values_in s + 1 in
-    record s { windows = closed (lengths_of s.params) n (s.windows ++ single_window n t v ∷ []) }
+    record s { windows = closed (lengths_of s.params) n (s.windows ++ single_window n p ∷ []) }
 
 -- a stream with one more value, which is the open landmark's, where one is open
-abbrev pub with_taken : Stream → ℕ → ℤ → Stream
-with_taken s t v = if has_open s.landmarks then record s { landmarks = with_marked s.landmarks t v } else with_plain_value s t v
+abbrev pub with_taken : Stream → Point → Stream
+with_taken s p = if has_open s.landmarks then record s { landmarks = with_marked s.landmarks p.0 p.1 } else with_plain_value s p
 
 -- the streams, with that of a name changed
 abbrev pub change_named : List ℕ → (Stream → Stream) → List Stream → List Stream
@@ -33,14 +34,18 @@ change_named name change streams = map (λ s. if same_name name s.name then chan
 abbrev pub without_named : List ℕ → List Stream → List Stream
 without_named name streams = filter (λ s. not (same_name name s.name)) streams
 
--- the state after one more event that isn't refused. A landmark's event touches no window.
-unfoldable pub stepped : List Stream → Event → List Stream
-stepped streams (Create name params) =
+-- the state after one more event of this origin that isn't refused. A landmark's event touches no window.
+unfoldable pub stepped_from : Origin → List Stream → Event → List Stream
+stepped_from origin streams (Create name params) =
     streams ++ record { number = next_number (numbers_of streams); name = name; params = params; windows = []; landmarks = [] } ∷ []
-stepped streams (Value name t v) = change_named name (λ s. with_taken s t v) streams
-stepped streams (Open name t) = change_named name (λ s. record s { landmarks = with_opened s.landmarks t }) streams
-stepped streams (Close name t) = change_named name (λ s. record s { landmarks = with_closed s.landmarks t }) streams
-stepped streams (Drop name) = without_named name streams
+stepped_from origin streams (Value name t v) = change_named name (λ s. with_taken s (t, v, origin)) streams
+stepped_from origin streams (Open name t) = change_named name (λ s. record s { landmarks = with_opened s.landmarks t }) streams
+stepped_from origin streams (Close name t) = change_named name (λ s. record s { landmarks = with_closed s.landmarks t }) streams
+stepped_from origin streams (Drop name) = without_named name streams
+
+-- the same of an event as a store with filters adds it
+abbrev pub stepped : List Stream → Event → List Stream
+stepped streams event = stepped_from New streams event
 
 -- what is said of a stream, and zeros where it doesn't stand
 abbrev pub said_of : Option Stream → Ack

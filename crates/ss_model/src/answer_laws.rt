@@ -3,16 +3,17 @@ ghost use Rattle.std.specs.Prelude.{◌≡◌, List, [], Some, None, IsSome};
 ghost use Rattle.ss_catalog.specs.declared.event.Event.{Event};
 ghost use Rattle.ss_catalog.specs.declared.query.Query.{Query};
 ghost use Rattle.ss_model.specs.Answers.{HoldsTruth, IsExactOutcome, IsOfKind, outcome_of, refuses_query, split_by};
-ghost use Rattle.ss_model.specs.History.{marked_of, values_of};
+ghost use Rattle.ss_model.specs.History.{marked_of, values_of, Happened};
 ghost use Rattle.ss_model.specs.Outline.{SameOutlines};
 ghost use Rattle.ss_model.specs.Refusals.{IsHistory};
 ghost use Rattle.ss_model.specs.State.{Stream, state};
 ghost use Rattle.ss_model.specs.declared.outcome.Outcome.{Outcome};
 
 /// What the state of a history answers holds the truth over all values that the history has of the stream, those outside landmarks
-/// and those of landmarks. It is to what was asked for, and leaves nothing open where the range splits no window.
+/// and those of landmarks. It is to what was asked for. Where the range splits no window it leaves nothing open, but for whether a
+/// value is there.
 pub fn outcomes_hold_the_truth()
-    ensures truth { (history : List Event) (query : Query) (outcome : Outcome) → IsHistory history →
+    ensures truth { (history : List Happened) (query : Query) (outcome : Outcome) → IsHistory history →
         outcome_of (state history) query ≡ Some outcome → HoldsTruth query (values_of history query.name) (marked_of history query.name) outcome }
     ensures kind { (streams : List Stream) (query : Query) (outcome : Outcome) →
         outcome_of streams query ≡ Some outcome → IsOfKind query.kind outcome }

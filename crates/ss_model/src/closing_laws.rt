@@ -3,6 +3,7 @@ ghost use Rattle.std.specs.Prelude.{◌≡◌, ◌+◌, ℕ, ℤ, List, [], ◌�
 ghost use Rattle.std.specs.List.{list_all};
 ghost use Rattle.ss_landmarks.specs.Landmark.{Landmark};
 ghost use Rattle.ss_summary.specs.Summaries.{summary_of};
+ghost use Rattle.ss_summary.specs.Points.{Point};
 ghost use Rattle.ss_model.specs.Windows.{newest_time, taken, windows};
 ghost use Rattle.ss_model.specs.Closed.{closed};
 ghost use Rattle.ss_model.specs.Decay.{NoneIsDue};
@@ -47,14 +48,14 @@ pub fn joining_due_keeps_windows()
 pub fn closing_again_changes_nothing()
     ensures of_closed { (len : ℕ → ℕ) (n : ℕ) (ws : List Window) → AreWindows ws →
         closed len n (closed len n ws) ≡ closed len n ws }
-    ensures of_values { (len : ℕ → ℕ) (values : List (ℕ × ℤ)) →
+    ensures of_values { (len : ℕ → ℕ) (values : List Point) →
         closed len (length values) (windows len values) ≡ windows len values }
 {}
 
 /// Where one more value was put after the windows of some values, and of the joins that were due then any were made, as a
 /// crash may leave them, closing gives the windows of all the values.
 pub fn interrupted_joins_close_to_the_windows()
-    ensures { (len : ℕ → ℕ) (values : List (ℕ × ℤ)) (p : ℕ × ℤ) (ws : List Window) →
+    ensures { (len : ℕ → ℕ) (values : List Point) (p : Point) (ws : List Window) →
         JoinsDue len (length values + 1)
         (windows len values ++ record { first = length values + 1; summary = summary_of (p ∷ []) } ∷ []) ws →
         closed len (length values + 1) ws ≡ windows len (values ++ p ∷ []) }

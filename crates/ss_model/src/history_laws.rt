@@ -3,14 +3,16 @@ ghost use Rattle.std.specs.Prelude.{◌≡◌, ◌≢◌, ◌+◌, ◌*◌, ◌<
 ghost use Rattle.ss_catalog.specs.Events.{event_name};
 ghost use Rattle.ss_catalog.specs.declared.event.Event.{Event};
 ghost use Rattle.ss_target.specs.Lengths.{lengths_of};
+ghost use Rattle.ss_summary.specs.Points.{Origin};
 ghost use Rattle.ss_model.specs.Decay.{cover, IsReadWithinTarget, IsWithinTarget};
-ghost use Rattle.ss_model.specs.History.{CanBeSaid, landmarks_of, values_of};
+ghost use Rattle.ss_model.specs.History.{CanBeSaid, landmarks_of, values_of, Happened};
 ghost use Rattle.ss_model.specs.Marks.{later, latest_of};
+ghost use Rattle.ss_model.specs.Origins.{as_old, unfiltered_stream};
 ghost use Rattle.ss_model.specs.Refusals.{IsHistory, refuses};
 ghost use Rattle.ss_model.specs.Shown.{placed_of};
 ghost use Rattle.ss_model.specs.Standing.{IsState};
 ghost use Rattle.ss_model.specs.State.{last_time, state, Stream, stream_named, stream_numbered, values_in};
-ghost use Rattle.ss_model.specs.Steps.{stepped};
+ghost use Rattle.ss_model.specs.Steps.{stepped_from};
 ghost use Rattle.ss_model.specs.Windows.{time_of_last, windows};
 ghost use Rattle.ss_model.specs.declared.types.Placed.{Placed};
 
@@ -18,49 +20,56 @@ ghost use Rattle.ss_model.specs.declared.types.Placed.{Placed};
 /// before it by one step.
 pub fn states_go_on_by_steps()
     ensures start { state [] ≡ [] }
-    ensures step { (history : List Event) (event : Event) → refuses (state history) event ≡ None →
-        state (history ++ event ∷ []) ≡ stepped (state history) event }
+    ensures step { (history : List Happened) (event : Event) (origin : Origin) → refuses (state history) event ≡ None →
+        state (history ++ (event, origin) ∷ []) ≡ stepped_from origin (state history) event }
 {}
 
 /// A history goes on by each event that can be said and isn't refused, and by no other.
 pub fn histories_go_on()
     ensures start { IsHistory [] }
-    ensures step { (history : List Event) (event : Event) → IsHistory (history ++ event ∷ [])
+    ensures step { (history : List Happened) (event : Event) (origin : Origin) → IsHistory (history ++ (event, origin) ∷ [])
         ↔ IsHistory history × CanBeSaid event × (refuses (state history) event ≡ None) }
 {}
 
 /// What every state meets stays so under a step, and so it holds of the state of every history.
 pub fn states_stay_states()
     ensures start { IsState [] }
-    ensures step { (streams : List Stream) (event : Event) → IsState streams → CanBeSaid event →
-        refuses streams event ≡ None → IsState (stepped streams event) }
-    ensures histories { (history : List Event) → IsHistory history → IsState (state history) }
+    ensures step { (origin : Origin) (streams : List Stream) (event : Event) → IsState streams → CanBeSaid event →
+        refuses streams event ≡ None → IsState (stepped_from origin streams event) }
+    ensures histories { (history : List Happened) → IsHistory history → IsState (state history) }
+{}
+
+/// Where the values of a history are from changes nothing but the filters of windows. Were all of them old, each filter would have
+/// all bits, and the same events would be refused.
+pub fn origins_change_filters_alone()
+    ensures state { (history : List Happened) → state (map as_old history) ≡ map unfiltered_stream (state history) }
+    ensures history { (history : List Happened) → IsHistory (map as_old history) ↔ IsHistory history }
 {}
 
 /// An event changes no stream but the one that it names.
 pub fn other_streams_stay()
-    ensures { (streams : List Stream) (event : Event) (name : List ℕ) → name ≢ event_name event →
-        stream_named name (stepped streams event) ≡ stream_named name streams }
+    ensures { (origin : Origin) (streams : List Stream) (event : Event) (name : List ℕ) → name ≢ event_name event →
+        stream_named name (stepped_from origin streams event) ≡ stream_named name streams }
 {}
 
 /// What is read off a stream of a state, by the values that the history has of it.
 pub fn streams_are_of_their_values()
-    ensures windows { (history : List Event) →
+    ensures windows { (history : List Happened) →
         All (λ s. s.windows ≡ windows (lengths_of s.params) (values_of history s.name)) (state history) }
-    ensures count { (history : List Event) → All (λ s. values_in s ≡ length (values_of history s.name)) (state history) }
-    ensures landmarks { (history : List Event) → All (λ s. s.landmarks ≡ landmarks_of history s.name) (state history) }
-    ensures time { (history : List Event) →
+    ensures count { (history : List Happened) → All (λ s. values_in s ≡ length (values_of history s.name)) (state history) }
+    ensures landmarks { (history : List Happened) → All (λ s. s.landmarks ≡ landmarks_of history s.name) (state history) }
+    ensures time { (history : List Happened) →
         All (λ s. last_time s ≡ later (time_of_last (values_of history s.name)) (latest_of (landmarks_of history s.name))) (state history) }
 {}
 
 /// In the state of a history each stream has at most 2K - 1 windows where K target windows cover its values, and no window
 /// is longer than the target window that holds its newest value.
 pub fn states_keep_to_their_targets()
-    ensures decay { (history : List Event) →
+    ensures decay { (history : List Happened) →
         All (λ s. 0 < values_in s → length s.windows + 1 ≤ 2 * cover (lengths_of s.params) (values_in s)) (state history) }
-    ensures within { (history : List Event) → IsHistory history →
+    ensures within { (history : List Happened) → IsHistory history →
         All (λ s. All (IsWithinTarget (lengths_of s.params) (values_in s)) s.windows) (state history) }
-    ensures read { (history : List Event) (streams : List Stream) (number place : ℕ) (p : Placed) → IsHistory history →
+    ensures read { (history : List Happened) (streams : List Stream) (number place : ℕ) (p : Placed) → IsHistory history →
         streams ≡ state history → IfSome (stream_numbered number streams) (λ s. slice_get (map placed_of s.windows) place ≡ Some p) →
         IfSome (stream_numbered number streams) (λ s. IsReadWithinTarget (lengths_of s.params) (values_in s) p) }
 {}

@@ -1,7 +1,8 @@
 // Laws over the definitions, each the contract of a function that does nothing.
-ghost use Rattle.std.specs.Prelude.{◌≡◌, ◌+◌, ◌<◌, ◌≤◌, ℕ, ℤ, List, [], ◌∷◌, ◌++◌, length, Some};
+ghost use Rattle.std.specs.Prelude.{◌≡◌, ◌+◌, ◌<◌, ◌≤◌, ℕ, List, [], ◌∷◌, ◌++◌, length, Some};
 ghost use Rattle.ss_summary.specs.Figures.{IsPossible};
 ghost use Rattle.ss_summary.specs.Summaries.{summary_of, joined};
+ghost use Rattle.ss_summary.specs.Points.{Point};
 ghost use Rattle.ss_model.specs.Windows.{windows, taken, newest_time, time_of_last};
 ghost use Rattle.ss_model.specs.Closed.{closed, joined_window, last_position};
 ghost use Rattle.ss_model.specs.Tiling.{AreWindows, AreNeighbours};
@@ -12,7 +13,7 @@ use ss_windowing::MOST_VALUES;
 /// Incremental equals from scratch: the windows of one more value are the windows before and the new value as a
 /// window of its own, where each run of neighbours in one target window is joined.
 pub fn incremental_is_from_scratch()
-    ensures { (len : ℕ → ℕ) (values : List (ℕ × ℤ)) (p : ℕ × ℤ) →
+    ensures { (len : ℕ → ℕ) (values : List Point) (p : Point) →
         windows len (values ++ p ∷ [])
         ≡ closed len (length values + 1)
         (windows len values ++ record { first = length values + 1; summary = summary_of (p ∷ []) } ∷ []) }
@@ -20,19 +21,19 @@ pub fn incremental_is_from_scratch()
 
 /// The windows of some values hold as many.
 pub fn windows_count_values()
-    ensures { (len : ℕ → ℕ) (values : List (ℕ × ℤ)) → taken (windows len values) ≡ length values }
+    ensures { (len : ℕ → ℕ) (values : List Point) → taken (windows len values) ≡ length values }
 {}
 
 /// The newest time of the windows of some values is that of the last value.
 pub fn windows_end_last()
-    ensures { (len : ℕ → ℕ) (values : List (ℕ × ℤ)) → newest_time (windows len values) ≡ time_of_last values }
+    ensures { (len : ℕ → ℕ) (values : List Point) → newest_time (windows len values) ≡ time_of_last values }
 {}
 
 /// Windows stay windows when a later value is put after them as a window of its own.
 pub fn append_keeps_windows()
-    ensures { (ws : List Window) (t : ℕ) (v : ℤ) → AreWindows ws → taken ws < MOST_VALUES →
-        ((old : ℕ) → newest_time ws ≡ Some old → old < t) → IsPossible (summary_of ((t, v) ∷ [])) →
-        AreWindows (ws ++ record { first = taken ws + 1; summary = summary_of ((t, v) ∷ []) } ∷ []) }
+    ensures { (ws : List Window) (p : Point) → AreWindows ws → taken ws < MOST_VALUES →
+        ((old : ℕ) → newest_time ws ≡ Some old → old < p.0) → IsPossible (summary_of (p ∷ [])) →
+        AreWindows (ws ++ record { first = taken ws + 1; summary = summary_of (p ∷ []) } ∷ []) }
 {}
 
 /// Windows stay windows when two side by side are joined.

@@ -21,18 +21,19 @@ pub use decay_laws::{
     closing_leaves_none_due, cover_is_least, decay_bound, no_window_outgrows_its_target,
 };
 pub use history_laws::{
-    histories_go_on, other_streams_stay, states_go_on_by_steps, states_keep_to_their_targets,
-    states_stay_states, streams_are_of_their_values,
+    histories_go_on, origins_change_filters_alone, other_streams_stay, states_go_on_by_steps,
+    states_keep_to_their_targets, states_stay_states, streams_are_of_their_values,
 };
 pub use laws::{
     append_keeps_windows, closing_keeps_newest_time, closing_keeps_taken, closing_keeps_windows,
     incremental_is_from_scratch, joining_keeps_windows, windows_are_neighbours,
     windows_count_values, windows_end_last, windows_stand_in_place,
 };
-pub use outcome::Outcome;
+pub use outcome::{Outcome, Presence};
 pub use outline_laws::refusals_read_outlines;
 pub use query_laws::{
-    answers_hold_the_truth, answers_hold_the_truth_of_histories, unsplit_answers_are_exact,
+    answers_hold_the_truth, answers_hold_the_truth_of_histories, one_of_some_is_among_them,
+    unsplit_answers_are_exact,
 };
 pub use series_laws::rows_hold_the_truth;
 pub use types::{Ack, MOST_RECORDS, Placed, Run, StreamRow, Window};

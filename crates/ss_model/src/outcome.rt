@@ -1,7 +1,19 @@
 // What is answered to a query.
 use ss_bounds::Extreme;
 
-/// The answer to a query: an interval that holds the truth, over all values of the stream in the range.
+/// What is known of whether a value is among those asked for.
+#[derive(Clone, Copy, Debug, PartialEq, Eq)]
+pub enum Presence {
+    /// It isn't.
+    Absent,
+    /// It is.
+    Present,
+    /// It may be.
+    Maybe,
+}
+
+/// The answer to a query: an interval that holds the truth, over all values of the stream in the range, or, of one value, what
+/// is known of whether it is one of these.
 /// docs/DEFINITIONS.md ("Queries: the truth and the answer") says which one.
 #[derive(Clone, Copy, Debug, PartialEq, Eq)]
 pub enum Outcome {
@@ -13,4 +25,6 @@ pub enum Outcome {
     Min(Extreme),
     /// What is known of the greatest value.
     Max(Extreme),
+    /// What is known of whether a value is there.
+    Has(Presence),
 }

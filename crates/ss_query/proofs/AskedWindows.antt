@@ -8,9 +8,9 @@ use Rattle.ss_codec.specs.declared.record.Record.{Record}
 use Rattle.ss_line.specs.Line.{IsLine, entry_at, index_of, place_at}
 use Rattle.ss_line.specs.declared.entry.At.{At}
 use Rattle.ss_line.specs.declared.entry.Entry.{Entry}
+use Rattle.ss_catalog.specs.declared.query.Kind.{Kind}
 use Rattle.ss_catalog.specs.declared.query.Query.{Query}
-use Rattle.ss_landmarks.specs.ValuesIn.{tally_of, values_between}
-use Rattle.ss_landmarks.specs.declared.tally.Tally.{Tally}
+use Rattle.ss_landmarks.specs.ValuesIn.{values_between}
 use Rattle.ss_model.specs.State.{Stream}
 use Rattle.ss_model.specs.declared.types.Window.{Window}
 use Rattle.ss_outside.proofs.CrashLemmas.{reads-joined, reads-none}
@@ -38,32 +38,32 @@ use Rattle.ss_query.proofs.Rooms.{HasRoom-none}
 
 -- Entries are looked at in a row, by records that are others then, of what they show, up to a place of a line. What they show
 -- stays, as do content and images.
-pub record WalksTo (part : StreamParts) (from to : ℕ) (seen : Seen) (next : Option At) (line : IsWalkedTo part from to seen next)
+pub record WalksTo (part : StreamParts) (query : Query) (seen : Seen) (next : Option At) (line : IsWalkedTo part query.from query.to seen next)
     (was is : RecordsState) (old new : Told) : Type 0 where
   pub left : (others : List (ℕ × Option Record)) (s : Stream) → IsHeldIn others part s (shown_by was old.content) →
-      AreLeft s part.landmarks.landmarks from to (entries_in line.before) (entries_in line.rest) seen
+      AreLeft s part.landmarks.landmarks query.kind query.from query.to (entries_in line.before) (entries_in line.rest) seen
   pub kept : AreKept is new.content
   pub reads : OnlyReads old new
 
-pub record IsAsking (before now : DiskView) (records records_now : RecordsState) (part : StreamParts) (from to : ℕ) (seen : Seen)
+pub record IsAsking (before now : DiskView) (records records_now : RecordsState) (part : StreamParts) (query : Query) (seen : Seen)
     (next : Option At) : Type 0 where
-  pub line : IsWalkedTo part from to seen next
-  pub step : Step fine before now (WalksTo part from to seen next line records records_now)
+  pub line : IsWalkedTo part query.from query.to seen next
+  pub step : Step fine before now (WalksTo part query seen next line records records_now)
   pub journal : records_now.journal ≡ records.journal
   pub live : records_now.live ≡ records.live
 
 -- before the first of a stream's windows
-AreLeft-none : (others : List (ℕ × Option Record)) (part : StreamParts) (s : Stream) (image : List ℕ) (from to : ℕ) (marked : Tally) →
-    marked ≡ tally_of (values_between part.landmarks.landmarks from to) → IsHeldIn others part s image →
-    AreLeft s part.landmarks.landmarks from to [] (entries_of part) (marks_seen marked)
-AreLeft-none others part s image from to marked is held = record {
+AreLeft-none : (others : List (ℕ × Option Record)) (part : StreamParts) (s : Stream) (image : List ℕ) (kind : Kind) (from to : ℕ) →
+    IsHeldIn others part s image →
+    AreLeft s part.landmarks.landmarks kind from to [] (entries_of part) (marks_seen kind (values_between part.landmarks.landmarks from to))
+AreLeft-none others part s image kind from to held = record {
   gone = [];
   windows = s.windows;
   is = refl;
   spans_gone = refl;
   spans = held.agrees.positions;
   times = held.agrees.times;
-  seen_is = ap marks_seen is;
+  seen_is = refl;
   position = 0;
   time = 0;
   stand = held.stream.windows.stand;
@@ -73,30 +73,31 @@ AreLeft-none others part s image from to marked is held = record {
 }
 
 -- before any record is read
-pub IsAsking-none : (disk : DiskView) (records : RecordsState) (part : StreamParts) (from to : ℕ) (start : Option At) →
-    BeginsAt part.line.entries from start → OfContent disk (AreKept records) →
-    (marked : Tally) → marked ≡ tally_of (values_between part.landmarks.landmarks from to) →
-    IsAsking disk disk records records part from to (marks_seen marked) start
-IsAsking-none disk records part from to start begins kept marked marked_is =
-    let line : IsWalkedTo part from to (marks_seen marked) start = record {
+pub IsAsking-none : (disk : DiskView) (records : RecordsState) (part : StreamParts) (query : Query) (start : Option At) →
+    BeginsAt part.line.entries query.from start → OfContent disk (AreKept records) →
+    IsAsking disk disk records records part query (marks_seen query.kind (values_between part.landmarks.landmarks query.from query.to)) start
+IsAsking-none disk records part query start begins kept =
+    let values = values_between part.landmarks.landmarks query.from query.to in
+    let seen = marks_seen query.kind values in
+    let line : IsWalkedTo part query.from query.to seen start = record {
       before = begins.before;
       rest = begins.rest;
       is = begins.is;
       place = begins.place;
-      marked = marked_is;
-      room = HasRoom-none marked;
+      marked = refl;
+      room = HasRoom-none query.kind values;
       cuts = record { left = tt; right = tt };
     } in
     let split : entries_of part ≡ entries_in begins.before ++ entries_in begins.rest =
     ap (λ es. entries_in es) begins.is ∙ map-append (λ (e : At × Entry). e.1) begins.before begins.rest in
     record {
       line = line;
-      step = step-none disk (WalksTo part from to (marks_seen marked) start line records records) (λ told. record {
+      step = step-none disk (WalksTo part query seen start line records records) (λ told. record {
         left = λ others s held.
-            AreLeft-early s part.landmarks.landmarks from to [] begins.before (entries_in begins.rest) (marks_seen marked)
-            (recursion_from_All (λ (e : At × Entry). e.1.t_last < from) begins.before begins.early)
-            (subst (λ es. AreLeft s part.landmarks.landmarks from to [] es (marks_seen marked)) split
-            (AreLeft-none others part s (shown_by records disk.told.content) from to marked marked_is held));
+            AreLeft-early s part.landmarks.landmarks query.kind query.from query.to [] begins.before (entries_in begins.rest) seen
+            (recursion_from_All (λ (e : At × Entry). e.1.t_last < query.from) begins.before begins.early)
+            (subst (λ es. AreLeft s part.landmarks.landmarks query.kind query.from query.to [] es seen) split
+            (AreLeft-none others part s (shown_by records disk.told.content) query.kind query.from query.to held));
         kept = kept told;
         reads = reads-none disk.told;
       });
@@ -105,10 +106,11 @@ IsAsking-none disk records part from to start begins kept marked marked_is =
     }
 
 -- the same, where the place is known
-pub asking-at : {before now : DiskView} {records records_now : RecordsState} {part : StreamParts} {from to : ℕ} {seen : Seen} {next place : Option At} →
-    next ≡ place → IsAsking before now records records_now part from to seen next → IsAsking before now records records_now part from to seen place
-asking-at {before} {now} {records} {records_now} {part} {from} {to} {seen} same asking =
-    subst (λ n. IsAsking before now records records_now part from to seen n) same asking
+pub asking-at : {before now : DiskView} {records records_now : RecordsState} {part : StreamParts} {query : Query} {seen : Seen}
+    {next place : Option At} → next ≡ place → IsAsking before now records records_now part query seen next →
+    IsAsking before now records records_now part query seen place
+asking-at {before} {now} {records} {records_now} {part} {query} {seen} same asking =
+    subst (λ n. IsAsking before now records records_now part query seen n) same asking
 
 -- the window that changed is one of the stream
 pub changed-window : (why : ReadError) (slot : ℕ) (slots : List ℕ) → IfChanged (verdict_of_read {T = Seen} (Err why)) (λ at. at ≡ slot) →
@@ -117,9 +119,9 @@ changed-window error.Disk slot slots changed among = tt
 changed-window (error.Changed at) slot slots changed among = subst (Contains slots) (sym changed) among
 
 -- what is known of all windows is known of the stream
-seen-whole : (part : StreamParts) (from to : ℕ) (seen : Seen) (s : Stream) → part.landmarks.landmarks ≡ s.landmarks →
-    seen ≡ seen_by part.landmarks.landmarks from to s.windows → seen ≡ seen_of from to s
-seen-whole part from to seen s same is = is ∙ ap (λ ls. seen_by ls from to s.windows) same
+seen-whole : (part : StreamParts) (kind : Kind) (from to : ℕ) (seen : Seen) (s : Stream) → part.landmarks.landmarks ≡ s.landmarks →
+    seen ≡ seen_by part.landmarks.landmarks kind from to s.windows → seen ≡ seen_of kind from to s
+seen-whole part kind from to seen s same is = is ∙ ap (λ ls. seen_by ls kind from to s.windows) same
 
 -- a failure says nothing of what is known
 IsSeenAs-err : (one other : Seen) (why : ReadError) → IsSeenAs one (Err why) → IsSeenAs other (Err why)
@@ -132,8 +134,11 @@ shown-stays was is old new journal content = ap (shown was) (sym content) ∙ ap
 
 -- one more entry is looked at
 module _ {before mid : DiskView} {records records_mid : RecordsState} {part : StreamParts} {seen : Seen} {at : At} {entry : Entry} (query : Query)
-    (line : IsLine part.line) (asking : IsAsking before mid records records_mid part query.from query.to seen (Some at))
+    (line : IsLine part.line) (asking : IsAsking before mid records records_mid part query seen (Some at))
     (read : entry_at part.line.entries at ≡ Some entry) where
+  abbrev kind : Kind
+  kind = query.kind
+
   abbrev from : ℕ
   from = query.from
 
@@ -142,11 +147,11 @@ module _ {before mid : DiskView} {records records_mid : RecordsState} {part : St
 
   -- the window that was to be looked at
   record IsSeenNext (s : Stream) (result : Result Seen ReadError) : Type 0 where
-    next : IsNext s part.landmarks.landmarks from to (entries_in asking.line.before) entry (entries_in (after line asking.line read)) seen
-    is : IsSeenAs (seen_after part.landmarks.landmarks from to seen next.window) result
+    next : IsNext s part.landmarks.landmarks kind from to (entries_in asking.line.before) entry (entries_in (after line asking.line read)) seen
+    is : IsSeenAs (seen_after part.landmarks.landmarks kind from to seen next.window) result
 
   sees-next : (old now new : Told) (records_new : RecordsState) (result : Result Seen ReadError) →
-      WalksTo part from to seen (Some at) asking.line records records_mid old now → SeesEntry part from to entry seen records_mid records_new result now new →
+      WalksTo part query seen (Some at) asking.line records records_mid old now → SeesEntry part query entry seen records_mid records_new result now new →
       (others : List (ℕ × Option Record)) (s : Stream) → IsHeldIn others part s (shown_by records old.content) → IsSeenNext s result
   sees-next old now new records_new result walks sees others s held =
       let next = IsNext-here line asking.line read s (walks.left others s held) in
@@ -158,22 +163,22 @@ module _ {before mid : DiskView} {records records_mid : RecordsState} {part : St
   module _ {after_it : DiskView} {records_now : RecordsState} where
     -- what follows where it can't be seen
     pub failed-look : (why : ReadError) →
-        Step (verdict_of_read {T = Seen} (Err why)) mid after_it (SeesEntry part from to entry seen records_mid records_now (Err why)) →
+        Step (verdict_of_read {T = Seen} (Err why)) mid after_it (SeesEntry part query entry seen records_mid records_now (Err why)) →
         Step (verdict_of_read {T = Seen} (Err why)) before after_it (SeesStream part query records records_now (Err why))
     failed-look why step =
-        step-then {Q = SeesEntry part from to entry seen records_mid records_now (Err why)} asking.step step
+        step-then {Q = SeesEntry part query entry seen records_mid records_now (Err why)} asking.step step
         (λ walks sees. record {
           seen = λ others s held.
               let is = sees-next before.told mid.told after_it.told records_now (Err why) walks sees others s held in
-              IsSeenAs-err (seen_after part.landmarks.landmarks from to seen is.next.window) (seen_of from to s) why is.is;
+              IsSeenAs-err (seen_after part.landmarks.landmarks kind from to seen is.next.window) (seen_of kind from to s) why is.is;
           kept = sees.kept;
           reads = reads-joined before.told mid.told after_it.told walks.reads sees.reads;
         })
 
-    pub IsAsking-more : (now : Seen) → Step fine mid after_it (SeesEntry part from to entry seen records_mid records_now (Ok now)) →
+    pub IsAsking-more : (now : Seen) → Step fine mid after_it (SeesEntry part query entry seen records_mid records_now (Ok now)) →
         HasRoom now × (now.marked ≡ seen.marked) → HasCuts now → KeepsRecords fine records_mid records_now → (next : Option At) →
         next ≡ place_at part.line.entries (index_of part.line.entries at + 1) →
-        IsAsking before after_it records records_now part from to now next
+        IsAsking before after_it records records_now part query now next
     unfolding IsWalkedTo-more after
     IsAsking-more now step room cuts keeps next place = record {
       line = IsWalkedTo-more line asking.line read next now place room.0 room.1 cuts;
@@ -193,7 +198,7 @@ module _ {before mid : DiskView} {records records_mid : RecordsState} {part : St
   late-look late =
       step-as asking.step (λ walks. record {
         seen = λ others s held.
-            seen-whole part from to seen s held.agrees.landmarks (late-next (IsNext-here line asking.line read s (walks.left others s held)) late);
+            seen-whole part kind from to seen s held.agrees.landmarks (late-next (IsNext-here line asking.line read s (walks.left others s held)) late);
         kept = walks.kept;
         reads = walks.reads;
       })
@@ -203,21 +208,22 @@ no-spans [] none = refl
 no-spans (w ∷ ws) none = absurd (cc)
 
 -- at the end of the line all windows were looked at
-seen-all : (part : StreamParts) (from to : ℕ) (seen : Seen) (line : IsWalkedTo part from to seen None) (s : Stream) →
-    AreLeft s part.landmarks.landmarks from to (entries_in line.before) (entries_in line.rest) seen →
-    seen ≡ seen_by part.landmarks.landmarks from to s.windows
-seen-all part from to seen line s left =
+seen-all : (part : StreamParts) (kind : Kind) (from to : ℕ) (seen : Seen) (line : IsWalkedTo part from to seen None) (s : Stream) →
+    AreLeft s part.landmarks.landmarks kind from to (entries_in line.before) (entries_in line.rest) seen →
+    seen ≡ seen_by part.landmarks.landmarks kind from to s.windows
+seen-all part kind from to seen line s left =
     let none : line.rest ≡ [] = none-first line.rest line.place in
     let none_left : left.windows ≡ [] = no-spans left.windows (sym left.spans ∙ ap (λ es. map span_held (entries_in es)) none) in
     left.seen_is
-    ∙ ap (λ ws. seen_by part.landmarks.landmarks from to ws) (sym (left.is ∙ ap (λ ws. left.gone ++ ws) none_left ∙ append-nil left.gone))
+    ∙ ap (λ ws. seen_by part.landmarks.landmarks kind from to ws) (sym (left.is ∙ ap (λ ws. left.gone ++ ws) none_left ∙ append-nil left.gone))
 
 pub all-look : {before now : DiskView} {records records_now : RecordsState} {part : StreamParts} {seen : Seen} (query : Query) →
-    IsAsking before now records records_now part query.from query.to seen None → Step fine before now (SeesStream part query records records_now (Ok seen))
+    IsAsking before now records records_now part query seen None → Step fine before now (SeesStream part query records records_now (Ok seen))
 all-look {part = part} {seen = seen} query asking =
     step-as asking.step (λ walks. record {
       seen = λ others s held.
-          seen-whole part query.from query.to seen s held.agrees.landmarks (seen-all part query.from query.to seen asking.line s (walks.left others s held));
+          seen-whole part query.kind query.from query.to seen s held.agrees.landmarks
+          (seen-all part query.kind query.from query.to seen asking.line s (walks.left others s held));
       kept = walks.kept;
       reads = walks.reads;
     })

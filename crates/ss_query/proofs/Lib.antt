@@ -3,6 +3,7 @@ pub mod Records
 pub mod NearSums
 pub mod MarkedTallies
 pub mod Rooms
+pub mod Presences
 pub mod Seeing
 pub mod Outcomes
 pub mod SeenAnswers

@@ -17,15 +17,16 @@ use Rattle.ss_landmarks.specs.ValuesIn as marks
 use Rattle.ss_landmarks.proofs.OrderLemmas.{RiseFrom-all_values}
 use Rattle.ss_landmarks.proofs.ValueLemmas.{RiseFrom-fit}
 use Rattle.ss_model.specs.Marks.{marked_values}
+use Rattle.ss_summary.specs.Points.{New}
 use Rattle.ss_query.specs.Asked.{IsFewMarked}
 
 -- the values alone
-abbrev alone : List LandmarkValue → List ℤ
+abbrev pub alone : List LandmarkValue → List ℤ
 alone values = map (λ (value : LandmarkValue). value.v) values
 
 -- those that are asked for are those of the range
 asked-pairs : (from to : ℕ) (values : List LandmarkValue) →
-    asked from to (map (λ (value : LandmarkValue). (value.t, value.v)) values) ≡ alone (filter (lies_in from to) values)
+    asked from to (map (λ (value : LandmarkValue). (value.t, value.v, New)) values) ≡ alone (filter (lies_in from to) values)
 asked-pairs from to [] = refl
 asked-pairs from to (value ∷ values) = elim (cases_Bool (lies_in from to value)) [
   | inl is ↦ rw is (ap (λ zs. value.v ∷ zs) (asked-pairs from to values))
@@ -47,7 +48,7 @@ greatest-alone (value ∷ []) = refl
 greatest-alone (value ∷ next ∷ values) = ap (λ o. Some (greater value.v o)) (greatest-alone (next ∷ values))
 
 module _ (landmarks : List Landmark) (from to : ℕ) where
-  asked-marked : asked from to (marked_values landmarks) ≡ alone (values_between landmarks from to)
+  pub asked-marked : asked from to (marked_values landmarks) ≡ alone (values_between landmarks from to)
   asked-marked = asked-pairs from to (all_values landmarks)
 
   pub length-asked : length (values_between landmarks from to) ≡ length (asked from to (marked_values landmarks))

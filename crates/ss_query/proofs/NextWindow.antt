@@ -11,6 +11,7 @@ use Rattle.std.proofs.lemmas.List.Sorted.{IsPermutation-middle}
 use Rattle.std.proofs.lemmas.List.Sums.{fold-append}
 use Rattle.std.proofs.lemmas.Option.{get_or_from_slice_get, slice_get-map, slice_get_within}
 use Rattle.ss_codec.specs.declared.record.Record.{Record}
+use Rattle.ss_catalog.specs.declared.query.Kind.{Kind}
 use Rattle.ss_landmarks.specs.Landmark.{Landmark}
 use Rattle.ss_landmarks.specs.ValuesIn.{tally_of, values_between}
 use Rattle.ss_line.specs.Line.{IsLine, StandsIn, entry_at, index_of, place_at}
@@ -42,8 +43,8 @@ list_all-middle test xs x ys all =
     (and_parts (test x) (list_all test ys) (and_parts (list_all test xs) (list_all test (x ∷ ys)) (sym (list_all-append test xs (x ∷ ys)) ∙ all)).1).0
 
 -- what is known of a range once these windows of a stream are read
-abbrev pub seen_by : List Landmark → ℕ → ℕ → List Window → Seen
-seen_by landmarks from to ws = fold (seen_after landmarks from to) (marks_seen (tally_of (values_between landmarks from to))) ws
+abbrev pub seen_by : List Landmark → Kind → ℕ → ℕ → List Window → Seen
+seen_by landmarks kind from to ws = fold (seen_after landmarks kind from to) (marks_seen kind (values_between landmarks from to)) ws
 
 -- how many entries are left from a place on
 abbrev pub left_from : List (At × Entry) → Option At → ℕ
@@ -52,14 +53,14 @@ left_from entries (Some at) = length entries - index_of entries at
 
 -- the windows of a stream, those before a place in its line and those from it on, which have so many values and end before a
 -- time at most; what is known of a range is that of the ones before
-pub record AreLeft (s : Stream) (landmarks : List Landmark) (from to : ℕ) (before rest : List Entry) (seen : Seen) : Type 0 where
+pub record AreLeft (s : Stream) (landmarks : List Landmark) (kind : Kind) (from to : ℕ) (before rest : List Entry) (seen : Seen) : Type 0 where
   pub gone : List Window
   pub windows : List Window
   pub is : s.windows ≡ gone ++ windows
   pub spans_gone : map span_held before ≡ map span_of gone
   pub spans : map span_held rest ≡ map span_of windows
   pub times : map times_held rest ≡ map times_of windows
-  pub seen_is : seen ≡ seen_by landmarks from to gone
+  pub seen_is : seen ≡ seen_by landmarks kind from to gone
   pub position : ℕ
   pub time : ℕ
   pub stand : StandFrom (position + 1) time windows
@@ -83,8 +84,8 @@ first-window e es [] same = absurd (cc)
 first-window e es (w ∷ vs) same = (w, vs, refl, ap (λ (l : List (ℕ × ℕ)). get_or l 0 (0, 0)) same, ap (λ (l : List (ℕ × ℕ)). drop 1 l) same)
 
 -- the next window of a stream, whose entry is this one
-pub record IsNext (s : Stream) (landmarks : List Landmark) (from to : ℕ) (before : List Entry) (entry : Entry) (after : List Entry) (seen : Seen) :
-    Type 0 where
+pub record IsNext (s : Stream) (landmarks : List Landmark) (kind : Kind) (from to : ℕ) (before : List Entry) (entry : Entry) (after : List Entry)
+    (seen : Seen) : Type 0 where
   pub gone : List Window
   pub window : Window
   pub behind : List Window
@@ -94,7 +95,7 @@ pub record IsNext (s : Stream) (landmarks : List Landmark) (from to : ℕ) (befo
   pub time : times_held entry ≡ times_of window
   pub spans : map span_held after ≡ map span_of behind
   pub times : map times_held after ≡ map times_of behind
-  pub seen_is : seen ≡ seen_by landmarks from to gone
+  pub seen_is : seen ≡ seen_by landmarks kind from to gone
   pub position : ℕ
   pub taken_so_far : seen.taken ≤ position
   pub later : seen.next_time ≤ window.summary.t_first
@@ -102,8 +103,9 @@ pub record IsNext (s : Stream) (landmarks : List Landmark) (from to : ℕ) (befo
   pub few : position + window.summary.count + taken behind ≤ GREATEST_COUNT
   pub stand : StandFrom (position + window.summary.count + 1) (window.summary.t_last + 1) behind
 
-module _ {s : Stream} {landmarks : List Landmark} {from to : ℕ} {before : List Entry} {entry : Entry} {after : List Entry} {seen : Seen} where
-  pub IsNext-left : AreLeft s landmarks from to before (entry ∷ after) seen → IsNext s landmarks from to before entry after seen
+module _ {s : Stream} {landmarks : List Landmark} {kind : Kind} {from to : ℕ} {before : List Entry} {entry : Entry} {after : List Entry}
+    {seen : Seen} where
+  pub IsNext-left : AreLeft s landmarks kind from to before (entry ∷ after) seen → IsNext s landmarks kind from to before entry after seen
   IsNext-left left =
       let cut = first-window entry after left.windows left.spans in
       let times : map times_held (entry ∷ after) ≡ map times_of (cut.0 ∷ cut.1) = left.times ∙ ap (map times_of) cut.2 in
@@ -134,7 +136,7 @@ module _ {s : Stream} {landmarks : List Landmark} {from to : ℕ} {before : List
         stand = subst (λ n. StandFrom n (cut.0.summary.t_last + 1) cut.1) next stand.3;
       }
 
-  module _ (next : IsNext s landmarks from to before entry after seen) where
+  module _ (next : IsNext s landmarks kind from to before entry after seen) where
     abbrev w : Window
     w = next.window
 
@@ -145,17 +147,17 @@ module _ {s : Stream} {landmarks : List Landmark} {from to : ℕ} {before : List
     gone-next =
         map-append span_held before (entry ∷ []) ∙ ap₂ (λ xs x. xs ++ x ∷ []) next.spans_gone next.span ∙ sym (map-append span_of next.gone (w ∷ []))
 
-    seen-next : seen_after landmarks from to seen w ≡ seen_by landmarks from to (next.gone ++ w ∷ [])
+    seen-next : seen_after landmarks kind from to seen w ≡ seen_by landmarks kind from to (next.gone ++ w ∷ [])
     seen-next =
-        ap (λ (now : Seen). seen_after landmarks from to now w) next.seen_is
-        ∙ sym (fold-append (seen_after landmarks from to) (marks_seen (tally_of (values_between landmarks from to))) next.gone (w ∷ []))
+        ap (λ (now : Seen). seen_after landmarks kind from to now w) next.seen_is
+        ∙ sym (fold-append (seen_after landmarks kind from to) (marks_seen kind (values_between landmarks from to)) next.gone (w ∷ []))
 
-    seen-apart : is_apart from to w ≡ true → seen ≡ seen_by landmarks from to (next.gone ++ w ∷ [])
-    seen-apart apart = sym (cond-true (is_apart from to w) seen (seen_with landmarks from to seen w) apart) ∙ seen-next
+    seen-apart : is_apart from to w ≡ true → seen ≡ seen_by landmarks kind from to (next.gone ++ w ∷ [])
+    seen-apart apart = sym (cond-true (is_apart from to w) seen (seen_with landmarks kind from to seen w) apart) ∙ seen-next
 
     -- the windows that are left, once this one was looked at
     left-with : (now : Seen) → now.taken ≤ seen.taken + w.summary.count → now.next_time ≤ w.summary.t_last + 1 →
-        now ≡ seen_by landmarks from to (next.gone ++ w ∷ []) → AreLeft s landmarks from to (before ++ entry ∷ []) after now
+        now ≡ seen_by landmarks kind from to (next.gone ++ w ∷ []) → AreLeft s landmarks kind from to (before ++ entry ∷ []) after now
     left-with now few soon is = record {
       gone = next.gone ++ w ∷ [];
       windows = next.behind;
@@ -172,53 +174,54 @@ module _ {s : Stream} {landmarks : List Landmark} {from to : ℕ} {before : List
       few = next.few;
     }
 
-    pub left-apart : is_apart from to w ≡ true → AreLeft s landmarks from to (before ++ entry ∷ []) after seen
+    pub left-apart : is_apart from to w ≡ true → AreLeft s landmarks kind from to (before ++ entry ∷ []) after seen
     left-apart apart =
         let later = next.later in let rises = next.rises in left-with seen (omega arith) (omega (arith, later, rises)) (seen-apart apart)
 
     Ends : Seen → Type 0
     Ends now = (now.taken ≤ seen.taken + w.summary.count) × (now.next_time ≤ w.summary.t_last + 1)
 
-    ends-after : Ends (seen_after landmarks from to seen w)
+    ends-after : Ends (seen_after landmarks kind from to seen w)
     unfolding Ends
     ends-after =
         let later = next.later in
         let rises = next.rises in
         elim (cases_Bool (is_apart from to w)) [
           | inl apart ↦
-              subst Ends (sym (cond-true (is_apart from to w) seen (seen_with landmarks from to seen w) apart)) (omega arith, omega (arith, later, rises))
+              subst Ends (sym (cond-true (is_apart from to w) seen (seen_with landmarks kind from to seen w) apart)) (omega arith, omega (arith, later, rises))
           | inr meets ↦
-              subst Ends (sym (cond-false (is_apart from to w) seen (seen_with landmarks from to seen w) meets)) (omega arith, omega arith)
+              subst Ends (sym (cond-false (is_apart from to w) seen (seen_with landmarks kind from to seen w) meets)) (omega arith, omega arith)
         ]
 
-    pub AreLeft-after : AreLeft s landmarks from to (before ++ entry ∷ []) after (seen_after landmarks from to seen w)
+    pub AreLeft-after : AreLeft s landmarks kind from to (before ++ entry ∷ []) after (seen_after landmarks kind from to seen w)
     unfolding Ends
-    AreLeft-after = left-with (seen_after landmarks from to seen w) ends-after.0 ends-after.1 seen-next
+    AreLeft-after = left-with (seen_after landmarks kind from to seen w) ends-after.0 ends-after.1 seen-next
 
     -- where it begins after the range, nothing more is in it
-    pub late-next : to < entry.t_first → seen ≡ seen_by landmarks from to s.windows
+    pub late-next : to < entry.t_first → seen ≡ seen_by landmarks kind from to s.windows
     late-next late =
         let begins : entry.t_first ≡ w.summary.t_first = ap (λ (p : ℕ × ℕ). p.0) next.time in
         let rises = next.rises in
         let here = seen-apart (apart-late from to w.summary.t_first w.summary.t_last (omega (arith, begins, late))) in
-        let rest = fold-late landmarks from to seen _ _ next.behind next.stand (omega (arith, begins, late, rises)) in
-        sym rest ∙ ap (λ (now : Seen). fold (seen_after landmarks from to) now next.behind) here
-        ∙ sym (fold-append (seen_after landmarks from to) (marks_seen (tally_of (values_between landmarks from to))) (next.gone ++ w ∷ []) next.behind)
-        ∙ ap (λ ws. seen_by landmarks from to ws) (append_assoc next.gone (w ∷ []) next.behind ∙ sym next.is)
+        let rest = fold-late landmarks kind from to seen _ _ next.behind next.stand (omega (arith, begins, late, rises)) in
+        sym rest ∙ ap (λ (now : Seen). fold (seen_after landmarks kind from to) now next.behind) here
+        ∙ sym (fold-append (seen_after landmarks kind from to) (marks_seen kind (values_between landmarks from to)) (next.gone ++ w ∷ []) next.behind)
+        ∙ ap (λ ws. seen_by landmarks kind from to ws) (append_assoc next.gone (w ∷ []) next.behind ∙ sym next.is)
 
 -- windows that end before the range are passed over
-pub AreLeft-early : (s : Stream) (landmarks : List Landmark) (from to : ℕ) (before : List Entry) (early : List (At × Entry)) (rest : List Entry) (seen : Seen) →
-    AllByRecursion (λ (e : At × Entry). e.1.t_last < from) early → AreLeft s landmarks from to before (entries_in early ++ rest) seen →
-    AreLeft s landmarks from to (before ++ entries_in early) rest seen
-AreLeft-early s landmarks from to before [] rest seen all left =
-    subst (λ es. AreLeft s landmarks from to es rest seen) (sym (append-nil before)) left
-AreLeft-early s landmarks from to before (e ∷ es) rest seen all left =
+pub AreLeft-early : (s : Stream) (landmarks : List Landmark) (kind : Kind) (from to : ℕ) (before : List Entry) (early : List (At × Entry))
+    (rest : List Entry) (seen : Seen) →
+    AllByRecursion (λ (e : At × Entry). e.1.t_last < from) early → AreLeft s landmarks kind from to before (entries_in early ++ rest) seen →
+    AreLeft s landmarks kind from to (before ++ entries_in early) rest seen
+AreLeft-early s landmarks kind from to before [] rest seen all left =
+    subst (λ es. AreLeft s landmarks kind from to es rest seen) (sym (append-nil before)) left
+AreLeft-early s landmarks kind from to before (e ∷ es) rest seen all left =
     let next = IsNext-left left in
     let ends : e.1.t_last ≡ next.window.summary.t_last = ap (λ (p : ℕ × ℕ). p.1) next.time in
     let early = all.0 in
     let apart = apart-early from to next.window.summary.t_first next.window.summary.t_last (omega (arith, ends, early)) in
-    subst (λ l. AreLeft s landmarks from to l rest seen) (append_assoc before (e.1 ∷ []) (entries_in es))
-    (AreLeft-early s landmarks from to (before ++ e.1 ∷ []) es rest seen all.1 (left-apart next apart))
+    subst (λ l. AreLeft s landmarks kind from to l rest seen) (append_assoc before (e.1 ∷ []) (entries_in es))
+    (AreLeft-early s landmarks kind from to (before ++ e.1 ∷ []) es rest seen all.1 (left-apart next apart))
 
 module _ {part : StreamParts} {from to : ℕ} {seen : Seen} {at : At} (line : IsLine part.line) (to_here : IsWalkedTo part from to seen (Some at)) where
   index-here : index_of part.line.entries at ≡ length to_here.before
@@ -263,10 +266,11 @@ module _ {part : StreamParts} {from to : ℕ} {seen : Seen} {at : At} (line : Is
         (All-get_or (λ slot. slot < MOST_SLOTS) (window_slots_of part) i entry.slot (slice_get_within (window_slots_of part) i entry.slot here) below)
 
     -- the next window, on a disk that tells
-    pub IsNext-here : (s : Stream) → AreLeft s part.landmarks.landmarks from to (entries_in to_here.before) (entries_in to_here.rest) seen →
-        IsNext s part.landmarks.landmarks from to (entries_in to_here.before) entry (entries_in after) seen
-    IsNext-here s left =
-        IsNext-left (subst (λ es. AreLeft s part.landmarks.landmarks from to (entries_in to_here.before) es seen) rest-entries left)
+    pub IsNext-here : {kind : Kind} (s : Stream) →
+        AreLeft s part.landmarks.landmarks kind from to (entries_in to_here.before) (entries_in to_here.rest) seen →
+        IsNext s part.landmarks.landmarks kind from to (entries_in to_here.before) entry (entries_in after) seen
+    IsNext-here {kind} s left =
+        IsNext-left (subst (λ es. AreLeft s part.landmarks.landmarks kind from to (entries_in to_here.before) es seen) rest-entries left)
 
     -- its record lies beside others, and it lies free among the landmarks
     pub record IsBeside (w : Window) (image : List ℕ) : Type 0 where
@@ -274,8 +278,8 @@ module _ {part : StreamParts} {from to : ℕ} {seen : Seen} {at : At} (line : Is
       pub has : HasRecords ((entry.slot, Some (window_record part.id.0 w)) ∷ others) image
       pub free : IsTrue (lies_free part.landmarks.landmarks w)
 
-    pub IsBeside-here : (others : List (ℕ × Option Record)) (s : Stream) (image : List ℕ) → IsHeldIn others part s image →
-        (next : IsNext s part.landmarks.landmarks from to (entries_in to_here.before) entry (entries_in after) seen) → IsBeside next.window image
+    pub IsBeside-here : {kind : Kind} (others : List (ℕ × Option Record)) (s : Stream) (image : List ℕ) → IsHeldIn others part s image →
+        (next : IsNext s part.landmarks.landmarks kind from to (entries_in to_here.before) entry (entries_in after) seen) → IsBeside next.window image
     IsBeside-here others s image held next =
         let spelled : List Window → List (Option Record) = λ l. map (λ x. Some (window_record s.number x)) l in
         let slots : List Entry → List ℕ = λ es. map (λ (e : Entry). e.slot) es in
@@ -333,12 +337,13 @@ module _ {part : StreamParts} {from to : ℕ} {seen : Seen} {at : At} (line : Is
     }
 
     -- the windows that are left then
-    pub AreLeft-more : (s : Stream) (now : Seen) (next : IsNext s part.landmarks.landmarks from to (entries_in to_here.before) entry (entries_in after) seen) →
-        now ≡ seen_after part.landmarks.landmarks from to seen next.window →
-        AreLeft s part.landmarks.landmarks from to (entries_in (to_here.before ++ (at, entry) ∷ [])) (entries_in after) now
-    AreLeft-more s now next is =
-        subst (AreLeft s part.landmarks.landmarks from to (entries_in (to_here.before ++ (at, entry) ∷ [])) (entries_in after)) (sym is)
-        (subst (λ es. AreLeft s part.landmarks.landmarks from to es (entries_in after) (seen_after part.landmarks.landmarks from to seen next.window))
+    pub AreLeft-more : {kind : Kind} (s : Stream) (now : Seen)
+        (next : IsNext s part.landmarks.landmarks kind from to (entries_in to_here.before) entry (entries_in after) seen) →
+        now ≡ seen_after part.landmarks.landmarks kind from to seen next.window →
+        AreLeft s part.landmarks.landmarks kind from to (entries_in (to_here.before ++ (at, entry) ∷ [])) (entries_in after) now
+    AreLeft-more {kind} s now next is =
+        subst (AreLeft s part.landmarks.landmarks kind from to (entries_in (to_here.before ++ (at, entry) ∷ [])) (entries_in after)) (sym is)
+        (subst (λ es. AreLeft s part.landmarks.landmarks kind from to es (entries_in after) (seen_after part.landmarks.landmarks kind from to seen next.window))
         (sym (map-append (λ (e : At × Entry). e.1) to_here.before ((at, entry) ∷ []))) (AreLeft-after next))
 
 -- the slot of a window is one of those of the windows

@@ -22,7 +22,7 @@ use Rattle.ss_model.specs.Interval as intervals
 use Rattle.ss_model.specs.Marks.{marked_values}
 use Rattle.ss_model.specs.Standing.{IsStream}
 use Rattle.ss_model.specs.State.{Stream}
-use Rattle.ss_model.specs.declared.outcome.Outcome.TheVariants.{Count, Max, Min, Sum}
+use Rattle.ss_model.specs.declared.outcome.Outcome.TheVariants.{Count, Has, Max, Min, Sum}
 use Rattle.ss_model.specs.declared.types.Window.{Window}
 use Rattle.ss_query.specs.Asked.{counts_of, cut_of, figures_of, seen_count, seen_max, seen_min, seen_sum, outcome_seen, seen_of, sums_of}
 use Rattle.ss_query.specs.declared.asking.Seen.{Seen}
@@ -73,7 +73,7 @@ sums-listed known (Some l) None = (omega (arith, ints), omega (arith, ints))
 sums-listed known (Some l) (Some r) = (omega (arith, ints), omega (arith, ints))
 
 -- what is answered from what is known is the answer of the windows and of the values of landmarks
-module _ (landmarks : List Landmark) (from to : ℕ) (seen : Seen) (ws : List Window) (is : IsSeen landmarks from to seen ws) where
+module _ (landmarks : List Landmark) (kind : Kind) (from to : ℕ) (seen : Seen) (ws : List Window) (is : IsSeen landmarks kind from to seen ws) where
   least-seen : seen_min seen.whole seen.marked ≡ least_in (known_mins from to ws (marked_values landmarks))
   least-seen =
       ap₂ (either int_min) is.known.least (ap (λ (t : Tally). t.least) is.marked ∙ least-asked landmarks from to)
@@ -95,22 +95,34 @@ module _ (landmarks : List Landmark) (from to : ℕ) (seen : Seen) (ws : List Wi
   splits : figures_in (listed seen.left seen.right) ≡ split_windows (is_free landmarks) from to ws
   splits = ap (λ l. figures_in l) is.cuts ∙ figures-cuts landmarks from to (filter (is_split from to) ws)
 
-  outcome-seen : (kind : Kind) → outcome_seen kind seen ≡ answer_of_kind kind (is_free landmarks) from to ws (marked_values landmarks)
-  outcome-seen kinds.Count =
-      let both = counts-listed seen.left seen.right in
-      let least = both.0 ∙ ap (sum_by least_count) splits in
-      let greatest = both.1 ∙ ap (sum_by greatest_count) splits in
-      ap₂ Count (omega (arith, seen_count-seen, least)) (omega (arith, seen_count-seen, greatest))
-  outcome-seen kinds.Sum =
-      let both = sums-listed (seen_sum seen.whole seen.marked) seen.left seen.right in
-      ap₂ Sum (both.0 ∙ ap₂ (λ p q. p +ℤ q) seen_sum-seen (ap lows splits)) (both.1 ∙ ap₂ (λ p q. p +ℤ q) seen_sum-seen (ap highs splits))
-  outcome-seen kinds.Min = ap Min (ap₂ min_interval least-seen (listed-figures seen.left seen.right ∙ splits))
-  outcome-seen kinds.Max = ap Max (ap₂ max_interval greatest-seen (listed-figures seen.left seen.right ∙ splits))
+-- so is the answer to each kind of query
+outcome-seen : (landmarks : List Landmark) (kind : Kind) (from to : ℕ) (seen : Seen) (ws : List Window) → IsSeen landmarks kind from to seen ws →
+    outcome_seen kind seen ≡ answer_of_kind kind (is_free landmarks) from to ws (marked_values landmarks)
+outcome-seen landmarks kinds.Count from to seen ws is =
+    let both = counts-listed seen.left seen.right in
+    let known = seen_count-seen landmarks kinds.Count from to seen ws is in
+    let least = both.0 ∙ ap (sum_by least_count) (splits landmarks kinds.Count from to seen ws is) in
+    let greatest = both.1 ∙ ap (sum_by greatest_count) (splits landmarks kinds.Count from to seen ws is) in
+    ap₂ Count (omega (arith, known, least)) (omega (arith, known, greatest))
+outcome-seen landmarks kinds.Sum from to seen ws is =
+    let both = sums-listed (seen_sum seen.whole seen.marked) seen.left seen.right in
+    let known = seen_sum-seen landmarks kinds.Sum from to seen ws is in
+    let cut = splits landmarks kinds.Sum from to seen ws is in
+    ap₂ Sum (both.0 ∙ ap₂ (λ p q. p +ℤ q) known (ap lows cut)) (both.1 ∙ ap₂ (λ p q. p +ℤ q) known (ap highs cut))
+outcome-seen landmarks kinds.Min from to seen ws is =
+    ap Min (ap₂ min_interval (least-seen landmarks kinds.Min from to seen ws is)
+    (listed-figures seen.left seen.right ∙ splits landmarks kinds.Min from to seen ws is))
+outcome-seen landmarks kinds.Max from to seen ws is =
+    ap Max (ap₂ max_interval (greatest-seen landmarks kinds.Max from to seen ws is)
+    (listed-figures seen.left seen.right ∙ splits landmarks kinds.Max from to seen ws is))
+outcome-seen landmarks (kinds.Has v) from to seen ws is = ap Has is.presence
 
 -- so is what is answered from what is known of a stream
-pub outcome_seen-seen_of : (query : Query) (s : Stream) → IsStream s → outcome_seen query.kind (seen_of query.from query.to s) ≡ answer_of query s
+pub outcome_seen-seen_of : (query : Query) (s : Stream) → IsStream s →
+    outcome_seen query.kind (seen_of query.kind query.from query.to s) ≡ answer_of query s
 outcome_seen-seen_of query s is =
-    outcome-seen s.landmarks query.from query.to (seen_of query.from query.to s) s.windows (IsSeen-seen_of query.from query.to s is) query.kind
+    outcome-seen s.landmarks query.kind query.from query.to (seen_of query.kind query.from query.to s) s.windows
+    (IsSeen-seen_of query.kind query.from query.to s is)
 
 -- and it is to what was asked for
 pub outcome-kind : (kind : Kind) (seen : Seen) → IsOfKind kind (outcome_seen kind seen)
@@ -118,3 +130,4 @@ outcome-kind kinds.Count seen = refl
 outcome-kind kinds.Sum seen = refl
 outcome-kind kinds.Min seen = refl
 outcome-kind kinds.Max seen = refl
+outcome-kind (kinds.Has v) seen = (v, refl)

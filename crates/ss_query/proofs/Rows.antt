@@ -1,25 +1,29 @@
 -- Worked rows: the verdicts of reading, which window may come next, and what is answered from what is known.
 use Rattle.std.proofs.Common.{◌≡◌, ℕ, ◌<◌, ◌≤◌, All, List, [], ◌∷◌, ◌++◌, map, ap, refl, arith, Option, None, Some, Err, Ok, pos}
-use Rattle.std.specs.Prelude.{◌+◌, ◌-◌, ◌^◌, IfSome}
+use Rattle.std.specs.Prelude.{◌+◌, ◌-◌, ◌^◌, IfSome, ℤ}
 use Rattle.std.specs.Option.{option_map_or}
 use Rattle.ss_outside.specs.Disk.{Told}
 use Rattle.ss_outside.specs.Verdict.{changed, failed, fine}
 use Rattle.ss_bounds.specs.Split.{IsSplit}
 use Rattle.ss_catalog.specs.declared.params.Params.TheVariants.{Exp}
+use Rattle.ss_catalog.specs.declared.query.Kind.{Kind}
 use Rattle.ss_catalog.specs.declared.query.Kind.TheVariants as kinds
 use Rattle.ss_catalog.specs.declared.query.Query.{Query}
+use Rattle.ss_landmarks.specs.Landmark.{LandmarkValue}
 use Rattle.ss_landmarks.specs.declared.tally.Tally.{Tally}
 use Rattle.ss_line.specs.Line.{place_at}
 use Rattle.ss_line.specs.declared.entry.At.{At}
 use Rattle.ss_line.specs.declared.entry.Entry.{Entry}
 use Rattle.ss_model.specs.State.{Stream}
 use Rattle.ss_model.specs.declared.outcome.Outcome.{Outcome}
-use Rattle.ss_model.specs.declared.outcome.Outcome.TheVariants.{Count, Sum}
+use Rattle.ss_model.specs.declared.outcome.Outcome.TheVariants.{Count, Has, Sum}
+use Rattle.ss_model.specs.declared.outcome.Presence.TheVariants.{Absent, Maybe, Present}
 use Rattle.ss_model.specs.declared.types.Window.{Window}
 use Rattle.ss_records.specs.Kept.{AreKept, RecordsState}
 use Rattle.ss_recover.specs.Held.{entries_of}
 use Rattle.ss_recover.specs.declared.parts.StreamParts.{StreamParts}
 use Rattle.ss_summary.specs.Figures.{Figures}
+use Rattle.ss_summary.specs.Filters.{bit_of, filter_of, has, union}
 use Rattle.ss_query.specs.Answered.{AnswersStream, BeginsAt, IsAnswered, IsSeenAs, SeesStream, window_slots_of}
 use Rattle.ss_query.specs.Asked.{Follows, HasCuts, HasRoom, IsCut, cut_of, marks_seen, outcome_seen, seen_after, seen_of, seen_with}
 use Rattle.ss_query.specs.Reading.{IsRead, IsWindowOf, KeepsRecords, ReadsWindow, verdict_of_read}
@@ -51,19 +55,38 @@ IsAnswered-Ok outcome answered fact = fact
 KeepsRecords-changed : {old new : RecordsState} (slot : ℕ) → KeepsRecords (changed slot) old new → new.journal ≡ old.journal
 KeepsRecords-changed slot keeps = keeps.journal
 
--- two values of a landmark, 5 and 7, and a window of 3 values that add up to 9, at the times 10 to 30
+-- two values of a landmark, 5 and 7, and a window of 3 values that add up to 9, at the times 10 to 30: 2, 3 and 4 in some order
+values : List LandmarkValue
+values = record { t = 32; v = pos 5 } ∷ record { t = 33; v = pos 7 } ∷ []
+
 marked : Tally
 marked = record { count = 2; sum = pos 12; least = Some (pos 5); greatest = Some (pos 7) }
 
 window : ℕ → ℕ → Window
 window first count = record {
   first = first;
-  summary = record { count = count; sum = pos 9; min = pos 2; max = pos 4; t_first = 10; t_last = 30 };
+  summary = record {
+    count = count;
+    sum = pos 9;
+    min = pos 2;
+    max = pos 4;
+    t_first = 10;
+    t_last = 30;
+    filter = union (filter_of (pos 2)) (union (filter_of (pos 3)) (filter_of (pos 4)));
+  };
 }
 
 -- a window follows what was read where its times do, up to 2^40 values
 seen_to : ℕ → ℕ → Seen
-seen_to taken next_time = record { marked = marked; whole = None; left = None; right = None; taken = taken; next_time = next_time }
+seen_to taken next_time = record {
+  marked = marked;
+  whole = None;
+  left = None;
+  right = None;
+  presence = Absent;
+  taken = taken;
+  next_time = next_time;
+}
 
 follows-first : Follows (seen_to 0 0) (window 1 3)
 unfolding seen_to window
@@ -82,12 +105,12 @@ unfolding seen_to window
 follows-early follows = absurd (omega (arith, follows.1))
 
 -- its times are 10 to 30: it is looked at in a range that has one of them, and passed over in another
-window-met : map (λ (r : ℕ × ℕ). (seen_after [] r.0 r.1 (seen_to 0 0) (window 1 3)).taken) ((30, 40) ∷ (0, 10) ∷ (11, 29) ∷ (0, 40) ∷ [])
+window-met : map (λ (r : ℕ × ℕ). (seen_after [] kinds.Count r.0 r.1 (seen_to 0 0) (window 1 3)).taken) ((30, 40) ∷ (0, 10) ∷ (11, 29) ∷ (0, 40) ∷ [])
     ≡ 3 ∷ 3 ∷ 3 ∷ 3 ∷ []
 unfolding seen_to window
 window-met = refl
 
-window-passed : map (λ (r : ℕ × ℕ). seen_after [] r.0 r.1 (seen_to 0 0) (window 1 3)) ((31, 40) ∷ (0, 9) ∷ []) ≡ seen_to 0 0 ∷ seen_to 0 0 ∷ []
+window-passed : map (λ (r : ℕ × ℕ). seen_after [] kinds.Count r.0 r.1 (seen_to 0 0) (window 1 3)) ((31, 40) ∷ (0, 9) ∷ []) ≡ seen_to 0 0 ∷ seen_to 0 0 ∷ []
 unfolding seen_to window
 window-passed = refl
 
@@ -115,24 +138,24 @@ BeginsAt-early : (entries : List (At × Entry)) (from : ℕ) (start : Option At)
 BeginsAt-early entries from start begins = (begins.is, begins.early, begins.place)
 
 -- a window that lies whole in the range counts with the landmarks; one that lies apart of it doesn't
-known : ℕ → Seen
-known from = seen_with [] from 40 (marks_seen marked) (window 1 3)
+known : Kind → ℕ → Seen
+known kind from = seen_with [] kind from 40 (marks_seen kind values) (window 1 3)
 
-whole-count : outcome_seen kinds.Count (known 10) ≡ Count 5 5
-unfolding known window marked
+whole-count : outcome_seen kinds.Count (known kinds.Count 10) ≡ Count 5 5
+unfolding known window values
 whole-count = refl
 
-whole-sum : outcome_seen kinds.Sum (known 10) ≡ Sum (pos 21) (pos 21)
-unfolding known window marked
+whole-sum : outcome_seen kinds.Sum (known kinds.Sum 10) ≡ Sum (pos 21) (pos 21)
+unfolding known window values
 whole-sum = refl
 
-apart-count : outcome_seen kinds.Count (known 31) ≡ Count 2 2
-unfolding known window marked
+apart-count : outcome_seen kinds.Count (known kinds.Count 31) ≡ Count 2 2
+unfolding known window values
 apart-count = refl
 
 -- of one that the range splits the value at 30 counts, that at 10 doesn't, and the one between them may
-split-count : outcome_seen kinds.Count (known 20) ≡ Count 3 4
-unfolding known window marked
+split-count : outcome_seen kinds.Count (known kinds.Count 20) ≡ Count 3 4
+unfolding known window values
 split-count = refl
 
 -- such a window is cut: its positions, how many of its values there are, and the ends and times that lie in the range and outside it
@@ -156,12 +179,26 @@ HasCuts-both seen cuts = (cuts.left, cuts.right)
 
 -- of two windows, at the times 10 to 30 and 50 to 60, and a landmark's value: the range from 20 cuts the first, and the second is whole;
 -- the range to 55 cuts both, and that from 42 to 49 none
+later_window : Window
+later_window = record {
+  first = 4;
+  summary = record {
+    count = 2;
+    sum = pos 8;
+    min = pos 3;
+    max = pos 5;
+    t_first = 50;
+    t_last = 60;
+    filter = union (filter_of (pos 3)) (filter_of (pos 5));
+  };
+}
+
 one_stream : Stream
 one_stream = record {
   number = 0;
   name = 97 ∷ [];
   params = Exp 2 1 1;
-  windows = window 1 3 ∷ record { first = 4; summary = record { count = 2; sum = pos 8; min = pos 3; max = pos 5; t_first = 50; t_last = 60 } } ∷ [];
+  windows = window 1 3 ∷ later_window ∷ [];
   landmarks = record { start = 40; finish = Some 44; values = record { t = 41; v = pos 7 } ∷ [] } ∷ [];
 }
 
@@ -172,28 +209,84 @@ ends_of (Some one) = one.first ∷ one.last ∷ []
 
 found : ℕ → ℕ → List (List ℕ)
 found from to =
-    let seen = seen_of from to one_stream in
+    let seen = seen_of kinds.Count from to one_stream in
     ends_of seen.left ∷ ends_of seen.right ∷ (option_map_or (λ (f : Figures). f.count) seen.whole 0 ∷ seen.marked.count ∷ []) ∷ []
 
 seen-one : found 20 70 ≡ (1 ∷ 3 ∷ []) ∷ [] ∷ (2 ∷ 1 ∷ []) ∷ []
-unfolding found ends_of one_stream window
+unfolding found ends_of one_stream window later_window
 seen-one = refl
 
 seen-both : found 20 55 ≡ (1 ∷ 3 ∷ []) ∷ (4 ∷ 5 ∷ []) ∷ (0 ∷ 1 ∷ []) ∷ []
-unfolding found ends_of one_stream window
+unfolding found ends_of one_stream window later_window
 seen-both = refl
 
 seen-none : found 42 49 ≡ [] ∷ [] ∷ (0 ∷ 0 ∷ []) ∷ []
-unfolding found ends_of one_stream window
+unfolding found ends_of one_stream window later_window
 seen-none = refl
 
+-- of the same stream, what is answered to whether a value is there
+presence : ℤ → ℕ → ℕ → Outcome
+presence v from to = outcome_seen (kinds.Has v) (seen_of (kinds.Has v) from to one_stream)
+
+-- it is, where it is the value of a landmark with a time in the range
+present-landmark : presence (pos 7) 41 44 ∷ presence (pos 7) 42 44 ∷ [] ≡ Has Present ∷ Has Absent ∷ []
+unfolding presence one_stream window later_window bit_of filter_of has union
+present-landmark = refl
+
+-- or the least or the greatest of a window that lies whole in the range
+present-least : presence (pos 2) 10 30 ≡ Has Present
+unfolding presence one_stream window later_window bit_of filter_of has union
+present-least = refl
+
+present-greatest : presence (pos 4) 10 30 ≡ Has Present
+unfolding presence one_stream window later_window bit_of filter_of has union
+present-greatest = refl
+
+-- it may be, where such a window has its bit, or one that the range splits, also as its least
+maybe-whole : presence (pos 3) 10 30 ≡ Has Maybe
+unfolding presence one_stream window later_window bit_of filter_of has union
+maybe-whole = refl
+
+maybe-split : presence (pos 3) 20 40 ∷ presence (pos 2) 20 40 ∷ [] ≡ Has Maybe ∷ Has Maybe ∷ []
+unfolding presence one_stream window later_window bit_of filter_of has union
+maybe-split = refl
+
+-- and it isn't, where the filter hasn't its bit, where it is greater than all values, where both values of a window that the range
+-- splits are outside it, and where no window has a time in the range
+absent-filter : presence (pos 4) 50 60 ≡ Has Absent
+unfolding presence one_stream window later_window bit_of filter_of has union
+absent-filter = refl
+
+absent-greater : presence (pos 6) 50 60 ≡ Has Absent
+unfolding presence one_stream window later_window bit_of filter_of has union
+absent-greater = refl
+
+absent-no_room : presence (pos 3) 51 59 ≡ Has Absent
+unfolding presence one_stream window later_window bit_of filter_of has union
+absent-no_room = refl
+
+absent-apart : presence (pos 3) 31 49 ≡ Has Absent
+unfolding presence one_stream window later_window bit_of filter_of has union
+absent-apart = refl
+
+-- what is there in one window isn't forgotten in the next one
+present-first : presence (pos 2) 10 60 ∷ presence (pos 3) 10 60 ∷ [] ≡ Has Present ∷ Has Present ∷ []
+unfolding presence one_stream window later_window bit_of filter_of has union
+present-first = refl
+
+-- where nothing is asked for, nothing is there
+nothing-asked : map (λ (kind : Kind). (seen_of kind 0 70 one_stream).presence) (kinds.Count ∷ kinds.Sum ∷ kinds.Min ∷ kinds.Max ∷ [])
+    ≡ Absent ∷ Absent ∷ Absent ∷ Absent ∷ []
+unfolding one_stream window later_window
+nothing-asked = refl
+
 -- which position and time come next
-next-taken : (known 10).taken ≡ 3
-unfolding known window marked
+next-taken : (known kinds.Count 10).taken ≡ 3
+unfolding known window values
 next-taken = refl
 
-next-time : (known 10).next_time ≡ 31
-unfolding known window marked
+next-time : (known kinds.Count 10).next_time ≡ 31
+unfolding known window values
 next-time = refl
 
 -- the slots of a stream's windows are those of its entries, and its own isn't one of them

@@ -17,7 +17,7 @@ use Rattle.ss_bounds.specs.Truth.{total}
 use Rattle.ss_bounds.proofs.ChoiceLemmas.{IsChoice-max, IsChoice-min, choice_in-append}
 use Rattle.ss_landmarks.specs.Landmark.{Landmark}
 use Rattle.ss_landmarks.specs.ValuesIn.{tally_of, values_between}
-use Rattle.ss_landmarks.specs.declared.tally.Tally.{Tally}
+use Rattle.ss_catalog.specs.declared.query.Kind.{Kind}
 use Rattle.ss_model.specs.Interval.{is_apart, is_split, is_whole, whole_windows}
 use Rattle.ss_model.specs.Standing.{IsStream}
 use Rattle.ss_model.specs.State.{Stream}
@@ -25,9 +25,10 @@ use Rattle.ss_model.specs.Tiling.{StandFrom}
 use Rattle.ss_model.specs.declared.types.Window.{Window}
 use Rattle.ss_summary.specs.Figures.{Figures}
 use Rattle.ss_query.specs.Asked.{cut_of, joined_with, left_with, marks_seen}
-use Rattle.ss_query.specs.Asked.{right_with, seen_after, seen_of, seen_with, whole_with}
+use Rattle.ss_query.specs.Asked.{presence_with, right_with, seen_after, seen_of, seen_with, whole_with}
 use Rattle.ss_query.specs.declared.asking.Seen.{Seen}
 use Rattle.ss_query.specs.declared.cut.Cut.{Cut}
+use Rattle.ss_query.proofs.Presences.{presence-more, presence-none, presence-skip, presence_of_kind}
 
 -- how many values the whole windows have, and their sum
 abbrev pub whole_count : Option Figures → ℕ
@@ -44,23 +45,25 @@ pub record AreKnown (whole : Option Figures) (ws : List Window) : Type 0 where
   pub greatest : option_map (λ (f : Figures). f.max) whole ≡ greatest_in (map (λ (w : Window). w.summary.max) ws)
 
 -- what is known of a range once these windows are read
-pub record IsSeen (landmarks : List Landmark) (from to : ℕ) (seen : Seen) (ws : List Window) : Type 0 where
+pub record IsSeen (landmarks : List Landmark) (kind : Kind) (from to : ℕ) (seen : Seen) (ws : List Window) : Type 0 where
   pub marked : seen.marked ≡ tally_of (values_between landmarks from to)
   pub known : AreKnown seen.whole (whole_windows from to ws)
   pub cuts : listed seen.left seen.right ≡ map (cut_of landmarks from to) (filter (is_split from to) ws)
   left_behind : IfSome seen.left (λ s. from < seen.next_time)
   right_behind : IfSome seen.right (λ s. to + 1 < seen.next_time)
   pub whole_behind : IfSome seen.whole (λ f. f.t_last < seen.next_time)
+  pub presence : seen.presence ≡ presence_of_kind landmarks kind from to ws
 
-pub IsSeen-none : (landmarks : List Landmark) (from to : ℕ) (marked : Tally) → marked ≡ tally_of (values_between landmarks from to) →
-    IsSeen landmarks from to (marks_seen marked) []
-IsSeen-none landmarks from to marked is = record {
-  marked = is;
+pub IsSeen-none : (landmarks : List Landmark) (kind : Kind) (from to : ℕ) →
+    IsSeen landmarks kind from to (marks_seen kind (values_between landmarks from to)) []
+IsSeen-none landmarks kind from to = record {
+  marked = refl;
   known = record { count = refl; sum = refl; least = refl; greatest = refl };
   cuts = refl;
   left_behind = tt;
   right_behind = tt;
   whole_behind = tt;
+  presence = presence-none landmarks kind from to;
 }
 
 -- one more element passes a test, or doesn't
@@ -74,9 +77,9 @@ filter-same p xs x fails = filter-append p xs (x ∷ []) ∙ rw fails (append-ni
 apart-whole : (from to first last : ℕ) → (nat_lt last from || nat_lt to first) ≡ true → first ≤ last → (nat_le from first && nat_le last to) ≡ false
 apart-whole from to first last apart order = grind (arith, nat_tests)
 
-pub IsSeen-skip : (landmarks : List Landmark) (from to : ℕ) (seen : Seen) (ws : List Window) (w : Window) → is_apart from to w ≡ true →
-    w.summary.t_first ≤ w.summary.t_last → IsSeen landmarks from to seen ws → IsSeen landmarks from to seen (ws ++ w ∷ [])
-IsSeen-skip landmarks from to seen ws w apart order is =
+pub IsSeen-skip : (landmarks : List Landmark) (kind : Kind) (from to : ℕ) (seen : Seen) (ws : List Window) (w : Window) → is_apart from to w ≡ true →
+    w.summary.t_first ≤ w.summary.t_last → IsSeen landmarks kind from to seen ws → IsSeen landmarks kind from to seen (ws ++ w ∷ [])
+IsSeen-skip landmarks kind from to seen ws w apart order is =
     let not_whole : is_whole from to w ≡ false = apart-whole from to w.summary.t_first w.summary.t_last apart order in
     let not_split : is_split from to w ≡ false = rw (not_whole, apart) refl in
     record {
@@ -86,6 +89,7 @@ IsSeen-skip landmarks from to seen ws w apart order is =
       left_behind = is.left_behind;
       right_behind = is.right_behind;
       whole_behind = is.whole_behind;
+      presence = is.presence ∙ sym (presence-skip landmarks kind from to ws w not_whole apart);
     }
 
 -- where a window has no time in the range
@@ -96,17 +100,18 @@ pub apart-late : (from to first last : ℕ) → to < first → (nat_lt last from
 apart-late from to first last late = grind (arith, nat_tests)
 
 -- windows that begin after the range change nothing
-pub fold-late : (landmarks : List Landmark) (from to : ℕ) (seen : Seen) (first time : ℕ) (ws : List Window) → StandFrom first time ws → to < time →
-    fold (seen_after landmarks from to) seen ws ≡ seen
-fold-late landmarks from to seen first time [] stand late = refl
-fold-late landmarks from to seen first time (w ∷ ws) stand late =
+pub fold-late : (landmarks : List Landmark) (kind : Kind) (from to : ℕ) (seen : Seen) (first time : ℕ) (ws : List Window) →
+    StandFrom first time ws → to < time →
+    fold (seen_after landmarks kind from to) seen ws ≡ seen
+fold-late landmarks kind from to seen first time [] stand late = refl
+fold-late landmarks kind from to seen first time (w ∷ ws) stand late =
     let possible = stand.1 in
     let some = possible.count_low in
     let long = possible.times in
     let begins = stand.2 in
     let apart : is_apart from to w ≡ true = apart-late from to w.summary.t_first w.summary.t_last (omega (arith, begins, late)) in
-    ap (λ (s : Seen). fold (seen_after landmarks from to) s ws) (cond-true (is_apart from to w) seen (seen_with landmarks from to seen w) apart)
-    ∙ fold-late landmarks from to seen (first + w.summary.count) (w.summary.t_last + 1) ws stand.3 (omega (arith, begins, late, some, long))
+    ap (λ (s : Seen). fold (seen_after landmarks kind from to) s ws) (cond-true (is_apart from to w) seen (seen_with landmarks kind from to seen w) apart)
+    ∙ fold-late landmarks kind from to seen (first + w.summary.count) (w.summary.t_last + 1) ws stand.3 (omega (arith, begins, late, some, long))
 
 total-push : (vs : List ℤ) (v : ℤ) → total (vs ++ v ∷ []) ≡ (total vs +ℤ v)
 total-push [] v = omega (arith, ints)
@@ -251,7 +256,7 @@ whole-behind whole w true behind = whole-joined whole w.summary
 whole-behind whole w false behind = behind
 
 -- what is left of two split windows with one more
-module _ (landmarks : List Landmark) (from to : ℕ) (seen : Seen) (ws : List Window) (w : Window) (is : IsSeen landmarks from to seen ws)
+module _ (landmarks : List Landmark) (kind : Kind) (from to : ℕ) (seen : Seen) (ws : List Window) (w : Window) (is : IsSeen landmarks kind from to seen ws)
     (later : seen.next_time ≤ w.summary.t_first)
     (rises : w.summary.t_first ≤ w.summary.t_last) where
   cut : Cut
@@ -332,7 +337,7 @@ module _ (landmarks : List Landmark) (from to : ℕ) (seen : Seen) (ws : List Wi
       whole-behind seen.whole w (is_whole from to w)
       (whole-stays seen.whole seen.next_time (w.summary.t_last + 1) (omega arith) is.whole_behind)
 
-  pub IsSeen-more : IsSeen landmarks from to (seen_with landmarks from to seen w) (ws ++ w ∷ [])
+  pub IsSeen-more : IsSeen landmarks kind from to (seen_with landmarks kind from to seen w) (ws ++ w ∷ [])
   IsSeen-more = record {
     marked = is.marked;
     known = known-with from to seen.whole ws w is.known;
@@ -340,37 +345,40 @@ module _ (landmarks : List Landmark) (from to : ℕ) (seen : Seen) (ws : List Wi
     left_behind = cuts-more.left_behind;
     right_behind = cuts-more.right_behind;
     whole_behind = whole_behind-more;
+    presence = ap (λ known. presence_with landmarks kind from to known w) is.presence ∙ presence-more landmarks kind from to ws w;
   }
 
 -- what is known of a stream, of its landmarks and of the windows one after the other
-pub IsSeen-after : (landmarks : List Landmark) (from to : ℕ) (seen : Seen) (ws : List Window) (w : Window) → IsSeen landmarks from to seen ws →
-    seen.next_time ≤ w.summary.t_first → w.summary.t_first ≤ w.summary.t_last →
-    IsSeen landmarks from to (seen_after landmarks from to seen w) (ws ++ w ∷ []) × ((seen_after landmarks from to seen w).next_time ≤ w.summary.t_last + 1)
-IsSeen-after landmarks from to seen ws w is later rises =
-    let P : Seen → Type 0 = λ now. IsSeen landmarks from to now (ws ++ w ∷ []) × (now.next_time ≤ w.summary.t_last + 1) in
+pub IsSeen-after : (landmarks : List Landmark) (kind : Kind) (from to : ℕ) (seen : Seen) (ws : List Window) (w : Window) →
+    IsSeen landmarks kind from to seen ws → seen.next_time ≤ w.summary.t_first → w.summary.t_first ≤ w.summary.t_last →
+    IsSeen landmarks kind from to (seen_after landmarks kind from to seen w) (ws ++ w ∷ [])
+    × ((seen_after landmarks kind from to seen w).next_time ≤ w.summary.t_last + 1)
+IsSeen-after landmarks kind from to seen ws w is later rises =
+    let P : Seen → Type 0 = λ now. IsSeen landmarks kind from to now (ws ++ w ∷ []) × (now.next_time ≤ w.summary.t_last + 1) in
     elim (cases_Bool (is_apart from to w)) [
       | inl apart ↦
-          subst P (sym (cond-true (is_apart from to w) seen (seen_with landmarks from to seen w) apart))
-          (IsSeen-skip landmarks from to seen ws w apart rises is, omega (arith, later, rises))
+          subst P (sym (cond-true (is_apart from to w) seen (seen_with landmarks kind from to seen w) apart))
+          (IsSeen-skip landmarks kind from to seen ws w apart rises is, omega (arith, later, rises))
       | inr meets ↦
-          subst P (sym (cond-false (is_apart from to w) seen (seen_with landmarks from to seen w) meets))
-          (IsSeen-more landmarks from to seen ws w is later rises, omega arith)
+          subst P (sym (cond-false (is_apart from to w) seen (seen_with landmarks kind from to seen w) meets))
+          (IsSeen-more landmarks kind from to seen ws w is later rises, omega arith)
     ]
 
-IsSeen-fold : (landmarks : List Landmark) (from to : ℕ) (seen : Seen) (gone : List Window) (first time : ℕ) (ws : List Window) → StandFrom first time ws →
-    seen.next_time ≤ time → IsSeen landmarks from to seen gone → IsSeen landmarks from to (fold (seen_after landmarks from to) seen ws) (gone ++ ws)
-IsSeen-fold landmarks from to seen gone first time [] stand soon is = subst (λ ws. IsSeen landmarks from to seen ws) (sym (append-nil gone)) is
-IsSeen-fold landmarks from to seen gone first time (w ∷ ws) stand soon is =
+IsSeen-fold : (landmarks : List Landmark) (kind : Kind) (from to : ℕ) (seen : Seen) (gone : List Window) (first time : ℕ) (ws : List Window) →
+    StandFrom first time ws → seen.next_time ≤ time → IsSeen landmarks kind from to seen gone →
+    IsSeen landmarks kind from to (fold (seen_after landmarks kind from to) seen ws) (gone ++ ws)
+IsSeen-fold landmarks kind from to seen gone first time [] stand soon is = subst (λ ws. IsSeen landmarks kind from to seen ws) (sym (append-nil gone)) is
+IsSeen-fold landmarks kind from to seen gone first time (w ∷ ws) stand soon is =
     let possible = stand.1 in
     let some = possible.count_low in
     let long = possible.times in
     let begins = stand.2 in
-    let next = seen_after landmarks from to seen w in
-    let one = IsSeen-after landmarks from to seen gone w is (omega (arith, soon, begins)) (omega (arith, some, long)) in
-    subst (λ vs. IsSeen landmarks from to (fold (seen_after landmarks from to) next ws) vs) (append_assoc gone (w ∷ []) ws)
-    (IsSeen-fold landmarks from to next (gone ++ w ∷ []) (first + w.summary.count) (w.summary.t_last + 1) ws stand.3 one.1 one.0)
+    let next = seen_after landmarks kind from to seen w in
+    let one = IsSeen-after landmarks kind from to seen gone w is (omega (arith, soon, begins)) (omega (arith, some, long)) in
+    subst (λ vs. IsSeen landmarks kind from to (fold (seen_after landmarks kind from to) next ws) vs) (append_assoc gone (w ∷ []) ws)
+    (IsSeen-fold landmarks kind from to next (gone ++ w ∷ []) (first + w.summary.count) (w.summary.t_last + 1) ws stand.3 one.1 one.0)
 
-pub IsSeen-seen_of : (from to : ℕ) (s : Stream) → IsStream s → IsSeen s.landmarks from to (seen_of from to s) s.windows
-IsSeen-seen_of from to s is =
-    let marked = tally_of (values_between s.landmarks from to) in
-    IsSeen-fold s.landmarks from to (marks_seen marked) [] 1 0 s.windows is.windows.stand (omega arith) (IsSeen-none s.landmarks from to marked refl)
+pub IsSeen-seen_of : (kind : Kind) (from to : ℕ) (s : Stream) → IsStream s → IsSeen s.landmarks kind from to (seen_of kind from to s) s.windows
+IsSeen-seen_of kind from to s is =
+    IsSeen-fold s.landmarks kind from to (marks_seen kind (values_between s.landmarks from to)) [] 1 0 s.windows is.windows.stand (omega arith)
+    (IsSeen-none s.landmarks kind from to)

@@ -32,7 +32,7 @@ module _ {old new : DiskView} {part : StreamParts} {was is : RecordsState} (quer
       Step (verdict_of_read {T = Outcome} (Err why)) old new (AnswersStream part query was is (Err why))
   answer-err why step =
       step-verdict (same-verdict why) step (λ sees. record {
-        answer = λ others s held. IsAnswered-err (seen_of query.from query.to s) (answer_of query s) why (sees.seen others s held);
+        answer = λ others s held. IsAnswered-err (seen_of query.kind query.from query.to s) (answer_of query s) why (sees.seen others s held);
         kept = subst (λ v. UnlessFailed v (AreKept is new.told.content)) (same-verdict why) sees.kept;
         reads = sees.reads;
       })

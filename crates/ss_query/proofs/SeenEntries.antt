@@ -3,6 +3,7 @@ use Rattle.std.proofs.Common.{◌≡◌, ◌∙◌, ℕ, ◌≤◌, false, Ok, E
 use Rattle.std.specs.Prelude.{◌||◌, nat_lt}
 use Rattle.std.proofs.lemmas.Bool.{cond-false}
 use Rattle.std.proofs.lemmas.Bool.Decides.{nat_tests}
+use Rattle.ss_catalog.specs.declared.query.Query.{Query}
 use Rattle.ss_line.specs.declared.entry.Entry.{Entry}
 use Rattle.ss_model.specs.Interval.{is_apart}
 use Rattle.ss_model.specs.declared.types.Window.{Window}
@@ -38,13 +39,13 @@ window-read : (entry : Entry) (w : Window) (f : Figures) → span_held entry ≡
     ◌≡◌ {A = Window} (record { first = entry.first; summary = f }) w
 window-read entry w f span same = let first : entry.first ≡ w.first = ap (λ (p : ℕ × ℕ). p.0) span in λ i. record { first = first i; summary = same i }
 
-module _ {old new : DiskView} {part : StreamParts} {entry : Entry} {was is : RecordsState} (from to : ℕ) (seen : Seen) where
+module _ {old new : DiskView} {part : StreamParts} {entry : Entry} {was is : RecordsState} (query : Query) (seen : Seen) where
   pub seen-err : (why : ReadError) → Step (verdict_of_read {T = Figures} (Err why)) old new (ReadsWindow part entry was is (Err why)) →
-      Step (verdict_of_read {T = Seen} (Err why)) old new (SeesEntry part from to entry seen was is (Err why))
+      Step (verdict_of_read {T = Seen} (Err why)) old new (SeesEntry part query entry seen was is (Err why))
   seen-err why step =
       step-verdict (same-verdict why) step (λ read. record {
         window = λ others w has span times free follows.
-            IsSeenAs-err w.summary (seen_after part.landmarks.landmarks from to seen w) why (read.window others w has span times free);
+            IsSeenAs-err w.summary (seen_after part.landmarks.landmarks query.kind query.from query.to seen w) why (read.window others w has span times free);
         kept = subst (λ v. UnlessFailed v (AreKept is new.told.content)) (same-verdict why) read.kept;
         reads = read.reads;
       })
@@ -52,9 +53,9 @@ module _ {old new : DiskView} {part : StreamParts} {entry : Entry} {was is : Rec
   module _ {f : Figures} (step : Step fine old new (ReadsWindow part entry was is (Ok f))) where
     -- a window that can't come next is none of a stream
     pub seen-changed : (Follows seen (record { first = entry.first; summary = f }) → ⊥) →
-        Step (changed entry.slot) old new (SeesEntry part from to entry seen was is (Err (error.Changed entry.slot)))
+        Step (changed entry.slot) old new (SeesEntry part query entry seen was is (Err (error.Changed entry.slot)))
     seen-changed wrong =
-        let seen_as : Step fine old new (SeesEntry part from to entry seen was is (Err (error.Changed entry.slot))) = step-as step (λ read. record {
+        let seen_as : Step fine old new (SeesEntry part query entry seen was is (Err (error.Changed entry.slot))) = step-as step (λ read. record {
           window = λ others w has span times free follows.
               wrong (subst (λ (u : Window). Follows seen u) (sym (window-read entry w f span (read.window others w has span times free))) follows);
           kept = read.kept;
@@ -62,19 +63,19 @@ module _ {old new : DiskView} {part : StreamParts} {entry : Entry} {was is : Rec
         }) in
         record { tells = seen_as.tells; counted = seen_as.counted; told = seen_as.told }
 
-    pub seen-more : from ≤ entry.t_last → entry.t_first ≤ to → (now : Seen) →
-        now ≡ seen_with part.landmarks.landmarks from to seen (record { first = entry.first; summary = f }) →
-        Step fine old new (SeesEntry part from to entry seen was is (Ok now))
+    pub seen-more : query.from ≤ entry.t_last → entry.t_first ≤ query.to → (now : Seen) →
+        now ≡ seen_with part.landmarks.landmarks query.kind query.from query.to seen (record { first = entry.first; summary = f }) →
+        Step fine old new (SeesEntry part query entry seen was is (Ok now))
     seen-more ends begins now same =
         step-as step (λ read. record {
           window = λ others w has span times free follows.
               let first : entry.t_first ≡ w.summary.t_first = ap (λ (p : ℕ × ℕ). p.0) times in
               let last : entry.t_last ≡ w.summary.t_last = ap (λ (p : ℕ × ℕ). p.1) times in
-              let meets : is_apart from to w ≡ false =
-              not-apart from to w.summary.t_first w.summary.t_last (omega (arith, last, ends)) (omega (arith, first, begins)) in
-              same ∙ ap (λ (u : Window). seen_with part.landmarks.landmarks from to seen u)
+              let meets : is_apart query.from query.to w ≡ false =
+              not-apart query.from query.to w.summary.t_first w.summary.t_last (omega (arith, last, ends)) (omega (arith, first, begins)) in
+              same ∙ ap (λ (u : Window). seen_with part.landmarks.landmarks query.kind query.from query.to seen u)
               (window-read entry w f span (read.window others w has span times free))
-              ∙ sym (cond-false (is_apart from to w) seen (seen_with part.landmarks.landmarks from to seen w) meets);
+              ∙ sym (cond-false (is_apart query.from query.to w) seen (seen_with part.landmarks.landmarks query.kind query.from query.to seen w) meets);
           kept = read.kept;
           reads = read.reads;
         })

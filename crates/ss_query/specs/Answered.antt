@@ -62,13 +62,13 @@ IsSeenAs seen (Err (Changed slot)) = ⊥
 
 -- An entry is looked at, by records that are others then, of what they show: its record is read where it has times in the range. Content and
 -- images stay.
-pub record SeesEntry (part : StreamParts) (from to : ℕ) (entry : Entry) (seen : Seen) (was is : RecordsState) (result : Result Seen ReadError)
+pub record SeesEntry (part : StreamParts) (query : Query) (entry : Entry) (seen : Seen) (was is : RecordsState) (result : Result Seen ReadError)
     (old new : Told) : Type 0 where
   -- what is known with the window whose record lies in the slot of the entry, where it comes next, as for reading it
   pub window : (others : List (ℕ × Option Record)) (w : Window) →
       HasRecords ((entry.slot, Some (window_record part.id.0 w)) ∷ others) (shown_by was old.content) →
       span_held entry ≡ span_of w → times_held entry ≡ times_of w → IsTrue (lies_free part.landmarks.landmarks w) → Follows seen w →
-      IsSeenAs (seen_after part.landmarks.landmarks from to seen w) result
+      IsSeenAs (seen_after part.landmarks.landmarks query.kind query.from query.to seen w) result
   pub kept : UnlessFailed (verdict_of_read result) (AreKept is new.content)
   pub reads : OnlyReads old new
 
@@ -77,7 +77,7 @@ pub record SeesStream (part : StreamParts) (query : Query) (was is : RecordsStat
     Type 0 where
   -- what is known of the stream, whatever lies beside it
   pub seen : (others : List (ℕ × Option Record)) (s : Stream) → IsHeldIn others part s (shown_by was old.content) →
-      IsSeenAs (seen_of query.from query.to s) result
+      IsSeenAs (seen_of query.kind query.from query.to s) result
   pub kept : UnlessFailed (verdict_of_read result) (AreKept is new.content)
   pub reads : OnlyReads old new
 

@@ -6,16 +6,18 @@ use Rattle.ss_bounds.specs.Either.{greater, lesser}
 use Rattle.ss_bounds.specs.Extremes.{listed, max_interval, min_interval}
 use Rattle.ss_bounds.specs.Split.{IsSplit, SplitFigures, count_interval, sum_interval}
 use Rattle.ss_landmarks.specs.Free.{is_free}
-use Rattle.ss_landmarks.specs.Landmark.{Landmark}
-use Rattle.ss_landmarks.specs.ValuesIn.{tally_of, values_between}
+use Rattle.ss_landmarks.specs.Landmark.{Landmark, LandmarkValue}
+use Rattle.ss_landmarks.specs.ValuesIn.{is_among, tally_of, values_between}
 use Rattle.ss_landmarks.specs.declared.tally.Tally.{Tally}
 use Rattle.ss_catalog.specs.declared.query.Kind.{Kind}
 use Rattle.ss_catalog.specs.declared.query.Kind.TheVariants as kinds
 use Rattle.ss_model.specs.Closed.{last_position}
-use Rattle.ss_model.specs.Interval.{is_apart, is_split, is_whole, split_figures}
+use Rattle.ss_model.specs.Interval.{is_apart, is_extreme, is_split, is_whole, may_have, may_reach, split_figures}
 use Rattle.ss_model.specs.State.{Stream}
 use Rattle.ss_model.specs.declared.outcome.Outcome.{Outcome}
-use Rattle.ss_model.specs.declared.outcome.Outcome.TheVariants.{Count, Sum, Min, Max}
+use Rattle.ss_model.specs.declared.outcome.Outcome.TheVariants.{Count, Sum, Min, Max, Has}
+use Rattle.ss_model.specs.declared.outcome.Presence.{Presence}
+use Rattle.ss_model.specs.declared.outcome.Presence.TheVariants.{Absent, Present, Maybe}
 use Rattle.ss_model.specs.declared.types.Window.{Window}
 use Rattle.ss_summary.specs.Figures.{Figures}
 use Rattle.ss_summary.specs.Summaries.{joined}
@@ -23,13 +25,22 @@ use Rattle.ss_summary.specs.declared.summary.TheConstants.{GREATEST_COUNT}
 use Rattle.ss_query.specs.declared.asking.Seen.{Seen}
 use Rattle.ss_query.specs.declared.cut.Cut.{Cut}
 
--- before any window was read: what the values of landmarks in the range add up to
-abbrev pub marks_seen : Tally → Seen
-marks_seen marked = record {
-  marked = marked;
+-- whether the value that is asked for is there, by the values of landmarks in the range alone; where none is asked for, it is absent
+abbrev pub presence_of_marks : Kind → List LandmarkValue → Presence
+presence_of_marks kinds.Count values = Absent
+presence_of_marks kinds.Sum values = Absent
+presence_of_marks kinds.Min values = Absent
+presence_of_marks kinds.Max values = Absent
+presence_of_marks (kinds.Has v) values = if is_among v values then Present else Absent
+
+-- before any window was read: what these values add up to, and whether the value that is asked for is one of them
+abbrev pub marks_seen : Kind → List LandmarkValue → Seen
+marks_seen kind values = record {
+  marked = tally_of values;
   whole = None;
   left = None;
   right = None;
+  presence = presence_of_marks kind values;
   taken = 0;
   next_time = 0;
 }
@@ -53,28 +64,52 @@ left_with landmarks from to left w = if is_split from to w && nat_lt w.summary.t
 abbrev pub right_with : List Landmark → ℕ → ℕ → Option Cut → Window → Option Cut
 right_with landmarks from to right w = if is_split from to w && nat_le from w.summary.t_first then Some (cut_of landmarks from to w) else right
 
+-- the stronger of two things that are known of whether a value is there
+abbrev pub stronger : Presence → Presence → Presence
+stronger Absent other = other
+stronger Present other = Present
+stronger Maybe Absent = Maybe
+stronger Maybe Present = Present
+stronger Maybe Maybe = Maybe
+
+-- what one window tells of it
+abbrev pub presence_in : List Landmark → ℕ → ℕ → ℤ → Window → Presence
+presence_in landmarks from to v w =
+    if is_extreme from to v w then Present
+    else if may_reach (is_free landmarks) from to w && may_have v w.summary then Maybe
+    else Absent
+
+-- what is known of the value that is asked for, with one more window
+abbrev pub presence_with : List Landmark → Kind → ℕ → ℕ → Presence → Window → Presence
+presence_with landmarks kinds.Count from to known w = known
+presence_with landmarks kinds.Sum from to known w = known
+presence_with landmarks kinds.Min from to known w = known
+presence_with landmarks kinds.Max from to known w = known
+presence_with landmarks (kinds.Has v) from to known w = stronger known (presence_in landmarks from to v w)
+
 -- a window may come next: it has no more values than a stream can have besides those so far, and its times are behind theirs
 abbrev pub Follows : Seen → Window → Type 0
 Follows seen w = (seen.taken + w.summary.count ≤ GREATEST_COUNT) × (seen.next_time ≤ w.summary.t_first)
 
 -- what is known with one more window
-abbrev pub seen_with : List Landmark → ℕ → ℕ → Seen → Window → Seen
-seen_with landmarks from to seen w = record {
+abbrev pub seen_with : List Landmark → Kind → ℕ → ℕ → Seen → Window → Seen
+seen_with landmarks kind from to seen w = record {
   marked = seen.marked;
   whole = whole_with from to seen.whole w;
   left = left_with landmarks from to seen.left w;
   right = right_with landmarks from to seen.right w;
+  presence = presence_with landmarks kind from to seen.presence w;
   taken = seen.taken + w.summary.count;
   next_time = w.summary.t_last + 1;
 }
 
 -- the same of a window of the stream, whose record is read only where it has times in the range
-abbrev pub seen_after : List Landmark → ℕ → ℕ → Seen → Window → Seen
-seen_after landmarks from to seen w = if is_apart from to w then seen else seen_with landmarks from to seen w
+abbrev pub seen_after : List Landmark → Kind → ℕ → ℕ → Seen → Window → Seen
+seen_after landmarks kind from to seen w = if is_apart from to w then seen else seen_with landmarks kind from to seen w
 
 -- what is known of a stream: of its landmarks, and of all its windows, oldest first
-abbrev pub seen_of : ℕ → ℕ → Stream → Seen
-seen_of from to s = fold (seen_after s.landmarks from to) (marks_seen (tally_of (values_between s.landmarks from to))) s.windows
+abbrev pub seen_of : Kind → ℕ → ℕ → Stream → Seen
+seen_of kind from to s = fold (seen_after s.landmarks kind from to) (marks_seen kind (values_between s.landmarks from to)) s.windows
 
 -- the values so far are no more than a stream can have, and the whole windows among them lie before the time of the next one
 pub record HasRoom (seen : Seen) : Type 0 where
@@ -137,3 +172,4 @@ outcome_seen kinds.Sum seen =
     Sum (known +ℤ (sums_of seen.left).0 +ℤ (sums_of seen.right).0) (known +ℤ (sums_of seen.left).1 +ℤ (sums_of seen.right).1)
 outcome_seen kinds.Min seen = Min (min_interval (seen_min seen.whole seen.marked) (listed (figures_of seen.left) (figures_of seen.right)))
 outcome_seen kinds.Max seen = Max (max_interval (seen_max seen.whole seen.marked) (listed (figures_of seen.left) (figures_of seen.right)))
+outcome_seen (kinds.Has v) seen = Has seen.presence

@@ -2,6 +2,7 @@
 ghost use Rattle.std.specs.Prelude.{◌≡◌, ◌↔◌, ◌+◌, ◌*◌, ◌^◌, ◌<◌, ◌≤◌, Some, IsTrue, IfSome};
 ghost use Rattle.ss_bounds.specs.Times.{ends_in, times_inside};
 ghost use Rattle.ss_landmarks.specs.Free.{is_free};
+ghost use Rattle.ss_landmarks.specs.ValuesIn.{values_between};
 ghost use Rattle.ss_model.specs.Closed.{last_position};
 ghost use Rattle.ss_model.specs.Interval.{is_apart, is_split, is_whole, split_figures};
 ghost use Rattle.ss_model.specs.Marks.{lies_free};
@@ -10,10 +11,11 @@ ghost use Rattle.ss_query.specs.Asked.{Follows, HasCuts, IsCut, IsFewMarked, IsN
 ghost use Rattle.ss_query.specs.Asked.{seen_sum, left_with, marks_seen, outcome_seen, right_with, seen_with, sums_of, whole_with};
 
 use crate::Cut;
+use crate::presence::{presence_of_marks, presence_with};
 use ss_bounds::{Split, count_bounds, greater, lesser, max_bounds, min_bounds, sum_bounds};
 use ss_catalog::{Kind, LAST_TIME, Query};
 use ss_landmarks::{Landmarks, Tally};
-use ss_model::{Outcome, Window};
+use ss_model::{Outcome, Presence, Window};
 use ss_summary::{GREATEST_COUNT, Summary};
 
 /// What the landmarks and the windows that were read so far say of a range of times.
@@ -27,6 +29,8 @@ pub struct Seen {
     pub left: Option<Cut>,
     /// The window that the range splits and that begins in it.
     pub right: Option<Cut>,
+    /// Whether the value that is asked for is there. Where none is asked for, it is absent.
+    pub presence: Presence,
     /// How many values the windows have that were read.
     pub taken: u64,
     /// The least time at which the next window may begin.
@@ -34,14 +38,15 @@ pub struct Seen {
 }
 
 // Before any window was read.
-pub fn nothing_seen(marked: Tally) -> Seen
-    ensures { result ≡ marks_seen marked }
+pub fn nothing_seen(query: &Query, landmarks: &Landmarks) -> Seen
+    ensures { result ≡ marks_seen query.now.kind (values_between landmarks.now.landmarks query.now.from query.now.to) }
 {
     Seen {
-        marked,
+        marked: landmarks.values_in(query.from, query.to),
         whole: None,
         left: None,
         right: None,
+        presence: presence_of_marks(query, landmarks),
         taken: 0,
         next_time: 0,
     }
@@ -58,7 +63,7 @@ pub fn follows(seen: Seen, window: &Window) -> bool
 }
 
 // Whether all times of a window lie in the range.
-fn is_whole(query: &Query, window: &Window) -> bool
+pub fn is_whole(query: &Query, window: &Window) -> bool
     ensures { result ≡ is_whole query.now.from query.now.to window.now }
 {
     query.from <= window.summary.t_first && window.summary.t_last <= query.to
@@ -72,7 +77,7 @@ fn is_apart(query: &Query, window: &Window) -> bool
 }
 
 // Whether some do and some don't.
-fn is_split(query: &Query, window: &Window) -> bool
+pub fn is_split(query: &Query, window: &Window) -> bool
     ensures { result ≡ is_split query.now.from query.now.to window.now }
 {
     !is_whole(query, window) && !is_apart(query, window)
@@ -99,7 +104,7 @@ fn times_inside(query: &Query, landmarks: &Landmarks, first: u64, last: u64) -> 
 }
 
 // The figures of a window that the range splits.
-fn split_of(query: &Query, landmarks: &Landmarks, window: &Window) -> Split
+pub fn split_of(query: &Query, landmarks: &Landmarks, window: &Window) -> Split
     requires order { query.now.from ≤ query.now.to }
     requires split { IsTrue (is_split query.now.from query.now.to window.now) }
     requires free { IsTrue (lies_free landmarks.now.landmarks window.now) }
@@ -211,7 +216,7 @@ pub fn with_window(seen: Seen, query: &Query, landmarks: &Landmarks, window: &Wi
         × (older.count + window.now.summary.count ≤ GREATEST_COUNT)) }
     requires place { last_position window.now < 2 ^ 64 }
     requires cuts { HasCuts seen }
-    ensures value { result ≡ seen_with landmarks.now.landmarks query.now.from query.now.to seen window.now }
+    ensures value { result ≡ seen_with landmarks.now.landmarks query.now.kind query.now.from query.now.to seen window.now }
     ensures cuts { HasCuts result }
 {
     Seen {
@@ -219,6 +224,7 @@ pub fn with_window(seen: Seen, query: &Query, landmarks: &Landmarks, window: &Wi
         whole: whole_with(seen.whole, query, window),
         left: left_with(seen.left, query, landmarks, window),
         right: right_with(seen.right, query, landmarks, window),
+        presence: presence_with(seen.presence, query, landmarks, window),
         taken: seen.taken + window.summary.count,
         next_time: window.summary.t_last + 1,
     }
@@ -348,5 +354,6 @@ pub fn outcome_seen(seen: Seen, kind: Kind) -> Outcome
         Kind::Sum => sum_seen(seen),
         Kind::Min => least_seen(seen),
         Kind::Max => greatest_seen(seen),
+        Kind::Has { .. } => Outcome::Has(seen.presence),
     }
 }

@@ -4,6 +4,7 @@
 mod answering;
 mod asking;
 mod cut;
+mod presence;
 mod read_error;
 mod reading;
 mod walking;
@@ -13,5 +14,5 @@ pub use asking::{Seen, outcome_seen};
 pub use cut::Cut;
 pub use read_error::ReadError;
 pub use reading::read_window;
-pub use ss_model::Outcome;
+pub use ss_model::{Outcome, Presence};
 pub use walking::see_from;

@@ -40,7 +40,7 @@ fn see_entry<D: Disk>(
     requires slot { entry.slot < MOST_SLOTS }
     requires one_disk { OfContent (D.seen disk.old) (AreKept records.old) }
     ensures sees { Step (verdict_of_read result) (D.seen disk.old) (D.seen disk.new)
-        (SeesEntry part.now query.now.from query.now.to entry seen records.old records.new result) }
+        (SeesEntry part.now query.now entry seen records.old records.new result) }
     ensures room { IfOk result (λ now. HasRoom now × (now.marked ≡ seen.marked)) }
     ensures cuts { IfOk result HasCuts }
     ensures changed { IfChanged (verdict_of_read result) (λ slot. slot ≡ entry.slot) }
@@ -90,7 +90,7 @@ pub fn see_from<D: Disk, L: Ledger>(
 {
     let _len = part.line.len();
     let _known = part.landmarks.count();
-    let mut seen = nothing_seen(part.landmarks.values_in(query.from, query.to));
+    let mut seen = nothing_seen(query, &part.landmarks);
     let mut next = start;
     while let Some(at) = next {
         let entry = part.line.get(at, steps);

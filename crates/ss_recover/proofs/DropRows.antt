@@ -3,6 +3,7 @@ use Rattle.std.specs.Prelude.{◌≡◌, ℕ, Bool, true, false, pos, List, [], 
 use Rattle.std.proofs.Common.{refl, sym}
 use Rattle.std.proofs.lemmas.Bool.{true≢false}
 use Rattle.ss_summary.specs.Figures.{Figures}
+use Rattle.ss_summary.specs.Filters.{full}
 use Rattle.ss_catalog.specs.declared.params.Params.TheVariants.{Exp}
 use Rattle.ss_codec.specs.declared.record.Record.{Record}
 use Rattle.ss_codec.specs.declared.record.Record.TheVariants as records
@@ -16,7 +17,7 @@ abbrev a : List ℕ
 a = 97 ∷ []
 
 abbrev five : Figures
-five = record { count = 1; sum = pos 5; min = pos 5; max = pos 5; t_first = 10; t_last = 10 }
+five = record { count = 1; sum = pos 5; min = pos 5; max = pos 5; t_first = 10; t_last = 10; filter = full }
 
 -- what may go beside others: a window of a dropped stream as long as its own record is there, and that once no other is
 abbrev own_record : ℕ → Bool → Record

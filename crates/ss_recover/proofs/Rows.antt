@@ -4,7 +4,11 @@ use Rattle.std.specs.Prelude.{◌≤◌, Bool, Option, Some, None, filter}
 use Rattle.std.proofs.Common.{refl, ◌∙◌}
 use Rattle.ss_fields.specs.Fields as Numbers
 use Rattle.ss_summary.specs.Figures.{Figures}
+use Rattle.ss_summary.specs.Filters as Filters
+use Rattle.ss_summary.specs.Filters.{filter_of, full}
+use Rattle.ss_summary.specs.Points.{New}
 use Rattle.ss_summary.specs.Possible as Possible
+use Rattle.ss_summary.specs.Summaries.{summary_of}
 use Rattle.ss_catalog.specs.Names as Names
 use Rattle.ss_catalog.specs.declared.TheConstants.{MOST_STREAMS}
 use Rattle.ss_catalog.specs.declared.params.Params.TheVariants.{Exp}
@@ -49,9 +53,14 @@ marked_stream number name windows landmarks =
 abbrev stream : ℕ → List ℕ → List Window → Stream
 stream number name windows = marked_stream number name windows []
 
--- so many values 5, the first and the last at these times
+-- so many values 5, the first and the last at these times, with a filter that has all bits
 abbrev fives : ℕ → ℕ → ℕ → Figures
-fives count t_first t_last = record { count = count; sum = pos (5 * count); min = pos 5; max = pos 5; t_first = t_first; t_last = t_last }
+fives count t_first t_last =
+    record { count = count; sum = pos (5 * count); min = pos 5; max = pos 5; t_first = t_first; t_last = t_last; filter = full }
+
+-- the same with the filter of their values
+abbrev filtered_fives : ℕ → ℕ → ℕ → Figures
+filtered_fives count t_first t_last = record (fives count t_first t_last) { filter = filter_of (pos 5) }
 
 -- the bytes of a window's record
 abbrev window_slot : ℕ → ℕ → Figures → List ℕ
@@ -84,13 +93,13 @@ b = 98 ∷ []
 
 -- the values 5, -3, 8, 1, 9, 2 and 7 at the times 10 to 70, where all that was due is joined
 abbrev first_four : Figures
-first_four = record { count = 4; sum = pos 11; min = negsuc 2; max = pos 8; t_first = 10; t_last = 40 }
+first_four = summary_of ((10, pos 5, New) ∷ (20, negsuc 2, New) ∷ (30, pos 8, New) ∷ (40, pos 1, New) ∷ [])
 
 abbrev next_two : Figures
-next_two = record { count = 2; sum = pos 11; min = pos 2; max = pos 9; t_first = 50; t_last = 60 }
+next_two = summary_of ((50, pos 9, New) ∷ (60, pos 2, New) ∷ [])
 
 abbrev last_one : Figures
-last_one = record { count = 1; sum = pos 7; min = pos 7; max = pos 7; t_first = 70; t_last = 70 }
+last_one = summary_of ((70, pos 7, New) ∷ [])
 
 -- slots, and what a map of them carries
 abbrev AreCarried : List (List (List ℕ) × Carried) → Type 0
@@ -121,8 +130,35 @@ carried-sound : AreCarried (
     ∷ []
     )
 unfolding carried spelled is_sound decoded record_in stream_in window_in landmark_in value_in finish_in params_in is_valid spelling
-    Names.is_name Possible.is_possible Fields.with_field Numbers.number_at Numbers.number_bytes Marks.lies_free
+    Names.is_name Possible.is_possible Filters.bit_of Filters.filter_of Filters.full Filters.has Filters.union
+    Fields.with_field Numbers.number_at Numbers.number_bytes Marks.lies_free
 carried-sound = refl
+
+-- windows whose filters have all bits, as stores without filters wrote them, beside ones with the filters of their values: each
+-- as it is
+carried-filters : AreCarried (
+    -- in one stream
+    (
+      stream_slot 0 a ∷ window_slot 0 1 (fives 4 10 40) ∷ window_slot 0 5 (filtered_fives 2 50 60) ∷ [],
+      carries (stream 0 a (window 1 (fives 4 10 40) ∷ window 5 (filtered_fives 2 50 60) ∷ []) ∷ []),
+    )
+    -- in two streams, and one with the bits of several values
+    ∷ (
+      window_slot 1 1 first_four ∷ window_slot 0 3 (fives 1 30 30) ∷ stream_slot 1 b ∷ window_slot 1 5 (fives 1 50 50) ∷
+          window_slot 0 1 (filtered_fives 2 10 20) ∷ stream_slot 0 a ∷ [],
+      carries (stream 0 a (window 1 (filtered_fives 2 10 20) ∷ window 3 (fives 1 30 30) ∷ []) ∷
+          stream 1 b (window 1 first_four ∷ window 5 (fives 1 50 50) ∷ []) ∷ []),
+    )
+    -- no valid record: a filter whose byte 1 says that it has all bits, one that has none, and one that lacks the bit of a value
+    ∷ (stream_slot 0 a ∷ slice_set (window_slot 0 1 (filtered_fives 1 10 10)) 1 0 ∷ [], bad_slot 1)
+    ∷ (stream_slot 0 a ∷ slice_set (window_slot 0 1 (fives 1 10 10)) 1 1 ∷ [], bad_slot 1)
+    ∷ (stream_slot 0 a ∷ window_slot 0 1 (record (fives 1 10 10) { filter = filter_of (pos 7) }) ∷ [], bad_slot 1)
+    ∷ []
+    )
+unfolding carried spelled is_sound decoded record_in stream_in window_in landmark_in value_in finish_in params_in is_valid spelling
+    Names.is_name Possible.is_possible Filters.bit_of Filters.filter_of Filters.full Filters.has Filters.union
+    Fields.with_field Numbers.number_at Numbers.number_bytes Marks.lies_free
+carried-filters = refl
 
 -- what is damaged, without landmarks
 carried-damaged : AreCarried (
@@ -153,7 +189,8 @@ carried-damaged : AreCarried (
     ∷ []
     )
 unfolding carried spelled is_sound decoded record_in stream_in window_in landmark_in value_in finish_in params_in is_valid spelling
-    Names.is_name Possible.is_possible Fields.with_field Numbers.number_at Numbers.number_bytes Marks.lies_free
+    Names.is_name Possible.is_possible Filters.bit_of Filters.filter_of Filters.full Filters.has Filters.union
+    Fields.with_field Numbers.number_at Numbers.number_bytes Marks.lies_free
 carried-damaged = refl
 
 -- maps with landmarks
@@ -212,7 +249,8 @@ carried-landmarks : AreCarried (
     ∷ []
     )
 unfolding carried spelled is_sound decoded record_in stream_in window_in landmark_in value_in finish_in params_in is_valid spelling
-    Names.is_name Possible.is_possible Fields.with_field Numbers.number_at Numbers.number_bytes Marks.lies_free
+    Names.is_name Possible.is_possible Filters.bit_of Filters.filter_of Filters.full Filters.has Filters.union
+    Fields.with_field Numbers.number_at Numbers.number_bytes Marks.lies_free
 carried-landmarks = refl
 
 -- windows among landmarks
@@ -247,7 +285,8 @@ carried-among : AreCarried (
     ∷ []
     )
 unfolding carried spelled is_sound decoded record_in stream_in window_in landmark_in value_in finish_in params_in is_valid spelling
-    Names.is_name Possible.is_possible Fields.with_field Numbers.number_at Numbers.number_bytes Marks.lies_free
+    Names.is_name Possible.is_possible Filters.bit_of Filters.filter_of Filters.full Filters.has Filters.union
+    Fields.with_field Numbers.number_at Numbers.number_bytes Marks.lies_free
 carried-among = refl
 
 -- streams that were dropped
@@ -280,7 +319,8 @@ carried-dropped : AreCarried (
     ∷ []
     )
 unfolding carried spelled is_sound decoded record_in stream_in window_in landmark_in value_in finish_in params_in is_valid spelling
-    Names.is_name Possible.is_possible Fields.with_field Numbers.number_at Numbers.number_bytes Marks.lies_free
+    Names.is_name Possible.is_possible Filters.bit_of Filters.filter_of Filters.full Filters.has Filters.union
+    Fields.with_field Numbers.number_at Numbers.number_bytes Marks.lies_free
 carried-dropped = refl
 
 -- the streams 0 and 2 were dropped, and 1 stands
@@ -293,7 +333,8 @@ dropped_map = map_of (
 -- their slots: those of a window, a value and a landmark, and then those of the streams
 doomed_slots-dropped : doomed_slots (occupied dropped_map) ≡ 0 ∷ 5 ∷ 7 ∷ 2 ∷ 6 ∷ []
 unfolding decoded record_in stream_in window_in landmark_in value_in finish_in params_in is_valid spelling
-    Names.is_name Possible.is_possible Fields.with_field Numbers.number_at Numbers.number_bytes
+    Names.is_name Possible.is_possible Filters.bit_of Filters.filter_of Filters.full Filters.has Filters.union
+    Fields.with_field Numbers.number_at Numbers.number_bytes
 doomed_slots-dropped = refl
 
 -- the slots that parts of that map name

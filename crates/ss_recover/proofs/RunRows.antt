@@ -1,5 +1,6 @@
 -- Worked rows: records in order of which some are of dropped streams, as a walk takes them.
 use Rattle.std.proofs.Common.{◌≡◌, ℕ, Bool, true, false, pos, List, [], ◌∷◌, refl}
+use Rattle.ss_summary.specs.Filters.{full}
 use Rattle.ss_catalog.specs.declared.params.Params.TheVariants.{Exp}
 use Rattle.ss_codec.specs.declared.record.Record.{Record}
 use Rattle.ss_codec.specs.declared.record.Record.TheVariants as records
@@ -21,7 +22,7 @@ own number name dropped = records.Stream number name (Exp 2 1 1) dropped
 
 abbrev window : ℕ → ℕ → Record
 window number first =
-    records.Window number first (record { count = 2; sum = pos 10; min = pos 5; max = pos 5; t_first = 10; t_last = 20 })
+    records.Window number first (record { count = 2; sum = pos 10; min = pos 5; max = pos 5; t_first = 10; t_last = 20; filter = full })
 
 -- a dropped stream is a run with any records that aren't a stream's own, and one that stands with those alone that may come
 dropped-alone : is_run [] (own 0 a true ∷ []) ≡ true

@@ -5,7 +5,7 @@ pub returns-clause-start : goal.returns-clause-start
 returns-clause-start c = IsHistory-nil
 
 pub returns-clause-step : goal.returns-clause-step
-returns-clause-step c history event = (
-  (λ whole. let on = GoesOn-push history event whole in (on.before, on.said, on.accepted)),
-  (λ on. IsHistory_push history event (record { before = on.0; said = on.1; accepted = on.2 })),
+returns-clause-step c history event origin = (
+  (λ whole. let on = GoesOn-push history (event, origin) whole in (on.before, on.said, on.accepted)),
+  (λ on. IsHistory_push history (event, origin) (record { before = on.0; said = on.1; accepted = on.2 })),
 )

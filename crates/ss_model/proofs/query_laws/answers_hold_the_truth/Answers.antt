@@ -1,6 +1,7 @@
 use Rattle.ss_model.specs.Windows.{windows}
 use Rattle.ss_model.proofs.IntervalLemmas.{count-lies, sum-lies, least-HoldsExtreme, greatest-HoldsExtreme}
-use Rattle.ss_model.proofs.PieceLemmas.{AreOf-windows}
+use Rattle.ss_model.proofs.PieceLemmas.{AreExactlyOf-windows, AreOf-windows}
+use Rattle.ss_model.proofs.PresenceLemmas.{presence-holds}
 use Rattle.ss_model.proofs.query_laws.answers_hold_the_truth.Goals as goal
 
 pub returns-clause-count : goal.returns-clause-count
@@ -14,3 +15,7 @@ returns-clause-least c len free from to plain marked = least-HoldsExtreme free f
 
 pub returns-clause-greatest : goal.returns-clause-greatest
 returns-clause-greatest c len free from to plain marked = greatest-HoldsExtreme free from to (windows len plain) plain marked 0 (AreOf-windows len plain)
+
+pub returns-clause-presence : goal.returns-clause-presence
+returns-clause-presence c value len free from to plain marked =
+    presence-holds value free from to (windows len plain) plain marked 0 (AreExactlyOf-windows len plain)

@@ -3,13 +3,15 @@ use Rattle.std.specs.Prelude.{◌≤ℤ◌}
 use Rattle.ss_bounds.specs.Truth.{HoldsExtreme}
 use Rattle.ss_landmarks.specs.Free.{is_free}
 use Rattle.ss_target.specs.Lengths.{lengths_of}
+use Rattle.ss_model.specs.Answers.{HoldsPresence}
 use Rattle.ss_model.specs.History.{landmarks_of, marked_of, values_of}
-use Rattle.ss_model.specs.Interval.{interval_of_count, interval_of_greatest, interval_of_least, interval_of_sum}
+use Rattle.ss_model.specs.Interval.{interval_of_count, interval_of_greatest, interval_of_least, interval_of_sum, presence_of}
 use Rattle.ss_model.specs.Marks.{marked_values}
-use Rattle.ss_model.specs.Truth.{true_count, true_greatest, true_least, true_sum}
+use Rattle.ss_model.specs.Truth.{true_count, true_greatest, true_least, true_presence, true_sum}
 use Rattle.ss_model.specs.Windows.{windows}
 use Rattle.ss_model.proofs.IntervalLemmas.{count-lies, sum-lies, least-HoldsExtreme, greatest-HoldsExtreme}
-use Rattle.ss_model.proofs.PieceLemmas.{AreOf-windows}
+use Rattle.ss_model.proofs.PieceLemmas.{AreExactlyOf-windows, AreOf-windows}
+use Rattle.ss_model.proofs.PresenceLemmas.{presence-holds}
 use Rattle.ss_model.proofs.ReadLemmas.{All-state}
 use Rattle.ss_model.proofs.RisingLemmas.{values-rise}
 use Rattle.ss_model.proofs.query_laws.answers_hold_the_truth_of_histories.Goals as goal
@@ -45,3 +47,11 @@ returns-clause-greatest c history from to whole =
     (λ s. greatest-HoldsExtreme (is_free (landmarks_of history s.name)) from to (windows (lengths_of s.params) (values_of history s.name))
     (values_of history s.name) (marked_of history s.name) 0
     (AreOf-windows (lengths_of s.params) (values_of history s.name)) (values-rise history s.name whole))
+
+pub returns-clause-presence : goal.returns-clause-presence
+returns-clause-presence c value history from to whole =
+    All-state (λ s. HoldsPresence (presence_of value (is_free s.landmarks) from to s.windows (marked_values s.landmarks))
+    (true_presence value from to (values_of history s.name) (marked_of history s.name))) history
+    (λ s. presence-holds value (is_free (landmarks_of history s.name)) from to (windows (lengths_of s.params) (values_of history s.name))
+    (values_of history s.name) (marked_of history s.name) 0
+    (AreExactlyOf-windows (lengths_of s.params) (values_of history s.name)) (values-rise history s.name whole))

@@ -10,9 +10,9 @@ use Rattle.ss_query.proofs.walking.see_from.Goals as goal
 pub loop-next-init : goal.loop-next-init
 loop-next-init g c = record {
   asking = subst (λ seen. IsAsking (g.D.Disk.seen c.args.disk.now) (g.D.Disk.seen c.args.disk.now) c.args.records.now c.args.records.now c.args.part.now
-      c.args.query.now.from c.args.query.now.to seen c.args.start) (sym c.nothing_seen-seen.ensures)
-      (IsAsking-none (g.D.Disk.seen c.args.disk.now) c.args.records.now c.args.part.now c.args.query.now.from c.args.query.now.to
-      c.args.start c.requires.begins c.requires.one_disk c.values_in.result c.values_in.ensures);
+      c.args.query.now seen c.args.start) (sym c.nothing_seen-seen.ensures)
+      (IsAsking-none (g.D.Disk.seen c.args.disk.now) c.args.records.now c.args.part.now c.args.query.now c.args.start
+      c.requires.begins c.requires.one_disk);
   looks = omega arith;
 }
 

@@ -6,7 +6,7 @@ use Rattle.ss_query.proofs.walking.see_from.Given as goal
 
 abbrev pub invariant-loop-next : goal.invariant-loop-next
 invariant-loop-next g l = record {
-  asking : IsAsking (g.D.Disk.seen l.fn.disk) (g.D.Disk.seen l.disk) l.fn.records l.records l.part l.query.from l.query.to l.seen l.next;
+  asking : IsAsking (g.D.Disk.seen l.fn.disk) (g.D.Disk.seen l.disk) l.fn.records l.records l.part l.query l.seen l.next;
   looks : l.steps + 2 * begun_by l.query.to (entries_from l.part.line.entries l.next)
       ≤ l.initial.steps + 2 * begun_by l.query.to (entries_from l.part.line.entries l.fn.start);
 }
