@@ -37,27 +37,27 @@ pub none-same : {B : Type 0} (seen : Seen) (made : B) (e : AskError) (P : Type 0
 none-same seen made e P both = (λ same. absurd (cc), λ holds. (let is = both.1 holds in cc))
 
 module _ (query : Query) (end : End) (w : Evidence) (seen : Seen) (right : Bool) (shown : IsTrue right ↔ IsEvidence query.kind end seen w) where
-  checked-named : (o : Option Stream) → option_map (seen_of query.from query.to) o ≡ Some seen →
-      IfSome o (λ s. IsTrue right ↔ IsEvidence query.kind end (seen_of query.from query.to s) w)
+  checked-named : (o : Option Stream) → option_map (seen_of query.kind query.from query.to) o ≡ Some seen →
+      IfSome o (λ s. IsTrue right ↔ IsEvidence query.kind end (seen_of query.kind query.from query.to s) w)
   checked-named None known = absurd (cc)
   checked-named (Some s) known =
-      let same : seen_of query.from query.to s ≡ seen = cc in
+      let same : seen_of query.kind query.from query.to s ≡ seen = cc in
       subst (λ (k : Seen). IsTrue right ↔ IsEvidence query.kind end k w) (sym same) shown
 
   true-named : (streams : List Stream) (o : Option Stream) → stream_named query.name streams ≡ o →
-      option_map (seen_of query.from query.to) o ≡ Some seen → right ≡ true → MayBeTrue streams query w.answer
+      option_map (seen_of query.kind query.from query.to) o ≡ Some seen → right ≡ true → MayBeTrue streams query w.answer
   true-named streams None found known is = absurd (cc)
   true-named streams (Some s) found known is =
-      let same : seen_of query.from query.to s ≡ seen = cc in
+      let same : seen_of query.kind query.from query.to s ≡ seen = cc in
       MayBeTrue-answer streams query s end w found (subst (λ (k : Seen). IsEvidence query.kind end k w) (sym same) (shown.0 is))
 
   asked-named : (streams : List Stream) (o : Option Stream) (answer : Option Outcome) → IsState streams → stream_named query.name streams ≡ o →
-      option_map (seen_of query.from query.to) o ≡ Some seen → outcome_of streams query ≡ answer → right ≡ true →
+      option_map (seen_of query.kind query.from query.to) o ≡ Some seen → outcome_of streams query ≡ answer → right ≡ true →
       IfSome answer (λ outcome. end_asked end outcome ≡ Some w.answer)
   asked-named streams None answer state found known answered is = absurd (cc)
   asked-named streams (Some s) None state found known answered is = tt
   asked-named streams (Some s) (Some outcome) state found known answered is =
-      let same : seen_of query.from query.to s ≡ seen = cc in
+      let same : seen_of query.kind query.from query.to s ≡ seen = cc in
       let evidence = subst (λ (k : Seen). IsEvidence query.kind end k w) (sym same) (shown.0 is) in
       end_asked-answer streams query s end w found evidence (All-named IsStream query.name streams s state.each found) outcome answered
 
@@ -81,18 +81,18 @@ module _ (query : Query) (end : End) (w : Evidence) (seen : Seen) (right : Bool)
 
 -- what is made of what is known is the evidence of the state, and shows the end
 module _ (query : Query) (end : End) (w : Evidence) (seen : Seen) (made : w ≡ evidence_of query.kind end seen) where
-  made-named : (o : Option Stream) → option_map (seen_of query.from query.to) o ≡ Some seen →
-      option_map (λ (s : Stream). evidence_of query.kind end (seen_of query.from query.to s)) o ≡ Some w
+  made-named : (o : Option Stream) → option_map (seen_of query.kind query.from query.to) o ≡ Some seen →
+      option_map (λ (s : Stream). evidence_of query.kind end (seen_of query.kind query.from query.to s)) o ≡ Some w
   made-named None known = absurd (cc)
   made-named (Some s) known =
-      let same : seen_of query.from query.to s ≡ seen = cc in
+      let same : seen_of query.kind query.from query.to s ≡ seen = cc in
       ap Some (ap (evidence_of query.kind end) same ∙ sym made)
 
-  right-named : (o : Option Stream) → IsEvidence query.kind end seen w → option_map (seen_of query.from query.to) o ≡ Some seen →
-      IfSome o (λ s. IsEvidence query.kind end (seen_of query.from query.to s) w)
+  right-named : (o : Option Stream) → IsEvidence query.kind end seen w → option_map (seen_of query.kind query.from query.to) o ≡ Some seen →
+      IfSome o (λ s. IsEvidence query.kind end (seen_of query.kind query.from query.to s) w)
   right-named None shown known = tt
   right-named (Some s) shown known =
-      let same : seen_of query.from query.to s ≡ seen = cc in
+      let same : seen_of query.kind query.from query.to s ≡ seen = cc in
       subst (λ (k : Seen). IsEvidence query.kind end k w) (sym same) shown
 
   pub makes-seen : {before after : DiskView} (was : RecordsState) → adds_up query.kind ≡ true → HasCuts seen →

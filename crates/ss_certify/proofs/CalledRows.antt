@@ -19,7 +19,7 @@ module _ {old new : Told} (was : RecordsState) (query : Query) (end : End) (w : 
   makes-made = makes.made
 
   makes-right : (streams : List Stream) → Recovers streams (shown_by was old.content) →
-      IfSome (stream_named query.name streams) (λ s. IsEvidence query.kind end (seen_of query.from query.to s) w)
+      IfSome (stream_named query.name streams) (λ s. IsEvidence query.kind end (seen_of query.kind query.from query.to s) w)
   makes-right = makes.right
 
   makes-reads : OnlyReads old new
@@ -28,7 +28,7 @@ module _ {old new : Told} (was : RecordsState) (query : Query) (end : End) (w : 
 module _ {old new : Told} (was : RecordsState) (query : Query) (end : End) (w : Evidence) (right : Bool)
     (checks : ChecksEvidence was query end w (Ok right) old new) where
   checks-checked : (streams : List Stream) → Recovers streams (shown_by was old.content) →
-      IfSome (stream_named query.name streams) (λ s. IsTrue right ↔ IsEvidence query.kind end (seen_of query.from query.to s) w)
+      IfSome (stream_named query.name streams) (λ s. IsTrue right ↔ IsEvidence query.kind end (seen_of query.kind query.from query.to s) w)
   checks-checked = checks.checked
 
   checks-sharp : (streams : List Stream) → Recovers streams (shown_by was old.content) → right ≡ true → MayBeTrue streams query w.answer

@@ -14,6 +14,7 @@ use Rattle.ss_landmarks.specs.Landmark.{Landmark}
 use Rattle.ss_model.specs.declared.types.Run.{Run}
 use Rattle.ss_model.specs.declared.types.Window.{Window}
 use Rattle.ss_query.specs.Asked.{seen_of}
+use Rattle.ss_summary.specs.Filters.{full}
 use Rattle.ss_report.specs.Text.{reply_line}
 use Rattle.ss_certify.specs.Fill.{fill, run}
 use Rattle.ss_certify.specs.Made.{evidence_of}
@@ -25,7 +26,7 @@ use Rattle.ss_certify.specs.declared.evidence.Evidence.{Evidence}
 abbrev window : ℕ → ℕ → ℤ → ℤ → ℤ → ℕ → ℕ → Window
 window first count sum min max t_first t_last = record {
   first = first;
-  summary = record { count = count; sum = sum; min = min; max = max; t_first = t_first; t_last = t_last };
+  summary = record { count = count; sum = sum; min = min; max = max; t_first = t_first; t_last = t_last; filter = full };
 }
 
 abbrev stream : List Window → List Landmark → Stream
@@ -33,7 +34,7 @@ stream windows landmarks = record { number = 0; name = codes "a"; params = Exp 2
 
 -- what is made for an end of an answer over a range
 abbrev made : Stream → Kind → End → ℕ → ℕ → Evidence
-made s kind end from to = evidence_of kind end (seen_of from to s)
+made s kind end from to = evidence_of kind end (seen_of kind from to s)
 
 abbrev evidence : ℤ → ℤ → List Cert → Evidence
 evidence answer base certs = record { answer = answer; base = base; certs = record { items = certs } }

@@ -27,9 +27,9 @@ module _ (streams : List Stream) (query : Query) (outcome : Outcome) (answered :
   MayBeTrue-end : (end : End) (v : ℤ) → end_asked end outcome ≡ Some v → MayBeTrue streams query v
   MayBeTrue-end end v asked history s whole is found =
       let sound = IsStream-named history query.name s whole (ap (stream_named query.name) is ∙ found) in
-      let seen = seen_of query.from query.to s in
+      let seen = seen_of query.kind query.from query.to s in
       let w = evidence_of query.kind end seen in
-      let shown = IsEvidence-evidence_of query.kind end seen adds (HasCuts-seen_of query.from query.to s sound) in
+      let shown = IsEvidence-evidence_of query.kind end seen adds (HasCuts-seen_of query.kind query.from query.to s sound) in
       let answer = sym (end_asked-answer streams query s end w found shown sound outcome answered) ∙ asked in
       subst (IsTruthOfLike (contents_of history s) query) (same-value w.answer v answer)
       (MayBeTrue-answer streams query s end w found shown history s whole is found)

@@ -12,7 +12,6 @@ use Rattle.ss_bounds.specs.Extremes.{listed}
 use Rattle.ss_bounds.specs.Split.{IsSplit, SplitFigures, greatest_count, least_count}
 use Rattle.ss_bounds.specs.Truth.{total}
 use Rattle.ss_catalog.specs.Names.{same_name}
-use Rattle.ss_catalog.specs.declared.event.Event.{Event}
 use Rattle.ss_catalog.specs.declared.query.End.{End}
 use Rattle.ss_catalog.specs.declared.query.End.TheVariants.{Lo, Hi}
 use Rattle.ss_catalog.specs.declared.query.Kind.{Kind}
@@ -23,6 +22,7 @@ use Rattle.ss_contents.specs.Sides.{AllFit, FitSplit, Sides, count_inside, sum_i
 use Rattle.ss_contents.proofs.ContentsLemmas.{MayBeTrue-count, MayBeTrue-sum}
 use Rattle.ss_landmarks.specs.Free.{is_free}
 use Rattle.ss_landmarks.specs.Landmark.{Landmark}
+use Rattle.ss_model.specs.History.{Happened}
 use Rattle.ss_model.specs.Answers.{answer_of, outcome_of}
 use Rattle.ss_model.specs.Interval.{is_split, split_figures, split_windows}
 use Rattle.ss_model.specs.Interval as intervals
@@ -116,15 +116,15 @@ cut-each landmarks from to first time (w ∷ ws) stand free =
     (IsCut-cut_of landmarks from to w both.0 stand.1)
     (cut-each landmarks from to (first + w.summary.count) (w.summary.t_last + 1) ws stand.3 both.1)
 
-module _ (from to : ℕ) (s : Stream) (is : IsStream s) where
+module _ (kind : Kind) (from to : ℕ) (s : Stream) (is : IsStream s) where
   abbrev split : List Window
   split = filter (is_split from to) s.windows
 
   -- the windows that are cut are those that the range splits
-  pub cuts_of-seen_of : cuts_of (seen_of from to s) ≡ map (cut_of s.landmarks from to) split
-  cuts_of-seen_of = (IsSeen-seen_of from to s is).cuts
+  pub cuts_of-seen_of : cuts_of (seen_of kind from to s) ≡ map (cut_of s.landmarks from to) split
+  cuts_of-seen_of = (IsSeen-seen_of kind from to s is).cuts
 
-  pub IsCut-seen_of : All IsCut (cuts_of (seen_of from to s))
+  pub IsCut-seen_of : All IsCut (cuts_of (seen_of kind from to s))
   IsCut-seen_of =
       let P : Window → Type 0 = λ w. is_split from to w ≡ true → IsCut (cut_of s.landmarks from to w) in
       let each = All-filter (is_split from to) P s.windows (cut-each s.landmarks from to 1 0 s.windows is.windows.stand is.free) in
@@ -139,9 +139,9 @@ module _ (from to : ℕ) (s : Stream) (is : IsStream s) where
   IsCut-listed (Some l) None all = (All-head IsCut l [] all, tt)
   IsCut-listed (Some l) (Some r) all = (All-head IsCut l (r ∷ []) all, All-head IsCut r [] (All-tail IsCut l (r ∷ []) all))
 
-  pub HasCuts-seen_of : HasCuts (seen_of from to s)
+  pub HasCuts-seen_of : HasCuts (seen_of kind from to s)
   HasCuts-seen_of =
-      let both = IsCut-listed (seen_of from to s).left (seen_of from to s).right IsCut-seen_of in record { left = both.0; right = both.1 }
+      let both = IsCut-listed (seen_of kind from to s).left (seen_of kind from to s).right IsCut-seen_of in record { left = both.0; right = both.1 }
 
   -- they have the figures of the windows that the range splits
   figures-cuts : (ws : List Window)
@@ -149,21 +149,21 @@ module _ (from to : ℕ) (s : Stream) (is : IsStream s) where
   figures-cuts [] = refl
   figures-cuts (w ∷ ws) = ap (λ l. split_figures (is_free s.landmarks) from to w ∷ l) (figures-cuts ws)
 
-  pub figures-seen_of : map (λ (cut : Cut). cut.split) (cuts_of (seen_of from to s)) ≡ split_windows (is_free s.landmarks) from to s.windows
+  pub figures-seen_of : map (λ (cut : Cut). cut.split) (cuts_of (seen_of kind from to s)) ≡ split_windows (is_free s.landmarks) from to s.windows
   figures-seen_of = ap (map (λ (cut : Cut). cut.split)) cuts_of-seen_of ∙ figures-cuts split
 
-  pub base_of-Count : base_of kinds.Count (seen_of from to s) ≡ pos (intervals.known_count from to s.windows (marked_values s.landmarks))
-  base_of-Count = ap pos (seen_count-seen s.landmarks from to (seen_of from to s) s.windows (IsSeen-seen_of from to s is))
+  pub base_of-Count : base_of kinds.Count (seen_of kind from to s) ≡ pos (intervals.known_count from to s.windows (marked_values s.landmarks))
+  base_of-Count = ap pos (seen_count-seen s.landmarks kind from to (seen_of kind from to s) s.windows (IsSeen-seen_of kind from to s is))
 
-  pub base_of-Sum : base_of kinds.Sum (seen_of from to s) ≡ intervals.known_sum from to s.windows (marked_values s.landmarks)
-  base_of-Sum = seen_sum-seen s.landmarks from to (seen_of from to s) s.windows (IsSeen-seen_of from to s is)
+  pub base_of-Sum : base_of kinds.Sum (seen_of kind from to s) ≡ intervals.known_sum from to s.windows (marked_values s.landmarks)
+  base_of-Sum = seen_sum-seen s.landmarks kind from to (seen_of kind from to s) s.windows (IsSeen-seen_of kind from to s is)
 
   -- certificates of the cut windows have values that fit those that the range splits
-  pub AllFit-seen_of : (certs : List Cert) → AllCertify (cuts_of (seen_of from to s)) certs
+  pub AllFit-seen_of : (certs : List Cert) → AllCertify (cuts_of (seen_of kind from to s)) certs
       → AllFit (split_windows (is_free s.landmarks) from to s.windows) (map sides_of certs)
   AllFit-seen_of certs certify =
       subst (λ splits. AllFit splits (map sides_of certs)) figures-seen_of
-      (AllFit-certifies (cuts_of (seen_of from to s)) certs (λ k d inside. (IsCut-seen_of k d inside).split) certify)
+      (AllFit-certifies (cuts_of (seen_of kind from to s)) certs (λ k d inside. (IsCut-seen_of k d inside).split) certify)
 
 -- ---- what evidence shows
 
@@ -175,7 +175,7 @@ All-named P name (u ∷ us) s all found = elim (cases_Bool (same_name name u.nam
   | inr other ↦ (let later : stream_named name us ≡ Some s = rw other at found in All-named P name us s (All-tail P u us all) later)
 ]
 
-pub IsStream-named : (history : List Event) (name : List ℕ) (s : Stream) → IsHistory history → stream_named name (state history) ≡ Some s → IsStream s
+pub IsStream-named : (history : List Happened) (name : List ℕ) (s : Stream) → IsHistory history → stream_named name (state history) ≡ Some s → IsStream s
 IsStream-named history name s whole = All-named IsStream name (state history) s (IsState-state history whole).each
 
 -- only an answer of count or of sum has ends that are numbers
@@ -188,10 +188,14 @@ module _ (seen : Seen) (z : ℤ) where
   no-end-Max Lo some = cc
   no-end-Max Hi some = cc
 
+  no-end-Has : (value : ℤ) (end : End) → end_asked end (outcome_seen (kinds.Has value) seen) ≡ Some z → ⊥
+  no-end-Has value Lo some = cc
+  no-end-Has value Hi some = cc
+
 module _ (streams : List Stream) (query : Query) (s : Stream) (end : End) (w : Evidence) (found : stream_named query.name streams ≡ Some s)
-    (evidence : IsEvidence query.kind end (seen_of query.from query.to s) w) where
+    (evidence : IsEvidence query.kind end (seen_of query.kind query.from query.to s) w) where
   abbrev seen : Seen
-  seen = seen_of query.from query.to s
+  seen = seen_of query.kind query.from query.to s
 
   module _ (is : IsStream s) where
     adds-up : (kind : Kind) → query.kind ≡ kind → w.answer ≡ (base_of kind seen +ℤ parts_of kind w.certs.items)
@@ -200,20 +204,22 @@ module _ (streams : List Stream) (query : Query) (s : Stream) (end : End) (w : E
         ∙ ap (λ k. base_of k seen +ℤ parts_of k w.certs.items) same
 
     fit : AllFit (split_windows (is_free s.landmarks) query.from query.to s.windows) (map sides_of w.certs.items)
-    fit = AllFit-seen_of query.from query.to s is w.certs.items evidence.certificates
+    fit = AllFit-seen_of query.kind query.from query.to s is w.certs.items evidence.certificates
 
     may-be_true : (kind : Kind) → query.kind ≡ kind → MayBeTrue streams query w.answer
     may-be_true kinds.Count same =
         let answer = adds-up kinds.Count same
-        ∙ ap₂ (λ y z. y +ℤ z) (base_of-Count query.from query.to s is) (parts_of-Count (cuts_of seen) w.certs.items evidence.certificates) in
+        ∙ ap₂ (λ y z. y +ℤ z) (base_of-Count query.kind query.from query.to s is) (parts_of-Count (cuts_of seen) w.certs.items evidence.certificates) in
         subst (MayBeTrue streams query) (sym answer) (MayBeTrue-count streams query s (map sides_of w.certs.items) found fit same)
     may-be_true kinds.Sum same =
-        let answer = adds-up kinds.Sum same ∙ ap₂ (λ y z. y +ℤ z) (base_of-Sum query.from query.to s is) (parts_of-Sum w.certs.items) in
+        let answer = adds-up kinds.Sum same ∙ ap₂ (λ y z. y +ℤ z) (base_of-Sum query.kind query.from query.to s is) (parts_of-Sum w.certs.items) in
         subst (MayBeTrue streams query) (sym answer) (MayBeTrue-sum streams query s (map sides_of w.certs.items) found fit same)
     may-be_true kinds.Min same =
         absurd (no-end-Min seen w.answer end (sym (ap (λ k. end_asked end (outcome_seen k seen)) same) ∙ evidence.asked))
     may-be_true kinds.Max same =
         absurd (no-end-Max seen w.answer end (sym (ap (λ k. end_asked end (outcome_seen k seen)) same) ∙ evidence.asked))
+    may-be_true (kinds.Has value) same =
+        absurd (no-end-Has seen w.answer value end (sym (ap (λ k. end_asked end (outcome_seen k seen)) same) ∙ evidence.asked))
 
     pub end_asked-answer : (outcome : Outcome) → outcome_of streams query ≡ Some outcome → end_asked end outcome ≡ Some w.answer
     unfolding outcome_of

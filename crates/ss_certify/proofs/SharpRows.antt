@@ -1,11 +1,10 @@
 -- Worked rows: evidence of a stream of seven values.
-use Rattle.std.specs.Prelude.{◌≡◌, ℕ, ℤ, pos, negsuc, ◌≤ℤ◌, List, [], ◌∷◌, map, Some, codes}
+use Rattle.std.specs.Prelude.{◌≡◌, ℕ, ◌+◌, ◌^◌, ℤ, pos, negsuc, ◌≤ℤ◌, List, [], ◌∷◌, map, Some, codes}
 use Rattle.std.proofs.Common.{◌≤◌, ◌∙◌, ap, arith, length, lit≤, refl, subst, sym}
 use Rattle.std.proofs.lemmas.Int.{ints}
 use Rattle.std.proofs.lemmas.List.Elements.{All-cons, All-head, All-nil, All-tail}
 use Rattle.ss_bounds.specs.Split.{SplitFigures, sum_interval}
 use Rattle.ss_windowing.specs.Windowing.{window_index}
-use Rattle.ss_catalog.specs.declared.event.Event.{Event}
 use Rattle.ss_catalog.specs.declared.event.Event.TheVariants.{Create, Value}
 use Rattle.ss_catalog.specs.declared.params.Params.TheVariants.{Exp}
 use Rattle.ss_catalog.specs.declared.query.End.TheVariants.{Lo, Hi}
@@ -15,6 +14,7 @@ use Rattle.ss_catalog.specs.declared.query.Query.{Query}
 use Rattle.ss_contents.specs.Attained.{MayBeTrue}
 use Rattle.ss_contents.specs.Contents.{contents_of, sum_in}
 use Rattle.ss_contents.proofs.ContentsLemmas.{sum_in-lies}
+use Rattle.ss_model.specs.History.{Happened, added}
 use Rattle.ss_model.specs.Answers.{outcome_of}
 use Rattle.ss_model.specs.Refusals.{IsHistory}
 use Rattle.ss_model.specs.State.{Stream, state}
@@ -22,6 +22,8 @@ use Rattle.ss_model.specs.declared.outcome.Outcome.TheVariants.{Count, Sum}
 use Rattle.ss_model.specs.declared.types.Run.{Run}
 use Rattle.ss_query.specs.Asked.{seen_of}
 use Rattle.ss_query.specs.declared.cut.Cut.{Cut}
+use Rattle.ss_summary.specs.Filters.{bit_of, filter_of, union}
+use Rattle.ss_summary.specs.declared.filter.Filter.{Filter}
 use Rattle.ss_certify.specs.Checked.{Certifies}
 use Rattle.ss_certify.specs.Evidence.{AllCertify, IsEvidence, cuts_of}
 use Rattle.ss_certify.specs.Fill.{run}
@@ -35,24 +37,46 @@ abbrev a : List ℕ
 a = codes "a"
 
 -- seven values, whose windows are those of positions 1 to 4, 5 to 6, and 7
-abbrev history : List Event
-history =
+abbrev history : List Happened
+history = map added (
     Create a (Exp 2 1 1) ∷ Value a 10 (pos 5) ∷ Value a 20 (negsuc 2) ∷ Value a 30 (pos 8) ∷ Value a 40 (pos 1)
-    ∷ Value a 50 (pos 9) ∷ Value a 60 (pos 2) ∷ Value a 70 (pos 7) ∷ []
+    ∷ Value a 50 (pos 9) ∷ Value a 60 (pos 2) ∷ Value a 70 (pos 7) ∷ [])
+
+-- the filter of these words
+abbrev words : ℕ → ℕ → ℕ → ℕ → Filter
+words a b c d = record { words = a ∷ b ∷ c ∷ d ∷ [] }
 
 abbrev readings : Stream
 readings = record {
   number = 0;
   name = a;
   params = Exp 2 1 1;
-  windows = record { first = 1; summary = record { count = 4; sum = pos 11; min = negsuc 2; max = pos 8; t_first = 10; t_last = 40 } }
-      ∷ record { first = 5; summary = record { count = 2; sum = pos 11; min = pos 2; max = pos 9; t_first = 50; t_last = 60 } }
-      ∷ record { first = 7; summary = record { count = 1; sum = pos 7; min = pos 7; max = pos 7; t_first = 70; t_last = 70 } } ∷ [];
+  windows =
+      record {
+        first = 1;
+        summary = record {
+          count = 4;
+          sum = pos 11;
+          min = negsuc 2;
+          max = pos 8;
+          t_first = 10;
+          t_last = 40;
+          filter = words (2 ^ 23 + 2 ^ 37) 0 (2 ^ 30) (2 ^ 49);
+        };
+      }
+      ∷ record {
+        first = 5;
+        summary = record { count = 2; sum = pos 11; min = pos 2; max = pos 9; t_first = 50; t_last = 60; filter = words (2 ^ 60) 0 (2 ^ 15) 0 };
+      }
+      ∷ record {
+        first = 7;
+        summary = record { count = 1; sum = pos 7; min = pos 7; max = pos 7; t_first = 70; t_last = 70; filter = words 0 (2 ^ 19) 0 0 };
+      } ∷ [];
   landmarks = [];
 }
 
 state-history : state history ≡ readings ∷ []
-unfolding state window_index
+unfolding state window_index bit_of filter_of union
 state-history = refl
 
 abbrev query : Kind → ℕ → ℕ → Query
@@ -66,7 +90,7 @@ first_cut = record {
   split = record { count = 4; sum = pos 11; min = negsuc 2; max = pos 8; ends = 1; inside = 15; outside = 14 };
 }
 
-cuts-readings : cuts_of (seen_of 10 25 readings) ≡ first_cut ∷ []
+cuts-readings : cuts_of (seen_of kinds.Sum 10 25 readings) ≡ first_cut ∷ []
 cuts-readings = refl
 
 -- it may have -3 and -2 there, and 8 twice outside
@@ -114,7 +138,7 @@ Certifies-least = record {
 abbrev evidence : ℤ → ℤ → List Cert → Evidence
 evidence answer base certs = record { answer = answer; base = base; certs = record { items = certs } }
 
-IsEvidence-least : IsEvidence kinds.Sum Lo (seen_of 10 25 readings) (evidence (negsuc 4) (pos 0) (least ∷ []))
+IsEvidence-least : IsEvidence kinds.Sum Lo (seen_of kinds.Sum 10 25 readings) (evidence (negsuc 4) (pos 0) (least ∷ []))
 unfolding sum_interval
 IsEvidence-least = record {
   certificates = (Certifies-least, tt);
@@ -148,7 +172,7 @@ Certifies-other_runs = record {
   sum = refl;
 }
 
-IsEvidence-other_runs : IsEvidence kinds.Sum Lo (seen_of 10 25 readings) (evidence (negsuc 4) (pos 0) (other_runs ∷ []))
+IsEvidence-other_runs : IsEvidence kinds.Sum Lo (seen_of kinds.Sum 10 25 readings) (evidence (negsuc 4) (pos 0) (other_runs ∷ []))
 unfolding sum_interval
 IsEvidence-other_runs = record {
   certificates = (Certifies-other_runs, tt);
@@ -159,12 +183,12 @@ IsEvidence-other_runs = record {
 
 -- and it may be the true one
 MayBeTrue-least : MayBeTrue (state history) (query kinds.Sum 10 25) (negsuc 4)
-unfolding state window_index
+unfolding state window_index bit_of filter_of union
 MayBeTrue-least =
     MayBeTrue-answer (state history) (query kinds.Sum 10 25) readings Lo (evidence (negsuc 4) (pos 0) (least ∷ [])) refl IsEvidence-least
 
 -- from 10 to 40 the first window lies whole in the range: its 4 values are known, and nothing else is to be shown
-IsEvidence-whole : IsEvidence kinds.Count Lo (seen_of 10 40 readings) (evidence (pos 4) (pos 4) [])
+IsEvidence-whole : IsEvidence kinds.Count Lo (seen_of kinds.Count 10 40 readings) (evidence (pos 4) (pos 4) [])
 IsEvidence-whole = record {
   certificates = tt;
   base = refl;
@@ -173,18 +197,18 @@ IsEvidence-whole = record {
 }
 
 -- one number that is another shows nothing: an answer, a base, an end, a value, how often it occurs
-answer-other : (base : ℤ) (certs : List Cert) → IsEvidence kinds.Sum Lo (seen_of 10 25 readings) (evidence (negsuc 3) base certs) → ⊥
+answer-other : (base : ℤ) (certs : List Cert) → IsEvidence kinds.Sum Lo (seen_of kinds.Sum 10 25 readings) (evidence (negsuc 3) base certs) → ⊥
 unfolding sum_interval
 answer-other base certs is = let asked = is.asked in cc
 
-base-other : (answer : ℤ) (certs : List Cert) → IsEvidence kinds.Sum Lo (seen_of 10 25 readings) (evidence answer (pos 1) certs) → ⊥
+base-other : (answer : ℤ) (certs : List Cert) → IsEvidence kinds.Sum Lo (seen_of kinds.Sum 10 25 readings) (evidence answer (pos 1) certs) → ⊥
 base-other answer certs is = let base = is.base in omega (arith, ints)
 
-end-other : IsEvidence kinds.Sum Hi (seen_of 10 25 readings) (evidence (negsuc 4) (pos 0) (least ∷ [])) → ⊥
+end-other : IsEvidence kinds.Sum Hi (seen_of kinds.Sum 10 25 readings) (evidence (negsuc 4) (pos 0) (least ∷ [])) → ⊥
 unfolding sum_interval
 end-other is = let asked = is.asked in cc
 
-certificate-missing : (w : Evidence) → w.certs.items ≡ [] → IsEvidence kinds.Sum Lo (seen_of 10 25 readings) w → ⊥
+certificate-missing : (w : Evidence) → w.certs.items ≡ [] → IsEvidence kinds.Sum Lo (seen_of kinds.Sum 10 25 readings) w → ⊥
 certificate-missing w none is = subst (λ certs. AllCertify (first_cut ∷ []) certs) none is.certificates
 
 value-other : Certifies first_cut (with_runs (run (negsuc 3) 1 ∷ run (negsuc 1) 1 ∷ []) (run (pos 8) 2 ∷ [])) → ⊥
@@ -219,11 +243,11 @@ x-other : (c : Cert) → c.inside.items ≡ least.inside.items → c.x ≡ 3 →
 x-other c same three is = let count = ap (λ runs. length (values_of_runs runs)) (sym same) ∙ is.inside_count in omega arith
 
 -- the certificates of two windows don't show it the other way round
-cuts-25-55 : map (λ (cut : Cut). cut.first) (cuts_of (seen_of 25 55 readings)) ≡ 1 ∷ 5 ∷ []
+cuts-25-55 : map (λ (cut : Cut). cut.first) (cuts_of (seen_of kinds.Sum 25 55 readings)) ≡ 1 ∷ 5 ∷ []
 cuts-25-55 = refl
 
 exchanged : (answer base : ℤ) (earlier later : Cert) → earlier.first ≡ 1 → later.first ≡ 5
-    → IsEvidence kinds.Sum Hi (seen_of 25 55 readings) (evidence answer base (later ∷ earlier ∷ [])) → ⊥
+    → IsEvidence kinds.Sum Hi (seen_of kinds.Sum 25 55 readings) (evidence answer base (later ∷ earlier ∷ [])) → ⊥
 exchanged answer base earlier later one five is = let first = is.certificates.0.first in omega arith
 
 -- ---- the ends of answers
@@ -244,7 +268,7 @@ sums-25-55 = MayBeTrue-sums (state history) (query kinds.Sum 25 55) (negsuc 2) (
 
 -- nothing outside an answer may be true
 sum-outside : IsHistory history → MayBeTrue (state history) (query kinds.Sum 25 55) (pos 26) → ⊥
-unfolding state window_index sum_interval
+unfolding state window_index sum_interval bit_of filter_of union
 sum-outside whole may =
     let like = may history readings whole refl refl in
     let high : sum_in 25 55 like.contents ≤ℤ pos 25 = (sum_in-lies (contents_of history readings) like.contents 25 55 like.sound like.like).1 in

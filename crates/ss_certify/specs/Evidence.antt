@@ -7,7 +7,7 @@ use Rattle.ss_catalog.specs.declared.query.End.TheVariants.{Lo, Hi}
 use Rattle.ss_catalog.specs.declared.query.Kind.{Kind}
 use Rattle.ss_catalog.specs.declared.query.Kind.TheVariants as kinds
 use Rattle.ss_model.specs.declared.outcome.Outcome.{Outcome}
-use Rattle.ss_model.specs.declared.outcome.Outcome.TheVariants.{Count, Sum, Min, Max}
+use Rattle.ss_model.specs.declared.outcome.Outcome.TheVariants.{Count, Sum, Min, Max, Has}
 use Rattle.ss_query.specs.Asked.{seen_count, seen_sum, outcome_seen}
 use Rattle.ss_query.specs.declared.asking.Seen.{Seen}
 use Rattle.ss_query.specs.declared.cut.Cut.{Cut}
@@ -25,6 +25,7 @@ base_of kinds.Count seen = pos (seen_count seen.whole seen.marked)
 base_of kinds.Sum seen = seen_sum seen.whole seen.marked
 base_of kinds.Min seen = pos 0
 base_of kinds.Max seen = pos 0
+base_of (kinds.Has value) seen = pos 0
 
 -- what the values of a certificate in the range add to it
 abbrev pub part_of : Kind → Cert → ℤ
@@ -32,6 +33,7 @@ part_of kinds.Count c = pos c.x
 part_of kinds.Sum c = total (inside_of c)
 part_of kinds.Min c = pos 0
 part_of kinds.Max c = pos 0
+part_of (kinds.Has value) c = pos 0
 
 -- the same of some certificates
 abbrev pub parts_of : Kind → List Cert → ℤ
@@ -45,6 +47,7 @@ end_asked Lo (Sum lo hi) = Some lo
 end_asked Hi (Sum lo hi) = Some hi
 end_asked end (Min extreme) = None
 end_asked end (Max extreme) = None
+end_asked end (Has _) = None
 
 -- there is a certificate of each of these windows, in the same order
 abbrev pub AllCertify : List Cut → List Cert → Type 0

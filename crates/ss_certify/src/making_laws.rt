@@ -20,7 +20,7 @@ pub fn evidence_shows_the_end()
         → IsEvidence kind end seen (evidence_of kind end seen) }
     // Of each stream that a state may have.
     ensures stream { (kind : Kind) (end : End) (from to : ℕ) (s : Stream) → adds_up kind ≡ true → IsStream s
-        → IsEvidence kind end (seen_of from to s) (evidence_of kind end (seen_of from to s)) }
+        → IsEvidence kind end (seen_of kind from to s) (evidence_of kind end (seen_of kind from to s)) }
     // The runs of so many values with a sum, a least and a greatest are such values, wherever there are any.
     ensures fill { (k : ℕ) (s m M : ℤ) → m ≤ℤ M → (pos k *ℤ m) ≤ℤ s → s ≤ℤ (pos k *ℤ M) → Fills k s m M (fill k s m M) }
 {}

@@ -16,10 +16,10 @@ ghost use Rattle.ss_certify.specs.declared.evidence.Evidence.{Evidence};
 /// the state answers. So no narrower interval holds the truth of all that a store can't tell apart.
 pub fn evidence_may_be_true()
     ensures truth { (streams : List Stream) (query : Query) (s : Stream) (end : End) (w : Evidence) →
-        stream_named query.name streams ≡ Some s → IsEvidence query.kind end (seen_of query.from query.to s) w →
+        stream_named query.name streams ≡ Some s → IsEvidence query.kind end (seen_of query.kind query.from query.to s) w →
         MayBeTrue streams query w.answer }
     ensures end { (streams : List Stream) (query : Query) (s : Stream) (end : End) (w : Evidence) (outcome : Outcome) →
-        stream_named query.name streams ≡ Some s → IsStream s → IsEvidence query.kind end (seen_of query.from query.to s) w →
+        stream_named query.name streams ≡ Some s → IsStream s → IsEvidence query.kind end (seen_of query.kind query.from query.to s) w →
         outcome_of streams query ≡ Some outcome → end_asked end outcome ≡ Some w.answer }
 {}
 

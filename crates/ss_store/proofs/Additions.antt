@@ -16,6 +16,7 @@ use Rattle.ss_summary.specs.Figures.{Figures, IsPossible}
 use Rattle.ss_summary.specs.Summaries.{summary_of}
 use Rattle.ss_target.specs.Lengths.{lengths_of}
 use Rattle.ss_target.specs.Targets.{params_of}
+use Rattle.ss_summary.specs.Points.{New}
 use Rattle.ss_model.specs.Closed.{closed}
 use Rattle.ss_model.specs.ClosedState.{closed_stream}
 use Rattle.ss_model.specs.Marks.{has_open, later, latest_of}
@@ -95,12 +96,12 @@ module _ (part new : StreamParts) (slot t : ℕ) (added : IsAdded part new slot 
       (IsPermutation-sym (window_slots part ++ slot ∷ []) (slot ∷ window_slots part) (IsPermutation-to_front (window_slots part) slot)))))
       (LiveSlotsGo-beside (slots_held part) [] (slot ∷ []) live live_now go)
 
-  module _ (v : ℤ) (summary : Figures) (is : summary ≡ summary_of ((t, v) ∷ [])) (possible : IsPossible summary)
+  module _ (v : ℤ) (summary : Figures) (is : summary ≡ summary_of ((t, v, New) ∷ [])) (possible : IsPossible summary)
       (room : values_held (entries_of part) < MOST_VALUES)
       (plain : has_open part.landmarks.landmarks ≡ false) (past : is_past part.last_time t ≡ false) (s : Stream) (agrees : Agrees part s)
       (stream : IsStream s) where
     single : Window
-    single = single_window (values_in s + 1) t v
+    single = single_window (values_in s + 1) (t, v, New)
 
     held : values_held (entries_of part) ≡ values_in s
     held = values_held-windows s.windows (entries_of part) stream.windows agrees.positions
@@ -110,7 +111,7 @@ module _ (part new : StreamParts) (slot t : ℕ) (added : IsAdded part new slot 
 
     IsStream-added : IsStream (with_single s t v)
     IsStream-added =
-        IsStream-single s t v stream (subst (λ ls. has_open ls ≡ false) agrees.landmarks plain) past_all (subst (λ n. n < MOST_VALUES) held room)
+        IsStream-single s (t, v, New) stream (subst (λ ls. has_open ls ≡ false) agrees.landmarks plain) past_all (subst (λ n. n < MOST_VALUES) held room)
         (subst (λ f. IsPossible f) is possible)
 
     Agrees-single : Agrees new (with_single s t v)
@@ -122,18 +123,18 @@ module _ (part new : StreamParts) (slot t : ℕ) (added : IsAdded part new slot 
       positions =
           let position : values_held (entries_of part) + 1 ≡ values_in s + 1 = ap (λ n. n + 1) held in
           let last : values_held (entries_of part) + 1 ≡ values_in s + 1 + 1 - 1 = omega (arith, held) in
-          let one : span_held (single_entry (values_held (entries_of part) + 1) t slot) ≡ span_of (single_window (values_in s + 1) t v) =
+          let one : span_held (single_entry (values_held (entries_of part) + 1) t slot) ≡ span_of (single_window (values_in s + 1) (t, v, New)) =
           λ i. (position i, last i) in
           ap (λ es. map span_held es) added.entries ∙ map-append span_held (entries_of part) (single_entry (values_held (entries_of part) + 1) t slot ∷ [])
           ∙ ap₂ (λ (xs : List (ℕ × ℕ)) (p : ℕ × ℕ). xs ++ p ∷ []) agrees.positions one
-          ∙ sym (map-append span_of s.windows (single_window (values_in s + 1) t v ∷ []));
+          ∙ sym (map-append span_of s.windows (single_window (values_in s + 1) (t, v, New) ∷ []));
       times = ap (λ es. map times_held es) added.entries
           ∙ map-append times_held (entries_of part) (single_entry (values_held (entries_of part) + 1) t slot ∷ [])
-          ∙ ap (λ (xs : List (ℕ × ℕ)). xs ++ (t, t) ∷ []) agrees.times ∙ sym (map-append times_of s.windows (single_window (values_in s + 1) t v ∷ []));
+          ∙ ap (λ (xs : List (ℕ × ℕ)). xs ++ (t, t) ∷ []) agrees.times ∙ sym (map-append times_of s.windows (single_window (values_in s + 1) (t, v, New) ∷ []));
       landmarks = ap (λ (l : LandmarksState). l.landmarks) added.landmarks ∙ agrees.landmarks;
       known = subst AreKnown (sym added.landmarks) agrees.known;
       last_time =
-          let newest = newest_time_push s.windows (single_window (values_in s + 1) t v) in
+          let newest = newest_time_push s.windows (single_window (values_in s + 1) (t, v, New)) in
           added.last_time ∙ sym (later-past (newest_time s.windows) (latest_of s.landmarks) t past_all)
           ∙ ap (λ o. later o (latest_of s.landmarks)) (sym newest);
     }
@@ -141,7 +142,7 @@ module _ (part new : StreamParts) (slot t : ℕ) (added : IsAdded part new slot 
     records_single : windows_held (new, with_single s t v) ≡ windows_held (part, s) ++
         (slot, Some (records.Window part.id.0 (values_held (entries_of part) + 1) summary)) ∷ []
     records_single =
-        let one : Window = single_window (values_in s + 1) t v in
+        let one : Window = single_window (values_in s + 1) (t, v, New) in
         let spelled : Some (window_record s.number one) ≡ Some (records.Window part.id.0 (values_held (entries_of part) + 1) summary) =
         λ i. Some (records.Window (sym agrees.number i) (sym (ap (λ n. n + 1) held) i) (sym is i)) in
         ap₂ (λ (k : ℕ) (es : List Entry). (k, Some (stream_record s)) ∷ zip (map (λ (e : Entry). e.slot) es)
@@ -161,7 +162,7 @@ module _ (part new : StreamParts) (slot t : ℕ) (added : IsAdded part new slot 
           stream = IsStream-added;
           records = HasRecords-permutation (added_record ∷ (records_held (part, s) ++ others)) (records_held (new, with_single s t v) ++ others) image
               (subst (λ l. IsPermutation (added_record ∷ l) (records_held (new, with_single s t v) ++ others)) (sym (records_held-apart part s others))
-              (records_held-changed part new s (s.windows ++ single_window (values_in s + 1) t v ∷ []) (added_record ∷ windows_held (part, s)) others
+              (records_held-changed part new s (s.windows ++ single_window (values_in s + 1) (t, v, New) ∷ []) (added_record ∷ windows_held (part, s)) others
               added.landmarks
               (subst (λ l. IsPermutation (added_record ∷ windows_held (part, s)) l) (sym records_single)
               (IsPermutation-sym (windows_held (part, s) ++ added_record ∷ []) (added_record ∷ windows_held (part, s))
@@ -169,7 +170,7 @@ module _ (part new : StreamParts) (slot t : ℕ) (added : IsAdded part new slot 
         }
 
   -- a call that stages the record of the value
-  pub TurnsShown-added : {T E : Type 0} (v : ℤ) (summary : Figures) → summary ≡ summary_of ((t, v) ∷ []) → IsPossible summary →
+  pub TurnsShown-added : {T E : Type 0} (v : ℤ) (summary : Figures) → summary ≡ summary_of ((t, v, New) ∷ []) → IsPossible summary →
       values_held (entries_of part) < MOST_VALUES →
       has_open part.landmarks.landmarks ≡ false → is_past part.last_time t ≡ false →
       (others : List (ℕ × Option Record)) (s : Stream) (old_records new_records : RecordsState) (old after : Told) (result : Result T E) →
@@ -185,8 +186,8 @@ module _ (part new : StreamParts) (slot t : ℕ) (added : IsAdded part new slot 
       (stages before)
 
 -- closing after a value was put is taking the value
-pub closed-single : (s : Stream) (t : ℕ) (v : ℤ) → closed_stream (with_single s t v) ≡ with_plain_value s t v
+pub closed-single : (s : Stream) (t : ℕ) (v : ℤ) → closed_stream (with_single s t v) ≡ with_plain_value s (t, v, New)
 closed-single s t v =
-    let one : Window = single_window (values_in s + 1) t v in
+    let one : Window = single_window (values_in s + 1) (t, v, New) in
     let count : taken (s.windows ++ one ∷ []) ≡ values_in s + 1 = taken-append s.windows (one ∷ []) in
     ap (λ n. with_windows s (closed (lengths_of s.params) n (s.windows ++ one ∷ []))) count

@@ -48,10 +48,10 @@ IsStream-named name streams s state found =
 
 -- what is known of a stream gives its answer
 answer-named : (query : Query) (seen : Seen) (o : Option Stream) → ((s : Stream) → o ≡ Some s → IsStream s) →
-    option_map (seen_of query.from query.to) o ≡ Some seen → option_map (answer_of query) o ≡ Some (outcome_seen query.kind seen)
+    option_map (seen_of query.kind query.from query.to) o ≡ Some seen → option_map (answer_of query) o ≡ Some (outcome_seen query.kind seen)
 answer-named query seen None are known = absurd (cc)
 answer-named query seen (Some s) are known =
-    let same : seen_of query.from query.to s ≡ seen = cc in
+    let same : seen_of query.kind query.from query.to s ≡ seen = cc in
     ap (λ (o : Outcome). Some o) (sym (outcome_seen-seen_of query s (are s refl)) ∙ ap (outcome_seen query.kind) same)
 
 module _ {before after : DiskView} (store : StoreState) (query : Query) (kept : StandsOn store before) (runs : store.stopped ≡ false) where

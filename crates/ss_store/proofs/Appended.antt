@@ -12,6 +12,7 @@ use Rattle.ss_catalog.specs.declared.event.Event.{Event}
 use Rattle.ss_catalog.specs.declared.event.Event.TheVariants.{Value}
 use Rattle.ss_catalog.specs.declared.stream_id.StreamId.{StreamId}
 use Rattle.ss_codec.specs.declared.record.Record.{Record}
+use Rattle.ss_summary.specs.Points.{New}
 use Rattle.ss_model.specs.History.{CanBeSaid}
 use Rattle.ss_model.specs.Marks.{has_open}
 use Rattle.ss_model.specs.Refusals.{is_past}
@@ -274,7 +275,7 @@ module _ (store : StoreState) (content : List ℕ) (kept : StoreIsIn store conte
 
   module _ (event : Event) (next : Stream) (step : MayStep kept.streams event place next) where
     after : IsState (stepped kept.streams event)
-    after = IsState-stepped kept.streams event step.state step.said step.none
+    after = IsState-stepped New kept.streams event step.state step.said step.none
 
     pub StoreIsKept-stepped : (records_now : RecordsState) (stopped : Bool) (image : List ℕ) → AreKept records_now image →
         IsHeldIn beside now next (shown_by records_now image) →
@@ -338,11 +339,11 @@ module _ (store : StoreState) (content : List ℕ) (kept : StoreIsIn store conte
     held-taker = held-before store content kept place taker.part spared now taker.at room pair.stream pair.here
 
     pub StoreIsKept-appended : (records_now : RecordsState) (stopped : Bool) (image : List ℕ) → AreKept records_now image →
-        IsHeldIn others now (with_plain_value pair.stream t v) (shown_by records_now image) →
+        IsHeldIn others now (with_plain_value pair.stream (t, v, New)) (shown_by records_now image) →
         StoreIsKept (record { streams = slice_set store.streams place now; records = records_now; stopped = stopped }) image
     StoreIsKept-appended records_now stopped image are held =
         StoreIsKept-stepped store content kept place taker.part spared now taker.at room pair.stream pair.here (Value name t v)
-        (with_plain_value pair.stream t v)
+        (with_plain_value pair.stream (t, v, New))
         (MayStep-valued kept.streams name t v place pair.stream may kept.closed) records_now stopped image are held
 
     recovers-partly : (image : List ℕ) → IsPartlyJoined others (with_single pair.stream t v) image → Recovers (stepped kept.streams (Value name t v)) image
@@ -355,10 +356,11 @@ module _ (store : StoreState) (content : List ℕ) (kept : StoreIsIn store conte
     pub StepsState-appended : {T E : Type 0} (was_records is_records : RecordsState) (old new : Told) (call : Result T E) →
         shown_by was_records old.content ≡ content →
         TurnsShown was_records is_records (IsHeldIn others spared pair.stream) (IsHalfway others spared pair.stream t v)
-        (IsHeldIn others now (with_plain_value pair.stream t v)) old new call →
+        (IsHeldIn others now (with_plain_value pair.stream (t, v, New))) old new call →
         StepsState (Value name t v) was_records is_records call old new
     StepsState-appended was_records is_records old new call same turns =
-        StepsState-one store content kept place taker.part spared now taker.at room pair.stream pair.here (Value name t v) (with_plain_value pair.stream t v)
+        StepsState-one store content kept place taker.part spared now taker.at room pair.stream pair.here (Value name t v)
+        (with_plain_value pair.stream (t, v, New))
         (MayStep-valued kept.streams name t v place pair.stream may kept.closed) (IsHalfway others spared pair.stream t v) was_records is_records old new
         call same
         (λ image either. elim either [

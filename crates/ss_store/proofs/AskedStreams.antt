@@ -37,7 +37,7 @@ IsFirm-seen seen (error.Changed slot) is = is
 record IsAsked (query : Query) (streams : List Stream) (result : Result Seen ReadError) : Type 0 where
   stream : Stream
   found : stream_named query.name streams ≡ Some stream
-  seen : IsSeenAs (seen_of query.from query.to stream) result
+  seen : IsSeenAs (seen_of query.kind query.from query.to stream) result
 
 module _ {query : Query} {part : StreamParts} {is : RecordsState} (store : StoreState)
     (named : part_named query.name store.streams ≡ Some part) where
@@ -57,13 +57,13 @@ module _ {query : Query} {part : StreamParts} {is : RecordsState} (store : Store
   -- what is known in the state that is shown
   seen-kept : (old new : Told) (seen : Seen) → StoreIsIn store (shown_by store.records old.content) →
       SeesStream part query store.records is (Ok seen) old new → (streams : List Stream) → Recovers streams (shown_by store.records old.content) →
-      option_map (seen_of query.from query.to) (stream_named query.name streams) ≡ Some seen
+      option_map (seen_of query.kind query.from query.to) (stream_named query.name streams) ≡ Some seen
   seen-kept old new seen kept sees streams recovers =
       let is = stream-asked old new (Ok seen) kept sees in
       let same = Recovers-same kept.streams streams (shown_by store.records old.content)
       (Recovers-StoreIsIn store (shown_by store.records old.content) kept) recovers in
       let found : stream_named query.name streams ≡ Some is.stream = ap (λ l. stream_named query.name l) (sym same) ∙ is.found in
-      ap (option_map (λ (s : Stream). seen_of query.from query.to s)) found ∙ ap (λ (now : Seen). Some now) (sym is.seen)
+      ap (option_map (λ (s : Stream). seen_of query.kind query.from query.to s)) found ∙ ap (λ (now : Seen). Some now) (sym is.seen)
 
   module _ {before after : DiskView} (kept : OfContent before (StoreIsKept store)) where
     pub sees-kept : (seen : Seen) → Step fine before after (SeesStream part query store.records is (Ok seen)) →
@@ -81,7 +81,7 @@ module _ {query : Query} {part : StreamParts} {is : RecordsState} (store : Store
         IsTrue before.tells → IsFirm (verdict_of_read {T = Seen} (Err why))
     IsFirm-kept why step told =
         let is = stream-asked before.told after.told (Err why) (kept told).shown (step.told told) in
-        IsFirm-seen (seen_of query.from query.to is.stream) why is.seen
+        IsFirm-seen (seen_of query.kind query.from query.to is.stream) why is.seen
 
 known-alike : (part : Option StreamParts) (s : Option Stream) → SomeAgree part s → is_some part ≡ is_some s
 known-alike None None agree = refl

@@ -13,6 +13,8 @@ use Rattle.ss_catalog.specs.declared.query.Query.{Query}
 use Rattle.ss_catalog.specs.declared.refusal.Refusal.{Refusal}
 use Rattle.ss_catalog.specs.declared.refusal.Refusal.TheVariants as refusal
 use Rattle.ss_line.specs.declared.entry.At.{At}
+use Rattle.ss_summary.specs.Filters.{full}
+use Rattle.ss_model.specs.History.{Happened, added}
 use Rattle.ss_model.specs.Answers.{IsExactOutcome, split_by}
 use Rattle.ss_model.specs.Decay.{IsReadWithinTarget, cover}
 use Rattle.ss_model.specs.Refusals.{refuses}
@@ -72,25 +74,25 @@ same-records : {old new : StoreState} → SameButSpare old new → new.records �
 same-records same = same.records
 
 -- no image stands for events of a stream that was never created
-Stands-no_value : (image : List ℕ) → Stands (events.Value (97 ∷ []) 10 (pos 5) ∷ []) image → ⊥
+Stands-no_value : (image : List ℕ) → Stands (added (events.Value (97 ∷ []) 10 (pos 5)) ∷ []) image → ⊥
 unfolding refuses state
 Stands-no_value image stands =
-    let accepted : Some refusal.Unknown ≡ None = stands.is_history.accepted [] [] (events.Value (97 ∷ []) 10 (pos 5)) refl in cc
+    let accepted : Some refusal.Unknown ≡ None = stands.is_history.accepted [] [] (added (events.Value (97 ∷ []) 10 (pos 5))) refl in cc
 
-Stands-no_open : (image : List ℕ) → Stands (events.Open (97 ∷ []) 10 ∷ []) image → ⊥
+Stands-no_open : (image : List ℕ) → Stands (added (events.Open (97 ∷ []) 10) ∷ []) image → ⊥
 unfolding refuses state
 Stands-no_open image stands =
-    let accepted : Some refusal.Unknown ≡ None = stands.is_history.accepted [] [] (events.Open (97 ∷ []) 10) refl in cc
+    let accepted : Some refusal.Unknown ≡ None = stands.is_history.accepted [] [] (added (events.Open (97 ∷ []) 10)) refl in cc
 
-Stands-no_close : (image : List ℕ) → Stands (events.Close (97 ∷ []) 10 ∷ []) image → ⊥
+Stands-no_close : (image : List ℕ) → Stands (added (events.Close (97 ∷ []) 10) ∷ []) image → ⊥
 unfolding refuses state
 Stands-no_close image stands =
-    let accepted : Some refusal.Unknown ≡ None = stands.is_history.accepted [] [] (events.Close (97 ∷ []) 10) refl in cc
+    let accepted : Some refusal.Unknown ≡ None = stands.is_history.accepted [] [] (added (events.Close (97 ∷ []) 10)) refl in cc
 
-Stands-no_drop : (image : List ℕ) → Stands (events.Drop (97 ∷ []) ∷ []) image → ⊥
+Stands-no_drop : (image : List ℕ) → Stands (added (events.Drop (97 ∷ [])) ∷ []) image → ⊥
 unfolding refuses state
 Stands-no_drop image stands =
-    let accepted : Some refusal.Unknown ≡ None = stands.is_history.accepted [] [] (events.Drop (97 ∷ [])) refl in cc
+    let accepted : Some refusal.Unknown ≡ None = stands.is_history.accepted [] [] (added (events.Drop (97 ∷ []))) refl in cc
 
 -- which events are values outside landmarks, which are of landmarks, and which leave no value
 abbrev events_of : List Event
@@ -139,7 +141,7 @@ module _ (event : Event) (old new : StoreState) (before after : DiskView) where
 module _ (old new : Told) where
   sees-reads : (was : RecordsState) (query : Query) (seen : Seen) → Sees was query (Ok seen) old new →
       ((streams : List Stream) → Recovers streams (shown_by was old.content) →
-      option_map (seen_of query.from query.to) (stream_named query.name streams) ≡ Some seen) × OnlyReads old new
+      option_map (seen_of query.kind query.from query.to) (stream_named query.name streams) ≡ Some seen) × OnlyReads old new
   sees-reads was query seen sees = (sees.seen, sees.reads)
 
   answers-exact : (was : RecordsState) (query : Query) (outcome : Outcome) → Answers was query (Ok outcome) old new →
@@ -147,7 +149,7 @@ module _ (old new : Told) where
   answers-exact was query outcome answers = answers.exact
 
   shows-within : (number : ℕ) (at : At) (store : StoreState) (placed : Placed) → ShowsWindow number at store (Ok placed) old new →
-      (history : List Event) → Stands history (shown_by store.records old.content) →
+      (history : List Happened) → Stands history (shown_by store.records old.content) →
       IfSome (stream_numbered number (state history)) (λ s. IsReadWithinTarget (lengths_of s.params) (values_in s) placed)
   shows-within number at store placed shows = shows.within
 
@@ -156,17 +158,17 @@ module _ (old new : Told) where
       Recovers streams (shown_by was.records old.content) → Recovers streams (shown_by is.records new.content)
   seals-state was is u streams seals = (seals.state streams).content
 
-  seals-history : (was is : StoreState) (u : Unit {0}) (sealed history : List Event) → SealsStore was is (Ok u) old new → NothingPending old →
+  seals-history : (was is : StoreState) (u : Unit {0}) (sealed history : List Happened) → SealsStore was is (Ok u) old new → NothingPending old →
       Stands sealed old.content → Stands history (shown_by was.records old.content) →
       LeavesOnly old new (λ image. Stands sealed image ⊎ Stands history image) × NothingPending new
   seals-history was is u sealed history seals none before shown =
       ((seals.history history).any_moment none sealed before shown, (seals.history history).durable none)
 
   -- what staging leaves, at Ok and in a crash
-  stages-history : (event : Event) (was is : RecordsState) (ack : Ack) (sealed history : List Event) →
+  stages-history : (event : Event) (was is : RecordsState) (ack : Ack) (sealed history : List Happened) →
       StagesEvent {E = ApplyError} event was is (Ok ack) old new → NothingPending old → Stands sealed old.content →
       Stands history (shown_by was old.content) →
-      Stands (history ++ event ∷ []) (shown_by is new.content)
+      Stands (history ++ added event ∷ []) (shown_by is new.content)
       × LeavesOnly old new (λ image. Stands sealed image ⊎ StandsForEither history event image) × NothingPending new
   stages-history event was is ack sealed history stages none before shown =
       ((stages history).content shown, (stages history).any_moment none sealed before shown, (stages history).durable none)
@@ -178,8 +180,8 @@ surveyed = record {
   name = a;
   params = Exp 2 1 1;
   windows =
-      record { first = 1; summary = record { count = 1; sum = pos 1; min = pos 1; max = pos 1; t_first = 5; t_last = 5 } }
-      ∷ record { first = 2; summary = record { count = 1; sum = pos 1; min = pos 1; max = pos 1; t_first = 6; t_last = 6 } } ∷ [];
+      record { first = 1; summary = record { count = 1; sum = pos 1; min = pos 1; max = pos 1; t_first = 5; t_last = 5; filter = full } }
+      ∷ record { first = 2; summary = record { count = 1; sum = pos 1; min = pos 1; max = pos 1; t_first = 6; t_last = 6; filter = full } } ∷ [];
   landmarks =
       record { start = 10; finish = Some 20; values = map (λ t. record { t = t; v = pos 1 }) (10 ∷ 11 ∷ 12 ∷ []) } ∷ [];
 }

@@ -21,13 +21,14 @@ use Rattle.ss_catalog.specs.declared.params.Params.{Params}
 use Rattle.ss_catalog.specs.declared.stream_id.StreamId.{StreamId}
 use Rattle.ss_codec.specs.declared.record.Record.{Record}
 use Rattle.ss_codec.specs.declared.record.Record.TheVariants as records
+use Rattle.ss_summary.specs.Points.{New}
 use Rattle.ss_landmarks.specs.Landmarks.{AreKnown, LandmarksState}
 use Rattle.ss_target.specs.Targets.{params_of}
 use Rattle.ss_model.specs.ClosedState.{closed_state, closed_stream}
 use Rattle.ss_model.specs.Refusals.{refuses}
 use Rattle.ss_model.specs.Standing.{IsState}
 use Rattle.ss_model.specs.State.{Stream, next_number, numbers_of}
-use Rattle.ss_model.specs.Steps.{stepped}
+use Rattle.ss_model.specs.Steps.{stepped, stepped_from}
 use Rattle.ss_model.specs.declared.types.Ack.{Ack}
 use Rattle.ss_model.proofs.FoundLemmas.{below_next, IsStrictlyIncreasing_push}
 use Rattle.ss_model.proofs.NameLemmas.{same_name-Decides, same_name-same, same_name-swap}
@@ -79,7 +80,7 @@ created_in streams name params = record { number = next_number (numbers_of strea
 
 stepped-create : (streams : List Stream) (name : List ℕ) (params : Params) →
     stepped streams (Create name params) ≡ streams ++ created_in streams name params ∷ []
-unfolding stepped
+unfolding stepped_from
 stepped-create streams name params = refl
 
 Agrees-created : (part : StreamParts) (streams : List Stream) (name : List ℕ) (params : Params) → IsFreshPart part name params →
@@ -155,7 +156,7 @@ module _ (parts : List StreamParts) (streams : List Stream) (part : StreamParts)
       HasRecords ((part.slot, Some (records.Stream part.id.0 name params false)) ∷ flat_map records_held (zip parts streams)) image →
       Recovers (stepped streams (Create name params)) image
   Recovers-created image state none closed has =
-      let now = IsState-stepped streams (Create name params) state tt none in
+      let now = IsState-stepped New streams (Create name params) state tt none in
       subst (λ l. Recovers l image) (closed-created streams name params closed)
       (Recovers-held (parts ++ part ∷ []) (stepped streams (Create name params)) image AllAgree-created now (HasRecords-created image has))
 
@@ -171,7 +172,7 @@ module _ (store : StoreState) (content : List ℕ) (kept : StoreIsIn store conte
     records = are;
     shown = record {
       streams = stepped kept.streams (Create name params);
-      state = IsState-stepped kept.streams (Create name params) kept.state tt none;
+      state = IsState-stepped New kept.streams (Create name params) kept.state tt none;
       agree = AllAgree-created store.streams kept.streams part name params kept.agree fresh number;
       held = HasRecords-created store.streams kept.streams part name params kept.agree fresh number (shown_by records_now now) has;
       closed = closed-created kept.streams name params kept.closed;

@@ -25,7 +25,7 @@ use Rattle.ss_records.specs.Kept.{AreKept, RecordsState, shown_by}
 use Rattle.ss_model.specs.ClosedState.{closed_state, closed_stream}
 use Rattle.ss_model.specs.Standing.{IsState}
 use Rattle.ss_model.specs.State.{Stream, numbers_of}
-use Rattle.ss_model.specs.Steps.{stepped, without_named}
+use Rattle.ss_model.specs.Steps.{stepped, without_named, stepped_from}
 use Rattle.ss_model.specs.declared.types.Ack.{Ack}
 use Rattle.ss_model.proofs.DropLemmas.{IsState-without, without_named-place, without_number-place}
 use Rattle.ss_model.proofs.NameLemmas.{same_name-Decides, same_name-swap}
@@ -141,7 +141,7 @@ closed-remove : (streams : List Stream) (place : ℕ) → closed_state streams �
 closed-remove streams place closed = map-remove closed_stream streams place ∙ ap (λ l. remove l place) closed
 
 stepped-drop : (streams : List Stream) (name : List ℕ) → stepped streams (Drop name) ≡ without_named name streams
-unfolding stepped
+unfolding stepped_from
 stepped-drop streams name = refl
 
 eq-swap : (a b : ℕ) → (a == b) ≡ (b == a)

@@ -4,6 +4,8 @@ use Rattle.std.proofs.lemmas.List.{length-map}
 use Rattle.std.proofs.lemmas.Int.{ints}
 use Rattle.ss_windowing.specs.declared.decay.TheConstants.{MOST_VALUES}
 use Rattle.ss_summary.specs.Figures.{IsPossible}
+use Rattle.ss_summary.specs.Filters.{full}
+use Rattle.ss_summary.proofs.FilterLemmas.{IsFilter-full, has-full}
 use Rattle.ss_line.specs.declared.entry.Entry.{Entry}
 use Rattle.ss_model.specs.Closed.{closed}
 use Rattle.ss_model.specs.Decay.{NoneIsDue, cover}
@@ -22,7 +24,7 @@ use Rattle.ss_store.proofs.Spans.{NoneIsDue-spans, last-held}
 abbrev zeros_at : Entry → Window
 zeros_at e = record {
   first = e.first;
-  summary = record { count = e.last + 1 - e.first; sum = pos 0; min = pos 0; max = pos 0; t_first = e.first; t_last = e.last };
+  summary = record { count = e.last + 1 - e.first; sum = pos 0; min = pos 0; max = pos 0; t_first = e.first; t_last = e.last; filter = full };
 }
 
 IsPossible-zeros_at : (e : Entry) → 1 ≤ e.first → e.first ≤ e.last → e.last ≤ MOST_VALUES → IsPossible (zeros_at e).summary
@@ -37,6 +39,9 @@ IsPossible-zeros_at e low some few = record {
   order = omega (arith, ints);
   sum_low = omega (arith, ints);
   sum_high = omega (arith, ints);
+  words = IsFilter-full;
+  min_bit = has-full (pos 0);
+  max_bit = has-full (pos 0);
 }
 
 span-zeros_at : (e : Entry) → e.first ≤ e.last → span_held e ≡ span_of (zeros_at e)

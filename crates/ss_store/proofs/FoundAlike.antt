@@ -7,6 +7,7 @@ use Rattle.std.proofs.lemmas.List.Elements.{All-head, All-tail}
 use Rattle.ss_catalog.specs.Names.{same_name}
 use Rattle.ss_catalog.specs.declared.event.Event.{Event}
 use Rattle.ss_catalog.specs.declared.stream_id.StreamId.{StreamId}
+use Rattle.ss_model.specs.History.{Happened}
 use Rattle.ss_model.specs.Refusals.{refuses}
 use Rattle.ss_model.specs.Standing.{IsStream}
 use Rattle.ss_model.specs.State.{Stream, state, stream_named, stream_numbered}
@@ -44,7 +45,7 @@ said_alike None (Some s) is agree = absurd agree
 said_alike (Some part) None is agree = absurd agree
 said_alike (Some part) (Some s) is agree = let n = values_held-Agrees part s is agree in let k = length-Agrees part s agree in cc
 
-pub said-kept : (store : StoreState) (image : List ℕ) (history : List Event) (name : List ℕ) → StoreIsIn store image → Stands history image →
+pub said-kept : (store : StoreState) (image : List ℕ) (history : List Happened) (name : List ℕ) → StoreIsIn store image → Stands history image →
     said_of_held (part_named name store.streams) ≡ ack_of name (state history)
 said-kept store image history name kept stands =
     let both = AllAgree-recovered store image (state history) kept stands.state in
@@ -52,14 +53,14 @@ said-kept store image history name kept stands =
     (SomeAgree-named store.streams (state history) name both.0)
 
 -- what is refused
-pub refuses-kept : (store : StoreState) (image : List ℕ) (history : List Event) (event : Event) → StoreIsIn store image → Stands history image →
+pub refuses-kept : (store : StoreState) (image : List ℕ) (history : List Happened) (event : Event) → StoreIsIn store image → Stands history image →
     refuses (state history) event ≡ refuses_held store.streams event
 refuses-kept store image history event kept stands =
     let both = AllAgree-recovered store image (state history) kept stands.state in
     sym (refuses_held-is store.streams (state history) event both.0 both.1)
 
 -- how many streams and windows are held
-pub streams-kept : (store : StoreState) (image : List ℕ) (history : List Event) → StoreIsIn store image → Stands history image →
+pub streams-kept : (store : StoreState) (image : List ℕ) (history : List Happened) → StoreIsIn store image → Stands history image →
     length store.streams ≡ length (state history)
 streams-kept store image history kept stands =
     length-AllAgree store.streams (state history)
@@ -72,7 +73,7 @@ windows_alike (Some part) None s is agree = absurd agree
 windows_alike (Some part) (Some t) s is agree =
     let same : t ≡ s = cc in subst (λ u. length part.line.entries ≡ length u.windows) same (length-Agrees part t agree)
 
-pub windows-kept : (store : StoreState) (image : List ℕ) (history : List Event) (number : ℕ) (s : Stream) →
+pub windows-kept : (store : StoreState) (image : List ℕ) (history : List Happened) (number : ℕ) (s : Stream) →
     StoreIsIn store image → Stands history image →
     stream_numbered number (state history) ≡ Some s → IfSome (part_numbered number store.streams) (λ part. length part.line.entries ≡ length s.windows)
 windows-kept store image history number s kept stands is =
@@ -85,7 +86,7 @@ none_alike None None is agree = refl
 none_alike None (Some s) is agree = absurd agree
 none_alike (Some part) o is agree = cc
 
-pub unknown-kept : (store : StoreState) (image : List ℕ) (history : List Event) (name : List ℕ) → StoreIsIn store image → Stands history image →
+pub unknown-kept : (store : StoreState) (image : List ℕ) (history : List Happened) (name : List ℕ) → StoreIsIn store image → Stands history image →
     None ≡ option_map (λ part. part.id) (part_named name store.streams) → stream_named name (state history) ≡ None
 unknown-kept store image history name kept stands none =
     none_alike (part_named name store.streams) (stream_named name (state history)) none
@@ -125,7 +126,7 @@ found_alike parts streams name id (Some part) each named number numbered =
     subst (λ (i : StreamId). (s : Stream) × (stream_named name streams ≡ Some s) × (stream_numbered i.0 streams ≡ Some s)) (sym same)
     (both_found parts streams name part each (sym named) (subst (λ (i : StreamId). part_numbered i.0 parts ≡ Some part) same numbered))
 
-pub found-kept : (store : StoreState) (image : List ℕ) (history : List Event) (name : List ℕ) (id : StreamId) →
+pub found-kept : (store : StoreState) (image : List ℕ) (history : List Happened) (name : List ℕ) (id : StreamId) →
     StoreIsIn store image → Stands history image →
     Some id ≡ option_map (λ part. part.id) (part_named name store.streams) → part_numbered id.0 store.streams ≡ part_named name store.streams →
     (s : Stream) × (stream_named name (state history) ≡ Some s) × (stream_numbered id.0 (state history) ≡ Some s)

@@ -4,6 +4,7 @@ use Rattle.ss_catalog.specs.declared.event.Event.{Event}
 use Rattle.ss_journal.specs.Redo.{Redone, SlotMap, StandsFor, redo, stands, not_a_store, bad_entry}
 use Rattle.ss_journal.proofs.MapLemmas.{SameMap-refl}
 use Rattle.ss_journal.proofs.RedoLemmas.{StandsFor-from}
+use Rattle.ss_model.specs.History.{Happened}
 use Rattle.ss_model.specs.Standing.{IsState}
 use Rattle.ss_model.specs.State.{Stream, state}
 use Rattle.ss_recover.specs.Held.{AllAgree}
@@ -42,7 +43,7 @@ Recovers-of_map streams image is =
     let its : StandsFor image found.0 = StandsFor-from image found.0 found.0 found.1 (SameMap-refl found.0) in
     (found.0, its, λ other also. recover-StandsFor other found.0 also ∙ sym (recover-StandsFor image found.0 its) ∙ is)
 
-pub Stands-of_map : (history : List Event) → IsOfMap (Stands history)
+pub Stands-of_map : (history : List Happened) → IsOfMap (Stands history)
 Stands-of_map history image held =
     let its = Recovers-of_map (state history) image held.state in
     (its.0, its.1, λ other also. record { is_history = held.is_history; state = its.2 other also })

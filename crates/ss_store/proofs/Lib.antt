@@ -47,6 +47,7 @@ pub mod WindowsRead
 pub mod AskedStreams
 pub mod AnsweredQueries
 mod Rows
+mod OldRows
 mod AskRows
 mod CallRows
 mod DropRows

@@ -16,6 +16,7 @@ use Rattle.ss_journal.specs.Redo.{StandsFor}
 use Rattle.ss_journal.proofs.ShownLemmas.{shown-sealed}
 use Rattle.ss_journal.proofs.StepLemmas.{step-next}
 use Rattle.ss_journal.proofs.TearLemmas.{on_err}
+use Rattle.ss_model.specs.History.{Happened, added}
 use Rattle.ss_model.specs.State.{Stream}
 use Rattle.ss_model.specs.Steps.{stepped}
 use Rattle.ss_model.specs.declared.types.Ack.{Ack}
@@ -90,10 +91,10 @@ of_shown is content P (Ok value) sealed has = subst P (shown-sealed is.journal c
 of_shown is content P (Err e) sealed has = tt
 
 module _ (event : Event) (was between : RecordsState) (old mid : Told) (at_rest : IsSealed was.journal) where
-  shown-first : (history : List Event) → Stands history old.content → Stands history (shown_by was old.content)
+  shown-first : (history : List Happened) → Stands history old.content → Stands history (shown_by was old.content)
   shown-first history has = subst (λ (i : List ℕ). Stands history i) (sym (shown-sealed was.journal old.content at_rest)) has
 
-  left-staged : {T E : Type 0} (result : Result T E) (history : List Event) → StagesEvent event was between result old mid → NothingPending old →
+  left-staged : {T E : Type 0} (result : Result T E) (history : List Happened) → StagesEvent event was between result old mid → NothingPending old →
       Stands history old.content → LeavesOnly old mid (StandsForEither history event)
   left-staged result history stages none has =
       weaker old mid (λ image. Stands history image ⊎ StandsForEither history event image) (StandsForEither history event)
@@ -104,7 +105,7 @@ module _ (event : Event) (was between : RecordsState) (old mid : Told) (at_rest 
       AddsEvent event result old mid
   AddsEvent-unsealed call result is_err stages =
       λ history. record {
-        content = λ has. on_err result (Stands (history ++ event ∷ []) mid.content) is_err;
+        content = λ has. on_err result (Stands (history ++ added event ∷ []) mid.content) is_err;
         any_moment = λ none has. left-staged call history stages none has;
         durable = λ none. on_err result (NothingPending mid) is_err;
       }
@@ -115,7 +116,7 @@ module _ (event : Event) (was between : RecordsState) (old mid : Told) (at_rest 
       StagesEvent {T = S} {E = F} event was between (Ok value) old mid → SealsHistory between is result mid new → AddsEvent event result old new
   AddsEvent-sealed is new value result knows sealed stages seals =
       λ history.
-      let then : List Event = history ++ event ∷ [] in
+      let then : List Happened = history ++ added event ∷ [] in
       record {
         content = λ has. of_shown is new.content (Stands then) result sealed ((seals then).content ((stages history).content (shown-first history has)));
         any_moment = λ none has.

@@ -14,6 +14,7 @@ use Rattle.ss_records.specs.Calls.{SealsRecords}
 use Rattle.ss_records.specs.Kept.{AreKept, RecordsState}
 use Rattle.ss_codec.specs.declared.record.Record.{Record}
 use Rattle.ss_target.specs.Lengths.{lengths_of}
+use Rattle.ss_summary.specs.Points.{New}
 use Rattle.ss_model.specs.Closed.{closed}
 use Rattle.ss_model.specs.ClosedState.{closed_stream}
 use Rattle.ss_model.specs.State.{Stream, values_in}
@@ -92,7 +93,7 @@ module _ (part : StreamParts) (during after : List (ℕ × Option Record) → St
 pub StagesStream-valued : {part between_part now : StreamParts} {t : ℕ} {v : ℤ} {was between is : RecordsState} {old mid new : Told}
     (result : Result (Unit {0}) ReadError) → KnowsNow mid → PutsValue part between_part t v was between (Ok tt) old mid →
     StagesJoins between_part now between is result mid new →
-    StagesStream (verdict_of_read result) part (λ others s. IsHalfway others part s t v) (λ others s. IsHeldIn others now (with_plain_value s t v))
+    StagesStream (verdict_of_read result) part (λ others s. IsHalfway others part s t v) (λ others s. IsHeldIn others now (with_plain_value s (t, v, New)))
     was is result old new
 StagesStream-valued {part} {between_part} {now} {t} {v} {was} {between} {is} {old} {mid} {new} result knows first second = record {
   turns = λ others s.
@@ -112,6 +113,6 @@ pub step-valued : {part between_part now : StreamParts} {t : ℕ} {v : ℤ} {was
     Step (verdict_of_read result) mid new (StagesJoins between_part now between is result) →
     Step (verdict_of_read result) old new
     (StagesStream (verdict_of_read result) part (λ others s. IsHalfway others part s t v)
-    (λ others s. IsHeldIn others now (with_plain_value s t v)) was is result)
+    (λ others s. IsHeldIn others now (with_plain_value s (t, v, New))) was is result)
 step-valued {t} {v} result knows first second =
     step-next first second (λ told then put joins. StagesStream-valued {t = t} {v = v} result (knows then) put joins)

@@ -4,11 +4,12 @@ use Rattle.std.proofs.lemmas.Result.{on_ok_weaker}
 use Rattle.std.specs.Prelude.{◌↔◌, IsTrue}
 use Rattle.ss_outside.proofs.CrashLemmas.{at_start, of_content, weaker}
 use Rattle.ss_outside.specs.Crash.{KnowsNow}
-use Rattle.ss_outside.specs.Disk.{DiskView, NothingPending, Told}
+use Rattle.ss_outside.specs.Disk.{DiskView, Told}
 use Rattle.ss_outside.specs.Verdict.{IfUndone}
 use Rattle.ss_catalog.specs.declared.event.Event.{Event}
 use Rattle.ss_catalog.specs.declared.refusal.Refusal.{Refusal}
-use Rattle.ss_model.specs.History.{CanBeSaid}
+use Rattle.ss_summary.specs.Points.{New}
+use Rattle.ss_model.specs.History.{CanBeSaid, Happened, added}
 use Rattle.ss_model.specs.Refusals.{refuses}
 use Rattle.ss_model.specs.State.{Stream, state}
 use Rattle.ss_model.specs.Steps.{stepped}
@@ -16,7 +17,7 @@ use Rattle.ss_model.proofs.HistoryLemmas.{IsHistory_push}
 use Rattle.ss_model.proofs.StepLemmas.{state-push}
 use Rattle.ss_model.specs.declared.types.Ack.{Ack}
 use Rattle.ss_records.specs.Kept.{RecordsState, shown_by}
-use Rattle.ss_store.specs.Calls.{RecoversToEither, StagesEvent, StandsForEither, StandsLike, StepsState, TurnsShown}
+use Rattle.ss_store.specs.Calls.{RecoversToEither, StagesEvent, StandsForEither, StepsState, TurnsShown}
 use Rattle.ss_store.specs.Applied.{Applies}
 use Rattle.ss_store.specs.Errors.{verdict_of_apply}
 use Rattle.ss_store.specs.Kept.{StoreIsKept, StoreState, refuses_held}
@@ -54,11 +55,11 @@ StepsState-failed {S} {F} {T} {E} event was is now old new call e steps =
     failed refl (steps all)
 
 -- a step is an event more in the history, where the event isn't refused
-Stands-push : (history : List Event) (event : Event) (content image : List ℕ) → CanBeSaid event → Stands history content →
-    refuses (state history) event ≡ None → Recovers (stepped (state history) event) image → Stands (history ++ event ∷ []) image
+Stands-push : (history : List Happened) (event : Event) (content image : List ℕ) → CanBeSaid event → Stands history content →
+    refuses (state history) event ≡ None → Recovers (stepped (state history) event) image → Stands (history ++ added event ∷ []) image
 Stands-push history event content image said stands none is = record {
-  is_history = IsHistory_push history event (record { before = stands.is_history; said = said; accepted = none });
-  state = subst (λ l. Recovers l image) (sym (state-push history event none)) is;
+  is_history = IsHistory_push history (added event) (record { before = stands.is_history; said = said; accepted = none });
+  state = subst (λ l. Recovers l image) (sym (state-push history event New none)) is;
 }
 
 -- and so a call that makes a step of the state stages an event after each history of it, where the event isn't refused

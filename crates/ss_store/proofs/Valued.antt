@@ -13,6 +13,7 @@ use Rattle.ss_catalog.specs.declared.event.Event.{Event}
 use Rattle.ss_catalog.specs.declared.event.Event.TheVariants.{Value, Open, Close}
 use Rattle.ss_target.specs.Lengths.{lengths_of}
 use Rattle.ss_windowing.specs.declared.decay.TheConstants.{MOST_VALUES}
+use Rattle.ss_summary.specs.Points.{New}
 use Rattle.ss_model.specs.Closed.{closed}
 use Rattle.ss_model.specs.ClosedState.{closed_state, closed_stream}
 use Rattle.ss_model.specs.History.{CanBeSaid}
@@ -20,7 +21,7 @@ use Rattle.ss_model.specs.Refusals.{is_past, refuses}
 use Rattle.ss_model.specs.Standing.{IsState, IsStream}
 use Rattle.ss_model.specs.State.{Stream, last_time, names_of, records_of, values_in}
 use Rattle.ss_model.specs.Marks.{has_open, with_closed, with_opened}
-use Rattle.ss_model.specs.Steps.{change_named, single_window, stepped, with_taken, with_plain_value}
+use Rattle.ss_model.specs.Steps.{change_named, single_window, stepped, with_taken, with_plain_value, stepped_from}
 use Rattle.ss_model.proofs.JoinLemmas.{JoinsDue-closed}
 use Rattle.ss_model.proofs.NameLemmas.{same_name-Decides}
 use Rattle.ss_model.proofs.StandLemmas.{IsPossible-single, below-has_all_records}
@@ -71,25 +72,26 @@ map-changed name change (u ∷ us) (suc k) s distinct at same =
     ]
 
 -- the step of an event that creates no stream
-stepped-value : (streams : List Stream) (name : List ℕ) (t : ℕ) (v : ℤ) → stepped streams (Value name t v) ≡ change_named name (λ s. with_taken s t v) streams
-unfolding stepped
+stepped-value : (streams : List Stream) (name : List ℕ) (t : ℕ) (v : ℤ) →
+    stepped streams (Value name t v) ≡ change_named name (λ s. with_taken s (t, v, New)) streams
+unfolding stepped_from
 stepped-value streams name t v = refl
 
 stepped-open : (streams : List Stream) (name : List ℕ) (t : ℕ) →
     stepped streams (Open name t) ≡ change_named name (λ s. record s { landmarks = with_opened s.landmarks t }) streams
-unfolding stepped
+unfolding stepped_from
 stepped-open streams name t = refl
 
 stepped-close : (streams : List Stream) (name : List ℕ) (t : ℕ) →
     stepped streams (Close name t) ≡ change_named name (λ s. record s { landmarks = with_closed s.landmarks t }) streams
-unfolding stepped
+unfolding stepped_from
 stepped-close streams name t = refl
 
 -- a value is the open landmark's, where one is open
-taken-plain : (s : Stream) (t : ℕ) (v : ℤ) → has_open s.landmarks ≡ false → with_taken s t v ≡ with_plain_value s t v
+taken-plain : (s : Stream) (t : ℕ) (v : ℤ) → has_open s.landmarks ≡ false → with_taken s (t, v, New) ≡ with_plain_value s (t, v, New)
 taken-plain s t v plain = rw plain refl
 
-taken-marked : (s : Stream) (t : ℕ) (v : ℤ) → has_open s.landmarks ≡ true → with_taken s t v ≡ with_mark s t (mark.Value v)
+taken-marked : (s : Stream) (t : ℕ) (v : ℤ) → has_open s.landmarks ≡ true → with_taken s (t, v, New) ≡ with_mark s t (mark.Value v)
 taken-marked s t v begun = rw begun refl
 
 -- an event of landmarks makes this of the stream of its name
@@ -99,7 +101,7 @@ pub stepped-mark : (streams : List Stream) (name : List ℕ) (t : ℕ) (what : M
 stepped-mark streams name t mark.Open place s distinct at same begun =
     sym (stepped-open streams name t ∙ map-changed name (λ u. record u { landmarks = with_opened u.landmarks t }) streams place s distinct at same)
 stepped-mark streams name t (mark.Value v) place s distinct at same begun =
-    sym (stepped-value streams name t v ∙ map-changed name (λ u. with_taken u t v) streams place s distinct at same
+    sym (stepped-value streams name t v ∙ map-changed name (λ u. with_taken u (t, v, New)) streams place s distinct at same
     ∙ ap (slice_set streams place) (taken-marked s t v (begun tt)))
 stepped-mark streams name t mark.Close place s distinct at same begun =
     sym (stepped-close streams name t ∙ map-changed name (λ u. record u { landmarks = with_closed u.landmarks t }) streams place s distinct at same)
@@ -162,23 +164,24 @@ closed_stream-again s is =
     closed_stream-joined s (closed len (values_in s) s.windows) is.windows (JoinsDue-closed len (values_in s) s.windows)
 
 module _ (streams : List Stream) (name : List ℕ) (t : ℕ) (v : ℤ) (place : ℕ) (s : Stream) (may : MayTake streams name t v place s) where
-  pub stepped-set : slice_set streams place (with_plain_value s t v) ≡ stepped streams (Value name t v)
+  pub stepped-set : slice_set streams place (with_plain_value s (t, v, New)) ≡ stepped streams (Value name t v)
   stepped-set =
-      sym (stepped-value streams name t v ∙ map-changed name (λ u. with_taken u t v) streams place s may.state.names may.here may.named
+      sym (stepped-value streams name t v ∙ map-changed name (λ u. with_taken u (t, v, New)) streams place s may.state.names may.here may.named
       ∙ ap (slice_set streams place) (taken-plain s t v may.plain))
 
   single-is : IsStream (with_single s t v)
   single-is =
-      IsStream-single s t v (IsStream-at streams place s may.state may.here) may.plain may.later may.few (IsPossible-single t v may.said.0 may.said.1)
+      IsStream-single s (t, v, New) (IsStream-at streams place s may.state may.here) may.plain may.later may.few
+      (IsPossible-single (t, v, New) may.said.0 may.said.1)
 
   values-single : values_in (with_single s t v) ≡ values_in s + 1
   values-single =
-      let w = single_window (values_in s + 1) t v in
-      omega (arith, taken-append s.windows (w ∷ []), taken-cons w [], count-summary_of ((t, v) ∷ []))
+      let w = single_window (values_in s + 1) (t, v, New) in
+      omega (arith, taken-append s.windows (w ∷ []), taken-cons w [], count-summary_of ((t, v, New) ∷ []))
 
-  closed-single : closed_stream (with_single s t v) ≡ with_plain_value s t v
+  closed-single : closed_stream (with_single s t v) ≡ with_plain_value s (t, v, New)
   closed-single =
-      let w = single_window (values_in s + 1) t v in
+      let w = single_window (values_in s + 1) (t, v, New) in
       ap (λ n. with_windows s (closed (lengths_of s.params) n (s.windows ++ w ∷ []))) values-single
 
   pub IsState-single : IsState (slice_set streams place (with_single s t v))
@@ -186,7 +189,7 @@ module _ (streams : List Stream) (name : List ℕ) (t : ℕ) (v : ℤ) (place : 
       let u = with_single s t v in
       let inside = slice_get_within streams place s may.here in
       let can = CanAppend-refuses streams name t v may.none in
-      let w = single_window (values_in s + 1) t v in
+      let w = single_window (values_in s + 1) (t, v, New) in
       let long : records_of u ≡ records_of s + 1 = omega (arith, length_push s.windows w) in
       record {
         each = All-set IsStream streams place u single-is may.state.each;
@@ -208,14 +211,14 @@ module _ (streams : List Stream) (name : List ℕ) (t : ℕ) (v : ℤ) (place : 
       map-set closed_stream streams place (with_single s t v) ∙ ap (λ l. slice_set l place (closed_stream (with_single s t v))) closed_before
       ∙ ap (slice_set streams place) closed-single ∙ stepped-set
 
-  closed-valued : closed_stream (with_plain_value s t v) ≡ with_plain_value s t v
+  closed-valued : closed_stream (with_plain_value s (t, v, New)) ≡ with_plain_value s (t, v, New)
   closed-valued = ap closed_stream (sym closed-single) ∙ closed_stream-again (with_single s t v) single-is ∙ closed-single
 
-  pub MayStep-valued : closed_state streams ≡ streams → MayStep streams (Value name t v) place (with_plain_value s t v)
+  pub MayStep-valued : closed_state streams ≡ streams → MayStep streams (Value name t v) place (with_plain_value s (t, v, New))
   MayStep-valued closed_before = record {
     state = may.state;
     none = may.none;
     said = may.said;
     is = stepped-set;
-    closed = closed-set streams (Value name t v) place (with_plain_value s t v) stepped-set closed_before closed-valued;
+    closed = closed-set streams (Value name t v) place (with_plain_value s (t, v, New)) stepped-set closed_before closed-valued;
   }

@@ -12,6 +12,7 @@ use Rattle.ss_line.specs.declared.entry.At.{At}
 use Rattle.ss_line.specs.declared.entry.Entry.{Entry}
 use Rattle.ss_summary.specs.Figures.{Figures}
 use Rattle.ss_target.specs.Lengths.{lengths_of}
+use Rattle.ss_model.specs.History.{Happened}
 use Rattle.ss_model.specs.Marks.{lies_free}
 use Rattle.ss_model.specs.Decay.{IsReadWithinTarget}
 use Rattle.ss_model.specs.Refusals.{IsHistory}
@@ -155,7 +156,7 @@ module _ {part : StreamParts} {entry : Entry} (is : RecordsState) (store : Store
       rw (numbered, found) here
 
   -- it keeps to the target
-  within-read : (shown : Placed) (history : List Event) → IsHistory history →
+  within-read : (shown : Placed) (history : List Happened) → IsHistory history →
       IfSome (part_numbered number store.streams) (λ p. IfSome (stream_numbered number (state history)) (λ s.
       slice_get (map placed_of s.windows) (index_of p.line.entries at) ≡ Some shown)) →
       IfSome (stream_numbered number (state history)) (λ s. IsReadWithinTarget (lengths_of s.params) (values_in s) shown)

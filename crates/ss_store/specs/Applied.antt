@@ -17,7 +17,7 @@ use Rattle.ss_target.specs.Lengths.{lengths_of}
 use Rattle.ss_target.specs.Targets.{params_of}
 use Rattle.ss_model.specs.Answers.{HoldsTruth, IsExactOutcome, outcome_of, split_by}
 use Rattle.ss_model.specs.Decay.{IsReadWithinTarget, cover}
-use Rattle.ss_model.specs.History.{marked_of, values_of}
+use Rattle.ss_model.specs.History.{marked_of, values_of, Happened}
 use Rattle.ss_model.specs.Shown.{placed_of}
 use Rattle.ss_model.specs.State.{Stream, state, stream_named, stream_numbered, values_in}
 use Rattle.ss_model.specs.declared.outcome.Outcome.{Outcome}
@@ -109,7 +109,7 @@ pub record Looks (v : Verdict) (old new : StoreState) (before after : DiskView) 
 pub record Sees (was : RecordsState) (query : Query) (result : Result Seen AskError) (old new : Told) : Type 0 where
   -- what is known of the stream, in the state that they show
   pub seen : (streams : List Stream) → Recovers streams (shown_by was old.content) →
-      IfOk result (λ seen. option_map (seen_of query.from query.to) (stream_named query.name streams) ≡ Some seen)
+      IfOk result (λ seen. option_map (seen_of query.kind query.from query.to) (stream_named query.name streams) ≡ Some seen)
   pub reads : OnlyReads old new
 
 -- A query is answered, of what records show. Content and images stay.
@@ -117,7 +117,7 @@ pub record Answers (was : RecordsState) (query : Query) (result : Result Outcome
   -- the answer of the state that they show
   pub answer : (streams : List Stream) → Recovers streams (shown_by was old.content) → IfOk result (λ outcome. outcome_of streams query ≡ Some outcome)
   -- it holds the truth over all values of the stream, those of its landmarks among them, for every history that is shown
-  pub truth : (history : List Event) → Stands history (shown_by was old.content) →
+  pub truth : (history : List Happened) → Stands history (shown_by was old.content) →
       IfOk result (HoldsTruth query (values_of history query.name) (marked_of history query.name))
   -- it leaves nothing open where the range splits no window
   pub exact : (streams : List Stream) → Recovers streams (shown_by was old.content) → split_by streams query ≡ [] → IfOk result IsExactOutcome
@@ -130,7 +130,7 @@ pub record ShowsWindow (number : ℕ) (at : At) (store : StoreState) (result : R
       IfOk result (λ placed. IfSome (part_numbered number store.streams) (λ part. IfSome (stream_numbered number streams) (λ s.
       slice_get (map placed_of s.windows) (index_of part.line.entries at) ≡ Some placed)))
   -- it is at most as long as the target window that holds its newest value
-  pub within : (history : List Event) → Stands history (shown_by store.records old.content) →
+  pub within : (history : List Happened) → Stands history (shown_by store.records old.content) →
       IfOk result (λ placed. IfSome (stream_numbered number (state history)) (λ s.
       IsReadWithinTarget (lengths_of s.params) (values_in s) placed))
   pub reads : OnlyReads old new

@@ -5,6 +5,7 @@ use Rattle.ss_outside.specs.Crash.{LeavesOnly}
 use Rattle.ss_outside.specs.Disk.{Told, NothingPending}
 use Rattle.ss_journal.specs.Redo.{SlotMap, StandsFor}
 use Rattle.ss_records.specs.Kept.{RecordsState, shown_by}
+use Rattle.ss_model.specs.History.{Happened, added}
 use Rattle.ss_model.specs.State.{Stream}
 use Rattle.ss_model.specs.Steps.{stepped}
 use Rattle.ss_store.specs.Recover.{Recovers, Stands}
@@ -33,16 +34,16 @@ KeepsState old new result = (streams : List Stream) → Turns (Recovers streams)
 
 -- the same of histories
 abbrev pub KeepsHistory : {T E : Type 0} → Told → Told → Result T E → Type 0
-KeepsHistory old new result = (history : List Event) → Turns (Stands history) (Stands history) (Stands history) old new result
+KeepsHistory old new result = (history : List Happened) → Turns (Stands history) (Stands history) (Stands history) old new result
 
 -- the image stands for the history, or for the history with the event at its end
-abbrev pub StandsForEither : List Event → Event → List ℕ → Type 0
-StandsForEither history event image = Stands history image ⊎ Stands (history ++ event ∷ []) image
+abbrev pub StandsForEither : List Happened → Event → List ℕ → Type 0
+StandsForEither history event image = Stands history image ⊎ Stands (history ++ added event ∷ []) image
 
 -- A call adds an event to the history that the disk stands for, wholly or not at all.
 abbrev pub AddsEvent : {T E : Type 0} → Event → Result T E → Told → Told → Type 0
 AddsEvent event result old new =
-    (history : List Event) → Turns (Stands history) (StandsForEither history event) (Stands (history ++ event ∷ [])) old new result
+    (history : List Happened) → Turns (Stands history) (StandsForEither history event) (Stands (history ++ added event ∷ [])) old new result
 
 -- the image recovers to these streams, or to those after the event
 abbrev pub RecoversToEither : List Stream → Event → List ℕ → Type 0
@@ -56,18 +57,18 @@ StepsState event was is result old new =
 
 -- A call turns the history that records show, which are others then, into another. With nothing pending at the call, a crash at any
 -- moment of it leaves only images that stand for a history that the content stood for, or that have M, and at Ok nothing is pending.
-pub record TurnsHistory {T E : Type 0} (was is : RecordsState) (history : List Event) (M : List ℕ → Type 0) (then : List Event) (old new : Told)
+pub record TurnsHistory {T E : Type 0} (was is : RecordsState) (history : List Happened) (M : List ℕ → Type 0) (then : List Happened) (old new : Told)
     (result : Result T E) : Type 0 where
   pub content : Stands history (shown_by was old.content) → OnOk result (Stands then (shown_by is new.content))
-  pub any_moment : NothingPending old → (sealed : List Event) → Stands sealed old.content → Stands history (shown_by was old.content) →
+  pub any_moment : NothingPending old → (sealed : List Happened) → Stands sealed old.content → Stands history (shown_by was old.content) →
       LeavesOnly old new (λ image. Stands sealed image ⊎ M image)
   pub durable : NothingPending old → OnOk result (NothingPending new)
 
 -- A call stages an event after the history that records show, wholly or not at all.
 abbrev pub StagesEvent : {T E : Type 0} → Event → RecordsState → RecordsState → Result T E → Told → Told → Type 0
 StagesEvent event was is result old new =
-    (history : List Event) → TurnsHistory was is history (StandsForEither history event) (history ++ event ∷ []) old new result
+    (history : List Happened) → TurnsHistory was is history (StandsForEither history event) (history ++ added event ∷ []) old new result
 
 -- A call brings the history that records show to the disk, wholly or not at all.
 abbrev pub SealsHistory : {T E : Type 0} → RecordsState → RecordsState → Result T E → Told → Told → Type 0
-SealsHistory was is result old new = (history : List Event) → TurnsHistory was is history (Stands history) history old new result
+SealsHistory was is result old new = (history : List Happened) → TurnsHistory was is history (Stands history) history old new result

@@ -16,6 +16,7 @@ use Rattle.ss_summary.specs.Summaries.{joined}
 use Rattle.ss_target.specs.Lengths.{lengths_of}
 use Rattle.ss_target.specs.Targets.{params_of}
 use Rattle.ss_windowing.specs.declared.decay.TheConstants.{MOST_VALUES}
+use Rattle.ss_summary.specs.Points.{New}
 use Rattle.ss_model.specs.ClosedState.{closed_state, closed_stream}
 use Rattle.ss_model.specs.Marks.{lies_free}
 use Rattle.ss_model.specs.Standing.{IsState}
@@ -83,7 +84,7 @@ PutsValue part now t v was is result =
 -- a value was taken, and the windows were closed, and this is staged
 abbrev pub TakesValue : StreamParts → StreamParts → ℕ → ℤ → RecordsState → RecordsState → Result (Unit {0}) ReadError → Told → Told → Type 0
 TakesValue part now t v was is result =
-    StagesStream (verdict_of_read result) part (λ others s. IsHalfway others part s t v) (λ others s. IsHeldIn others now (with_plain_value s t v))
+    StagesStream (verdict_of_read result) part (λ others s. IsHalfway others part s t v) (λ others s. IsHeldIn others now (with_plain_value s (t, v, New)))
     was is result
 
 -- landmarks took a mark, and this is staged

@@ -3,6 +3,7 @@ use Rattle.std.specs.Prelude.{◌≡◌, ◌⊎◌, ℕ, ℤ, ◌+◌, List, [],
 use Rattle.ss_codec.specs.declared.record.Record.{Record}
 use Rattle.ss_line.specs.declared.entry.Entry.{Entry}
 use Rattle.ss_target.specs.Lengths.{lengths_of}
+use Rattle.ss_summary.specs.Points.{New}
 use Rattle.ss_model.specs.Joins.{JoinsDue}
 use Rattle.ss_model.specs.State.{Stream, values_in}
 use Rattle.ss_model.specs.Steps.{single_window}
@@ -24,7 +25,7 @@ pub record IsPartlyJoined (others : List (ℕ × Option Record)) (s : Stream) (i
 
 -- a stream with a value as a window of its own, before any window is joined
 abbrev pub with_single : Stream → ℕ → ℤ → Stream
-with_single s t v = with_windows s (s.windows ++ single_window (values_in s + 1) t v ∷ [])
+with_single s t v = with_windows s (s.windows ++ single_window (values_in s + 1) (t, v, New) ∷ [])
 
 -- what a crash in the middle of an append may leave: the stream from before, or with the value, however many were joined
 abbrev pub IsHalfway : List (ℕ × Option Record) → StreamParts → Stream → ℕ → ℤ → List ℕ → Type 0

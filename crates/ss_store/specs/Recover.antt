@@ -2,6 +2,7 @@
 use Rattle.std.specs.Prelude.{◌≡◌, ℕ, List}
 use Rattle.ss_catalog.specs.declared.event.Event.{Event}
 use Rattle.ss_journal.specs.Redo.{Redone, redo, not_a_store, bad_entry, stands}
+use Rattle.ss_model.specs.History.{Happened}
 use Rattle.ss_model.specs.ClosedState.{closed_state}
 use Rattle.ss_model.specs.Refusals.{IsHistory}
 use Rattle.ss_model.specs.State.{Stream, state}
@@ -36,6 +37,6 @@ abbrev pub Recovers : List Stream → List ℕ → Type 0
 Recovers streams image = recover image ≡ recovers streams
 
 -- the image stands for a history
-pub record Stands (history : List Event) (image : List ℕ) : Type 0 where
+pub record Stands (history : List Happened) (image : List ℕ) : Type 0 where
   pub is_history : IsHistory history
   pub state : Recovers (state history) image

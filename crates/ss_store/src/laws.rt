@@ -7,6 +7,7 @@ ghost use Rattle.ss_line.specs.declared.entry.Entry.{Entry};
 ghost use Rattle.ss_journal.specs.Kept.{IsSealed};
 ghost use Rattle.ss_records.specs.Kept.{shown_by};
 ghost use Rattle.ss_records.specs.Live.{live_count};
+ghost use Rattle.ss_model.specs.History.{Happened};
 ghost use Rattle.ss_model.specs.Answers.{refuses_query};
 ghost use Rattle.ss_model.specs.Decay.{cover};
 ghost use Rattle.ss_model.specs.Refusals.{refuses};
@@ -25,7 +26,7 @@ ghost use Rattle.ss_store.specs.Recover.{Recovers, Stands};
 pub fn what_is_kept_is_the_state()
     ensures state { (store : StoreState) (content : List ℕ) (streams : List Stream) → StoreIsKept store content →
         Recovers streams (shown_by store.records content) → AllAgree store.streams streams × IsState streams }
-    ensures history { (store : StoreState) (content : List ℕ) (history : List Event) → StoreIsKept store content →
+    ensures history { (store : StoreState) (content : List ℕ) (history : List Happened) → StoreIsKept store content →
         Stands history (shown_by store.records content) → AllAgree store.streams (state history) × IsState (state history) }
     ensures recovers { (store : StoreState) (content : List ℕ) → StoreIsKept store content →
         (streams : List Stream) × Recovers streams (shown_by store.records content) × AllAgree store.streams streams × IsState streams }

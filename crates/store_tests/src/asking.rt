@@ -19,8 +19,8 @@ const IN_FOURS: Params = Params::Power {
     s: 4,
 };
 
-// What other streams take after the readings.
-const OTHERS: [Row; 31] = [
+/// What other streams take after the readings.
+pub const OTHERS: [Row; 31] = [
     // as many values as times, and two streams with values at the edges of 64 bits
     (b'd', Create(IN_FOURS), Ok((0, 0))),
     (b'd', Value(10, 4), Ok((1, 1))),
@@ -123,12 +123,17 @@ fn queries_are_answered(rt: HostRuntime) -> Result<(), Fail> {
     pass(first_wrong(rt.alloc(), &ANSWERED)?)
 }
 
+const HAS_5: Kind = Kind::Has { value: 5 };
+
 // No name but `a` has a stream. A query that is not refused finds that the disk fails, and the next one that the store has
 // stopped.
-const UNANSWERED: [(Question, AskError); 5] = [
+const UNANSWERED: [(Question, AskError); 8] = [
     ((b'x', Kind::Sum, 4, 5), Refused(Refusal::Unknown)),
     ((b'x', Kind::Sum, 5, 4), Refused(Refusal::Unknown)),
     ((b'a', Kind::Sum, 5, 4), Refused(Refusal::Range)),
+    ((b'x', HAS_5, 4, 5), Refused(Refusal::Unknown)),
+    ((b'x', HAS_5, 5, 4), Refused(Refusal::Unknown)),
+    ((b'a', HAS_5, 5, 4), Refused(Refusal::Range)),
     ((b'a', Kind::Count, 0, 10), Disk),
     ((b'a', Kind::Count, 0, 10), Stopped),
 ];

@@ -3,6 +3,9 @@ use crate::silent::Silent;
 use ss_outside::MemDisk;
 use std::alloc::{AllocError, Global};
 
+/// What a window says of its values: how many, their sum, which isn't negative, the least and the greatest.
+pub type Values = (u64, u64, i64, i64);
+
 /// What a slot has.
 #[derive(Clone, Copy)]
 pub enum Slot {
@@ -13,6 +16,11 @@ pub enum Slot {
     Dropped(u32, u8),
     /// A window of a stream: the stream's number, the first position, how many values, and the first and last time.
     Window(u32, u64, u64, u64, u64),
+    /// The same with the filter of its values, where the filter of a `Window` has all bits.
+    Filtered(u32, u64, u64, u64, u64),
+    /// A window as a store without filters wrote it: the stream's number, the first position, the values, and the first and last
+    /// time.
+    Old(u32, u64, Values, u64, u64),
     /// A landmark: the stream's number, its own, how many values it has, and when it opens and closes.
     Landmark(u32, u32, u32, u64, Option<u64>),
     /// A value of a landmark: the stream's number, the landmark's, its index, its time, and what it is.
@@ -48,7 +56,28 @@ fn put_stream(bytes: &mut [u8; 128], id: u32, letter: u8, dropped: u8) {
     put(bytes, 24, &[letter]);
 }
 
-// The bytes of a slot: those of a stream have the target `exp 2 1 1`, and those of a window only the value 0.
+// Without a state and words of its filter a window has all bits.
+fn put_window(bytes: &mut [u8; 128], id: u32, first: u64, values: Values, times: (u64, u64)) {
+    let (count, sum, min, max) = values;
+    let (t_first, t_last) = times;
+    put(bytes, 0, &[2]);
+    put_u32(bytes, 4, id);
+    put_u64(bytes, 8, first);
+    put_u64(bytes, 16, count);
+    put_u64(bytes, 32, sum);
+    put(bytes, 40, &min.to_be_bytes());
+    put(bytes, 48, &max.to_be_bytes());
+    put_u64(bytes, 56, t_first);
+    put_u64(bytes, 64, t_last);
+}
+
+// The filter of a window's values: the bit of the value 0 is the first.
+fn put_filter(bytes: &mut [u8; 128]) {
+    put(bytes, 1, &[1]);
+    put_u64(bytes, 72, 1);
+}
+
+// The bytes of a slot: those of a stream have the target `exp 2 1 1`, and those of a window whose values aren't named only 0.
 fn spelled(slot: Slot) -> [u8; 128] {
     let mut bytes = [0; 128];
     match slot {
@@ -56,12 +85,14 @@ fn spelled(slot: Slot) -> [u8; 128] {
         Slot::Stream(id, letter) => put_stream(&mut bytes, id, letter, 0),
         Slot::Dropped(id, letter) => put_stream(&mut bytes, id, letter, 1),
         Slot::Window(id, first, count, t_first, t_last) => {
-            put(&mut bytes, 0, &[2]);
-            put_u32(&mut bytes, 4, id);
-            put_u64(&mut bytes, 8, first);
-            put_u64(&mut bytes, 16, count);
-            put_u64(&mut bytes, 56, t_first);
-            put_u64(&mut bytes, 64, t_last);
+            put_window(&mut bytes, id, first, (count, 0, 0, 0), (t_first, t_last));
+        }
+        Slot::Filtered(id, first, count, t_first, t_last) => {
+            put_window(&mut bytes, id, first, (count, 0, 0, 0), (t_first, t_last));
+            put_filter(&mut bytes);
+        }
+        Slot::Old(id, first, values, t_first, t_last) => {
+            put_window(&mut bytes, id, first, values, (t_first, t_last));
         }
         Slot::Landmark(id, number, values, start, finish) => {
             put(&mut bytes, 0, &[3, if finish.is_some() { 2 } else { 1 }]);

@@ -13,7 +13,11 @@ mod changed;
 #[cfg(test)]
 mod damaged;
 #[cfg(test)]
+mod having;
+#[cfg(test)]
 mod images;
+#[cfg(test)]
+mod laws;
 #[cfg(test)]
 mod limits;
 #[cfg(test)]

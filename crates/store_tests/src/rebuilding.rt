@@ -1,7 +1,7 @@
 // What the records of small images carry.
 ghost use Rattle.ss_steps.specs.Steps.{IsFresh};
 
-use crate::images::Slot::{self, Dropped, Free, Landmark, Stream, Value, Window};
+use crate::images::Slot::{self, Dropped, Filtered, Free, Landmark, Stream, Value, Window};
 use crate::images::{FORMATTED, image};
 use crate::passing::pass;
 use ss_journal::JournalError;
@@ -107,7 +107,7 @@ fn unread(alloc: Global, rows: &[(&[Slot], &[Read])]) -> Result<Option<usize>, J
     Ok(None)
 }
 
-const WHOLE: [(&[Slot], &[Read]); 10] = [
+const WHOLE: [(&[Slot], &[Read]); 11] = [
     (&[Free], &[]),
     (
         &[
@@ -140,6 +140,27 @@ const WHOLE: [(&[Slot], &[Read]); 10] = [
             (2, 5, None, &[], NO_MARKS),
             (7, 4, Some(9), &[(1, 2, 2, 8, 3), (3, 3, 9, 9, 0)], NO_MARKS),
             (9, 1, Some(5), &[(1, 1, 5, 5, 2)], NO_MARKS),
+        ],
+    ),
+    // windows whose filters have all bits beside ones with the filters of their values
+    (
+        &[
+            Stream(0, b'a'),
+            Window(0, 1, 4, 10, 40),
+            Filtered(0, 5, 2, 50, 60),
+            Filtered(1, 1, 1, 5, 5),
+            Stream(1, b'b'),
+            Window(1, 2, 1, 6, 6),
+        ],
+        &[
+            (
+                0,
+                0,
+                Some(60),
+                &[(1, 4, 10, 40, 1), (5, 6, 50, 60, 2)],
+                NO_MARKS,
+            ),
+            (1, 4, Some(6), &[(1, 1, 5, 5, 3), (2, 2, 6, 6, 5)], NO_MARKS),
         ],
     ),
     // two windows that wait for a merge

@@ -4,6 +4,7 @@ use crate::passing::pass;
 use crate::running::Asked::{Close, Create, Open, Value};
 use crate::running::{IN_TWOS, Row, Running, fresh, play};
 use ss_catalog::{Kind, LAST_TIME, Name, Query};
+use ss_model::Presence::{self, Absent, Maybe, Present};
 use ss_query::{Cut, Seen};
 use ss_store::{OpenError, Store};
 use ss_summary::Summary;
@@ -43,16 +44,20 @@ fn is_sight(seen: Seen, sight: Sight) -> bool {
     ends(seen.left) == left && ends(seen.right) == right && count(seen.whole) == whole
 }
 
-fn is_known(running: &mut Running, sight: Sight) -> bool {
-    let (from, to, _, _, _) = sight;
-    let Some(name) = Name::of(b"a") else {
-        return false;
-    };
-    let query = Query {
+fn query(kind: Kind, from: u64, to: u64) -> Option<Query> {
+    let name = Name::of(b"a")?;
+    Some(Query {
         name,
-        kind: Kind::Sum,
+        kind,
         from,
         to,
+    })
+}
+
+fn is_known(running: &mut Running, sight: Sight) -> bool {
+    let (from, to, _, _, _) = sight;
+    let Some(query) = query(Kind::Sum, from, to) else {
+        return false;
     };
     match running.store.see(&mut running.disk, &query) {
         Ok(seen) => is_sight(seen, sight),
@@ -79,6 +84,50 @@ fn sights(alloc: Global) -> Result<Option<usize>, OpenError> {
 #[test]
 fn windows_are_cut(rt: HostRuntime) -> Result<(), Fail> {
     pass(sights(rt.alloc())?)
+}
+
+// What is known of a value at times from one to another, where one is asked for.
+const PRESENCES: [(Kind, u64, u64, Presence); 8] = [
+    (Kind::Has { value: 8 }, 10, 40, Present),
+    (Kind::Has { value: 1 }, 10, 40, Maybe),
+    (Kind::Has { value: 4 }, 10, 40, Absent),
+    (Kind::Has { value: 8 }, 10, 39, Maybe),
+    (Kind::Has { value: 8 }, 41, 49, Absent),
+    (Kind::Sum, 10, 40, Absent),
+    (Kind::Max, 10, 40, Absent),
+    (Kind::Count, 10, 40, Absent),
+];
+
+fn is_presence(running: &mut Running, row: (Kind, u64, u64, Presence)) -> bool {
+    let (kind, from, to, presence) = row;
+    let Some(query) = query(kind, from, to) else {
+        return false;
+    };
+    match running.store.see(&mut running.disk, &query) {
+        Ok(seen) => seen.presence == presence,
+        Err(_) => false,
+    }
+}
+
+// The first row of which something else is known.
+fn first_otherwise(running: &mut Running) -> Option<usize> {
+    for (row, known) in PRESENCES.iter().enumerate() {
+        if !is_presence(running, *known) {
+            return Some(row);
+        }
+    }
+    None
+}
+
+fn presences(alloc: Global) -> Result<Option<usize>, OpenError> {
+    let mut running = fresh(alloc)?;
+    play(&mut running, &READINGS);
+    Ok(first_otherwise(&mut running))
+}
+
+#[test]
+fn a_value_is_looked_for_where_it_is_asked_for(rt: HostRuntime) -> Result<(), Fail> {
+    pass(presences(rt.alloc())?)
 }
 
 // A landmark in the middle of a window.

@@ -3,6 +3,7 @@ use Rattle.std.proofs.lemmas.Int.{to_z-of_z}
 use Rattle.std.proofs.lemmas.Result.{err_from_is_err_and}
 use Rattle.ss_outside.proofs.StepLemmas.{step-as}
 use Rattle.ss_journal.proofs.StepLemmas.{after-step}
+use Rattle.ss_summary.specs.Points.{New}
 use Rattle.ss_model.specs.Steps.{with_plain_value}
 use Rattle.ss_recover.specs.Held.{slots_held}
 use Rattle.ss_query.specs.Held.{IsHeldIn}
@@ -24,7 +25,7 @@ returns-in_err-put_value-clause-takes g c =
     (step-as (rw (to_z-of_z w64 v c.ranges.v) at c.in_err-put_value.ensures.puts) (λ put. record {
       turns = λ others s.
           TurnsShown-failed c.args.records.now c.put_value.new.records c.put_value.new.records (IsHeldIn others part s) (IsHalfway others part s t v)
-          (IsHeldIn others c.put_value.new.part (with_single s t v)) (IsHeldIn others c.put_value.new.part (with_plain_value s t v)) _ _ _ _ refl
+          (IsHeldIn others c.put_value.new.part (with_single s t v)) (IsHeldIn others c.put_value.new.part (with_plain_value s (t, v, New))) _ _ _ _ refl
           (put.turns others s);
       firm = put.firm;
       kept = tt;

@@ -16,6 +16,7 @@ use Rattle.ss_outside.proofs.StepLemmas.{step-as}
 use Rattle.ss_summary.specs.Summaries.{summary_of}
 use Rattle.ss_recover.specs.Held.{entries_of}
 use Rattle.ss_recover.specs.declared.parts.StreamParts.{StreamParts}
+use Rattle.ss_summary.specs.Points.{New}
 use Rattle.ss_store.specs.Held.{IsHalfway, values_held, with_single}
 use Rattle.ss_query.specs.Held.{IsHeldIn}
 use Rattle.ss_store.specs.Indexed.{begun_at}
@@ -55,8 +56,8 @@ returns-in_err-stage_record-clause-puts g c =
     let part = c.args.part.now in
     let can = c.requires.can in
     let new = added_part part c.args.slot c.args.t in
-    let single : c.one.result ≡ summary_of ((c.args.t, c.args.v) ∷ []) =
-    c.one.ensures ∙ ap (λ v. summary_of ((c.args.t, v) ∷ [])) (to_z-of_z {w = w64} {z = c.args.v} c.ranges.v) in
+    let single : c.one.result ≡ summary_of ((c.args.t, c.args.v, New) ∷ []) =
+    c.one.ensures ∙ ap (λ v. summary_of ((c.args.t, v, New) ∷ [])) (to_z-of_z {w = w64} {z = c.args.v} c.ranges.v) in
     let p = err_from_is_err_and c.from_residual.result c.from_residual.ensures.1 in
     rw (p.1, p.2)
     (step-as c.in_err-stage_record.ensures.stages (λ made. record {
@@ -90,8 +91,8 @@ returns-clause-puts g c =
     let part = c.args.part.now in
     let can = c.requires.can in
     let new = record part { last_time = Some c.args.t; line = c.push-at.new.self } in
-    let single : c.one.result ≡ summary_of ((c.args.t, c.args.v) ∷ []) =
-    c.one.ensures ∙ ap (λ v. summary_of ((c.args.t, v) ∷ [])) (to_z-of_z {w = w64} {z = c.args.v} c.ranges.v) in
+    let single : c.one.result ≡ summary_of ((c.args.t, c.args.v, New) ∷ []) =
+    c.one.ensures ∙ ap (λ v. summary_of ((c.args.t, v, New) ∷ [])) (to_z-of_z {w = w64} {z = c.args.v} c.ranges.v) in
     step-as c.in_ok-stage_record.ensures.stages (λ made. record {
       turns = λ others s.
           TurnsShown-answers c.args.records.now c.stage_record.new.records (IsHeldIn others part s) (IsHalfway others part s c.args.t c.args.v)

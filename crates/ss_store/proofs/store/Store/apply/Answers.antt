@@ -1,5 +1,6 @@
 use Rattle.std.proofs.Common.{◌∙◌, ◌++◌, ◌∷◌, [], Err, Ok, refl, sym}
 use Rattle.std.proofs.lemmas.Result.{err_from_is_err_and}
+use Rattle.ss_model.specs.History.{added}
 use Rattle.ss_store.specs.Calls.{StandsForEither}
 use Rattle.ss_store.specs.Recover.{Stands}
 use Rattle.ss_store.proofs.Calls.{Turns-answers, Turns-failed}
@@ -23,7 +24,7 @@ pub returns-in-Ok-clause-history : goal.returns-in-Ok-clause-history
 returns-in-Ok-clause-history g c runs told history =
     let event = c.args.event.now in
     let then = (c.in_ok-ack.ensures.applies runs).step.tells ∙ told in
-    Turns-answers (Stands history) (StandsForEither history event) (Stands (history ++ event ∷ [])) _ _ c.in-Ok.field-0 (Ok c.in_ok-ack.ack)
+    Turns-answers (Stands history) (StandsForEither history event) (Stands (history ++ added event ∷ [])) _ _ c.in-Ok.field-0 (Ok c.in_ok-ack.ack)
     (AddsEvent-sealed event c.args.self.now.records c.stage.new.self.records _ _ (c.requires.sealed runs) c.seal.new.self.records _ c.in_ok-ack.ack
     (Ok c.in-Ok.field-0) (g.met.D.Disk.knows_now c.stage.new.disk then) c.in-Ok.ensures.sealed.sealed (c.in_ok-ack.ensures.history runs told)
     (c.in-Ok.ensures.seals.told then).history history)
@@ -38,7 +39,7 @@ pub returns-in-Err-clause-history : goal.returns-in-Err-clause-history
 returns-in-Err-clause-history g c runs told history =
     let event = c.args.event.now in
     let then = (c.in_ok-ack.ensures.applies runs).step.tells ∙ told in
-    let added = Stands (history ++ event ∷ []) in
+    let added = Stands (history ++ added event ∷ []) in
     Turns-failed (Stands history) (StandsForEither history event) added added _ _ (Err c.in-Err.field-0) _ refl
     (AddsEvent-sealed event c.args.self.now.records c.stage.new.self.records _ _ (c.requires.sealed runs) c.seal.new.self.records _ c.in_ok-ack.ack
     (Err c.in-Err.field-0) (g.met.D.Disk.knows_now c.stage.new.disk then) tt (c.in_ok-ack.ensures.history runs told)

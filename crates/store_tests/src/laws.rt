@@ -1,0 +1,25 @@
+// The laws of stores, and of what queries answer.
+use ss_model::{
+    answers_hold_the_truth, answers_hold_the_truth_of_histories, outcomes_hold_the_truth,
+    unsplit_answers_are_exact,
+};
+use ss_store::{
+    few_windows_stand, query_refusals_of_what_is_held, refusals_of_what_is_held,
+    unformatted_files_stand_for_nothing, what_is_held_counts_alike, what_is_held_is_found_alike,
+    what_is_kept_is_the_state,
+};
+
+#[test]
+fn laws_are_called() {
+    what_is_kept_is_the_state();
+    what_is_held_is_found_alike();
+    what_is_held_counts_alike();
+    refusals_of_what_is_held();
+    query_refusals_of_what_is_held();
+    few_windows_stand();
+    unformatted_files_stand_for_nothing();
+    answers_hold_the_truth();
+    answers_hold_the_truth_of_histories();
+    unsplit_answers_are_exact();
+    outcomes_hold_the_truth();
+}
