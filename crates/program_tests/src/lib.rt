@@ -13,6 +13,8 @@ mod images;
 #[cfg(test)]
 mod modes;
 #[cfg(test)]
+mod presence;
+#[cfg(test)]
 mod rows;
 #[cfg(test)]
 mod scripts;

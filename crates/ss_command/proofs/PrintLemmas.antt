@@ -14,7 +14,7 @@ use Rattle.std.specs.List.{All, list_all}
 use Rattle.ss_fields.proofs.WordLemmas.{signed_of-signed_decimal, unsigned_of-decimal}
 use Rattle.ss_catalog.proofs.NameLemmas.{length-is_name}
 use Rattle.ss_catalog.specs.Names.{is_name, is_name_byte}
-use Rattle.ss_catalog.specs.Queries.{adds_up, end_name, kind_name}
+use Rattle.ss_catalog.specs.Queries.{IsKindOfValues, adds_up, end_name, kind_name}
 use Rattle.ss_catalog.specs.Series.{IsSeriesInRange, rows_in}
 use Rattle.ss_catalog.specs.declared.TheConstants.{LAST_TIME, MOST_ROWS}
 use Rattle.ss_catalog.specs.declared.series.Series.{Series}
@@ -26,12 +26,12 @@ use Rattle.ss_catalog.specs.declared.query.Kind.{Kind}
 use Rattle.ss_catalog.specs.declared.query.Kind.TheVariants as kinds
 use Rattle.ss_command.proofs.GrammarLemmas.{meaning-words}
 use Rattle.ss_command.proofs.NumberLemmas.{or_number-Ok}
-use Rattle.ss_command.proofs.PutLemmas.{length-decimal_32, length-decimal_64, length-signed_64, length-with_word}
+use Rattle.ss_command.proofs.PutLemmas.{length-decimal_32, length-decimal_64, length-end, length-kind, length-signed_64, length-with_word}
 use Rattle.ss_command.proofs.WordLemmas.{words-blank, words-one}
 use Rattle.ss_command.specs.Grammar.{added_of, end_of, is_comment, kind_of, meaning, meaning_of_words, name_of, or_number, parameter_of, step_of, time_of}
 use Rattle.ss_command.specs.Grammar.{value_of}
-use Rattle.ss_command.specs.Printed.{IsSayable, printed, spaced, target_words, with_word}
-use Rattle.ss_command.specs.Words.{is_blank, words}
+use Rattle.ss_command.specs.Printed.{IsSayable, kind_words, printed, spaced, takes_value, target_words, with_word}
+use Rattle.ss_command.specs.Words.{is_blank, is_word, words}
 use Rattle.ss_command.specs.declared.command.Command.{Command}
 use Rattle.ss_command.specs.declared.command.Command.TheVariants as commands
 
@@ -226,23 +226,27 @@ IsWord-kind kinds.Count = literal (codes "count") refl
 IsWord-kind kinds.Sum = literal (codes "sum") refl
 IsWord-kind kinds.Min = literal (codes "min") refl
 IsWord-kind kinds.Max = literal (codes "max") refl
+IsWord-kind (kinds.Has value) = literal (codes "has") refl
 
-length-kind : (kind : Kind) → length (kind_name kind) ≤ 5
-length-kind kinds.Count = omega arith
-length-kind kinds.Sum = omega arith
-length-kind kinds.Min = omega arith
-length-kind kinds.Max = omega arith
+kind_of-name : (kind : Kind) → takes_value kind ≡ false → kind_of (kind_name kind) ≡ Ok kind
+kind_of-name kinds.Count alone = refl
+kind_of-name kinds.Sum alone = refl
+kind_of-name kinds.Min alone = refl
+kind_of-name kinds.Max alone = refl
+kind_of-name (kinds.Has value) alone = cc
 
-kind_of-name : (kind : Kind) → kind_of (kind_name kind) ≡ Ok kind
-kind_of-name kinds.Count = refl
-kind_of-name kinds.Sum = refl
-kind_of-name kinds.Min = refl
-kind_of-name kinds.Max = refl
+is_word-has : (kind : Kind) → takes_value kind ≡ false → is_word (kind_name kind) (codes "has") ≡ false
+is_word-has kinds.Count alone = refl
+is_word-has kinds.Sum alone = refl
+is_word-has kinds.Min alone = refl
+is_word-has kinds.Max alone = refl
+is_word-has (kinds.Has value) alone = cc
 
-meaning-query : (name : List ℕ) (kind : Kind) (from to : ℕ) → is_name name ≡ true → from ≤ LAST_TIME → to ≤ LAST_TIME →
+-- a printed `query` for all values means what it asks for
+meaning-figure : (name : List ℕ) (kind : Kind) (from to : ℕ) → is_name name ≡ true → from ≤ LAST_TIME → to ≤ LAST_TIME → takes_value kind ≡ false →
     meaning (spaced (codes "query") (name ∷ kind_name kind ∷ decimal from ∷ decimal to ∷ [])) ≡ Ok
     (Some (commands.Ask (record { name = name; kind = kind; from = from; to = to })))
-meaning-query name kind from to is early late =
+meaning-figure name kind from to is early late alone =
     let rest = name ∷ kind_name kind ∷ decimal from ∷ decimal to ∷ [] in
     let all : AreWords rest = (IsWord-name name is, (IsWord-kind kind, (IsWord-decimal from (omega arith), (IsWord-decimal to (omega arith), tt)))) in
     let short : length (spaced (codes "query") rest) ≤ 256 =
@@ -255,7 +259,38 @@ meaning-query name kind from to is early late =
       length-decimal_64 to (omega arith),
     ) in
     meaning-spaced (codes "query") rest (literal (codes "query") refl) all short refl
-    ∙ rw (kind_of-name kind, time_of-decimal from early, time_of-decimal to late, name_of-name name is) refl
+    ∙ rw (is_word-has kind alone, kind_of-name kind alone, time_of-decimal from early, time_of-decimal to late, name_of-name name is) refl
+
+-- so does one for a value
+meaning-has : (name : List ℕ) (v : ℤ) (from to : ℕ) → is_name name ≡ true → from ≤ LAST_TIME → to ≤ LAST_TIME → FitsSigned w64 v →
+    meaning (spaced (codes "query") (name ∷ codes "has" ∷ signed_decimal v ∷ decimal from ∷ decimal to ∷ [])) ≡ Ok
+    (Some (commands.Ask (record { name = name; kind = kinds.Has v; from = from; to = to })))
+meaning-has name v from to is early late fits =
+    let rest = name ∷ codes "has" ∷ signed_decimal v ∷ decimal from ∷ decimal to ∷ [] in
+    let all : AreWords rest = (
+      IsWord-name name is,
+      (literal (codes "has") refl, (IsWord-signed v fits, (IsWord-decimal from (omega arith), (IsWord-decimal to (omega arith), tt)))),
+    ) in
+    let short : length (spaced (codes "query") rest) ≤ 256 =
+    omega (
+      arith,
+      length-spaced rest (codes "query"),
+      length-is_name name is,
+      length-signed_64 v fits,
+      length-decimal_64 from (omega arith),
+      length-decimal_64 to (omega arith),
+    ) in
+    meaning-spaced (codes "query") rest (literal (codes "query") refl) all short refl
+    ∙ rw (value_of-signed v fits, time_of-decimal from early, time_of-decimal to late, name_of-name name is) refl
+
+meaning-query : (name : List ℕ) (kind : Kind) (from to : ℕ) → is_name name ≡ true → from ≤ LAST_TIME → to ≤ LAST_TIME → IsKindOfValues kind →
+    meaning (spaced (codes "query") (name ∷ kind_words kind ++ decimal from ∷ decimal to ∷ [])) ≡ Ok
+    (Some (commands.Ask (record { name = name; kind = kind; from = from; to = to })))
+meaning-query name kinds.Count from to is early late fits = meaning-figure name kinds.Count from to is early late refl
+meaning-query name kinds.Sum from to is early late fits = meaning-figure name kinds.Sum from to is early late refl
+meaning-query name kinds.Min from to is early late fits = meaning-figure name kinds.Min from to is early late refl
+meaning-query name kinds.Max from to is early late fits = meaning-figure name kinds.Max from to is early late refl
+meaning-query name (kinds.Has value) from to is early late fits = meaning-has name value from to is early late fits
 
 -- a step of a series reads back
 step_of-decimal : (from to step : ℕ) → 0 < step → step ≤ LAST_TIME → rows_in from to step ≤ MOST_ROWS → step_of from to (decimal step) ≡ Ok step
@@ -263,10 +298,10 @@ step_of-decimal from to step some small few =
     let both : (nat_lt 0 step && nat_le (rows_in from to step) MOST_ROWS) ≡ true = grind (arith, nat_tests) in
     rw (time_of-decimal step small, both) refl
 
-meaning-series : (series : Series) → is_name series.name ≡ true → IsSeriesInRange series →
+meaning-series : (series : Series) → is_name series.name ≡ true → IsSeriesInRange series → takes_value series.kind ≡ false →
     meaning (printed (commands.Series series)) ≡ Ok (Some (commands.Series series))
 unfolding printed
-meaning-series series is ranged =
+meaning-series series is ranged alone =
     let rest = series.name ∷ kind_name series.kind ∷ decimal series.from ∷ decimal series.to ∷ decimal series.step ∷ [] in
     let from = ranged.from in
     let to = ranged.to in
@@ -290,7 +325,7 @@ meaning-series series is ranged =
     ) in
     meaning-spaced (codes "series") rest (literal (codes "series") refl) all short refl
     ∙ rw (
-      kind_of-name series.kind,
+      kind_of-name series.kind alone,
       time_of-decimal series.from from,
       time_of-decimal series.to to,
       step_of-decimal series.from series.to series.step ranged.some step ranged.few,
@@ -310,14 +345,11 @@ added_of-name kinds.Count added = refl
 added_of-name kinds.Sum added = refl
 added_of-name kinds.Min added = cc
 added_of-name kinds.Max added = cc
+added_of-name (kinds.Has value) added = cc
 
 IsWord-end : (end : End) → IsWord (end_name end)
 IsWord-end ends.Lo = literal (codes "lo") refl
 IsWord-end ends.Hi = literal (codes "hi") refl
-
-length-end : (end : End) → length (end_name end) ≤ 2
-length-end ends.Lo = omega arith
-length-end ends.Hi = omega arith
 
 end_of-name : (end : End) → end_of (end_name end) ≡ Ok end
 end_of-name ends.Lo = refl
@@ -355,8 +387,8 @@ meaning-printed (commands.Do (Value name t v)) sayable = meaning-value name t v 
 meaning-printed (commands.Do (Open name t)) sayable = meaning-open name t sayable.0 sayable.1
 meaning-printed (commands.Do (Close name t)) sayable = meaning-close name t sayable.0 sayable.1
 meaning-printed (commands.Do (Drop name)) sayable = meaning-drop name sayable
-meaning-printed (commands.Ask query) sayable = meaning-query query.name query.kind query.from query.to sayable.0 sayable.1.0 sayable.1.1
-meaning-printed (commands.Series series) sayable = meaning-series series sayable.0 sayable.1
+meaning-printed (commands.Ask query) sayable = meaning-query query.name query.kind query.from query.to sayable.0 sayable.1.0 sayable.1.1 sayable.2
+meaning-printed (commands.Series series) sayable = meaning-series series sayable.0 sayable.1 sayable.2
 meaning-printed (commands.Windows name) sayable = meaning-windows name sayable
 meaning-printed (commands.Certify query end) sayable =
     meaning-certify query.name query.kind end query.from query.to sayable.0 sayable.1.0 sayable.1.1 sayable.2

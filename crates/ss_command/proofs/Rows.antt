@@ -108,6 +108,37 @@ means-queries_refused :
 unfolding meaning words is_number number_of number_up_to signed_of is_name
 means-queries_refused = refl
 
+means-has :
+    map meaning (codes "query a has 5 10 40" ∷ codes " query\ta has -0 00 4611686018427387904 " ∷ codes "query a has 007 5 4"
+    ∷ codes "query a has 9223372036854775807 1 2" ∷ codes "query a has -9223372036854775808 0 0" ∷ [])
+    ≡ Ok (Some (commands.Ask (record { name = codes "a"; kind = kinds.Has (pos 5); from = 10; to = 40 })))
+    ∷ Ok (Some (commands.Ask (record { name = codes "a"; kind = kinds.Has (pos 0); from = 0; to = 4611686018427387904 })))
+    ∷ Ok (Some (commands.Ask (record { name = codes "a"; kind = kinds.Has (pos 7); from = 5; to = 4 })))
+    ∷ Ok (Some (commands.Ask (record { name = codes "a"; kind = kinds.Has (pos 9223372036854775807); from = 1; to = 2 })))
+    ∷ Ok (Some (commands.Ask (record { name = codes "a"; kind = kinds.Has (negsuc 9223372036854775807); from = 0; to = 0 })))
+    ∷ []
+unfolding meaning words is_number number_of number_up_to signed_of is_name
+means-has = refl
+
+-- the order of the refusals; only a query takes a value, and only with `has`
+means-has_refused :
+    map meaning (codes "query x! has" ∷ codes "query x! has y" ∷ codes "query x! has y 2" ∷ codes "query x! has y 1 2 3" ∷ codes "query x! HAS y 1 2"
+    ∷ codes "query x! count y 1 2" ∷ codes "query x! max 5 1 2" ∷ codes "query x! 5 has 1 2" ∷ codes "series x! has y 2 1" ∷ codes "series x! has 5 1 2 1"
+    ∷ codes "certify x! has lo y 2" ∷ codes "certify x! has 5 lo 1 2" ∷ [])
+    ≡ map refused (refusals.Syntax ∷ refusals.Syntax ∷ refusals.Syntax ∷ refusals.Syntax ∷ refusals.Syntax ∷ refusals.Syntax ∷ refusals.Syntax
+    ∷ refusals.Syntax ∷ refusals.Syntax ∷ refusals.Syntax ∷ refusals.Syntax ∷ refusals.Syntax ∷ [])
+unfolding meaning words is_number number_of number_up_to signed_of is_name
+means-has_refused = refl
+
+means-has_numbers :
+    map meaning (codes "query x! has y 1 2" ∷ codes "query x! has 9223372036854775808 1 2" ∷ codes "query x! has -9223372036854775809 1 2"
+    ∷ codes "query x! has -5 y 2" ∷ codes "query x! has 5 -1 2" ∷ codes "query x! has 5 1 4611686018427387905"
+    ∷ codes "query a has +5 1 2" ∷ codes "query x! has -5 1 2" ∷ [])
+    ≡ map refused (refusals.Number ∷ refusals.Number ∷ refusals.Number ∷ refusals.Number ∷ refusals.Number ∷ refusals.Number ∷ refusals.Number
+    ∷ refusals.Name ∷ [])
+unfolding meaning words is_number number_of number_up_to signed_of is_name
+means-has_numbers = refl
+
 means-landmarks :
     map meaning (codes "landmark a open 80" ∷ codes " landmark a\tclose 0081 " ∷ codes "landmark a open 4611686018427387904" ∷ codes "landmark a close 0" ∷ [])
     ≡ Ok (Some (commands.Do (Open (codes "a") 80)))
@@ -166,6 +197,13 @@ printed-drop = refl
 printed-query : printed (commands.Ask (record { name = codes "a"; kind = kinds.Max; from = 45; to = 65 })) ≡ codes "query a max 45 65"
 unfolding printed digits
 printed-query = refl
+
+printed-has :
+    map printed (commands.Ask (record { name = codes "a"; kind = kinds.Has (pos 5); from = 45; to = 65 })
+    ∷ commands.Ask (record { name = codes "a"; kind = kinds.Has (negsuc 9223372036854775807); from = 0; to = 4611686018427387904 }) ∷ [])
+    ≡ codes "query a has 5 45 65" ∷ codes "query a has -9223372036854775808 0 4611686018427387904" ∷ []
+unfolding printed digits
+printed-has = refl
 
 -- no byte but a space and a tab stands between words
 words-other : map words ((97 ∷ 11 ∷ 98 ∷ []) ∷ (97 ∷ 12 ∷ 98 ∷ []) ∷ (97 ∷ 13 ∷ 98 ∷ []) ∷ (97 ∷ 0 ∷ 98 ∷ []) ∷ [])

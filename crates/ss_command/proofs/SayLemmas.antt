@@ -7,20 +7,21 @@ use Rattle.std.specs.Int.{w64}
 use Rattle.ss_fields.specs.Words.{as_negative, as_positive, number_up_to, signed_of}
 use Rattle.ss_fields.specs.declared.number_error.NumberError.{NumberError}
 use Rattle.ss_catalog.specs.Names.{is_name}
-use Rattle.ss_catalog.specs.Queries.{adds_up}
+use Rattle.ss_catalog.specs.Queries.{IsKindOfValues, adds_up}
 use Rattle.ss_catalog.specs.Series.{rows_in}
 use Rattle.ss_catalog.specs.declared.TheConstants.{LAST_TIME, MOST_ROWS}
 use Rattle.ss_catalog.specs.declared.event.Event.TheVariants.{Create, Value, Open, Close, Drop}
 use Rattle.ss_catalog.specs.declared.params.Params.TheVariants.{Exp, Power}
 use Rattle.ss_catalog.specs.declared.query.Kind.{Kind}
+use Rattle.ss_catalog.specs.declared.query.Kind.TheVariants as kinds
 use Rattle.ss_catalog.specs.declared.refusal.Refusal.{Refusal}
 use Rattle.ss_command.specs.declared.TheConstants.{LONGEST_LINE}
-use Rattle.ss_command.specs.Grammar.{◌>>=◌, added_of, append_of, certify_of, close_of, command_of, create_of, drop_of, end_of, exp_of, is_comment, landmark_of}
-use Rattle.ss_command.specs.Grammar.{list_of, meaning}
+use Rattle.ss_command.specs.Grammar.{◌>>=◌, added_of, append_of, certify_of, close_of, command_of, create_of, drop_of, end_of, exp_of, figure_of, has_of}
+use Rattle.ss_command.specs.Grammar.{is_comment, landmark_of, list_of, meaning}
 use Rattle.ss_command.specs.Grammar.{meaning_of_words, kind_of, name_of, open_of, or_number, parameter_of, power_of, query_of, series_of, step_of, time_of}
 use Rattle.ss_command.specs.Grammar.{value_of}
 use Rattle.ss_command.specs.Grammar.{windows_of}
-use Rattle.ss_command.specs.Printed.{IsSayable}
+use Rattle.ss_command.specs.Printed.{IsSayable, takes_value}
 use Rattle.ss_command.specs.Words.{is_word, words}
 use Rattle.ss_command.specs.declared.command.Command.{Command}
 use Rattle.ss_command.specs.declared.command.Command.TheVariants as commands
@@ -164,19 +165,51 @@ drop-sayable (name ∷ []) c same =
     subst IsSayable is (name-is name stream.0 stream.1)
 drop-sayable (name ∷ more ∷ rest) c same = cc
 
-query-sayable : (ws : List (List ℕ)) (c : Command) → query_of ws ≡ Ok c → IsSayable c
-query-sayable [] c same = cc
-query-sayable (name ∷ []) c same = cc
-query-sayable (name ∷ asked ∷ []) c same = cc
-query-sayable (name ∷ asked ∷ first ∷ []) c same = cc
-query-sayable (name ∷ asked ∷ first ∷ last ∷ []) c same =
+has-sayable : (name : List ℕ) (ws : List (List ℕ)) (c : Command) → has_of name ws ≡ Ok c → IsSayable c
+has-sayable name [] c same = cc
+has-sayable name (value ∷ []) c same = cc
+has-sayable name (value ∷ first ∷ []) c same = cc
+has-sayable name (value ∷ first ∷ last ∷ []) c same =
+    let v = bind-Ok (value_of value) _ c same in
+    let from = bind-Ok (time_of first) _ c v.2 in
+    let to = bind-Ok (time_of last) _ c from.2 in
+    let stream = bind-Ok (name_of name) _ c to.2 in
+    let is : commands.Ask (record { name = stream.0; kind = kinds.Has v.0; from = from.0; to = to.0 }) ≡ c = cc (stream.2) in
+    subst IsSayable is (name-is name stream.0 stream.1, (time-le first from.0 from.1, time-le last to.0 to.1), value-fits value v.0 v.1)
+has-sayable name (value ∷ first ∷ last ∷ more ∷ rest) c same = cc
+
+-- what a word alone asks for takes no value, so it fits
+kind-alone : (word : List ℕ) (kind : Kind) → kind_of word ≡ Ok kind → takes_value kind ≡ false
+kind-alone word kind same = grind arith
+
+alone-fits : (kind : Kind) → takes_value kind ≡ false → IsKindOfValues kind
+alone-fits kinds.Count alone = tt
+alone-fits kinds.Sum alone = tt
+alone-fits kinds.Min alone = tt
+alone-fits kinds.Max alone = tt
+alone-fits (kinds.Has value) alone = cc
+
+figure-sayable : (name asked : List ℕ) (ws : List (List ℕ)) (c : Command) → figure_of name asked ws ≡ Ok c → IsSayable c
+figure-sayable name asked [] c same = cc
+figure-sayable name asked (first ∷ []) c same = cc
+figure-sayable name asked (first ∷ last ∷ []) c same =
     let kind = bind-Ok (kind_of asked) _ c same in
     let from = bind-Ok (time_of first) _ c kind.2 in
     let to = bind-Ok (time_of last) _ c from.2 in
     let stream = bind-Ok (name_of name) _ c to.2 in
     let is : commands.Ask (record { name = stream.0; kind = kind.0; from = from.0; to = to.0 }) ≡ c = cc (stream.2) in
-    subst IsSayable is (name-is name stream.0 stream.1, (time-le first from.0 from.1, time-le last to.0 to.1))
-query-sayable (name ∷ asked ∷ first ∷ last ∷ more ∷ rest) c same = cc
+    subst IsSayable is (
+      name-is name stream.0 stream.1,
+      (time-le first from.0 from.1, time-le last to.0 to.1),
+      alone-fits kind.0 (kind-alone asked kind.0 kind.1),
+    )
+figure-sayable name asked (first ∷ last ∷ more ∷ rest) c same = cc
+
+query-sayable : (ws : List (List ℕ)) (c : Command) → query_of ws ≡ Ok c → IsSayable c
+query-sayable [] c same = cc
+query-sayable (name ∷ []) c same = cc
+query-sayable (name ∷ asked ∷ rest) c same =
+    choice (IsSayable c) (is_word asked (codes "has")) _ _ c (has-sayable name rest c) (figure-sayable name asked rest c) same
 
 -- a step that was read cuts its range into rows
 step-rows : (from to step : ℕ) (word : List ℕ) → step_of from to word ≡ Ok step →
@@ -203,6 +236,7 @@ series-sayable (name ∷ asked ∷ first ∷ last ∷ width ∷ []) c same =
     subst IsSayable is (
       name-is name stream.0 stream.1,
       record { from = time-le first from.0 from.1; to = time-le last to.0 to.1; some = rows.0; step = rows.1; few = rows.2 },
+      kind-alone asked kind.0 kind.1,
     )
 series-sayable (name ∷ asked ∷ first ∷ last ∷ width ∷ more ∷ rest) c same = cc
 

@@ -120,7 +120,7 @@ drop_of (name ∷ []) = do
   Ok (commands.Do (Drop stream))
 drop_of _ = Err refusals.Syntax
 
--- what is asked for: one of these words
+-- what is asked for of all values: one of these words
 abbrev pub kind_of : List ℕ → Result Kind Refusal
 kind_of word =
     if is_word word (codes "count") then Ok kinds.Count
@@ -129,14 +129,29 @@ kind_of word =
     else (if is_word word (codes "max") then Ok kinds.Max
     else Err refusals.Syntax)))
 
--- `query NAME count T1 T2`, from its name on; also with `sum`, `min` and `max`
-abbrev pub query_of : List (List ℕ) → Result Command Refusal
-query_of (name ∷ asked ∷ first ∷ last ∷ []) = do
+-- `query NAME has V T1 T2`, from V on
+abbrev pub has_of : List ℕ → List (List ℕ) → Result Command Refusal
+has_of name (value ∷ first ∷ last ∷ []) = do
+  v ← value_of value
+  from ← time_of first
+  to ← time_of last
+  stream ← name_of name
+  Ok (commands.Ask (record { name = stream; kind = kinds.Has v; from = from; to = to }))
+has_of name _ = Err refusals.Syntax
+
+-- `query NAME count T1 T2`, from T1 on; also with `sum`, `min` and `max`
+abbrev pub figure_of : List ℕ → List ℕ → List (List ℕ) → Result Command Refusal
+figure_of name asked (first ∷ last ∷ []) = do
   kind ← kind_of asked
   from ← time_of first
   to ← time_of last
   stream ← name_of name
   Ok (commands.Ask (record { name = stream; kind = kind; from = from; to = to }))
+figure_of name asked _ = Err refusals.Syntax
+
+-- a `query`, from its name on
+abbrev pub query_of : List (List ℕ) → Result Command Refusal
+query_of (name ∷ asked ∷ rest) = if is_word asked (codes "has") then has_of name rest else figure_of name asked rest
 query_of _ = Err refusals.Syntax
 
 -- `series NAME count T1 T2 STEP`, from its name on; also with `sum`, `min` and `max`

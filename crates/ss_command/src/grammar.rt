@@ -1,10 +1,10 @@
 // What a line means.
-ghost use Rattle.std.specs.Prelude.{◌≡◌, ◌≤◌, length, codes, true, IfOk, IfSome};
+ghost use Rattle.std.specs.Prelude.{◌≡◌, ◌≤◌, length, codes, true, false, IfOk, IfSome};
 ghost use Rattle.ss_catalog.specs.Queries.{adds_up};
-ghost use Rattle.ss_command.specs.Grammar.{added_of, append_of, certify_of, close_of, command_of, create_of, drop_of, end_of, exp_of, is_comment, kind_of};
-ghost use Rattle.ss_command.specs.Grammar.{landmark_of, list_of, meaning};
+ghost use Rattle.ss_command.specs.Grammar.{added_of, append_of, certify_of, close_of, command_of, create_of, drop_of, end_of, exp_of, figure_of};
+ghost use Rattle.ss_command.specs.Grammar.{has_of, is_comment, kind_of, landmark_of, list_of, meaning};
 ghost use Rattle.ss_command.specs.Grammar.{open_of, power_of, query_of, series_of, windows_of};
-ghost use Rattle.ss_command.specs.Printed.{IsCommandInTime, IsSayable};
+ghost use Rattle.ss_command.specs.Printed.{IsCommandInTime, IsSayable, takes_value};
 
 use crate::command::Command;
 use crate::numbers::{read_name, read_parameter, read_step, read_time, read_value};
@@ -128,9 +128,10 @@ fn drop(mut words: Words) -> Result<Command, Refusal>
     Ok(Command::Do(Event::Drop { name }))
 }
 
-// What is asked for.
+// What is asked for of all values.
 fn kind(word: &[u8]) -> Result<Kind, Refusal>
-    ensures { result ≡ kind_of word.now }
+    ensures value { result ≡ kind_of word.now }
+    ensures alone { IfOk result (λ kind. takes_value kind ≡ false) }
 {
     if is_word(word, "count") {
         Ok(Kind::Count)
@@ -145,13 +146,33 @@ fn kind(word: &[u8]) -> Result<Kind, Refusal>
     }
 }
 
-// Reads `query NAME count T1 T2` and its like, from its name on.
-fn query(mut words: Words) -> Result<Command, Refusal>
-    ensures meaning { result ≡ query_of words.entry }
+// Reads `query NAME has V T1 T2`, from V on.
+fn has(name: &[u8], mut words: Words) -> Result<Command, Refusal>
+    ensures meaning { result ≡ has_of name.now words.entry }
     ensures time { IfOk result IsCommandInTime }
 {
-    let name = words.word()?;
-    let asked = words.word()?;
+    let value = words.word()?;
+    let first = words.word()?;
+    let last = words.word()?;
+    words.end()?;
+    let value = read_value(value)?;
+    let from = read_time(first)?;
+    let to = read_time(last)?;
+    let name = read_name(name)?;
+    let kind = Kind::Has { value };
+    Ok(Command::Ask(Query {
+        name,
+        kind,
+        from,
+        to,
+    }))
+}
+
+// Reads `query NAME count T1 T2` and its like, from T1 on.
+fn figure(name: &[u8], asked: &[u8], mut words: Words) -> Result<Command, Refusal>
+    ensures meaning { result ≡ figure_of name.now asked.now words.entry }
+    ensures time { IfOk result IsCommandInTime }
+{
     let first = words.word()?;
     let last = words.word()?;
     words.end()?;
@@ -165,6 +186,20 @@ fn query(mut words: Words) -> Result<Command, Refusal>
         from,
         to,
     }))
+}
+
+// Reads a `query`, from its name on.
+fn query(mut words: Words) -> Result<Command, Refusal>
+    ensures meaning { result ≡ query_of words.entry }
+    ensures time { IfOk result IsCommandInTime }
+{
+    let name = words.word()?;
+    let asked = words.word()?;
+    if is_word(asked, "has") {
+        has(name, words)
+    } else {
+        figure(name, asked, words)
+    }
 }
 
 // Reads `series NAME count T1 T2 STEP` and its like, from its name on.

@@ -1,14 +1,14 @@
 // How a command is printed.
-ghost use Rattle.std.specs.Prelude.{◌≡◌, [], true, Ok, Some};
+ghost use Rattle.std.specs.Prelude.{◌≡◌, [], true, false, Ok, Some};
 ghost use Rattle.ss_catalog.specs.Events.{IsInTime};
 ghost use Rattle.ss_catalog.specs.Queries.{IsQueryInTime, adds_up};
 ghost use Rattle.ss_catalog.specs.Series.{IsSeriesInRange};
 ghost use Rattle.ss_command.specs.Grammar.{meaning};
-ghost use Rattle.ss_command.specs.Printed.{IsCommandInTime, IsSayable, printed};
+ghost use Rattle.ss_command.specs.Printed.{IsCommandInTime, IsSayable, printed, takes_value};
 ghost use Rattle.ss_command.specs.declared.command.Command.TheVariants as commands;
 
 use crate::command::Command;
-use crate::put::{put_end, put_kind, put_name, put_number, put_target, put_value};
+use crate::put::{put_asked, put_end, put_kind, put_name, put_number, put_target, put_value};
 use arrayvec::ArrayString;
 use ss_catalog::{End, Event, Query, Series};
 
@@ -59,7 +59,7 @@ fn print_query(query: &Query, out: &mut ArrayString<256>)
 {
     out.push_str("query");
     put_name(&query.name, out);
-    put_kind(query.kind, out);
+    put_asked(query.kind, out);
     put_number(query.from, out);
     put_number(query.to, out);
 }
@@ -68,6 +68,7 @@ fn print_query(query: &Query, out: &mut ArrayString<256>)
 fn print_series(series: &Series, out: &mut ArrayString<256>)
     requires empty { out.old.bytes ≡ [] }
     requires range { IsSeriesInRange series.now }
+    requires alone { takes_value series.now.kind ≡ false }
     ensures text { out.new.bytes ≡ printed (commands.Series series.now) }
     ensures sayable { IsSayable (commands.Series series.now) }
 {

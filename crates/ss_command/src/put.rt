@@ -2,8 +2,8 @@
 ghost use Rattle.std.specs.Prelude.{◌≡◌, ◌≤◌, ◌+◌, length, true};
 ghost use Rattle.std.specs.Fmt.{decimal, signed_decimal};
 ghost use Rattle.ss_catalog.specs.Names.{is_name};
-ghost use Rattle.ss_catalog.specs.Queries.{end_name, kind_name};
-ghost use Rattle.ss_command.specs.Printed.{HasParameters, spaced, target_words, with_word};
+ghost use Rattle.ss_catalog.specs.Queries.{IsKindOfValues, end_name, kind_name};
+ghost use Rattle.ss_command.specs.Printed.{HasParameters, kind_words, spaced, target_words, with_word};
 
 use arrayvec::ArrayString;
 use ss_catalog::{End, Kind, Name, Params};
@@ -28,6 +28,20 @@ pub fn put_kind(kind: Kind, out: &mut ArrayString<256>)
 {
     out.push_str(" ");
     out.push_str(kind.text());
+}
+
+/// Adds the words that say what is asked for, with a space before each.
+pub fn put_asked(kind: Kind, out: &mut ArrayString<256>)
+    requires { length out.old.bytes + 47 ≤ 256 }
+    ensures bytes { out.new.bytes ≡ spaced out.old.bytes (kind_words kind) }
+    ensures short { length out.new.bytes ≤ length out.old.bytes + 27 }
+    ensures value { IsKindOfValues kind }
+{
+    put_kind(kind, out);
+    match kind {
+        Kind::Has { value } => put_value(value, out),
+        Kind::Count | Kind::Sum | Kind::Min | Kind::Max => {}
+    }
 }
 
 /// Adds a space and the name of an end.

@@ -4,7 +4,6 @@ use Rattle.std.proofs.Common.{
   codes,
   ◌≡◌,
   ℕ,
-  ◌+◌,
   ◌<◌,
   Bool,
   ◌++◌,
@@ -13,7 +12,6 @@ use Rattle.std.proofs.Common.{
   [],
   ◌∷◌,
   length,
-  take,
   Option,
   Some,
   None,
@@ -47,6 +45,7 @@ use Rattle.ss_command.specs.declared.TheConstants.{LONGEST_LINE}
 use Rattle.ss_command.specs.declared.command.Command.{Command}
 use Rattle.ss_command.specs.declared.command.Command.TheVariants.{Do, Ask, Certify, Series as AskRows, Windows, List as ListAll}
 use Rattle.ss_catalog.specs.Events.{event_name}
+use Rattle.ss_model.specs.History.{added}
 use Rattle.ss_model.proofs.AnswerLemmas.{answer-known}
 use Rattle.ss_model.specs.Answers.{outcome_of, refuses_query}
 use Rattle.ss_model.specs.Steps.{ack_of}
@@ -337,7 +336,7 @@ Replies-stopped tells brought held InputLimit stop event some = absurd stop
 pub event-some : (history : History) (event : Event) (refusal : Option Refusal) → IsSome (unless_refused refusal (accepted_event history event)).event →
     0 < length (text_brought (unless_refused refusal (accepted_event history event)))
 event-some history event None some =
-    let reply = AckLine (ack_of (event_name event) (state (history ++ event ∷ []))) in
+    let reply = AckLine (ack_of (event_name event) (state (history ++ added event ∷ []))) in
     omega (arith, reply_line-some reply, length-append (reply_line reply) [])
 event-some history event (Some r) some = cc
 
@@ -386,12 +385,12 @@ Adds-none history brought disk result none knows = Adds-reads history brought di
 -- an event that the store applied, or not
 pub Adds-applied : {T : Type 0} (history : History) (event : Event) (old new : Told) (result : Result T Status) →
     (Stands history old.content → refuses (state history) event ≡ None) →
-    Turns (Stands history) (StandsForEither history event) (Stands (history ++ event ∷ [])) old new result →
+    Turns (Stands history) (StandsForEither history event) (Stands (history ++ added event ∷ [])) old new result →
     Adds history (command_brings history (Do event)) old new result
 Adds-applied history event old new result accepted turns =
     let brought = command_brings history (Do event) in
     let after = λ (has : Stands history old.content). ap (λ (b : Brought). history_after history b) (sym (brings-accepted history event (accepted has))) in
-    Turns-weaker (Stands history) (Stands history) (StandsForEither history event) (StandsAround history brought) (Stands (history ++ event ∷ []))
+    Turns-weaker (Stands history) (Stands history) (StandsForEither history event) (StandsAround history brought) (Stands (history ++ added event ∷ []))
     (Stands (history_after history brought)) old new result (λ has. has)
     (λ has image either. ⊎_elim (λ is. inl is) (λ is. inr (subst (λ h. Stands h image) (after has) is)) either)
     (λ has image is. subst (λ h. Stands h image) (after has) is) turns

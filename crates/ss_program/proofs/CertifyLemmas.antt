@@ -15,7 +15,6 @@ use Rattle.ss_certify.specs.Called.{ChecksEvidence, evidence_in}
 use Rattle.ss_certify.specs.Evidence.{IsEvidence}
 use Rattle.ss_certify.specs.Made.{evidence_of}
 use Rattle.ss_certify.specs.Told.{head_of, three_runs, side_of, told}
-use Rattle.ss_certify.specs.declared.evidence.Cert.{Cert}
 use Rattle.ss_certify.specs.declared.evidence.Evidence.{Evidence}
 use Rattle.ss_command.specs.declared.command.Command.TheVariants.{Certify}
 use Rattle.ss_model.specs.Answers.{refuses_query}
@@ -30,7 +29,6 @@ use Rattle.ss_query.specs.Asked.{seen_of}
 use Rattle.ss_records.specs.Kept.{RecordsState, shown_by}
 use Rattle.ss_report.specs.Text.{reply_line}
 use Rattle.ss_report.specs.declared.reply.Reply.{Reply}
-use Rattle.ss_report.specs.declared.reply.Reply.TheVariants.{Refused}
 use Rattle.ss_store.specs.Kept.{StoreState}
 use Rattle.ss_store.specs.Recover.{Recovers}
 use Rattle.ss_store.proofs.KeptStates.{Recovers-StoreIsIn}
@@ -62,21 +60,21 @@ some-mapped f (Some a) known = (f a, refl)
 pub evidence-known : (streams : List Stream) (query : Query) (end : End) → refuses_query streams query ≡ None →
     (w : Evidence) × (evidence_in streams query end ≡ Some w)
 evidence-known streams query end none =
-    some-mapped (λ s. evidence_of query.kind end (seen_of query.from query.to s)) (stream_named query.name streams) (query-stands streams query none)
+    some-mapped (λ s. evidence_of query.kind end (seen_of query.kind query.from query.to s)) (stream_named query.name streams) (query-stands streams query none)
 
 -- and that is right
 pub evidence-right : (streams : List Stream) (query : Query) (end : End) (w : Evidence) → IsState streams → adds_up query.kind ≡ true →
     evidence_in streams query end ≡ Some w →
-    (s : Stream) × (stream_named query.name streams ≡ Some s) × IsStream s × IsEvidence query.kind end (seen_of query.from query.to s) w
+    (s : Stream) × (stream_named query.name streams ≡ Some s) × IsStream s × IsEvidence query.kind end (seen_of query.kind query.from query.to s) w
 evidence-right streams query end w is adds has =
-    let found = mapped (λ s. evidence_of query.kind end (seen_of query.from query.to s)) (stream_named query.name streams) w has in
+    let found = mapped (λ s. evidence_of query.kind end (seen_of query.kind query.from query.to s)) (stream_named query.name streams) w has in
     let sound = All-named IsStream query.name streams found.0 is.each found.1 in
-    let seen = seen_of query.from query.to found.0 in (
+    let seen = seen_of query.kind query.from query.to found.0 in (
       found.0,
       found.1,
       sound,
       subst (λ e. IsEvidence query.kind end seen e) found.2
-          (IsEvidence-evidence_of query.kind end seen adds (HasCuts-seen_of query.from query.to found.0 sound)),
+          (IsEvidence-evidence_of query.kind end seen adds (HasCuts-seen_of query.kind query.from query.to found.0 sound)),
     )
 
 -- where nothing is staged the content is what is shown
@@ -94,7 +92,7 @@ never-wrong store disk query end w new opens adds made checks told =
     let recovers = Recovers-StoreIsIn store content kept in
     let right = evidence-right kept.streams query end w kept.state adds (made told kept.streams recovers) in
     let checked = (checks told).checked kept.streams (Recovers-only_replies store.records content kept.streams opens.sealed recovers) in
-    let found : IsTrue false ↔ IsEvidence query.kind end (seen_of query.from query.to right.0) w = rw right.1 at checked in
+    let found : IsTrue false ↔ IsEvidence query.kind end (seen_of query.kind query.from query.to right.0) w = rw right.1 at checked in
     let wrong : false ≡ true = found.1 right.3 in
     cc
 

@@ -1,11 +1,10 @@
 -- Worked rows of certificates, each computed from a history.
 use Rattle.std.proofs.Common.{◌≡◌, ◌++◌, [], ◌∷◌, refl}
-use Rattle.std.specs.Prelude.{ℕ, List, Some, Ok, codes, pos, negsuc, flat_map}
+use Rattle.std.specs.Prelude.{ℕ, List, Some, Ok, codes, map, pos, negsuc, flat_map}
 use Rattle.std.specs.Fmt.{digits}
 use Rattle.ss_bounds.specs.Attained.{greatest_sum_at, least_sum_at}
 use Rattle.ss_bounds.specs.Split.{sum_interval}
 use Rattle.ss_catalog.specs.Names.{is_name}
-use Rattle.ss_catalog.specs.declared.event.Event.{Event}
 use Rattle.ss_catalog.specs.declared.event.Event.TheVariants.{Create, Value}
 use Rattle.ss_catalog.specs.declared.params.Params.TheVariants.{Exp}
 use Rattle.ss_certify.specs.Fill.{fill}
@@ -20,6 +19,7 @@ use Rattle.ss_command.specs.Words.{words}
 use Rattle.ss_fields.specs.Words.{is_number, number_of, number_up_to, signed_of}
 use Rattle.ss_contents.specs.Attained.{IsTruthOfLike}
 use Rattle.ss_contents.specs.Contents.{contents_of}
+use Rattle.ss_model.specs.History.{Happened, added}
 use Rattle.ss_model.specs.Answers.{outcome_of, refuses_query}
 use Rattle.ss_model.specs.State.{Stream, state, stream_named}
 use Rattle.ss_outside.specs.Crash.{OnlyReads}
@@ -36,10 +36,10 @@ abbrev text : List (List ℕ) → List ℕ
 text ls = flat_map (λ line. line ++ 10 ∷ []) ls
 
 -- seven readings
-abbrev readings : List Event
-readings =
+abbrev readings : List Happened
+readings = map added (
     Create (codes "a") (Exp 2 1 1) ∷ Value (codes "a") 10 (pos 5) ∷ Value (codes "a") 20 (negsuc 2) ∷ Value (codes "a") 30 (pos 8)
-    ∷ Value (codes "a") 40 (pos 1) ∷ Value (codes "a") 50 (pos 9) ∷ Value (codes "a") 60 (pos 2) ∷ Value (codes "a") 70 (pos 7) ∷ []
+    ∷ Value (codes "a") 40 (pos 1) ∷ Value (codes "a") 50 (pos 9) ∷ Value (codes "a") 60 (pos 2) ∷ Value (codes "a") 70 (pos 7) ∷ [])
 
 -- ranges that split one window, two windows and none, and each refusal
 abbrev certifies : List ℕ
@@ -77,7 +77,7 @@ module _ (history : History) (query : Query) (end : End) (w : Evidence) (sharp :
   sharp-named : stream_named query.name (state history) ≡ Some sharp.stream
   sharp-named = sharp.named
 
-  sharp-evidence : IsEvidence query.kind end (seen_of query.from query.to sharp.stream) w
+  sharp-evidence : IsEvidence query.kind end (seen_of query.kind query.from query.to sharp.stream) w
   sharp-evidence = sharp.evidence
 
   sharp-attained : IsTruthOfLike (contents_of history sharp.stream) query w.answer

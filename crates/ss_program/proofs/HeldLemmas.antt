@@ -35,6 +35,7 @@ use Rattle.std.proofs.lemmas.List.{length-append, length-take-le, take-append-le
 use Rattle.ss_catalog.specs.declared.event.Event.{Event}
 use Rattle.ss_report.specs.Text.{reply_line}
 use Rattle.ss_store.specs.Recover.{Stands}
+use Rattle.ss_model.specs.History.{Happened}
 use Rattle.ss_program.specs.Held.{StandsForFirst, acks}
 use Rattle.ss_program.specs.Line.{History, brings, line_text, the_event}
 use Rattle.ss_program.specs.Progress.{StandsWithin}
@@ -66,7 +67,7 @@ few-events history done others =
     omega (
       arith,
       length-append (accepted history done) (accepted (after_lines history done) others),
-      ap (λ (es : List Event). length es)
+      ap (λ (es : List Happened). length es)
           (accepted-append history done others),
     )
 

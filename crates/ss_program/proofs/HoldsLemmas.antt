@@ -31,6 +31,7 @@ use Rattle.ss_catalog.specs.declared.event.Event.{Event}
 use Rattle.ss_command.specs.Lines.{lines}
 use Rattle.ss_outside.specs.Disk.{Told}
 use Rattle.ss_store.specs.Recover.{Stands}
+use Rattle.ss_model.specs.History.{Happened}
 use Rattle.ss_program.specs.Held.{HoldsAcked, HoldsShared}
 use Rattle.ss_program.specs.Line.{Brought, History, brings, history_after, text_brought, the_event}
 use Rattle.ss_program.specs.Outcome.{HoldsBy, HoldsReported, lines_within}
@@ -187,7 +188,7 @@ HoldsAcked-around history done others line k bytes status image cuts is going (i
     let ls = done ++ line ∷ [] in
     let are : ls ++ others ≡ done ++ line ∷ others = append_assoc done (line ∷ []) others in
     let event = the_event (brings (after_lines history done) line).event in
-    let more = ap (λ (es : List Event). length es) (accepted-append history done (line ∷ [])) in
+    let more = ap (λ (es : List Happened). length es) (accepted-append history done (line ∷ [])) in
     record {
       j = length (accepted history ls);
       stands = subst (λ h. Stands h image)

@@ -1,10 +1,12 @@
 -- What a session makes of a history: another one, over which its queries are answered.
-use Rattle.std.proofs.Common.{◌≡◌, ◌∙◌, ◌++◌, List, [], ◌∷◌, ℕ, map, Option, Some, None, IsSome, true, Result, Ok, Err, refl, sym, ap, subst}
+use Rattle.std.proofs.Common.{◌≡◌, ◌∙◌, ◌++◌, List, [], ◌∷◌, ℕ, ℤ, map, Option, Some, None, IsSome, true, Result, Ok, Err, refl, sym, ap, subst}
 use Rattle.std.proofs.lemmas.List.{append-nil}
 use Rattle.ss_catalog.specs.declared.event.Event.{Event}
 use Rattle.ss_catalog.specs.declared.event.Event.TheVariants.{Create, Value, Open, Close, Drop}
 use Rattle.ss_catalog.specs.Queries.{adds_up}
 use Rattle.ss_catalog.specs.declared.query.End.{End}
+use Rattle.ss_catalog.specs.declared.query.Kind.{Kind}
+use Rattle.ss_catalog.specs.declared.query.Kind.TheVariants as kinds
 use Rattle.ss_catalog.specs.declared.query.Query.{Query}
 use Rattle.ss_catalog.specs.declared.refusal.Refusal.{Refusal}
 use Rattle.ss_catalog.specs.declared.series.Series.{Series}
@@ -18,15 +20,18 @@ use Rattle.ss_command.specs.Grammar.{meaning}
 use Rattle.ss_command.specs.Printed.{IsSayable}
 use Rattle.ss_command.specs.declared.command.Command.{Command}
 use Rattle.ss_command.specs.declared.command.Command.TheVariants.{Do, Ask, Certify, Series as AskRows, Windows, List as ListAll}
-use Rattle.ss_model.proofs.AnswerLemmas.{answer-holds, answer-known}
+use Rattle.ss_model.proofs.AnswerLemmas.{answer-holds, answer-kind, answer-known}
 use Rattle.ss_model.proofs.HistoryLemmas.{IsHistory_push, IsState-state}
 use Rattle.ss_model.proofs.RowLemmas.{row-answered}
-use Rattle.ss_model.specs.Answers.{HoldsTruth, outcome_of, refuses_query}
-use Rattle.ss_model.specs.History.{CanBeSaid, marked_of, values_of}
+use Rattle.ss_model.specs.Answers.{HoldsPresence, HoldsTruth, IsOfKind, outcome_of, refuses_query}
+use Rattle.ss_model.specs.History.{CanBeSaid, added, marked_of, values_of}
 use Rattle.ss_model.specs.Refusals.{IsHistory, refuses}
 use Rattle.ss_model.specs.Series.{AnswersRow, refuses_series}
 use Rattle.ss_model.specs.State.{state}
+use Rattle.ss_model.specs.Truth.{true_presence}
 use Rattle.ss_model.specs.declared.outcome.Outcome.{Outcome}
+use Rattle.ss_model.specs.declared.outcome.Outcome.TheVariants.{Count, Sum, Min, Max, Has}
+use Rattle.ss_model.specs.declared.outcome.Presence.{Presence}
 use Rattle.ss_report.specs.declared.reply.Reply.{Reply}
 use Rattle.ss_report.specs.declared.reply.Reply.TheVariants.{Answered, SeriesHead, Row}
 use Rattle.ss_program.specs.Certifying.{IsSharp}
@@ -63,7 +68,7 @@ still history brought none whole = subst (λ h. IsHistory h) (sym (history-still
 
 event-leaves : (history : History) (event : Event) (refusal : Option Refusal) → refuses (state history) event ≡ refusal → CanBeSaid event →
     IsHistory history → IsHistory (history_after history (unless_refused refusal (accepted_event history event)))
-event-leaves history event None none said whole = IsHistory_push history event (record { before = whole; said = said; accepted = none })
+event-leaves history event None none said whole = IsHistory_push history (added event) (record { before = whole; said = said; accepted = none })
 event-leaves history event (Some refusal) is said whole = still history (refused refusal) refl whole
 
 command-leaves : (history : History) (command : Command) → IsSayable command → IsHistory history →
@@ -107,6 +112,35 @@ answered-line history line query whole means none =
     let it = answered-query history query (outcome_of (state history) query) whole none refl (answer-known (state history) query none) in
     (it.0, ap (λ m. meaning_brings history m) means ∙ it.1, it.2)
 
+-- what is answered to whether a value is there
+presence-of_kind : (kind : Kind) (value : ℤ) (outcome : Outcome) → kind ≡ kinds.Has value → IsOfKind kind outcome →
+    (presence : Presence) × (outcome ≡ Has presence)
+presence-of_kind kind value (Count lo hi) asked of = cc
+presence-of_kind kind value (Sum lo hi) asked of = cc
+presence-of_kind kind value (Min extreme) asked of = cc
+presence-of_kind kind value (Max extreme) asked of = cc
+presence-of_kind kind value (Has presence) asked of = (presence, refl)
+
+some-outcome : (o : Option Outcome) → IsSome o → (outcome : Outcome) × (o ≡ Some outcome)
+some-outcome None some = cc
+some-outcome (Some outcome) some = (outcome, refl)
+
+pub presence-line : (history : History) (line : List ℕ) (query : Query) (value : ℤ) → IsHistory history → meaning line ≡ Ok (Some (Ask query)) →
+    query.kind ≡ kinds.Has value → refuses_query (state history) query ≡ None →
+    (presence : Presence) × (brings history line ≡ only_replies (Answered (Has presence) ∷ []))
+    × HoldsPresence presence (true_presence value query.from query.to (values_of history query.name) (marked_of history query.name))
+presence-line history line query value whole means asked none =
+    let answered = some-outcome (outcome_of (state history) query) (answer-known (state history) query none) in
+    let it = presence-of_kind query.kind value answered.0 asked (answer-kind (state history) query answered.0 answered.1) in
+    let is : outcome_of (state history) query ≡ Some (Has it.0) = answered.1 ∙ ap Some it.1 in
+    let holds = answer-holds history query (Has it.0) whole is in
+    let both : kinds.Has holds.0 ≡ kinds.Has value = sym holds.1 ∙ asked in
+    let same : holds.0 ≡ value = cc in (
+      it.0,
+      ap (λ m. meaning_brings history m) means ∙ brings-answer_replies history query (Has it.0) none is,
+      subst (λ v. HoldsPresence it.0 (true_presence v query.from query.to (values_of history query.name) (marked_of history query.name))) same holds.2,
+    )
+
 -- and so does a series, row by row
 pub answered-series : (history : History) (line : List ℕ) (series : Series) → IsHistory history → meaning line ≡ Ok (Some (AskRows series)) →
     refuses_series (state history) series ≡ None →
@@ -137,10 +171,6 @@ sharp-evidence history query end w outcome whole adds has answered =
       answered = answered;
       asked = end_asked-answer streams query right.0 end w right.1 right.3 right.2 outcome answered;
     }
-
-some-outcome : (o : Option Outcome) → IsSome o → (outcome : Outcome) × (o ≡ Some outcome)
-some-outcome None some = cc
-some-outcome (Some outcome) some = (outcome, refl)
 
 -- and a line that asks for it brings its lines
 pub certified-line : (history : History) (line : List ℕ) (query : Query) (end : End) → IsHistory history → meaning line ≡ Ok (Some (Certify query end)) →

@@ -27,3 +27,4 @@ pub mod SharedStaging
 pub mod SharedInput
 pub mod SeriesRows
 pub mod CertifyRows
+pub mod PresenceRows

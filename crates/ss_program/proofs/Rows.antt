@@ -3,7 +3,6 @@ use Rattle.std.proofs.Common.{◌≡◌, ◌^◌, ◌++◌, [], ◌∷◌, refl}
 use Rattle.std.specs.Prelude.{ℕ, List, Some, None, codes, map, pos, negsuc, flat_map}
 use Rattle.std.specs.Fmt.{digits}
 use Rattle.ss_catalog.specs.Names.{is_name}
-use Rattle.ss_catalog.specs.declared.event.Event.{Event}
 use Rattle.ss_catalog.specs.declared.event.Event.TheVariants.{Create, Value, Drop}
 use Rattle.ss_catalog.specs.declared.params.Params.TheVariants.{Exp}
 use Rattle.ss_catalog.specs.declared.refusal.Refusal.TheVariants as refusal
@@ -12,6 +11,7 @@ use Rattle.ss_command.specs.Lines.{ended_lines, lines, unended}
 use Rattle.ss_command.specs.Words.{words}
 use Rattle.ss_fields.specs.Words.{is_number, number_of, number_up_to, signed_of}
 use Rattle.ss_bounds.specs.Split.{sum_interval}
+use Rattle.ss_model.specs.History.{Happened, added}
 use Rattle.ss_model.specs.Answers.{outcome_of, refuses_query}
 use Rattle.ss_model.specs.Refusals.{refuses, refuses_reading}
 use Rattle.ss_model.specs.State.{state}
@@ -65,10 +65,10 @@ unfolding ended_lines unended meaning words is_number number_of number_up_to sig
 report-readings = refl
 
 -- their events
-abbrev history : List Event
-history =
+abbrev history : List Happened
+history = map added (
     Create (codes "a") (Exp 2 1 1) ∷ Value (codes "a") 10 (pos 5) ∷ Value (codes "a") 20 (negsuc 2) ∷ Value (codes "a") 30 (pos 8)
-    ∷ Value (codes "a") 40 (pos 1) ∷ Value (codes "a") 50 (pos 9) ∷ Value (codes "a") 60 (pos 2) ∷ Value (codes "a") 70 (pos 7) ∷ []
+    ∷ Value (codes "a") 40 (pos 1) ∷ Value (codes "a") 50 (pos 9) ∷ Value (codes "a") 60 (pos 2) ∷ Value (codes "a") 70 (pos 7) ∷ [])
 
 accepted-readings : accepted [] (lines readings) ≡ history
 unfolding ended_lines unended meaning words is_number number_of number_up_to signed_of is_name state refuses refuses_reading window_index
@@ -87,7 +87,7 @@ report-mistakes : report history mistakes
 unfolding ended_lines unended meaning words is_number number_of number_up_to signed_of is_name state refuses refuses_reading window_index digits
 report-mistakes = refl
 
-after_lines-mistakes : after_lines history (lines mistakes) ≡ history ++ Create (codes "b") (Exp 2 1 4) ∷ Value (codes "a") 80 (negsuc 0) ∷ []
+after_lines-mistakes : after_lines history (lines mistakes) ≡ history ++ map added (Create (codes "b") (Exp 2 1 4) ∷ Value (codes "a") 80 (negsuc 0) ∷ [])
 unfolding ended_lines unended meaning words is_number number_of number_up_to signed_of is_name state refuses refuses_reading window_index
 after_lines-mistakes = refl
 
@@ -104,7 +104,7 @@ unfolding ended_lines unended meaning words is_number number_of number_up_to sig
     window_index digits
 report-drops = refl
 
-accepted-drops : accepted history (lines drops) ≡ Drop (codes "a") ∷ Create (codes "a") (Exp 2 1 1) ∷ Value (codes "a") 5 (pos 1) ∷ []
+accepted-drops : accepted history (lines drops) ≡ map added (Drop (codes "a") ∷ Create (codes "a") (Exp 2 1 1) ∷ Value (codes "a") 5 (pos 1) ∷ [])
 unfolding ended_lines unended meaning words is_number number_of number_up_to signed_of is_name state refuses refuses_query refuses_reading outcome_of
     window_index
 accepted-drops = refl

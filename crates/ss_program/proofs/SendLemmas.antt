@@ -35,7 +35,7 @@ use Rattle.std.proofs.lemmas.Bool.{cases_lt}
 use Rattle.std.proofs.lemmas.List.{append-nil, length-append, take-append-le}
 use Rattle.ss_outside.specs.Sink.{Appends}
 use Rattle.ss_outside.specs.declared.source.Failed.{Failed}
-use Rattle.ss_program.specs.Sent.{appended, AppendsFront, AppendsLess, Puts, SaysLine, Sends}
+use Rattle.ss_program.specs.Sent.{appended, AppendsFront, AppendsLess, Puts, SaysLine}
 
 appends : (held after : Option (List ℕ)) (piece : List ℕ) (k : ℕ) → Appends held after (Ok k) piece → after ≡ appended held (take k piece)
 appends None after piece k is = is

@@ -1,11 +1,10 @@
 -- Worked rows of series, each computed from a history.
 use Rattle.std.proofs.Common.{◌≡◌, ◌++◌, [], ◌∷◌, refl}
-use Rattle.std.specs.Prelude.{ℕ, List, Some, Ok, codes, pos, negsuc, flat_map}
+use Rattle.std.specs.Prelude.{ℕ, List, Some, Ok, codes, map, pos, negsuc, flat_map}
 use Rattle.std.specs.Fmt.{digits}
 use Rattle.ss_bounds.specs.Split.{sum_interval}
 use Rattle.ss_catalog.specs.Names.{is_name}
 use Rattle.ss_catalog.specs.Series.{numbers_from}
-use Rattle.ss_catalog.specs.declared.event.Event.{Event}
 use Rattle.ss_catalog.specs.declared.event.Event.TheVariants.{Create, Value}
 use Rattle.ss_catalog.specs.declared.params.Params.TheVariants.{Exp}
 use Rattle.ss_catalog.specs.declared.query.Query.{Query}
@@ -13,6 +12,7 @@ use Rattle.ss_command.specs.Grammar.{meaning}
 use Rattle.ss_command.specs.Lines.{ended_lines, lines, unended}
 use Rattle.ss_command.specs.Words.{words}
 use Rattle.ss_fields.specs.Words.{is_number, number_of, number_up_to, signed_of}
+use Rattle.ss_model.specs.History.{Happened, added}
 use Rattle.ss_model.specs.Answers.{outcome_of, refuses_query}
 use Rattle.ss_model.specs.State.{state}
 use Rattle.ss_model.specs.declared.outcome.Outcome.{Outcome}
@@ -29,10 +29,10 @@ abbrev text : List (List ℕ) → List ℕ
 text ls = flat_map (λ line. line ++ 10 ∷ []) ls
 
 -- seven readings
-abbrev readings : List Event
-readings =
+abbrev readings : List Happened
+readings = map added (
     Create (codes "a") (Exp 2 1 1) ∷ Value (codes "a") 10 (pos 5) ∷ Value (codes "a") 20 (negsuc 2) ∷ Value (codes "a") 30 (pos 8)
-    ∷ Value (codes "a") 40 (pos 1) ∷ Value (codes "a") 50 (pos 9) ∷ Value (codes "a") 60 (pos 2) ∷ Value (codes "a") 70 (pos 7) ∷ []
+    ∷ Value (codes "a") 40 (pos 1) ∷ Value (codes "a") 50 (pos 9) ∷ Value (codes "a") 60 (pos 2) ∷ Value (codes "a") 70 (pos 7) ∷ [])
 
 -- rows that split a window, rows that split none and one without a value, rows of one time, and each refusal of a series
 abbrev series : List ℕ

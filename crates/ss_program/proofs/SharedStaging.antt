@@ -8,6 +8,7 @@ use Rattle.ss_catalog.specs.declared.refusal.Refusal.{Refusal}
 use Rattle.ss_command.specs.declared.command.Command.TheVariants.{Ask, Do}
 use Rattle.ss_journal.proofs.TearLemmas.{on_ok}
 use Rattle.ss_journal.specs.Kept.{shown}
+use Rattle.ss_model.specs.History.{added}
 use Rattle.ss_model.specs.Refusals.{refuses}
 use Rattle.ss_model.specs.State.{state}
 use Rattle.ss_model.specs.declared.types.Ack.{Ack}
@@ -42,7 +43,7 @@ module _ (was is : RecordsState) (history : History) (old new : Told) where
   -- an event that was staged, or not, where it isn't refused
   pub Turns-staged : {T S E F : Type 0} (event : Event) (step : Result T E) (result : Result S F) → ((X : Type 0) → OnOk step X → OnOk result X) →
       (Stands history (shown_by was old.content) → refuses (state history) event ≡ None) →
-      TurnsHistory was is history (StandsForEither history event) (history ++ event ∷ []) old new step →
+      TurnsHistory was is history (StandsForEither history event) (history ++ added event ∷ []) old new step →
       TurnsHistory was is history (StandsAround history (command_brings history (Do event))) (history_after history (command_brings history (Do event)))
       old new result
   Turns-staged event step result keeps accepted turns =

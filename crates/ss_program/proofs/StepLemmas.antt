@@ -1,5 +1,5 @@
 -- Steps in a row, where the disk tells.
-use Rattle.std.proofs.Common.{◌≡◌, ℕ, ◌∙◌, subst}
+use Rattle.std.proofs.Common.{◌∙◌, subst}
 use Rattle.std.specs.Prelude.{IsTrue}
 use Rattle.ss_outside.specs.Disk.{DiskView, Told}
 use Rattle.ss_outside.specs.Step.{Step}

@@ -1,5 +1,5 @@
 -- A stream that doesn't stand stands by no line but its create.
-use Rattle.std.proofs.Common.{◌≡◌, ◌≢◌, ◌∙◌, ℕ, List, [], ◌∷◌, ◌++◌, true, false, not, Option, Some, None, Result, Ok, Err, refl, sym, ap, subst, inl, inr}
+use Rattle.std.proofs.Common.{◌≡◌, ◌≢◌, ◌∙◌, ℕ, List, [], ◌∷◌, ◌++◌, false, Option, Some, None, Result, Ok, Err, refl, sym, ap, subst, inl, inr}
 use Rattle.std.proofs.lemmas.Bool.{cases_Bool}
 use Rattle.std.proofs.lemmas.List.Elements.{All-head, All-tail}
 use Rattle.std.specs.Prelude.{is_some}
@@ -20,11 +20,12 @@ use Rattle.ss_model.proofs.NameLemmas.{same_name-Decides, same_name-same}
 use Rattle.ss_model.proofs.ReadLemmas.{stream_named-stepped}
 use Rattle.ss_model.proofs.StepLemmas.{state-push}
 use Rattle.ss_model.specs.Answers.{refuses_query}
-use Rattle.ss_model.specs.History.{marked_of, values_of}
+use Rattle.ss_model.specs.History.{added, marked_of, values_of}
 use Rattle.ss_model.specs.Marks.{marked_values}
 use Rattle.ss_model.specs.Refusals.{refuses, stands}
-use Rattle.ss_model.specs.State.{Stream, state, stream_named}
-use Rattle.ss_model.specs.Steps.{stepped}
+use Rattle.ss_model.specs.State.{Stream, state}
+use Rattle.ss_model.specs.Steps.{stepped, stepped_from}
+use Rattle.ss_summary.specs.Points.{New}
 use Rattle.ss_program.specs.Line.{
   Brought,
   History,
@@ -64,7 +65,7 @@ unknown-stepped name streams event unknown spared accepted = elim (cases_Bool (s
       cc)
   | inr other ↦
       (let apart : name ≢ event_name event = λ is. (let same = (same_name-Decides name (event_name event)).1 is in cc) in
-      ap is_some (stream_named-stepped streams event name apart) ∙ unknown)
+      ap is_some (stream_named-stepped New streams event name apart) ∙ unknown)
 ]
 
 -- what brings no event leaves it so too
@@ -76,7 +77,7 @@ unknown-event : (name : List ℕ) (history : History) (event : Event) (refusal :
     ((params : Params) → event ≢ Create name params) → IsUnknown name history →
     IsUnknown name (history_after history (unless_refused refusal (accepted_event history event)))
 unknown-event name history event None accepted spared unknown =
-    ap (stands name) (state-push history event accepted) ∙ unknown-stepped name (state history) event unknown spared accepted
+    ap (stands name) (state-push history event New accepted) ∙ unknown-stepped name (state history) event unknown spared accepted
 unknown-event name history event (Some refusal) is spared unknown = unknown-still name history (refused refusal) refl unknown
 
 unknown-command : (name : List ℕ) (history : History) (command : Command) → ((params : Params) → command ≢ Do (Create name params)) →
@@ -113,9 +114,9 @@ unknown-lines name history (line ∷ ls) spared unknown =
 -- a stream that is dropped doesn't stand, and one that couldn't be didn't before
 dropped-unknown : (name : List ℕ) (history : History) (refusal : Option Refusal) → refuses (state history) (Drop name) ≡ refusal →
     IsUnknown name (history_after history (unless_refused refusal (accepted_event history (Drop name))))
-unfolding stepped
+unfolding stepped_from
 dropped-unknown name history None accepted =
-    ap (stands name) (state-push history (Drop name) accepted) ∙ ap is_some (stream_named-dropped name (state history))
+    ap (stands name) (state-push history (Drop name) New accepted) ∙ ap is_some (stream_named-dropped name (state history))
 dropped-unknown name history (Some refusal) is =
     unknown-still name history (refused refusal) refl
     (elim (cases_Bool (stands name (state history))) [
@@ -142,7 +143,7 @@ query-dropped history before between dropping line query drops spared means =
 
 -- a stream that was created holds no value
 pub created-empty : (history : History) (name : List ℕ) (params : Params) →
-    (values_of (history ++ Create name params ∷ []) name ≡ []) × (marked_of (history ++ Create name params ∷ []) name ≡ [])
+    (values_of (history ++ added (Create name params) ∷ []) name ≡ []) × (marked_of (history ++ added (Create name params) ∷ []) name ≡ [])
 created-empty history name params =
-    let given = given_to-created history name params (same_name-same name) in
+    let given = given_to-created history name params New (same_name-same name) in
     (ap (λ g. g.plain) given, ap (λ g. marked_values g.landmarks) given)

@@ -32,7 +32,7 @@ pub record IsSharp (history : History) (query : Query) (end : End) (w : Evidence
   pub stream : Stream
   pub outcome : Outcome
   pub named : stream_named query.name (state history) ≡ Some stream
-  pub evidence : IsEvidence query.kind end (seen_of query.from query.to stream) w
+  pub evidence : IsEvidence query.kind end (seen_of query.kind query.from query.to stream) w
   pub attained : IsTruthOfLike (contents_of history stream) query w.answer
   pub answered : outcome_of (state history) query ≡ Some outcome
   pub asked : end_asked end outcome ≡ Some w.answer

@@ -4,7 +4,7 @@ use Rattle.ss_arguments.specs.declared.mode.Mode.{Mode}
 use Rattle.ss_arguments.specs.declared.mode.Mode.TheVariants.{Run, Batch, Check, Gen}
 use Rattle.ss_generator.specs.declared.TheConstants.{MOST_COUNT}
 use Rattle.ss_outside.specs.Crash.{OnlyReads}
-use Rattle.ss_outside.specs.Disk.{Between, OfContent, Told}
+use Rattle.ss_outside.specs.Disk.{Between, Told}
 use Rattle.ss_outside.specs.Step.{Step}
 use Rattle.ss_outside.specs.Verdict.{Counted}
 use Rattle.ss_store.specs.Recover.{recover}

@@ -1,14 +1,14 @@
 -- Which accepted events the disk holds, by how much of the report was taken.
 use Rattle.std.specs.Prelude.{◌≡◌, ℕ, ◌+◌, ◌-◌, ◌≤◌, ◌++◌, nat_le, cond, List, [], ◌∷◌, take, length}
-use Rattle.ss_catalog.specs.declared.event.Event.{Event}
 use Rattle.ss_store.specs.Recover.{Stands}
+use Rattle.ss_model.specs.History.{Happened}
 use Rattle.ss_program.specs.Line.{History, brings, line_text, the_event}
 use Rattle.ss_program.specs.Session.{accepted, after_line}
 use Rattle.ss_program.specs.declared.status.Status.{Status}
 use Rattle.ss_program.specs.declared.status.Status.TheVariants.{Done, OutOfMemory}
 
 -- the image stands for the history and some first of these events
-abbrev pub StandsForFirst : History → List Event → List ℕ → Type 0
+abbrev pub StandsForFirst : History → List Happened → List ℕ → Type 0
 StandsForFirst history events image = (j : ℕ) × (j ≤ length events) × Stands (history ++ take j events) image
 
 -- how many events are accepted of these lines whose replies are whole within so many bytes of the report

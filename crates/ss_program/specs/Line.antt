@@ -12,6 +12,7 @@ use Rattle.ss_certify.specs.declared.evidence.Evidence.{Evidence}
 use Rattle.ss_command.specs.Grammar.{meaning}
 use Rattle.ss_command.specs.declared.command.Command.{Command}
 use Rattle.ss_command.specs.declared.command.Command.TheVariants.{Do, Ask, Certify, Series as AskRows, Windows, List as ListAll}
+use Rattle.ss_model.specs.History.{Happened, added}
 use Rattle.ss_model.specs.Answers.{outcome_of, refuses_query}
 use Rattle.ss_model.specs.Refusals.{refuses, refuses_reading}
 use Rattle.ss_model.specs.Series.{refuses_series}
@@ -25,7 +26,7 @@ use Rattle.ss_report.specs.declared.reply.Reply.TheVariants.{Done, Answered, Ref
 
 -- a history: the events that were accepted, oldest first
 abbrev pub History : Type 0
-History = List Event
+History = List Happened
 
 -- what a line brings: the replies to it, in order, and the event that it adds, or none
 pub record Brought : Type 0 where
@@ -52,7 +53,7 @@ unless_refused (Some refusal) brought = refused refusal
 -- an event that is accepted: the reply says what its stream has then
 abbrev pub accepted_event : History → Event → Brought
 accepted_event history event = record {
-  replies = Done (ack_of (event_name event) (state (history ++ event ∷ []))) ∷ [];
+  replies = Done (ack_of (event_name event) (state (history ++ added event ∷ []))) ∷ [];
   event = Some event;
 }
 
@@ -124,10 +125,10 @@ text_brought brought = flat_map reply_line brought.replies
 abbrev pub line_text : History → List ℕ → List ℕ
 line_text history line = text_brought (brings history line)
 
--- an event by itself, where there is one
-abbrev pub the_event : Option Event → List Event
+-- an event by itself, as it is added, where there is one
+abbrev pub the_event : Option Event → List Happened
 the_event None = []
-the_event (Some event) = event ∷ []
+the_event (Some event) = added event ∷ []
 
 -- the history after what a line brings
 abbrev pub history_after : History → Brought → History

@@ -1,6 +1,5 @@
 -- A session: what is replied to an input after a history, and which events are accepted of it.
 use Rattle.std.specs.Prelude.{◌≢◌, ℕ, List, [], ◌∷◌, ◌++◌, flat_map, All, Some, Ok}
-use Rattle.ss_catalog.specs.declared.event.Event.{Event}
 use Rattle.ss_catalog.specs.declared.event.Event.TheVariants.{Create}
 use Rattle.ss_catalog.specs.declared.params.Params.{Params}
 use Rattle.ss_command.specs.Grammar.{meaning}
@@ -8,6 +7,7 @@ use Rattle.ss_command.specs.declared.command.Command.TheVariants.{Do}
 use Rattle.ss_command.specs.Lines.{lines, lines_so_far}
 use Rattle.ss_report.specs.Text.{reply_line}
 use Rattle.ss_report.specs.declared.reply.Reply.{Reply}
+use Rattle.ss_model.specs.History.{Happened}
 use Rattle.ss_program.specs.Line.{History, brings, history_after, the_event}
 
 -- the history after a line
@@ -20,7 +20,7 @@ after_lines history [] = history
 after_lines history (line ∷ ls) = after_lines (after_line history line) ls
 
 -- the events that are accepted of some lines
-abbrev pub accepted : History → List (List ℕ) → List Event
+abbrev pub accepted : History → List (List ℕ) → List Happened
 accepted history [] = []
 accepted history (line ∷ ls) = the_event (brings history line).event ++ accepted (after_line history line) ls
 

@@ -1,9 +1,10 @@
 // Laws of what lines bring, each the contract of a function that does nothing.
-ghost use Rattle.std.specs.Prelude.{◌≡◌, ◌++◌, [], ◌∷◌, ℕ, List, map, Some, None, Ok};
+ghost use Rattle.std.specs.Prelude.{◌≡◌, ◌++◌, [], ◌∷◌, ℕ, ℤ, List, map, Some, None, Ok};
 ghost use Rattle.ss_catalog.specs.Series.{row_count, row_start, rows_of};
 ghost use Rattle.ss_catalog.specs.declared.event.Event.TheVariants.{Create, Drop};
 ghost use Rattle.ss_catalog.specs.declared.params.Params.{Params};
 ghost use Rattle.ss_catalog.specs.declared.query.End.{End};
+ghost use Rattle.ss_catalog.specs.declared.query.Kind.TheVariants as kinds;
 ghost use Rattle.ss_catalog.specs.declared.query.Query.{Query};
 ghost use Rattle.ss_catalog.specs.declared.refusal.Refusal.TheVariants.{Unknown};
 ghost use Rattle.ss_catalog.specs.declared.series.Series.{Series};
@@ -11,12 +12,15 @@ ghost use Rattle.ss_certify.specs.Told.{told};
 ghost use Rattle.ss_certify.specs.declared.evidence.Evidence.{Evidence};
 ghost use Rattle.ss_command.specs.Grammar.{meaning};
 ghost use Rattle.ss_command.specs.declared.command.Command.TheVariants.{Do, Ask, Certify, Series as AskRows};
-ghost use Rattle.ss_model.specs.Answers.{HoldsTruth, refuses_query};
-ghost use Rattle.ss_model.specs.History.{marked_of, values_of};
+ghost use Rattle.ss_model.specs.Answers.{HoldsPresence, HoldsTruth, refuses_query};
+ghost use Rattle.ss_model.specs.History.{added, marked_of, values_of};
 ghost use Rattle.ss_model.specs.Refusals.{IsHistory};
 ghost use Rattle.ss_model.specs.Series.{AnswersRow, refuses_series};
 ghost use Rattle.ss_model.specs.State.{state};
+ghost use Rattle.ss_model.specs.Truth.{true_presence};
 ghost use Rattle.ss_model.specs.declared.outcome.Outcome.{Outcome};
+ghost use Rattle.ss_model.specs.declared.outcome.Outcome.TheVariants.{Has};
+ghost use Rattle.ss_model.specs.declared.outcome.Presence.{Presence};
 ghost use Rattle.ss_report.specs.declared.reply.Reply.TheVariants.{Answered, Refused, SeriesHead, Row};
 ghost use Rattle.ss_program.specs.Certifying.{IsSharp};
 ghost use Rattle.ss_program.specs.Line.{History};
@@ -37,6 +41,20 @@ pub fn queries_hold_the_truth()
         (outcome : Outcome)
         × (replies history ls ≡ replies history before ++ Answered outcome ∷ replies (after_lines history before) after)
         × HoldsTruth query (values_of (after_lines history before) query.name) (marked_of (after_lines history before) query.name) outcome }
+{}
+
+/// Each line of a session that asks whether a stream has a value, and isn't refused then, has one reply, in its place among the
+/// others. It says that the value is there only where it is one of those of the stream in the range, and that it isn't only where
+/// it is none of them. They are all that the stream has of the history and of the lines before since its last create, with those
+/// of landmarks, whichever of them are old.
+pub fn presence_holds_the_truth()
+    ensures { (history : History) (ls before after : List (List ℕ)) (line : List ℕ) (query : Query) (value : ℤ) → IsHistory history →
+        ls ≡ before ++ line ∷ after → meaning line ≡ Ok (Some (Ask query)) → query.kind ≡ kinds.Has value →
+        refuses_query (state (after_lines history before)) query ≡ None →
+        (presence : Presence)
+        × (replies history ls ≡ replies history before ++ Answered (Has presence) ∷ replies (after_lines history before) after)
+        × HoldsPresence presence (true_presence value query.from query.to (values_of (after_lines history before) query.name)
+        (marked_of (after_lines history before) query.name)) }
 {}
 
 /// Each line of a session that asks a series which isn't refused then has its head and its rows as replies, in their place
@@ -74,5 +92,5 @@ pub fn dropped_streams_are_unknown()
         replies history ls ≡ replies history (before ++ dropping ∷ between)
         ++ Refused Unknown ∷ replies (after_lines history (before ++ dropping ∷ between)) after }
     ensures anew { (history : History) (name : List ℕ) (params : Params) →
-        (values_of (history ++ Create name params ∷ []) name ≡ []) × (marked_of (history ++ Create name params ∷ []) name ≡ []) }
+        (values_of (history ++ added (Create name params) ∷ []) name ≡ []) × (marked_of (history ++ added (Create name params) ∷ []) name ≡ []) }
 {}

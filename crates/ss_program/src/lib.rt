@@ -21,8 +21,8 @@ mod staging;
 mod status;
 
 pub use laws::{
-    certificates_are_sharp, dropped_streams_are_unknown, queries_hold_the_truth,
-    series_hold_the_truth, sessions_leave_a_history,
+    certificates_are_sharp, dropped_streams_are_unknown, presence_holds_the_truth,
+    queries_hold_the_truth, series_hold_the_truth, sessions_leave_a_history,
 };
 pub use promises::run_store;
 pub use running::{LONGEST_INPUT, run};

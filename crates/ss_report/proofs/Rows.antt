@@ -5,8 +5,10 @@ use Rattle.std.specs.Fmt.{digits}
 use Rattle.ss_bounds.specs.declared.extreme.Extreme.TheVariants.{Nothing, Sure, Maybe}
 use Rattle.ss_catalog.specs.declared.params.Params.TheVariants.{Exp}
 use Rattle.ss_catalog.specs.declared.refusal.Refusal.TheVariants as refusals
-use Rattle.ss_model.specs.declared.outcome.Outcome.TheVariants.{Count, Sum, Min, Max}
+use Rattle.ss_model.specs.declared.outcome.Outcome.TheVariants.{Count, Sum, Min, Max, Has}
+use Rattle.ss_model.specs.declared.outcome.Presence.TheVariants as presences
 use Rattle.ss_report.specs.Text.{reply_line}
+use Rattle.ss_summary.specs.Filters.{full}
 use Rattle.ss_model.specs.declared.types.Run.{Run}
 use Rattle.ss_report.specs.declared.reply.Reply.TheVariants.{Done, Answered, Refused, SeriesHead, Row, WindowsHead, Window, ListHead, Stream}
 use Rattle.ss_report.specs.declared.reply.Reply.TheVariants.{CertifyHead, Side}
@@ -25,10 +27,11 @@ replies-answers :
     map reply_line
     (Answered (Count 1 3) ∷ Answered (Sum (negsuc 4) (pos 16)) ∷ Answered (Min (Sure (negsuc 2) (pos 8)))
     ∷ Answered (Min (Maybe (negsuc 2) (pos 8))) ∷ Answered (Min Nothing) ∷ Answered (Max (Sure (pos 2) (pos 9)))
-    ∷ Answered (Max (Maybe (pos 0) (pos 0))) ∷ Answered (Max Nothing) ∷ [])
+    ∷ Answered (Max (Maybe (pos 0) (pos 0))) ∷ Answered (Max Nothing) ∷ Answered (Has presences.Absent) ∷ Answered (Has presences.Present)
+    ∷ Answered (Has presences.Maybe) ∷ [])
     ≡ map ended
     (codes "count 1 3" ∷ codes "sum -5 16" ∷ codes "min -3 8" ∷ codes "min -3 8 maybe-none" ∷ codes "min none" ∷ codes "max 2 9"
-    ∷ codes "max 0 0 maybe-none" ∷ codes "max none" ∷ [])
+    ∷ codes "max 0 0 maybe-none" ∷ codes "max none" ∷ codes "has absent" ∷ codes "has present" ∷ codes "has maybe" ∷ [])
 unfolding digits
 replies-answers = refl
 
@@ -44,7 +47,8 @@ replies-series = refl
 replies-windows :
     map reply_line
     (WindowsHead 3
-    ∷ Window (record { first = 1; last = 4; summary = record { count = 4; sum = pos 11; min = negsuc 2; max = pos 8; t_first = 10; t_last = 40 } })
+    ∷ Window
+    (record { first = 1; last = 4; summary = record { count = 4; sum = pos 11; min = negsuc 2; max = pos 8; t_first = 10; t_last = 40; filter = full } })
     ∷ [])
     ≡ map ended (codes "windows 3" ∷ codes "1 4 4 11 -3 8 10 40" ∷ [])
 unfolding digits
@@ -62,7 +66,7 @@ replies-streams = refl
 -- each number in its own place
 replies-places :
     map reply_line
-    (Window (record { first = 5; last = 6; summary = record { count = 2; sum = pos 11; min = pos 3; max = pos 8; t_first = 50; t_last = 60 } })
+    (Window (record { first = 5; last = 6; summary = record { count = 2; sum = pos 11; min = pos 3; max = pos 8; t_first = 50; t_last = 60; filter = full } })
     ∷ Stream (record { id = record { 0 = 9 }; name = codes "a"; params = Exp 2 1 1; n = 7; k = 3; landmarks = 4; values = 5 })
     ∷ [])
     ≡ map ended (codes "5 6 2 11 3 8 50 60" ∷ codes "a exp 2 1 1 7 3 4 5" ∷ [])

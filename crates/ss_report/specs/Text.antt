@@ -7,7 +7,9 @@ use Rattle.ss_catalog.specs.Refusal.{refusal_name}
 use Rattle.ss_command.specs.Printed.{spaced, target_words}
 use Rattle.ss_command.specs.declared.TheConstants.{LINE_END}
 use Rattle.ss_model.specs.declared.outcome.Outcome.{Outcome}
-use Rattle.ss_model.specs.declared.outcome.Outcome.TheVariants.{Count, Sum, Min, Max}
+use Rattle.ss_model.specs.declared.outcome.Outcome.TheVariants.{Count, Sum, Min, Max, Has}
+use Rattle.ss_model.specs.declared.outcome.Presence.{Presence}
+use Rattle.ss_model.specs.declared.outcome.Presence.TheVariants as presences
 use Rattle.ss_model.specs.declared.types.Run.{Run}
 use Rattle.ss_report.specs.declared.reply.Reply.{Reply}
 use Rattle.ss_report.specs.declared.reply.Reply.TheVariants.{Done, Answered, Refused, SeriesHead, Row, WindowsHead, Window, ListHead, Stream}
@@ -23,12 +25,19 @@ extreme_words Nothing = codes "none" ∷ []
 extreme_words (Sure lo hi) = signed_decimal lo ∷ signed_decimal hi ∷ []
 extreme_words (Maybe lo hi) = signed_decimal lo ∷ signed_decimal hi ∷ codes "maybe-none" ∷ []
 
+-- what is known of whether a value is there, as a word
+abbrev pub presence_word : Presence → List ℕ
+presence_word presences.Absent = codes "absent"
+presence_word presences.Present = codes "present"
+presence_word presences.Maybe = codes "maybe"
+
 -- what is answered, as a word
 abbrev pub answer_kind : Outcome → List ℕ
 answer_kind (Count lo hi) = codes "count"
 answer_kind (Sum lo hi) = codes "sum"
 answer_kind (Min extreme) = codes "min"
 answer_kind (Max extreme) = codes "max"
+answer_kind (Has known) = codes "has"
 
 -- the words of an answer behind that one
 abbrev pub answer_words : Outcome → List (List ℕ)
@@ -36,6 +45,7 @@ answer_words (Count lo hi) = decimal lo ∷ decimal hi ∷ []
 answer_words (Sum lo hi) = signed_decimal lo ∷ signed_decimal hi ∷ []
 answer_words (Min extreme) = extreme_words extreme
 answer_words (Max extreme) = extreme_words extreme
+answer_words (Has known) = presence_word known ∷ []
 
 -- a run as a word: its value, and how many of it
 abbrev pub run_word : Run → List ℕ

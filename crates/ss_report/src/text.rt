@@ -1,8 +1,8 @@
 // The text of a reply.
 ghost use Rattle.std.specs.Prelude.{◌≡◌, ◌+◌, ◌≤◌, [], ◌∷◌, length};
 ghost use Rattle.std.specs.Fmt.{decimal};
-ghost use Rattle.ss_command.specs.Printed.{spaced};
-ghost use Rattle.ss_report.specs.Text.{answer_kind, answer_words, extreme_words, reply_line, run_words};
+ghost use Rattle.ss_command.specs.Printed.{spaced, with_word};
+ghost use Rattle.ss_report.specs.Text.{answer_kind, answer_words, extreme_words, presence_word, reply_line, run_words};
 ghost use Rattle.ss_report.specs.declared.reply.Reply.TheVariants.{Done, Answered, Refused, SeriesHead, Row, WindowsHead, Window, ListHead, Stream};
 ghost use Rattle.ss_report.specs.declared.reply.Reply.TheVariants.{CertifyHead};
 ghost use Rattle.ss_report.specs.declared.reply.Reply.TheVariants as replies;
@@ -13,7 +13,7 @@ use ss_bounds::Extreme;
 use ss_catalog::{LONGEST_NAME, Name, Refusal};
 use ss_command::{put_number, put_sum, put_target, put_value};
 use ss_fields::print_u64;
-use ss_model::{Ack, Outcome, Placed, Run, StreamRow};
+use ss_model::{Ack, Outcome, Placed, Presence, Run, StreamRow};
 
 // Writes a number into an empty text.
 fn begin_with_number(number: u64, out: &mut ArrayString<256>)
@@ -64,6 +64,19 @@ fn put_extreme(extreme: Extreme, out: &mut ArrayString<256>)
     }
 }
 
+// Adds what is known of whether a value is there.
+fn put_presence(presence: Presence, out: &mut ArrayString<256>)
+    requires { length out.old.bytes + 8 ≤ 256 }
+    ensures bytes { out.new.bytes ≡ with_word out.old.bytes (presence_word presence) }
+    ensures short { length out.new.bytes ≤ length out.old.bytes + 8 }
+{
+    out.push_str(match presence {
+        Presence::Absent => " absent",
+        Presence::Present => " present",
+        Presence::Maybe => " maybe",
+    });
+}
+
 // Adds what an answer says.
 fn put_words(outcome: &Outcome, out: &mut ArrayString<256>)
     requires { length out.old.bytes + 82 ≤ 256 }
@@ -81,6 +94,7 @@ fn put_words(outcome: &Outcome, out: &mut ArrayString<256>)
         }
         Outcome::Min(extreme) => put_extreme(extreme, out),
         Outcome::Max(extreme) => put_extreme(extreme, out),
+        Outcome::Has(presence) => put_presence(presence, out),
     }
 }
 
@@ -93,6 +107,7 @@ fn kind_word(outcome: &Outcome) -> &'static str
         Outcome::Sum { .. } => "sum",
         Outcome::Min(_) => "min",
         Outcome::Max(_) => "max",
+        Outcome::Has(_) => "has",
     }
 }
 

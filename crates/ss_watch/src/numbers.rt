@@ -13,11 +13,12 @@ enum Number {
     Parameter,
 }
 
-// What the number at a place of a command stands for, where one stands there. Places are counted from 0.
-fn number_at(verb: &str, place: usize) -> Option<Number> {
+// What the number at a place of a command stands for, where one stands there: of a query also by what it asks for. Places
+// are counted from 0.
+fn number_at(verb: &str, asked: &str, place: usize) -> Option<Number> {
     if verb == "create" && place >= 3 {
         Some(Number::Parameter)
-    } else if verb == "append" && place == 3 {
+    } else if (verb == "append" || verb == "query" && asked == "has") && place == 3 {
         Some(Number::Value)
     } else if verb == "series" && place == 5 {
         Some(Number::Step)
@@ -51,9 +52,9 @@ fn is_number(word: &str, number: Number) -> bool {
 
 // The first word that isn't the number that it is to be.
 fn first_wrong<'a>(words: &[&'a str]) -> Option<(&'a str, Number)> {
-    let verb = word_at(words, 0);
+    let (verb, asked) = (word_at(words, 0), word_at(words, 2));
     for (place, word) in words.iter().enumerate() {
-        if let Some(number) = number_at(verb, place) {
+        if let Some(number) = number_at(verb, asked, place) {
             if !is_number(word, number) {
                 return Some((*word, number));
             }

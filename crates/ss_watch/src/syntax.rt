@@ -77,11 +77,30 @@ fn landmark(alloc: Global, words: &[&str]) -> Result<String, AllocError> {
     )
 }
 
-// A form that asks for a count, a sum, a least or a greatest value, and has so many words.
-fn asked(alloc: Global, form: &str, wanted: usize, words: &[&str]) -> Result<String, AllocError> {
+// A form that asks for one of these, as a count or a sum, and has so many words.
+fn asked(
+    alloc: Global,
+    form: &str,
+    wanted: usize,
+    kinds: &str,
+    words: &[&str],
+) -> Result<String, AllocError> {
     let kind = word_at(words, 2);
-    let none = format!(in alloc; "\"{kind}\" is none of count, sum, min and max")?;
+    let none = format!(in alloc; "\"{kind}\" is none of {kinds}")?;
     unlike(alloc, form, wanted, words, none.as_str())
+}
+
+fn query(alloc: Global, words: &[&str]) -> Result<String, AllocError> {
+    if word_at(words, 2) == "has" {
+        return unlike(alloc, "query NAME has V T1 T2", 6, words, "");
+    }
+    asked(
+        alloc,
+        "query NAME count T1 T2, or sum, min or max,",
+        5,
+        "count, sum, min, max and has",
+        words,
+    )
 }
 
 fn certify(alloc: Global, words: &[&str]) -> Result<String, AllocError> {
@@ -112,17 +131,13 @@ pub fn syntax(alloc: Global, words: &[&str]) -> Result<String, AllocError> {
     } else if verb == "drop" {
         unlike(alloc, "drop NAME", 2, words, "")
     } else if verb == "query" {
-        asked(
-            alloc,
-            "query NAME count T1 T2, or sum, min or max,",
-            5,
-            words,
-        )
+        query(alloc, words)
     } else if verb == "series" {
         asked(
             alloc,
             "series NAME count T1 T2 STEP, or sum, min or max,",
             6,
+            "count, sum, min and max",
             words,
         )
     } else if verb == "windows" {

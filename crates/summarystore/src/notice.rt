@@ -28,6 +28,9 @@ is on the disk before it is printed. One program at a time can use a store.
   query NAME count|sum|min|max T1 T2
                          what is known of the values from the time T1 to T2: the
                          least and the greatest that the answer can be
+  query NAME has V T1 T2
+                         whether one of these values is V: has absent says no,
+                         has present yes, and has maybe that it may be so
   series NAME count|sum|min|max T1 T2 STEP
                          the same in rows of STEP times each, at most 100000:
                          the first time of a row, and what is known of it

@@ -107,13 +107,18 @@ fn forms(rt: HostRuntime) -> Result<(), Fail> {
         Drop a/>refused SYNTAX/=1 SYNTAX: no command begins with \"Drop\": commands are in small letters;\n\
         query a sum 1/>refused SYNTAX/=1 SYNTAX: query NAME count T1 T2, or sum, min or max, has 5 words, \
         and this line has 4;\n\
-        query a mean 1 2/>refused SYNTAX/=1 SYNTAX: \"mean\" is none of count, sum, min and max;\n\
+        query a mean 1 2/>refused SYNTAX/=1 SYNTAX: \"mean\" is none of count, sum, min, max and has;\n\
+        query a has 1 2/>refused SYNTAX/=1 SYNTAX: query NAME has V T1 T2 has 6 words, and this line has 5;\n\
+        query a count 5 1 2/>refused SYNTAX/=1 SYNTAX: query NAME count T1 T2, or sum, min or max, has 5 words, \
+        and this line has 6;\n\
         series a sum 1 2/>refused SYNTAX/=1 SYNTAX: series NAME count T1 T2 STEP, or sum, min or max, has 6 words, \
         and this line has 5;\n\
         series a mean 1 2 3/>refused SYNTAX/=1 SYNTAX: \"mean\" is none of count, sum, min and max;\n\
+        series a has 1 2 3/>refused SYNTAX/=1 SYNTAX: \"has\" is none of count, sum, min and max;\n\
         certify a sum lo 1/>refused SYNTAX/=1 SYNTAX: certify NAME count lo T1 T2, or sum, or hi, has 6 words, \
         and this line has 5;\n\
         certify a min lo 1 2/>refused SYNTAX/=1 SYNTAX: \"min\" is neither count nor sum;\n\
+        certify a has lo 1 2/>refused SYNTAX/=1 SYNTAX: \"has\" is neither count nor sum;\n\
         certify a sum low 1 2/>refused SYNTAX/=1 SYNTAX: \"low\" is neither lo nor hi;\n\
         Certify/>refused SYNTAX/=1 SYNTAX: no command begins with \"Certify\": commands are in small letters;\n\
         Series/>refused SYNTAX/=1 SYNTAX: no command begins with \"Series\": commands are in small letters;\n",
@@ -133,6 +138,11 @@ fn words(rt: HostRuntime) -> Result<(), Fail> {
         landmark a open 4611686018427387905/>refused NUMBER/=1 NUMBER: 4611686018427387905 isn't within \
         0 to 4611686018427387904, as times are;\n\
         query a sum 1 now/>refused NUMBER/=1 NUMBER: now isn't a whole number;\n\
+        query x! has 21.5 now 1/>refused NUMBER/=1 NUMBER: 21.5 isn't a whole number;\n\
+        query a has 9223372036854775808 1 2/>refused NUMBER/=1 NUMBER: 9223372036854775808 isn't within \
+        -9223372036854775808 to 9223372036854775807, as values are;\n\
+        query a has -5 1 -2/>refused NUMBER/=1 NUMBER: -2 isn't within 0 to 4611686018427387904, as times are;\n\
+        query x! has -5 1 2/>refused NAME/=1 NAME: the name x! has more in it than letters, digits, _, - and .;\n\
         series a sum 1 now 2/>refused NUMBER/=1 NUMBER: now isn't a whole number;\n\
         series a sum 1 2 0/>refused NUMBER/=1 NUMBER: 0 isn't within 1 to 4611686018427387904, as steps are;\n\
         series a sum 0 100000 1/>refused NUMBER/=1 NUMBER: \
@@ -166,6 +176,8 @@ fn states(rt: HostRuntime) -> Result<(), Fail> {
         landmark a open 1/>refused OPEN/=1 OPEN: a landmark of a is open already;\n\
         landmark a close 1/>refused NOT_OPEN/=1 NOT_OPEN: no landmark of a is open;\n\
         query a sum 5 4/>refused RANGE/=1 RANGE: the range ends before it begins: 5 is later than 4;\n\
+        query a has 9 5 4/>refused RANGE/=1 RANGE: the range ends before it begins: 5 is later than 4;\n\
+        query rom has 9 4 5/>refused UNKNOWN/=1 UNKNOWN: no stream is named rom;\n\
         series a sum 5 4 1/>refused RANGE/=1 RANGE: the range ends before it begins: 5 is later than 4;\n\
         series rom sum 4 5 1/>refused UNKNOWN/=1 UNKNOWN: no stream is named rom;\n\
         certify a sum lo 5 4/>refused RANGE/=1 RANGE: the range ends before it begins: 5 is later than 4;\n\
@@ -199,6 +211,7 @@ fn lines_and_replies(rt: HostRuntime) -> Result<(), Fail> {
         certify a sum lo 1 9/x>certify -5 0 1/inside 1 4 2 -3*1 -2*1/outside 1 4 2 8*2/refused SYNTAX/=\
         2 SYNTAX: no command begins with \"x\";\n\
         certify a count lo 1 9/x>certify 4 4 0/refused SYNTAX/=2 SYNTAX: no command begins with \"x\";\n\
+        query a has 8 1 9/x>has maybe/refused SYNTAX/=2 SYNTAX: no command begins with \"x\";\n\
         >sum 1 1/refused SYNTAX/=\n",
     ))
 }

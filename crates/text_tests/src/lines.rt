@@ -65,6 +65,17 @@ fn lines_without_a_command() -> Result<(), Fail> {
         query a mean 1 2=SYNTAX\n\
         query a MIN 1 2=SYNTAX\n\
         query x! mean y 2=SYNTAX\n\
+        query a has=SYNTAX\n\
+        query a has 1 2=SYNTAX\n\
+        query a has 5 1 2 3=SYNTAX\n\
+        query a HAS 5 1 2=SYNTAX\n\
+        query a 5 has 1 2=SYNTAX\n\
+        query a count 5 1 2=SYNTAX\n\
+        query x! has y 2=SYNTAX\n\
+        series a has 1 2 3=SYNTAX\n\
+        series a has 5 1 2 3=SYNTAX\n\
+        certify a has lo 1 2=SYNTAX\n\
+        certify a has 5 1 2=SYNTAX\n\
         series a sum 1 2=SYNTAX\n\
         series a sum 1 2 3 4=SYNTAX\n\
         series a mean 1 2 3=SYNTAX\n\
@@ -84,6 +95,15 @@ fn lines_without_a_command() -> Result<(), Fail> {
         query x! sum 1 y=NUMBER\n\
         query a sum -1 2=NUMBER\n\
         query a max 0 4611686018427387905=NUMBER\n\
+        query x! has y 1 2=NUMBER\n\
+        query x! has -5 y 2=NUMBER\n\
+        query x! has -5 1 y=NUMBER\n\
+        query a has +5 1 2=NUMBER\n\
+        query a has 5.0 1 2=NUMBER\n\
+        query a has 5 -1 2=NUMBER\n\
+        query a has 5 0 4611686018427387905=NUMBER\n\
+        query a has 9223372036854775808 1 2=NUMBER\n\
+        query a has -9223372036854775809 1 2=NUMBER\n\
         series x! sum y 2 1=NUMBER\n\
         series x! sum 1 2 0=NUMBER\n\
         series a sum 1 2 -1=NUMBER\n\
@@ -109,6 +129,8 @@ fn lines_without_a_command() -> Result<(), Fail> {
         drop x!=NAME\n\
         drop abcdefghijklmnopqrstuvwxyz0123456=NAME\n\
         query x! sum 1 2=NAME\n\
+        query x! has -5 2 1=NAME\n\
+        query abcdefghijklmnopqrstuvwxyz0123456 has 5 1 2=NAME\n\
         series x! sum 0 199999 2=NAME\n\
         certify x! count lo 1 2=NAME\n\
         windows a/b=NAME\n\
@@ -151,6 +173,12 @@ fn commands_are_printed() -> Result<(), Fail> {
         \x20query\ta sum 0 4611686018427387904=query a sum 0 4611686018427387904\n\
         query a min 5 4=query a min 5 4\n\
         query a max 45 65=query a max 45 65\n\
+        query a has 005 10 040=query a has 5 10 40\n\
+        \x20query\ta has -0 0 4611686018427387904=query a has 0 0 4611686018427387904\n\
+        query a has -9223372036854775808 5 4=query a has -9223372036854775808 5 4\n\
+        query abcdefghijklmnopqrstuvwxyz012345 has 9223372036854775807 0 0=\
+        query abcdefghijklmnopqrstuvwxyz012345 has 9223372036854775807 0 0\n\
+        query has has 1 2 3=query has has 1 2 3\n\
         series a count 10 040 05=series a count 10 40 5\n\
         \x20series\ta sum 0 4611686018427387904 4611686018427387904=\
         series a sum 0 4611686018427387904 4611686018427387904\n\

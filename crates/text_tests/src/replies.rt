@@ -3,7 +3,7 @@ use crate::tables::{Subject, Text, numbers_of, show, test};
 use arrayvec::ArrayString;
 use ss_bounds::Extreme;
 use ss_catalog::{LAST_TIME, Name, Params, Refusal, StreamId};
-use ss_model::{Ack, Outcome, Placed, Run, StreamRow};
+use ss_model::{Ack, Outcome, Placed, Presence, Run, StreamRow};
 use ss_report::{Reply, Side, reply_text};
 use ss_summary::Summary;
 use std::test::Fail;
@@ -84,6 +84,9 @@ fn outcome_at(row: u64) -> Outcome {
         15 => Outcome::Min(Extreme::Nothing),
         16 => Outcome::Max(sure),
         17 => Outcome::Max(maybe),
+        36 => Outcome::Has(Presence::Absent),
+        37 => Outcome::Has(Presence::Present),
+        38 => Outcome::Has(Presence::Maybe),
         _ => Outcome::Max(Extreme::Nothing),
     }
 }
@@ -213,7 +216,10 @@ fn each_reply_has_its_line() -> Result<(), Fail> {
         34=outside 3 8 0/\n\
         35=outside 18446744073709551615 18446744073709551615 18446744073709551615 \
         -9223372036854775808*18446744073709551615 -9223372036854775808*18446744073709551615 \
-        -9223372036854775808*18446744073709551615/\n"
+        -9223372036854775808*18446744073709551615/\n\
+        36=has absent/\n\
+        37=has present/\n\
+        38=has maybe/\n"
             .as_bytes(),
     )
 }

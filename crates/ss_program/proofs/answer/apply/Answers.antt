@@ -4,6 +4,7 @@ use Rattle.ss_catalog.specs.Events.{event_name}
 use Rattle.ss_catalog.specs.declared.event.Event.{Event}
 use Rattle.ss_catalog.specs.declared.refusal.Refusal.{Refusal}
 use Rattle.ss_command.specs.declared.command.Command.TheVariants.{Do}
+use Rattle.ss_model.specs.History.{added}
 use Rattle.ss_model.specs.Refusals.{refuses}
 use Rattle.ss_model.specs.State.{state}
 use Rattle.ss_model.specs.declared.types.Ack.{Ack}
@@ -55,10 +56,10 @@ returns-in-Ok-clause-applies g c =
       told = λ told. record {
         does = record {
           adds = λ history. Adds-applied history event old new result (fits told history)
-              (Turns-answers (Stands history) (StandsForEither history event) (Stands (history ++ event ∷ [])) old new c.in-Ok.ack result
+              (Turns-answers (Stands history) (StandsForEither history event) (Stands (history ++ added event ∷ [])) old new c.in-Ok.ack result
               (turns told history));
           reply = λ history stands.
-              let said = said-kept c.apply.new.self new.content (history ++ event ∷ []) (event_name event)
+              let said = said-kept c.apply.new.self new.content (history ++ added event ∷ []) (event_name event)
               (StoreIsIn-sealed c.apply.new.self new.content (c.in-Ok.ensures.sealed (applies.stops ∙ runs))
               (applies.stands (applies.stops ∙ runs) (applies.step.tells ∙ told))) ((turns told history).content stands) in
               ap (λ (b : Brought). b.replies) (brings-accepted history event (fits told history stands))
@@ -130,7 +131,7 @@ returns-in-Err-Disk-clause-applies g c =
       told = λ told. record {
         does = record {
           adds = λ history.
-              let after = Stands (history ++ event ∷ []) in
+              let after = Stands (history ++ added event ∷ []) in
               Adds-applied history event old new result (fits told history)
               (Turns-failed (Stands history) (StandsForEither history event) after after old new (Err c.in-Err-Disk.field-0) result refl
               (c.in-Err-Disk.ensures.history c.requires.open.serves.runs told history));

@@ -1,4 +1,4 @@
-use Rattle.std.proofs.Common.{◌≡◌, ◌∙◌, Err, List, length, map, refl, sym, ap, subst, rules, arith}
+use Rattle.std.proofs.Common.{◌≡◌, Err, List, length, map, sym, ap, subst, rules, arith}
 use Rattle.ss_command.specs.Printed.{printed}
 use Rattle.ss_command.specs.declared.command.Command.{Command}
 use Rattle.ss_outside.proofs.StepLemmas.{step-as, step-none, step-then}

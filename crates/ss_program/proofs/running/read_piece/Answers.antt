@@ -1,4 +1,4 @@
-use Rattle.std.proofs.Common.{◌≤◌, ◌++◌, Err, rules, refl, subst, take, arith}
+use Rattle.std.proofs.Common.{◌≤◌, ◌++◌, Err, rules, refl, subst, arith}
 use Rattle.std.proofs.lemmas.Grind.{common_steps}
 use Rattle.ss_command.specs.Lines.{lines_so_far}
 use Rattle.ss_outside.proofs.StepLemmas.{step-as, step-none}

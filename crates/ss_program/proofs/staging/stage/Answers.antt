@@ -2,6 +2,7 @@ use Rattle.std.proofs.Common.{◌≡◌, ◌∙◌, ◌++◌, ◌∷◌, [], Err
 use Rattle.std.specs.Prelude.{IsTrue}
 use Rattle.ss_catalog.specs.Events.{event_name}
 use Rattle.ss_command.specs.declared.command.Command.TheVariants.{Do}
+use Rattle.ss_model.specs.History.{added}
 use Rattle.ss_model.specs.Refusals.{refuses}
 use Rattle.ss_model.specs.State.{state}
 use Rattle.ss_outside.proofs.CrashLemmas.{reads-none}
@@ -39,7 +40,7 @@ returns-in-Ok-clause-stages g c =
         turns = λ history. Turns-staged store.records c.stage.new.self.records history old new event (Ok c.in-Ok.ack) result (λ X has. has) (fits told history)
             (turns told history);
         reply = λ history stands.
-            let said = said-kept c.stage.new.self (shown_by c.stage.new.self.records new.content) (history ++ event ∷ []) (event_name event)
+            let said = said-kept c.stage.new.self (shown_by c.stage.new.self.records new.content) (history ++ added event ∷ []) (event_name event)
             (applies.stands (applies.stops ∙ runs) (applies.step.tells ∙ told)).shown ((turns told history).content stands) in
             ap (λ (b : Brought). b.replies) (brings-accepted history event (fits told history stands))
             ∙ ap (λ ack. Done ack ∷ []) (sym (applies.ack ∙ said));
