@@ -38,6 +38,7 @@ bench: ## times the programs that were built last: bench/README.md
 	@bench/appends $(PROGRAM)
 	@bench/drops $(PROGRAM)
 	@bench/queries $(PROGRAM)
+	@bench/presence $(PROGRAM)
 	@bench/commits $(BENCH)
 	@bench/records $(BENCH)
 	@bench/targets $(BENCH)

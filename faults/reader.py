@@ -6,6 +6,7 @@ import struct
 ENTRY, ENTRIES, ENTRY_SIZE = 512, 64, 544
 FIRST_SLOT, SLOT, SLOTS = 36864, 128, 2**20
 LAST_POSITION, LAST_TIME = 2**40, 2**62
+FULL = 2**256 - 1
 MAGIC, OPEN, FREE = b"SSTORE01", 0xA5, bytes(SLOT)
 NAME_BYTES = b"ABCDEFGHIJKLMNOPQRSTUVWXYZabcdefghijklmnopqrstuvwxyz0123456789_-."
 
@@ -108,15 +109,25 @@ class Stream:
             before, start = before + windows, start + windows * length
 
 
+def bit_of(value):
+    """The bit of a filter that a value sets, as a filter that has it alone."""
+    return 1 << ((value % 2**64 * 11400714819323198485) % 2**64 // 2**56)
+
+
 class Window:
     def __init__(self, bytes):
         self.number, self.first, self.count = struct.unpack_from(">IQQ", bytes, 4)
         self.sum = int.from_bytes(bytes[24:40], "big", signed=True)
         self.least, self.greatest, self.begins, self.ends = struct.unpack_from(">qqQQ", bytes, 40)
+        words = struct.unpack_from(">4Q", bytes, 72)
+        self.filter = sum(word << 64 * n for n, word in enumerate(words)) if bytes[1] else FULL
 
     def spelled(self):
+        told = self.filter != FULL
+        head = struct.pack(">BB2xIQQ", 2, told, self.number, self.first, self.count) + self.sum.to_bytes(16, "big", signed=True)
         figures = struct.pack(">qqQQ", self.least, self.greatest, self.begins, self.ends)
-        return (struct.pack(">B3xIQQ", 2, self.number, self.first, self.count) + self.sum.to_bytes(16, "big", signed=True) + figures).ljust(SLOT, b"\0")
+        words = [self.filter >> 64 * n & 2**64 - 1 for n in range(4)] if told else []
+        return (head + figures + struct.pack(f">{len(words)}Q", *words)).ljust(SLOT, b"\0")
 
     def last(self):
         return self.first + self.count - 1
@@ -132,6 +143,8 @@ class Window:
             and (self.count > 1 or self.begins == self.ends)
             and self.least <= self.greatest
             and self.greatest + others * self.least <= self.sum <= self.least + others * self.greatest
+            and self.filter & bit_of(self.least) != 0
+            and self.filter & bit_of(self.greatest) != 0
         )
 
     def joined(self, newer):
@@ -140,6 +153,7 @@ class Window:
         both.count, both.sum = self.count + newer.count, self.sum + newer.sum
         both.least, both.greatest = min(self.least, newer.least), max(self.greatest, newer.greatest)
         both.begins, both.ends = self.begins, newer.ends
+        both.filter = self.filter | newer.filter
         return both
 
     def row(self):
@@ -308,9 +322,22 @@ def survey(streams):
     return "sound streams {} windows {} landmarks {} values {}".format(len(streams), *counts)
 
 
+# Of each stream it is asked whether one of these is among all its values.
+SOUGHT = (-500, 0, 7, 300)
+
+
+def presence(one, value):
+    """Whether a value is among all those of a stream, as far as can be told: each window lies whole in the range."""
+    if any(mark.value == value for mark in one.values) or any(value in (window.least, window.greatest) for window in one.windows):
+        return "present"
+    may = any(window.least <= value <= window.greatest and window.filter & bit_of(value) for window in one.windows)
+    return "maybe" if may else "absent"
+
+
 def questions(streams):
     """What asks for all that `shown` has."""
-    return ["list"] + ["windows " + one.streams[0].name.decode() for one in streams]
+    names = [one.streams[0].name.decode() for one in streams]
+    return ["list", *(line for name in names for line in [f"windows {name}", *(f"query {name} has {v} 0 {LAST_TIME}" for v in SOUGHT)])]
 
 
 def shown(streams):
@@ -318,10 +345,11 @@ def shown(streams):
     lines = [f"list {len(streams)}"] + [one.row() for one in streams]
     for one in streams:
         lines += [f"windows {len(one.windows)}"] + [window.row() for window in one.windows]
+        lines += [f"has {presence(one, value)}" for value in SOUGHT]
     return lines
 
 
 def kept(streams):
-    """All that the streams keep, to be compared: what is shown, and the records of landmarks."""
-    marks = [record.spelled() for one in streams for record in one.landmarks + one.values]
-    return shown(streams), marks
+    """All that the streams keep, to be compared: what is shown, and the records of windows and landmarks."""
+    records = [record.spelled() for one in streams for record in one.windows + one.landmarks + one.values]
+    return shown(streams), records

@@ -152,6 +152,7 @@ def dropping():
 SHOW = ["list"]
 for name in "abcde":
     SHOW += [f"windows {name}", f"query {name} sum 0 1000000", f"query {name} max 0 1000000", f"landmark {name} close 0"]
+    SHOW += [f"query {name} has {asked}" for asked in ("406 0 1000000", "151 105 345", "5 0 1000000")]
 
 
 def call(words, lines, **how):
