@@ -97,20 +97,24 @@ lines-leave history (line ∷ ls) whole =
 -- what a query brings that has an answer
 answered-query : (history : History) (query : Query) (o : Option Outcome) → IsHistory history → refuses_query (state history) query ≡ None →
     outcome_of (state history) query ≡ o → IsSome o →
-    (outcome : Outcome) × (command_brings history (Ask query) ≡ only_replies (Answered outcome ∷ []))
+    (outcome : Outcome) × (command_brings history (Ask query) ≡ only_replies (Answered outcome ∷ [])) × IsOfKind query.kind outcome
     × HoldsTruth query (values_of history query.name) (marked_of history query.name) outcome
 answered-query history query None whole none is some = cc
-answered-query history query (Some outcome) whole none is some =
-    (outcome, brings-answer_replies history query outcome none is, answer-holds history query outcome whole is)
+answered-query history query (Some outcome) whole none is some = (
+  outcome,
+  brings-answer_replies history query outcome none is,
+  answer-kind (state history) query outcome is,
+  answer-holds history query outcome whole is,
+)
 
 -- and a line that means it
 pub answered-line : (history : History) (line : List ℕ) (query : Query) → IsHistory history → meaning line ≡ Ok (Some (Ask query)) →
     refuses_query (state history) query ≡ None →
-    (outcome : Outcome) × (brings history line ≡ only_replies (Answered outcome ∷ []))
+    (outcome : Outcome) × (brings history line ≡ only_replies (Answered outcome ∷ [])) × IsOfKind query.kind outcome
     × HoldsTruth query (values_of history query.name) (marked_of history query.name) outcome
 answered-line history line query whole means none =
     let it = answered-query history query (outcome_of (state history) query) whole none refl (answer-known (state history) query none) in
-    (it.0, ap (λ m. meaning_brings history m) means ∙ it.1, it.2)
+    (it.0, ap (λ m. meaning_brings history m) means ∙ it.1, it.2, it.3)
 
 -- what is answered to whether a value is there
 presence-of_kind : (kind : Kind) (value : ℤ) (outcome : Outcome) → kind ≡ kinds.Has value → IsOfKind kind outcome →

@@ -1,14 +1,19 @@
 -- Worked rows of the session, and the numbers of its rules.
-use Rattle.std.proofs.Common.{◌≡◌, ◌^◌, ◌++◌, [], ◌∷◌, refl}
-use Rattle.std.specs.Prelude.{ℕ, List, Some, None, codes, map, pos, negsuc, flat_map}
+use Rattle.std.proofs.Common.{◌≡◌, ◌∙◌, ◌^◌, ◌++◌, [], ◌∷◌, ap, arith, lit≤, refl, sym}
+use Rattle.std.specs.Prelude.{◌≢◌, ℕ, List, Option, Some, None, Result, Ok, codes, map, pos, negsuc, flat_map}
 use Rattle.std.specs.Fmt.{digits}
+use Rattle.std.proofs.lemmas.List.Elements.{All-cons, All-nil}
 use Rattle.ss_catalog.specs.Names.{is_name}
 use Rattle.ss_catalog.specs.declared.event.Event.TheVariants.{Create, Value, Drop}
+use Rattle.ss_catalog.specs.declared.params.Params.{Params}
 use Rattle.ss_catalog.specs.declared.params.Params.TheVariants.{Exp}
+use Rattle.ss_catalog.specs.declared.refusal.Refusal.{Refusal}
 use Rattle.ss_catalog.specs.declared.refusal.Refusal.TheVariants as refusal
 use Rattle.ss_command.specs.Grammar.{meaning}
 use Rattle.ss_command.specs.Lines.{ended_lines, lines, unended}
 use Rattle.ss_command.specs.Words.{words}
+use Rattle.ss_command.specs.declared.command.Command.{Command}
+use Rattle.ss_command.specs.declared.command.Command.TheVariants.{Do}
 use Rattle.ss_fields.specs.Words.{is_number, number_of, number_up_to, signed_of}
 use Rattle.ss_bounds.specs.Split.{sum_interval}
 use Rattle.ss_model.specs.History.{Happened, added}
@@ -25,7 +30,7 @@ use Rattle.ss_program.specs.Generated.{summary_lines}
 use Rattle.ss_program.specs.Held.{acks}
 use Rattle.ss_program.specs.Outcome.{lines_within}
 use Rattle.ss_program.specs.Refused.{refusal_line, status_of_open}
-use Rattle.ss_program.specs.Session.{accepted, after_lines, report}
+use Rattle.ss_program.specs.Session.{NoneCreates, accepted, after_lines, report}
 use Rattle.ss_program.specs.Status.{exit_number}
 use Rattle.ss_program.specs.declared.running.TheConstants.{BUFFER, LONGEST_INPUT}
 use Rattle.ss_program.specs.declared.status.Status.TheVariants.{
@@ -108,6 +113,37 @@ accepted-drops : accepted history (lines drops) ≡ map added (Drop (codes "a") 
 unfolding ended_lines unended meaning words is_number number_of number_up_to signed_of is_name state refuses refuses_query refuses_reading outcome_of
     window_index
 accepted-drops = refl
+
+-- a line that creates another stream and one that appends don't create a stream, and one that creates it does
+means-other : meaning (codes "create b exp 2 1 1") ≡ Ok (Some (Do (Create (codes "b") (Exp 2 1 1))))
+unfolding meaning words is_number number_of number_up_to is_name
+means-other = refl
+
+means-append : meaning (codes "append a 5 1") ≡ Ok (Some (Do (Value (codes "a") 5 (pos 1))))
+unfolding meaning words is_number number_of number_up_to signed_of is_name
+means-append = refl
+
+means-create : meaning (codes "create a exp 2 1 1") ≡ Ok (Some (Do (Create (codes "a") (Exp 2 1 1))))
+unfolding meaning words is_number number_of number_up_to is_name
+means-create = refl
+
+-- the first byte of the name that is created
+abbrev created_byte : Result (Option Command) Refusal → ℕ
+created_byte (Ok (Some (Do (Create (byte ∷ bytes) params)))) = byte
+created_byte _ = 0
+
+abbrev CreatesNone : List ℕ → Type 0
+CreatesNone line = (params : Params) → meaning line ≢ Ok (Some (Do (Create (codes "a") params)))
+
+none-creates : NoneCreates (codes "a") (codes "create b exp 2 1 1" ∷ codes "append a 5 1" ∷ [])
+none-creates =
+    All-cons CreatesNone (codes "create b exp 2 1 1") (codes "append a 5 1" ∷ [])
+    (λ params same. let wrong : 98 ≡ 97 = ap created_byte (sym means-other ∙ same) in omega arith)
+    (All-cons CreatesNone (codes "append a 5 1") []
+    (λ params same. let wrong : 0 ≡ 97 = ap created_byte (sym means-append ∙ same) in omega arith) (All-nil CreatesNone))
+
+one-creates : NoneCreates (codes "a") (codes "append a 5 1" ∷ codes "create a exp 2 1 1" ∷ []) → ⊥
+one-creates none = none 1 [] (lit≤ tt) (Exp 2 1 1) means-create
 
 -- after that history: queries where no window is split, one is, or two are, and each refusal of a query
 abbrev queries : List ℕ

@@ -12,7 +12,7 @@ ghost use Rattle.ss_certify.specs.Told.{told};
 ghost use Rattle.ss_certify.specs.declared.evidence.Evidence.{Evidence};
 ghost use Rattle.ss_command.specs.Grammar.{meaning};
 ghost use Rattle.ss_command.specs.declared.command.Command.TheVariants.{Do, Ask, Certify, Series as AskRows};
-ghost use Rattle.ss_model.specs.Answers.{HoldsPresence, HoldsTruth, refuses_query};
+ghost use Rattle.ss_model.specs.Answers.{HoldsPresence, HoldsTruth, IsOfKind, refuses_query};
 ghost use Rattle.ss_model.specs.History.{added, marked_of, values_of};
 ghost use Rattle.ss_model.specs.Refusals.{IsHistory};
 ghost use Rattle.ss_model.specs.Series.{AnswersRow, refuses_series};
@@ -31,15 +31,16 @@ pub fn sessions_leave_a_history()
     ensures { (history : History) (ls : List (List ℕ)) → IsHistory history → IsHistory (after_lines history ls) }
 {}
 
-/// Each line of a session that asks a query which isn't refused then has one reply, in its place among the others: an answer
-/// that holds the truth over all values that the stream has of the history and of the lines before, which are those since its
-/// last create. So each interval in a report does.
+/// Each line of a session that asks a query which isn't refused then has one reply, in its place among the others: an answer to
+/// what was asked for, which holds the truth over all values that the stream has of the history and of the lines before, which
+/// are those since its last create. So each interval in a report does.
 pub fn queries_hold_the_truth()
     ensures { (history : History) (ls before after : List (List ℕ)) (line : List ℕ) (query : Query) → IsHistory history →
         ls ≡ before ++ line ∷ after → meaning line ≡ Ok (Some (Ask query)) →
         refuses_query (state (after_lines history before)) query ≡ None →
         (outcome : Outcome)
         × (replies history ls ≡ replies history before ++ Answered outcome ∷ replies (after_lines history before) after)
+        × IsOfKind query.kind outcome
         × HoldsTruth query (values_of (after_lines history before) query.name) (marked_of (after_lines history before) query.name) outcome }
 {}
 
