@@ -2,7 +2,7 @@
 use Rattle.std.specs.Prelude.{ℕ, List, codes}
 use Rattle.ss_catalog.specs.declared.refusal.Refusal.{Refusal}
 use Rattle.ss_catalog.specs.declared.refusal.Refusal.TheVariants.{Line, Syntax, Number, Name, Param, Exists, Streams, Unknown, Open, NotOpen, Time}
-use Rattle.ss_catalog.specs.declared.refusal.Refusal.TheVariants.{Range, StreamFull, StoreFull}
+use Rattle.ss_catalog.specs.declared.refusal.Refusal.TheVariants.{Range, StreamFull, StoreFull, Busy, NoCursor}
 
 -- the number of a refusal: its place in the order, from 1
 abbrev pub refusal_number : Refusal → ℕ
@@ -20,6 +20,8 @@ refusal_number Time = 11
 refusal_number Range = 12
 refusal_number StreamFull = 13
 refusal_number StoreFull = 14
+refusal_number Busy = 15
+refusal_number NoCursor = 16
 
 -- the name of a refusal in a reply
 abbrev pub refusal_name : Refusal → List ℕ
@@ -37,3 +39,5 @@ refusal_name Time = codes "TIME"
 refusal_name Range = codes "RANGE"
 refusal_name StreamFull = codes "STREAM_FULL"
 refusal_name StoreFull = codes "STORE_FULL"
+refusal_name Busy = codes "BUSY"
+refusal_name NoCursor = codes "NO_CURSOR"

@@ -34,6 +34,10 @@ pub enum Refusal {
     StreamFull,
     /// The store has as many records as it can hold.
     StoreFull,
+    /// The session has a cursor already.
+    Busy,
+    /// The session has no cursor.
+    NoCursor,
 }
 
 impl Refusal {
@@ -56,6 +60,8 @@ impl Refusal {
             Refusal::Range => 12,
             Refusal::StreamFull => 13,
             Refusal::StoreFull => 14,
+            Refusal::Busy => 15,
+            Refusal::NoCursor => 16,
         }
     }
 
@@ -78,6 +84,8 @@ impl Refusal {
             Refusal::Range => "RANGE",
             Refusal::StreamFull => "STREAM_FULL",
             Refusal::StoreFull => "STORE_FULL",
+            Refusal::Busy => "BUSY",
+            Refusal::NoCursor => "NO_CURSOR",
         }
     }
 }

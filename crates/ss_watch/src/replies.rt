@@ -2,7 +2,7 @@
 use ss_catalog::Refusal;
 use std::str;
 
-const REFUSALS: [Refusal; 14] = [
+const REFUSALS: [Refusal; 16] = [
     Refusal::Line,
     Refusal::Syntax,
     Refusal::Number,
@@ -17,6 +17,8 @@ const REFUSALS: [Refusal; 14] = [
     Refusal::Range,
     Refusal::StreamFull,
     Refusal::StoreFull,
+    Refusal::Busy,
+    Refusal::NoCursor,
 ];
 
 /// What the first line of a reply says.

@@ -99,7 +99,9 @@ fn refusal_at(place: u64) -> Refusal {
         11 => Refusal::Time,
         12 => Refusal::Range,
         13 => Refusal::StreamFull,
-        _ => Refusal::StoreFull,
+        14 => Refusal::StoreFull,
+        15 => Refusal::Busy,
+        _ => Refusal::NoCursor,
     }
 }
 
@@ -128,7 +130,9 @@ fn refusals_have_numbers_and_names() -> Result<(), Fail> {
         11=11 TIME\n\
         12=12 RANGE\n\
         13=13 STREAM_FULL\n\
-        14=14 STORE_FULL\n"
+        14=14 STORE_FULL\n\
+        15=15 BUSY\n\
+        16=16 NO_CURSOR\n"
             .as_bytes(),
     )
 }
