@@ -151,7 +151,7 @@ fault_of-many a b d e rest plain_a plain_b plain_d plain_e =
 
 -- the mode by the rows of the matches
 abbrev pub mode_by_rows : List Row → Option Mode
-mode_by_rows rows = by_place (first_of (codes "mode") rows) (first_of (codes "seed") rows) (first_of (codes "count") rows)
+mode_by_rows rows = by_place (first_of (codes "mode") rows) (first_of (codes "second") rows) (first_of (codes "third") rows)
 
 -- the mode by what is held after the walk
 abbrev mode_by_walk : Walk → Option Mode
@@ -206,16 +206,16 @@ mode_asked-refused (a ∷ b ∷ d ∷ e ∷ rest) kind plain among = refl
 -- a parse that succeeds, by the values of its matches
 pub mode_asked-matches : (app : App) (words : List Text) (matches : ArgMatches) → app ≡ three_words → list_any starts_with_minus words ≡ false
     → (is_simple_and_free app ≡ true → fault_of app words ≡ []) → HasMatchesOf app words matches
-    → by_place (first_value (found_of matches) (codes "mode")) (first_value (found_of matches) (codes "seed"))
-    (first_value (found_of matches) (codes "count")) ≡ mode_asked words
+    → by_place (first_value (found_of matches) (codes "mode")) (first_value (found_of matches) (codes "second"))
+    (first_value (found_of matches) (codes "third")) ≡ mode_asked words
 mode_asked-matches app words matches is plain kinds has =
     let rows : rows_of (found_of matches) ≡ matches_of three_words words = (has (ap is_simple is)).0 ∙ ap (λ a. matches_of a words) is in
     let taken : fault_of three_words words ≡ [] = ap (λ a. fault_of a words) (sym is) ∙ kinds (ap is_simple_and_free is) in
     rw (
       first_value-rows (found_of matches) (codes "mode"),
-      first_value-rows (found_of matches) (codes "seed"),
+      first_value-rows (found_of matches) (codes "second"),
       first_value-rows (found_of matches)
-          (codes "count"),
+          (codes "third"),
     )
     (ap mode_by_rows rows ∙ mode_asked-taken words plain taken)
 

@@ -4,7 +4,9 @@ use Rattle.std.specs.Prelude.{codes, replicate}
 use Rattle.ss_fields.specs.Words.{is_number, number_of, number_up_to}
 use Rattle.ss_arguments.specs.declared.TheConstants.{MOST_DIGITS}
 use Rattle.ss_arguments.specs.declared.mode.Mode.{Mode}
-use Rattle.ss_arguments.specs.declared.mode.Mode.TheVariants.{Run, Batch, Check, Gen}
+use Rattle.ss_arguments.specs.declared.mode.Mode.TheVariants.{Serve, Check, Gen}
+use Rattle.ss_arguments.specs.declared.mode.Form.TheVariants.{Lines, Sessions}
+use Rattle.ss_arguments.specs.declared.mode.Sealing.TheVariants.{Each, Shared}
 use Rattle.ss_arguments.specs.Modes.{are_refused_at_once, mode_of, number_between}
 
 most_digits : MOST_DIGITS ≡ 20
@@ -28,20 +30,26 @@ no_words = refl
 no_path : mode_of (codes "p" ∷ []) ≡ None
 no_path = refl
 
-path_alone : mode_after [] ≡ Some Run
+path_alone : mode_after [] ≡ Some (Serve Lines Each)
 path_alone = refl
 
-run_word : mode_after (codes "run" ∷ []) ≡ Some Run
+run_word : mode_after (codes "run" ∷ []) ≡ Some (Serve Lines Each)
 run_word = refl
 
-batch_word : mode_after (codes "batch" ∷ []) ≡ Some Batch
+batch_word : mode_after (codes "batch" ∷ []) ≡ Some (Serve Lines Shared)
 batch_word = refl
+
+sessions_word : mode_after (codes "sessions" ∷ []) ≡ Some (Serve Sessions Each)
+sessions_word = refl
+
+sessions_and_batch : mode_after (codes "sessions" ∷ codes "batch" ∷ []) ≡ Some (Serve Sessions Shared)
+sessions_and_batch = refl
 
 check_word : mode_after (codes "check" ∷ []) ≡ Some Check
 check_word = refl
 
 -- the path may be any word
-path_with_hyphen : mode_of (codes "p" ∷ codes "-s" ∷ []) ≡ Some Run
+path_with_hyphen : mode_of (codes "p" ∷ codes "-s" ∷ []) ≡ Some (Serve Lines Each)
 path_with_hyphen = refl
 
 -- other words ask for nothing
@@ -57,6 +65,15 @@ batch_cut_short = refl
 batch_and_a_letter : mode_after (codes "batchs" ∷ []) ≡ None
 batch_and_a_letter = refl
 
+sessions_in_capitals : mode_after (codes "SESSIONS" ∷ []) ≡ None
+sessions_in_capitals = refl
+
+sessions_cut_short : mode_after (codes "session" ∷ []) ≡ None
+sessions_cut_short = refl
+
+sessions_and_a_letter : mode_after (codes "sessionss" ∷ []) ≡ None
+sessions_and_a_letter = refl
+
 empty_word : mode_after ([] ∷ []) ≡ None
 empty_word = refl
 
@@ -71,6 +88,33 @@ gen_without_count = refl
 
 batch_and_more : mode_after (codes "batch" ∷ codes "x" ∷ []) ≡ None
 batch_and_more = refl
+
+batch_and_sessions : mode_after (codes "batch" ∷ codes "sessions" ∷ []) ≡ None
+batch_and_sessions = refl
+
+run_and_batch : mode_after (codes "run" ∷ codes "batch" ∷ []) ≡ None
+run_and_batch = refl
+
+check_and_batch : mode_after (codes "check" ∷ codes "batch" ∷ []) ≡ None
+check_and_batch = refl
+
+sessions_and_run : mode_after (codes "sessions" ∷ codes "run" ∷ []) ≡ None
+sessions_and_run = refl
+
+sessions_and_sessions : mode_after (codes "sessions" ∷ codes "sessions" ∷ []) ≡ None
+sessions_and_sessions = refl
+
+sessions_and_batch_cut_short : mode_after (codes "sessions" ∷ codes "batc" ∷ []) ≡ None
+sessions_and_batch_cut_short = refl
+
+sessions_and_nothing : mode_after (codes "sessions" ∷ [] ∷ []) ≡ None
+sessions_and_nothing = refl
+
+sessions_twice_batch : mode_after (codes "sessions" ∷ codes "batch" ∷ codes "batch" ∷ []) ≡ None
+sessions_twice_batch = refl
+
+sessions_and_numbers : mode_after (codes "sessions" ∷ codes "1" ∷ codes "1" ∷ []) ≡ None
+sessions_and_numbers = refl
 
 check_and_more : mode_after (codes "check" ∷ codes "x" ∷ []) ≡ None
 check_and_more = refl

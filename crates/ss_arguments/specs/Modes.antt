@@ -8,8 +8,11 @@ use Rattle.ss_fields.specs.Words.{number_up_to}
 use Rattle.ss_fields.specs.declared.number_error.NumberError.{NumberError}
 use Rattle.ss_generator.specs.declared.TheConstants.{MOST_COUNT}
 use Rattle.ss_arguments.specs.declared.TheConstants.{MOST_DIGITS}
+use Rattle.ss_arguments.specs.declared.mode.Form.{Form}
 use Rattle.ss_arguments.specs.declared.mode.Mode.{Mode}
-use Rattle.ss_arguments.specs.declared.mode.Mode.TheVariants.{Run, Batch, Check, Gen}
+use Rattle.ss_arguments.specs.declared.mode.Mode.TheVariants.{Serve, Check, Gen}
+use Rattle.ss_arguments.specs.declared.mode.Form.TheVariants.{Lines, Sessions}
+use Rattle.ss_arguments.specs.declared.mode.Sealing.TheVariants.{Each, Shared}
 
 -- the words, as lists of bytes
 abbrev pub words_of : {A : Type 0} → List (String A) → List (List ℕ)
@@ -38,18 +41,32 @@ abbrev pub gen_of : Option ℕ → Option ℕ → Option Mode
 gen_of (Some seed) (Some count) = Some (Gen seed count)
 gen_of _ _ = None
 
--- a mode that stands alone: `run`, `batch` or `check`
+-- a run over the source that seals each event by itself, and one where events that come together share their seals
+abbrev pub plain : Form → Option Mode
+plain form = Some (Serve form Each)
+
+abbrev pub batched : Form → Option Mode
+batched form = Some (Serve form Shared)
+
+-- a mode that stands alone: `run`, `batch`, `sessions` or `check`
 abbrev pub named : List ℕ → Option Mode
 named word =
-    if bytes_eq word (codes "run") then Some Run
-    else (if bytes_eq word (codes "batch") then Some Batch
+    if bytes_eq word (codes "run") then plain Lines
+    else (if bytes_eq word (codes "batch") then batched Lines
+    else (if bytes_eq word (codes "sessions") then plain Sessions
     else (if bytes_eq word (codes "check") then Some Check
-    else None))
+    else None)))
 
--- the mode by what stands after the path: nothing, `run`, `batch`, `check`, or `gen SEED COUNT`
+-- a mode of two words: `sessions batch`
+abbrev pub named_by_two : List ℕ → List ℕ → Option Mode
+named_by_two mode second =
+    if bytes_eq mode (codes "sessions") then (if bytes_eq second (codes "batch") then batched Sessions else None) else None
+
+-- the mode by what stands after the path: nothing, `run`, `batch`, `sessions`, `sessions batch`, `check`, or `gen SEED COUNT`
 abbrev pub mode_asked : List (List ℕ) → Option Mode
-mode_asked [] = Some Run
+mode_asked [] = plain Lines
 mode_asked (mode ∷ []) = named mode
+mode_asked (mode ∷ second ∷ []) = named_by_two mode second
 mode_asked (mode ∷ seed ∷ count ∷ []) = if bytes_eq mode (codes "gen") then gen_of (seed_of seed) (count_of count) else None
 mode_asked _ = None
 

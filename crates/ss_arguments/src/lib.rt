@@ -6,7 +6,7 @@ mod mode;
 mod reading;
 
 pub use laws::{numbers_of_gen_are_in_range, options_ask_for_no_mode};
-pub use mode::Mode;
+pub use mode::{Form, Mode, Sealing};
 pub use reading::mode_of;
 
 /// A number among the arguments has at most this many digits.

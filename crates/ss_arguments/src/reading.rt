@@ -3,10 +3,10 @@ ghost use Rattle.std.specs.Prelude.{◌≡◌, ◌-◌, ◌^◌, true, false, co
 ghost use Rattle.std.specs.List.{list_any};
 ghost use Rattle.std.specs.Str.Parse.{starts_with_minus};
 ghost use Rattle.clap.specs.Words.{app_of};
-ghost use Rattle.ss_arguments.specs.Modes.{are_refused_at_once, mode_asked, count_of, gen_of, mode_of, named, seed_of, words_of};
+ghost use Rattle.ss_arguments.specs.Modes.{are_refused_at_once, batched, mode_asked, count_of, gen_of, mode_of, named, named_by_two, plain, seed_of, words_of};
 ghost use Rattle.ss_arguments.specs.Places.{by_place, three_words};
 
-use crate::{MOST_DIGITS, Mode};
+use crate::{Form, MOST_DIGITS, Mode, Sealing};
 use clap::error::ErrorKind;
 use clap::{Arg, Command};
 use ss_fields::read_u64;
@@ -36,14 +36,45 @@ fn read_count(word: &str) -> Option<u32>
     Some(number as u32)
 }
 
+// A run over the source that seals each event by itself.
+fn plain(form: Form) -> Option<Mode>
+    ensures { result ≡ plain form }
+{
+    Some(Mode::Serve {
+        form,
+        sealing: Sealing::Each,
+    })
+}
+
+// One where events that come together share their seals.
+fn batched(form: Form) -> Option<Mode>
+    ensures { result ≡ batched form }
+{
+    Some(Mode::Serve {
+        form,
+        sealing: Sealing::Shared,
+    })
+}
+
 // The mode of one word.
 fn read_name(word: &str) -> Option<Mode>
     ensures { result ≡ named word.now }
 {
     match word {
-        "run" => Some(Mode::Run),
-        "batch" => Some(Mode::Batch),
+        "run" => plain(Form::Lines),
+        "batch" => batched(Form::Lines),
+        "sessions" => plain(Form::Sessions),
         "check" => Some(Mode::Check),
+        _ => None,
+    }
+}
+
+// The mode of two words.
+fn read_two(mode: &str, second: &str) -> Option<Mode>
+    ensures { result ≡ named_by_two mode.now second.now }
+{
+    match (mode, second) {
+        ("sessions", "batch") => batched(Form::Sessions),
         _ => None,
     }
 }
@@ -58,13 +89,14 @@ fn read_gen(seed: &str, count: &str) -> Option<Mode>
 }
 
 // The mode of the words by their places.
-fn read_places(mode: Option<&str>, seed: Option<&str>, count: Option<&str>) -> Option<Mode>
-    ensures { result ≡ by_place (option_map (λ word. word.now) mode.entry) (option_map (λ word. word.now) seed.entry)
-        (option_map (λ word. word.now) count.entry) }
+fn read_places(mode: Option<&str>, second: Option<&str>, third: Option<&str>) -> Option<Mode>
+    ensures { result ≡ by_place (option_map (λ word. word.now) mode.entry) (option_map (λ word. word.now) second.entry)
+        (option_map (λ word. word.now) third.entry) }
 {
-    match (mode, seed, count) {
-        (None, None, None) => Some(Mode::Run),
+    match (mode, second, third) {
+        (None, None, None) => plain(Form::Lines),
         (Some(mode), None, None) => read_name(mode),
+        (Some(mode), Some(second), None) => read_two(mode, second),
         (Some("gen"), Some(seed), Some(count)) => read_gen(seed, count),
         _ => None,
     }
@@ -92,8 +124,8 @@ fn three_words<'a>(alloc: Global) -> Result<Command<'a>, AllocError>
     Command::new(alloc, "summarystore")
         .no_binary_name(true)
         .arg(Arg::new(alloc, "mode"))?
-        .arg(Arg::new(alloc, "seed"))?
-        .arg(Arg::new(alloc, "count"))
+        .arg(Arg::new(alloc, "second"))?
+        .arg(Arg::new(alloc, "third"))
 }
 
 // The mode of the words after the store's path, none of which begins with `-`.
@@ -104,8 +136,8 @@ fn read_words(alloc: Global, words: &[String]) -> Result<Option<Mode>, AllocErro
     match three_words(alloc)?.try_get_matches_from(words) {
         Ok(matches) => Ok(read_places(
             matches.get_str("mode"),
-            matches.get_str("seed"),
-            matches.get_str("count"),
+            matches.get_str("second"),
+            matches.get_str("third"),
         )),
         Err(error) => match error.kind() {
             ErrorKind::OutOfMemory => Err(AllocError),
@@ -116,7 +148,7 @@ fn read_words(alloc: Global, words: &[String]) -> Result<Option<Mode>, AllocErro
 }
 
 /// The mode that the words of the command line ask for: the program's name, the store's path, and then none, `run`, `batch`,
-/// `check` or `gen SEED COUNT`. `None` at all other words.
+/// `sessions`, `sessions batch`, `check` or `gen SEED COUNT`. `None` at all other words.
 pub fn mode_of(alloc: Global, words: &[String]) -> Result<Option<Mode>, AllocError>
     ensures mode { IfOk result (λ mode. mode ≡ mode_of (words_of words.now)) }
     // Words that are refused at a glance want no memory.

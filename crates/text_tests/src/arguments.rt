@@ -2,12 +2,14 @@
 ghost use Rattle.std.specs.Prelude.{◌<◌};
 
 use crate::tables::pass;
-use ss_arguments::{Mode, mode_of, numbers_of_gen_are_in_range, options_ask_for_no_mode};
+use ss_arguments::{
+    Form, Mode, Sealing, mode_of, numbers_of_gen_are_in_range, options_ask_for_no_mode,
+};
 use std::alloc::{AllocError, Global};
 use std::test::Fail;
 
 // Right words, wrong ones, numbers at the ends of their ranges and past them, with signs, and of 20 and 21 digits.
-const WORDS: [&'static str; 23] = [
+const WORDS: [&'static str; 24] = [
     "run",
     "gen",
     "1",
@@ -31,6 +33,7 @@ const WORDS: [&'static str; 23] = [
     "000000000000000000001",
     "00000000000000000000",
     "batch",
+    "sessions",
 ];
 
 // The number that a word spells in at most 20 digits.
@@ -47,14 +50,28 @@ fn number_of(word: &str) -> Option<u64> {
     }
 }
 
+// A run over the source.
+fn served(form: Form, sealing: Sealing) -> Option<Mode> {
+    Some(Mode::Serve { form, sealing })
+}
+
 // The mode that one word asks for.
 fn mode_of_word(word: &str) -> Option<Mode> {
     match word {
-        "run" => Some(Mode::Run),
-        "batch" => Some(Mode::Batch),
+        "run" => served(Form::Lines, Sealing::Each),
+        "batch" => served(Form::Lines, Sealing::Shared),
+        "sessions" => served(Form::Sessions, Sealing::Each),
         "check" => Some(Mode::Check),
         _ => None,
     }
+}
+
+// The mode that two words ask for.
+fn mode_of_two(mode: &str, second: &str) -> Option<Mode> {
+    if mode == "sessions" && second == "batch" {
+        return served(Form::Sessions, Sealing::Shared);
+    }
+    None
 }
 
 // The mode of a seed and a count: a count is from 1 to 100,000.
@@ -76,8 +93,9 @@ fn mode_of_numbers(seed: Option<u64>, count: Option<u64>) -> Option<Mode> {
 // The mode that all the words ask for, by the table of modes.
 fn expected(words: &[String]) -> Option<Mode> {
     match words {
-        [_, _] => Some(Mode::Run),
+        [_, _] => served(Form::Lines, Sealing::Each),
         [_, _, word] => mode_of_word(word.as_str()),
+        [_, _, mode, second] => mode_of_two(mode.as_str(), second.as_str()),
         [_, _, name, seed, count] => {
             if name.as_str() == "gen" {
                 return mode_of_numbers(number_of(seed.as_str()), number_of(count.as_str()));
@@ -94,7 +112,7 @@ fn push(alloc: Global, words: &mut Vec<String>, word: &str) -> Result<(), AllocE
 }
 
 fn push_nth(alloc: Global, words: &mut Vec<String>, place: u32) -> Result<(), AllocError> {
-    if place >= 23 {
+    if place >= 24 {
         return Ok(());
     }
     push(alloc, words, WORDS[place as usize])
@@ -180,7 +198,7 @@ fn first_wrong_of_all(alloc: Global, base: u32, most: u32) -> Result<Option<u32>
 
 #[test]
 fn up_to_three_words(rt: HostRuntime) -> Result<(), Fail> {
-    pass(first_wrong_of_all(rt.alloc(), 23, 3)?)
+    pass(first_wrong_of_all(rt.alloc(), 24, 3)?)
 }
 
 #[test]
