@@ -4,7 +4,7 @@ use Rattle.std.proofs.Common.{nat_eq, refl, sym, ap, ◌∙◌, subst}
 use Rattle.std.specs.Prelude.{IsTrue}
 use Rattle.ss_arguments.specs.Modes.{mode_of}
 use Rattle.ss_arguments.specs.declared.mode.Mode.{Mode}
-use Rattle.ss_arguments.specs.declared.mode.Mode.TheVariants.{Run, Batch, Check, Gen}
+use Rattle.ss_arguments.specs.declared.mode.Mode.TheVariants.{Serve, Check, Gen}
 use Rattle.ss_arguments.proofs.ModeLemmas.{mode_of-gen}
 use Rattle.ss_model.specs.State.{Stream}
 use Rattle.ss_outside.proofs.StepLemmas.{step-then}
@@ -198,10 +198,7 @@ Ends-opened old mid new before after had has status first found second ends coun
 pub source-calm : (asked : Option Mode) (mode : Mode) (before after : Option (List ℕ)) (status : Status) (s t : ℕ) → asked ≡ Some mode →
     (sealing_of (Some mode) ≡ None → IsUnfed before after status) → Counted (source_verdict status) s t → (IsSome (sealing_of asked) → Rose s t → ⊥) →
     status ≡ SourceFault → ⊥
-source-calm asked Run before after status s t is unfed counted calm same =
-    let rose : Counted (source_verdict SourceFault) s t = subst (λ x. Counted (source_verdict x) s t) same counted in
-    calm (subst (λ m. IsSome (sealing_of m)) (sym is) refl) rose.1
-source-calm asked Batch before after status s t is unfed counted calm same =
+source-calm asked (Serve form sealing) before after status s t is unfed counted calm same =
     let rose : Counted (source_verdict SourceFault) s t = subst (λ x. Counted (source_verdict x) s t) same counted in
     calm (subst (λ m. IsSome (sealing_of m)) (sym is) refl) rose.1
 source-calm asked Check before after status s t is unfed counted calm same = subst (λ x. IsUnfed before after x) same (unfed refl)
@@ -270,7 +267,6 @@ unfed-unopened (opening.Changed slot) before after had has as_refused = as_refus
 
 -- a mode that was asked for has the numbers that it may have
 pub has-numbers : (words : List (List ℕ)) (mode : Mode) → mode_of words ≡ Some mode → HasNumbers mode
-has-numbers words Run is = tt
-has-numbers words Batch is = tt
+has-numbers words (Serve form sealing) is = tt
 has-numbers words Check is = tt
 has-numbers words (Gen seed count) is = let range = mode_of-gen words seed count is in (range.1, range.2)

@@ -3,7 +3,8 @@ use Rattle.std.proofs.Common.{◌≡◌, ◌⊎◌, ℕ, ◌+◌, ◌<◌, ◌�
 use Rattle.std.proofs.Common.{Option, Some, None, refl, arith}
 use Rattle.std.specs.Prelude.{IsTrue}
 use Rattle.ss_arguments.specs.declared.mode.Mode.{Mode}
-use Rattle.ss_arguments.specs.declared.mode.Mode.TheVariants.{Run, Batch, Check, Gen}
+use Rattle.ss_arguments.specs.declared.mode.Form.TheVariants.{Lines, Sessions}
+use Rattle.ss_arguments.specs.declared.mode.Mode.TheVariants.{Serve, Check, Gen}
 use Rattle.ss_model.specs.State.{Stream}
 use Rattle.ss_outside.specs.Crash.{LeavesOnly, OnlyReads}
 use Rattle.ss_outside.specs.Disk.{DiskView, NothingPending, Told}
@@ -24,8 +25,8 @@ use Rattle.ss_program.specs.Sent.{appended, AppendsFront, SaysLine}
 use Rattle.ss_program.specs.Session.{accepted, report, report_so_far}
 use Rattle.ss_program.specs.Words.{usage}
 use Rattle.ss_program.specs.declared.running.TheConstants.{LONGEST_INPUT}
-use Rattle.ss_program.specs.declared.sealing.Sealing.{Sealing}
-use Rattle.ss_program.specs.declared.sealing.Sealing.TheVariants.{Each, Shared}
+use Rattle.ss_arguments.specs.declared.mode.Sealing.{Sealing}
+use Rattle.ss_arguments.specs.declared.mode.Sealing.TheVariants.{Each, Shared}
 use Rattle.ss_program.specs.declared.status.Status.{Status}
 use Rattle.ss_program.specs.declared.status.Status.TheVariants.{
   Done,
@@ -258,11 +259,17 @@ begins-run sealing mode disk left history input asked tells durable stands sourc
     record { asked = asked; tells = tells; durable = durable; stands = stands; source = source }
 
 -- which modes are runs over a source, and how each seals
-sealing-run : sealing_of (Some Run) ≡ Some Each
+sealing-run : sealing_of (Some (Serve Lines Each)) ≡ Some Each
 sealing-run = refl
 
-sealing-batch : sealing_of (Some Batch) ≡ Some Shared
+sealing-batch : sealing_of (Some (Serve Lines Shared)) ≡ Some Shared
 sealing-batch = refl
+
+sealing-sessions : sealing_of (Some (Serve Sessions Each)) ≡ Some Each
+sealing-sessions = refl
+
+sealing-sessions_batch : sealing_of (Some (Serve Sessions Shared)) ≡ Some Shared
+sealing-sessions_batch = refl
 
 sealing-check : sealing_of (Some Check) ≡ None
 sealing-check = refl

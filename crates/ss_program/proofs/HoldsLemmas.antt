@@ -38,8 +38,8 @@ use Rattle.ss_program.specs.Outcome.{HoldsBy, HoldsReported, lines_within}
 use Rattle.ss_program.specs.Progress.{StandsAround, StandsStopped, StopsAmong, StopsAt, StopsBy, StopsWith}
 use Rattle.ss_program.specs.Sent.{appended}
 use Rattle.ss_program.specs.Session.{accepted, after_lines, text_of}
-use Rattle.ss_program.specs.declared.sealing.Sealing.{Sealing}
-use Rattle.ss_program.specs.declared.sealing.Sealing.TheVariants.{Each, Shared}
+use Rattle.ss_arguments.specs.declared.mode.Sealing.{Sealing}
+use Rattle.ss_arguments.specs.declared.mode.Sealing.TheVariants.{Each, Shared}
 use Rattle.ss_program.specs.declared.status.Status.{Status}
 use Rattle.ss_program.specs.declared.status.Status.TheVariants.{
   Done,

@@ -15,7 +15,7 @@ use Rattle.ss_program.specs.Line.{History}
 use Rattle.ss_program.specs.Outcome.{Reads, Serves}
 use Rattle.ss_program.specs.Progress.{StandsWithin}
 use Rattle.ss_program.specs.Refused.{AsRefused, status_of_open}
-use Rattle.ss_program.specs.declared.sealing.Sealing.{Sealing}
+use Rattle.ss_arguments.specs.declared.mode.Sealing.{Sealing}
 use Rattle.ss_program.specs.declared.status.Status.{Status}
 use Rattle.ss_program.specs.declared.status.Status.TheVariants.{Done, DiskFault, SourceFault, SinkFault, OutOfMemory, InputLimit}
 use Rattle.ss_program.proofs.HoldsLemmas.{HoldsReported-done}

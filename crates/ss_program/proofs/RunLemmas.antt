@@ -44,7 +44,7 @@ use Rattle.ss_program.specs.Sent.{appended, AppendsFront}
 use Rattle.ss_program.specs.Session.{after_lines, report, report_so_far, text_of}
 use Rattle.ss_program.specs.Status.{IsStop}
 use Rattle.ss_program.specs.declared.running.TheConstants.{LONGEST_INPUT}
-use Rattle.ss_program.specs.declared.sealing.Sealing.{Sealing}
+use Rattle.ss_arguments.specs.declared.mode.Sealing.{Sealing}
 use Rattle.ss_program.specs.declared.status.Status.{Status}
 use Rattle.ss_program.specs.declared.status.Status.TheVariants.{
   Done,

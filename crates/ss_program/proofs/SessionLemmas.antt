@@ -14,8 +14,8 @@ use Rattle.ss_store.specs.Recover.{Stands}
 use Rattle.ss_program.specs.Progress.{BeginsWithEvent, StandsAround, StandsBeyond, StandsStopped, StandsWithin, StopsAmong, StopsAt, StopsBy, StopsWith}
 use Rattle.ss_program.specs.Sent.{appended, AppendsFront}
 use Rattle.ss_program.specs.Session.{accepted, after_line, after_lines, replies, report, report_so_far, text_of}
-use Rattle.ss_program.specs.declared.sealing.Sealing.{Sealing}
-use Rattle.ss_program.specs.declared.sealing.Sealing.TheVariants.{Each, Shared}
+use Rattle.ss_arguments.specs.declared.mode.Sealing.{Sealing}
+use Rattle.ss_arguments.specs.declared.mode.Sealing.TheVariants.{Each, Shared}
 use Rattle.ss_program.specs.declared.status.Status.{Status}
 use Rattle.ss_program.specs.declared.status.Status.TheVariants.{
   Done,

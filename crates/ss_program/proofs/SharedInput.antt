@@ -38,7 +38,7 @@ use Rattle.ss_program.specs.Line.{History}
 use Rattle.ss_program.specs.Progress.{EndsSession, HasReplied, HasTaken, SessionState, StopsIn, TakesPiece}
 use Rattle.ss_program.specs.Session.{after_lines}
 use Rattle.ss_program.specs.Shared.{Amid, GoesAmid, IsAmid, OfAmid, TakesBytes, TakesLast, TakesLines, amid}
-use Rattle.ss_program.specs.declared.sealing.Sealing.TheVariants.{Shared}
+use Rattle.ss_arguments.specs.declared.mode.Sealing.TheVariants.{Shared}
 use Rattle.ss_program.specs.declared.status.Status.{Status}
 use Rattle.ss_program.specs.declared.status.Status.TheVariants.{Done}
 use Rattle.ss_program.proofs.SendLemmas.{rest-slice}

@@ -11,7 +11,7 @@ use Rattle.ss_program.specs.Progress.{BeginsWithEvent, StandsBeyond, StandsWithi
 use Rattle.ss_program.specs.Sent.{appended}
 use Rattle.ss_program.specs.Session.{after_lines, text_of}
 use Rattle.ss_program.specs.Shared.{Amid, GoesAmid, IsAmid, TakesLines, amid}
-use Rattle.ss_program.specs.declared.sealing.Sealing.TheVariants.{Shared}
+use Rattle.ss_arguments.specs.declared.mode.Sealing.TheVariants.{Shared}
 use Rattle.ss_program.specs.declared.status.Status.{Status}
 use Rattle.ss_program.proofs.SessionLemmas.{StandsWithin-more, after_lines-append, text_of-append}
 

@@ -18,7 +18,7 @@ use Rattle.ss_program.specs.Progress.{StandsAround, StandsWithin, StopsIn, Stops
 use Rattle.ss_program.specs.Sent.{appended, AppendsLess}
 use Rattle.ss_program.specs.Session.{after_lines, text_of}
 use Rattle.ss_program.specs.Shared.{Amid, GoesAmid, StagesBrought, TakesBrought, TakesLines, amid}
-use Rattle.ss_program.specs.declared.sealing.Sealing.TheVariants.{Shared}
+use Rattle.ss_arguments.specs.declared.mode.Sealing.TheVariants.{Shared}
 use Rattle.ss_program.specs.declared.status.Status.{Status}
 use Rattle.ss_program.specs.declared.status.Status.TheVariants.{
   Done,

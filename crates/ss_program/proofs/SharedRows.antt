@@ -13,7 +13,7 @@ use Rattle.ss_program.specs.Outcome.{HoldsBy, lines_within}
 use Rattle.ss_program.specs.Progress.{BeginsWithEvent, HasTaken, NoneWait, SessionState, StandsBeyond, StopsAmong, StopsAt, StopsBy}
 use Rattle.ss_program.specs.Sent.{appended}
 use Rattle.ss_program.specs.Session.{accepted, after_lines, text_of}
-use Rattle.ss_program.specs.declared.sealing.Sealing.TheVariants.{Each, Shared}
+use Rattle.ss_arguments.specs.declared.mode.Sealing.TheVariants.{Each, Shared}
 use Rattle.ss_program.specs.declared.status.Status.{Status}
 use Rattle.ss_program.specs.declared.status.Status.TheVariants.{Done, OutOfMemory}
 

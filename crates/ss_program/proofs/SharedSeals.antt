@@ -42,7 +42,7 @@ use Rattle.ss_program.specs.Sent.{appended, AppendsLess, Sends}
 use Rattle.ss_program.specs.Session.{after_lines, text_of}
 use Rattle.ss_program.specs.Shared.{GoesAmid, IsAmid, TakesLines, amid}
 use Rattle.ss_program.specs.Status.{disk_verdict, ended}
-use Rattle.ss_program.specs.declared.sealing.Sealing.TheVariants.{Shared}
+use Rattle.ss_arguments.specs.declared.mode.Sealing.TheVariants.{Shared}
 use Rattle.ss_program.specs.declared.status.Status.{Status}
 use Rattle.ss_program.specs.declared.status.Status.TheVariants.{DiskFault, SinkFault, OutOfMemory}
 use Rattle.ss_program.proofs.SendLemmas.{appended-appended}

@@ -1,7 +1,7 @@
 -- How a run ends.
 use Rattle.std.specs.Prelude.{◌≡◌, ◌⊎◌, ◌≤◌, ℕ, List, IsSome, IsTrue, Option, Some, None, ⊤}
 use Rattle.ss_arguments.specs.declared.mode.Mode.{Mode}
-use Rattle.ss_arguments.specs.declared.mode.Mode.TheVariants.{Run, Batch, Check, Gen}
+use Rattle.ss_arguments.specs.declared.mode.Mode.TheVariants.{Serve, Check, Gen}
 use Rattle.ss_generator.specs.declared.TheConstants.{MOST_COUNT}
 use Rattle.ss_outside.specs.Crash.{OnlyReads}
 use Rattle.ss_outside.specs.Disk.{Between, Told}
@@ -13,8 +13,7 @@ use Rattle.ss_program.specs.Refused.{RefusesStore, refusal_line}
 use Rattle.ss_program.specs.Sent.{SaysLine}
 use Rattle.ss_program.specs.Status.{disk_verdict, sink_verdict}
 use Rattle.ss_program.specs.Words.{usage}
-use Rattle.ss_program.specs.declared.sealing.Sealing.{Sealing}
-use Rattle.ss_program.specs.declared.sealing.Sealing.TheVariants.{Each, Shared}
+use Rattle.ss_arguments.specs.declared.mode.Sealing.{Sealing}
 use Rattle.ss_program.specs.declared.status.Status.{Status}
 use Rattle.ss_program.specs.declared.status.Status.TheVariants.{Done, Usage, RefusedStore, DiskFault, SourceFault, OutOfMemory, InputLimit, RecordChanged}
 
@@ -64,13 +63,11 @@ IsUnfed before after status = ⊤
 
 -- the numbers of a generated file are those that a mode may have
 abbrev pub HasNumbers : Mode → Type 0
-HasNumbers Run = ⊤
-HasNumbers Batch = ⊤
+HasNumbers (Serve form sealing) = ⊤
 HasNumbers Check = ⊤
 HasNumbers (Gen seed count) = (1 ≤ count) × (count ≤ MOST_COUNT)
 
 -- which events come to the disk together, where the arguments ask for a run over the source
 abbrev pub sealing_of : Option Mode → Option Sealing
-sealing_of (Some Run) = Some Each
-sealing_of (Some Batch) = Some Shared
+sealing_of (Some (Serve form sealing)) = Some sealing
 sealing_of asked = None

@@ -9,8 +9,8 @@ use Rattle.ss_store.specs.Recover.{Stands}
 use Rattle.ss_program.specs.Line.{Brought, History, brings, history_after, text_brought}
 use Rattle.ss_program.specs.Sent.{appended, AppendsLess}
 use Rattle.ss_program.specs.Session.{after_lines, text_of, report_so_far}
-use Rattle.ss_program.specs.declared.sealing.Sealing.{Sealing}
-use Rattle.ss_program.specs.declared.sealing.Sealing.TheVariants.{Each, Shared}
+use Rattle.ss_arguments.specs.declared.mode.Sealing.{Sealing}
+use Rattle.ss_arguments.specs.declared.mode.Sealing.TheVariants.{Each, Shared}
 use Rattle.ss_program.specs.declared.status.Status.{Status}
 use Rattle.ss_program.specs.declared.status.Status.TheVariants.{Done, DiskFault, SinkFault, OutOfMemory, RecordChanged}
 

@@ -5,7 +5,7 @@ use Rattle.ss_outside.specs.Disk.{DiskView, NothingPending}
 use Rattle.ss_store.specs.Recover.{Stands}
 use Rattle.ss_program.specs.Ending.{sealing_of}
 use Rattle.ss_program.specs.Line.{History}
-use Rattle.ss_program.specs.declared.sealing.Sealing.{Sealing}
+use Rattle.ss_arguments.specs.declared.mode.Sealing.{Sealing}
 
 -- The arguments ask for a run over the source, whose events come to the disk in this way; the store's disk tells that it holds this
 -- history, with nothing pending; and the source tells that these bytes are its input.

@@ -12,7 +12,7 @@ use Rattle.ss_program.specs.Line.{Brought, History, brings, history_after}
 use Rattle.ss_program.specs.Progress.{StandsAround, StandsWithin, StopsIn}
 use Rattle.ss_program.specs.Sent.{appended}
 use Rattle.ss_program.specs.Session.{after_lines, text_of}
-use Rattle.ss_program.specs.declared.sealing.Sealing.TheVariants.{Shared}
+use Rattle.ss_arguments.specs.declared.mode.Sealing.TheVariants.{Shared}
 use Rattle.ss_program.specs.declared.status.Status.{Status}
 
 -- what lines change: the records of the store, the replies that wait for a seal, and what the sink holds

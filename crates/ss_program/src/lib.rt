@@ -12,7 +12,6 @@ mod promises;
 mod refuse;
 mod replies;
 mod running;
-mod sealing;
 mod sending;
 mod series;
 mod session;

@@ -15,15 +15,14 @@ ghost use Rattle.ss_program.specs.Held.{StandsForFirst, acks};
 ghost use Rattle.ss_program.specs.Line.{History};
 ghost use Rattle.ss_program.specs.Outcome.{lines_within};
 ghost use Rattle.ss_program.specs.Promises.{BeginsOver};
-ghost use Rattle.ss_program.specs.declared.sealing.Sealing.{Sealing};
+ghost use Rattle.ss_arguments.specs.declared.mode.Sealing.{Sealing};
 ghost use Rattle.ss_program.specs.Sent.{appended};
 ghost use Rattle.ss_program.specs.Session.{accepted, report};
 ghost use Rattle.ss_program.specs.Status.{EndsAs};
 
 use crate::running::run;
-use crate::sealing::Sealing;
 use crate::status::Status;
-use ss_arguments::Mode;
+use ss_arguments::{Mode, Sealing};
 use ss_outside::{Disk, Sink, Source};
 use std::alloc::Global;
 

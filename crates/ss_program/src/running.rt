@@ -39,16 +39,15 @@ ghost use Rattle.ss_program.specs.Generated.{GeneratesFrom};
 ghost use Rattle.ss_program.specs.Line.{History};
 ghost use Rattle.ss_program.specs.Outcome.{Moved, Reads, ReadsPiece, ServesInput};
 ghost use Rattle.ss_program.specs.Progress.{NoneWait, sealing_by};
-ghost use Rattle.ss_program.specs.declared.sealing.Sealing.{Sealing};
+ghost use Rattle.ss_arguments.specs.declared.mode.Sealing.{Sealing};
 ghost use Rattle.ss_program.specs.Status.{EndsAs, EndsServing, disk_verdict, ended, sink_verdict, source_verdict, IsStop};
 
 use crate::check::check;
 use crate::generate::generate;
 use crate::refuse::{refuse, say_usage};
-use crate::sealing::Sealing;
 use crate::session::Session;
 use crate::status::Status;
-use ss_arguments::{Mode, mode_of};
+use ss_arguments::{Mode, Sealing, mode_of};
 use ss_outside::{Disk, Failed, Sink, Source};
 use ss_store::Store;
 use std::alloc::Global;
@@ -190,8 +189,7 @@ fn run_mode<D: Disk, S: Source, K: Sink>(
         Between (D.seen disk.old) (D.seen disk.new) (GeneratesFrom seed count (K.held sink.old) (K.held sink.new) result) }
 {
     match mode {
-        Mode::Run => run_source(alloc, Sealing::Each, disk, source, sink),
-        Mode::Batch => run_source(alloc, Sealing::Shared, disk, source, sink),
+        Mode::Serve { sealing, .. } => run_source(alloc, sealing, disk, source, sink),
         Mode::Check => check(alloc, disk, sink),
         Mode::Gen { seed, count } => generate(alloc, seed, count, disk, sink),
     }

@@ -10,7 +10,6 @@ ghost use Rattle.ss_program.specs.Status.{disk_verdict, ended, sink_verdict, IsS
 
 use crate::each::{finish_each, take_each};
 use crate::replies::Replies;
-use crate::sealing::Sealing;
 use crate::shared::{finish_shared, take_shared};
 use crate::status::Status;
 use ss_command::LineReader;

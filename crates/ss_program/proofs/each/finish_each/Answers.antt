@@ -9,7 +9,7 @@ use Rattle.ss_command.specs.declared.TheConstants.{LONGEST_LINE}
 use Rattle.ss_program.specs.Progress.{EndsSession, EndsWell, StopsIn}
 use Rattle.ss_program.specs.Session.{after_lines}
 use Rattle.ss_program.specs.Status.{IsStop}
-use Rattle.ss_program.specs.declared.sealing.Sealing.TheVariants.{Each}
+use Rattle.ss_arguments.specs.declared.mode.Sealing.TheVariants.{Each}
 use Rattle.ss_program.specs.declared.status.Status.{Status}
 use Rattle.ss_program.specs.declared.status.Status.TheVariants.{Done}
 use Rattle.ss_program.proofs.TakeLemmas.{each_over, EndsWell-line, EndsWell-same, StopsIn-next, ended_line-short}

@@ -2,7 +2,7 @@ use Rattle.std.proofs.Common.{◌++◌, take, take_all, drop, length, ◌-◌, r
 use Rattle.ss_command.specs.Lines.{lines_so_far}
 use Rattle.ss_outside.proofs.StepLemmas.{step-as, step-none, step-then}
 use Rattle.ss_program.specs.Progress.{GoesOn, OfTaken, StopsIn}
-use Rattle.ss_program.specs.declared.sealing.Sealing.TheVariants.{Each}
+use Rattle.ss_arguments.specs.declared.mode.Sealing.TheVariants.{Each}
 use Rattle.ss_program.proofs.SendLemmas.{fits_more}
 use Rattle.ss_program.proofs.TakeLemmas.{each_over, GoesOn-start, GoesOn-then, StopsIn-then, taken_more, taken_rest}
 use Rattle.ss_program.proofs.each.take_each.Goals as goal

@@ -7,8 +7,8 @@ use Rattle.ss_program.specs.Held.{acks}
 use Rattle.ss_program.specs.Line.{History}
 use Rattle.ss_program.specs.Outcome.{HoldsBy}
 use Rattle.ss_program.specs.Session.{accepted}
-use Rattle.ss_program.specs.declared.sealing.Sealing.{Sealing}
-use Rattle.ss_program.specs.declared.sealing.Sealing.TheVariants.{Each, Shared}
+use Rattle.ss_arguments.specs.declared.mode.Sealing.{Sealing}
+use Rattle.ss_arguments.specs.declared.mode.Sealing.TheVariants.{Each, Shared}
 use Rattle.ss_store.specs.Recover.{Stands}
 use Rattle.ss_program.specs.declared.status.Status.TheVariants.{Done, Usage, RefusedStore, DiskFault, SourceFault, SinkFault, OutOfMemory, RecordChanged}
 use Rattle.ss_program.proofs.promises.run_store.Goals as goal

@@ -5,8 +5,7 @@ use Rattle.ss_outside.specs.Disk.{Between}
 use Rattle.ss_program.specs.Ending.{HasNumbers, sealing_of}
 use Rattle.ss_program.specs.Generated.{GeneratesFrom}
 use Rattle.ss_program.specs.Outcome.{ServesInput}
-use Rattle.ss_program.specs.declared.sealing.Sealing.{Sealing}
-use Rattle.ss_program.specs.declared.sealing.Sealing.TheVariants.{Each, Shared}
+use Rattle.ss_arguments.specs.declared.mode.Sealing.{Sealing}
 use Rattle.ss_program.proofs.running.run_mode.Goals as goal
 
 pub generate-requires-clause-some : goal.generate-requires-clause-some
@@ -22,18 +21,11 @@ as_asked P mode found sealing is asked has =
     let same : found ≡ sealing = cc in
     subst P same has
 
-pub returns-in-Run-clause-serves : goal.returns-in-Run-clause-serves
-returns-in-Run-clause-serves g c sealing asked input left =
+pub returns-in-Serve-clause-serves : goal.returns-in-Serve-clause-serves
+returns-in-Serve-clause-serves g c sealing asked input left =
     as_asked (λ s. Between (g.D.Disk.seen c.args.disk.now) (g.D.Disk.seen c.run_source.new.disk)
     (ServesInput s input (g.S.Source.left c.run_source.new.source) (g.K.Sink.held c.args.sink.now) (g.K.Sink.held c.run_source.new.sink)
-    c.run_source.result)) c.args.mode Each sealing (ap (λ m. sealing_of (Some m)) c.in-Run.is) asked (c.run_source.ensures.serves input left)
-
-pub returns-in-Batch-clause-serves : goal.returns-in-Batch-clause-serves
-returns-in-Batch-clause-serves g c sealing asked input left =
-    as_asked (λ s. Between (g.D.Disk.seen c.args.disk.now) (g.D.Disk.seen c.run_source-in-Batch.new.disk)
-    (ServesInput s input (g.S.Source.left c.run_source-in-Batch.new.source) (g.K.Sink.held c.args.sink.now)
-    (g.K.Sink.held c.run_source-in-Batch.new.sink) c.run_source-in-Batch.result)) c.args.mode Shared sealing
-    (ap (λ m. sealing_of (Some m)) c.in-Batch.is) asked (c.run_source-in-Batch.ensures.serves input left)
+    c.run_source.result)) c.args.mode c.in-Serve.sealing sealing (ap (λ m. sealing_of (Some m)) c.in-Serve.is) asked (c.run_source.ensures.serves input left)
 
 pub returns-in-Gen-clause-generates : goal.returns-in-Gen-clause-generates
 returns-in-Gen-clause-generates g c seed count is =
