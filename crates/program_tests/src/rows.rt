@@ -120,7 +120,7 @@ const DROPS_REPORT: &str = "ok 0 0\nok 1 1\nok 2 2\nok 3 2\nok 4 3\nok 5 3\nok 6
     refused SYNTAX\nrefused SYNTAX\nrefused NAME\nrefused UNKNOWN\nrefused SYNTAX\n\
     list 1\na exp 2 1 1 1 1 0 0\n";
 
-const USAGE: &str = "usage: summarystore STORE [run | check | gen SEED COUNT]\n";
+const USAGE: &str = "usage: summarystore STORE [run | check | gen SEED COUNT | sessions]\n";
 
 // Whether an input in pieces has this report.
 fn has_report(

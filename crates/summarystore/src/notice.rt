@@ -3,7 +3,7 @@ ghost use Rattle.std.specs.Prelude.{◌≡◌, ◌⊎◌, ◌↔◌, IsSome, cod
 
 /// The help text.
 pub const HELP: &str = "\
-usage: summarystore STORE [run | check | gen SEED COUNT]
+usage: summarystore STORE [run | check | gen SEED COUNT | sessions]
 
 Reads commands from standard input, one a line, and replies to each on standard
 output. STORE is the file that keeps the streams. It is made where there is none,
