@@ -7,6 +7,8 @@ use Rattle.ss_catalog.specs.declared.query.End.TheVariants.{Lo, Hi}
 use Rattle.ss_catalog.specs.declared.query.Query.{Query}
 use Rattle.ss_contents.specs.Attained.{IsTruthOfLike, MayBeTrue}
 use Rattle.ss_contents.specs.Contents.{contents_of}
+use Rattle.ss_contents.specs.Moved.{MayBeCounted}
+use Rattle.ss_contents.proofs.MovedLemmas.{MayBeCounted-true}
 use Rattle.ss_model.specs.Answers.{outcome_of}
 use Rattle.ss_model.specs.State.{Stream, stream_named}
 use Rattle.ss_model.specs.declared.outcome.Outcome.{Outcome}
@@ -45,3 +47,11 @@ pub MayBeTrue-sums : (streams : List Stream) (query : Query) (lo hi : ℤ) → o
 MayBeTrue-sums streams query lo hi answered =
     let end = MayBeTrue-end streams query (Sum lo hi) answered (ap adds_up (answer-kind streams query (Sum lo hi) answered)) in
     (end Lo lo refl, end Hi hi refl)
+
+-- and each end of a count with all filters as they are
+pub MayBeCounted-counts : (streams : List Stream) (query : Query) (lo hi : ℕ) → outcome_of streams query ≡ Some (Count lo hi)
+    → MayBeCounted streams query lo × MayBeCounted streams query hi
+MayBeCounted-counts streams query lo hi answered =
+    let kind = answer-kind streams query (Count lo hi) answered in
+    let both = MayBeTrue-counts streams query lo hi answered in
+    (MayBeCounted-true streams query lo kind both.0, MayBeCounted-true streams query hi kind both.1)

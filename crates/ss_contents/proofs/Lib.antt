@@ -1,4 +1,5 @@
 mod Rows
+mod MovedRows
 pub mod PickedLemmas
 pub mod FilledLemmas
 pub mod PlacedLemmas
@@ -6,3 +7,4 @@ pub mod PieceLemmas
 pub mod ReplacedLemmas
 pub mod SayableLemmas
 pub mod ContentsLemmas
+pub mod MovedLemmas

@@ -4,6 +4,6 @@
 mod laws;
 
 pub use laws::{
-    fitting_answers_may_be_true, fitting_values_are_attained, histories_give_contents,
-    intervals_hold_for_all_that_are_like, rebuilt_is_like,
+    counts_are_true_of_the_same_values, fitting_answers_may_be_true, fitting_values_are_attained,
+    histories_give_contents, intervals_hold_for_all_that_are_like, rebuilt_is_like,
 };
