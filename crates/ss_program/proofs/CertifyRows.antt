@@ -30,6 +30,7 @@ use Rattle.ss_windowing.specs.Windowing.{window_index}
 use Rattle.ss_program.specs.Certifying.{FindsEvidence, IsSharp}
 use Rattle.ss_program.specs.Line.{History}
 use Rattle.ss_program.specs.Session.{accepted, report}
+use Rattle.ss_program.specs.Talk.{plain}
 
 -- lines, each with its line end
 abbrev text : List (List ℕ) → List ℕ
@@ -48,7 +49,7 @@ certifies =
     ∷ codes "certify a count hi 10 25" ∷ codes "certify x sum lo 5 4" ∷ codes "certify a sum lo 5 4" ∷ codes "certify a max lo 5 4"
     ∷ codes "certify a sum lo 5 x" ∷ codes "certify a! sum lo 5 4" ∷ [])
 
-report-certifies : report readings certifies
+report-certifies : report (plain readings) certifies
     ≡ text (codes "certify -5 0 1" ∷ codes "inside 1 4 2 -3*1 -2*1" ∷ codes "outside 1 4 2 8*2"
     ∷ codes "certify 25 0 2" ∷ codes "inside 1 4 2 8*2" ∷ codes "outside 1 4 2 -3*1 -2*1" ∷ codes "inside 5 6 1 9*1" ∷ codes "outside 5 6 1 2*1"
     ∷ codes "certify 4 4 0"
@@ -59,7 +60,7 @@ unfolding ended_lines unended meaning words is_number number_of number_up_to sig
 report-certifies = refl
 
 -- they add no event
-accepted-certifies : accepted readings (lines certifies) ≡ []
+accepted-certifies : accepted (plain readings) (lines certifies) ≡ []
 unfolding ended_lines unended meaning words is_number number_of number_up_to signed_of is_name state refuses_query outcome_of sum_interval window_index
     least_sum_at greatest_sum_at fill
 accepted-certifies = refl

@@ -19,7 +19,7 @@ use Rattle.ss_store.specs.Surveyed.{SurveysAs}
 use Rattle.ss_store.specs.declared.error.OpenError.{OpenError}
 use Rattle.ss_store.specs.declared.error.OpenError.TheVariants as opening
 use Rattle.ss_program.specs.Devices.{Devices, over}
-use Rattle.ss_program.specs.Ending.{Completes, Ends, HasNumbers, IsRefusedContent, IsUnfed, Refuses, sealing_of}
+use Rattle.ss_program.specs.Ending.{Completes, Ends, HasNumbers, IsRefusedContent, IsUnfed, Refuses, served_by}
 use Rattle.ss_program.specs.Refused.{AsRefused, refusal_line, status_of_open}
 use Rattle.ss_program.specs.Sent.{SaysLine}
 use Rattle.ss_program.specs.Status.{EndsAs, EndsServing, IsStop, disk_verdict, exit_number, sink_verdict, source_verdict, IsApplyStop}
@@ -196,11 +196,11 @@ Ends-opened old mid new before after had has status first found second ends coun
 
 -- a run whose source didn't fail, or that reads none, doesn't end by it
 pub source-calm : (asked : Option Mode) (mode : Mode) (before after : Option (List ℕ)) (status : Status) (s t : ℕ) → asked ≡ Some mode →
-    (sealing_of (Some mode) ≡ None → IsUnfed before after status) → Counted (source_verdict status) s t → (IsSome (sealing_of asked) → Rose s t → ⊥) →
+    (served_by (Some mode) ≡ None → IsUnfed before after status) → Counted (source_verdict status) s t → (IsSome (served_by asked) → Rose s t → ⊥) →
     status ≡ SourceFault → ⊥
 source-calm asked (Serve form sealing) before after status s t is unfed counted calm same =
     let rose : Counted (source_verdict SourceFault) s t = subst (λ x. Counted (source_verdict x) s t) same counted in
-    calm (subst (λ m. IsSome (sealing_of m)) (sym is) refl) rose.1
+    calm (subst (λ m. IsSome (served_by m)) (sym is) refl) rose.1
 source-calm asked Check before after status s t is unfed counted calm same = subst (λ x. IsUnfed before after x) same (unfed refl)
 source-calm asked (Gen a b) before after status s t is unfed counted calm same = subst (λ x. IsUnfed before after x) same (unfed refl)
 

@@ -13,7 +13,7 @@ use Rattle.ss_store.specs.Recover.{Stands, recover}
 use Rattle.ss_store.specs.Surveyed.{survey_of}
 use Rattle.ss_program.specs.Checked.{Checks, survey_line}
 use Rattle.ss_program.specs.Devices.{Devices}
-use Rattle.ss_program.specs.Ending.{Completes, Ends, IsRefusedContent, IsUnfed, Refuses, Rejects, sealing_of}
+use Rattle.ss_program.specs.Ending.{Completes, Ends, IsRefusedContent, IsUnfed, Refuses, Rejects, served_by, serving}
 use Rattle.ss_program.specs.Generated.{Generates, StandsForAll, StandsForGenerated, summary}
 use Rattle.ss_program.specs.Held.{HoldsAcked, StandsForFirst, acks}
 use Rattle.ss_program.specs.Line.{History}
@@ -23,8 +23,10 @@ use Rattle.ss_program.specs.Promises.{BeginsOver}
 use Rattle.ss_program.specs.Refused.{RefusesStore, refusal_line}
 use Rattle.ss_program.specs.Sent.{appended, AppendsFront, SaysLine}
 use Rattle.ss_program.specs.Session.{accepted, report, report_so_far}
+use Rattle.ss_program.specs.Talk.{Talk}
 use Rattle.ss_program.specs.Words.{usage}
 use Rattle.ss_program.specs.declared.running.TheConstants.{LONGEST_INPUT}
+use Rattle.ss_arguments.specs.declared.mode.Form.{Form}
 use Rattle.ss_arguments.specs.declared.mode.Sealing.{Sealing}
 use Rattle.ss_arguments.specs.declared.mode.Sealing.TheVariants.{Each, Shared}
 use Rattle.ss_program.specs.declared.status.Status.{Status}
@@ -40,61 +42,68 @@ use Rattle.ss_program.specs.declared.status.Status.TheVariants.{
   RecordChanged,
 }
 
--- the acknowledged events are held, and at most one more; all where the run is done, and no more where memory ran out
-module _ (history : History) (ls : List (List ℕ)) (bytes : ℕ) (image : List ℕ) where
-  acked-stands : (status : Status) (h : HoldsAcked history ls bytes status image) → Stands (history ++ take h.j (accepted history ls)) image
+-- The acknowledged events are held, and no more than those of the lines that were read; at most one more where each event is sealed by
+-- itself. All are where the run is done, and no more where memory ran out.
+module _ (sealing : Sealing) (talk : Talk) (ls read : List (List ℕ)) (bytes : ℕ) (image : List ℕ) where
+  acked-stands : (status : Status) (h : HoldsAcked sealing talk ls read bytes status image) → Stands (talk.history ++ take h.j (accepted talk ls)) image
   acked-stands status h = h.stands
 
-  acked-few : (status : Status) (h : HoldsAcked history ls bytes status image) → h.j ≤ length (accepted history ls)
+  acked-few : (status : Status) (h : HoldsAcked sealing talk ls read bytes status image) → h.j ≤ length (accepted talk ls)
   acked-few status h = h.few
 
-  acked-all_of_them : (status : Status) (h : HoldsAcked history ls bytes status image) → acks history ls bytes ≤ h.j
+  acked-all_of_them : (status : Status) (h : HoldsAcked sealing talk ls read bytes status image) → acks talk ls bytes ≤ h.j
   acked-all_of_them status h = h.acked
 
-  acked-one_more : (status : Status) (h : HoldsAcked history ls bytes status image) → h.j ≤ acks history ls bytes + 1
-  acked-one_more status h = h.at_most
+  acked-within : (status : Status) (h : HoldsAcked sealing talk ls read bytes status image) → h.j ≤ length (accepted talk read)
+  acked-within status h = h.within
 
-  acked-done : (h : HoldsAcked history ls bytes Done image) → h.j ≡ length (accepted history ls)
+  acked-one_more : (status : Status) (h : HoldsAcked Each talk ls read bytes status image) → h.j ≤ acks talk ls bytes + 1
+  acked-one_more status h = h.at_most refl
+
+  acked-done : (h : HoldsAcked sealing talk ls read bytes Done image) → h.j ≡ length (accepted talk ls)
   acked-done h = h.all refl
 
-  acked-starved : (h : HoldsAcked history ls bytes OutOfMemory image) → h.j ≡ acks history ls bytes
+  acked-starved : (h : HoldsAcked sealing talk ls read bytes OutOfMemory image) → h.j ≡ acks talk ls bytes
   acked-starved h = h.starved refl
 
-  -- two more are too many, and one less is too few
-  acked-two_more : (status : Status) (h : HoldsAcked history ls bytes status image) → h.j ≡ acks history ls bytes + 2 → ⊥
-  acked-two_more status h is = omega (arith, h.at_most, is)
+  -- two more are too many, one less is too few, and so is one more than were read
+  acked-two_more : (status : Status) (h : HoldsAcked Each talk ls read bytes status image) → h.j ≡ acks talk ls bytes + 2 → ⊥
+  acked-two_more status h is = omega (arith, h.at_most refl, is)
 
-  acked-one_less : (status : Status) (h : HoldsAcked history ls bytes status image) → h.j + 1 ≡ acks history ls bytes → ⊥
+  acked-one_less : (status : Status) (h : HoldsAcked sealing talk ls read bytes status image) → h.j + 1 ≡ acks talk ls bytes → ⊥
   acked-one_less status h is = omega (arith, h.acked, is)
 
-  first-few : (h : StandsForFirst history (accepted history ls) image) → h.0 ≤ length (accepted history ls)
+  acked-unread : (status : Status) (h : HoldsAcked sealing talk ls read bytes status image) → h.j ≡ length (accepted talk read) + 1 → ⊥
+  acked-unread status h is = omega (arith, h.within, is)
+
+  first-few : (h : StandsForFirst talk.history (accepted talk ls) image) → h.0 ≤ length (accepted talk ls)
   first-few h = h.1
 
 -- the report of a run over an input, by its status
-module _ (sealing : Sealing) (history : History) (input : List ℕ) (left before after : Option (List ℕ)) (disk : Told) where
-  reports-front : (status : Status) → Reports sealing history input left before after disk status → AppendsFront before after (report history input)
+module _ (sealing : Sealing) (talk : Talk) (input : List ℕ) (left before after : Option (List ℕ)) (disk : Told) where
+  reports-front : (status : Status) → Reports sealing talk input left before after disk status → AppendsFront before after (report talk input)
   reports-front status r = r.front
 
-  reports-whole : Reports sealing history input left before after disk Done → after ≡ appended before (report history input)
+  reports-whole : Reports sealing talk input left before after disk Done → after ≡ appended before (report talk input)
   reports-whole r = r.whole refl
 
-  reports-broken : Reports sealing history input left before after disk DiskFault →
-      NotBegun input left before after ⊎ Stopped sealing history input left before after disk DiskFault
+  reports-broken : Reports sealing talk input left before after disk DiskFault →
+      NotBegun input left before after ⊎ Stopped sealing talk input left before after disk DiskFault
   reports-broken r = r.broken refl
 
-  reports-faulted : Reports sealing history input left before after disk SourceFault →
-      (taken : List ℕ) × (rest : List ℕ) × Took input left taken rest × (after ≡ appended before (report_so_far history taken))
+  reports-faulted : Reports sealing talk input left before after disk SourceFault →
+      (taken : List ℕ) × (rest : List ℕ) × Took input left taken rest × (after ≡ appended before (report_so_far talk taken))
   reports-faulted r = r.faulted refl
 
-  reports-cut : Reports sealing history input left before after disk SinkFault → Stopped sealing history input left before after disk SinkFault
+  reports-cut : Reports sealing talk input left before after disk SinkFault → Stopped sealing talk input left before after disk SinkFault
   reports-cut r = r.cut refl
 
-  reports-starved : Reports sealing history input left before after disk OutOfMemory →
-      NotBegun input left before after ⊎ Stopped sealing history input left before after disk OutOfMemory
+  reports-starved : Reports sealing talk input left before after disk OutOfMemory →
+      NotBegun input left before after ⊎ Stopped sealing talk input left before after disk OutOfMemory
   reports-starved r = r.starved refl
 
-  reports-limited : Reports sealing history input left before after disk InputLimit →
-      after ≡ appended before (report_so_far history (take LONGEST_INPUT input))
+  reports-limited : Reports sealing talk input left before after disk InputLimit →
+      after ≡ appended before (report_so_far talk (take LONGEST_INPUT input))
   reports-limited r = r.limited refl
 
 -- what was taken and read of an input
@@ -252,33 +261,33 @@ rejects-usage : (old new : Devices) → Rejects old new Usage → SaysLine usage
 rejects-usage old new r = r
 
 -- a promise begins wherever a run over a source does
-begins-run : (sealing : Sealing) (mode : Option Mode) (disk : DiskView) (left : Option (List ℕ)) (history : History) (input : List ℕ) →
-    sealing_of mode ≡ Some sealing → IsTrue disk.tells → NothingPending disk.told → Stands history disk.told.content → left ≡ Some input →
-    BeginsOver sealing mode disk left history input
-begins-run sealing mode disk left history input asked tells durable stands source =
+begins-run : (form : Form) (sealing : Sealing) (mode : Option Mode) (disk : DiskView) (left : Option (List ℕ)) (history : History) (input : List ℕ) →
+    served_by mode ≡ Some (serving form sealing) → IsTrue disk.tells → NothingPending disk.told → Stands history disk.told.content →
+    left ≡ Some input → BeginsOver form sealing mode disk left history input
+begins-run form sealing mode disk left history input asked tells durable stands source =
     record { asked = asked; tells = tells; durable = durable; stands = stands; source = source }
 
--- which modes are runs over a source, and how each seals
-sealing-run : sealing_of (Some (Serve Lines Each)) ≡ Some Each
-sealing-run = refl
+-- which modes are runs over a source, what form their input has, and how each seals
+served-run : served_by (Some (Serve Lines Each)) ≡ Some (serving Lines Each)
+served-run = refl
 
-sealing-batch : sealing_of (Some (Serve Lines Shared)) ≡ Some Shared
-sealing-batch = refl
+served-batch : served_by (Some (Serve Lines Shared)) ≡ Some (serving Lines Shared)
+served-batch = refl
 
-sealing-sessions : sealing_of (Some (Serve Sessions Each)) ≡ Some Each
-sealing-sessions = refl
+served-sessions : served_by (Some (Serve Sessions Each)) ≡ Some (serving Sessions Each)
+served-sessions = refl
 
-sealing-sessions_batch : sealing_of (Some (Serve Sessions Shared)) ≡ Some Shared
-sealing-sessions_batch = refl
+served-sessions_batch : served_by (Some (Serve Sessions Shared)) ≡ Some (serving Sessions Shared)
+served-sessions_batch = refl
 
-sealing-check : sealing_of (Some Check) ≡ None
-sealing-check = refl
+served-check : served_by (Some Check) ≡ None
+served-check = refl
 
-sealing-gen : sealing_of (Some (Gen 1 1)) ≡ None
-sealing-gen = refl
+served-gen : served_by (Some (Gen 1 1)) ≡ None
+served-gen = refl
 
-sealing-none : sealing_of None ≡ None
-sealing-none = refl
+served-none : served_by None ≡ None
+served-none = refl
 
 -- a session seals each event by itself where no reply can wait
 sealing_by-none : sealing_by None ≡ Each

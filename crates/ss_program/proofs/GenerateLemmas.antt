@@ -1,5 +1,7 @@
 -- A session over a generated file: what was answered so far, what is counted of it, and how it ends.
 use Rattle.std.proofs.Common.{
+  inl,
+  inr,
   ◌≡◌,
   ℕ,
   zero,
@@ -53,7 +55,8 @@ use Rattle.ss_program.specs.Line.{Brought, History, brings, command_brings, hist
 use Rattle.ss_program.specs.Progress.{StandsAround, StandsWithin}
 use Rattle.ss_program.specs.Refused.{AsRefused, status_of_open}
 use Rattle.ss_program.specs.Sent.{appended, AppendsFront, AppendsLess, Sends}
-use Rattle.ss_program.specs.Session.{after_lines, replies}
+use Rattle.ss_program.specs.Session.{plain_after, replies}
+use Rattle.ss_program.specs.Talk.{plain}
 use Rattle.ss_program.specs.Tally.{HasRun, IsSingle, Tallies}
 use Rattle.ss_program.specs.declared.generate.Tally.{Tally}
 use Rattle.ss_program.specs.declared.status.Status.{Status}
@@ -62,8 +65,7 @@ use Rattle.ss_outside.specs.declared.source.Failed.{Failed}
 use Rattle.ss_program.proofs.OpeningLemmas.{unopened}
 use Rattle.ss_program.proofs.HeldLemmas.{StandsForFirst-within}
 use Rattle.ss_program.proofs.SendLemmas.{AppendsFront-all, appended-appended, appended-nil}
-use Rattle.ss_program.proofs.SessionLemmas.{StandsWithin-all, after_lines-accepted, after_lines-push, replies-append}
-use Rattle.ss_program.proofs.TakeLemmas.{any_moment-line, any_moment-more}
+use Rattle.ss_program.proofs.SessionLemmas.{StandsWithin-all, after_lines-accepted, moments-more, plain_after-push, replies-append}
 
 -- a printed command brings what the command does
 pub brings-printed : (history : History) (command : Command) → IsSayable command → brings history (printed command) ≡ command_brings history command
@@ -100,33 +102,47 @@ HasRun-start history disk tally knows none stands tallies = record {
   tallied = tallies;
   stands = stands;
   durable = none;
-  any_moment = at_start disk (StandsWithin history []) knows
-      (of_content disk (StandsWithin history []) none (StandsWithin-all history [] disk.content stands));
+  any_moment = at_start disk (StandsWithin (plain history) []) knows
+      (of_content disk (StandsWithin (plain history) []) none (StandsWithin-all (plain history) [] disk.content stands));
 }
+
+-- a line was answered, or a crash came while it was
+StandsWithin-line : (history : History) (ls : List (List ℕ)) (line : List ℕ) (image : List ℕ) →
+    StandsAround (plain_after history ls) (brings (plain_after history ls) line) image → StandsWithin (plain history) (ls ++ line ∷ []) image
+StandsWithin-line history ls line image (inl stands) = (ls, line ∷ [], refl, stands)
+StandsWithin-line history ls line image (inr stands) =
+    StandsWithin-all (plain history) (ls ++ line ∷ []) image (subst (λ h. Stands h image) (sym (plain_after-push history ls line)) stands)
+
+moments-line : (history : History) (old new : Told) (ls : List (List ℕ)) (line : List ℕ) →
+    LeavesOnly old new (StandsAround (plain_after history ls) (brings (plain_after history ls) line)) →
+    LeavesOnly old new (StandsWithin (plain history) (ls ++ line ∷ []))
+moments-line history old new ls line run =
+    weaker old new (StandsAround (plain_after history ls) (brings (plain_after history ls) line)) (StandsWithin (plain history) (ls ++ line ∷ []))
+    (StandsWithin-line history ls line) run
 
 -- a command of the file was done, or a crash came while it was
 pub adds-line : {T : Type 0} (history : History) (old mid new : Told) (ls : List (List ℕ)) (command : Command) (tally : Tally) (result : Result T Status) →
-    HasRun history ls old mid tally → IsSayable command → Adds (after_lines history ls) (command_brings (after_lines history ls) command) mid new result →
-    LeavesOnly old new (StandsWithin history (ls ++ printed command ∷ []))
+    HasRun history ls old mid tally → IsSayable command → Adds (plain_after history ls) (command_brings (plain_after history ls) command) mid new result →
+    LeavesOnly old new (StandsWithin (plain history) (ls ++ printed command ∷ []))
 adds-line history old mid new ls command tally result ran sayable adds =
-    let here = after_lines history ls in
-    joined old mid new (StandsWithin history (ls ++ printed command ∷ [])) (any_moment-more history old mid ls (printed command ∷ []) ran.any_moment)
-    (any_moment-line history mid new ls (printed command)
+    let here = plain_after history ls in
+    joined old mid new (StandsWithin (plain history) (ls ++ printed command ∷ [])) (moments-more (plain history) old mid ls (printed command ∷ []) ran.any_moment)
+    (moments-line history mid new ls (printed command)
     (subst (λ b. LeavesOnly mid new (StandsAround here b)) (sym (brings-printed here command sayable)) (adds.any_moment ran.durable ran.stands)))
 
 pub HasRun-more : (history : History) (old mid new : Told) (ls : List (List ℕ)) (command : Command) (reply : Reply) (before after : Tally) →
     HasRun history ls old mid before → IsSayable command →
-    Adds (after_lines history ls) (command_brings (after_lines history ls) command) mid new (Ok reply) →
-    (command_brings (after_lines history ls) command).replies ≡ reply ∷ [] →
+    Adds (plain_after history ls) (command_brings (plain_after history ls) command) mid new (Ok reply) →
+    (command_brings (plain_after history ls) command).replies ≡ reply ∷ [] →
     Tallies (length ls + 1) (replies history ls ++ reply ∷ []) after → HasRun history (ls ++ printed command ∷ []) old new after
 HasRun-more history old mid new ls command reply before after ran sayable adds one tallies =
-    let here = after_lines history ls in
+    let here = plain_after history ls in
     let brought : brings here (printed command) ≡ command_brings here command = brings-printed here command sayable in
     let all : replies history (ls ++ printed command ∷ []) ≡ replies history ls ++ reply ∷ [] =
     replies-append history ls (printed command ∷ [])
     ∙ ap (λ rs. replies history ls ++ rs) (append-nil (brings here (printed command)).replies ∙ ap (λ (b : Brought). b.replies) brought ∙ one) in
-    let then : history_after here (command_brings here command) ≡ after_lines history (ls ++ printed command ∷ []) =
-    sym (after_lines-push history ls (printed command) ∙ ap (λ b. history_after here b) brought) in
+    let then : history_after here (command_brings here command) ≡ plain_after history (ls ++ printed command ∷ []) =
+    sym (plain_after-push history ls (printed command) ∙ ap (λ b. history_after here b) brought) in
     record {
       tallied = subst (λ n. Tallies n (replies history (ls ++ printed command ∷ [])) after) (sym (length-append ls (printed command ∷ [])))
           (subst (λ rs. Tallies (length ls + 1) rs after) (sym all) tallies);
@@ -149,8 +165,8 @@ IsAt-start history seed count left disk tally all knows none stands tallies =
 pub IsAt-more : (history : History) (seed count : ℕ) (left rest : List Command) (command : Command) (old mid new : Told) (reply : Reply)
     (before after : Tally)
     (at : IsAt history seed count left old mid before) → left ≡ command ∷ rest → IsSayable command →
-    Adds (after_lines history (map printed at.done)) (command_brings (after_lines history (map printed at.done)) command) mid new (Ok reply) →
-    (command_brings (after_lines history (map printed at.done)) command).replies ≡ reply ∷ [] →
+    Adds (plain_after history (map printed at.done)) (command_brings (plain_after history (map printed at.done)) command) mid new (Ok reply) →
+    (command_brings (plain_after history (map printed at.done)) command).replies ≡ reply ∷ [] →
     ((lines : ℕ) (all : List Reply) → Tallies lines all before → Tallies (lines + 1) (all ++ reply ∷ []) after) →
     IsAt history seed count rest old new after
 IsAt-more history seed count left rest command old mid new reply before after at next sayable adds one tallies =
@@ -166,15 +182,15 @@ IsAt-more history seed count left rest command old mid new reply before after at
 pub IsAt-stop : {T : Type 0} (history : History) (seed count : ℕ) (left rest : List Command) (command : Command) (old mid new : Told) (tally : Tally)
     (result : Result T Status)
     (at : IsAt history seed count left old mid tally) → left ≡ command ∷ rest → IsSayable command →
-    Adds (after_lines history (map printed at.done)) (command_brings (after_lines history (map printed at.done)) command) mid new result →
-    LeavesOnly old new (StandsWithin history (generated seed count))
+    Adds (plain_after history (map printed at.done)) (command_brings (plain_after history (map printed at.done)) command) mid new result →
+    LeavesOnly old new (StandsWithin (plain history) (generated seed count))
 IsAt-stop history seed count left rest command old mid new tally result at next sayable adds =
     let ls = map printed at.done in
     let all : generated seed count ≡ (ls ++ printed command ∷ []) ++ map printed rest =
     ap (λ cs. map printed cs) (at.all ∙ ap (λ cs. at.done ++ cs) next) ∙ map-append printed at.done (command ∷ rest)
     ∙ sym (append_assoc ls (printed command ∷ []) (map printed rest)) in
-    subst (λ l. LeavesOnly old new (StandsWithin history l)) (sym all)
-    (any_moment-more history old new (ls ++ printed command ∷ []) (map printed rest) (adds-line history old mid new ls command tally result at.ran sayable
+    subst (λ l. LeavesOnly old new (StandsWithin (plain history) l)) (sym all)
+    (moments-more (plain history) old new (ls ++ printed command ∷ []) (map printed rest) (adds-line history old mid new ls command tally result at.ran sayable
     adds))
 
 -- all commands were done
@@ -228,17 +244,17 @@ Sends-less before after seed count lines all tally tallies less =
     (subst (λ bs. AppendsLess before after bs) (counts-tallied seed count lines all tally tallies) less)
 
 -- an image of the history after some first lines of the file
-pub StandsForGenerated-within : (history : History) (seed count : ℕ) (image : List ℕ) → StandsWithin history (generated seed count) image →
+pub StandsForGenerated-within : (history : History) (seed count : ℕ) (image : List ℕ) → StandsWithin (plain history) (generated seed count) image →
     StandsForGenerated history seed count image
-StandsForGenerated-within history seed count image within = StandsForFirst-within history (generated seed count) image within
+StandsForGenerated-within history seed count image within = StandsForFirst-within (plain history) (generated seed count) image within
 
 -- the run stopped at a command, or before the first, or the sink failed at the summary
 pub Generates-stop : (history : History) (seed count : ℕ) (before after : Option (List ℕ)) (old new : Told) (status : Status) →
     (status ≡ Done → ⊥) →
     ((status ≡ SinkFault → ⊥) → after ≡ before) → KnowsNow new → AppendsFront before after (summary history seed count) →
-    LeavesOnly old new (StandsWithin history (generated seed count)) → Generates history seed count before after old new status
+    LeavesOnly old new (StandsWithin (plain history) (generated seed count)) → Generates history seed count before after old new status
 Generates-stop history seed count before after old new status going silent knows front run =
-    let weak = weaker old new (StandsWithin history (generated seed count)) (StandsForGenerated history seed count)
+    let weak = weaker old new (StandsWithin (plain history) (generated seed count)) (StandsForGenerated history seed count)
     (StandsForGenerated-within history seed count) run in
     record {
       front = front;
@@ -255,9 +271,9 @@ pub Generates-done : (history : History) (seed count : ℕ) (before after : Opti
     HasRun history (generated seed count) old new tally → after ≡ appended before (summary history seed count) →
     Generates history seed count before after old new Done
 Generates-done history seed count before after old new tally knows ran sent =
-    let weak = weaker old new (StandsWithin history (generated seed count)) (StandsForGenerated history seed count)
+    let weak = weaker old new (StandsWithin (plain history) (generated seed count)) (StandsForGenerated history seed count)
     (StandsForGenerated-within history seed count) ran.any_moment in
-    let all : StandsForAll history seed count new.content = subst (λ h. Stands h new.content) (after_lines-accepted history (generated seed count))
+    let all : StandsForAll history seed count new.content = subst (λ h. Stands h new.content) (after_lines-accepted (plain history) (generated seed count))
     ran.stands in
     record {
       front = AppendsFront-all before after (summary history seed count) sent;
@@ -292,4 +308,4 @@ pub Generates-unopened : (history : History) (seed count : ℕ) (before after : 
 Generates-unopened history seed count before after had has old new error opens stands said knows opened =
     let un = unopened old.content (state history) before after had has error stands.state opens said in
     Generates-stop history seed count before after old new (status_of_open error) un.1 (λ _. un.0) knows (0, un.0 ∙ sym (appended-nil before))
-    (weaker old new (Stands history) (StandsWithin history (generated seed count)) (λ image is. ([], generated seed count, refl, is)) opened)
+    (weaker old new (Stands history) (StandsWithin (plain history) (generated seed count)) (λ image is. ([], generated seed count, refl, is)) opened)

@@ -48,7 +48,7 @@ use Rattle.ss_program.specs.Line.{
   only_replies,
   unless_refused,
 }
-use Rattle.ss_program.specs.Session.{after_line, after_lines, replies}
+use Rattle.ss_program.specs.Session.{plain_after, replies}
 use Rattle.ss_program.proofs.AnswerLemmas.{ask-event, brings-answer_replies, certify-event, history-still, series-event, windows-event}
 use Rattle.ss_program.proofs.CertifyLemmas.{brings-certified, evidence-known, evidence-right}
 use Rattle.ss_program.proofs.SeriesLemmas.{brings-series, series_rows-map}
@@ -89,10 +89,10 @@ meaning-leaves history (Err refusal) sayable whole = still history (refused refu
 meaning-leaves history (Ok None) sayable whole = still history nothing refl whole
 meaning-leaves history (Ok (Some command)) sayable whole = command-leaves history command (sayable command refl) whole
 
-pub lines-leave : (history : History) (ls : List (List ℕ)) → IsHistory history → IsHistory (after_lines history ls)
+pub lines-leave : (history : History) (ls : List (List ℕ)) → IsHistory history → IsHistory (plain_after history ls)
 lines-leave history [] whole = whole
 lines-leave history (line ∷ ls) whole =
-    lines-leave (after_line history line) ls (meaning-leaves history (meaning line) (meant-sayable line) whole)
+    lines-leave (history_after history (brings history line)) ls (meaning-leaves history (meaning line) (meant-sayable line) whole)
 
 -- what a query brings that has an answer
 answered-query : (history : History) (query : Query) (o : Option Outcome) → IsHistory history → refuses_query (state history) query ≡ None →
@@ -190,16 +190,16 @@ certified-line history line query end whole means none =
 
 -- a line to which replies come and no event, among other lines
 pub replies-among : (history : History) (before after : List (List ℕ)) (line : List ℕ) (rs : List Reply) →
-    brings (after_lines history before) line ≡ only_replies rs →
-    replies history (before ++ line ∷ after) ≡ replies history before ++ (rs ++ replies (after_lines history before) after)
+    brings (plain_after history before) line ≡ only_replies rs →
+    replies history (before ++ line ∷ after) ≡ replies history before ++ (rs ++ replies (plain_after history before) after)
 replies-among history before after line rs is =
-    let here = after_lines history before in
+    let here = plain_after history before in
     replies-append history before (line ∷ after)
     ∙ ap (λ b. replies history before ++ (b.replies ++ replies (history_after here b) after)) is
     ∙ ap (λ h. replies history before ++ (rs ++ replies h after)) (append-nil here)
 
 -- one reply alone
 pub replies-around : (history : History) (before after : List (List ℕ)) (line : List ℕ) (reply : Reply) →
-    brings (after_lines history before) line ≡ only_replies (reply ∷ []) →
-    replies history (before ++ line ∷ after) ≡ replies history before ++ reply ∷ replies (after_lines history before) after
+    brings (plain_after history before) line ≡ only_replies (reply ∷ []) →
+    replies history (before ++ line ∷ after) ≡ replies history before ++ reply ∷ replies (plain_after history before) after
 replies-around history before after line reply is = replies-among history before after line (reply ∷ []) is

@@ -11,10 +11,10 @@ use Rattle.ss_store.specs.Surveyed.{SurveysAs, survey_of}
 use Rattle.ss_store.specs.declared.error.OpenError.{OpenError}
 use Rattle.ss_store.specs.declared.error.OpenError.TheVariants as opening
 use Rattle.ss_store.specs.declared.surveying.Survey.{Survey}
-use Rattle.ss_program.specs.Line.{History}
 use Rattle.ss_program.specs.Outcome.{Reads, Serves}
 use Rattle.ss_program.specs.Progress.{StandsWithin}
 use Rattle.ss_program.specs.Refused.{AsRefused, status_of_open}
+use Rattle.ss_program.specs.Talk.{Talk}
 use Rattle.ss_arguments.specs.declared.mode.Sealing.{Sealing}
 use Rattle.ss_program.specs.declared.status.Status.{Status}
 use Rattle.ss_program.specs.declared.status.Status.TheVariants.{Done, DiskFault, SourceFault, SinkFault, OutOfMemory, InputLimit}
@@ -24,14 +24,14 @@ use Rattle.ss_program.proofs.ReadLemmas.{Reads-stop}
 use Rattle.ss_program.proofs.SendLemmas.{appended-nil}
 
 -- What opening the store left comes before what serving leaves.
-pub Serves-opened : (sealing : Sealing) (history : History) (input : List ℕ) (left before after : Option (List ℕ)) (old mid new : Told) (status : Status) →
-    LeavesOnly old mid (Stands history) → Serves sealing history input left before after mid new status →
-    Serves sealing history input left before after old new status
-Serves-opened sealing history input left before after old mid new status opened serves = record {
+pub Serves-opened : (sealing : Sealing) (talk : Talk) (input : List ℕ) (left before after : Option (List ℕ)) (old mid new : Told) (status : Status) →
+    LeavesOnly old mid (Stands talk.history) → Serves sealing talk input left before after mid new status →
+    Serves sealing talk input left before after old new status
+Serves-opened sealing talk input left before after old mid new status opened serves = record {
   report = serves.report;
   kept = serves.kept;
-  any_moment = joined old mid new (StandsWithin history (lines input))
-      (weaker old mid (Stands history) (StandsWithin history (lines input)) (λ image is. ([], lines input, refl, is)) opened) serves.any_moment;
+  any_moment = joined old mid new (StandsWithin talk (lines input))
+      (weaker old mid (Stands talk.history) (StandsWithin talk (lines input)) (λ image is. ([], lines input, refl, is)) opened) serves.any_moment;
   whole = serves.whole;
 }
 
@@ -41,11 +41,11 @@ unopened-other other one two (inl how) is = absurd (one (sym how ∙ is))
 unopened-other other one two (inr how) is = absurd (two (sym how ∙ is))
 
 -- the store wasn't opened, and nothing was said of it
-pub Serves-unopened : (sealing : Sealing) (history : History) (input : List ℕ) (left before after : Option (List ℕ)) (old new : Told) (status : Status) →
+pub Serves-unopened : (sealing : Sealing) (talk : Talk) (input : List ℕ) (left before after : Option (List ℕ)) (old new : Told) (status : Status) →
     ((status ≡ DiskFault) ⊎ (status ≡ OutOfMemory)) →
-    left ≡ Some input → after ≡ before → KnowsNow new → LeavesOnly old new (Stands history) →
-    Serves sealing history input left before after old new status
-Serves-unopened sealing history input left before after old new status how still same knows opened =
+    left ≡ Some input → after ≡ before → KnowsNow new → LeavesOnly old new (Stands talk.history) →
+    Serves sealing talk input left before after old new status
+Serves-unopened sealing talk input left before after old new status how still same knows opened =
     let held = same ∙ sym (appended-nil before) in
     record {
       report = record {
@@ -57,29 +57,29 @@ Serves-unopened sealing history input left before after old new status how still
         starved = λ _. inl (still, same);
         limited = λ is. unopened-other InputLimit (λ w. cc) (λ w. cc) how is;
       };
-      kept = HoldsReported-done sealing history input left before after new status [] (lines input) refl (AreRead-none input left still) held
-          (now old new (Stands history) knows opened) (λ is. unopened-other Done (λ w. cc) (λ w. cc) how is);
-      any_moment = weaker old new (Stands history) (StandsWithin history (lines input)) (λ image is. ([], lines input, refl, is)) opened;
+      kept = HoldsReported-done sealing talk input left before after new status [] (lines input) refl (AreRead-none input left still) held
+          (now old new (Stands talk.history) knows opened) (λ is. unopened-other Done (λ w. cc) (λ w. cc) how is);
+      any_moment = weaker old new (Stands talk.history) (StandsWithin talk (lines input)) (λ image is. ([], lines input, refl, is)) opened;
       whole = λ is. unopened-other Done (λ w. cc) (λ w. cc) how is;
     }
 
 -- a content that stands for a history isn't refused
-pub Serves-refused : (sealing : Sealing) (history : History) (input : List ℕ) (left before after : Option (List ℕ)) (had has : ℕ) (old new : Told)
-    (error : OpenError) → OpensAs old.content (Err error) → Stands history old.content → AsRefused error before after had has → left ≡ Some input →
-    KnowsNow new → LeavesOnly old new (Stands history) → Serves sealing history input left before after old new (status_of_open error)
-Serves-refused sealing history input left before after had has old new opening.Disk opens stands said still knows opened =
-    Serves-unopened sealing history input left before after old new DiskFault (inl refl) still said.0 knows opened
-Serves-refused sealing history input left before after had has old new opening.OutOfMemory opens stands said still knows opened =
-    Serves-unopened sealing history input left before after old new OutOfMemory (inr refl) still said.0 knows opened
-Serves-refused sealing history input left before after had has old new opening.NotAStore opens stands said still knows opened =
-    let wrong : no_store ≡ recovers (state history) = sym opens ∙ stands.state in cc
-Serves-refused sealing history input left before after had has old new (opening.BadEntry n) opens stands said still knows opened =
-    let wrong : damaged_entry n ≡ recovers (state history) = sym opens ∙ stands.state in cc
-Serves-refused sealing history input left before after had has old new (opening.BadSlot n) opens stands said still knows opened =
-    let wrong : damaged_slot n ≡ recovers (state history) = sym opens ∙ stands.state in cc
-Serves-refused sealing history input left before after had has old new (opening.BadStream id) opens stands said still knows opened =
-    let wrong : damaged_stream id ≡ recovers (state history) = sym opens ∙ stands.state in cc
-Serves-refused sealing history input left before after had has old new (opening.Changed slot) opens stands said still knows opened = absurd opens
+pub Serves-refused : (sealing : Sealing) (talk : Talk) (input : List ℕ) (left before after : Option (List ℕ)) (had has : ℕ) (old new : Told)
+    (error : OpenError) → OpensAs old.content (Err error) → Stands talk.history old.content → AsRefused error before after had has → left ≡ Some input →
+    KnowsNow new → LeavesOnly old new (Stands talk.history) → Serves sealing talk input left before after old new (status_of_open error)
+Serves-refused sealing talk input left before after had has old new opening.Disk opens stands said still knows opened =
+    Serves-unopened sealing talk input left before after old new DiskFault (inl refl) still said.0 knows opened
+Serves-refused sealing talk input left before after had has old new opening.OutOfMemory opens stands said still knows opened =
+    Serves-unopened sealing talk input left before after old new OutOfMemory (inr refl) still said.0 knows opened
+Serves-refused sealing talk input left before after had has old new opening.NotAStore opens stands said still knows opened =
+    let wrong : no_store ≡ recovers (state talk.history) = sym opens ∙ stands.state in cc
+Serves-refused sealing talk input left before after had has old new (opening.BadEntry n) opens stands said still knows opened =
+    let wrong : damaged_entry n ≡ recovers (state talk.history) = sym opens ∙ stands.state in cc
+Serves-refused sealing talk input left before after had has old new (opening.BadSlot n) opens stands said still knows opened =
+    let wrong : damaged_slot n ≡ recovers (state talk.history) = sym opens ∙ stands.state in cc
+Serves-refused sealing talk input left before after had has old new (opening.BadStream id) opens stands said still knows opened =
+    let wrong : damaged_stream id ≡ recovers (state talk.history) = sym opens ∙ stands.state in cc
+Serves-refused sealing talk input left before after had has old new (opening.Changed slot) opens stands said still knows opened = absurd opens
 
 -- and what was read then: nothing
 unopened-status : (error : OpenError) → (status_of_open error ≡ Done → ⊥) × (status_of_open error ≡ InputLimit → ⊥)

@@ -37,12 +37,12 @@ use Rattle.ss_outside.proofs.CrashLemmas.{joined, of_content}
 use Rattle.ss_outside.specs.Crash.{KnowsNow, LeavesOnly}
 use Rattle.ss_outside.specs.Disk.{Told}
 use Rattle.ss_store.specs.Recover.{Stands}
-use Rattle.ss_program.specs.Line.{History}
 use Rattle.ss_program.specs.Outcome.{Reports, Serves, Stopped, Took, lines_within}
 use Rattle.ss_program.specs.Progress.{EndsWell, GoesOn, HasReplied, HasTaken, SessionState, StandsWithin, StopsIn}
 use Rattle.ss_program.specs.Sent.{appended, AppendsFront}
 use Rattle.ss_program.specs.Session.{after_lines, report, report_so_far, text_of}
 use Rattle.ss_program.specs.Status.{IsStop}
+use Rattle.ss_program.specs.Talk.{Talk}
 use Rattle.ss_program.specs.declared.running.TheConstants.{LONGEST_INPUT}
 use Rattle.ss_arguments.specs.declared.mode.Sealing.{Sealing}
 use Rattle.ss_program.specs.declared.status.Status.{Status}
@@ -58,182 +58,181 @@ use Rattle.ss_program.specs.declared.status.Status.TheVariants.{
   RecordChanged,
 }
 use Rattle.ss_program.proofs.SendLemmas.{AppendsFront-all}
-use Rattle.ss_program.proofs.SessionLemmas.{after_lines-accepted, front-report, StopsBy-more, StopsBy-front}
-use Rattle.ss_program.proofs.TakeLemmas.{GoesOn-start, GoesOn-then, StopsIn-more, StopsIn-then, any_moment-more}
+use Rattle.ss_program.proofs.SessionLemmas.{StopsAmong-front, StopsAmong-more, StopsIn-more, after_lines-accepted, front-report, moments-more}
+use Rattle.ss_program.proofs.TakeLemmas.{GoesOn-start, GoesOn-then, StopsIn-then}
 use Rattle.ss_program.proofs.ReadLemmas.{AreRead, AreRead-front, AreRead-took, Took-at, lines-all, stop-other}
 use Rattle.ss_program.proofs.HoldsLemmas.{HoldsReported-done, HoldsReported-stop}
 
 -- so many bytes of the input were taken since a moment, and the lines that end in them are answered
-pub record IsThrough (history : History) (start now : Told) (session : SessionState) (before held left : Option (List ℕ)) (input : List ℕ)
+pub record IsThrough (sealing : Sealing) (talk : Talk) (start now : Told) (session : SessionState) (before held left : Option (List ℕ)) (input : List ℕ)
     (n : ℕ) : Type 0
   where
     pub within : n ≤ length input
     pub source : left ≡ Some (drop n input)
-    pub on : GoesOn history start now session before held (take n input)
+    pub on : GoesOn sealing talk start now session before held (take n input)
 
 -- none were
-pub IsThrough-start : (history : History) (disk : Told) (session : SessionState) (before left : Option (List ℕ)) (input : List ℕ) → KnowsNow disk →
-    HasTaken history disk session [] → HasReplied history before before [] → left ≡ Some input →
-    IsThrough history disk disk session before before left input 0
-IsThrough-start history disk session before left input knows at replied source = record {
+pub IsThrough-start : (sealing : Sealing) (talk : Talk) (disk : Told) (session : SessionState) (before left : Option (List ℕ)) (input : List ℕ) → KnowsNow disk →
+    HasTaken sealing talk disk session [] → HasReplied talk before before [] → left ≡ Some input →
+    IsThrough sealing talk disk disk session before before left input 0
+IsThrough-start sealing talk disk session before left input knows at replied source = record {
   within = omega arith;
   source = source;
-  on = GoesOn-start history disk session before before [] knows at replied;
+  on = GoesOn-start sealing talk disk session before before [] knows at replied;
 }
 
 -- and so many more
-pub IsThrough-more : (history : History) (start mid now : Told) (first second : SessionState) (before held after old_left left : Option (List ℕ))
+pub IsThrough-more : (sealing : Sealing) (talk : Talk) (start mid now : Told) (first second : SessionState) (before held after old_left left : Option (List ℕ))
     (input : List ℕ) (n k : ℕ) →
-    IsThrough history start mid first before held old_left input n → k ≤ length (drop n input) → left ≡ Some (drop k (drop n input)) →
-    GoesOn history mid now second before after (take n input ++ take k (drop n input)) → IsThrough history start now second before after left input (n + k)
-IsThrough-more history start mid now first second before held after old_left left input n k through more source on = record {
+    IsThrough sealing talk start mid first before held old_left input n → k ≤ length (drop n input) → left ≡ Some (drop k (drop n input)) →
+    GoesOn sealing talk mid now second before after (take n input ++ take k (drop n input)) → IsThrough sealing talk start now second before after left input (n + k)
+IsThrough-more sealing talk start mid now first second before held after old_left left input n k through more source on = record {
   within = omega (arith, through.within, more, length-drop n input);
   source = source ∙ ap (λ bs. Some bs) (drop-drop k n input);
-  on = subst (λ bs. GoesOn history start now second before after bs) (sym (take-add n k input))
-      (GoesOn-then history start mid now first second before held after (take n input) (take k (drop n input)) through.on on);
+  on = subst (λ bs. GoesOn sealing talk start now second before after bs) (sym (take-add n k input))
+      (GoesOn-then sealing talk start mid now first before held after (take n input) (take k (drop n input)) second through.on on);
 }
 
 -- all of the input was taken
-pub record IsAtEnd (history : History) (start now : Told) (session : SessionState) (before held left : Option (List ℕ)) (input : List ℕ) : Type 0 where
+pub record IsAtEnd (sealing : Sealing) (talk : Talk) (start now : Told) (session : SessionState) (before held left : Option (List ℕ)) (input : List ℕ) : Type 0 where
   pub fits : length input ≤ LONGEST_INPUT
   pub source : left ≡ Some []
-  pub on : GoesOn history start now session before held input
+  pub on : GoesOn sealing talk start now session before held input
 
-pub IsThrough-end : {history : History} {start now : Told} {session : SessionState} {before held left : Option (List ℕ)} {input : List ℕ} {n : ℕ}
-    (after_left : Option (List ℕ)) → IsThrough history start now session before held left input n → length input ≤ n →
-    length input ≤ LONGEST_INPUT → after_left ≡ Some [] → IsAtEnd history start now session before held after_left input
-IsThrough-end {history = history} {start = start} {now = now} {session = session} {before = before} {held = held} {input = input} {n = n} after_left through
+pub IsThrough-end : {sealing : Sealing} {talk : Talk} {start now : Told} {session : SessionState} {before held left : Option (List ℕ)} {input : List ℕ} {n : ℕ}
+    (after_left : Option (List ℕ)) → IsThrough sealing talk start now session before held left input n → length input ≤ n →
+    length input ≤ LONGEST_INPUT → after_left ≡ Some [] → IsAtEnd sealing talk start now session before held after_left input
+IsThrough-end {sealing = sealing} {talk = talk} {start = start} {now = now} {session = session} {before = before} {held = held} {input = input} {n = n} after_left through
     all fits none = record {
       fits = fits;
       source = none;
-      on = subst (λ bs. GoesOn history start now session before held bs) (take_all n input all) through.on;
+      on = subst (λ bs. GoesOn sealing talk start now session before held bs) (take_all n input all) through.on;
     }
 
 -- a line that a line end ended within the bytes taken is one of those so far
-StopsIn-within : (sealing : Sealing) (history : History) (old new : Told) (before after : Option (List ℕ)) (status : Status) (taken rest : List ℕ) →
-    StopsIn sealing history (lines_so_far taken) old new before after status →
-    StopsIn sealing history (lines_within taken rest) old new before after status
-StopsIn-within sealing history old new before after status taken [] stops =
-    StopsIn-more sealing history old new before after (lines_so_far taken) (map without_return (unless_empty (unended taken))) status stops
-StopsIn-within sealing history old new before after status taken (b ∷ rest) stops = stops
+StopsIn-within : (sealing : Sealing) (talk : Talk) (old new : Told) (before after : Option (List ℕ)) (status : Status) (taken rest : List ℕ) →
+    StopsIn sealing talk (lines_so_far taken) old new before after status →
+    StopsIn sealing talk (lines_within taken rest) old new before after status
+StopsIn-within sealing talk old new before after status taken [] stops =
+    StopsIn-more sealing talk (lines_so_far taken) (map without_return (unless_empty (unended taken))) old new before after status stops
+StopsIn-within sealing talk old new before after status taken (b ∷ rest) stops = stops
 
 -- a run stopped at a line that had ended within the bytes taken
-pub record HasStopped (sealing : Sealing) (history : History) (input : List ℕ) (left before after : Option (List ℕ)) (old new : Told) (status : Status) : Type 0
+pub record HasStopped (sealing : Sealing) (talk : Talk) (input : List ℕ) (left before after : Option (List ℕ)) (old new : Told) (status : Status) : Type 0
   where
     pub taken : List ℕ
     pub rest : List ℕ
     pub took : Took input left taken rest
-    pub stops : StopsIn sealing history (lines_within taken rest) old new before after status
+    pub stops : StopsIn sealing talk (lines_within taken rest) old new before after status
 
 -- it stopped at a line of the piece that came next
-pub HasStopped-piece : (sealing : Sealing) (history : History) (start mid new : Told) (session : SessionState) (input : List ℕ)
+pub HasStopped-piece : (sealing : Sealing) (talk : Talk) (start mid new : Told) (session : SessionState) (input : List ℕ)
     (old_left left before held after : Option (List ℕ)) (status : Status)
-    (n room : ℕ) → IsThrough history start mid session before held old_left input n → n + room ≤ LONGEST_INPUT →
+    (n room : ℕ) → IsThrough sealing talk start mid session before held old_left input n → n + room ≤ LONGEST_INPUT →
     (count : ℕ) × (count ≤ room) × (count ≤ length (drop n input)) × (left ≡ Some (drop count (drop n input)))
-    × StopsIn sealing history (lines_so_far (take n input ++ take count (drop n input))) mid new before after status →
-    HasStopped sealing history input left before after start new status
-HasStopped-piece sealing history start mid new session input old_left left before held after status n room through few piece =
+    × StopsIn sealing talk (lines_so_far (take n input ++ take count (drop n input))) mid new before after status →
+    HasStopped sealing talk input left before after start new status
+HasStopped-piece sealing talk start mid new session input old_left left before held after status n room through few piece =
     let m = n + piece.0 in
-    let stops = StopsIn-then sealing history start mid new session before held after status (take n input) (take piece.0 (drop n input)) through.on piece.4 in
+    let stops = StopsIn-then sealing talk start mid new session before held after (take n input) (take piece.0 (drop n input)) status through.on piece.4 in
     record {
       taken = take m input;
       rest = drop m input;
       took = Took-at input left m (omega (arith, through.within, piece.2, length-drop n input)) (omega (arith, few, piece.1))
           (piece.3 ∙ ap (λ bs. Some bs) (drop-drop piece.0 n input));
-      stops = StopsIn-within sealing history start new before after status (take m input) (drop m input)
-          (subst (λ bs. StopsIn sealing history (lines_so_far bs) start new before after status) (sym (take-add n piece.0 input)) stops);
+      stops = StopsIn-within sealing talk start new before after status (take m input) (drop m input)
+          (subst (λ bs. StopsIn sealing talk (lines_so_far bs) start new before after status) (sym (take-add n piece.0 input)) stops);
     }
 
 -- what was left in a crash of a session before its last line is a front of all lines
-any_moment-lines : (history : History) (old new : Told) (input : List ℕ) → LeavesOnly old new (StandsWithin history (lines_so_far input)) →
-    LeavesOnly old new (StandsWithin history (lines input))
-any_moment-lines history old new input run =
-    any_moment-more history old new (lines_so_far input) (map without_return (unless_empty (unended input))) run
+any_moment-lines : (talk : Talk) (old new : Told) (input : List ℕ) → LeavesOnly old new (StandsWithin talk (lines_so_far input)) →
+    LeavesOnly old new (StandsWithin talk (lines input))
+any_moment-lines talk old new input run =
+    moments-more talk old new (lines_so_far input) (map without_return (unless_empty (unended input))) run
 
 -- or at the last line of the input
-pub HasStopped-end : (sealing : Sealing) {history : History} {start mid : Told} {session : SessionState} {before held left : Option (List ℕ)} {input : List ℕ}
+pub HasStopped-end : (sealing : Sealing) {talk : Talk} {start mid : Told} {session : SessionState} {before held left : Option (List ℕ)} {input : List ℕ}
     (new : Told)
     (after : Option (List ℕ))
-    (status : Status) → IsAtEnd history start mid session before held left input → StopsIn sealing history (lines input) mid new before after status →
-    HasStopped sealing history input left before after start new status
-HasStopped-end sealing {history = history} {start = start} {mid = mid} {input = input} new after status end stops = record {
+    (status : Status) → IsAtEnd sealing talk start mid session before held left input → StopsIn sealing talk (lines input) mid new before after status →
+    HasStopped sealing talk input left before after start new status
+HasStopped-end sealing {talk = talk} {start = start} {mid = mid} {input = input} new after status end stops = record {
   taken = input;
   rest = [];
   took = record { all = append-nil input; others = end.source; few = end.fits };
   stops = record {
     at = stops.at;
-    any_moment = joined start mid new (StandsWithin history (lines input)) (any_moment-lines history start mid input end.on.any_moment) stops.any_moment;
+    any_moment = joined start mid new (StandsWithin talk (lines input)) (any_moment-lines talk start mid input end.on.any_moment) stops.any_moment;
   };
 }
 
 -- the run stopped at a line
-Stopped-as : (sealing : Sealing) (history : History) (input : List ℕ) (left before after : Option (List ℕ)) (old new : Told) (status : Status) →
-    HasStopped sealing history input left before after old new status → Stopped sealing history input left before after new status
-Stopped-as sealing history input left before after old new status has = (has.taken, has.rest, has.took, has.stops.at)
+Stopped-as : (sealing : Sealing) (talk : Talk) (input : List ℕ) (left before after : Option (List ℕ)) (old new : Told) (status : Status) →
+    HasStopped sealing talk input left before after old new status → Stopped sealing talk input left before after new status
+Stopped-as sealing talk input left before after old new status has = (has.taken, has.rest, has.took, has.stops.at)
 
-Reports-stop : (sealing : Sealing) (history : History) (input : List ℕ) (left before after : Option (List ℕ)) (old new : Told) (status : Status) →
-    AppendsFront before after (report history input) → HasStopped sealing history input left before after old new status → IsStop true status →
-    Reports sealing history input left before after new status
-Reports-stop sealing history input left before after old new DiskFault front has stop = record {
+Reports-stop : (sealing : Sealing) (talk : Talk) (input : List ℕ) (left before after : Option (List ℕ)) (old new : Told) (status : Status) →
+    AppendsFront before after (report talk input) → HasStopped sealing talk input left before after old new status → IsStop true status →
+    Reports sealing talk input left before after new status
+Reports-stop sealing talk input left before after old new DiskFault front has stop = record {
   front = front;
   whole = λ is. cc;
-  broken = λ is. inr (Stopped-as sealing history input left before after old new DiskFault has);
+  broken = λ is. inr (Stopped-as sealing talk input left before after old new DiskFault has);
   faulted = λ is. cc;
   cut = λ is. cc;
   starved = λ is. cc;
   limited = λ is. cc;
 }
-Reports-stop sealing history input left before after old new SinkFault front has stop = record {
+Reports-stop sealing talk input left before after old new SinkFault front has stop = record {
   front = front;
   whole = λ is. cc;
   broken = λ is. cc;
   faulted = λ is. cc;
-  cut = λ is. Stopped-as sealing history input left before after old new SinkFault has;
+  cut = λ is. Stopped-as sealing talk input left before after old new SinkFault has;
   starved = λ is. cc;
   limited = λ is. cc;
 }
-Reports-stop sealing history input left before after old new OutOfMemory front has stop = record {
+Reports-stop sealing talk input left before after old new OutOfMemory front has stop = record {
   front = front;
   whole = λ is. cc;
   broken = λ is. cc;
   faulted = λ is. cc;
   cut = λ is. cc;
-  starved = λ is. inr (Stopped-as sealing history input left before after old new OutOfMemory has);
+  starved = λ is. inr (Stopped-as sealing talk input left before after old new OutOfMemory has);
   limited = λ is. cc;
 }
-Reports-stop sealing history input left before after old new RecordChanged front has stop = absurd (stop refl)
-Reports-stop sealing history input left before after old new Done front has stop = absurd stop
-Reports-stop sealing history input left before after old new Usage front has stop = absurd stop
-Reports-stop sealing history input left before after old new RefusedStore front has stop = absurd stop
-Reports-stop sealing history input left before after old new SourceFault front has stop = absurd stop
-Reports-stop sealing history input left before after old new InputLimit front has stop = absurd stop
+Reports-stop sealing talk input left before after old new RecordChanged front has stop = absurd (stop refl)
+Reports-stop sealing talk input left before after old new Done front has stop = absurd stop
+Reports-stop sealing talk input left before after old new Usage front has stop = absurd stop
+Reports-stop sealing talk input left before after old new RefusedStore front has stop = absurd stop
+Reports-stop sealing talk input left before after old new SourceFault front has stop = absurd stop
+Reports-stop sealing talk input left before after old new InputLimit front has stop = absurd stop
 
-pub Serves-stop : (sealing : Sealing) (history : History) (input : List ℕ) (left before after : Option (List ℕ)) (old new : Told) (tells : Bool)
-    (status : Status) → IsTrue tells → IsStop tells status → HasStopped sealing history input left before after old new status →
-    Serves sealing history input left before after old new status
-Serves-stop sealing history input left before after old new tells status told stop has =
+pub Serves-stop : (sealing : Sealing) (talk : Talk) (input : List ℕ) (left before after : Option (List ℕ)) (old new : Told) (tells : Bool)
+    (status : Status) → IsTrue tells → IsStop tells status → HasStopped sealing talk input left before after old new status →
+    Serves sealing talk input left before after old new status
+Serves-stop sealing talk input left before after old new tells status told stop has =
     let all = lines-all input has.taken has.rest has.took.all in
     let ls = lines_within has.taken has.rest in
     record {
-      report = Reports-stop sealing history input left before after old new status
-          (subst (λ l. AppendsFront before after (text_of history l)) (sym all.1) (StopsBy-front sealing history (ls ++ all.0) before after new status
-          (StopsBy-more sealing history ls all.0 before after new status has.stops.at))) has
+      report = Reports-stop sealing talk input left before after old new status
+          (subst (λ l. AppendsFront before after (text_of talk l)) (sym all.1) (StopsAmong-front (StopsAmong-more all.0 has.stops.at))) has
           (subst (λ b. IsStop b status) told stop);
-      kept = HoldsReported-stop sealing history input left before after new status ls all.0 all.1
+      kept = HoldsReported-stop sealing talk input left before after new status ls all.0 all.1
           (AreRead-took input left has.taken has.rest has.took) has.stops.at (stop-other tells status stop).0;
-      any_moment = subst (λ l. LeavesOnly old new (StandsWithin history l)) (sym all.1) (any_moment-more history old new ls all.0 has.stops.any_moment);
+      any_moment = subst (λ l. LeavesOnly old new (StandsWithin talk l)) (sym all.1) (moments-more talk old new ls all.0 has.stops.any_moment);
       whole = λ is. absurd ((stop-other tells status stop).0 is);
     }
 
 -- the session came to its end
-pub Serves-done : (sealing : Sealing) {history : History} {start mid : Told} {session : SessionState} {before held left : Option (List ℕ)} {input : List ℕ}
+pub Serves-done : (sealing : Sealing) {talk : Talk} {start mid : Told} {session : SessionState} {before held left : Option (List ℕ)} {input : List ℕ}
     (new : Told)
     (after : Option (List ℕ)) →
-    IsAtEnd history start mid session before held left input → EndsWell history (lines input) mid new before after →
-    Serves sealing history input left before after start new Done
-Serves-done sealing {history = history} {start = start} {mid = mid} {before = before} {left = left} {input = input} new after end ends = record {
+    IsAtEnd sealing talk start mid session before held left input → EndsWell talk (lines input) mid new before after →
+    Serves sealing talk input left before after start new Done
+Serves-done sealing {talk = talk} {start = start} {mid = mid} {before = before} {left = left} {input = input} new after end ends = record {
   report = record {
-    front = AppendsFront-all before after (report history input) ends.replied;
+    front = AppendsFront-all before after (report talk input) ends.replied;
     whole = λ _. ends.replied;
     broken = λ is. cc;
     faulted = λ is. cc;
@@ -241,27 +240,27 @@ Serves-done sealing {history = history} {start = start} {mid = mid} {before = be
     starved = λ is. cc;
     limited = λ is. cc;
   };
-  kept = HoldsReported-done sealing history input left before after new Done (lines input) [] (sym (append-nil (lines input)))
+  kept = HoldsReported-done sealing talk input left before after new Done (lines input) [] (sym (append-nil (lines input)))
       (AreRead-took input left input [] (record { all = append-nil input; others = end.source; few = end.fits })) ends.replied
-      (of_content new (Stands (after_lines history (lines input))) ends.durable ends.stands) (λ _. refl);
-  any_moment = joined start mid new (StandsWithin history (lines input)) (any_moment-lines history start mid input end.on.any_moment) ends.any_moment;
-  whole = λ _. subst (λ h. Stands h new.content) (after_lines-accepted history (lines input)) ends.stands;
+      (of_content new (Stands (after_lines talk (lines input)).history) ends.durable ends.stands) (λ _. refl);
+  any_moment = joined start mid new (StandsWithin talk (lines input)) (any_moment-lines talk start mid input end.on.any_moment) ends.any_moment;
+  whole = λ _. subst (λ h. Stands h new.content) (after_lines-accepted talk (lines input)) ends.stands;
 }
 
 -- the session was finished
-pub Serves-finish : (sealing : Sealing) {history : History} {start mid : Told} {session : SessionState} {before held left : Option (List ℕ)} {input : List ℕ}
+pub Serves-finish : (sealing : Sealing) {talk : Talk} {start mid : Told} {session : SessionState} {before held left : Option (List ℕ)} {input : List ℕ}
     (new : Told)
     (after : Option (List ℕ))
-    (tells : Bool) (status : Status) → IsTrue tells → IsAtEnd history start mid session before held left input →
+    (tells : Bool) (status : Status) → IsTrue tells → IsAtEnd sealing talk start mid session before held left input →
     (status ≡ Done) ⊎ IsStop tells status →
-    (status ≡ Done → EndsWell history (lines input) mid new before after) →
-    (IsStop tells status → StopsIn sealing history (lines input) mid new before after status) →
-    Serves sealing history input left before after start new status
-Serves-finish sealing {history = history} {start = start} {before = before} {left = left} {input = input} new after tells status told end (inl is) done stops =
-    subst (λ s. Serves sealing history input left before after start new s) (sym is) (Serves-done sealing new after end (done is))
-Serves-finish sealing {history = history} {start = start} {before = before} {left = left} {input = input} new after tells status told end
+    (status ≡ Done → EndsWell talk (lines input) mid new before after) →
+    (IsStop tells status → StopsIn sealing talk (lines input) mid new before after status) →
+    Serves sealing talk input left before after start new status
+Serves-finish sealing {talk = talk} {start = start} {before = before} {left = left} {input = input} new after tells status told end (inl is) done stops =
+    subst (λ s. Serves sealing talk input left before after start new s) (sym is) (Serves-done sealing new after end (done is))
+Serves-finish sealing {talk = talk} {start = start} {before = before} {left = left} {input = input} new after tells status told end
     (inr stop) done stops =
-    Serves-stop sealing history input left before after start new tells status told stop (HasStopped-end sealing new after status end (stops stop))
+    Serves-stop sealing talk input left before after start new tells status told stop (HasStopped-end sealing new after status end (stops stop))
 
 -- by which of the two statuses
 abbrev Partly : Status → Type 0 → Type 0 → Type 0
@@ -292,32 +291,32 @@ part-read input left after_left n is (inl how) =
 part-read input left after_left n is (inr how) = AreRead-front input after_left n 1 (how.1.source ∙ ap (λ bs. Some bs) (drop-drop 1 n input))
 
 -- the source failed, or more is left than an input may have
-pub Serves-part : (sealing : Sealing) {history : History} {start now : Told} {session : SessionState} {before held left : Option (List ℕ)} {input : List ℕ}
+pub Serves-part : (sealing : Sealing) {talk : Talk} {start now : Told} {session : SessionState} {before held left : Option (List ℕ)} {input : List ℕ}
     {n : ℕ}
     (status : Status)
-    (after_left : Option (List ℕ)) → IsThrough history start now session before held left input n → n ≤ LONGEST_INPUT →
+    (after_left : Option (List ℕ)) → IsThrough sealing talk start now session before held left input n → n ≤ LONGEST_INPUT →
     (status ≡ SourceFault) × (after_left ≡ left) ⊎ (status ≡ InputLimit) × IsPast input after_left n →
-    Serves sealing history input after_left before held start now status
-Serves-part sealing {history = history} {start = start} {now = now} {before = before} {held = held} {left = left} {input = input} {n = n} status after_left
+    Serves sealing talk input after_left before held start now status
+Serves-part sealing {talk = talk} {start = start} {now = now} {before = before} {held = held} {left = left} {input = input} {n = n} status after_left
     through few how =
     let more = lines-front (take n input) (drop n input) in
     let all : lines input ≡ lines_so_far (take n input) ++ more.0 = ap (λ bs. lines bs) (sym (take-append-drop n input)) ∙ more.1 in
     let ls = lines_so_far (take n input) in
     record {
       report = record {
-        front = subst (λ bs. AppendsFront before held (report history bs)) (take-append-drop n input)
-            (front-report history before held (take n input) (drop n input) (AppendsFront-all before held (report_so_far history (take n input))
+        front = subst (λ bs. AppendsFront before held (report talk bs)) (take-append-drop n input)
+            (front-report talk before held (take n input) (drop n input) (AppendsFront-all before held (report_so_far talk (take n input))
             through.on.replied));
         whole = λ is. part-other Done (λ w. cc) (λ w. cc) how is;
         broken = λ is. part-other DiskFault (λ w. cc) (λ w. cc) how is;
         faulted = λ is. (take n input, drop n input, Took-at input after_left n through.within few (part-left how is ∙ through.source), through.on.replied);
         cut = λ is. part-other SinkFault (λ w. cc) (λ w. cc) how is;
         starved = λ is. part-other OutOfMemory (λ w. cc) (λ w. cc) how is;
-        limited = λ is. through.on.replied ∙ ap (λ m. appended before (report_so_far history (take m input))) (part-limit how is).all;
+        limited = λ is. through.on.replied ∙ ap (λ m. appended before (report_so_far talk (take m input))) (part-limit how is).all;
       };
-      kept = HoldsReported-done sealing history input after_left before held now status ls more.0 all (part-read input left after_left n through.source how)
+      kept = HoldsReported-done sealing talk input after_left before held now status ls more.0 all (part-read input left after_left n through.source how)
           through.on.replied
-          (of_content now (Stands (after_lines history ls)) through.on.at.durable through.on.at.stands) (λ is. part-other Done (λ w. cc) (λ w. cc) how is);
-      any_moment = subst (λ l. LeavesOnly start now (StandsWithin history l)) (sym all) (any_moment-more history start now ls more.0 through.on.any_moment);
+          (of_content now (Stands (after_lines talk ls).history) through.on.at.durable through.on.at.stands) (λ is. part-other Done (λ w. cc) (λ w. cc) how is);
+      any_moment = subst (λ l. LeavesOnly start now (StandsWithin talk l)) (sym all) (moments-more talk start now ls more.0 through.on.any_moment);
       whole = λ is. part-other Done (λ w. cc) (λ w. cc) how is;
     }

@@ -23,6 +23,7 @@ use Rattle.ss_windowing.specs.Windowing.{window_index}
 use Rattle.ss_program.specs.Line.{History}
 use Rattle.ss_program.specs.Series.{AnswersQuery}
 use Rattle.ss_program.specs.Session.{accepted, report}
+use Rattle.ss_program.specs.Talk.{plain}
 
 -- lines, each with its line end
 abbrev text : List (List ℕ) → List ℕ
@@ -41,7 +42,7 @@ series =
     ∷ codes "series x sum 5 4 1" ∷ codes "series a sum 5 4 1" ∷ codes "series a mean 5 4 1" ∷ codes "series a! sum 0 100000 1"
     ∷ codes "series a! sum 0 99999 1" ∷ [])
 
-report-series : report readings series
+report-series : report (plain readings) series
     ≡ text (codes "series 3" ∷ codes "10 -5 16" ∷ codes "35 -3 25" ∷ codes "60 9 16"
     ∷ codes "series 3" ∷ codes "0 8 8" ∷ codes "50 9 9" ∷ codes "100 none"
     ∷ codes "series 2" ∷ codes "15 -3 8 maybe-none" ∷ codes "16 -3 8 maybe-none" ∷ codes "series 1" ∷ codes "10 1 1"
@@ -51,7 +52,7 @@ unfolding ended_lines unended meaning words is_number number_of number_up_to sig
 report-series = refl
 
 -- they add no event
-accepted-series : accepted readings (lines series) ≡ []
+accepted-series : accepted (plain readings) (lines series) ≡ []
 unfolding ended_lines unended meaning words is_number number_of number_up_to signed_of is_name state refuses_query outcome_of sum_interval window_index
     numbers_from
 accepted-series = refl

@@ -1,5 +1,5 @@
--- How a session goes on with further lines, and where it stops. Nothing here rests on what a line brings.
-use Rattle.std.proofs.Common.{inl, inr, ◌≡◌, ℕ, ◌+◌, ◌++◌, List, [], ◌∷◌, length, take, Option, refl, sym, ap, ◌∙◌, subst, append_assoc, arith}
+-- How a session goes on with further lines, and where it stops. Of what a line brings this rests only on that an event is never silent.
+use Rattle.std.proofs.Common.{inl, inr, ◌≡◌, ℕ, ◌+◌, ◌<◌, ◌≤◌, ◌++◌, List, [], ◌∷◌, length, take, Option, IsSome, refl, sym, ap, ◌∙◌, subst, append_assoc, arith}
 use Rattle.std.proofs.Math.Seq.{take-append-add}
 use Rattle.std.specs.List.{flat_map}
 use Rattle.std.proofs.lemmas.Grind.{flat_map-append}
@@ -8,189 +8,156 @@ use Rattle.ss_command.specs.Lines.{lines_so_far}
 use Rattle.ss_command.proofs.LineLemmas.{lines-front}
 use Rattle.ss_report.specs.Text.{reply_line}
 use Rattle.ss_report.specs.declared.reply.Reply.{Reply}
-use Rattle.ss_program.specs.Line.{Brought, History, brings, line_text, text_brought, the_event}
+use Rattle.ss_program.specs.Line.{History, brings, history_after, the_event}
+use Rattle.ss_outside.specs.Crash.{LeavesOnly}
 use Rattle.ss_outside.specs.Disk.{Told}
+use Rattle.ss_outside.proofs.CrashLemmas.{weaker}
 use Rattle.ss_store.specs.Recover.{Stands}
-use Rattle.ss_program.specs.Progress.{BeginsWithEvent, StandsAround, StandsBeyond, StandsStopped, StandsWithin, StopsAmong, StopsAt, StopsBy, StopsWith}
+use Rattle.ss_program.specs.Progress.{StandsBeyond, StandsWithin, StopsAmong, StopsIn}
 use Rattle.ss_program.specs.Sent.{appended, AppendsFront}
-use Rattle.ss_program.specs.Session.{accepted, after_line, after_lines, replies, report, report_so_far, text_of}
+use Rattle.ss_program.specs.Session.{accepted, after_line, after_lines, plain_after, replies, report, report_so_far, text_of}
+use Rattle.ss_program.specs.Talk.{Talk, after_turn, plain, turn_of}
 use Rattle.ss_arguments.specs.declared.mode.Sealing.{Sealing}
-use Rattle.ss_arguments.specs.declared.mode.Sealing.TheVariants.{Each, Shared}
 use Rattle.ss_program.specs.declared.status.Status.{Status}
-use Rattle.ss_program.specs.declared.status.Status.TheVariants.{
-  Done,
-  Usage,
-  RefusedStore,
-  DiskFault,
-  SourceFault,
-  SinkFault,
-  OutOfMemory,
-  InputLimit,
-  RecordChanged,
-}
-use Rattle.ss_program.proofs.SendLemmas.{appended-nil, AppendsFront-after, AppendsFront-longer}
+use Rattle.ss_program.proofs.AnswerLemmas.{text-some}
+use Rattle.ss_program.proofs.SendLemmas.{AppendsFront-longer}
 
--- the history after more lines
-pub after_lines-append : (history : History) (ls ms : List (List ℕ)) → after_lines history (ls ++ ms) ≡ after_lines (after_lines history ls) ms
-after_lines-append history [] ms = refl
-after_lines-append history (l ∷ ls) ms = after_lines-append (after_line history l) ls ms
+-- something is said to a line that brings an event
+pub says-some : (talk : Talk) (line : List ℕ) → IsSome (turn_of talk line).event → 0 < length (turn_of talk line).says
+says-some talk line some = text-some talk.history line some
 
--- it is the history before, and the events accepted since
-pub after_lines-accepted : (history : History) (ls : List (List ℕ)) → after_lines history ls ≡ history ++ accepted history ls
-after_lines-accepted history [] = sym (append-nil history)
-after_lines-accepted history (l ∷ ls) =
-    after_lines-accepted (after_line history l) ls
-    ∙ append_assoc history (the_event (brings history l).event) (accepted (after_line history l) ls)
+-- the conversation after more lines
+pub after_lines-append : (talk : Talk) (ls ms : List (List ℕ)) → after_lines talk (ls ++ ms) ≡ after_lines (after_lines talk ls) ms
+after_lines-append talk [] ms = refl
+after_lines-append talk (l ∷ ls) ms = after_lines-append (after_line talk l) ls ms
 
--- the replies to more lines, and their text
-pub replies-append : (history : History) (ls ms : List (List ℕ)) → replies history (ls ++ ms) ≡ replies history ls ++ replies (after_lines history ls) ms
+-- its form is the one before, and its history the one before with the events accepted since
+pub after_lines-form : (talk : Talk) (ls : List (List ℕ)) → (after_lines talk ls).form ≡ talk.form
+after_lines-form talk [] = refl
+after_lines-form talk (l ∷ ls) = after_lines-form (after_line talk l) ls
+
+pub after_lines-accepted : (talk : Talk) (ls : List (List ℕ)) → (after_lines talk ls).history ≡ talk.history ++ accepted talk ls
+after_lines-accepted talk [] = sym (append-nil talk.history)
+after_lines-accepted talk (l ∷ ls) =
+    after_lines-accepted (after_line talk l) ls
+    ∙ append_assoc talk.history (the_event (turn_of talk l).event) (accepted (after_line talk l) ls)
+
+-- what is said to more lines
+pub text_of-append : (talk : Talk) (ls ms : List (List ℕ)) → text_of talk (ls ++ ms) ≡ text_of talk ls ++ text_of (after_lines talk ls) ms
+text_of-append talk [] ms = refl
+text_of-append talk (l ∷ ls) ms =
+    ap (λ (text : List ℕ). (turn_of talk l).says ++ text) (text_of-append (after_line talk l) ls ms)
+    ∙ sym (append_assoc (turn_of talk l).says (text_of (after_line talk l) ls) (text_of (after_lines (after_line talk l) ls) ms))
+
+pub text_of-one : (talk : Talk) (l : List ℕ) → text_of talk (l ∷ []) ≡ (turn_of talk l).says
+text_of-one talk l = append-nil (turn_of talk l).says
+
+pub text_of-push : (talk : Talk) (ls : List (List ℕ)) (l : List ℕ) →
+    text_of talk (ls ++ l ∷ []) ≡ text_of talk ls ++ (turn_of (after_lines talk ls) l).says
+text_of-push talk ls l =
+    text_of-append talk ls (l ∷ []) ∙ ap (λ (text : List ℕ). text_of talk ls ++ text) (text_of-one (after_lines talk ls) l)
+
+-- the history after more plain lines, and after one more
+pub plain_after-append : (history : History) (ls ms : List (List ℕ)) → plain_after history (ls ++ ms) ≡ plain_after (plain_after history ls) ms
+plain_after-append history [] ms = refl
+plain_after-append history (l ∷ ls) ms = plain_after-append (history_after history (brings history l)) ls ms
+
+pub plain_after-push : (history : History) (ls : List (List ℕ)) (line : List ℕ) →
+    plain_after history (ls ++ line ∷ []) ≡ history_after (plain_after history ls) (brings (plain_after history ls) line)
+plain_after-push history ls line = plain_after-append history ls (line ∷ [])
+
+-- the replies to more plain lines, and their text
+pub replies-append : (history : History) (ls ms : List (List ℕ)) →
+    replies history (ls ++ ms) ≡ replies history ls ++ replies (plain_after history ls) ms
 replies-append history [] ms = refl
 replies-append history (l ∷ ls) ms =
-    ap (λ (rs : List Reply). (brings history l).replies ++ rs) (replies-append (after_line history l) ls ms)
-    ∙ sym (append_assoc (brings history l).replies (replies (after_line history l) ls) (replies (after_lines (after_line history l) ls) ms))
+    let then = history_after history (brings history l) in
+    ap (λ (rs : List Reply). (brings history l).replies ++ rs) (replies-append then ls ms)
+    ∙ sym (append_assoc (brings history l).replies (replies then ls) (replies (plain_after then ls) ms))
 
-pub text_of-append : (history : History) (ls ms : List (List ℕ)) → text_of history (ls ++ ms) ≡ text_of history ls ++ text_of (after_lines history ls) ms
-text_of-append history ls ms =
-    ap (λ (rs : List Reply). flat_map reply_line rs) (replies-append history ls ms)
-    ∙ flat_map-append reply_line (replies history ls) (replies (after_lines history ls) ms)
-
-pub text_of-push : (history : History) (ls : List (List ℕ)) (l : List ℕ) →
-    text_of history (ls ++ l ∷ []) ≡ text_of history ls ++ line_text (after_lines history ls) l
-text_of-push history ls l =
-    text_of-append history ls (l ∷ [])
-    ∙ ap (λ (rs : List Reply). text_of history ls ++ flat_map reply_line rs) (append-nil (brings (after_lines history ls) l).replies)
+pub text_of-replies : (history : History) (ls : List (List ℕ)) → text_of (plain history) ls ≡ flat_map reply_line (replies history ls)
+text_of-replies history [] = refl
+text_of-replies history (l ∷ ls) =
+    let then = history_after history (brings history l) in
+    let first = (brings history l).replies in
+    ap (λ (text : List ℕ). flat_map reply_line first ++ text) (text_of-replies then ls)
+    ∙ sym (flat_map-append reply_line first (replies then ls))
 
 -- what follows only adds to the report
-front-lines : (history : History) (before after : Option (List ℕ)) (ls ms : List (List ℕ)) → AppendsFront before after (text_of history ls) →
-    AppendsFront before after (text_of history (ls ++ ms))
-front-lines history before after ls ms part =
-    subst (λ text. AppendsFront before after text) (sym (text_of-append history ls ms))
-    (AppendsFront-longer before after (text_of history ls) (text_of (after_lines history ls) ms) part)
+front-lines : (talk : Talk) (before after : Option (List ℕ)) (ls ms : List (List ℕ)) → AppendsFront before after (text_of talk ls) →
+    AppendsFront before after (text_of talk (ls ++ ms))
+front-lines talk before after ls ms part =
+    subst (λ text. AppendsFront before after text) (sym (text_of-append talk ls ms))
+    (AppendsFront-longer before after (text_of talk ls) (text_of (after_lines talk ls) ms) part)
 
-pub front-report : (history : History) (before after : Option (List ℕ)) (xs ys : List ℕ) → AppendsFront before after (report_so_far history xs) →
-    AppendsFront before after (report history (xs ++ ys))
-front-report history before after xs ys part =
+pub front-report : (talk : Talk) (before after : Option (List ℕ)) (xs ys : List ℕ) → AppendsFront before after (report_so_far talk xs) →
+    AppendsFront before after (report talk (xs ++ ys))
+front-report talk before after xs ys part =
     let more = lines-front xs ys in
-    subst (λ ls. AppendsFront before after (text_of history ls)) (sym more.1) (front-lines history before after (lines_so_far xs) more.0 part)
+    subst (λ ls. AppendsFront before after (text_of talk ls)) (sym more.1) (front-lines talk before after (lines_so_far xs) more.0 part)
 
--- a run that stopped at one of these lines stopped at one of these and others
-pub StopsAt-more : {history : History} {ls : List (List ℕ)} {before after : Option (List ℕ)} {disk : Told} {status : Status} (ms : List (List ℕ)) →
-    StopsAt history ls before after disk status → StopsAt history (ls ++ ms) before after disk status
-StopsAt-more ms at = record {
-  done = at.done;
-  line = at.line;
-  others = at.others ++ ms;
-  are = ap (λ ls. ls ++ ms) at.are ∙ append_assoc at.done (at.line ∷ at.others) ms;
-  stop = at.stop;
-  left = at.left;
-}
-
--- the same where events share seals
-StandsBeyond-more : (history : History) (ls ms : List (List ℕ)) (bytes : ℕ) (image : List ℕ) → StandsBeyond history ls bytes image →
-    StandsBeyond history (ls ++ ms) bytes image
-StandsBeyond-more history ls ms bytes image beyond =
-    (beyond.0, beyond.1 ++ ms, ap (λ l. l ++ ms) beyond.2 ∙ append_assoc beyond.0 beyond.1 ms, beyond.3, beyond.4)
-
-BeginsWithEvent-more : (history : History) (ls ms : List (List ℕ)) → BeginsWithEvent history ls → BeginsWithEvent history (ls ++ ms)
-BeginsWithEvent-more history [] ms begins = absurd begins
-BeginsWithEvent-more history (line ∷ ls) ms begins = begins
-
-StopsAmong-more : {history : History} {ls : List (List ℕ)} {before after : Option (List ℕ)} {disk : Told} {status : Status} (ms : List (List ℕ)) →
-    StopsAmong history ls before after disk status → StopsAmong history (ls ++ ms) before after disk status
-StopsAmong-more {history = history} {before = before} ms at =
-    let here = after_lines history at.out in
-    let text = text_of here at.rest in
-    let more = text_of (after_lines here at.rest) ms in
-    let both = text_of-append here at.rest ms in
-    record {
-      out = at.out;
-      rest = at.rest ++ ms;
-      are = ap (λ ls. ls ++ ms) at.are ∙ append_assoc at.out at.rest ms;
-      bytes = at.bytes;
-      few = omega (arith, at.few, ap (λ (bs : List ℕ). length bs) both, length-append text more);
-      sent = at.sent ∙ ap (λ bs. appended before (text_of history at.out ++ bs))
-          (sym (ap (λ bs. take at.bytes bs) both ∙ take-append-le at.bytes text more at.few));
-      left = λ image left. StandsBeyond-more here at.rest ms at.bytes image (at.left image left);
-      starved = λ memory. let starved = at.starved memory in (starved.0, BeginsWithEvent-more here at.rest ms starved.1, starved.2);
-    }
-
-pub StopsBy-more : (sealing : Sealing) (history : History) (ls ms : List (List ℕ)) (before after : Option (List ℕ)) (disk : Told) (status : Status) →
-    StopsBy sealing history ls before after disk status → StopsBy sealing history (ls ++ ms) before after disk status
-StopsBy-more Each history ls ms before after disk status at = StopsAt-more ms at
-StopsBy-more Shared history ls ms before after disk status at = StopsAmong-more ms at
-
--- a run that stops at the line that comes next
-pub StopsAt-next : (history : History) (ls : List (List ℕ)) (line : List ℕ) (before held after : Option (List ℕ)) (disk : Told) (status : Status) →
-    held ≡ appended before (text_of history ls) → StopsWith (brings (after_lines history ls) line) held after status →
-    ((image : List ℕ) → disk.may_leave image → StandsStopped (after_lines history ls) (brings (after_lines history ls) line) status image) →
-    StopsAt history (ls ++ line ∷ []) before after disk status
-StopsAt-next history ls line before held after disk status is stop left = record {
-  done = ls;
-  line = line;
-  others = [];
-  are = refl;
-  stop = subst (λ o. StopsWith (brings (after_lines history ls) line) o after status) is stop;
-  left = left;
-}
-
--- what a stop leaves of what a line brings is a front of its text
-StopsWith-front : (brought : Brought) (before after : Option (List ℕ)) (status : Status) → StopsWith brought before after status →
-    AppendsFront before after (text_brought brought)
-StopsWith-front brought before after SinkFault stop = (stop.0, stop.2)
-StopsWith-front brought before after DiskFault stop = (stop.0, stop.2)
-StopsWith-front brought before after RecordChanged stop = (stop.0, stop.2)
-StopsWith-front brought before after OutOfMemory stop = (0, stop.0 ∙ sym (appended-nil before))
-StopsWith-front brought before after Done stop = absurd stop
-StopsWith-front brought before after Usage stop = absurd stop
-StopsWith-front brought before after RefusedStore stop = absurd stop
-StopsWith-front brought before after SourceFault stop = absurd stop
-StopsWith-front brought before after InputLimit stop = absurd stop
-
--- and a front of the text of the lines
-pub StopsAt-front : {history : History} {ls : List (List ℕ)} {before after : Option (List ℕ)} {disk : Told} {status : Status} →
-    StopsAt history ls before after disk status → AppendsFront before after (text_of history ls)
-StopsAt-front {history = history} {ls = ls} {before = before} {after = after} {status = status} at =
-    let here = text_of history at.done in
-    let reply = line_text (after_lines history at.done) at.line in
-    let part = AppendsFront-after before after here reply (StopsWith-front (brings (after_lines history at.done) at.line) (appended before here) after status
-    at.stop) in
-    let through = subst (λ text. AppendsFront before after text) (sym (text_of-push history at.done at.line)) part in
-    subst (λ ms. AppendsFront before after (text_of history ms)) (append_assoc at.done (at.line ∷ []) at.others ∙ sym at.are)
-    (front-lines history before after (at.done ++ at.line ∷ []) at.others through)
-
-StopsAmong-front : {history : History} {ls : List (List ℕ)} {before after : Option (List ℕ)} {disk : Told} {status : Status} →
-    StopsAmong history ls before after disk status → AppendsFront before after (text_of history ls)
-StopsAmong-front {history = history} {ls = ls} {before = before} at =
-    let here = text_of history at.out in
-    let text = text_of (after_lines history at.out) at.rest in (
+-- what was sent of what is said to the lines at which a run stopped is a front of what is said to all
+pub StopsAmong-front : {sealing : Sealing} {talk : Talk} {ls : List (List ℕ)} {before after : Option (List ℕ)} {disk : Told} {status : Status} →
+    StopsAmong sealing talk ls before after disk status → AppendsFront before after (text_of talk ls)
+StopsAmong-front {talk = talk} {before = before} {after = after} at =
+    let here = text_of talk at.out in
+    let there = after_lines talk at.out in
+    let text = text_of there at.now in
+    let part : AppendsFront before after (text_of talk (at.out ++ at.now)) = (
       length here + at.bytes,
       at.sent ∙ ap (λ bs. appended before bs)
-          (sym (ap (λ l. take (length here + at.bytes) (text_of history l)) at.are
-          ∙ ap (λ bs. take (length here + at.bytes) bs) (text_of-append history at.out at.rest) ∙ take-append-add here text at.bytes)),
-    )
+          (sym (ap (λ bs. take (length here + at.bytes) bs) (text_of-append talk at.out at.now) ∙ take-append-add here text at.bytes)),
+    ) in
+    subst (λ ms. AppendsFront before after (text_of talk ms)) (append_assoc at.out at.now at.others ∙ sym at.are)
+    (front-lines talk before after (at.out ++ at.now) at.others part)
 
-pub StopsBy-front : (sealing : Sealing) (history : History) (ls : List (List ℕ)) (before after : Option (List ℕ)) (disk : Told) (status : Status) →
-    StopsBy sealing history ls before after disk status → AppendsFront before after (text_of history ls)
-StopsBy-front Each history ls before after disk status at = StopsAt-front at
-StopsBy-front Shared history ls before after disk status at = StopsAmong-front at
-
--- the history after one more line
-pub after_lines-push : (history : History) (ls : List (List ℕ)) (line : List ℕ) →
-    after_lines history (ls ++ line ∷ []) ≡ after_line (after_lines history ls) line
-after_lines-push history ls line = after_lines-append history ls (line ∷ [])
+-- the conversation after one more line
+pub after_lines-push : (talk : Talk) (ls : List (List ℕ)) (line : List ℕ) →
+    after_lines talk (ls ++ line ∷ []) ≡ after_line (after_lines talk ls) line
+after_lines-push talk ls line = after_lines-append talk ls (line ∷ [])
 
 -- An image of the history after some first lines. It is one of more lines, too.
-pub StandsWithin-all : (history : History) (ls : List (List ℕ)) (image : List ℕ) → Stands (after_lines history ls) image → StandsWithin history ls image
-StandsWithin-all history ls image stands = (ls, [], sym (append-nil ls), stands)
+pub StandsWithin-all : (talk : Talk) (ls : List (List ℕ)) (image : List ℕ) → Stands (after_lines talk ls).history image → StandsWithin talk ls image
+StandsWithin-all talk ls image stands = (ls, [], sym (append-nil ls), stands)
 
-pub StandsWithin-more : (history : History) (ls ms : List (List ℕ)) (image : List ℕ) → StandsWithin history ls image →
-    StandsWithin history (ls ++ ms) image
-StandsWithin-more history ls ms image some =
+pub StandsWithin-more : (talk : Talk) (ls ms : List (List ℕ)) (image : List ℕ) → StandsWithin talk ls image → StandsWithin talk (ls ++ ms) image
+StandsWithin-more talk ls ms image some =
     (some.0, some.1 ++ ms, ap (λ l. l ++ ms) some.2 ∙ append_assoc some.0 some.1 ms, some.3)
 
 -- an image of the history before a line or after it
-pub StandsWithin-around : (history : History) (ls : List (List ℕ)) (line : List ℕ) (image : List ℕ) →
-    StandsAround (after_lines history ls) (brings (after_lines history ls) line) image → StandsWithin history (ls ++ line ∷ []) image
-StandsWithin-around history ls line image (inl stands) = (ls, line ∷ [], refl, stands)
-StandsWithin-around history ls line image (inr stands) =
-    StandsWithin-all history (ls ++ line ∷ []) image (subst (λ h. Stands h image) (sym (after_lines-push history ls line)) stands)
+pub StandsWithin-before : (talk : Talk) (ls : List (List ℕ)) (line : List ℕ) (image : List ℕ) → Stands (after_lines talk ls).history image →
+    StandsWithin talk (ls ++ line ∷ []) image
+StandsWithin-before talk ls line image stands = (ls, line ∷ [], refl, stands)
+
+pub StandsWithin-after : (talk : Talk) (ls : List (List ℕ)) (line : List ℕ) (image : List ℕ) →
+    Stands (after_line (after_lines talk ls) line).history image → StandsWithin talk (ls ++ line ∷ []) image
+StandsWithin-after talk ls line image stands =
+    StandsWithin-all talk (ls ++ line ∷ []) image (subst (λ (t : Talk). Stands t.history image) (sym (after_lines-push talk ls line)) stands)
+
+-- the moments of more lines
+pub moments-more : (talk : Talk) (old new : Told) (ls ms : List (List ℕ)) → LeavesOnly old new (StandsWithin talk ls) →
+    LeavesOnly old new (StandsWithin talk (ls ++ ms))
+moments-more talk old new ls ms run = weaker old new (StandsWithin talk ls) (StandsWithin talk (ls ++ ms)) (StandsWithin-more talk ls ms) run
+
+-- a run that stopped among these lines stopped among these and others
+pub StopsAmong-more : {sealing : Sealing} {talk : Talk} {ls : List (List ℕ)} {before after : Option (List ℕ)} {disk : Told} {status : Status}
+    (ms : List (List ℕ)) → StopsAmong sealing talk ls before after disk status → StopsAmong sealing talk (ls ++ ms) before after disk status
+StopsAmong-more ms at = record {
+  out = at.out;
+  now = at.now;
+  others = at.others ++ ms;
+  are = ap (λ l. l ++ ms) at.are ∙ append_assoc at.out (at.now ++ at.others) ms ∙ ap (λ l. at.out ++ l) (append_assoc at.now at.others ms);
+  bytes = at.bytes;
+  few = at.few;
+  alone = at.alone;
+  sent = at.sent;
+  left = at.left;
+  starved = at.starved;
+}
+
+pub StopsIn-more : (sealing : Sealing) (talk : Talk) (ls ms : List (List ℕ)) (old new : Told) (before after : Option (List ℕ)) (status : Status) →
+    StopsIn sealing talk ls old new before after status → StopsIn sealing talk (ls ++ ms) old new before after status
+StopsIn-more sealing talk ls ms old new before after status stops = record {
+  at = StopsAmong-more ms stops.at;
+  any_moment = moments-more talk old new ls ms stops.any_moment;
+}

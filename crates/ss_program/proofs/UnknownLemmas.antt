@@ -38,8 +38,8 @@ use Rattle.ss_program.specs.Line.{
   refused,
   unless_refused,
 }
-use Rattle.ss_program.specs.Session.{NoneCreates, after_line, after_lines}
-use Rattle.ss_program.proofs.SessionLemmas.{after_lines-append}
+use Rattle.ss_program.specs.Session.{NoneCreates, plain_after}
+use Rattle.ss_program.proofs.SessionLemmas.{plain_after-append}
 use Rattle.ss_program.proofs.AnswerLemmas.{ask-event, brings-unanswered, certify-event, history-still, series-event, windows-event}
 
 -- after this history no stream of the name stands
@@ -104,11 +104,11 @@ unknown-meaning name history (Ok (Some command)) spared unknown =
 
 -- after lines of which none creates it, it doesn't stand either
 unknown-lines : (name : List ℕ) (history : History) (ls : List (List ℕ)) → NoneCreates name ls → IsUnknown name history →
-    IsUnknown name (after_lines history ls)
+    IsUnknown name (plain_after history ls)
 unknown-lines name history [] spared unknown = unknown
 unknown-lines name history (line ∷ ls) spared unknown =
     let P = λ (l : List ℕ). (params : Params) → meaning l ≢ Ok (Some (Do (Create name params))) in
-    unknown-lines name (after_line history line) ls (All-tail P line ls spared)
+    unknown-lines name (history_after history (brings history line)) ls (All-tail P line ls spared)
     (unknown-meaning name history (meaning line) (All-head P line ls spared) unknown)
 
 -- a stream that is dropped doesn't stand, and one that couldn't be didn't before
@@ -127,18 +127,18 @@ dropped-unknown name history (Some refusal) is =
 -- so after a line that drops it, until a line creates it, a query of it is refused
 pub query-dropped : (history : History) (before between : List (List ℕ)) (dropping line : List ℕ) (query : Query) →
     meaning dropping ≡ Ok (Some (Do (Drop query.name))) → NoneCreates query.name between → meaning line ≡ Ok (Some (Ask query)) →
-    brings (after_lines history (before ++ dropping ∷ between)) line ≡ refused Unknown
+    brings (plain_after history (before ++ dropping ∷ between)) line ≡ refused Unknown
 unfolding refuses_query
 query-dropped history before between dropping line query drops spared means =
     let name = query.name in
-    let here = after_lines history before in
-    let dropped : IsUnknown name (after_line here dropping) =
+    let here = plain_after history before in
+    let dropped : IsUnknown name (history_after here (brings here dropping)) =
     subst (λ b. IsUnknown name (history_after here b)) (sym (ap (λ m. meaning_brings here m) drops))
     (dropped-unknown name here (refuses (state here) (Drop name)) refl) in
-    let unknown : IsUnknown name (after_lines history (before ++ dropping ∷ between)) =
-    subst (λ h. IsUnknown name h) (sym (after_lines-append history before (dropping ∷ between)))
-    (unknown-lines name (after_line here dropping) between spared dropped) in
-    let there = after_lines history (before ++ dropping ∷ between) in
+    let unknown : IsUnknown name (plain_after history (before ++ dropping ∷ between)) =
+    subst (λ h. IsUnknown name h) (sym (plain_after-append history before (dropping ∷ between)))
+    (unknown-lines name (history_after here (brings here dropping)) between spared dropped) in
+    let there = plain_after history (before ++ dropping ∷ between) in
     ap (λ m. meaning_brings there m) means ∙ brings-unanswered there query Unknown (rw unknown refl)
 
 -- a stream that was created holds no value

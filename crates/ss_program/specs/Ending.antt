@@ -13,6 +13,7 @@ use Rattle.ss_program.specs.Refused.{RefusesStore, refusal_line}
 use Rattle.ss_program.specs.Sent.{SaysLine}
 use Rattle.ss_program.specs.Status.{disk_verdict, sink_verdict}
 use Rattle.ss_program.specs.Words.{usage}
+use Rattle.ss_arguments.specs.declared.mode.Form.{Form}
 use Rattle.ss_arguments.specs.declared.mode.Sealing.{Sealing}
 use Rattle.ss_program.specs.declared.status.Status.{Status}
 use Rattle.ss_program.specs.declared.status.Status.TheVariants.{Done, Usage, RefusedStore, DiskFault, SourceFault, OutOfMemory, InputLimit, RecordChanged}
@@ -67,7 +68,15 @@ HasNumbers (Serve form sealing) = ⊤
 HasNumbers Check = ⊤
 HasNumbers (Gen seed count) = (1 ≤ count) × (count ≤ MOST_COUNT)
 
--- which events come to the disk together, where the arguments ask for a run over the source
-abbrev pub sealing_of : Option Mode → Option Sealing
-sealing_of (Some (Serve form sealing)) = Some sealing
-sealing_of asked = None
+-- how a run over the source goes: the form of its input, and which events come to the disk together
+pub record Serving : Type 0 where
+  pub form : Form
+  pub sealing : Sealing
+
+abbrev pub serving : Form → Sealing → Serving
+serving form sealing = record { form = form; sealing = sealing }
+
+-- where the arguments ask for one
+abbrev pub served_by : Option Mode → Option Serving
+served_by (Some (Serve form sealing)) = Some (serving form sealing)
+served_by asked = None

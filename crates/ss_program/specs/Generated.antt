@@ -14,6 +14,7 @@ use Rattle.ss_program.specs.Held.{StandsForFirst}
 use Rattle.ss_program.specs.Line.{History}
 use Rattle.ss_program.specs.Sent.{appended, AppendsFront}
 use Rattle.ss_program.specs.Session.{accepted, replies}
+use Rattle.ss_program.specs.Talk.{plain}
 use Rattle.ss_program.specs.declared.status.Status.{Status}
 use Rattle.ss_program.specs.declared.status.Status.TheVariants.{Done, SinkFault}
 
@@ -76,11 +77,11 @@ summary history seed count =
 
 -- the image stands for the history and some first of the events that are accepted of the file
 abbrev pub StandsForGenerated : History → ℕ → ℕ → List ℕ → Type 0
-StandsForGenerated history seed count image = StandsForFirst history (accepted history (generated seed count)) image
+StandsForGenerated history seed count image = StandsForFirst history (accepted (plain history) (generated seed count)) image
 
 -- the image stands for the history and all of them
 abbrev pub StandsForAll : History → ℕ → ℕ → List ℕ → Type 0
-StandsForAll history seed count image = Stands (history ++ accepted history (generated seed count)) image
+StandsForAll history seed count image = Stands (history ++ accepted (plain history) (generated seed count)) image
 
 -- What a run over the file leaves. The sink's new bytes are a front of the summary, and all of it where the run is done; there are
 -- none where it stopped at a command. A crash at any moment leaves the history and some first of the accepted events, and so does

@@ -1,4 +1,5 @@
 pub mod Line
+pub mod Talk
 pub mod Session
 pub mod Sent
 pub mod Devices
@@ -6,7 +7,7 @@ pub mod Progress
 pub mod Answer
 pub mod Series
 pub mod Certifying
-pub mod Shared
+pub mod Amid
 pub mod Words
 pub mod Status
 pub mod Held

@@ -7,14 +7,15 @@ use Rattle.ss_outside.specs.Disk.{NothingPending, Told}
 use Rattle.ss_store.specs.Recover.{Stands}
 use Rattle.ss_program.specs.declared.running.TheConstants.{LONGEST_INPUT}
 use Rattle.ss_arguments.specs.declared.mode.Sealing.{Sealing}
-use Rattle.ss_arguments.specs.declared.mode.Sealing.TheVariants.{Each, Shared}
+use Rattle.ss_arguments.specs.declared.mode.Form.{Form}
 use Rattle.ss_program.specs.declared.status.Status.{Status}
 use Rattle.ss_program.specs.declared.status.Status.TheVariants.{Done, DiskFault, SourceFault, SinkFault, OutOfMemory, InputLimit}
-use Rattle.ss_program.specs.Held.{HoldsAcked, HoldsShared}
+use Rattle.ss_program.specs.Held.{HoldsAcked}
 use Rattle.ss_program.specs.Line.{History}
-use Rattle.ss_program.specs.Progress.{GoesOn, OfTaken, SessionState, StandsWithin, StopsBy, StopsIn, sealing_by}
+use Rattle.ss_program.specs.Progress.{GoesOn, OfTaken, SessionState, StandsWithin, StopsAmong, StopsIn}
 use Rattle.ss_program.specs.Sent.{appended, AppendsFront}
 use Rattle.ss_program.specs.Session.{accepted, report, report_so_far}
+use Rattle.ss_program.specs.Talk.{Talk, begun}
 
 -- some bytes of the input were taken, at most as many as an input may have, and the others are left
 pub record Took (input : List ℕ) (left : Option (List ℕ)) (taken rest : List ℕ) : Type 0 where
@@ -27,10 +28,10 @@ abbrev pub lines_within : List ℕ → List ℕ → List (List ℕ)
 lines_within taken [] = lines taken
 lines_within taken (b ∷ rest) = lines_so_far taken
 
--- a run stopped at a line that had ended within the bytes taken
-abbrev pub Stopped : Sealing → History → List ℕ → Option (List ℕ) → Option (List ℕ) → Option (List ℕ) → Told → Status → Type 0
-Stopped sealing history input left before after disk status =
-    (taken : List ℕ) × (rest : List ℕ) × Took input left taken rest × StopsBy sealing history (lines_within taken rest) before after disk status
+-- a run stopped among the lines that had ended within the bytes taken
+abbrev pub Stopped : Sealing → Talk → List ℕ → Option (List ℕ) → Option (List ℕ) → Option (List ℕ) → Told → Status → Type 0
+Stopped sealing talk input left before after disk status =
+    (taken : List ℕ) × (rest : List ℕ) × Took input left taken rest × StopsAmong sealing talk (lines_within taken rest) before after disk status
 
 -- a run ended where its store wasn't open yet
 abbrev pub NotBegun : List ℕ → Option (List ℕ) → Option (List ℕ) → Option (List ℕ) → Type 0
@@ -38,16 +39,16 @@ NotBegun input left before after = (left ≡ Some input) × (after ≡ before)
 
 -- The report: the sink's new bytes are a front of the report of the input. Done, they are all of it. Where the source failed, or
 -- the input is too long, they are the replies to the lines that ended within the bytes taken. Where the sink failed, the run
--- stopped at such a line, and where the disk failed or memory ran out, there or in opening the store.
-pub record Reports (sealing : Sealing) (history : History) (input : List ℕ) (left before after : Option (List ℕ)) (disk : Told) (status : Status) : Type 0 where
-  pub front : AppendsFront before after (report history input)
-  pub whole : status ≡ Done → after ≡ appended before (report history input)
-  pub broken : status ≡ DiskFault → NotBegun input left before after ⊎ Stopped sealing history input left before after disk DiskFault
+-- stopped among such lines, and where the disk failed or memory ran out, there or in opening the store.
+pub record Reports (sealing : Sealing) (talk : Talk) (input : List ℕ) (left before after : Option (List ℕ)) (disk : Told) (status : Status) : Type 0 where
+  pub front : AppendsFront before after (report talk input)
+  pub whole : status ≡ Done → after ≡ appended before (report talk input)
+  pub broken : status ≡ DiskFault → NotBegun input left before after ⊎ Stopped sealing talk input left before after disk DiskFault
   pub faulted : status ≡ SourceFault →
-      (taken : List ℕ) × (rest : List ℕ) × Took input left taken rest × (after ≡ appended before (report_so_far history taken))
-  pub cut : status ≡ SinkFault → Stopped sealing history input left before after disk SinkFault
-  pub starved : status ≡ OutOfMemory → NotBegun input left before after ⊎ Stopped sealing history input left before after disk OutOfMemory
-  pub limited : status ≡ InputLimit → after ≡ appended before (report_so_far history (take LONGEST_INPUT input))
+      (taken : List ℕ) × (rest : List ℕ) × Took input left taken rest × (after ≡ appended before (report_so_far talk taken))
+  pub cut : status ≡ SinkFault → Stopped sealing talk input left before after disk SinkFault
+  pub starved : status ≡ OutOfMemory → NotBegun input left before after ⊎ Stopped sealing talk input left before after disk OutOfMemory
+  pub limited : status ≡ InputLimit → after ≡ appended before (report_so_far talk (take LONGEST_INPUT input))
 
 -- the first bytes of the input were read, at most so many
 pub record Moved (most : ℕ) (input : List ℕ) (left : Option (List ℕ)) : Type 0 where
@@ -64,36 +65,36 @@ pub record Reads (input : List ℕ) (left : Option (List ℕ)) (status : Status)
 
 -- the image holds the acknowledged events, those whose replies are whole within so many bytes of the report, and at most so many more
 -- as may be on their way
-abbrev pub HoldsBy : Sealing → History → List ℕ → Option (List ℕ) → ℕ → Status → List ℕ → Type 0
-HoldsBy Each history input left bytes status image = HoldsAcked history (lines input) bytes status image
-HoldsBy Shared history input left bytes status image =
+abbrev pub HoldsBy : Sealing → Talk → List ℕ → Option (List ℕ) → ℕ → Status → List ℕ → Type 0
+HoldsBy sealing talk input left bytes status image =
     (read : List ℕ) × (rest : List ℕ) × (read ++ rest ≡ input) × (left ≡ Some rest)
-    × HoldsShared history (lines input) (lines_within read rest) bytes status image
+    × HoldsAcked sealing talk (lines input) (lines_within read rest) bytes status image
 
 -- each image does, by the sink's new bytes
-abbrev pub HoldsReported : Sealing → History → List ℕ → Option (List ℕ) → Option (List ℕ) → Option (List ℕ) → Told → Status → Type 0
-HoldsReported sealing history input left before after disk status =
+abbrev pub HoldsReported : Sealing → Talk → List ℕ → Option (List ℕ) → Option (List ℕ) → Option (List ℕ) → Told → Status → Type 0
+HoldsReported sealing talk input left before after disk status =
     (had has : List ℕ) → before ≡ Some had → after ≡ Some has →
-    (image : List ℕ) → disk.may_leave image → HoldsBy sealing history input left (length has - length had) status image
+    (image : List ℕ) → disk.may_leave image → HoldsBy sealing talk input left (length has - length had) status image
 
 -- What a session over an input leaves, of its report and of the disk.
-pub record Serves (sealing : Sealing) (history : History) (input : List ℕ) (left before after : Option (List ℕ)) (old new : Told)
+pub record Serves (sealing : Sealing) (talk : Talk) (input : List ℕ) (left before after : Option (List ℕ)) (old new : Told)
     (status : Status) : Type 0 where
-  pub report : Reports sealing history input left before after new status
-  pub kept : HoldsReported sealing history input left before after new status
-  pub any_moment : LeavesOnly old new (StandsWithin history (lines input))
-  pub whole : status ≡ Done → Stands (history ++ accepted history (lines input)) new.content
+  pub report : Reports sealing talk input left before after new status
+  pub kept : HoldsReported sealing talk input left before after new status
+  pub any_moment : LeavesOnly old new (StandsWithin talk (lines input))
+  pub whole : status ≡ Done → Stands (talk.history ++ accepted talk (lines input)) new.content
 
 -- A run over an input: what it leaves for each history for which the content stands, with nothing pending.
-abbrev pub ServesInput : Sealing → List ℕ → Option (List ℕ) → Option (List ℕ) → Option (List ℕ) → Status → Told → Told → Type 0
-ServesInput sealing input left before after status old new =
-    NothingPending old → (history : History) → Stands history old.content → Serves sealing history input left before after old new status
+abbrev pub ServesInput : Form → Sealing → List ℕ → Option (List ℕ) → Option (List ℕ) → Option (List ℕ) → Status → Told → Told → Type 0
+ServesInput form sealing input left before after status old new =
+    NothingPending old → (history : History) → Stands history old.content →
+    Serves sealing (begun form history) input left before after old new status
 
--- A session reads a piece of at most `room` bytes of the input, or the run stops at a line that ends in it.
+-- A session reads a piece of at most `room` bytes of the input, or the run stops among the lines that end in it.
 pub record ReadsPiece (room : ℕ) (from to : SessionState) (left rest held after : Option (List ℕ)) (result : Result ℕ Status)
     (old new : Told) : Type 0 where
-  pub goes : IfOk result (λ count. (bytes : List ℕ) → left ≡ Some bytes → OfTaken from held old (λ history before input.
-      GoesOn history old new to before after (input ++ take count bytes)))
+  pub goes : IfOk result (λ count. (bytes : List ℕ) → left ≡ Some bytes → OfTaken from held old (λ sealing talk before input.
+      GoesOn sealing talk old new to before after (input ++ take count bytes)))
   pub stops : IfErr result (λ status. (status ≡ SourceFault → ⊥) → (bytes : List ℕ) → left ≡ Some bytes →
-      OfTaken from held old (λ history before input. (count : ℕ) × (count ≤ room) × (count ≤ length bytes)
-      × (rest ≡ Some (drop count bytes)) × StopsIn (sealing_by from.waiting) history (lines_so_far (input ++ take count bytes)) old new before after status))
+      OfTaken from held old (λ sealing talk before input. (count : ℕ) × (count ≤ room) × (count ≤ length bytes)
+      × (rest ≡ Some (drop count bytes)) × StopsIn sealing talk (lines_so_far (input ++ take count bytes)) old new before after status))

@@ -1,24 +1,28 @@
 -- How far a session has come, and where it stops.
-use Rattle.std.specs.Prelude.{◌≡◌, ◌⊎◌, ℕ, ◌≤◌, ◌++◌, List, [], ◌∷◌, length, take, Option, Some, None, IsSome, IfOk, IfErr, Result, ⊤}
+use Rattle.std.specs.Prelude.{◌≡◌, ◌⊎◌, ℕ, ◌<◌, ◌≤◌, ◌++◌, List, [], ◌∷◌, length, take, Option, Some, None, IsSome, IsTrue, IfOk, IfErr, Result, ⊤}
 use Rattle.ss_command.specs.Lines.{lines, lines_so_far, unended}
 use Rattle.ss_command.specs.LineState.{kept}
 use Rattle.ss_outside.specs.Crash.{LeavesOnly}
 use Rattle.ss_outside.specs.Disk.{Told, NothingPending}
 use Rattle.ss_store.specs.Kept.{StoreState}
 use Rattle.ss_store.specs.Recover.{Stands}
-use Rattle.ss_program.specs.Line.{Brought, History, brings, history_after, text_brought}
+use Rattle.ss_program.specs.Line.{Brought, History, history_after, text_brought}
 use Rattle.ss_program.specs.Sent.{appended, AppendsLess}
 use Rattle.ss_program.specs.Session.{after_lines, text_of, report_so_far}
+use Rattle.ss_program.specs.Talk.{Cursors, Talk, turn_of}
+use Rattle.ss_arguments.specs.declared.mode.Form.{Form}
 use Rattle.ss_arguments.specs.declared.mode.Sealing.{Sealing}
 use Rattle.ss_arguments.specs.declared.mode.Sealing.TheVariants.{Each, Shared}
 use Rattle.ss_program.specs.declared.status.Status.{Status}
 use Rattle.ss_program.specs.declared.status.Status.TheVariants.{Done, DiskFault, SinkFault, OutOfMemory, RecordChanged}
 
--- what contracts see of a session: its store, what is kept of the line that is under way, and where events share seals the replies
--- that wait for one
+-- what contracts see of a session: the form of its input, its store, what is kept of the line that is under way, the cursors, and where
+-- events share seals the replies that wait for one
 pub record SessionState : Type 0 where
+  pub form : Form
   pub store : StoreState
   pub line : Option (List ℕ)
+  pub cursors : Cursors
   pub waiting : Option (List ℕ)
 
 -- which events come to the disk together, by whether replies may wait
@@ -31,37 +35,36 @@ abbrev pub NoneWait : Option (List ℕ) → Type 0
 NoneWait None = ⊤
 NoneWait (Some replies) = replies ≡ []
 
--- After a history the session has taken these bytes: the disk stands for the history with the events accepted since, with
--- nothing pending, and the line under way is what no line end has ended.
-pub record HasTaken (history : History) (disk : Told) (session : SessionState) (taken : List ℕ) : Type 0 where
-  pub stands : Stands (after_lines history (lines_so_far taken)) disk.content
+-- After a conversation began the session has taken these bytes: the disk stands for the history before with the events accepted since,
+-- with nothing pending, and the line under way is what no line end has ended.
+pub record HasTaken (sealing : Sealing) (talk : Talk) (disk : Told) (session : SessionState) (taken : List ℕ) : Type 0 where
+  pub stands : Stands (after_lines talk (lines_so_far taken)).history disk.content
   pub durable : NothingPending disk
   pub line : session.line ≡ kept (unended taken)
   pub unsaid : NoneWait session.waiting
+  pub seals : sealing_by session.waiting ≡ sealing
+  pub form : session.form ≡ talk.form
+  pub cursors : session.cursors ≡ (after_lines talk (lines_so_far taken)).cursors
 
--- and the sink got the replies to all lines that have ended
-abbrev pub HasReplied : History → Option (List ℕ) → Option (List ℕ) → List ℕ → Type 0
-HasReplied history before held taken = held ≡ appended before (report_so_far history taken)
+-- and the sink got what is said to all lines that have ended
+abbrev pub HasReplied : Talk → Option (List ℕ) → Option (List ℕ) → List ℕ → Type 0
+HasReplied talk before held taken = held ≡ appended before (report_so_far talk taken)
 
 -- the image stands for the history before what a line brings, or for the one after it
 abbrev pub StandsAround : History → Brought → List ℕ → Type 0
 StandsAround history brought image = Stands history image ⊎ Stands (history_after history brought) image
 
--- At a line at which a run stops: where memory ran out, the image stands for the history before the line.
-abbrev pub StandsStopped : History → Brought → Status → List ℕ → Type 0
-StandsStopped history brought OutOfMemory image = Stands history image
-StandsStopped history brought status image = StandsAround history brought image
-
 -- the image stands for the history after some first lines of these
-abbrev pub StandsWithin : History → List (List ℕ) → List ℕ → Type 0
-StandsWithin history ls image =
-    (done : List (List ℕ)) × (others : List (List ℕ)) × (ls ≡ done ++ others) × Stands (after_lines history done) image
+abbrev pub StandsWithin : Talk → List (List ℕ) → List ℕ → Type 0
+StandsWithin talk ls image =
+    (done : List (List ℕ)) × (others : List (List ℕ)) × (ls ≡ done ++ others) × Stands (after_lines talk done).history image
 
 -- From one moment on to another a session took further bytes: a crash left only images of some first lines.
-pub record GoesOn (history : History) (old new : Told) (session : SessionState) (before held : Option (List ℕ)) (taken : List ℕ) : Type 0 where
-  pub at : HasTaken history new session taken
-  pub replied : HasReplied history before held taken
-  pub any_moment : LeavesOnly old new (StandsWithin history (lines_so_far taken))
+pub record GoesOn (sealing : Sealing) (talk : Talk) (old new : Told) (session : SessionState) (before held : Option (List ℕ)) (taken : List ℕ) : Type 0
+  where
+    pub at : HasTaken sealing talk new session taken
+    pub replied : HasReplied talk before held taken
+    pub any_moment : LeavesOnly old new (StandsWithin talk (lines_so_far taken))
 
 -- What is left in the sink of what a line brings at which a run stops. Where the sink or the disk failed, it got less than
 -- the text of it. Memory runs out before any reply to the line, and only at one that brings an event.
@@ -72,79 +75,71 @@ StopsWith brought before after RecordChanged = AppendsLess before after (text_br
 StopsWith brought before after OutOfMemory = (after ≡ before) × IsSome brought.event
 StopsWith brought before after status = ⊥
 
--- A run stopped at one of these lines: the replies to those before it were sent, and a crash leaves the history before
--- this line or after it; only the one before it, where memory ran out.
-pub record StopsAt (history : History) (ls : List (List ℕ)) (before after : Option (List ℕ)) (disk : Told) (status : Status) : Type 0 where
-  pub done : List (List ℕ)
-  pub line : List ℕ
-  pub others : List (List ℕ)
-  pub are : ls ≡ done ++ line ∷ others
-  pub stop : StopsWith (brings (after_lines history done) line) (appended before (text_of history done)) after status
-  pub left : (image : List ℕ) → disk.may_leave image →
-      StandsStopped (after_lines history done) (brings (after_lines history done) line) status image
+-- the image stands for the history after some first lines of these, to which at least so many bytes are said
+abbrev pub StandsBeyond : Talk → List (List ℕ) → ℕ → List ℕ → Type 0
+StandsBeyond talk ls bytes image =
+    (done : List (List ℕ)) × (others : List (List ℕ)) × (ls ≡ done ++ others) × (bytes ≤ length (text_of talk done))
+    × Stands (after_lines talk done).history image
 
--- the image stands for the history after some first lines of these, whose replies have at least so many bytes
-abbrev pub StandsBeyond : History → List (List ℕ) → ℕ → List ℕ → Type 0
-StandsBeyond history ls bytes image =
-    (done : List (List ℕ)) × (others : List (List ℕ)) × (ls ≡ done ++ others) × (bytes ≤ length (text_of history done))
-    × Stands (after_lines history done) image
+-- the first of these lines may want memory
+abbrev pub BeginsWithWant : Talk → List (List ℕ) → Type 0
+BeginsWithWant talk [] = ⊥
+BeginsWithWant talk (line ∷ ls) = IsTrue (turn_of talk line).wants_memory
 
--- the first of these lines brings an event
-abbrev pub BeginsWithEvent : History → List (List ℕ) → Type 0
-BeginsWithEvent history [] = ⊥
-BeginsWithEvent history (line ∷ ls) = IsSome (brings history line).event
+-- Where each event is sealed by itself, these are one line, and so many bytes are less than what is said to it.
+abbrev pub IsAlone : Sealing → Talk → List (List ℕ) → ℕ → Type 0
+IsAlone Each talk now bytes = (length now ≡ 1) × (bytes < length (text_of talk now))
+IsAlone Shared talk now bytes = ⊤
 
--- A run whose events share seals stopped at one of these lines: the replies to some first of them were sent, and so many bytes of
--- those to the rest. A crash leaves the history after some first lines, and no reply to a line after these was sent, not even in
--- part. Where memory ran out, all replies to the lines before were sent, and a crash leaves the history after them.
-pub record StopsAmong (history : History) (ls : List (List ℕ)) (before after : Option (List ℕ)) (disk : Told) (status : Status) : Type 0 where
-  pub out : List (List ℕ)
-  pub rest : List (List ℕ)
-  pub are : ls ≡ out ++ rest
-  pub bytes : ℕ
-  pub few : bytes ≤ length (text_of (after_lines history out) rest)
-  pub sent : after ≡ appended before (text_of history out ++ take bytes (text_of (after_lines history out) rest))
-  pub left : (image : List ℕ) → disk.may_leave image → StandsBeyond (after_lines history out) rest bytes image
-  pub starved : status ≡ OutOfMemory →
-      (bytes ≡ 0) × BeginsWithEvent (after_lines history out) rest
-      × ((image : List ℕ) → disk.may_leave image → Stands (after_lines history out) image)
-
--- a run stopped at one of these lines, by which events come to the disk together
-abbrev pub StopsBy : Sealing → History → List (List ℕ) → Option (List ℕ) → Option (List ℕ) → Told → Status → Type 0
-StopsBy Each history ls before after disk status = StopsAt history ls before after disk status
-StopsBy Shared history ls before after disk status = StopsAmong history ls before after disk status
-
--- From one moment on to another a session took further lines, and stopped at one of these.
-pub record StopsIn (sealing : Sealing) (history : History) (ls : List (List ℕ)) (old new : Told) (before after : Option (List ℕ)) (status : Status) : Type 0
+-- A run stopped at some of these lines: what is said to those before was sent, and so many bytes of what is said to these. A crash leaves
+-- the history after some first of them, and nothing that is said to one after these was sent, not even in part. Where memory ran out,
+-- nothing was sent of what is said to the first of them, which may want memory, and a crash leaves the history before it.
+pub record StopsAmong (sealing : Sealing) (talk : Talk) (ls : List (List ℕ)) (before after : Option (List ℕ)) (disk : Told) (status : Status) : Type 0
   where
-    pub at : StopsBy sealing history ls before after new status
-    pub any_moment : LeavesOnly old new (StandsWithin history ls)
+    pub out : List (List ℕ)
+    pub now : List (List ℕ)
+    pub others : List (List ℕ)
+    pub are : ls ≡ out ++ (now ++ others)
+    pub bytes : ℕ
+    pub few : bytes ≤ length (text_of (after_lines talk out) now)
+    pub alone : IsAlone sealing (after_lines talk out) now bytes
+    pub sent : after ≡ appended before (text_of talk out ++ take bytes (text_of (after_lines talk out) now))
+    pub left : (image : List ℕ) → disk.may_leave image → StandsBeyond (after_lines talk out) now bytes image
+    pub starved : status ≡ OutOfMemory →
+        (bytes ≡ 0) × BeginsWithWant (after_lines talk out) now
+        × ((image : List ℕ) → disk.may_leave image → Stands (after_lines talk out).history image)
+
+-- From one moment on to another a session took further lines, and stopped at some of these.
+pub record StopsIn (sealing : Sealing) (talk : Talk) (ls : List (List ℕ)) (old new : Told) (before after : Option (List ℕ)) (status : Status) : Type 0
+  where
+    pub at : StopsAmong sealing talk ls before after new status
+    pub any_moment : LeavesOnly old new (StandsWithin talk ls)
 
 -- From one moment on to another a session took further lines, and ended with the last of these: all were answered, and the
 -- disk stands for the history after them.
-pub record EndsWell (history : History) (ls : List (List ℕ)) (old new : Told) (before after : Option (List ℕ)) : Type 0 where
-  pub stands : Stands (after_lines history ls) new.content
+pub record EndsWell (talk : Talk) (ls : List (List ℕ)) (old new : Told) (before after : Option (List ℕ)) : Type 0 where
+  pub stands : Stands (after_lines talk ls).history new.content
   pub durable : NothingPending new
-  pub replied : after ≡ appended before (text_of history ls)
-  pub any_moment : LeavesOnly old new (StandsWithin history ls)
+  pub replied : after ≡ appended before (text_of talk ls)
+  pub any_moment : LeavesOnly old new (StandsWithin talk ls)
 
--- What a session says of its history and input at the start of a call, where it has taken these bytes and the sink got the
--- replies to the lines of them.
-abbrev pub OfTaken : SessionState → Option (List ℕ) → Told → (History → Option (List ℕ) → List ℕ → Type 0) → Type 0
+-- What a session says of a conversation and an input at the start of a call, where it has taken these bytes and the sink got what is said
+-- to the lines of them.
+abbrev pub OfTaken : SessionState → Option (List ℕ) → Told → (Sealing → Talk → Option (List ℕ) → List ℕ → Type 0) → Type 0
 OfTaken session held disk P =
-    (history : History) (before : Option (List ℕ)) (input : List ℕ) → HasTaken history disk session input →
-    HasReplied history before held input → P history before input
+    (sealing : Sealing) (talk : Talk) (before : Option (List ℕ)) (input : List ℕ) → HasTaken sealing talk disk session input →
+    HasReplied talk before held input → P sealing talk before input
 
--- A session takes bytes of a piece of the input, by the answer so many, or the run stops at a line that ends in the piece.
+-- A session takes bytes of a piece of the input, by the answer so many, or the run stops at lines that end in the piece.
 pub record TakesPiece {T : Type 0} (moved : T → List ℕ) (piece : List ℕ) (from to : SessionState) (held after : Option (List ℕ))
     (result : Result T Status) (old new : Told) : Type 0 where
-  pub goes : IfOk result (λ value. OfTaken from held old (λ history before input.
-      GoesOn history old new to before after (input ++ moved value)))
-  pub stops : IfErr result (λ status. OfTaken from held old (λ history before input.
-      StopsIn (sealing_by from.waiting) history (lines_so_far (input ++ piece)) old new before after status))
+  pub goes : IfOk result (λ value. OfTaken from held old (λ sealing talk before input.
+      GoesOn sealing talk old new to before after (input ++ moved value)))
+  pub stops : IfErr result (λ status. OfTaken from held old (λ sealing talk before input.
+      StopsIn sealing talk (lines_so_far (input ++ piece)) old new before after status))
 
--- A session ends its input: all lines are answered, or the run stops at the last one.
+-- A session ends its input: all lines are answered, or the run stops among the last ones.
 pub record EndsSession (from : SessionState) (held after : Option (List ℕ)) (status : Status) (old new : Told) : Type 0 where
-  pub done : status ≡ Done → OfTaken from held old (λ history before input. EndsWell history (lines input) old new before after)
-  pub stops : (status ≡ Done → ⊥) → OfTaken from held old (λ history before input.
-      StopsIn (sealing_by from.waiting) history (lines input) old new before after status)
+  pub done : status ≡ Done → OfTaken from held old (λ sealing talk before input. EndsWell talk (lines input) old new before after)
+  pub stops : (status ≡ Done → ⊥) → OfTaken from held old (λ sealing talk before input.
+      StopsIn sealing talk (lines input) old new before after status)

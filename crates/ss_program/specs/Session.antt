@@ -1,45 +1,50 @@
--- A session: what is replied to an input after a history, and which events are accepted of it.
-use Rattle.std.specs.Prelude.{◌≢◌, ℕ, List, [], ◌∷◌, ◌++◌, flat_map, All, Some, Ok}
+-- A session: what is said to an input after a history, and which events are accepted of it.
+use Rattle.std.specs.Prelude.{◌≢◌, ℕ, List, [], ◌∷◌, ◌++◌, All, Some, Ok}
 use Rattle.ss_catalog.specs.declared.event.Event.TheVariants.{Create}
 use Rattle.ss_catalog.specs.declared.params.Params.{Params}
 use Rattle.ss_command.specs.Grammar.{meaning}
 use Rattle.ss_command.specs.declared.command.Command.TheVariants.{Do}
 use Rattle.ss_command.specs.Lines.{lines, lines_so_far}
-use Rattle.ss_report.specs.Text.{reply_line}
 use Rattle.ss_report.specs.declared.reply.Reply.{Reply}
 use Rattle.ss_model.specs.History.{Happened}
 use Rattle.ss_program.specs.Line.{History, brings, history_after, the_event}
+use Rattle.ss_program.specs.Talk.{Talk, after_turn, plain, turn_of}
 
--- the history after a line
-abbrev pub after_line : History → List ℕ → History
-after_line history line = history_after history (brings history line)
+-- the conversation after a line
+abbrev pub after_line : Talk → List ℕ → Talk
+after_line talk line = after_turn talk (turn_of talk line)
 
--- the history after some lines
-abbrev pub after_lines : History → List (List ℕ) → History
-after_lines history [] = history
-after_lines history (line ∷ ls) = after_lines (after_line history line) ls
+-- the conversation after some lines
+abbrev pub after_lines : Talk → List (List ℕ) → Talk
+after_lines talk [] = talk
+after_lines talk (line ∷ ls) = after_lines (after_line talk line) ls
 
 -- the events that are accepted of some lines
-abbrev pub accepted : History → List (List ℕ) → List Happened
-accepted history [] = []
-accepted history (line ∷ ls) = the_event (brings history line).event ++ accepted (after_line history line) ls
+abbrev pub accepted : Talk → List (List ℕ) → List Happened
+accepted talk [] = []
+accepted talk (line ∷ ls) = the_event (turn_of talk line).event ++ accepted (after_line talk line) ls
 
--- the replies to some lines
-abbrev pub replies : History → List (List ℕ) → List Reply
-replies history [] = []
-replies history (line ∷ ls) = (brings history line).replies ++ replies (after_line history line) ls
-
--- the text of the replies to some lines
-abbrev pub text_of : History → List (List ℕ) → List ℕ
-text_of history ls = flat_map reply_line (replies history ls)
+-- the text that is said to some lines
+abbrev pub text_of : Talk → List (List ℕ) → List ℕ
+text_of talk [] = []
+text_of talk (line ∷ ls) = (turn_of talk line).says ++ text_of (after_line talk line) ls
 
 -- the report of an input
-abbrev pub report : History → List ℕ → List ℕ
-report history input = text_of history (lines input)
+abbrev pub report : Talk → List ℕ → List ℕ
+report talk input = text_of talk (lines input)
 
 -- the report of the lines that a line end ends
-abbrev pub report_so_far : History → List ℕ → List ℕ
-report_so_far history input = text_of history (lines_so_far input)
+abbrev pub report_so_far : Talk → List ℕ → List ℕ
+report_so_far talk input = text_of talk (lines_so_far input)
+
+-- the history after some plain lines
+abbrev pub plain_after : History → List (List ℕ) → History
+plain_after history ls = (after_lines (plain history) ls).history
+
+-- the replies to some plain lines
+abbrev pub replies : History → List (List ℕ) → List Reply
+replies history [] = []
+replies history (line ∷ ls) = (brings history line).replies ++ replies (history_after history (brings history line)) ls
 
 -- none of some lines creates the stream of a name
 abbrev pub NoneCreates : List ℕ → List (List ℕ) → Type 0

@@ -9,7 +9,8 @@ use Rattle.ss_store.specs.Recover.{Stands}
 use Rattle.ss_program.specs.Generated.{generated, is_done, is_refused, last_six}
 use Rattle.ss_program.specs.Line.{History}
 use Rattle.ss_program.specs.Progress.{StandsWithin}
-use Rattle.ss_program.specs.Session.{after_lines, replies}
+use Rattle.ss_program.specs.Session.{plain_after, replies}
+use Rattle.ss_program.specs.Talk.{plain}
 use Rattle.ss_program.specs.declared.generate.Tally.{Tally}
 use Rattle.ss_program.specs.declared.status.Status.{Status}
 
@@ -33,13 +34,13 @@ pub record Tallies (count : ℕ) (all : List Reply) (tally : Tally) : Type 0 whe
 -- them, with nothing pending, and a crash left only images of some first lines.
 pub record HasRun (history : History) (ls : List (List ℕ)) (old new : Told) (tally : Tally) : Type 0 where
   pub tallied : Tallies (length ls) (replies history ls) tally
-  pub stands : Stands (after_lines history ls) new.content
+  pub stands : Stands (plain_after history ls) new.content
   pub durable : NothingPending new
-  pub any_moment : LeavesOnly old new (StandsWithin history ls)
+  pub any_moment : LeavesOnly old new (StandsWithin (plain history) ls)
 
 -- All commands of the file were done, and the replies to them counted, or the run stopped at one of them.
 pub record RunsAll (seed count : ℕ) (result : Result Tally Status) (old new : Told) : Type 0 where
   pub ok : IfOk result (λ tally. NothingPending old → (history : History) → Stands history old.content →
       HasRun history (generated seed count) old new tally)
   pub stops : OnErr result (NothingPending old → (history : History) → Stands history old.content →
-      LeavesOnly old new (StandsWithin history (generated seed count)))
+      LeavesOnly old new (StandsWithin (plain history) (generated seed count)))

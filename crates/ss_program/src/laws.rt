@@ -1,5 +1,5 @@
 // Laws of what lines bring, each the contract of a function that does nothing.
-ghost use Rattle.std.specs.Prelude.{◌≡◌, ◌++◌, [], ◌∷◌, ℕ, ℤ, List, map, Some, None, Ok};
+ghost use Rattle.std.specs.Prelude.{◌≡◌, ◌++◌, [], ◌∷◌, ℕ, ℤ, List, flat_map, map, Some, None, Ok};
 ghost use Rattle.ss_catalog.specs.Series.{row_count, row_start, rows_of};
 ghost use Rattle.ss_catalog.specs.declared.event.Event.TheVariants.{Create, Drop};
 ghost use Rattle.ss_catalog.specs.declared.params.Params.{Params};
@@ -21,14 +21,21 @@ ghost use Rattle.ss_model.specs.Truth.{true_presence};
 ghost use Rattle.ss_model.specs.declared.outcome.Outcome.{Outcome};
 ghost use Rattle.ss_model.specs.declared.outcome.Outcome.TheVariants.{Has};
 ghost use Rattle.ss_model.specs.declared.outcome.Presence.{Presence};
+ghost use Rattle.ss_report.specs.Text.{reply_line};
 ghost use Rattle.ss_report.specs.declared.reply.Reply.TheVariants.{Answered, Refused, SeriesHead, Row};
 ghost use Rattle.ss_program.specs.Certifying.{IsSharp};
 ghost use Rattle.ss_program.specs.Line.{History};
-ghost use Rattle.ss_program.specs.Session.{NoneCreates, after_lines, replies};
+ghost use Rattle.ss_program.specs.Session.{NoneCreates, plain_after, replies, text_of};
+ghost use Rattle.ss_program.specs.Talk.{plain};
 
 /// After a history the lines of a session leave one: each event that they add can be said, and isn't refused.
 pub fn sessions_leave_a_history()
-    ensures { (history : History) (ls : List (List ℕ)) → IsHistory history → IsHistory (after_lines history ls) }
+    ensures { (history : History) (ls : List (List ℕ)) → IsHistory history → IsHistory (plain_after history ls) }
+{}
+
+/// What is said to plain lines is the text of the replies to them, in their order.
+pub fn reports_are_replies()
+    ensures { (history : History) (ls : List (List ℕ)) → text_of (plain history) ls ≡ flat_map reply_line (replies history ls) }
 {}
 
 /// Each line of a session that asks a query which isn't refused then has one reply, in its place among the others: an answer to
@@ -37,11 +44,11 @@ pub fn sessions_leave_a_history()
 pub fn queries_hold_the_truth()
     ensures { (history : History) (ls before after : List (List ℕ)) (line : List ℕ) (query : Query) → IsHistory history →
         ls ≡ before ++ line ∷ after → meaning line ≡ Ok (Some (Ask query)) →
-        refuses_query (state (after_lines history before)) query ≡ None →
+        refuses_query (state (plain_after history before)) query ≡ None →
         (outcome : Outcome)
-        × (replies history ls ≡ replies history before ++ Answered outcome ∷ replies (after_lines history before) after)
+        × (replies history ls ≡ replies history before ++ Answered outcome ∷ replies (plain_after history before) after)
         × IsOfKind query.kind outcome
-        × HoldsTruth query (values_of (after_lines history before) query.name) (marked_of (after_lines history before) query.name) outcome }
+        × HoldsTruth query (values_of (plain_after history before) query.name) (marked_of (plain_after history before) query.name) outcome }
 {}
 
 /// Each line of a session that asks whether a stream has a value, and isn't refused then, has one reply, in its place among the
@@ -51,11 +58,11 @@ pub fn queries_hold_the_truth()
 pub fn presence_holds_the_truth()
     ensures { (history : History) (ls before after : List (List ℕ)) (line : List ℕ) (query : Query) (value : ℤ) → IsHistory history →
         ls ≡ before ++ line ∷ after → meaning line ≡ Ok (Some (Ask query)) → query.kind ≡ kinds.Has value →
-        refuses_query (state (after_lines history before)) query ≡ None →
+        refuses_query (state (plain_after history before)) query ≡ None →
         (presence : Presence)
-        × (replies history ls ≡ replies history before ++ Answered (Has presence) ∷ replies (after_lines history before) after)
-        × HoldsPresence presence (true_presence value query.from query.to (values_of (after_lines history before) query.name)
-        (marked_of (after_lines history before) query.name)) }
+        × (replies history ls ≡ replies history before ++ Answered (Has presence) ∷ replies (plain_after history before) after)
+        × HoldsPresence presence (true_presence value query.from query.to (values_of (plain_after history before) query.name)
+        (marked_of (plain_after history before) query.name)) }
 {}
 
 /// Each line of a session that asks a series which isn't refused then has its head and its rows as replies, in their place
@@ -64,12 +71,12 @@ pub fn presence_holds_the_truth()
 pub fn series_hold_the_truth()
     ensures { (history : History) (ls before after : List (List ℕ)) (line : List ℕ) (series : Series) → IsHistory history →
         ls ≡ before ++ line ∷ after → meaning line ≡ Ok (Some (AskRows series)) →
-        refuses_series (state (after_lines history before)) series ≡ None →
+        refuses_series (state (plain_after history before)) series ≡ None →
         (answers : ℕ → Outcome)
         × (replies history ls ≡ replies history before
         ++ (SeriesHead (row_count series) ∷ map (λ row. Row (row_start series row) (answers row)) (rows_of series))
-        ++ replies (after_lines history before) after)
-        × ((row : ℕ) → AnswersRow (after_lines history before) series row (answers row)) }
+        ++ replies (plain_after history before) after)
+        × ((row : ℕ) → AnswersRow (plain_after history before) series row (answers row)) }
 {}
 
 /// Each line of a session that asks why an end of an answer can't be narrower, and isn't refused then, has the lines of some
@@ -78,10 +85,10 @@ pub fn series_hold_the_truth()
 pub fn certificates_are_sharp()
     ensures { (history : History) (ls before after : List (List ℕ)) (line : List ℕ) (query : Query) (end : End) → IsHistory history →
         ls ≡ before ++ line ∷ after → meaning line ≡ Ok (Some (Certify query end)) →
-        refuses_query (state (after_lines history before)) query ≡ None →
+        refuses_query (state (plain_after history before)) query ≡ None →
         (w : Evidence)
-        × (replies history ls ≡ replies history before ++ told w ++ replies (after_lines history before) after)
-        × IsSharp (after_lines history before) query end w }
+        × (replies history ls ≡ replies history before ++ told w ++ replies (plain_after history before) after)
+        × IsSharp (plain_after history before) query end w }
 {}
 
 /// After a line that drops a stream no query of its name is answered, until a line creates the stream: each is refused. A stream
@@ -91,7 +98,7 @@ pub fn dropped_streams_are_unknown()
         ls ≡ (before ++ dropping ∷ between) ++ line ∷ after → meaning dropping ≡ Ok (Some (Do (Drop query.name))) →
         NoneCreates query.name between → meaning line ≡ Ok (Some (Ask query)) →
         replies history ls ≡ replies history (before ++ dropping ∷ between)
-        ++ Refused Unknown ∷ replies (after_lines history (before ++ dropping ∷ between)) after }
+        ++ Refused Unknown ∷ replies (plain_after history (before ++ dropping ∷ between)) after }
     ensures anew { (history : History) (name : List ℕ) (params : Params) →
         (values_of (history ++ added (Create name params) ∷ []) name ≡ []) × (marked_of (history ++ added (Create name params) ∷ []) name ≡ []) }
 {}

@@ -5,7 +5,6 @@
 mod answer;
 mod certifying;
 mod check;
-mod each;
 mod generate;
 mod laws;
 mod promises;
@@ -15,13 +14,13 @@ mod running;
 mod sending;
 mod series;
 mod session;
-mod shared;
 mod staging;
 mod status;
+mod taking;
 
 pub use laws::{
     certificates_are_sharp, dropped_streams_are_unknown, presence_holds_the_truth,
-    queries_hold_the_truth, series_hold_the_truth, sessions_leave_a_history,
+    queries_hold_the_truth, reports_are_replies, series_hold_the_truth, sessions_leave_a_history,
 };
 pub use promises::run_store;
 pub use running::{LONGEST_INPUT, run};

@@ -15,10 +15,12 @@ ghost use Rattle.ss_program.specs.Held.{StandsForFirst, acks};
 ghost use Rattle.ss_program.specs.Line.{History};
 ghost use Rattle.ss_program.specs.Outcome.{lines_within};
 ghost use Rattle.ss_program.specs.Promises.{BeginsOver};
+ghost use Rattle.ss_arguments.specs.declared.mode.Form.{Form};
 ghost use Rattle.ss_arguments.specs.declared.mode.Sealing.{Sealing};
 ghost use Rattle.ss_program.specs.Sent.{appended};
 ghost use Rattle.ss_program.specs.Session.{accepted, report};
 ghost use Rattle.ss_program.specs.Status.{EndsAs};
+ghost use Rattle.ss_program.specs.Talk.{begun};
 
 use crate::running::run;
 use crate::status::Status;
@@ -36,34 +38,34 @@ pub fn run_store<D: Disk, S: Source, K: Sink>(
 ) -> u8
     // A run that ends with 0 has replied to every line of its input: the sink got the whole report, and the store holds all
     // events that were accepted.
-    ensures done { (sealing : Sealing) (history : History) (input : List ℕ) →
-        BeginsOver sealing (mode_of (words_of words.now)) (D.seen disk.old) (S.left source.old) history input → EndsAs result Status.Done →
-        (K.held sink.new ≡ appended (K.held sink.old) (report history input))
-        × Stands (history ++ accepted history (lines input)) (D.seen disk.new).told.content }
+    ensures done { (form : Form) (sealing : Sealing) (history : History) (input : List ℕ) →
+        BeginsOver form sealing (mode_of (words_of words.now)) (D.seen disk.old) (S.left source.old) history input → EndsAs result Status.Done →
+        (K.held sink.new ≡ appended (K.held sink.old) (report (begun form history) input))
+        × Stands (history ++ accepted (begun form history) (lines input)) (D.seen disk.new).told.content }
     // A crash at any moment of the run leaves what stood before it and some first of the events that are accepted.
-    ensures any_moment { (sealing : Sealing) (history : History) (input : List ℕ) →
-        BeginsOver sealing (mode_of (words_of words.now)) (D.seen disk.old) (S.left source.old) history input → (image : List ℕ) →
-        (D.seen disk.new).told.left_since (D.seen disk.old).told.moment image → StandsForFirst history (accepted history (lines input)) image }
+    ensures any_moment { (form : Form) (sealing : Sealing) (history : History) (input : List ℕ) →
+        BeginsOver form sealing (mode_of (words_of words.now)) (D.seen disk.old) (S.left source.old) history input → (image : List ℕ) →
+        (D.seen disk.new).told.left_since (D.seen disk.old).told.moment image → StandsForFirst history (accepted (begun form history) (lines input)) image }
     // However a run ends, whatever a crash leaves after it holds each event whose reply the sink got, and at most one more where each
     // event is sealed by itself.
-    ensures acked_held { (history : History) (input : List ℕ) →
-        BeginsOver Sealing.Each (mode_of (words_of words.now)) (D.seen disk.old) (S.left source.old) history input → (had has : List ℕ) →
+    ensures acked_held { (form : Form) (history : History) (input : List ℕ) →
+        BeginsOver form Sealing.Each (mode_of (words_of words.now)) (D.seen disk.old) (S.left source.old) history input → (had has : List ℕ) →
         K.held sink.old ≡ Some had → K.held sink.new ≡ Some has → (image : List ℕ) → (D.seen disk.new).told.may_leave image →
-        (j : ℕ) × (acks history (lines input) (length has - length had) ≤ j) × (j ≤ acks history (lines input) (length has - length had) + 1)
-        × Stands (history ++ take j (accepted history (lines input))) image }
+        (j : ℕ) × (acks (begun form history) (lines input) (length has - length had) ≤ j) × (j ≤ acks (begun form history) (lines input) (length has - length had) + 1)
+        × Stands (history ++ take j (accepted (begun form history) (lines input))) image }
     // Where events share seals, it holds each event whose reply the sink got, and none but those of the lines that were read.
-    ensures shared_held { (history : History) (input : List ℕ) →
-        BeginsOver Sealing.Shared (mode_of (words_of words.now)) (D.seen disk.old) (S.left source.old) history input → (had has : List ℕ) →
+    ensures shared_held { (form : Form) (history : History) (input : List ℕ) →
+        BeginsOver form Sealing.Shared (mode_of (words_of words.now)) (D.seen disk.old) (S.left source.old) history input → (had has : List ℕ) →
         K.held sink.old ≡ Some had → K.held sink.new ≡ Some has → (image : List ℕ) → (D.seen disk.new).told.may_leave image →
         (j : ℕ) × (read rest : List ℕ) × (read ++ rest ≡ input) × (S.left source.new ≡ Some rest)
-        × (acks history (lines input) (length has - length had) ≤ j) × (j ≤ length (accepted history (lines_within read rest)))
-        × Stands (history ++ take j (accepted history (lines input))) image }
+        × (acks (begun form history) (lines input) (length has - length had) ≤ j) × (j ≤ length (accepted (begun form history) (lines_within read rest)))
+        × Stands (history ++ take j (accepted (begun form history) (lines input))) image }
     // Where memory ran out it holds no more than those.
-    ensures starved { (sealing : Sealing) (history : History) (input : List ℕ) →
-        BeginsOver sealing (mode_of (words_of words.now)) (D.seen disk.old) (S.left source.old) history input → EndsAs result Status.OutOfMemory →
+    ensures starved { (form : Form) (sealing : Sealing) (history : History) (input : List ℕ) →
+        BeginsOver form sealing (mode_of (words_of words.now)) (D.seen disk.old) (S.left source.old) history input → EndsAs result Status.OutOfMemory →
         (had has : List ℕ) → K.held sink.old ≡ Some had → K.held sink.new ≡ Some has → (image : List ℕ) →
         (D.seen disk.new).told.may_leave image →
-        Stands (history ++ take (acks history (lines input) (length has - length had)) (accepted history (lines input))) image }
+        Stands (history ++ take (acks (begun form history) (lines input) (length has - length had)) (accepted (begun form history) (lines input))) image }
     // A check writes nothing, whatever the disk holds. Where it ends with 0, it has said what the store has.
     ensures check_unwritten { mode_of (words_of words.now) ≡ Some Mode.Check → Between (D.seen disk.old) (D.seen disk.new) OnlyReads }
     ensures checked { mode_of (words_of words.now) ≡ Some Mode.Check → EndsAs result Status.Done → IsTrue (D.seen disk.old).tells →

@@ -34,11 +34,13 @@ ghost use Rattle.ss_arguments.specs.Modes.{are_refused_at_once, mode_of, words_o
 ghost use Rattle.ss_program.specs.Answer.{IsOpen};
 ghost use Rattle.ss_program.specs.Checked.{ChecksContent};
 ghost use Rattle.ss_program.specs.Devices.{over};
-ghost use Rattle.ss_program.specs.Ending.{Completes, Ends, HasNumbers, IsRefusedContent, IsUnfed, Rejects, sealing_of};
+ghost use Rattle.ss_program.specs.Ending.{Completes, Ends, HasNumbers, IsRefusedContent, IsUnfed, Rejects, served_by, serving};
 ghost use Rattle.ss_program.specs.Generated.{GeneratesFrom};
 ghost use Rattle.ss_program.specs.Line.{History};
 ghost use Rattle.ss_program.specs.Outcome.{Moved, Reads, ReadsPiece, ServesInput};
 ghost use Rattle.ss_program.specs.Progress.{NoneWait, sealing_by};
+ghost use Rattle.ss_program.specs.Talk.{no_cursors};
+ghost use Rattle.ss_arguments.specs.declared.mode.Form.{Form};
 ghost use Rattle.ss_arguments.specs.declared.mode.Sealing.{Sealing};
 ghost use Rattle.ss_program.specs.Status.{EndsAs, EndsServing, disk_verdict, ended, sink_verdict, source_verdict, IsStop};
 
@@ -47,7 +49,7 @@ use crate::generate::generate;
 use crate::refuse::{refuse, say_usage};
 use crate::session::Session;
 use crate::status::Status;
-use ss_arguments::{Mode, Sealing, mode_of};
+use ss_arguments::{Form, Mode, Sealing, mode_of};
 use ss_outside::{Disk, Failed, Sink, Source};
 use ss_store::Store;
 use std::alloc::Global;
@@ -76,7 +78,6 @@ fn read_piece<D: Disk, S: Source, K: Sink>(
     ensures count { IfOk result (λ count. count ≤ room) }
     ensures fault { ended result ≡ Status.SourceFault → (S.left source.new ≡ S.left source.old)
         × (session.new ≡ session.old) × (K.held sink.new ≡ K.held sink.old) × (disk.new ≡ disk.old) }
-    ensures sealing { sealing_by session.new.waiting ≡ sealing_by session.old.waiting }
     ensures open { OnOk result (IsOpen (D.seen disk.new) session.new.store) }
     ensures status { IfErr result (λ status. (status ≡ Status.SourceFault) ⊎ IsStop (D.seen disk.old).tells status) }
     ensures source { Counted (source_verdict (ended result)) (S.faults source.old) (S.faults source.new) }
@@ -120,12 +121,13 @@ fn serve<D: Disk, S: Source, K: Sink>(
     requires open { IsOpen (D.seen disk.old) session.old.store }
     requires front { session.old.line ≡ kept (unended []) }
     requires unsaid { NoneWait session.old.waiting }
+    requires cursors { session.old.cursors ≡ no_cursors }
     ensures known { EndsServing (D.seen disk.old).tells result }
     ensures source { Counted (source_verdict result) (S.faults source.old) (S.faults source.new) }
     ensures sink { Counted (sink_verdict result) (K.faults sink.old) (K.faults sink.new) }
     ensures reads { (input : List ℕ) → S.left source.old ≡ Some input → Reads input (S.left source.new) result }
     ensures serves { Step (disk_verdict result) (D.seen disk.old) (D.seen disk.new) (λ a b. (input : List ℕ) → S.left source.old ≡ Some input →
-        ServesInput (sealing_by session.old.waiting) input (S.left source.new) (K.held sink.old) (K.held sink.new) result a b) }
+        ServesInput session.old.form (sealing_by session.old.waiting) input (S.left source.new) (K.held sink.old) (K.held sink.new) result a b) }
 {
     let mut done = 0;
     while done < LONGEST_INPUT {
@@ -145,6 +147,7 @@ fn serve<D: Disk, S: Source, K: Sink>(
 // Opens the store, and answers each line of the source.
 fn run_source<D: Disk, S: Source, K: Sink>(
     alloc: Global,
+    form: Form,
     sealing: Sealing,
     disk: &mut D,
     source: &mut S,
@@ -155,10 +158,10 @@ fn run_source<D: Disk, S: Source, K: Sink>(
     ensures unserved { result ≡ Status.RefusedStore → source.new ≡ source.old }
     ensures reads { (input : List ℕ) → S.left source.old ≡ Some input → Reads input (S.left source.new) result }
     ensures serves { (input : List ℕ) → S.left source.old ≡ Some input → Between (D.seen disk.old) (D.seen disk.new)
-        (ServesInput sealing input (S.left source.new) (K.held sink.old) (K.held sink.new) result) }
+        (ServesInput form sealing input (S.left source.new) (K.held sink.old) (K.held sink.new) result) }
 {
     match Store::open(alloc, disk) {
-        Ok(store) => match Session::start(alloc, store, sealing) {
+        Ok(store) => match Session::start(alloc, store, form, sealing) {
             Ok(mut session) => serve(&mut session, disk, source, sink),
             Err(_) => Status::OutOfMemory,
         },
@@ -176,20 +179,21 @@ fn run_mode<D: Disk, S: Source, K: Sink>(
 ) -> Status
     requires { HasNumbers mode }
     ensures ends { Ends (over (D.seen disk.old) (K.held sink.old) (K.faults sink.old)) (over (D.seen disk.new) (K.held sink.new) (K.faults sink.new)) result }
-    ensures unread { sealing_of (Some mode) ≡ None → source.new ≡ source.old }
-    ensures unfed { sealing_of (Some mode) ≡ None → IsUnfed (K.held sink.old) (K.held sink.new) result }
+    ensures unread { served_by (Some mode) ≡ None → source.new ≡ source.old }
+    ensures unfed { served_by (Some mode) ≡ None → IsUnfed (K.held sink.old) (K.held sink.new) result }
     ensures source { Counted (source_verdict result) (S.faults source.old) (S.faults source.new) }
     ensures unserved { result ≡ Status.RefusedStore → source.new ≡ source.old }
-    ensures reads { IsSome (sealing_of (Some mode)) → (input : List ℕ) → S.left source.old ≡ Some input → Reads input (S.left source.new) result }
-    ensures serves { (sealing : Sealing) → sealing_of (Some mode) ≡ Some sealing → (input : List ℕ) → S.left source.old ≡ Some input →
-        Between (D.seen disk.old) (D.seen disk.new) (ServesInput sealing input (S.left source.new) (K.held sink.old) (K.held sink.new) result) }
+    ensures reads { IsSome (served_by (Some mode)) → (input : List ℕ) → S.left source.old ≡ Some input → Reads input (S.left source.new) result }
+    ensures serves { (form : Form) (sealing : Sealing) → served_by (Some mode) ≡ Some (serving form sealing) →
+        (input : List ℕ) → S.left source.old ≡ Some input →
+        Between (D.seen disk.old) (D.seen disk.new) (ServesInput form sealing input (S.left source.new) (K.held sink.old) (K.held sink.new) result) }
     ensures unwritten { mode ≡ Mode.Check → Between (D.seen disk.old) (D.seen disk.new) OnlyReads }
     ensures checks { mode ≡ Mode.Check → OfContent (D.seen disk.old) (ChecksContent (K.held sink.old) (K.held sink.new) result) }
     ensures generates { (seed count : ℕ) → mode ≡ Mode.Gen seed count →
         Between (D.seen disk.old) (D.seen disk.new) (GeneratesFrom seed count (K.held sink.old) (K.held sink.new) result) }
 {
     match mode {
-        Mode::Serve { sealing, .. } => run_source(alloc, sealing, disk, source, sink),
+        Mode::Serve { form, sealing } => run_source(alloc, form, sealing, disk, source, sink),
         Mode::Check => check(alloc, disk, sink),
         Mode::Gen { seed, count } => generate(alloc, seed, count, disk, sink),
     }
@@ -215,7 +219,7 @@ pub fn run<D: Disk, S: Source, K: Sink>(
     // Those that are refused at a glance want no memory.
     ensures at_once { are_refused_at_once (words_of words.now) ≡ true → EndsAs result Status.Usage }
     ensures undone { mode_of (words_of words.now) ≡ None → disk.new ≡ disk.old }
-    ensures unread { sealing_of (mode_of (words_of words.now)) ≡ None → source.new ≡ source.old }
+    ensures unread { served_by (mode_of (words_of words.now)) ≡ None → source.new ≡ source.old }
 
     // Arguments that are known, whatever they ask for: which device is blamed, and what becomes of a store that is refused. No fault
     // of a device is passed over, and none is blamed without one. The source is not called where the store is refused.
@@ -225,11 +229,12 @@ pub fn run<D: Disk, S: Source, K: Sink>(
     ensures unserved { EndsAs result Status.RefusedStore → source.new ≡ source.old }
 
     // A run over the source: what is read of it, and what is written to the sink and left on the disk, also by a crash.
-    ensures reads { IsSome (sealing_of (mode_of (words_of words.now))) → (status : Status) → EndsAs result status →
+    ensures reads { IsSome (served_by (mode_of (words_of words.now))) → (status : Status) → EndsAs result status →
         (input : List ℕ) → S.left source.old ≡ Some input → Reads input (S.left source.new) status }
-    ensures serves { (sealing : Sealing) → sealing_of (mode_of (words_of words.now)) ≡ Some sealing → (status : Status) → EndsAs result status →
+    ensures serves { (form : Form) (sealing : Sealing) →
+        served_by (mode_of (words_of words.now)) ≡ Some (serving form sealing) → (status : Status) → EndsAs result status →
         (input : List ℕ) → S.left source.old ≡ Some input → Between (D.seen disk.old) (D.seen disk.new)
-        (ServesInput sealing input (S.left source.new) (K.held sink.old) (K.held sink.new) status) }
+        (ServesInput form sealing input (S.left source.new) (K.held sink.old) (K.held sink.new) status) }
 
     // A check: nothing is written to the disk, and what is written to the sink.
     ensures unwritten { mode_of (words_of words.now) ≡ Some Mode.Check → Between (D.seen disk.old) (D.seen disk.new) OnlyReads }
@@ -241,14 +246,14 @@ pub fn run<D: Disk, S: Source, K: Sink>(
         Between (D.seen disk.old) (D.seen disk.new) (GeneratesFrom seed count (K.held sink.old) (K.held sink.new) status) }
 
     // A check and a run over a generated file read no input, and say nothing before they are done.
-    ensures unfed { sealing_of (mode_of (words_of words.now)) ≡ None → (status : Status) → EndsAs result status →
+    ensures unfed { served_by (mode_of (words_of words.now)) ≡ None → (status : Status) → EndsAs result status →
         IsUnfed (K.held sink.old) (K.held sink.new) status }
 
     // A run that no device failed is done, or memory ran out: over a content that isn't refused, and within the limit of an input.
     ensures completes { IsSome (mode_of (words_of words.now)) → (status : Status) → EndsAs result status → IsTrue (D.seen disk.old).tells →
         (IsRefusedContent (D.seen disk.old).told.content → ⊥) → (status ≡ Status.InputLimit → ⊥) →
         (Rose (D.seen disk.old).faults (D.seen disk.new).faults → ⊥) →
-        (IsSome (sealing_of (mode_of (words_of words.now))) → Rose (S.faults source.old) (S.faults source.new) → ⊥) →
+        (IsSome (served_by (mode_of (words_of words.now))) → Rose (S.faults source.old) (S.faults source.new) → ⊥) →
         (Rose (K.faults sink.old) (K.faults sink.new) → ⊥) → Completes status }
 {
     match mode_of(alloc, words) {

@@ -7,20 +7,22 @@ ghost use Rattle.ss_outside.specs.Verdict.{Counted};
 ghost use Rattle.ss_program.specs.Answer.{IsOpen};
 ghost use Rattle.ss_program.specs.Progress.{EndsSession, NoneWait, TakesPiece, sealing_by};
 ghost use Rattle.ss_program.specs.Status.{disk_verdict, ended, sink_verdict, IsStop};
+ghost use Rattle.ss_program.specs.Talk.{no_cursors};
 
-use crate::each::{finish_each, take_each};
 use crate::replies::Replies;
-use crate::shared::{finish_shared, take_shared};
 use crate::status::Status;
+use crate::taking::{finish_lines, take_piece};
+use ss_arguments::{Form, Sealing};
 use ss_command::LineReader;
 use ss_outside::{Disk, Sink};
 use ss_store::Store;
 use std::alloc::{AllocError, Global};
 use std::marker::Model;
 
-/// The store, and the line that is under way.
+/// The form of the input, the store, and the line that is under way.
 #[derive(Drop)]
 pub struct Session {
+    form: Form,
     store: Store,
     reader: LineReader,
     // Where events share seals, the replies that wait for one.
@@ -30,17 +32,24 @@ pub struct Session {
 impl Model for Session {
     ghost use Rattle.ss_command.specs.LineState.{under_way};
     ghost use Rattle.ss_program.specs.Progress.{SessionState};
+    ghost use Rattle.ss_program.specs.Talk.{no_cursors};
 
     ghost Value = { SessionState };
 
-    ghost view = { λ s. record { store = s.store; line = under_way s.reader; waiting = s.waiting } };
+    ghost view = { λ s. record { form = s.form; store = s.store; line = under_way s.reader; cursors = no_cursors; waiting = s.waiting } };
 }
 
 impl Session {
     /// A session at the front of its input. It takes memory where events share seals.
-    pub fn start(alloc: Global, store: Store, sealing: Sealing) -> Result<Session, AllocError>
+    pub fn start(
+        alloc: Global,
+        store: Store,
+        form: Form,
+        sealing: Sealing,
+    ) -> Result<Session, AllocError>
         ensures store { IfOk result (λ session. session.store ≡ store) }
         ensures line { IfOk result (λ session. session.line ≡ kept (unended [])) }
+        ensures form { IfOk result (λ session. (session.form ≡ form) × (session.cursors ≡ no_cursors)) }
         ensures sealing { IfOk result (λ session. (sealing_by session.waiting ≡ sealing) × NoneWait session.waiting) }
         ensures each { sealing ≡ Sealing.Each → OnErr result ⊥ }
     {
@@ -49,6 +58,7 @@ impl Session {
             Sealing::Shared => Some(Replies::new(alloc)?),
         };
         Ok(Session {
+            form,
             store,
             reader: LineReader::new(),
             waiting,
@@ -66,22 +76,19 @@ impl Session {
         requires { IsOpen (D.seen disk.old) self.old.store }
         ensures takes { Step (disk_verdict (ended result)) (D.seen disk.old) (D.seen disk.new)
             (TakesPiece (λ _. piece.now) piece.now self.old self.new (K.held sink.old) (K.held sink.new) result) }
-        ensures sealing { sealing_by self.new.waiting ≡ sealing_by self.old.waiting }
         ensures open { OnOk result (IsOpen (D.seen disk.new) self.new.store) }
         ensures status { IfErr result (IsStop (D.seen disk.old).tells) }
         ensures counted { Counted (sink_verdict (ended result)) (K.faults sink.old) (K.faults sink.new) }
     {
-        match &mut self.waiting {
-            None => take_each(&mut self.store, &mut self.reader, piece, disk, sink),
-            Some(waiting) => take_shared(
-                &mut self.store,
-                &mut self.reader,
-                waiting,
-                piece,
-                disk,
-                sink,
-            ),
-        }
+        take_piece(
+            self.form,
+            &mut self.store,
+            &mut self.reader,
+            &mut self.waiting,
+            piece,
+            disk,
+            sink,
+        )
     }
 
     /// Ends the input, and answers a last line that no line end ended.
@@ -92,9 +99,13 @@ impl Session {
         ensures status { (result ≡ Status.Done) ⊎ IsStop (D.seen disk.old).tells result }
         ensures counted { Counted (sink_verdict result) (K.faults sink.old) (K.faults sink.new) }
     {
-        match &mut self.waiting {
-            None => finish_each(&mut self.store, &mut self.reader, disk, sink),
-            Some(waiting) => finish_shared(&mut self.store, &mut self.reader, waiting, disk, sink),
-        }
+        finish_lines(
+            self.form,
+            &mut self.store,
+            &mut self.reader,
+            &mut self.waiting,
+            disk,
+            sink,
+        )
     }
 }

@@ -1,29 +1,34 @@
-// Lines that are done in memory: what they do is staged, and their replies wait until all of it is on the disk.
-ghost use Rattle.std.specs.Prelude.{◌≡◌, ◌+◌, ◌≤◌, List, Option, ℕ, [], length, None, IfErr, IfSome, OnOk, OnErr};
+// Lines that are done in memory: what they do is staged, and their replies wait until all of it is on the disk. Where each event is
+// sealed by itself, what a line does is brought to the disk at once, and then its reply is sent.
+ghost use Rattle.std.specs.Prelude.{◌≡◌, ◌≤◌, [], length, None, Some, IsTrue, IfErr, IfSome, OnOk, OnErr};
 ghost use Rattle.std.specs.Option.{option_copied};
 ghost use Rattle.ss_catalog.specs.Events.{IsInTime};
 ghost use Rattle.ss_command.specs.Printed.{IsCommandInTime};
 ghost use Rattle.ss_command.specs.declared.command.Command.TheVariants.{Do, Ask};
 ghost use Rattle.ss_outside.specs.Step.{Step};
-ghost use Rattle.ss_outside.specs.Verdict.{Counted, fine};
+ghost use Rattle.ss_outside.specs.Verdict.{Counted};
+ghost use Rattle.ss_report.specs.Text.{reply_line};
+ghost use Rattle.ss_program.specs.Amid.{BringsEvent, HasRoom, IsReady, StagesBrought, TakesBrought, TakesNone, TakesTurn, amid, owed_by, with_text};
 ghost use Rattle.ss_program.specs.Answer.{IsOpen, IsServing};
-ghost use Rattle.ss_program.specs.Line.{History, command_brings, kept_brings};
-ghost use Rattle.ss_program.specs.Shared.{BringsEvent, StagesBrought, TakesBrought, TakesLines, amid};
+ghost use Rattle.ss_program.specs.Line.{History, command_brings, refused};
+ghost use Rattle.ss_program.specs.Progress.{NoneWait};
 ghost use Rattle.ss_program.specs.Status.{disk_verdict, ended, sink_verdict, IsApplyStop, IsShowStop, IsStop};
+ghost use Rattle.ss_program.specs.Talk.{kept_turn};
 
-use crate::answer::{ask, at_sink, obey};
-use crate::replies::{LONGEST_REPLY, MOST_WAITING_BYTES, Replies};
+use crate::answer::{ask, at_sink, obey, send_reply};
+use crate::replies::Replies;
 use crate::sending::send;
 use crate::status::Status;
+use ss_arguments::Form;
 use ss_catalog::{Event, Query, Refusal};
 use ss_command::{Command, LONGEST_LINE, parse};
 use ss_outside::{Disk, Sink};
 use ss_report::Reply;
 use ss_store::{ApplyError, Store};
 
-/// Brings all staged events to the disk, and then sends the replies that wait, so that no reply is sent before what it speaks of is
-/// on the disk.
-pub fn flush<D: Disk, K: Sink>(
+// Brings all staged events to the disk, and then sends the replies that wait, so that no reply is sent before what it speaks of is
+// on the disk.
+fn send_waiting<D: Disk, K: Sink>(
     store: &mut Store,
     waiting: &mut Replies,
     disk: &mut D,
@@ -31,7 +36,8 @@ pub fn flush<D: Disk, K: Sink>(
 ) -> Result<(), Status>
     requires { IsServing (D.seen disk.old) store.old }
     ensures takes { Step (disk_verdict (ended result)) (D.seen disk.old) (D.seen disk.new)
-        (TakesLines [] (amid store.old.records waiting.old (K.held sink.old)) (amid store.new.records waiting.new (K.held sink.new)) result) }
+        (TakesNone (amid store.old.records (owed_by (Some waiting.old)) (K.held sink.old))
+        (amid store.new.records (owed_by (Some waiting.new)) (K.held sink.new)) result) }
     ensures open { OnOk result (IsOpen (D.seen disk.new) store.new) }
     ensures none { OnOk result (waiting.new ≡ []) }
     ensures status { IfErr result (IsShowStop (D.seen disk.old).tells) }
@@ -47,25 +53,105 @@ pub fn flush<D: Disk, K: Sink>(
     }
 }
 
+/// Brings all staged events to the disk, and then sends the replies that wait. Where none wait all is there, and was sent.
+pub fn flush<D: Disk, K: Sink>(
+    store: &mut Store,
+    waiting: &mut Option<Replies>,
+    disk: &mut D,
+    sink: &mut K,
+) -> Result<(), Status>
+    requires { IsReady (D.seen disk.old) store.old waiting.old }
+    ensures takes { Step (disk_verdict (ended result)) (D.seen disk.old) (D.seen disk.new)
+        (TakesNone (amid store.old.records (owed_by waiting.old) (K.held sink.old))
+        (amid store.new.records (owed_by waiting.new) (K.held sink.new)) result) }
+    ensures open { OnOk result (IsOpen (D.seen disk.new) store.new) }
+    ensures none { OnOk result (NoneWait waiting.new) }
+    ensures status { IfErr result (IsShowStop (D.seen disk.old).tells) }
+    ensures counted { Counted (sink_verdict (ended result)) (K.faults sink.old) (K.faults sink.new) }
+{
+    match waiting {
+        None => Ok(()),
+        Some(replies) => send_waiting(store, replies, disk, sink),
+    }
+}
+
+// Whether one more reply can wait.
+fn has_room(waiting: &Option<Replies>) -> bool
+    ensures { IsTrue result → HasRoom waiting.now }
+{
+    match waiting {
+        None => true,
+        Some(replies) => replies.has_room(),
+    }
+}
+
 // Sees to it that one more reply can wait.
 fn make_room<D: Disk, K: Sink>(
     store: &mut Store,
-    waiting: &mut Replies,
+    waiting: &mut Option<Replies>,
+    disk: &mut D,
+    sink: &mut K,
+) -> Result<(), Status>
+    requires { IsReady (D.seen disk.old) store.old waiting.old }
+    ensures takes { Step (disk_verdict (ended result)) (D.seen disk.old) (D.seen disk.new)
+        (TakesNone (amid store.old.records (owed_by waiting.old) (K.held sink.old))
+        (amid store.new.records (owed_by waiting.new) (K.held sink.new)) result) }
+    ensures ready { OnOk result (IsReady (D.seen disk.new) store.new waiting.new) }
+    ensures room { OnOk result (HasRoom waiting.new) }
+    ensures status { IfErr result (IsShowStop (D.seen disk.old).tells) }
+    ensures counted { Counted (sink_verdict (ended result)) (K.faults sink.old) (K.faults sink.new) }
+{
+    if has_room(waiting) {
+        return Ok(());
+    }
+    flush(store, waiting, disk, sink)
+}
+
+// Brings what a line did to the disk, and then sends the reply to it.
+fn send_sealed<D: Disk, K: Sink>(
+    store: &mut Store,
+    reply: &Reply,
     disk: &mut D,
     sink: &mut K,
 ) -> Result<(), Status>
     requires { IsServing (D.seen disk.old) store.old }
     ensures takes { Step (disk_verdict (ended result)) (D.seen disk.old) (D.seen disk.new)
-        (TakesLines [] (amid store.old.records waiting.old (K.held sink.old)) (amid store.new.records waiting.new (K.held sink.new)) result) }
-    ensures serves { OnOk result (IsServing (D.seen disk.new) store.new) }
-    ensures room { OnOk result (length waiting.new + LONGEST_REPLY ≤ MOST_WAITING_BYTES) }
+        (TakesNone (amid store.old.records (with_text (owed_by None) (reply_line reply.now)) (K.held sink.old))
+        (amid store.new.records (owed_by None) (K.held sink.new)) result) }
+    ensures open { OnOk result (IsOpen (D.seen disk.new) store.new) }
     ensures status { IfErr result (IsShowStop (D.seen disk.old).tells) }
     ensures counted { Counted (sink_verdict (ended result)) (K.faults sink.old) (K.faults sink.new) }
 {
-    if waiting.has_room() {
-        return Ok(());
+    match store.seal(disk) {
+        Err(_) => Err(Status::DiskFault),
+        Ok(()) => at_sink(send_reply(reply, sink)),
     }
-    flush(store, waiting, disk, sink)
+}
+
+// Says the reply to a line that is done in memory: it waits, or what the line did is brought to the disk and the reply is sent.
+fn say<D: Disk, K: Sink>(
+    store: &mut Store,
+    waiting: &mut Option<Replies>,
+    reply: &Reply,
+    disk: &mut D,
+    sink: &mut K,
+) -> Result<(), Status>
+    requires serves { IsServing (D.seen disk.old) store.old }
+    requires room { HasRoom waiting.old }
+    ensures takes { Step (disk_verdict (ended result)) (D.seen disk.old) (D.seen disk.new)
+        (TakesNone (amid store.old.records (with_text (owed_by waiting.old) (reply_line reply.now)) (K.held sink.old))
+        (amid store.new.records (owed_by waiting.new) (K.held sink.new)) result) }
+    ensures ready { OnOk result (IsReady (D.seen disk.new) store.new waiting.new) }
+    ensures status { IfErr result (IsShowStop (D.seen disk.old).tells) }
+    ensures counted { Counted (sink_verdict (ended result)) (K.faults sink.old) (K.faults sink.new) }
+{
+    match waiting {
+        None => send_sealed(store, reply, disk, sink),
+        Some(replies) => {
+            replies.hold(reply);
+            Ok(())
+        }
+    }
 }
 
 // Stages an event, and answers the reply to it. Where memory runs out the store can still be called, and shows what it did.
@@ -91,29 +177,26 @@ fn stage<D: Disk>(store: &mut Store, event: &Event, disk: &mut D) -> Result<Repl
     }
 }
 
-// Stages an event whose reply waits. Where memory runs out, all that waits is brought to the disk and sent before the run stops.
+// Stages an event, and says the reply to it. Where memory runs out, all that waits is brought to the disk and sent before the run stops.
 fn take_event<D: Disk, K: Sink>(
     store: &mut Store,
-    waiting: &mut Replies,
+    waiting: &mut Option<Replies>,
     event: &Event,
     disk: &mut D,
     sink: &mut K,
 ) -> Result<(), Status>
     requires in_time { IsInTime event.now }
-    requires serves { IsServing (D.seen disk.old) store.old }
-    requires room { length waiting.old + LONGEST_REPLY ≤ MOST_WAITING_BYTES }
+    requires ready { IsReady (D.seen disk.old) store.old waiting.old }
+    requires room { HasRoom waiting.old }
     ensures takes { Step (disk_verdict (ended result)) (D.seen disk.old) (D.seen disk.new)
-        (TakesBrought (λ history. command_brings history (Do event.now)) (amid store.old.records waiting.old (K.held sink.old))
-        (amid store.new.records waiting.new (K.held sink.new)) result) }
-    ensures serves { OnOk result (IsServing (D.seen disk.new) store.new) }
+        (TakesBrought (λ history. command_brings history (Do event.now)) (amid store.old.records (owed_by waiting.old) (K.held sink.old))
+        (amid store.new.records (owed_by waiting.new) (K.held sink.new)) result) }
+    ensures ready { OnOk result (IsReady (D.seen disk.new) store.new waiting.new) }
     ensures status { IfErr result (IsStop (D.seen disk.old).tells) }
     ensures counted { Counted (sink_verdict (ended result)) (K.faults sink.old) (K.faults sink.new) }
 {
     match stage(store, event, disk) {
-        Ok(reply) => {
-            waiting.hold(&reply);
-            Ok(())
-        }
+        Ok(reply) => say(store, waiting, &reply, disk, sink),
         Err(status) => match status {
             Status::OutOfMemory => {
                 flush(store, waiting, disk, sink)?;
@@ -124,42 +207,42 @@ fn take_event<D: Disk, K: Sink>(
     }
 }
 
-// Answers a query, by what the store shows. Its reply waits.
-fn take_query<D: Disk>(
+// Asks a query, and says its answer, by what the store shows.
+fn take_query<D: Disk, K: Sink>(
     store: &mut Store,
-    waiting: &mut Replies,
+    waiting: &mut Option<Replies>,
     query: &Query,
     disk: &mut D,
+    sink: &mut K,
 ) -> Result<(), Status>
-    requires serves { IsServing (D.seen disk.old) store.old }
-    requires room { length waiting.old + LONGEST_REPLY ≤ MOST_WAITING_BYTES }
-    ensures takes { (held : Option (List ℕ)) → Step (disk_verdict (ended result)) (D.seen disk.old) (D.seen disk.new)
-        (TakesBrought (λ history. command_brings history (Ask query.now)) (amid store.old.records waiting.old held)
-        (amid store.new.records waiting.new held) result) }
-    ensures serves { OnOk result (IsServing (D.seen disk.new) store.new) }
-    ensures status { IfErr result (IsShowStop (D.seen disk.old).tells) }
-    ensures counted { sink_verdict (ended result) ≡ fine }
+    requires ready { IsReady (D.seen disk.old) store.old waiting.old }
+    requires room { HasRoom waiting.old }
+    ensures takes { Step (disk_verdict (ended result)) (D.seen disk.old) (D.seen disk.new)
+        (TakesBrought (λ history. command_brings history (Ask query.now)) (amid store.old.records (owed_by waiting.old) (K.held sink.old))
+        (amid store.new.records (owed_by waiting.new) (K.held sink.new)) result) }
+    ensures ready { OnOk result (IsReady (D.seen disk.new) store.new waiting.new) }
+    ensures status { IfErr result (IsStop (D.seen disk.old).tells) }
+    ensures counted { Counted (sink_verdict (ended result)) (K.faults sink.old) (K.faults sink.new) }
 {
     let reply = ask(store, query, disk)?;
-    waiting.hold(&reply);
-    Ok(())
+    say(store, waiting, &reply, disk, sink)
 }
 
 // Shows rows, which don't wait: before them all is brought to the disk and sent.
 fn show_rows<D: Disk, K: Sink>(
     store: &mut Store,
-    waiting: &mut Replies,
+    waiting: &mut Option<Replies>,
     command: &Command,
     disk: &mut D,
     sink: &mut K,
 ) -> Result<(), Status>
     requires in_time { IsCommandInTime command.now }
     requires no_event { (history : History) → (command_brings history command.now).event ≡ None }
-    requires serves { IsServing (D.seen disk.old) store.old }
+    requires ready { IsReady (D.seen disk.old) store.old waiting.old }
     ensures takes { Step (disk_verdict (ended result)) (D.seen disk.old) (D.seen disk.new)
-        (TakesBrought (λ history. command_brings history command.now) (amid store.old.records waiting.old (K.held sink.old))
-        (amid store.new.records waiting.new (K.held sink.new)) result) }
-    ensures serves { OnOk result (IsServing (D.seen disk.new) store.new) }
+        (TakesBrought (λ history. command_brings history command.now) (amid store.old.records (owed_by waiting.old) (K.held sink.old))
+        (amid store.new.records (owed_by waiting.new) (K.held sink.new)) result) }
+    ensures ready { OnOk result (IsReady (D.seen disk.new) store.new waiting.new) }
     ensures status { IfErr result (IsStop (D.seen disk.old).tells) }
     ensures counted { Counted (sink_verdict (ended result)) (K.faults sink.old) (K.faults sink.new) }
 {
@@ -167,60 +250,77 @@ fn show_rows<D: Disk, K: Sink>(
     obey(store, command, disk, sink)
 }
 
-// Does what a command says, and has its replies wait, or sends them.
+// Does what a command says, and says what it brings.
 fn take_command<D: Disk, K: Sink>(
     store: &mut Store,
-    waiting: &mut Replies,
+    waiting: &mut Option<Replies>,
     command: &Command,
     disk: &mut D,
     sink: &mut K,
 ) -> Result<(), Status>
     requires in_time { IsCommandInTime command.now }
-    requires serves { IsServing (D.seen disk.old) store.old }
-    requires room { length waiting.old + LONGEST_REPLY ≤ MOST_WAITING_BYTES }
+    requires ready { IsReady (D.seen disk.old) store.old waiting.old }
+    requires room { HasRoom waiting.old }
     ensures takes { Step (disk_verdict (ended result)) (D.seen disk.old) (D.seen disk.new)
-        (TakesBrought (λ history. command_brings history command.now) (amid store.old.records waiting.old (K.held sink.old))
-        (amid store.new.records waiting.new (K.held sink.new)) result) }
-    ensures serves { OnOk result (IsServing (D.seen disk.new) store.new) }
+        (TakesBrought (λ history. command_brings history command.now) (amid store.old.records (owed_by waiting.old) (K.held sink.old))
+        (amid store.new.records (owed_by waiting.new) (K.held sink.new)) result) }
+    ensures ready { OnOk result (IsReady (D.seen disk.new) store.new waiting.new) }
     ensures status { IfErr result (IsStop (D.seen disk.old).tells) }
     ensures counted { Counted (sink_verdict (ended result)) (K.faults sink.old) (K.faults sink.new) }
 {
     match command {
         Command::Do(event) => take_event(store, waiting, event, disk, sink),
-        Command::Ask(query) => take_query(store, waiting, query, disk),
+        Command::Ask(query) => take_query(store, waiting, query, disk, sink),
         Command::Certify { .. } | Command::Series(_) | Command::Windows(_) | Command::List => {
             show_rows(store, waiting, command, disk, sink)
         }
     }
 }
 
+// Refuses a line, which does nothing.
+fn say_refusal<D: Disk, K: Sink>(
+    store: &mut Store,
+    waiting: &mut Option<Replies>,
+    refusal: Refusal,
+    disk: &mut D,
+    sink: &mut K,
+) -> Result<(), Status>
+    requires ready { IsReady (D.seen disk.old) store.old waiting.old }
+    requires room { HasRoom waiting.old }
+    ensures takes { Step (disk_verdict (ended result)) (D.seen disk.old) (D.seen disk.new)
+        (TakesBrought (λ history. refused refusal) (amid store.old.records (owed_by waiting.old) (K.held sink.old))
+        (amid store.new.records (owed_by waiting.new) (K.held sink.new)) result) }
+    ensures ready { OnOk result (IsReady (D.seen disk.new) store.new waiting.new) }
+    ensures status { IfErr result (IsStop (D.seen disk.old).tells) }
+    ensures counted { Counted (sink_verdict (ended result)) (K.faults sink.old) (K.faults sink.new) }
+{
+    say(store, waiting, &Reply::Refused(refusal), disk, sink)
+}
+
 // Does what a line says, where one more reply can wait. A line that is too long comes as `None`.
 fn take_line<D: Disk, K: Sink>(
+    _form: Form,
     store: &mut Store,
-    waiting: &mut Replies,
+    waiting: &mut Option<Replies>,
     line: Option<&[u8]>,
     disk: &mut D,
     sink: &mut K,
 ) -> Result<(), Status>
     requires short { IfSome (option_copied line) (λ bytes. length bytes ≤ LONGEST_LINE) }
-    requires serves { IsServing (D.seen disk.old) store.old }
-    requires room { length waiting.old + LONGEST_REPLY ≤ MOST_WAITING_BYTES }
+    requires ready { IsReady (D.seen disk.old) store.old waiting.old }
+    requires room { HasRoom waiting.old }
     ensures takes { Step (disk_verdict (ended result)) (D.seen disk.old) (D.seen disk.new)
-        (TakesBrought (λ history. kept_brings history (option_copied line.entry)) (amid store.old.records waiting.old (K.held sink.old))
-        (amid store.new.records waiting.new (K.held sink.new)) result) }
-    ensures serves { OnOk result (IsServing (D.seen disk.new) store.new) }
+        (TakesTurn (kept_turn _form (option_copied line.entry)) (amid store.old.records (owed_by waiting.old) (K.held sink.old))
+        (amid store.new.records (owed_by waiting.new) (K.held sink.new)) result) }
+    ensures ready { OnOk result (IsReady (D.seen disk.new) store.new waiting.new) }
     ensures status { IfErr result (IsStop (D.seen disk.old).tells) }
     ensures counted { Counted (sink_verdict (ended result)) (K.faults sink.old) (K.faults sink.new) }
 {
     let Some(line) = line else {
-        waiting.hold(&Reply::Refused(Refusal::Line));
-        return Ok(());
+        return say_refusal(store, waiting, Refusal::Line, disk, sink);
     };
     match parse(line) {
-        Err(refusal) => {
-            waiting.hold(&Reply::Refused(refusal));
-            Ok(())
-        }
+        Err(refusal) => say_refusal(store, waiting, refusal, disk, sink),
         Ok(None) => Ok(()),
         Ok(Some(command)) => take_command(store, waiting, &command, disk, sink),
     }
@@ -228,21 +328,22 @@ fn take_line<D: Disk, K: Sink>(
 
 /// Does what a line says. Where no more replies can wait, all is brought to the disk and sent before.
 pub fn stage_line<D: Disk, K: Sink>(
+    form: Form,
     store: &mut Store,
-    waiting: &mut Replies,
+    waiting: &mut Option<Replies>,
     line: Option<&[u8]>,
     disk: &mut D,
     sink: &mut K,
 ) -> Result<(), Status>
     requires short { IfSome (option_copied line) (λ bytes. length bytes ≤ LONGEST_LINE) }
-    requires serves { IsServing (D.seen disk.old) store.old }
+    requires ready { IsReady (D.seen disk.old) store.old waiting.old }
     ensures takes { Step (disk_verdict (ended result)) (D.seen disk.old) (D.seen disk.new)
-        (TakesBrought (λ history. kept_brings history (option_copied line.entry)) (amid store.old.records waiting.old (K.held sink.old))
-        (amid store.new.records waiting.new (K.held sink.new)) result) }
-    ensures serves { OnOk result (IsServing (D.seen disk.new) store.new) }
+        (TakesTurn (kept_turn form (option_copied line.entry)) (amid store.old.records (owed_by waiting.old) (K.held sink.old))
+        (amid store.new.records (owed_by waiting.new) (K.held sink.new)) result) }
+    ensures ready { OnOk result (IsReady (D.seen disk.new) store.new waiting.new) }
     ensures status { IfErr result (IsStop (D.seen disk.old).tells) }
     ensures counted { Counted (sink_verdict (ended result)) (K.faults sink.old) (K.faults sink.new) }
 {
     make_room(store, waiting, disk, sink)?;
-    take_line(store, waiting, line, disk, sink)
+    take_line(form, store, waiting, line, disk, sink)
 }

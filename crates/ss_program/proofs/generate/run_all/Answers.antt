@@ -6,7 +6,7 @@ use Rattle.ss_outside.specs.Disk.{NothingPending}
 use Rattle.ss_outside.specs.Step.{Step}
 use Rattle.ss_store.specs.Recover.{Stands}
 use Rattle.ss_program.specs.Line.{History}
-use Rattle.ss_program.specs.Session.{after_lines}
+use Rattle.ss_program.specs.Session.{plain_after}
 use Rattle.ss_program.specs.Status.{disk_verdict, ended}
 use Rattle.ss_program.specs.Tally.{RunsAll}
 use Rattle.ss_program.proofs.GenerateLemmas.{AreSingle, IsAt, IsAt-end, IsAt-more, IsAt-start, IsAt-stop, single-commands}
@@ -46,7 +46,7 @@ loop-command-preserved g c =
       is_open = c.in_ok-reply.ensures.open;
       at = step-then inv.at c.in_ok-reply.ensures.does (λ first does none history stands.
           let at = first none history stands in
-          let here = after_lines history (map printed at.done) in
+          let here = plain_after history (map printed at.done) in
           IsAt-more history c.args.seed c.args.count c.loop-command.generator c.next.new.self c.in-Some.command old mid new c.in_ok-reply.reply
           c.loop-command.tally c.take.new.self at next c.in-Some.ensures.sayable (does.adds here) (does.reply here at.ran.stands) c.take.ensures.tallies);
     }
@@ -66,7 +66,7 @@ returns-in_err-reply-clause-runs g c =
       stops = λ none history stands.
           let at = first none history stands in
           IsAt-stop history c.args.seed c.args.count c.loop-command.generator c.next.new.self c.in-Some.command old mid new
-          c.loop-command.tally (Err status) at c.in-Some.ensures.next c.in-Some.ensures.sayable (does.adds (after_lines history (map printed at.done)));
+          c.loop-command.tally (Err status) at c.in-Some.ensures.next c.in-Some.ensures.sayable (does.adds (plain_after history (map printed at.done)));
     }))
 
 pub returns-clause-runs : goal.returns-clause-runs

@@ -1,12 +1,12 @@
 use Rattle.std.proofs.Common.{◌∙◌, ap, append_assoc, sym}
 use Rattle.ss_certify.specs.Told.{told}
-use Rattle.ss_program.specs.Session.{after_lines, replies}
+use Rattle.ss_program.specs.Session.{plain_after, replies}
 use Rattle.ss_program.proofs.LawLemmas.{certified-line, lines-leave, replies-among}
 use Rattle.ss_program.proofs.laws.certificates_are_sharp.Goals as goal
 
 pub returns : goal.returns
 returns c history ls before after line query end whole are means none =
-    let here = after_lines history before in
+    let here = plain_after history before in
     let it = certified-line here line query end (lines-leave history before whole) means none in (
       it.0,
       ap (λ l. replies history l) are ∙ replies-among history before after line (told it.0) it.1

@@ -1,13 +1,13 @@
 use Rattle.std.proofs.Common.{◌∙◌, ◌∷◌, ap, append_assoc, map, sym}
 use Rattle.ss_catalog.specs.Series.{row_count, row_start, rows_of}
 use Rattle.ss_report.specs.declared.reply.Reply.TheVariants.{SeriesHead, Row}
-use Rattle.ss_program.specs.Session.{after_lines, replies}
+use Rattle.ss_program.specs.Session.{plain_after, replies}
 use Rattle.ss_program.proofs.LawLemmas.{answered-series, lines-leave, replies-among}
 use Rattle.ss_program.proofs.laws.series_hold_the_truth.Goals as goal
 
 pub returns : goal.returns
 returns c history ls before after line series whole are means none =
-    let here = after_lines history before in
+    let here = plain_after history before in
     let it = answered-series here line series (lines-leave history before whole) means none in
     let rs = SeriesHead (row_count series) ∷ map (λ row. Row (row_start series row) (it.0 row)) (rows_of series) in (
       it.0,

@@ -3,10 +3,9 @@ use Rattle.ss_arguments.specs.Modes.{mode_of, words_of}
 use Rattle.ss_arguments.specs.declared.mode.Mode.{Mode}
 use Rattle.ss_command.specs.Lines.{lines}
 use Rattle.ss_program.proofs.HeldLemmas.{StandsForFirst-within}
-use Rattle.ss_program.specs.Held.{acks}
 use Rattle.ss_program.specs.Line.{History}
-use Rattle.ss_program.specs.Outcome.{HoldsBy}
 use Rattle.ss_program.specs.Session.{accepted}
+use Rattle.ss_program.specs.Talk.{begun}
 use Rattle.ss_arguments.specs.declared.mode.Sealing.{Sealing}
 use Rattle.ss_arguments.specs.declared.mode.Sealing.TheVariants.{Each, Shared}
 use Rattle.ss_store.specs.Recover.{Stands}
@@ -14,45 +13,37 @@ use Rattle.ss_program.specs.declared.status.Status.TheVariants.{Done, Usage, Ref
 use Rattle.ss_program.proofs.promises.run_store.Goals as goal
 
 pub returns-clause-done : goal.returns-clause-done
-returns-clause-done g c sealing history input begins is =
-    let serves = c.run.ensures.serves sealing begins.asked Done is input begins.source begins.tells begins.durable history begins.stands in
+returns-clause-done g c form sealing history input begins is =
+    let serves = c.run.ensures.serves form sealing begins.asked Done is input begins.source begins.tells begins.durable history begins.stands in
     (serves.report.whole refl, serves.whole refl)
 
 pub returns-clause-any_moment : goal.returns-clause-any_moment
-returns-clause-any_moment g c sealing history input begins image left =
+returns-clause-any_moment g c form sealing history input begins image left =
     let known = c.run.ensures.known in
-    StandsForFirst-within history (lines input) image
-    ((c.run.ensures.serves sealing begins.asked known.0 known.1 input begins.source begins.tells begins.durable history begins.stands).any_moment.each image
+    StandsForFirst-within (begun form history) (lines input) image
+    ((c.run.ensures.serves form sealing begins.asked known.0 known.1 input begins.source begins.tells begins.durable history begins.stands).any_moment.each image
     left)
 
 pub returns-clause-acked_held : goal.returns-clause-acked_held
-returns-clause-acked_held g c history input begins had has is_had is_has image left =
+returns-clause-acked_held g c form history input begins had has is_had is_has image left =
     let known = c.run.ensures.known in
-    let holds = (c.run.ensures.serves Each begins.asked known.0 known.1 input begins.source begins.tells begins.durable history begins.stands).kept had has
+    let holds = (c.run.ensures.serves form Each begins.asked known.0 known.1 input begins.source begins.tells begins.durable history begins.stands).kept had has
     is_had is_has image left in
-    (holds.j, holds.acked, holds.at_most, holds.stands)
+    (holds.4.j, holds.4.acked, holds.4.at_most refl, holds.4.stands)
 
 pub returns-clause-shared_held : goal.returns-clause-shared_held
-returns-clause-shared_held g c history input begins had has is_had is_has image left =
+returns-clause-shared_held g c form history input begins had has is_had is_has image left =
     let known = c.run.ensures.known in
-    let holds = (c.run.ensures.serves Shared begins.asked known.0 known.1 input begins.source begins.tells begins.durable history begins.stands).kept had has
+    let holds = (c.run.ensures.serves form Shared begins.asked known.0 known.1 input begins.source begins.tells begins.durable history begins.stands).kept had has
     is_had is_has image left in
-    (holds.4.j, holds.0, holds.1, holds.2, holds.3, holds.4.acked, holds.4.at_most, holds.4.stands)
-
--- where memory ran out the image holds the acknowledged events, whatever the sealing
-starved-holds : (sealing : Sealing) (history : History) (input : List ℕ) (left : Option (List ℕ)) (bytes : ℕ) (image : List ℕ) →
-    HoldsBy sealing history input left bytes OutOfMemory image → Stands (history ++ take (acks history (lines input) bytes) (accepted history (lines input)))
-    image
-starved-holds Each history input left bytes image holds =
-    subst (λ j. Stands (history ++ take j (accepted history (lines input))) image) (holds.starved refl) holds.stands
-starved-holds Shared history input left bytes image holds =
-    subst (λ j. Stands (history ++ take j (accepted history (lines input))) image) (holds.4.starved refl) holds.4.stands
+    (holds.4.j, holds.0, holds.1, holds.2, holds.3, holds.4.acked, holds.4.within, holds.4.stands)
 
 pub returns-clause-starved : goal.returns-clause-starved
-returns-clause-starved g c sealing history input begins is had has is_had is_has image may =
-    starved-holds sealing history input _ _ image
-    ((c.run.ensures.serves sealing begins.asked OutOfMemory is input begins.source begins.tells begins.durable history begins.stands).kept had has is_had
-    is_has image may)
+returns-clause-starved g c form sealing history input begins is had has is_had is_has image may =
+    let talk = begun form history in
+    let holds = (c.run.ensures.serves form sealing begins.asked OutOfMemory is input begins.source begins.tells begins.durable history begins.stands).kept had
+    has is_had is_has image may in
+    subst (λ j. Stands (history ++ take j (accepted talk (lines input))) image) (holds.4.starved refl) holds.4.stands
 
 pub returns-clause-checked : goal.returns-clause-checked
 returns-clause-checked g c asked is told streams recovers = (c.run.ensures.checks asked Done is told streams recovers).whole refl

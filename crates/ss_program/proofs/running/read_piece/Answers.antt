@@ -3,7 +3,7 @@ use Rattle.std.proofs.lemmas.Grind.{common_steps}
 use Rattle.ss_command.specs.Lines.{lines_so_far}
 use Rattle.ss_outside.proofs.StepLemmas.{step-as, step-none}
 use Rattle.ss_program.specs.Outcome.{ReadsPiece}
-use Rattle.ss_program.specs.Progress.{GoesOn, StopsIn, sealing_by}
+use Rattle.ss_program.specs.Progress.{GoesOn, StopsIn}
 use Rattle.ss_program.specs.declared.status.Status.TheVariants.{SourceFault}
 use Rattle.ss_program.proofs.ReadLemmas.{moved, stop-other, unmoved}
 use Rattle.ss_program.proofs.running.read_piece.Goals as goal
@@ -30,10 +30,10 @@ returns-in-Ok-take-clause-reads g c =
     let new = (g.D.Disk.seen c.take.new.disk).told in
     let count = c.in-Ok.count in
     step-as c.in-Ok-take.ensures.takes (λ takes. record {
-      goes = λ bytes is history before input at replied.
+      goes = λ bytes is sealing talk before input at replied.
           let move = moved (g.S.Source.left c.args.source.now) (g.S.Source.left c.read.new.self) count c.read.new.into bytes c.in-Ok.ensures.moves is in
-          subst (λ bs. GoesOn history old new c.take.new.self before (g.K.Sink.held c.take.new.sink) (input ++ bs)) move.1
-          (takes.goes history before input at replied);
+          subst (λ bs. GoesOn sealing talk old new c.take.new.self before (g.K.Sink.held c.take.new.sink) (input ++ bs)) move.1
+          (takes.goes sealing talk before input at replied);
       stops = tt;
     })
 
@@ -45,16 +45,16 @@ returns-in-Err-take-clause-reads g c =
     let status = c.in-Err-take.status in
     step-as c.in-Err-take.ensures.takes (λ takes. record {
       goes = tt;
-      stops = λ _ bytes is history before input at replied.
+      stops = λ _ bytes is sealing talk before input at replied.
           let move = moved (g.S.Source.left c.args.source.now) (g.S.Source.left c.read.new.self) count c.read.new.into bytes c.in-Ok.ensures.moves is in
           let small : count ≤ c.args.room = first_of (search rules, grind (arith, common_steps)) in (
             count,
             small,
             move.0,
             move.2,
-            subst (λ bs. StopsIn (sealing_by c.args.session.now.waiting) history (lines_so_far (input ++ bs)) old new before
+            subst (λ bs. StopsIn sealing talk (lines_so_far (input ++ bs)) old new before
                 (g.K.Sink.held c.take.new.sink) status)
-                move.1 (takes.stops history before input at replied),
+                move.1 (takes.stops sealing talk before input at replied),
           );
     })
 

@@ -8,10 +8,11 @@ use Rattle.ss_outside.specs.Verdict.{Counted}
 use Rattle.ss_store.specs.Recover.{Stands}
 use Rattle.ss_program.specs.Checked.{ChecksContent}
 use Rattle.ss_program.specs.Devices.{over}
-use Rattle.ss_program.specs.Ending.{Ends, IsUnfed, sealing_of}
+use Rattle.ss_program.specs.Ending.{Ends, IsUnfed, served_by, serving}
 use Rattle.ss_program.specs.Generated.{GeneratesFrom}
 use Rattle.ss_program.specs.Outcome.{Reads, Serves, ServesInput}
 use Rattle.ss_program.specs.Status.{source_verdict}
+use Rattle.ss_program.specs.Talk.{begun}
 use Rattle.ss_program.specs.declared.status.Status.TheVariants.{OutOfMemory}
 use Rattle.ss_program.proofs.EndLemmas.{Completes-calm, by-number, has-numbers, source-calm}
 use Rattle.ss_program.proofs.OpeningLemmas.{Serves-unopened}
@@ -40,15 +41,15 @@ pub returns-in-Ok-Some-clause-reads : goal.returns-in-Ok-Some-clause-reads
 returns-in-Ok-Some-clause-reads g c asked status is input left =
     let known : mode_of (words_of c.args.words.now) ≡ Some c.in-Ok-Some.mode = sym c.in-Ok-Some.ensures.mode ∙ c.in-Ok-Some.field-0-is in
     by-number (λ s. Reads input (g.S.Source.left c.run_mode.new.source) s) c.number.result c.run_mode.result c.number.ensures
-    (c.run_mode.ensures.reads (subst (λ m. IsSome (sealing_of m)) known asked) input left) status is
+    (c.run_mode.ensures.reads (subst (λ m. IsSome (served_by m)) known asked) input left) status is
 
 pub returns-in-Ok-Some-clause-serves : goal.returns-in-Ok-Some-clause-serves
-returns-in-Ok-Some-clause-serves g c sealing asked status is input left =
+returns-in-Ok-Some-clause-serves g c form sealing asked status is input left =
     let known : mode_of (words_of c.args.words.now) ≡ Some c.in-Ok-Some.mode = sym c.in-Ok-Some.ensures.mode ∙ c.in-Ok-Some.field-0-is in
     by-number (λ s. Between (g.D.Disk.seen c.args.disk.now) (g.D.Disk.seen c.run_mode.new.disk)
-    (ServesInput sealing input (g.S.Source.left c.run_mode.new.source) (g.K.Sink.held c.args.sink.now) (g.K.Sink.held c.run_mode.new.sink) s))
+    (ServesInput form sealing input (g.S.Source.left c.run_mode.new.source) (g.K.Sink.held c.args.sink.now) (g.K.Sink.held c.run_mode.new.sink) s))
     c.number.result c.run_mode.result c.number.ensures
-    (c.run_mode.ensures.serves sealing (subst (λ m. sealing_of m ≡ Some sealing) known asked) input left) status is
+    (c.run_mode.ensures.serves form sealing (subst (λ m. served_by m ≡ Some (serving form sealing)) known asked) input left) status is
 
 pub returns-in-Ok-Some-clause-checks : goal.returns-in-Ok-Some-clause-checks
 returns-in-Ok-Some-clause-checks g c asked status is =
@@ -69,7 +70,7 @@ pub returns-in-Ok-Some-clause-unfed : goal.returns-in-Ok-Some-clause-unfed
 returns-in-Ok-Some-clause-unfed g c asked status is =
     let known : mode_of (words_of c.args.words.now) ≡ Some c.in-Ok-Some.mode = sym c.in-Ok-Some.ensures.mode ∙ c.in-Ok-Some.field-0-is in
     by-number (λ s. IsUnfed (g.K.Sink.held c.args.sink.now) (g.K.Sink.held c.run_mode.new.sink) s) c.number.result c.run_mode.result c.number.ensures
-    (c.run_mode.ensures.unfed (subst (λ m. sealing_of m ≡ None) known asked)) status is
+    (c.run_mode.ensures.unfed (subst (λ m. served_by m ≡ None) known asked)) status is
 
 pub returns-in-Ok-Some-clause-completes : goal.returns-in-Ok-Some-clause-completes
 returns-in-Ok-Some-clause-completes g c _ status is told fits limit calm_disk calm_source calm_sink =
@@ -100,11 +101,11 @@ returns-in-Err-clause-unfed g c other status is =
 
 -- memory ran out before the disk was called
 pub returns-in-Err-clause-serves : goal.returns-in-Err-clause-serves
-returns-in-Err-clause-serves g c sealing asked status is input left told none history stands =
+returns-in-Err-clause-serves g c form sealing asked status is input left told none history stands =
     let disk = (g.D.Disk.seen c.args.disk.now).told in
     let before = g.K.Sink.held c.args.sink.now in
     let knows = g.met.D.Disk.knows_now c.args.disk.now told in
-    by-number (λ s. Serves sealing history input (g.S.Source.left c.args.source.now) before before disk disk s) c.number-in-Err.result OutOfMemory
+    by-number (λ s. Serves sealing (begun form history) input (g.S.Source.left c.args.source.now) before before disk disk s) c.number-in-Err.result OutOfMemory
     c.number-in-Err.ensures
-    (Serves-unopened sealing history input (g.S.Source.left c.args.source.now) before before disk disk OutOfMemory (inr refl) left refl knows
+    (Serves-unopened sealing (begun form history) input (g.S.Source.left c.args.source.now) before before disk disk OutOfMemory (inr refl) left refl knows
     (at_start disk (Stands history) knows (of_content disk (Stands history) none stands))) status is

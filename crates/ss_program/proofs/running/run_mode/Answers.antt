@@ -2,9 +2,10 @@ use Rattle.std.proofs.Common.{◌≡◌, ◌∙◌, Some, sym, subst, ap}
 use Rattle.ss_arguments.specs.declared.mode.Mode.{Mode}
 use Rattle.ss_arguments.specs.declared.mode.Mode.TheVariants.{Gen}
 use Rattle.ss_outside.specs.Disk.{Between}
-use Rattle.ss_program.specs.Ending.{HasNumbers, sealing_of}
+use Rattle.ss_program.specs.Ending.{HasNumbers, Serving, served_by, serving}
 use Rattle.ss_program.specs.Generated.{GeneratesFrom}
 use Rattle.ss_program.specs.Outcome.{ServesInput}
+use Rattle.ss_arguments.specs.declared.mode.Form.{Form}
 use Rattle.ss_arguments.specs.declared.mode.Sealing.{Sealing}
 use Rattle.ss_program.proofs.running.run_mode.Goals as goal
 
@@ -14,18 +15,19 @@ generate-requires-clause-some g c = (subst (λ m. HasNumbers m) c.in-Gen.is c.re
 pub generate-requires-clause-few : goal.generate-requires-clause-few
 generate-requires-clause-few g c = (subst (λ m. HasNumbers m) c.in-Gen.is c.requires).1
 
--- a run over the source is of the sealing that the mode asks for
-as_asked : (P : Sealing → Type 0) (mode : Mode) (found sealing : Sealing) → sealing_of (Some mode) ≡ Some found → sealing_of (Some mode) ≡ Some sealing →
-    P found → P sealing
-as_asked P mode found sealing is asked has =
-    let same : found ≡ sealing = cc in
-    subst P same has
+-- a run over the source is as the mode asks for
+as_asked : (P : Form → Sealing → Type 0) (mode : Mode) (found form : Form) (seals sealing : Sealing) → served_by (Some mode) ≡ Some (serving found seals) →
+    served_by (Some mode) ≡ Some (serving form sealing) → P found seals → P form sealing
+as_asked P mode found form seals sealing is asked has =
+    let same : serving found seals ≡ serving form sealing = cc in
+    subst (λ (s : Serving). P s.form s.sealing) same has
 
 pub returns-in-Serve-clause-serves : goal.returns-in-Serve-clause-serves
-returns-in-Serve-clause-serves g c sealing asked input left =
-    as_asked (λ s. Between (g.D.Disk.seen c.args.disk.now) (g.D.Disk.seen c.run_source.new.disk)
-    (ServesInput s input (g.S.Source.left c.run_source.new.source) (g.K.Sink.held c.args.sink.now) (g.K.Sink.held c.run_source.new.sink)
-    c.run_source.result)) c.args.mode c.in-Serve.sealing sealing (ap (λ m. sealing_of (Some m)) c.in-Serve.is) asked (c.run_source.ensures.serves input left)
+returns-in-Serve-clause-serves g c form sealing asked input left =
+    as_asked (λ f s. Between (g.D.Disk.seen c.args.disk.now) (g.D.Disk.seen c.run_source.new.disk)
+    (ServesInput f s input (g.S.Source.left c.run_source.new.source) (g.K.Sink.held c.args.sink.now) (g.K.Sink.held c.run_source.new.sink)
+    c.run_source.result)) c.args.mode c.in-Serve.form form c.in-Serve.sealing sealing (ap (λ m. served_by (Some m)) c.in-Serve.is) asked
+    (c.run_source.ensures.serves input left)
 
 pub returns-in-Gen-clause-generates : goal.returns-in-Gen-clause-generates
 returns-in-Gen-clause-generates g c seed count is =

@@ -5,7 +5,8 @@ use Rattle.ss_outside.specs.Disk.{NothingPending}
 use Rattle.ss_store.specs.Recover.{Stands}
 use Rattle.ss_program.specs.Line.{History}
 use Rattle.ss_program.specs.Outcome.{Serves}
-use Rattle.ss_program.specs.Progress.{StopsIn, sealing_by}
+use Rattle.ss_program.specs.Progress.{sealing_by}
+use Rattle.ss_program.specs.Talk.{begun}
 use Rattle.ss_program.specs.declared.status.Status.TheVariants.{InputLimit, SourceFault}
 use Rattle.ss_program.proofs.SendLemmas.{appended-nil}
 use Rattle.ss_program.proofs.StepLemmas.{step-told}
@@ -23,13 +24,12 @@ loop-done-init g c =
     record {
       fits = omega arith;
       is_open = c.requires.open;
-      sealing = refl;
       left = λ input is. record { within = omega arith; source = is };
       through = step-none disk (λ old now. (input : List ℕ) → left ≡ Some input → NothingPending old → (history : History) →
-          Stands history old.content → IsThrough history old now c.args.session.now before before left input 0)
+          Stands history old.content → IsThrough (sealing_by c.args.session.now.waiting) (begun c.args.session.now.form history) old now c.args.session.now before before left input 0)
           (λ told input is none history stands.
-          IsThrough-start history disk.told c.args.session.now before left input (g.met.D.Disk.knows_now c.args.disk.now told)
-          (record { stands = stands; durable = none; line = c.requires.front; unsaid = c.requires.unsaid }) (sym (appended-nil before)) is);
+          IsThrough-start (sealing_by c.args.session.now.waiting) (begun c.args.session.now.form history) disk.told c.args.session.now before left input (g.met.D.Disk.knows_now c.args.disk.now told)
+          (record { stands = stands; durable = none; line = c.requires.front; unsaid = c.requires.unsaid; seals = refl; form = refl; cursors = c.requires.cursors }) (sym (appended-nil before)) is);
       source = refl;
       sink = refl;
     }
@@ -45,7 +45,6 @@ loop-done-preserved g c =
     record {
       fits = omega (arith, c.in-Ok.ensures.count, inv.fits);
       is_open = c.in-Ok.ensures.open;
-      sealing = c.read_piece.ensures.sealing ∙ inv.sealing;
       left = λ input is.
           let at = inv.left input is in
           let moves = c.in-Ok.ensures.moves (drop done input) at.source in
@@ -54,9 +53,9 @@ loop-done-preserved g c =
           let one = first input is none history stands in
           let rest = drop done input in
           let moves = c.in-Ok.ensures.moves rest one.source in
-          IsThrough-more history old mid new c.loop-done.session c.read_piece.new.session (g.K.Sink.held c.args.sink.now) (g.K.Sink.held c.loop-done.sink)
+          IsThrough-more (sealing_by c.args.session.now.waiting) (begun c.args.session.now.form history) old mid new c.loop-done.session c.read_piece.new.session (g.K.Sink.held c.args.sink.now) (g.K.Sink.held c.loop-done.sink)
           (g.K.Sink.held c.read_piece.new.sink) (g.S.Source.left c.loop-done.source) after_left input done c.in-Ok.count one moves.0 moves.2
-          (second.goes rest one.source history (g.K.Sink.held c.args.sink.now) (take done input) one.on.at one.on.replied));
+          (second.goes rest one.source (sealing_by c.args.session.now.waiting) (begun c.args.session.now.form history) (g.K.Sink.held c.args.sink.now) (take done input) one.on.at one.on.replied));
       source = c.in-Ok.ensures.source ∙ inv.source;
       sink = c.in-Ok.ensures.sink ∙ inv.sink;
     }
@@ -85,14 +84,14 @@ returns-in-Ok-eq0-clause-serves g c =
     let inv = c.loop-done.invariant in
     let read = step-then {S = λ a b. (input : List ℕ) → g.S.Source.left c.args.source.now ≡ Some input → NothingPending a →
     (history : History) → Stands history a.content →
-    IsThrough history a b c.read_piece.new.session before (g.K.Sink.held c.read_piece.new.sink) left input (n + k)}
+    IsThrough (sealing_by c.args.session.now.waiting) (begun c.args.session.now.form history) a b c.read_piece.new.session before (g.K.Sink.held c.read_piece.new.sink) left input (n + k)}
     inv.through c.in-Ok-eq0.ensures.reads (λ first second input is none history stands.
     let one = first input is none history stands in
     let rest = drop n input in
     let moves = c.in-Ok-eq0.ensures.moves rest one.source in
-    IsThrough-more history old mid then.told c.loop-done.session c.read_piece.new.session before (g.K.Sink.held c.loop-done.sink)
+    IsThrough-more (sealing_by c.args.session.now.waiting) (begun c.args.session.now.form history) old mid then.told c.loop-done.session c.read_piece.new.session before (g.K.Sink.held c.loop-done.sink)
     (g.K.Sink.held c.read_piece.new.sink) (g.S.Source.left c.loop-done.source) left input n k one moves.0 moves.2
-    (second.goes rest one.source history before (take n input) one.on.at one.on.replied)) in
+    (second.goes rest one.source (sealing_by c.args.session.now.waiting) (begun c.args.session.now.form history) before (take n input) one.on.at one.on.replied)) in
     step-told read c.finish.ensures.ends (λ tells through ends input is none history stands.
     let at = inv.left input is in
     let rest = drop n input in
@@ -102,11 +101,10 @@ returns-in-Ok-eq0-clause-serves g c =
     let end = IsThrough-end left (through input is none history stands) (omega (arith, all)) (omega (arith, all, inv.fits))
     (left-none left rest k empty moves.2) in
     let sealing = sealing_by c.args.session.now.waiting in
-    let same = c.read_piece.ensures.sealing ∙ inv.sealing in
+    let talk = begun c.args.session.now.form history in
     Serves-finish sealing (g.D.Disk.seen c.finish.new.disk).told (g.K.Sink.held c.finish.new.sink) then.tells c.finish.result tells end c.finish.ensures.status
-    (λ is_done. ends.done is_done history before input end.on.at end.on.replied) (λ stop.
-    subst (λ s. StopsIn s history (lines input) then.told (g.D.Disk.seen c.finish.new.disk).told before (g.K.Sink.held c.finish.new.sink) c.finish.result) same
-    (ends.stops (stop-other then.tells c.finish.result stop).0 history before input end.on.at end.on.replied)))
+    (λ is_done. ends.done is_done sealing talk before input end.on.at end.on.replied)
+    (λ stop. ends.stops (stop-other then.tells c.finish.result stop).0 sealing talk before input end.on.at end.on.replied))
 
 pub returns-in-Err-clause-reads : goal.returns-in-Err-clause-reads
 returns-in-Err-clause-reads g c input is =
@@ -131,17 +129,16 @@ returns-in-Err-clause-serves g c =
     let sealing = sealing_by c.args.session.now.waiting in
     step-told inv.through c.in-Err.ensures.reads (λ tells first second input is none history stands.
     let old = first input is none history stands in
+    let talk = begun c.args.session.now.form history in
     elim c.in-Err.ensures.status [
       | inl fault ↦ (let same = c.in-Err.ensures.fault fault in
-          subst (λ o. Serves sealing history input left before o start new status) (sym same.2)
-          (subst (λ d. Serves sealing history input left before (g.K.Sink.held c.loop-done.sink) start (g.D.Disk.seen d).told status) (sym same.3)
+          subst (λ o. Serves sealing talk input left before o start new status) (sym same.2)
+          (subst (λ d. Serves sealing talk input left before (g.K.Sink.held c.loop-done.sink) start (g.D.Disk.seen d).told status) (sym same.3)
           (Serves-part sealing status left old inv.fits (inl (fault, same.0)))))
-      | inr stop ↦ Serves-stop sealing history input left before after start new mid.tells status tells stop
-          (HasStopped-piece sealing history start mid.told new c.loop-done.session input (g.S.Source.left c.loop-done.source) left
+      | inr stop ↦ Serves-stop sealing talk input left before after start new mid.tells status tells stop
+          (HasStopped-piece sealing talk start mid.told new c.loop-done.session input (g.S.Source.left c.loop-done.source) left
           before (g.K.Sink.held c.loop-done.sink) after status n (68719476736 - n) old (omega (arith, inv.fits))
-          (subst (λ s. (count : ℕ) × (count ≤ 68719476736 - n) × (count ≤ length (drop n input)) × (left ≡ Some (drop count (drop n input)))
-          × StopsIn s history (lines_so_far (take n input ++ take count (drop n input))) mid.told new before after status) inv.sealing
-          (second.stops (stop-other mid.tells status stop).2 (drop n input) old.source history before (take n input) old.on.at old.on.replied)))
+          (second.stops (stop-other mid.tells status stop).2 (drop n input) old.source sealing talk before (take n input) old.on.at old.on.replied))
     ])
 
 pub returns-in-Err-is_at_end-clause-reads : goal.returns-in-Err-is_at_end-clause-reads
@@ -177,14 +174,14 @@ returns-in-Ok-true-clause-serves g c =
     let ends = c.in-Ok-true.ensures.ends (drop c.loop-done.done input) one.source c.in-Ok-true.field-0-test in
     let all = length_of-none input c.loop-done.done ends.0 in
     let end = IsThrough-end (g.S.Source.left c.is_at_end.new.source) one all (omega (arith, all, c.loop-done.invariant.fits)) ends.1 in
-    Serves-finish (sealing_by c.args.session.now.waiting) (g.D.Disk.seen c.finish-in-Ok-true.new.disk).told (g.K.Sink.held c.finish-in-Ok-true.new.sink)
+    let sealing = sealing_by c.args.session.now.waiting in
+    let talk = begun c.args.session.now.form history in
+    Serves-finish sealing (g.D.Disk.seen c.finish-in-Ok-true.new.disk).told (g.K.Sink.held c.finish-in-Ok-true.new.sink)
     (g.D.Disk.seen c.loop-done.disk).tells
-    c.finish-in-Ok-true.result tells end c.finish-in-Ok-true.ensures.status (λ is_done. finished.done is_done history before input end.on.at end.on.replied)
-    (λ stop.
-    subst (λ s. StopsIn s history (lines input) (g.D.Disk.seen c.loop-done.disk).told (g.D.Disk.seen c.finish-in-Ok-true.new.disk).told before
-    (g.K.Sink.held c.finish-in-Ok-true.new.sink) c.finish-in-Ok-true.result) c.loop-done.invariant.sealing
-    (finished.stops (stop-other (g.D.Disk.seen c.loop-done.disk).tells c.finish-in-Ok-true.result stop).0 history before input end.on.at
-    end.on.replied)))
+    c.finish-in-Ok-true.result tells end c.finish-in-Ok-true.ensures.status
+    (λ is_done. finished.done is_done sealing talk before input end.on.at end.on.replied)
+    (λ stop. finished.stops (stop-other (g.D.Disk.seen c.loop-done.disk).tells c.finish-in-Ok-true.result stop).0 sealing talk before input end.on.at
+    end.on.replied))
 
 pub returns-in-Ok-false-clause-reads : goal.returns-in-Ok-false-clause-reads
 returns-in-Ok-false-clause-reads g c input is =

@@ -2,11 +2,11 @@ use Rattle.std.proofs.Common.{◌≡◌, ◌∙◌, Err, sym, subst, rules}
 use Rattle.ss_journal.proofs.ShownLemmas.{shown-sealed}
 use Rattle.ss_outside.proofs.StepLemmas.{step-as}
 use Rattle.ss_outside.specs.Step.{Step}
+use Rattle.ss_program.specs.Amid.{TakesBrought, amid, owed_by}
 use Rattle.ss_program.specs.Line.{History, command_brings}
-use Rattle.ss_program.specs.Shared.{TakesBrought, amid}
 use Rattle.ss_program.specs.Status.{disk_verdict, ended}
-use Rattle.ss_program.proofs.SharedLemmas.{TakesLines-then}
-use Rattle.ss_program.proofs.SharedLines.{TakesBrought-rows, TakesBrought-unsealed, shown-opened}
+use Rattle.ss_program.specs.Talk.{Talk, turn_brought}
+use Rattle.ss_program.proofs.BroughtLemmas.{TakesBrought-rows, TakesTurn-next, TakesTurn-unsealed, shown-opened}
 use Rattle.ss_program.proofs.StepLemmas.{step-told}
 use Rattle.ss_program.proofs.staging.show_rows.Goals as goal
 
@@ -14,12 +14,13 @@ pub returns-in_err-flush-clause-takes : goal.returns-in_err-flush-clause-takes
 returns-in_err-flush-clause-takes g c =
     let old = g.D.Disk.seen c.args.disk.now in
     let new = g.D.Disk.seen c.flush.new.disk in
-    let from = amid c.args.store.now.records c.args.waiting.now (g.K.Sink.held c.args.sink.now) in
-    let to = amid c.flush.new.store.records c.flush.new.waiting (g.K.Sink.held c.flush.new.sink) in
+    let from = amid c.args.store.now.records (owed_by c.args.waiting.now) (g.K.Sink.held c.args.sink.now) in
+    let to = amid c.flush.new.store.records (owed_by c.flush.new.waiting) (g.K.Sink.held c.flush.new.sink) in
     let status = c.in_err-flush.field-0.0 in
     let same : c.from_residual.result ≡ Err status = search rules in
     subst (λ r. Step (disk_verdict (ended r)) old new (TakesBrought (λ history. command_brings history c.args.command.now) from to r)) (sym same)
-    (step-as c.in_err-flush.ensures.takes (λ takes. TakesBrought-unsealed (λ history. command_brings history c.args.command.now) status takes))
+    (step-as c.in_err-flush.ensures.takes (λ takes.
+    TakesTurn-unsealed (λ (talk : Talk). turn_brought talk (command_brings talk.history c.args.command.now)) status takes))
 
 pub returns-clause-takes : goal.returns-clause-takes
 returns-clause-takes g c =
@@ -33,7 +34,8 @@ returns-clause-takes g c =
     let flushed = c.in_ok-flush.ensures in
     let brought = λ (history : History). command_brings history c.args.command.now in
     let rows = c.obey.ensures in
-    step-told flushed.takes rows.adds (λ told first second line same. TakesLines-then c.obey.result first
+    step-told flushed.takes rows.adds (λ told first second.
+    TakesTurn-next (λ (talk : Talk). turn_brought talk (brought talk.history)) tt c.obey.result first
     (TakesBrought-rows brought c.flush.new.waiting held after mid.told new.told (g.met.D.Disk.knows_now c.obey.new.disk (rows.adds.tells ∙ told)) flushed.none
     (shown-sealed was.journal mid.told.content flushed.open.sealed) c.requires.no_event c.obey.result
-    (shown-opened new c.obey.new.store c.obey.result rows.opens) second (rows.replies told) line same))
+    (shown-opened new c.obey.new.store c.obey.result rows.opens) second (rows.replies told)))

@@ -15,11 +15,11 @@ use Rattle.ss_report.specs.declared.reply.Reply.TheVariants.{Done, Refused}
 use Rattle.ss_store.proofs.FoundAlike.{refuses-kept, said-kept}
 use Rattle.ss_store.specs.Recover.{Stands}
 use Rattle.ss_program.specs.Line.{Brought, History, command_brings}
-use Rattle.ss_program.specs.Shared.{StagesBrought}
+use Rattle.ss_program.specs.Amid.{StagesBrought}
 use Rattle.ss_program.specs.declared.status.Status.{Status}
 use Rattle.ss_program.specs.declared.status.Status.TheVariants.{DiskFault}
 use Rattle.ss_program.proofs.AnswerLemmas.{IsSome-accepted, brings-accepted, brings-refused}
-use Rattle.ss_program.proofs.SharedStaging.{Turns-looked, Turns-staged, accepted-shown, shown-still}
+use Rattle.ss_program.proofs.StagingLemmas.{Turns-looked, Turns-staged, accepted-shown, shown-still}
 use Rattle.ss_program.proofs.staging.stage.Goals as goal
 
 pub returns-in-Ok-clause-stages : goal.returns-in-Ok-clause-stages

@@ -1,45 +1,50 @@
-use Rattle.std.proofs.Common.{◌≡◌, ◌∙◌, Err, Ok, sym, subst, rules}
+use Rattle.std.proofs.Common.{◌≡◌, ◌∙◌, Err, Ok, refl, sym, subst, rules}
 use Rattle.ss_command.specs.declared.command.Command.TheVariants.{Ask}
 use Rattle.ss_outside.specs.Step.{Step}
-use Rattle.ss_program.specs.Line.{command_brings}
-use Rattle.ss_program.specs.Shared.{TakesBrought, amid}
+use Rattle.ss_program.specs.Amid.{TakesBrought, amid, owed_by}
+use Rattle.ss_program.specs.Line.{History, command_brings}
 use Rattle.ss_program.specs.Status.{disk_verdict, ended}
-use Rattle.ss_program.proofs.SharedLines.{TakesBrought-held, TakesBrought-stopped}
-use Rattle.ss_program.proofs.SharedStaging.{Stages-asked}
-use Rattle.ss_program.proofs.SharedStops.{going-disk}
+use Rattle.ss_program.specs.Talk.{Talk, turn_brought}
+use Rattle.ss_program.proofs.AnswerLemmas.{ask-some}
+use Rattle.ss_program.proofs.BroughtLemmas.{TakesBrought-owed, TakesBrought-stopped, TakesTurn-said}
+use Rattle.ss_program.proofs.StagingLemmas.{Stages-asked}
+use Rattle.ss_program.proofs.StepLemmas.{step-told}
+use Rattle.ss_program.proofs.StopLemmas.{going-disk}
 use Rattle.ss_program.proofs.staging.take_query.Goals as goal
 
 pub returns-in_err-reply-clause-takes : goal.returns-in_err-reply-clause-takes
-returns-in_err-reply-clause-takes g c held =
+returns-in_err-reply-clause-takes g c =
     let old = g.D.Disk.seen c.args.disk.now in
     let new = g.D.Disk.seen c.ask.new.disk in
+    let held = g.K.Sink.held c.args.sink.now in
     let query = c.args.query.now in
+    let brought = λ (history : History). command_brings history (Ask query) in
     let was = c.args.store.now.records in
     let is = c.ask.new.store.records in
     let waiting = c.args.waiting.now in
+    let to = amid is (owed_by waiting) held in
     let status = c.in_err-reply.field-0.0 in
     let same : c.from_residual.result ≡ Err status = search rules in
     let asks = c.in_err-reply.ensures.asks in
-    subst (λ r. Step (disk_verdict (ended r)) old new (TakesBrought (λ history. command_brings history (Ask query)) (amid was waiting held)
-    (amid is waiting held) r)) (sym same) (record {
+    subst (λ r. Step (disk_verdict (ended r)) old new (TakesBrought brought (amid was (owed_by waiting) held) to r)) (sym same) (record {
       tells = asks.tells;
       counted = asks.counted;
-      told = λ told. TakesBrought-stopped (λ history. command_brings history (Ask query)) waiting waiting held old.told new.told
-          (g.met.D.Disk.knows_now c.ask.new.disk (asks.tells ∙ told)) status (going-disk old.tells status c.in_err-reply.ensures.status)
+      told = λ told. TakesBrought-stopped brought was is waiting held old.told new.told (g.met.D.Disk.knows_now c.ask.new.disk (asks.tells ∙ told)) to status
+          refl (going-disk old.tells status c.in_err-reply.ensures.status) (λ history stands. ask-some history query)
           (Stages-asked query (Err status) old.told new.told (g.met.D.Disk.knows_now c.args.disk.now told) tt (asks.told told));
     })
 
 pub returns-clause-takes : goal.returns-clause-takes
-returns-clause-takes g c held =
+returns-clause-takes g c =
     let old = g.D.Disk.seen c.args.disk.now in
-    let new = g.D.Disk.seen c.ask.new.disk in
+    let mid = g.D.Disk.seen c.ask.new.disk in
     let query = c.args.query.now in
+    let brought = λ (history : History). command_brings history (Ask query) in
     let asks = c.in_ok-reply.ensures.asks in
     let reply = c.in_ok-reply.reply in
-    record {
-      tells = asks.tells;
-      counted = asks.counted;
-      told = λ told. TakesBrought-held (λ history. command_brings history (Ask query)) c.args.waiting.now c.hold.new.self held old.told new.told
-          (g.met.D.Disk.knows_now c.ask.new.disk (asks.tells ∙ told)) reply tt c.hold.ensures
-          (Stages-asked query (Ok reply) old.told new.told (g.met.D.Disk.knows_now c.args.disk.now told) c.in_ok-reply.ensures.journal (asks.told told));
-    }
+    step-told asks c.say.ensures.takes (λ told first second.
+    TakesTurn-said (λ (talk : Talk). turn_brought talk (brought talk.history)) tt c.say.result
+    (TakesBrought-owed brought c.args.store.now.records c.ask.new.store.records c.args.waiting.now (g.K.Sink.held c.args.sink.now) old.told mid.told
+    (g.met.D.Disk.knows_now c.ask.new.disk told) reply tt
+    (Stages-asked query (Ok reply) old.told mid.told (g.met.D.Disk.knows_now c.args.disk.now (sym asks.tells ∙ told)) c.in_ok-reply.ensures.journal first))
+    second)

@@ -1,0 +1,170 @@
+-- Between two lines of a session: how it begins, how it goes on, and where a run stops.
+use Rattle.std.proofs.Common.{◌≡◌, ℕ, ◌+◌, ◌≤◌, ◌++◌, List, [], ◌∷◌, length, Option, Some, None, Result, Ok, Err, refl, sym, ap, ◌∙◌, subst, append_assoc, arith}
+use Rattle.std.proofs.lemmas.List.{append-nil, length-append}
+use Rattle.std.specs.Prelude.{suc}
+use Rattle.ss_outside.proofs.CrashLemmas.{at_start, joined, of_content, weaker}
+use Rattle.ss_outside.specs.Crash.{KnowsNow, LeavesOnly}
+use Rattle.ss_outside.specs.Disk.{DiskView, NothingPending, Told}
+use Rattle.ss_records.specs.Kept.{RecordsState, shown_by}
+use Rattle.ss_store.specs.Kept.{StoreState}
+use Rattle.ss_store.specs.Recover.{Stands}
+use Rattle.ss_program.specs.Amid.{Amid, AreOwed, GoesAmid, HasRoom, IsAmid, IsReady, Takes, TakesNone, amid, one_more, owed_by}
+use Rattle.ss_program.specs.Answer.{IsOpen}
+use Rattle.ss_program.specs.Progress.{IsAlone, NoneWait, StandsBeyond, StandsWithin, StopsIn, sealing_by}
+use Rattle.ss_program.specs.Sent.{appended}
+use Rattle.ss_program.specs.Session.{after_lines, text_of}
+use Rattle.ss_program.specs.Talk.{Talk}
+use Rattle.ss_arguments.specs.declared.mode.Sealing.{Sealing}
+use Rattle.ss_arguments.specs.declared.mode.Sealing.TheVariants.{Each, Shared}
+use Rattle.ss_program.specs.declared.status.Status.{Status}
+use Rattle.ss_program.proofs.SessionLemmas.{StandsWithin-more, StopsIn-more, after_lines-append, moments-more, text_of-append}
+
+-- where none wait, no line is owed anything; which tells how events come to the disk
+pub AreOwed-none : (sealing : Sealing) (waiting : Option (List ℕ)) → sealing_by waiting ≡ sealing → AreOwed sealing (owed_by waiting).lines []
+AreOwed-none Each None is = refl
+AreOwed-none Each (Some replies) is = cc
+AreOwed-none Shared None is = cc
+AreOwed-none Shared (Some replies) is = tt
+
+pub sealing-owed : (sealing : Sealing) (waiting : Option (List ℕ)) (ls : List (List ℕ)) → AreOwed sealing (owed_by waiting).lines ls →
+    sealing_by waiting ≡ sealing
+sealing-owed Each None ls few = refl
+sealing-owed Each (Some replies) ls few = absurd few
+sealing-owed Shared None ls few = absurd few
+sealing-owed Shared (Some replies) ls few = refl
+
+pub owed-nothing : (waiting : Option (List ℕ)) → NoneWait waiting → (owed_by waiting).text ≡ []
+owed-nothing None none = refl
+owed-nothing (Some replies) none = none
+
+-- one line more is
+pub AreOwed-more : (sealing : Sealing) (lines : Option ℕ) (ls : List (List ℕ)) (line : List ℕ) → AreOwed sealing lines ls →
+    AreOwed sealing (one_more lines) (ls ++ line ∷ [])
+AreOwed-more Each None ls line few = few
+AreOwed-more Each (Some n) ls line few = omega (arith, few, length-append ls (line ∷ []))
+AreOwed-more Shared None ls line few = tt
+AreOwed-more Shared (Some n) ls line few = few
+
+-- a store that can be called, with nothing staged and nothing that waits
+pub IsReady-open : (disk : DiskView) (store : StoreState) (waiting : Option (List ℕ)) → IsOpen disk store → IsReady disk store waiting
+IsReady-open disk store None opens = record { serves = opens.serves; staged = opens.sealed }
+IsReady-open disk store (Some replies) opens = record { serves = opens.serves; staged = tt }
+
+pub HasRoom-none : (waiting : Option (List ℕ)) → NoneWait waiting → HasRoom waiting
+HasRoom-none None none = tt
+HasRoom-none (Some replies) none = let short = ap (λ (r : List ℕ). length r) none in omega (arith, short)
+
+-- an image of some first lines of the rest is one of some first lines of all
+StandsWithin-out : (talk : Talk) (out rest : List (List ℕ)) (image : List ℕ) → StandsWithin (after_lines talk out) rest image →
+    StandsWithin talk (out ++ rest) image
+StandsWithin-out talk out rest image some = (
+  out ++ some.0,
+  some.1,
+  ap (λ ls. out ++ ls) some.2 ∙ sym (append_assoc out some.0 some.1),
+  subst (λ (t : Talk). Stands t.history image) (sym (after_lines-append talk out some.0)) some.3,
+)
+
+-- and nothing need be sent of what is said to them
+pub StandsBeyond-none : (talk : Talk) (ls : List (List ℕ)) (image : List ℕ) → StandsWithin talk ls image → StandsBeyond talk ls 0 image
+StandsBeyond-none talk ls image some = (some.0, some.1, some.2, omega arith, some.3)
+
+-- an image of all lines, to which so many bytes were sent
+pub StandsBeyond-all : (talk : Talk) (ls : List (List ℕ)) (bytes : ℕ) (image : List ℕ) → bytes ≤ length (text_of talk ls) →
+    Stands (after_lines talk ls).history image → StandsBeyond talk ls bytes image
+StandsBeyond-all talk ls bytes image few stands = (ls, [], sym (append-nil ls), few, stands)
+
+-- the moments of the rest of some lines
+pub moments-out : (talk : Talk) (old new : Told) (ls out rest : List (List ℕ)) → ls ≡ out ++ rest →
+    LeavesOnly old new (StandsWithin (after_lines talk out) rest) → LeavesOnly old new (StandsWithin talk ls)
+moments-out talk old new ls out rest are run =
+    subst (λ l. LeavesOnly old new (StandsWithin talk l)) (sym are)
+    (weaker old new (StandsWithin (after_lines talk out) rest) (StandsWithin talk (out ++ rest)) (StandsWithin-out talk out rest) run)
+
+module _ (sealing : Sealing) (talk : Talk) (ls ms : List (List ℕ)) (before : Option (List ℕ)) (first : Amid) (old mid new : Told) where
+  -- a session goes on from where it came to, or stops after it
+  pub GoesAmid-then : (second : Amid) → GoesAmid sealing talk ls before first old mid → GoesAmid sealing talk (ls ++ ms) before second mid new →
+      GoesAmid sealing talk (ls ++ ms) before second old new
+  GoesAmid-then second one two = record {
+    amid = two.amid;
+    any_moment = joined old mid new (StandsWithin talk (ls ++ ms)) (moments-more talk old mid ls ms one.any_moment) two.any_moment;
+  }
+
+  pub StopsIn-after : (after : Option (List ℕ)) (status : Status) → GoesAmid sealing talk ls before first old mid →
+      StopsIn sealing talk (ls ++ ms) mid new before after status → StopsIn sealing talk (ls ++ ms) old new before after status
+  StopsIn-after after status one two = record {
+    at = two.at;
+    any_moment = joined old mid new (StandsWithin talk (ls ++ ms)) (moments-more talk old mid ls ms one.any_moment) two.any_moment;
+  }
+
+-- no line was taken
+pub GoesAmid-none : (sealing : Sealing) (talk : Talk) (ls : List (List ℕ)) (before : Option (List ℕ)) (at : Amid) (disk : Told) → KnowsNow disk →
+    IsAmid sealing talk ls before at disk → GoesAmid sealing talk ls before at disk disk
+GoesAmid-none sealing talk ls before at disk knows is = record {
+  amid = is;
+  any_moment = at_start disk (StandsWithin talk ls) knows
+      (of_content disk (StandsWithin talk ls) is.durable
+      (subst (λ l. StandsWithin talk l disk.content) (sym is.are) (StandsWithin-out talk is.out is.rest disk.content is.within)));
+}
+
+-- where nothing is owed and nothing is staged, the session is between two lines
+pub IsAmid-begin : (sealing : Sealing) (talk : Talk) (ls : List (List ℕ)) (before : Option (List ℕ)) (at : Amid) (disk : Told) →
+    at.owed.text ≡ [] → AreOwed sealing at.owed.lines [] → shown_by at.records disk.content ≡ disk.content →
+    Stands (after_lines talk ls).history disk.content → NothingPending disk → at.held ≡ appended before (text_of talk ls) →
+    at.cursors ≡ (after_lines talk ls).cursors → IsAmid sealing talk ls before at disk
+IsAmid-begin sealing talk ls before at disk none few same stands durable said cursors = record {
+  out = ls;
+  rest = [];
+  are = sym (append-nil ls);
+  said = said;
+  owes = none;
+  few = few;
+  shown = subst (Stands (after_lines talk ls).history) (sym same) stands;
+  within = ([], [], refl, stands);
+  durable = durable;
+  cursors = cursors;
+}
+
+-- where nothing is owed, all was sent
+pub said-all : (sealing : Sealing) (talk : Talk) (ls : List (List ℕ)) (before : Option (List ℕ)) (at : Amid) (disk : Told) →
+    at.owed.text ≡ [] → IsAmid sealing talk ls before at disk → at.held ≡ appended before (text_of talk ls)
+said-all sealing talk ls before at disk none is =
+    let here = text_of talk is.out in
+    is.said
+    ∙ ap (λ (t : List ℕ). appended before t) (sym (append-nil here))
+    ∙ ap (λ (t : List ℕ). appended before (here ++ t)) (sym none ∙ is.owes)
+    ∙ ap (λ (t : List ℕ). appended before t) (sym (text_of-append talk is.out is.rest))
+    ∙ ap (λ l. appended before (text_of talk l)) (sym is.are)
+
+module _ {sealing : Sealing} {talk : Talk} {ls : List (List ℕ)} {before : Option (List ℕ)} {from mid to : Amid} {old between new : Told} where
+  -- lines are taken, and then others
+  pub Takes-then : {more mores : List (List ℕ)} {u : Unit {0}} (result : Result (Unit {0}) Status) →
+      Takes sealing talk ls more before from mid (Ok u) old between → Takes sealing talk (ls ++ more) mores before mid to result between new →
+      Takes sealing talk ls (more ++ mores) before from to result old new
+  Takes-then {more = more} {mores = mores} (Ok u) first second = record {
+    goes = λ at.
+        let one = first.goes at in
+        subst (λ l. GoesAmid sealing talk l before to old new) (append_assoc ls more mores)
+        (GoesAmid-then sealing talk (ls ++ more) mores before mid old between new to one (second.goes one.amid));
+    stops = tt;
+  }
+  Takes-then {more = more} {mores = mores} (Err status) first second = record {
+    goes = tt;
+    stops = λ at.
+        let one = first.goes at in
+        subst (λ l. StopsIn sealing talk l old new before to.held status) (append_assoc ls more mores)
+        (StopsIn-after sealing talk (ls ++ more) mores before mid old between new to.held status one (second.stops one.amid));
+  }
+
+  -- or others alone
+  pub Takes-next : {mores : List (List ℕ)} {u : Unit {0}} (result : Result (Unit {0}) Status) →
+      Takes sealing talk ls [] before from mid (Ok u) old between → Takes sealing talk ls mores before mid to result between new →
+      Takes sealing talk ls mores before from to result old new
+  Takes-next {mores = mores} result first second =
+      Takes-then {more = []} {mores = mores} result first (subst (λ l. Takes sealing talk l mores before mid to result between new) (sym (append-nil ls)) second)
+
+-- none are taken
+pub TakesNone-still : (at : Amid) (disk : Told) (u : Unit {0}) → KnowsNow disk → TakesNone at at (Ok u) disk disk
+TakesNone-still at disk u knows sealing talk ls before = record {
+  goes = λ is. subst (λ l. GoesAmid sealing talk l before at disk disk) (sym (append-nil ls)) (GoesAmid-none sealing talk ls before at disk knows is);
+  stops = tt;
+}

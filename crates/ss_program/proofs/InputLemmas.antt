@@ -1,0 +1,290 @@
+-- Lines of a session and the bytes of its input.
+use Rattle.std.proofs.Common.{
+  ◌≡◌,
+  ℕ,
+  ◌+◌,
+  ◌-◌,
+  ◌≤◌,
+  ◌++◌,
+  List,
+  [],
+  ◌∷◌,
+  length,
+  map,
+  take,
+  drop,
+  Option,
+  Some,
+  None,
+  IfSome,
+  Result,
+  Ok,
+  Err,
+  refl,
+  sym,
+  ap,
+  ◌∙◌,
+  subst,
+  append_assoc,
+  inl,
+  inr,
+}
+use Rattle.std.proofs.Math.Seq.{take-add}
+use Rattle.std.proofs.lemmas.Bool.{cond-true, cond-false, cases_lt, le-leb, lt-leb}
+use Rattle.std.proofs.lemmas.List.{append-nil, map-append, take-append-drop}
+use Rattle.std.specs.Prelude.{OnOk, nat_le}
+use Rattle.ss_command.proofs.LineLemmas.{ended_lines-append}
+use Rattle.ss_command.specs.Lines.{lines, lines_so_far, unended, without_return}
+use Rattle.ss_command.specs.LineState.{Kept, ended_line, kept, unless_long}
+use Rattle.ss_command.specs.declared.TheConstants.{LONGEST_LINE}
+use Rattle.ss_outside.specs.Disk.{Told}
+use Rattle.ss_records.specs.Kept.{RecordsState, shown_by}
+use Rattle.ss_store.specs.Kept.{StoreState}
+use Rattle.ss_store.specs.Recover.{Stands}
+use Rattle.ss_program.specs.Amid.{Amid, GoesAmid, IsAmid, OfAmid, Takes, TakesBytes, TakesLast, TakesNone, TakesTurn, amid, owed_by}
+use Rattle.ss_program.specs.Progress.{EndsSession, HasReplied, HasTaken, NoneWait, SessionState, StopsIn, TakesPiece}
+use Rattle.ss_program.specs.Session.{after_lines}
+use Rattle.ss_program.specs.Line.{Brought}
+use Rattle.ss_program.specs.Talk.{Talk, kept_turn, no_cursors, turn_brought, turn_of}
+use Rattle.ss_arguments.specs.declared.mode.Form.{Form}
+use Rattle.ss_arguments.specs.declared.mode.Sealing.{Sealing}
+use Rattle.ss_program.specs.declared.status.Status.{Status}
+use Rattle.ss_program.specs.declared.status.Status.TheVariants.{Done}
+use Rattle.ss_program.proofs.AmidLemmas.{AreOwed-none, GoesAmid-then, IsAmid-begin, StopsIn-after, owed-nothing, said-all, sealing-owed}
+use Rattle.ss_program.proofs.AnswerLemmas.{kept-brings}
+use Rattle.ss_program.proofs.SendLemmas.{rest-slice}
+use Rattle.ss_program.proofs.SessionLemmas.{StopsIn-more, after_lines-form}
+
+-- a line that has ended and is kept isn't too long
+unless_long-short : (line : List ℕ) → IfSome (unless_long line) (λ bytes. length bytes ≤ LONGEST_LINE)
+unless_long-short line = elim (cases_lt LONGEST_LINE (length line)) [
+  | inl long ↦ (let none = cond-false (nat_le (length line) LONGEST_LINE) (Some line) None (lt-leb (length line) LONGEST_LINE long) in
+      subst (λ (o : Option (List ℕ)). IfSome o (λ bytes. length bytes ≤ LONGEST_LINE)) (sym none) tt)
+  | inr fits ↦ (let some = cond-true (nat_le (length line) LONGEST_LINE) (Some line) None (le-leb (length line) LONGEST_LINE fits) in
+      subst (λ (o : Option (List ℕ)). IfSome o (λ bytes. length bytes ≤ LONGEST_LINE)) (sym some) fits)
+]
+
+pub ended_line-short : (line : Kept) → IfSome (ended_line line) (λ bytes. length bytes ≤ LONGEST_LINE)
+ended_line-short None = tt
+ended_line-short (Some bytes) = unless_long-short (without_return bytes)
+
+-- what a line brings as it is kept is what it brings
+turn-kept : (form : Form) (talk : Talk) (o : Option (List ℕ)) (line : List ℕ) → form ≡ talk.form → o ≡ unless_long line →
+    turn_of talk line ≡ kept_turn form o talk
+turn-kept form talk o line same is = ap (λ (b : Brought). turn_brought talk b) (sym (kept-brings talk.history o line is))
+
+-- a line is taken as it is kept
+pub Takes-kept : {from to : Amid} {result : Result (Unit {0}) Status} {old new : Told} (form : Form) (o : Option (List ℕ)) (line : List ℕ) →
+    TakesTurn (kept_turn form o) from to result old new → o ≡ unless_long line → (sealing : Sealing) (talk : Talk) (ls : List (List ℕ))
+    (before : Option (List ℕ)) → form ≡ talk.form → Takes sealing talk ls (line ∷ []) before from to result old new
+Takes-kept form o line takes is sealing talk ls before same =
+    takes sealing talk ls before line (turn-kept form (after_lines talk ls) o line (same ∙ sym (after_lines-form talk ls)) is)
+
+-- the lines of more input go on from those of an input
+pub lines-more : (taken more : List ℕ) → (rest : List (List ℕ)) × (lines_so_far (taken ++ more) ≡ lines_so_far taken ++ rest)
+lines-more taken more =
+    let front = ended_lines-append taken more in
+    (map without_return front.0, ap (λ ls. map without_return ls) front.1 ∙ map-append without_return _ front.0)
+
+-- a line of a piece at which the run stopped
+pub Stops-piece : (sealing : Sealing) (talk : Talk) (old new : Told) (before after : Option (List ℕ)) (status : Status) (input piece line : List ℕ)
+    (count : ℕ) → lines_so_far (input ++ take count piece) ≡ lines_so_far input ++ line ∷ [] →
+    StopsIn sealing talk (lines_so_far input ++ line ∷ []) old new before after status →
+    StopsIn sealing talk (lines_so_far (input ++ piece)) old new before after status
+Stops-piece sealing talk old new before after status input piece line count one stops =
+    let more = lines-more (input ++ take count piece) (drop count piece) in
+    let whole : (input ++ take count piece) ++ drop count piece ≡ input ++ piece =
+    append_assoc input (take count piece) (drop count piece) ∙ ap (λ bs. input ++ bs) (take-append-drop count piece) in
+    subst (λ ls. StopsIn sealing talk ls old new before after status)
+    (ap (λ ls. ls ++ more.0) (sym one) ∙ sym more.1 ∙ ap (λ bs. lines_so_far bs) whole)
+    (StopsIn-more sealing talk (lines_so_far input ++ line ∷ []) more.0 old new before after status stops)
+
+module _ (sealing : Sealing) (talk : Talk) (before : Option (List ℕ)) (first : Amid) (old mid new : Told) (taken more : List ℕ) where
+  -- bytes are taken after others, or the run stops after these
+  pub GoesAmid-input : (second : Amid) → GoesAmid sealing talk (lines_so_far taken) before first old mid →
+      GoesAmid sealing talk (lines_so_far (taken ++ more)) before second mid new → GoesAmid sealing talk (lines_so_far (taken ++ more)) before second old new
+  GoesAmid-input second one two =
+      let rest = lines-more taken more in
+      subst (λ ls. GoesAmid sealing talk ls before second old new) (sym rest.1)
+      (GoesAmid-then sealing talk (lines_so_far taken) rest.0 before first old mid new second one
+      (subst (λ ls. GoesAmid sealing talk ls before second mid new) rest.1 two))
+
+  pub Stops-input : (after : Option (List ℕ)) (status : Status) → GoesAmid sealing talk (lines_so_far taken) before first old mid →
+      StopsIn sealing talk (lines_so_far (taken ++ more)) mid new before after status →
+      StopsIn sealing talk (lines_so_far (taken ++ more)) old new before after status
+  Stops-input after status one two =
+      let rest = lines-more taken more in
+      subst (λ ls. StopsIn sealing talk ls old new before after status) (sym rest.1)
+      (StopsIn-after sealing talk (lines_so_far taken) rest.0 before first old mid new after status one
+      (subst (λ ls. StopsIn sealing talk ls mid new before after status) rest.1 two))
+
+-- a piece that was taken in part, and more of the rest of it
+pub taken-more : (input piece : List ℕ) (done k : ℕ) →
+    (input ++ take done piece) ++ take k (take (length piece - done) (drop done piece)) ≡ input ++ take (done + k) piece
+taken-more input piece done k =
+    append_assoc input (take done piece) (take k (take (length piece - done) (drop done piece)))
+    ∙ ap (λ bs. input ++ (take done piece ++ take k bs)) (rest-slice piece done)
+    ∙ ap (λ bs. input ++ bs) (sym (take-add done k piece))
+
+-- and the whole rest of it
+pub taken-rest : (input piece : List ℕ) (done : ℕ) →
+    (input ++ take done piece) ++ take (length piece - done) (drop done piece) ≡ input ++ piece
+taken-rest input piece done =
+    ap (λ bs. (input ++ take done piece) ++ bs) (rest-slice piece done)
+    ∙ append_assoc input (take done piece) (drop done piece)
+    ∙ ap (λ bs. input ++ bs) (take-append-drop done piece)
+
+-- more bytes are taken of a piece
+pub OfAmid-more : (form : Form) (line next last : Kept) (from mid to : Amid) (old between new : Told) (piece : List ℕ) (done k : ℕ) →
+    OfAmid form line from old (λ sealing talk before input. (next ≡ kept (unended (input ++ take done piece)))
+    × GoesAmid sealing talk (lines_so_far (input ++ take done piece)) before mid old between) →
+    OfAmid form next mid between (λ sealing talk before input. (last ≡ kept (unended (input ++ take k (take (length piece - done) (drop done piece)))))
+    × GoesAmid sealing talk (lines_so_far (input ++ take k (take (length piece - done) (drop done piece)))) before to between new) →
+    OfAmid form line from old (λ sealing talk before input. (last ≡ kept (unended (input ++ take (done + k) piece)))
+    × GoesAmid sealing talk (lines_so_far (input ++ take (done + k) piece)) before to old new)
+OfAmid-more form line next last from mid to old between new piece done k first second sealing talk before input same under at =
+    let one = first sealing talk before input same under at in
+    let two = second sealing talk before (input ++ take done piece) same one.0 one.1.amid in
+    subst (λ bs. (last ≡ kept (unended bs)) × GoesAmid sealing talk (lines_so_far bs) before to old new) (taken-more input piece done k) (
+      two.0,
+      GoesAmid-input sealing talk before mid old between new (input ++ take done piece) (take k (take (length piece - done) (drop done piece))) to one.1
+          two.1,
+    )
+
+-- or the run stops in them
+pub OfAmid-stops : (form : Form) (line next : Kept) (from mid : Amid) (after : Option (List ℕ)) (status : Status) (old between new : Told) (piece : List ℕ) (done : ℕ) →
+    OfAmid form line from old (λ sealing talk before input. (next ≡ kept (unended (input ++ take done piece)))
+    × GoesAmid sealing talk (lines_so_far (input ++ take done piece)) before mid old between) →
+    OfAmid form next mid between (λ sealing talk before input.
+    StopsIn sealing talk (lines_so_far (input ++ take (length piece - done) (drop done piece))) between new before after status) →
+    OfAmid form line from old (λ sealing talk before input. StopsIn sealing talk (lines_so_far (input ++ piece)) old new before after status)
+OfAmid-stops form line next from mid after status old between new piece done first second sealing talk before input same under at =
+    let one = first sealing talk before input same under at in
+    subst (λ bs. StopsIn sealing talk (lines_so_far bs) old new before after status) (taken-rest input piece done)
+    (Stops-input sealing talk before mid old between new (input ++ take done piece) (take (length piece - done) (drop done piece)) after status one.1
+    (second sealing talk before (input ++ take done piece) same one.0 one.1.amid))
+
+-- the state of a session by its parts
+abbrev pub session_of : Form → StoreState → Kept → Option (List ℕ) → SessionState
+session_of form store line waiting = record { form = form; store = store; line = line; cursors = no_cursors; waiting = waiting }
+
+module _ (form : Form) (store : StoreState) (line : Kept) (waiting : Option (List ℕ)) (held : Option (List ℕ)) (old : Told)
+    (nothing_staged : shown_by store.records old.content ≡ old.content) where
+  -- before a piece nothing waits, and nothing is staged
+  begins : (sealing : Sealing) (talk : Talk) (before : Option (List ℕ)) (input : List ℕ) → HasTaken sealing talk old (session_of form store line waiting) input →
+      HasReplied talk before held input → IsAmid sealing talk (lines_so_far input) before (amid store.records (owed_by waiting) held) old
+  begins sealing talk before input at replied =
+      IsAmid-begin sealing talk (lines_so_far input) before (amid store.records (owed_by waiting) held) old (owed-nothing waiting at.unsaid)
+      (AreOwed-none sealing waiting at.seals) nothing_staged at.stands at.durable replied at.cursors
+
+  module _ (next : StoreState) (after_line : Kept) (left : Option (List ℕ)) (after : Option (List ℕ)) (piece : List ℕ) (new : Told) where
+    -- a piece was taken, and then all was sealed and sent, if it was
+    pub TakesPiece-sealed : {u : Unit {0}} (mid : Amid) (between : Told) (result : Result (Unit {0}) Status) →
+        TakesBytes (λ (w : Unit {0}). piece) piece form line after_line (amid store.records (owed_by waiting) held) mid (Ok u) old between →
+        TakesNone mid (amid next.records (owed_by left) after) result between new → OnOk result (shown_by next.records new.content ≡ new.content) →
+        OnOk result (NoneWait left) →
+        TakesPiece (λ (w : Unit {0}). piece) piece (session_of form store line waiting) (session_of form next after_line left) held after result old new
+    TakesPiece-sealed mid between (Ok v) bytes none_more sealed none = record {
+      goes = λ sealing talk before input at replied.
+          let taken = lines_so_far (input ++ piece) in
+          let to = amid next.records (owed_by left) after in
+          let one = bytes.goes sealing talk before input at.form at.line (begins sealing talk before input at replied) in
+          let has = subst (λ ls. GoesAmid sealing talk ls before to old new) (append-nil taken)
+          (GoesAmid-then sealing talk taken [] before mid old between new to one.1 ((none_more sealing talk taken before).goes one.1.amid)) in
+          record {
+            at = record {
+              stands = subst (Stands (after_lines talk taken).history) sealed has.amid.shown;
+              durable = has.amid.durable;
+              line = one.0;
+              unsaid = none;
+              seals = sealing-owed sealing left has.amid.rest has.amid.few;
+              form = at.form;
+              cursors = has.amid.cursors;
+            };
+            replied = said-all sealing talk taken before to new (owed-nothing left none) has.amid;
+            any_moment = has.any_moment;
+          };
+      stops = tt;
+    }
+    TakesPiece-sealed mid between (Err status) bytes none_more sealed none = record {
+      goes = tt;
+      stops = λ sealing talk before input at replied.
+          let taken = lines_so_far (input ++ piece) in
+          let one = bytes.goes sealing talk before input at.form at.line (begins sealing talk before input at replied) in
+          subst (λ ls. StopsIn sealing talk ls old new before after status) (append-nil taken)
+          (StopsIn-after sealing talk taken [] before mid old between new after status one.1 ((none_more sealing talk taken before).stops one.1.amid));
+    }
+
+    -- or the run stopped in the piece
+    pub TakesPiece-stopped : (status : Status) → OfAmid form line (amid store.records (owed_by waiting) held) old (λ sealing talk before input.
+        StopsIn sealing talk (lines_so_far (input ++ piece)) old new before after status) →
+        TakesPiece (λ (w : Unit {0}). piece) piece (session_of form store line waiting) (session_of form next after_line left) held after (Err status) old new
+    TakesPiece-stopped status takes = record {
+      goes = tt;
+      stops = λ sealing talk before input at replied. takes sealing talk before input at.form at.line (begins sealing talk before input at replied);
+    }
+
+  module _ (records : RecordsState) (left : Option (List ℕ)) (after : Option (List ℕ)) (new : Told) where
+    -- the input ended, and all was sealed and sent
+    pub EndsSession-done : {u : Unit {0}} → shown_by records new.content ≡ new.content → NoneWait left →
+        TakesLast form line (amid store.records (owed_by waiting) held) (amid records (owed_by left) after) (Ok u) old new →
+        EndsSession (session_of form store line waiting) held after Done old new
+    EndsSession-done sealed none takes = record {
+      done = λ _ sealing talk before input at replied.
+          let has = takes.goes sealing talk before input at.form at.line (begins sealing talk before input at replied) in
+          record {
+            stands = subst (Stands (after_lines talk (lines input)).history) sealed has.amid.shown;
+            durable = has.amid.durable;
+            replied = said-all sealing talk (lines input) before (amid records (owed_by left) after) new (owed-nothing left none) has.amid;
+            any_moment = has.any_moment;
+          };
+      stops = λ going. absurd (going refl);
+    }
+
+    -- or the run stopped
+    pub EndsSession-stopped : (status : Status) → (status ≡ Done → ⊥) →
+        TakesLast form line (amid store.records (owed_by waiting) held) (amid records (owed_by left) after) (Err status) old new →
+        EndsSession (session_of form store line waiting) held after status old new
+    EndsSession-stopped status going takes = record {
+      done = λ is. absurd (going is);
+      stops = λ _ sealing talk before input at replied. takes.stops sealing talk before input at.form at.line (begins sealing talk before input at replied);
+    }
+
+module _ (form : Form) (line : Kept) {from to : Amid} {old new : Told} where
+  -- the last line of the input is taken
+  pub TakesLast-line : (result : Result (Unit {0}) Status) → ((input : List ℕ) → line ≡ kept (unended input) →
+      (last : List ℕ) × (lines input ≡ lines_so_far input ++ last ∷ []) × ((sealing : Sealing) (talk : Talk) (before : Option (List ℕ)) →
+      form ≡ talk.form → Takes sealing talk (lines_so_far input) (last ∷ []) before from to result old new)) →
+      TakesLast form line from to result old new
+  TakesLast-line (Ok u) takes = record {
+    goes = λ sealing talk before input same is at.
+        let last = takes input is in
+        subst (λ ls. GoesAmid sealing talk ls before to old new) (sym last.1) ((last.2 sealing talk before same).goes at);
+    stops = tt;
+  }
+  TakesLast-line (Err status) takes = record {
+    goes = tt;
+    stops = λ sealing talk before input same is at.
+        let last = takes input is in
+        subst (λ ls. StopsIn sealing talk ls old new before to.held status) (sym last.1) ((last.2 sealing talk before same).stops at);
+  }
+
+module _ (form : Form) (line : Kept) {from mid to : Amid} {old between new : Told} where
+  -- all is brought to the disk and sent after the last line
+  pub TakesLast-then : {u : Unit {0}} (result : Result (Unit {0}) Status) → TakesLast form line from mid (Ok u) old between →
+      TakesNone mid to result between new → TakesLast form line from to result old new
+  TakesLast-then (Ok u) first second = record {
+    goes = λ sealing talk before input same is at.
+        let one = first.goes sealing talk before input same is at in
+        subst (λ ls. GoesAmid sealing talk ls before to old new) (append-nil (lines input))
+        (GoesAmid-then sealing talk (lines input) [] before mid old between new to one ((second sealing talk (lines input) before).goes one.amid));
+    stops = tt;
+  }
+  TakesLast-then (Err status) first second = record {
+    goes = tt;
+    stops = λ sealing talk before input same is at.
+        let one = first.goes sealing talk before input same is at in
+        subst (λ ls. StopsIn sealing talk ls old new before to.held status) (append-nil (lines input))
+        (StopsIn-after sealing talk (lines input) [] before mid old between new to.held status one
+        ((second sealing talk (lines input) before).stops one.amid));
+  }

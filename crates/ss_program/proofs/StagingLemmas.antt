@@ -1,0 +1,95 @@
+-- What staging an event and asking a query make of the history that records show.
+use Rattle.std.proofs.Common.{inl, inr, ◌⊎◌, ⊎_elim, ◌≡◌, ◌∙◌, ◌++◌, ◌∷◌, [], List, ℕ, Some, None, Result, Ok, Err, sym, ap, subst}
+use Rattle.std.proofs.lemmas.Result.{on_ok_weaker}
+use Rattle.std.specs.Prelude.{◌↔◌, IsTrue, OnOk}
+use Rattle.ss_catalog.specs.declared.event.Event.{Event}
+use Rattle.ss_catalog.specs.declared.query.Query.{Query}
+use Rattle.ss_catalog.specs.declared.refusal.Refusal.{Refusal}
+use Rattle.ss_command.specs.declared.command.Command.TheVariants.{Ask, Do}
+use Rattle.ss_journal.proofs.TearLemmas.{on_ok}
+use Rattle.ss_journal.specs.Kept.{shown}
+use Rattle.ss_model.specs.History.{added}
+use Rattle.ss_model.specs.Refusals.{refuses}
+use Rattle.ss_model.specs.State.{state}
+use Rattle.ss_model.specs.declared.types.Ack.{Ack}
+use Rattle.ss_outside.proofs.CrashLemmas.{nothing_pending-same, of_content, read_leaves, weaker}
+use Rattle.ss_outside.specs.Crash.{KnowsNow, OnlyReads}
+use Rattle.ss_outside.specs.Disk.{DiskView, NothingPending, Told}
+use Rattle.ss_records.specs.Kept.{RecordsState, shown_by}
+use Rattle.ss_report.specs.declared.reply.Reply.{Reply}
+use Rattle.ss_store.proofs.FoundAlike.{refuses-kept}
+use Rattle.ss_store.specs.Calls.{StandsForEither, TurnsHistory}
+use Rattle.ss_store.specs.Kept.{StoreState, refuses_held}
+use Rattle.ss_store.specs.Recover.{Stands}
+use Rattle.ss_store.specs.declared.error.ApplyError.{ApplyError}
+use Rattle.ss_store.specs.declared.error.ApplyError.TheVariants as errors
+use Rattle.ss_program.specs.Answer.{AsksQuery, IsServing}
+use Rattle.ss_program.specs.Line.{Brought, History, command_brings, history_after}
+use Rattle.ss_program.specs.Progress.{StandsAround}
+use Rattle.ss_program.specs.Amid.{StagesBrought}
+use Rattle.ss_program.specs.declared.status.Status.{Status}
+use Rattle.ss_program.proofs.AnswerLemmas.{ask-event, brings-accepted, history-still, not_refused}
+
+-- an event that the store doesn't refuse isn't refused by any history that it shows
+pub accepted-shown : (event : Event) (store : StoreState) (disk : DiskView) (result : Result Ack ApplyError) → IsServing disk store →
+    ((r : Refusal) → (result ≡ Err (errors.Refused r)) ↔ (refuses_held store.streams event ≡ Some r)) →
+    ((r : Refusal) → result ≡ Err (errors.Refused r) → ⊥) → IsTrue disk.tells → (history : History) →
+    Stands history (shown_by store.records disk.told.content) → refuses (state history) event ≡ None
+accepted-shown event store disk result serves refused other told history stands =
+    refuses-kept store (shown_by store.records disk.told.content) history event (serves.kept told).shown stands
+    ∙ not_refused result (refuses_held store.streams event) refused other
+
+module _ (was is : RecordsState) (history : History) (old new : Told) where
+  -- an event that was staged, or not, where it isn't refused
+  pub Turns-staged : {T S E F : Type 0} (event : Event) (step : Result T E) (result : Result S F) → ((X : Type 0) → OnOk step X → OnOk result X) →
+      (Stands history (shown_by was old.content) → refuses (state history) event ≡ None) →
+      TurnsHistory was is history (StandsForEither history event) (history ++ added event ∷ []) old new step →
+      TurnsHistory was is history (StandsAround history (command_brings history (Do event))) (history_after history (command_brings history (Do event)))
+      old new result
+  Turns-staged event step result keeps accepted turns =
+      let brought = command_brings history (Do event) in
+      let after = λ (has : Stands history (shown_by was old.content)).
+      ap (λ (b : Brought). history_after history b) (sym (brings-accepted history event (accepted has))) in
+      record {
+        content = λ has. keeps (Stands (history_after history brought) (shown_by is new.content))
+            (on_ok_weaker step (λ stands. subst (λ h. Stands h (shown_by is new.content)) (after has) stands) (turns.content has));
+        any_moment = λ durable sealed there has.
+            weaker old new (λ image. Stands sealed image ⊎ StandsForEither history event image)
+            (λ image. Stands sealed image ⊎ StandsAround history brought image)
+            (λ image either. ⊎_elim (λ before. inl before)
+            (λ one. inr (⊎_elim (λ stands. inl stands) (λ stands. inr (subst (λ h. Stands h image) (after has) stands)) one)) either)
+            (turns.any_moment durable sealed there has);
+        durable = λ durable. keeps (NothingPending new) (turns.durable durable);
+      }
+
+  -- a call that only reads
+  pub Turns-looked : {T E : Type 0} (brought : Brought) (result : Result T E) → KnowsNow old → OnlyReads old new →
+      (Stands history (shown_by was old.content) → OnOk result (Stands (history_after history brought) (shown_by is new.content))) →
+      TurnsHistory was is history (StandsAround history brought) (history_after history brought) old new result
+  Turns-looked brought result knows reads content = record {
+    content = content;
+    any_moment = λ durable sealed there has. weaker old new old.may_leave (λ image. Stands sealed image ⊎ StandsAround history brought image)
+        (λ image left. inl (of_content old (Stands sealed) durable there image left)) (read_leaves old new knows reads);
+    durable = λ durable. on_ok result (nothing_pending-same old new reads.same durable);
+  }
+
+-- what is shown stays for a line that brings no event
+pub shown-still : (was is : RecordsState) (history : History) (brought : Brought) (old new : List ℕ) → brought.event ≡ None →
+    shown_by is new ≡ shown_by was old → Stands history (shown_by was old) → Stands (history_after history brought) (shown_by is new)
+shown-still was is history brought old new none same stands =
+    subst (λ h. Stands h (shown_by is new)) (sym (history-still history brought none)) (subst (Stands history) (sym same) stands)
+
+-- a query is a line that brings no event
+pub Stages-asked : {was is : RecordsState} (query : Query) (result : Result Reply Status) (old new : Told) → KnowsNow old →
+    OnOk result (is.journal ≡ was.journal) → AsksQuery was (λ history. command_brings history (Ask query)) result old new →
+    StagesBrought (λ history. command_brings history (Ask query)) was is result old new
+Stages-asked {was = was} {is = is} query (Ok reply) old new knows same asks = record {
+  turns = λ history. Turns-looked was is history old new (command_brings history (Ask query)) (Ok reply) knows asks.reads
+      (λ stands. shown-still was is history (command_brings history (Ask query)) old.content new.content (ask-event history query)
+      (ap (λ (bytes : List ℕ). shown_by is bytes) asks.reads.same.content ∙ ap (λ j. shown j old.content) same) stands);
+  reply = asks.reply;
+}
+Stages-asked {was = was} {is = is} query (Err status) old new knows same asks = record {
+  turns = λ history. Turns-looked was is history old new (command_brings history (Ask query)) (Err status) knows asks.reads (λ stands. tt);
+  reply = asks.reply;
+}

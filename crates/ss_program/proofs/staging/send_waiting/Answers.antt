@@ -1,0 +1,41 @@
+use Rattle.std.proofs.Common.{◌∙◌, Some, refl, subst}
+use Rattle.ss_journal.proofs.ShownLemmas.{shown-sealed}
+use Rattle.ss_program.specs.Amid.{TakesNone, amid, owed_by}
+use Rattle.ss_program.specs.Answer.{at_sink}
+use Rattle.ss_program.specs.Sent.{Sends}
+use Rattle.ss_program.proofs.SealLemmas.{TakesNone-sent, TakesNone-unsealed, shared-sent, step-sink}
+use Rattle.ss_program.proofs.staging.send_waiting.Goals as goal
+
+pub returns-in-Err-clause-takes : goal.returns-in-Err-clause-takes
+returns-in-Err-clause-takes g c =
+    let old = (g.D.Disk.seen c.args.disk.now).told in
+    let new = (g.D.Disk.seen c.seal.new.disk).told in
+    let seals = c.in-Err.ensures.seals in
+    let held = g.K.Sink.held c.args.sink.now in
+    let owed = owed_by (Some c.args.waiting.now) in
+    record {
+      tells = seals.tells;
+      counted = seals.counted;
+      told = λ told. TakesNone-unsealed (amid c.args.store.now.records owed held) (amid c.seal.new.self.records owed held) old new c.in-Err.field-0
+          (g.met.D.Disk.knows_now c.seal.new.disk (seals.tells ∙ told)) (seals.told told).history tt refl;
+    }
+
+pub returns-in-Ok-clause-takes : goal.returns-in-Ok-clause-takes
+returns-in-Ok-clause-takes g c =
+    let old = (g.D.Disk.seen c.args.disk.now).told in
+    let new = (g.D.Disk.seen c.seal.new.disk).told in
+    let seals = c.in-Ok.ensures.seals in
+    let is = c.seal.new.self.records in
+    let held = g.K.Sink.held c.args.sink.now in
+    let after = g.K.Sink.held c.send.new.sink in
+    let from = amid c.args.store.now.records (owed_by (Some c.args.waiting.now)) held in
+    let to = amid is (owed_by (Some c.clear.new.self)) after in
+    let same = shown-sealed is.journal new.content c.in-Ok.ensures.sealed.sealed in
+    rw c.at_sink-sent.ensures
+    (step-sink {S = TakesNone from to (at_sink c.send.result)} c.send.result (record {
+      tells = seals.tells;
+      counted = seals.counted;
+      told = λ told. TakesNone-sent from to old new c.in-Ok.field-0 c.send.result
+          (g.met.D.Disk.knows_now c.seal.new.disk (seals.tells ∙ told)) same (seals.told told).history c.clear.ensures shared-sent refl
+          (λ bytes less. tt) (subst (λ t. Sends held after t c.send.result) c.as_slice.ensures c.send.ensures.sends);
+    }))

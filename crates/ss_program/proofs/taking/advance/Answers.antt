@@ -1,0 +1,75 @@
+use Rattle.std.proofs.Common.{◌≡◌, ◌≤◌, ◌++◌, Ok, Err, IfSome, length, take, sym, ◌∙◌, subst, rules}
+use Rattle.std.specs.List.{before_first}
+use Rattle.std.specs.Option.{option_copied}
+use Rattle.ss_command.specs.Lines.{is_line_end, lines_so_far}
+use Rattle.ss_command.specs.LineState.{TellsLine, extended, under_way}
+use Rattle.ss_command.specs.declared.TheConstants.{LONGEST_LINE}
+use Rattle.ss_outside.proofs.StepLemmas.{step-as, step-none}
+use Rattle.ss_outside.specs.Step.{Step}
+use Rattle.ss_program.specs.Amid.{GoesAmid, TakesBytes, amid, owed_by}
+use Rattle.ss_program.specs.Status.{disk_verdict, ended}
+use Rattle.ss_program.proofs.AmidLemmas.{GoesAmid-none}
+use Rattle.ss_program.proofs.InputLemmas.{Stops-piece, Takes-kept, ended_line-short}
+use Rattle.ss_program.proofs.taking.advance.Goals as goal
+
+pub returns-in-None-clause-takes : goal.returns-in-None-clause-takes
+returns-in-None-clause-takes g c =
+    let view = g.D.Disk.seen c.args.disk.now in
+    let piece = c.args.piece.now in
+    let at = amid c.args.store.now.records (owed_by c.args.waiting.now) (g.K.Sink.held c.args.sink.now) in
+    step-none view (TakesBytes (λ count. take count piece) piece c.args.form (under_way c.args.reader.now) (under_way c.feed-count.new.self) at at
+    (Ok c.feed-count.result.0)) (λ told. record {
+      goes = λ sealing talk before input form line is.
+          let more = input ++ take c.feed-count.result.0 piece in
+          let same = subst (λ o. TellsLine (lines_so_far input) (lines_so_far more) o c.feed-count.new.self) c.in-None.is
+          (c.feed-count.ensures.lines input line) in (
+            c.feed-count.ensures.taken input line,
+            subst (λ ls. GoesAmid sealing talk ls before at view.told view.told) (sym same)
+                (GoesAmid-none sealing talk (lines_so_far input) before at view.told (g.met.D.Disk.knows_now c.args.disk.now told) is),
+          );
+      stops = tt;
+    })
+
+pub returns-in_err-stage_line-in-Some-clause-takes : goal.returns-in_err-stage_line-in-Some-clause-takes
+returns-in_err-stage_line-in-Some-clause-takes g c =
+    let old = g.D.Disk.seen c.args.disk.now in
+    let new = g.D.Disk.seen c.stage_line.new.disk in
+    let piece = c.args.piece.now in
+    let count = c.feed-count.result.0 in
+    let o = option_copied c.line_of.result in
+    let from = amid c.args.store.now.records (owed_by c.args.waiting.now) (g.K.Sink.held c.args.sink.now) in
+    let after = g.K.Sink.held c.stage_line.new.sink in
+    let to = amid c.stage_line.new.store.records (owed_by c.stage_line.new.waiting) after in
+    let status = c.in_err-stage_line-in-Some.field-0.0 in
+    let same : c.from_residual.result ≡ Err status = search rules in
+    subst (λ r. Step (disk_verdict (ended r)) old new (TakesBytes (λ count. take count piece) piece c.args.form (under_way c.args.reader.now)
+    (under_way c.feed-count.new.self) from to r)) (sym same)
+    (step-as c.in_err-stage_line-in-Some.ensures.takes (λ takes. record {
+      goes = tt;
+      stops = λ sealing talk before input form line is.
+          let more = input ++ take count piece in
+          let ls = lines_so_far input in
+          let told = subst (λ o. TellsLine ls (lines_so_far more) o c.feed-count.new.self) c.in-Some.is (c.feed-count.ensures.lines input line) in
+          Stops-piece sealing talk old.told new.told before after status input piece told.0 count told.1
+          ((Takes-kept c.args.form o told.0 takes (c.line_of.ensures ∙ told.2) sealing talk ls before form).stops is);
+    }))
+
+pub returns-in_ok-stage_line-in-Some-clause-takes : goal.returns-in_ok-stage_line-in-Some-clause-takes
+returns-in_ok-stage_line-in-Some-clause-takes g c =
+    let old = g.D.Disk.seen c.args.disk.now in
+    let new = g.D.Disk.seen c.stage_line.new.disk in
+    let piece = c.args.piece.now in
+    let count = c.feed-count.result.0 in
+    let o = option_copied c.line_of.result in
+    let to = amid c.stage_line.new.store.records (owed_by c.stage_line.new.waiting) (g.K.Sink.held c.stage_line.new.sink) in
+    step-as c.in_ok-stage_line-in-Some.ensures.takes (λ takes. record {
+      goes = λ sealing talk before input form line is.
+          let more = input ++ take count piece in
+          let ls = lines_so_far input in
+          let told = subst (λ o. TellsLine ls (lines_so_far more) o c.feed-count.new.self) c.in-Some.is (c.feed-count.ensures.lines input line) in (
+            c.feed-count.ensures.taken input line,
+            subst (λ l. GoesAmid sealing talk l before to old.told new.told) (sym told.1)
+                ((Takes-kept c.args.form o told.0 takes (c.line_of.ensures ∙ told.2) sealing talk ls before form).goes is),
+          );
+      stops = tt;
+    })

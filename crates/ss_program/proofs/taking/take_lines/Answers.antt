@@ -1,0 +1,83 @@
+use Rattle.std.proofs.Common.{◌≡◌, ◌++◌, Err, take, take_all, refl, sym, subst, ◌∙◌, arith, rules}
+use Rattle.std.proofs.lemmas.List.{append-nil}
+use Rattle.ss_command.specs.Lines.{lines_so_far, unended}
+use Rattle.ss_command.specs.LineState.{kept, under_way}
+use Rattle.ss_outside.proofs.StepLemmas.{step-as, step-none, step-then}
+use Rattle.ss_outside.specs.Step.{Step}
+use Rattle.ss_program.specs.Amid.{GoesAmid, OfAmid, TakesBytes, amid, owed_by}
+use Rattle.ss_program.specs.Status.{disk_verdict, ended}
+use Rattle.ss_program.proofs.SendLemmas.{fits_more}
+use Rattle.ss_program.proofs.InputLemmas.{OfAmid-more, OfAmid-stops}
+use Rattle.ss_program.proofs.AmidLemmas.{GoesAmid-none}
+use Rattle.ss_program.proofs.taking.take_lines.Goals as goal
+
+pub loop-done-init : goal.loop-done-init
+loop-done-init g c =
+    let disk = g.D.Disk.seen c.args.disk.now in
+    let line = under_way c.args.reader.now in
+    let at = amid c.args.store.now.records (owed_by c.args.waiting.now) (g.K.Sink.held c.args.sink.now) in
+    record {
+      fits = omega arith;
+      ready = c.requires;
+      on = step-none disk (λ old now. OfAmid c.args.form line at old (λ sealing talk before input. (line ≡ kept (unended (input ++ take 0 c.args.piece.now)))
+          × GoesAmid sealing talk (lines_so_far (input ++ take 0 c.args.piece.now)) before at old now)) (λ told sealing talk before input form under is.
+          subst (λ bs. (line ≡ kept (unended bs)) × GoesAmid sealing talk (lines_so_far bs) before at disk.told disk.told) (sym (append-nil input))
+          (under, GoesAmid-none sealing talk (lines_so_far input) before at disk.told (g.met.D.Disk.knows_now c.args.disk.now told) is));
+      faults = refl;
+    }
+
+pub loop-done-preserved : goal.loop-done-preserved
+loop-done-preserved g c =
+    let piece = c.args.piece.now in
+    let done = c.loop-done.done in
+    let inv = c.loop-done.invariant in
+    let count = c.in_ok-done.field-0 in
+    record {
+      fits = fits_more piece done count inv.fits c.in_ok-done.ensures.count.1;
+      ready = c.in_ok-done.ensures.ready;
+      on = step-then inv.on c.in_ok-done.ensures.takes (λ first second.
+          OfAmid-more c.args.form (under_way c.args.reader.now) (under_way c.loop-done.reader) (under_way c.advance.new.reader)
+          (amid c.args.store.now.records (owed_by c.args.waiting.now) (g.K.Sink.held c.args.sink.now))
+          (amid c.loop-done.store.records (owed_by c.loop-done.waiting) (g.K.Sink.held c.loop-done.sink))
+          (amid c.advance.new.store.records (owed_by c.advance.new.waiting) (g.K.Sink.held c.advance.new.sink))
+          (g.D.Disk.seen c.args.disk.now).told (g.D.Disk.seen c.loop-done.disk).told (g.D.Disk.seen c.advance.new.disk).told piece done count first
+          second.goes);
+      faults = c.in_ok-done.ensures.counted ∙ inv.faults;
+    }
+
+pub returns-in_err-done-clause-takes : goal.returns-in_err-done-clause-takes
+returns-in_err-done-clause-takes g c =
+    let piece = c.args.piece.now in
+    let done = c.loop-done.done in
+    let inv = c.loop-done.invariant in
+    let old = g.D.Disk.seen c.args.disk.now in
+    let mid = g.D.Disk.seen c.loop-done.disk in
+    let new = g.D.Disk.seen c.advance.new.disk in
+    let line = under_way c.args.reader.now in
+    let next = under_way c.advance.new.reader in
+    let from = amid c.args.store.now.records (owed_by c.args.waiting.now) (g.K.Sink.held c.args.sink.now) in
+    let after = g.K.Sink.held c.advance.new.sink in
+    let to = amid c.advance.new.store.records (owed_by c.advance.new.waiting) after in
+    let status = c.in_err-done.field-0.0 in
+    let same : c.from_residual.result ≡ Err status = search rules in
+    subst (λ r. Step (disk_verdict (ended r)) old new (TakesBytes (λ _. piece) piece c.args.form line next from to r)) (sym same)
+    (step-then inv.on c.in_err-done.ensures.takes (λ first second. record {
+      goes = tt;
+      stops = OfAmid-stops c.args.form line (under_way c.loop-done.reader) from (amid c.loop-done.store.records (owed_by c.loop-done.waiting) (g.K.Sink.held c.loop-done.sink))
+          after status old.told mid.told new.told piece done first second.stops;
+    }))
+
+pub returns-clause-takes : goal.returns-clause-takes
+returns-clause-takes g c =
+    let piece = c.args.piece.now in
+    let done = c.loop-done.done in
+    let old = (g.D.Disk.seen c.args.disk.now).told in
+    let mid = (g.D.Disk.seen c.loop-done.disk).told in
+    let at = amid c.loop-done.store.records (owed_by c.loop-done.waiting) (g.K.Sink.held c.loop-done.sink) in
+    step-as c.loop-done.invariant.on (λ on. record {
+      goes = λ sealing talk before input form line is.
+          subst (λ bs. (under_way c.loop-done.reader ≡ kept (unended (input ++ bs))) × GoesAmid sealing talk (lines_so_far (input ++ bs)) before at old mid)
+          (take_all done piece (omega (arith, c.loop-done-test.false)))
+          (on sealing talk before input form line is);
+      stops = tt;
+    })

@@ -1,0 +1,144 @@
+-- Between two lines of a session: what is true there, and what taking some lines does.
+use Rattle.std.specs.Prelude.{◌≡◌, ℕ, suc, ◌+◌, ◌≤◌, ◌++◌, List, ◌∷◌, [], length, Option, Some, None, Result, IfOk, IfErr, OnOk, IsSome, ⊤}
+use Rattle.ss_command.specs.Lines.{lines, lines_so_far, unended}
+use Rattle.ss_command.specs.LineState.{Kept, kept}
+use Rattle.ss_journal.specs.Kept.{IsSealed}
+use Rattle.ss_outside.specs.Crash.{LeavesOnly}
+use Rattle.ss_outside.specs.Disk.{DiskView, NothingPending, OfContent, Told}
+use Rattle.ss_records.specs.Kept.{RecordsState, shown_by}
+use Rattle.ss_report.specs.declared.reply.Reply.{Reply}
+use Rattle.ss_store.specs.Calls.{TurnsHistory}
+use Rattle.ss_store.specs.Kept.{StoreState}
+use Rattle.ss_store.specs.Recover.{Stands}
+use Rattle.ss_program.specs.Answer.{IsServing}
+use Rattle.ss_program.specs.Line.{Brought, History, history_after}
+use Rattle.ss_program.specs.Progress.{StandsAround, StandsWithin, StopsIn}
+use Rattle.ss_program.specs.Sent.{appended}
+use Rattle.ss_program.specs.Session.{after_lines, text_of}
+use Rattle.ss_program.specs.Talk.{Cursors, Talk, Turn, no_cursors, turn_brought, turn_of}
+use Rattle.ss_program.specs.declared.replies.TheConstants.{LONGEST_REPLY, MOST_WAITING_BYTES}
+use Rattle.ss_arguments.specs.declared.mode.Form.{Form}
+use Rattle.ss_arguments.specs.declared.mode.Sealing.{Sealing}
+use Rattle.ss_arguments.specs.declared.mode.Sealing.TheVariants.{Each, Shared}
+use Rattle.ss_program.specs.declared.status.Status.{Status}
+
+-- what is owed of the text that is said, and where each event is sealed by itself to how many lines: to none between two lines, and to
+-- one until its reply is sent
+pub record Owed : Type 0 where
+  pub text : List ℕ
+  pub lines : Option ℕ
+
+-- between two lines the replies that wait are owed, where some may wait
+abbrev pub owed_by : Option (List ℕ) → Owed
+owed_by None = record { text = []; lines = Some 0 }
+owed_by (Some replies) = record { text = replies; lines = None }
+
+abbrev pub one_more : Option ℕ → Option ℕ
+one_more None = None
+one_more (Some n) = Some (n + 1)
+
+-- a line was done, to which this is said
+abbrev pub with_text : Owed → List ℕ → Owed
+with_text owed text = record { text = owed.text ++ text; lines = one_more owed.lines }
+
+-- so many lines are these
+abbrev pub AreOwed : Sealing → Option ℕ → List (List ℕ) → Type 0
+AreOwed Each None ls = ⊥
+AreOwed Each (Some n) ls = length ls ≡ n
+AreOwed Shared None ls = ⊤
+AreOwed Shared (Some n) ls = ⊥
+
+-- what lines change: the cursors, the records of the store, what is owed, and what the sink holds
+pub record Amid : Type 0 where
+  pub cursors : Cursors
+  pub records : RecordsState
+  pub owed : Owed
+  pub held : Option (List ℕ)
+
+abbrev pub amid : RecordsState → Owed → Option (List ℕ) → Amid
+amid records owed held = record { cursors = no_cursors; records = records; owed = owed; held = held }
+
+-- Between two lines: what is said to some first of these lines is out, and what they did is on the disk. What is said to the rest is
+-- owed. The store shows what all of them did, and the disk has what some first of them did.
+pub record IsAmid (sealing : Sealing) (talk : Talk) (ls : List (List ℕ)) (before : Option (List ℕ)) (at : Amid) (disk : Told) : Type 0 where
+  pub out : List (List ℕ)
+  pub rest : List (List ℕ)
+  pub are : ls ≡ out ++ rest
+  pub said : at.held ≡ appended before (text_of talk out)
+  pub owes : at.owed.text ≡ text_of (after_lines talk out) rest
+  pub few : AreOwed sealing at.owed.lines rest
+  pub shown : Stands (after_lines talk ls).history (shown_by at.records disk.content)
+  pub within : StandsWithin (after_lines talk out) rest disk.content
+  pub durable : NothingPending disk
+  pub cursors : at.cursors ≡ (after_lines talk ls).cursors
+
+-- From one moment on to another a session came between two lines: a crash left only images of some first lines.
+pub record GoesAmid (sealing : Sealing) (talk : Talk) (ls : List (List ℕ)) (before : Option (List ℕ)) (at : Amid) (old new : Told) : Type 0 where
+  pub amid : IsAmid sealing talk ls before at new
+  pub any_moment : LeavesOnly old new (StandsWithin talk ls)
+
+-- Further lines of a conversation are taken, from between two lines on to between two lines, or the run stops among them.
+pub record Takes (sealing : Sealing) (talk : Talk) (ls more : List (List ℕ)) (before : Option (List ℕ)) (from to : Amid) (result : Result Unit Status)
+    (old new : Told) : Type 0 where
+  pub goes : OnOk result (IsAmid sealing talk ls before from old → GoesAmid sealing talk (ls ++ more) before to old new)
+  pub stops : IfErr result (λ status. IsAmid sealing talk ls before from old → StopsIn sealing talk (ls ++ more) old new before to.held status)
+
+-- no line more is taken, in any conversation
+abbrev pub TakesNone : Amid → Amid → Result Unit Status → Told → Told → Type 0
+TakesNone from to result old new =
+    (sealing : Sealing) (talk : Talk) (ls : List (List ℕ)) (before : Option (List ℕ)) → Takes sealing talk ls [] before from to result old new
+
+-- a line is taken that has this turn
+abbrev pub TakesTurn : (Talk → Turn) → Amid → Amid → Result Unit Status → Told → Told → Type 0
+TakesTurn turn from to result old new =
+    (sealing : Sealing) (talk : Talk) (ls : List (List ℕ)) (before : Option (List ℕ)) (line : List ℕ) →
+    turn_of (after_lines talk ls) line ≡ turn (after_lines talk ls) → Takes sealing talk ls (line ∷ []) before from to result old new
+
+-- or one that brings this after the history
+abbrev pub TakesBrought : (History → Brought) → Amid → Amid → Result Unit Status → Told → Told → Type 0
+TakesBrought brought from to result old new = TakesTurn (λ talk. turn_brought talk (brought talk.history)) from to result old new
+
+-- A line is taken in memory: the event that it brings, if any, comes after the history that records show, wholly or not at all, and
+-- its one reply is answered.
+pub record StagesBrought (brought : History → Brought) (was is : RecordsState) (result : Result Reply Status) (old new : Told) : Type 0 where
+  pub turns : (history : History) →
+      TurnsHistory was is history (StandsAround history (brought history)) (history_after history (brought history)) old new result
+  pub reply : (history : History) → Stands history (shown_by was old.content) → IfOk result (λ reply. (brought history).replies ≡ reply ∷ [])
+
+-- a line brings an event, after each history that records show over the content of a disk
+abbrev pub BringsEvent : (History → Brought) → RecordsState → DiskView → Type 0
+BringsEvent brought was disk =
+    OfContent disk (λ content. (history : History) → Stands history (shown_by was content) → IsSome (brought history).event)
+
+-- The store can be called between two lines, and nothing is staged where each event is sealed by itself.
+abbrev pub NoneStaged : Option (List ℕ) → StoreState → Type 0
+NoneStaged None store = IsSealed store.records.journal
+NoneStaged (Some replies) store = ⊤
+
+pub record IsReady (disk : DiskView) (store : StoreState) (waiting : Option (List ℕ)) : Type 0 where
+  pub serves : IsServing disk store
+  pub staged : NoneStaged waiting store
+
+-- one reply more can wait
+abbrev pub HasRoom : Option (List ℕ) → Type 0
+HasRoom None = ⊤
+HasRoom (Some replies) = length replies + LONGEST_REPLY ≤ MOST_WAITING_BYTES
+
+-- what a call says between two lines of an input of this form, of which these bytes were taken
+abbrev pub OfAmid : Form → Kept → Amid → Told → (Sealing → Talk → Option (List ℕ) → List ℕ → Type 0) → Type 0
+OfAmid form line from disk P = (sealing : Sealing) (talk : Talk) (before : Option (List ℕ)) (input : List ℕ) → form ≡ talk.form →
+    line ≡ kept (unended input) → IsAmid sealing talk (lines_so_far input) before from disk → P sealing talk before input
+
+-- Bytes of a piece of the input are taken, by the answer so many, or the run stops among the lines that end in the piece.
+pub record TakesBytes {T : Type 0} (moved : T → List ℕ) (piece : List ℕ) (form : Form) (line next : Kept) (from to : Amid) (result : Result T Status)
+    (old new : Told) : Type 0 where
+  pub goes : IfOk result (λ value. OfAmid form line from old (λ sealing talk before input.
+      (next ≡ kept (unended (input ++ moved value))) × GoesAmid sealing talk (lines_so_far (input ++ moved value)) before to old new))
+  pub stops : IfErr result (λ status. OfAmid form line from old (λ sealing talk before input.
+      StopsIn sealing talk (lines_so_far (input ++ piece)) old new before to.held status))
+
+-- A last line that no line end ended is taken, if it has bytes, or the run stops among the lines.
+pub record TakesLast (form : Form) (line : Kept) (from to : Amid) (result : Result Unit Status) (old new : Told) : Type 0 where
+  pub goes : OnOk result (OfAmid form line from old (λ sealing talk before input. GoesAmid sealing talk (lines input) before to old new))
+  pub stops : IfErr result (λ status. OfAmid form line from old (λ sealing talk before input.
+      StopsIn sealing talk (lines input) old new before to.held status))
