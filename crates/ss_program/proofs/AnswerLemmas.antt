@@ -60,6 +60,7 @@ use Rattle.ss_catalog.specs.Refusal.{refusal_name}
 use Rattle.ss_command.specs.Printed.{spaced, target_words}
 use Rattle.ss_command.specs.declared.TheConstants.{LINE_END}
 use Rattle.ss_report.specs.Text.{answer_kind, answer_words, spaced_line, reply_line, run_words}
+use Rattle.ss_program.specs.Said.{said_line}
 use Rattle.ss_report.specs.declared.reply.Reply.{Reply}
 use Rattle.ss_report.specs.declared.reply.Reply.TheVariants.{
   Done as AckLine,
@@ -105,7 +106,7 @@ use Rattle.ss_program.specs.Line.{
   meaning_brings,
   refused,
   only_replies,
-  text_brought,
+  text_said,
   the_event,
   unless_refused,
   window_rows,
@@ -297,76 +298,82 @@ reply_line-some (Side side) =
 reply_line-some (StreamRow row) = spaced_line-some row.name (target_words row.params ++ decimal row.n ∷ decimal row.k ∷ decimal row.landmarks ∷ decimal
     row.values ∷ [])
 
--- one reply was sent, or less than it
-pub Replies-sent : (brought : Brought) (before after : Option (List ℕ)) (reply : Reply) (sent : Result Unit Failed) →
-    brought.replies ≡ reply ∷ [] → Sends before after (reply_line reply) sent → Replies brought before after (at_sink sent)
-Replies-sent brought before after reply (Ok u) one sends =
-    sends ∙ ap (λ bs. appended before bs) (sym (append-nil (reply_line reply)) ∙ ap (λ rs. flat_map reply_line rs) (sym one))
-Replies-sent brought before after reply (Err e) one sends =
-    subst (λ bs. AppendsLess before after bs) (sym (append-nil (reply_line reply)) ∙ ap (λ rs. flat_map reply_line rs) (sym one)) sends
+-- so a line that is said to a session or to none isn't either
+pub said_line-some : (speaker : Option ℕ) (reply : Reply) → 0 < length (said_line speaker reply)
+said_line-some None reply = reply_line-some reply
+said_line-some (Some session) reply = omega arith
 
--- what a command shows was sent, or less than it
-pub Replies-only_replies : (tells : Bool) (brought : Brought) (before after : Option (List ℕ)) (sent : Result Unit Status) → IfErr sent (IsShowStop tells) →
-    Sends before after (text_brought brought) sent → Replies brought before after sent
-Replies-only_replies tells brought before after (Ok u) stop sends = sends
-Replies-only_replies tells brought before after (Err SinkFault) stop sends = sends
-Replies-only_replies tells brought before after (Err DiskFault) stop sends = sends
-Replies-only_replies tells brought before after (Err RecordChanged) stop sends = sends
-Replies-only_replies tells brought before after (Err Done) stop sends = absurd stop
-Replies-only_replies tells brought before after (Err Usage) stop sends = absurd stop
-Replies-only_replies tells brought before after (Err RefusedStore) stop sends = absurd stop
-Replies-only_replies tells brought before after (Err SourceFault) stop sends = absurd stop
-Replies-only_replies tells brought before after (Err OutOfMemory) stop sends = absurd stop
-Replies-only_replies tells brought before after (Err InputLimit) stop sends = absurd stop
+module _ (speaker : Option ℕ) where
+  -- one reply was sent, or less than it
+  pub Replies-sent : (brought : Brought) (before after : Option (List ℕ)) (reply : Reply) (sent : Result Unit Failed) →
+      brought.replies ≡ reply ∷ [] → Sends before after (said_line speaker reply) sent → Replies speaker brought before after (at_sink sent)
+  Replies-sent brought before after reply (Ok u) one sends =
+      sends ∙ ap (λ bs. appended before bs) (sym (append-nil (said_line speaker reply)) ∙ ap (λ rs. flat_map (said_line speaker) rs) (sym one))
+  Replies-sent brought before after reply (Err e) one sends =
+      subst (λ bs. AppendsLess before after bs) (sym (append-nil (said_line speaker reply)) ∙ ap (λ rs. flat_map (said_line speaker) rs) (sym one)) sends
 
--- no reply was sent to an event at which the store stopped the run
-pub Replies-stopped : (tells : Bool) (brought : Brought) (held : Option (List ℕ)) (status : Status) → IsApplyStop tells status → IsSome brought.event →
-    0 < length (text_brought brought) → Replies brought held held (Err status)
-Replies-stopped tells brought held DiskFault stop event some = AppendsLess-none held (text_brought brought) some
-Replies-stopped tells brought held RecordChanged stop event some = AppendsLess-none held (text_brought brought) some
-Replies-stopped tells brought held OutOfMemory stop event some = (refl, event)
-Replies-stopped tells brought held Done stop event some = absurd stop
-Replies-stopped tells brought held Usage stop event some = absurd stop
-Replies-stopped tells brought held RefusedStore stop event some = absurd stop
-Replies-stopped tells brought held SourceFault stop event some = absurd stop
-Replies-stopped tells brought held SinkFault stop event some = absurd stop
-Replies-stopped tells brought held InputLimit stop event some = absurd stop
+  -- what a command shows was sent, or less than it
+  pub Replies-only_replies : (tells : Bool) (brought : Brought) (before after : Option (List ℕ)) (sent : Result Unit Status) → IfErr sent (IsShowStop tells) →
+      Sends before after (text_said speaker brought) sent → Replies speaker brought before after sent
+  Replies-only_replies tells brought before after (Ok u) stop sends = sends
+  Replies-only_replies tells brought before after (Err SinkFault) stop sends = sends
+  Replies-only_replies tells brought before after (Err DiskFault) stop sends = sends
+  Replies-only_replies tells brought before after (Err RecordChanged) stop sends = sends
+  Replies-only_replies tells brought before after (Err Done) stop sends = absurd stop
+  Replies-only_replies tells brought before after (Err Usage) stop sends = absurd stop
+  Replies-only_replies tells brought before after (Err RefusedStore) stop sends = absurd stop
+  Replies-only_replies tells brought before after (Err SourceFault) stop sends = absurd stop
+  Replies-only_replies tells brought before after (Err OutOfMemory) stop sends = absurd stop
+  Replies-only_replies tells brought before after (Err InputLimit) stop sends = absurd stop
 
--- an event has a reply
-pub event-some : (history : History) (event : Event) (refusal : Option Refusal) → IsSome (unless_refused refusal (accepted_event history event)).event →
-    0 < length (text_brought (unless_refused refusal (accepted_event history event)))
-event-some history event None some =
-    let reply = AckLine (ack_of (event_name event) (state (history ++ added event ∷ []))) in
-    omega (arith, reply_line-some reply, length-append (reply_line reply) [])
-event-some history event (Some r) some = cc
+  -- no reply was sent to an event at which the store stopped the run
+  pub Replies-stopped : (tells : Bool) (brought : Brought) (held : Option (List ℕ)) (status : Status) → IsApplyStop tells status → IsSome brought.event →
+      0 < length (text_said speaker brought) → Replies speaker brought held held (Err status)
+  Replies-stopped tells brought held DiskFault stop event some = AppendsLess-none held (text_said speaker brought) some
+  Replies-stopped tells brought held RecordChanged stop event some = AppendsLess-none held (text_said speaker brought) some
+  Replies-stopped tells brought held OutOfMemory stop event some = (refl, event)
+  Replies-stopped tells brought held Done stop event some = absurd stop
+  Replies-stopped tells brought held Usage stop event some = absurd stop
+  Replies-stopped tells brought held RefusedStore stop event some = absurd stop
+  Replies-stopped tells brought held SourceFault stop event some = absurd stop
+  Replies-stopped tells brought held SinkFault stop event some = absurd stop
+  Replies-stopped tells brought held InputLimit stop event some = absurd stop
 
--- and so has a query
-one_reply-some : (reply : Reply) → 0 < length (text_brought (only_replies (reply ∷ [])))
-one_reply-some reply = omega (arith, reply_line-some reply, length-append (reply_line reply) [])
+  -- an event has a reply
+  pub event-some : (history : History) (event : Event) (refusal : Option Refusal) → IsSome (unless_refused refusal (accepted_event history event)).event →
+      0 < length (text_said speaker (unless_refused refusal (accepted_event history event)))
+  event-some history event None some =
+      let reply = AckLine (ack_of (event_name event) (state (history ++ added event ∷ []))) in
+      omega (arith, said_line-some speaker reply, length-append (said_line speaker reply) [])
+  event-some history event (Some r) some = cc
 
-answer-some : (refusal : Option Refusal) (outcome : Option Outcome) → (refusal ≡ None → IsSome outcome) →
-    0 < length (text_brought (unless_refused refusal (only_replies (answer_replies outcome))))
-answer-some None None known = let wrong = known refl in cc
-answer-some None (Some outcome) known = one_reply-some (Answered outcome)
-answer-some (Some refusal) outcome known = one_reply-some (Refused refusal)
+  -- and so has a query
+  one_reply-some : (reply : Reply) → 0 < length (text_said speaker (only_replies (reply ∷ [])))
+  one_reply-some reply = omega (arith, said_line-some speaker reply, length-append (said_line speaker reply) [])
 
-pub ask-some : (history : History) (query : Query) → 0 < length (text_brought (command_brings history (Ask query)))
-ask-some history query =
-    answer-some (refuses_query (state history) query) (outcome_of (state history) query) (answer-known (state history) query)
+  answer-some : (refusal : Option Refusal) (outcome : Option Outcome) → (refusal ≡ None → IsSome outcome) →
+      0 < length (text_said speaker (unless_refused refusal (only_replies (answer_replies outcome))))
+  answer-some None None known = let wrong = known refl in cc
+  answer-some None (Some outcome) known = one_reply-some (Answered outcome)
+  answer-some (Some refusal) outcome known = one_reply-some (Refused refusal)
 
-meaning-some : (history : History) (means : Result (Option Command) Refusal) → IsSome (meaning_brings history means).event →
-    0 < length (text_brought (meaning_brings history means))
-meaning-some history (Err refusal) some = cc
-meaning-some history (Ok None) some = cc
-meaning-some history (Ok (Some (Do event))) some = event-some history event (refuses (state history) event) some
-meaning-some history (Ok (Some (Ask query))) some = let none = ask-event history query in cc
-meaning-some history (Ok (Some (Certify query end))) some = let none = certify-event history query end in cc
-meaning-some history (Ok (Some (AskRows series))) some = let none = series-event history series in cc
-meaning-some history (Ok (Some (Windows name))) some = let none = windows-event history name in cc
-meaning-some history (Ok (Some ListAll)) some = cc
+  pub ask-some : (history : History) (query : Query) → 0 < length (text_said speaker (command_brings history (Ask query)))
+  ask-some history query =
+      answer-some (refuses_query (state history) query) (outcome_of (state history) query) (answer-known (state history) query)
+
+  pub meaning-some : (history : History) (means : Result (Option Command) Refusal) → IsSome (meaning_brings history means).event →
+      0 < length (text_said speaker (meaning_brings history means))
+  meaning-some history (Err refusal) some = cc
+  meaning-some history (Ok None) some = cc
+  meaning-some history (Ok (Some (Do event))) some = event-some history event (refuses (state history) event) some
+  meaning-some history (Ok (Some (Ask query))) some = let none = ask-event history query in cc
+  meaning-some history (Ok (Some (Certify query end))) some = let none = certify-event history query end in cc
+  meaning-some history (Ok (Some (AskRows series))) some = let none = series-event history series in cc
+  meaning-some history (Ok (Some (Windows name))) some = let none = windows-event history name in cc
+  meaning-some history (Ok (Some ListAll)) some = cc
 
 pub text-some : (history : History) (line : List ℕ) → IsSome (brings history line).event → 0 < length (line_text history line)
-text-some history line some = meaning-some history (meaning line) some
+text-some history line some = meaning-some None history (meaning line) some
 
 -- A call that only reads adds nothing, where the line brings no event.
 pub Adds-reads : {T : Type 0} (history : History) (brought : Brought) (old new : Told) (result : Result T Status) →

@@ -333,7 +333,7 @@ module _ {was is : RecordsState} (brought : History → Brought) (waiting : Opti
   -- A line that brings no event is answered where nothing waits, and nothing is staged then.
   pub TakesBrought-rows : (result : Result (Unit {0}) Status) → OnOk result (shown_by is new.content ≡ new.content) →
       ((history : History) → Adds history (brought history) old new result) →
-      ((history : History) → Stands history old.content → Replies (brought history) held after result) →
+      ((history : History) → Stands history old.content → Replies None (brought history) held after result) →
       TakesBrought brought (amid was (owed_by waiting) held) (amid is (owed_by waiting) after) result old new
   TakesBrought-rows (Ok u) still adds replies sealing talk ls before line turn = record {
     goes = λ at.

@@ -27,15 +27,15 @@ use Rattle.ss_journal.specs.Kept.{IsSealed}
 use Rattle.ss_outside.specs.Disk.{DiskView, OfContent, Told}
 use Rattle.ss_query.specs.Asked.{seen_of}
 use Rattle.ss_records.specs.Kept.{RecordsState, shown_by}
-use Rattle.ss_report.specs.Text.{reply_line}
+use Rattle.ss_program.specs.Said.{said_line}
 use Rattle.ss_report.specs.declared.reply.Reply.{Reply}
 use Rattle.ss_store.specs.Kept.{StoreState}
 use Rattle.ss_store.specs.Recover.{Recovers}
 use Rattle.ss_store.proofs.KeptStates.{Recovers-StoreIsIn}
 use Rattle.ss_program.specs.Answer.{IsOpen}
 use Rattle.ss_program.specs.Certifying.{HasEvidence}
-use Rattle.ss_program.specs.Line.{Brought, History, certified, command_brings, refused, only_replies, text_brought, unless_refused}
-use Rattle.ss_program.proofs.AnswerLemmas.{StoreIsIn-open, reply_line-some}
+use Rattle.ss_program.specs.Line.{Brought, History, certified, command_brings, refused, only_replies, text_said, unless_refused}
+use Rattle.ss_program.proofs.AnswerLemmas.{StoreIsIn-open, said_line-some}
 
 -- ---- the evidence that a state has
 
@@ -110,16 +110,17 @@ pub brings-certified : (history : History) (query : Query) (end : End) (w : Evid
 brings-certified history query end w none is =
     ap (λ r. unless_refused r (only_replies (certified (evidence_in (state history) query end)))) none ∙ ap (λ o. only_replies (certified o)) is
 
--- so it brings a reply
-head-some : (head : Reply) (rows : List Reply) → 0 < length (flat_map reply_line (head ∷ rows))
-head-some head rows = omega (arith, reply_line-some head, length-append (reply_line head) (flat_map reply_line rows))
+module _ (speaker : Option ℕ) where
+  -- so it brings a reply
+  head-some : (head : Reply) (rows : List Reply) → 0 < length (flat_map (said_line speaker) (head ∷ rows))
+  head-some head rows = omega (arith, said_line-some speaker head, length-append (said_line speaker head) (flat_map (said_line speaker) rows))
 
-pub certified-some : (history : History) (query : Query) (end : End) → refuses_query (state history) query ≡ None →
-    0 < length (text_brought (command_brings history (Certify query end)))
-certified-some history query end none =
-    let known = evidence-known (state history) query end none in
-    subst (λ (b : Brought). 0 < length (text_brought b)) (sym (brings-certified history query end known.0 none known.1))
-    (head-some (head_of known.0) (flat_map (λ c. side_of c true ∷ side_of c false ∷ []) known.0.certs.items))
+  pub certified-some : (history : History) (query : Query) (end : End) → refuses_query (state history) query ≡ None →
+      0 < length (text_said speaker (command_brings history (Certify query end)))
+  certified-some history query end none =
+      let known = evidence-known (state history) query end none in
+      subst (λ (b : Brought). 0 < length (text_said speaker b)) (sym (brings-certified history query end known.0 none known.1))
+      (head-some (head_of known.0) (flat_map (λ c. side_of c true ∷ side_of c false ∷ []) known.0.certs.items))
 
 -- ---- its lines
 

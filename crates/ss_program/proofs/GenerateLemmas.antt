@@ -19,6 +19,7 @@ use Rattle.std.proofs.Common.{
   false,
   cond,
   Option,
+  None,
   Ok,
   Err,
   Result,
@@ -230,11 +231,11 @@ counts-tallied seed count lines all tally tallies =
 -- the counts were sent, and then the last replies, or less than these
 pub Sends-summary : (before held after : Option (List ℕ)) (seed count lines : ℕ) (all : List Reply) (tally : Tally) (sent : Result (Unit {0}) Failed) →
     Tallies lines all tally → held ≡ appended before (first_lines seed count tally.lines tally.done tally.refused) →
-    SendsRows held after tally.last.items sent → Sends before after (summary_lines seed count lines all) sent
+    SendsRows None held after tally.last.items sent → Sends before after (summary_lines seed count lines all) sent
 Sends-summary before held after seed count lines all tally sent tallies is rows =
     Sends-then before held after (first_lines seed count lines (count_by is_done all) (count_by is_refused all)) (flat_map reply_line (last_six all)) sent
     (is ∙ ap (λ bs. appended before bs) (counts-tallied seed count lines all tally tallies))
-    (subst (λ rs. SendsRows held after rs sent) tallies.last rows)
+    (subst (λ rs. SendsRows None held after rs sent) tallies.last rows)
 
 -- or less than the counts
 pub Sends-less : (before after : Option (List ℕ)) (seed count lines : ℕ) (all : List Reply) (tally : Tally) → Tallies lines all tally →

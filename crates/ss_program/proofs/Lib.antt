@@ -17,6 +17,7 @@ pub mod GenerateLemmas
 pub mod LawLemmas
 pub mod UnknownLemmas
 pub mod Rows
+pub mod SaidRows
 pub mod FieldRows
 pub mod AmidRows
 pub mod AmidLemmas

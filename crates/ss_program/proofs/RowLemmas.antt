@@ -46,43 +46,46 @@ use Rattle.ss_line.specs.declared.entry.Entry.{Entry}
 use Rattle.ss_model.specs.Shown.{placed_of}
 use Rattle.ss_model.specs.declared.types.Placed.{Placed}
 use Rattle.ss_model.specs.State.{Stream, state, stream_named}
-use Rattle.ss_report.specs.Text.{reply_line}
+use Rattle.ss_program.specs.Said.{said_line}
 use Rattle.ss_report.specs.declared.reply.Reply.{Reply}
 use Rattle.ss_report.specs.declared.reply.Reply.TheVariants.{Refused, WindowsHead, Window, ListHead}
-use Rattle.ss_program.specs.Line.{Brought, History, command_brings, stream_rows, text_brought, window_rows}
+use Rattle.ss_program.specs.Line.{Brought, History, command_brings, stream_rows, text_said, window_rows}
 use Rattle.ss_program.specs.Sent.{appended, AppendsLess, Sends}
 use Rattle.ss_outside.specs.declared.source.Failed.{Failed}
 use Rattle.ss_program.proofs.SendLemmas.{AppendsLess-after, AppendsLess-none, appended-appended, appended-nil}
-use Rattle.ss_program.proofs.AnswerLemmas.{brings-unknown, brings-windows, reply_line-some}
+use Rattle.ss_program.proofs.AnswerLemmas.{brings-unknown, brings-windows, said_line-some}
 
--- one reply alone
-pub Sends-one : (before after : Option (List ℕ)) {E : Type 0} (reply : Reply) (sent : Result (Unit {0}) E) → Sends before after (reply_line reply) sent →
-    Sends before after (flat_map reply_line (reply ∷ [])) sent
-Sends-one before after reply sent sends = subst (λ bs. Sends before after bs sent) (sym (append-nil (reply_line reply))) sends
+module _ (speaker : Option ℕ) where
+  -- one reply alone
+  pub Sends-one : (before after : Option (List ℕ)) {E : Type 0} (reply : Reply) (sent : Result (Unit {0}) E) → Sends before after (said_line speaker reply)
+      sent →
+      Sends before after (flat_map (said_line speaker) (reply ∷ [])) sent
+  Sends-one before after reply sent sends = subst (λ bs. Sends before after bs sent) (sym (append-nil (said_line speaker reply))) sends
 
-pub Sends-only : (before after : Option (List ℕ)) (brought : Brought) {E : Type 0} (reply : Reply) (sent : Result (Unit {0}) E) →
-    brought.replies ≡ reply ∷ [] → Sends before after (reply_line reply) sent → Sends before after (text_brought brought) sent
-Sends-only before after brought reply sent one sends =
-    subst (λ rs. Sends before after (flat_map reply_line rs) sent) (sym one) (Sends-one before after reply sent sends)
+  pub Sends-only : (before after : Option (List ℕ)) (brought : Brought) {E : Type 0} (reply : Reply) (sent : Result (Unit {0}) E) →
+      brought.replies ≡ reply ∷ [] → Sends before after (said_line speaker reply) sent → Sends before after (text_said speaker brought) sent
+  Sends-only before after brought reply sent one sends =
+      subst (λ rs. Sends before after (flat_map (said_line speaker) rs) sent) (sym one) (Sends-one before after reply sent sends)
 
--- a head was sent, and then its rows
-pub Sends-head : (before held after : Option (List ℕ)) (head : Reply) (rows : List Reply) {E : Type 0} (sent : Result (Unit {0}) E) →
-    held ≡ appended before (reply_line head) → Sends held after (flat_map reply_line rows) sent →
-    Sends before after (flat_map reply_line (head ∷ rows)) sent
-Sends-head before held after head rows (Ok u) is sends =
-    sends ∙ ap (λ o. appended o (flat_map reply_line rows)) is ∙ appended-appended before (reply_line head) (flat_map reply_line rows)
-Sends-head before held after head rows (Err e) is sends =
-    subst (λ bs. AppendsLess before after (reply_line head ++ bs)) (append-nil (flat_map reply_line rows))
-    (AppendsLess-after before held after (reply_line head) (flat_map reply_line rows) [] is sends)
+  -- a head was sent, and then its rows
+  pub Sends-head : (before held after : Option (List ℕ)) (head : Reply) (rows : List Reply) {E : Type 0} (sent : Result (Unit {0}) E) →
+      held ≡ appended before (said_line speaker head) → Sends held after (flat_map (said_line speaker) rows) sent →
+      Sends before after (flat_map (said_line speaker) (head ∷ rows)) sent
+  Sends-head before held after head rows (Ok u) is sends =
+      sends ∙ ap (λ o. appended o (flat_map (said_line speaker) rows)) is ∙ appended-appended before (said_line speaker head) (flat_map (said_line speaker)
+      rows)
+  Sends-head before held after head rows (Err e) is sends =
+      subst (λ bs. AppendsLess before after (said_line speaker head ++ bs)) (append-nil (flat_map (said_line speaker) rows))
+      (AppendsLess-after before held after (said_line speaker head) (flat_map (said_line speaker) rows) [] is sends)
 
--- or less than the head
-pub AppendsLess-head : (before after : Option (List ℕ)) (head : Reply) (rows : List Reply) → AppendsLess before after (reply_line head) →
-    AppendsLess before after (flat_map reply_line (head ∷ rows))
-AppendsLess-head before after head rows less = (
-  less.0,
-  omega (arith, less.1, length-append (reply_line head) (flat_map reply_line rows)),
-  less.2 ∙ ap (λ bs. appended before bs) (sym (take-append-le less.0 (reply_line head) (flat_map reply_line rows) (omega (arith, less.1)))),
-)
+  -- or less than the head
+  pub AppendsLess-head : (before after : Option (List ℕ)) (head : Reply) (rows : List Reply) → AppendsLess before after (said_line speaker head) →
+      AppendsLess before after (flat_map (said_line speaker) (head ∷ rows))
+  AppendsLess-head before after head rows less = (
+    less.0,
+    omega (arith, less.1, length-append (said_line speaker head) (flat_map (said_line speaker) rows)),
+    less.2 ∙ ap (λ bs. appended before bs) (sym (take-append-le less.0 (said_line speaker head) (flat_map (said_line speaker) rows) (omega (arith, less.1)))),
+  )
 
 -- the row at a place stands between those before it and others
 rows-at : (rows : List Reply) (place : ℕ) (row : Reply) → slice_get rows place ≡ Some row →
@@ -105,71 +108,73 @@ pub row-reply : {A B : Type 0} (f : A → B) (g : B → Reply) (xs : List A) (pl
 row-reply f g xs place b is =
     slice_get-map (λ x. g (f x)) xs place ∙ row-option f g (slice_get xs place) b (sym (slice_get-map f xs place) ∙ is)
 
--- the first rows were sent, and one more
-pub rows-more : (before held after : Option (List ℕ)) (rows : List Reply) (place : ℕ) (row : Reply) → slice_get rows place ≡ Some row →
-    held ≡ appended before (flat_map reply_line (take place rows)) → after ≡ appended held (reply_line row) →
-    after ≡ appended before (flat_map reply_line (take (place + 1) rows))
-rows-more before held after rows place row at is sent =
-    let split = rows-at rows place row at in
-    sent ∙ ap (λ o. appended o (reply_line row)) is
-    ∙ appended-appended before (flat_map reply_line (take place rows)) (reply_line row)
-    ∙ ap (λ bs. appended before bs) (ap (λ bs. flat_map reply_line (take place rows) ++ bs) (sym (append-nil (reply_line row)))
-    ∙ sym (flat_map-append reply_line (take place rows) (row ∷ [])) ∙ ap (λ rs. flat_map reply_line rs) (sym split.2))
+module _ (speaker : Option ℕ) where
+  -- the first rows were sent, and one more
+  pub rows-more : (before held after : Option (List ℕ)) (rows : List Reply) (place : ℕ) (row : Reply) → slice_get rows place ≡ Some row →
+      held ≡ appended before (flat_map (said_line speaker) (take place rows)) → after ≡ appended held (said_line speaker row) →
+      after ≡ appended before (flat_map (said_line speaker) (take (place + 1) rows))
+  rows-more before held after rows place row at is sent =
+      let split = rows-at rows place row at in
+      sent ∙ ap (λ o. appended o (said_line speaker row)) is
+      ∙ appended-appended before (flat_map (said_line speaker) (take place rows)) (said_line speaker row)
+      ∙ ap (λ bs. appended before bs) (ap (λ bs. flat_map (said_line speaker) (take place rows) ++ bs) (sym (append-nil (said_line speaker row)))
+      ∙ sym (flat_map-append (said_line speaker) (take place rows) (row ∷ [])) ∙ ap (λ rs. flat_map (said_line speaker) rs) (sym split.2))
 
--- or less than one more
-pub rows-less : (before held after : Option (List ℕ)) (rows : List Reply) (place : ℕ) (row : Reply) → slice_get rows place ≡ Some row →
-    held ≡ appended before (flat_map reply_line (take place rows)) → AppendsLess held after (reply_line row) →
-    AppendsLess before after (flat_map reply_line rows)
-rows-less before held after rows place row at is less =
-    let split = rows-at rows place row at in
-    subst (λ bs. AppendsLess before after bs)
-    (sym (flat_map-append reply_line (take place rows) (row ∷ split.0)) ∙ ap (λ rs. flat_map reply_line rs) (sym split.1))
-    (AppendsLess-after before held after (flat_map reply_line (take place rows)) (reply_line row) (flat_map reply_line split.0) is less)
+  -- or less than one more
+  pub rows-less : (before held after : Option (List ℕ)) (rows : List Reply) (place : ℕ) (row : Reply) → slice_get rows place ≡ Some row →
+      held ≡ appended before (flat_map (said_line speaker) (take place rows)) → AppendsLess held after (said_line speaker row) →
+      AppendsLess before after (flat_map (said_line speaker) rows)
+  rows-less before held after rows place row at is less =
+      let split = rows-at rows place row at in
+      subst (λ bs. AppendsLess before after bs)
+      (sym (flat_map-append (said_line speaker) (take place rows) (row ∷ split.0)) ∙ ap (λ rs. flat_map (said_line speaker) rs) (sym split.1))
+      (AppendsLess-after before held after (flat_map (said_line speaker) (take place rows)) (said_line speaker row) (flat_map (said_line speaker) split.0) is
+      less)
 
--- all rows were sent
-pub rows-all : (before after : Option (List ℕ)) (rows : List Reply) (count : ℕ) → count ≡ length rows →
-    after ≡ appended before (flat_map reply_line (take count rows)) → after ≡ appended before (flat_map reply_line rows)
-rows-all before after rows count all is = is ∙ ap (λ rs. appended before (flat_map reply_line rs)) (take_all count rows (omega (arith, all)))
+  -- all rows were sent
+  pub rows-all : (before after : Option (List ℕ)) (rows : List Reply) (count : ℕ) → count ≡ length rows →
+      after ≡ appended before (flat_map (said_line speaker) (take count rows)) → after ≡ appended before (flat_map (said_line speaker) rows)
+  rows-all before after rows count all is = is ∙ ap (λ rs. appended before (flat_map (said_line speaker) rs)) (take_all count rows (omega (arith, all)))
 
--- the head of `list`, and the rows after it
-pub list-head : (history : History) (before after : Option (List ℕ)) (count : ℕ) → count ≡ length (state history) →
-    AppendsLess before after (reply_line (ListHead count)) → AppendsLess before after (text_brought (command_brings history ListAll))
-list-head history before after count is less =
-    AppendsLess-head before after (ListHead (length (state history))) (stream_rows (state history))
-    (subst (λ n. AppendsLess before after (reply_line (ListHead n))) is less)
+  -- the head of `list`, and the rows after it
+  pub list-head : (history : History) (before after : Option (List ℕ)) (count : ℕ) → count ≡ length (state history) →
+      AppendsLess before after (said_line speaker (ListHead count)) → AppendsLess before after (text_said speaker (command_brings history ListAll))
+  list-head history before after count is less =
+      AppendsLess-head speaker before after (ListHead (length (state history))) (stream_rows (state history))
+      (subst (λ n. AppendsLess before after (said_line speaker (ListHead n))) is less)
 
-pub list-rows : (history : History) (before held after : Option (List ℕ)) (count : ℕ) {E : Type 0} (sent : Result (Unit {0}) E) → count ≡ length
-    (state history) →
-    held ≡ appended before (reply_line (ListHead count)) → Sends held after (flat_map reply_line (stream_rows (state history))) sent →
-    Sends before after (text_brought (command_brings history ListAll)) sent
-list-rows history before held after count sent is first rows =
-    Sends-head before held after (ListHead (length (state history))) (stream_rows (state history)) sent
-    (subst (λ n. held ≡ appended before (reply_line (ListHead n))) is first) rows
+  pub list-rows : (history : History) (before held after : Option (List ℕ)) (count : ℕ) {E : Type 0} (sent : Result (Unit {0}) E) → count ≡ length
+      (state history) →
+      held ≡ appended before (said_line speaker (ListHead count)) → Sends held after (flat_map (said_line speaker) (stream_rows (state history))) sent →
+      Sends before after (text_said speaker (command_brings history ListAll)) sent
+  list-rows history before held after count sent is first rows =
+      Sends-head speaker before held after (ListHead (length (state history))) (stream_rows (state history)) sent
+      (subst (λ n. held ≡ appended before (said_line speaker (ListHead n))) is first) rows
 
--- what `windows` brings: the head, and the rows after it, or the refusal
-pub windows-unknown : (history : History) (name : List ℕ) (before after : Option (List ℕ)) {E : Type 0} (sent : Result (Unit {0}) E) →
-    stream_named name (state history) ≡ None → Sends before after (reply_line (Refused refusals.Unknown)) sent →
-    Sends before after (text_brought (command_brings history (Windows name))) sent
-windows-unknown history name before after sent none sends =
-    subst (λ b. Sends before after (text_brought b) sent) (sym (brings-unknown history name none))
-    (Sends-one before after (Refused refusals.Unknown) sent sends)
+  -- what `windows` brings: the head, and the rows after it, or the refusal
+  pub windows-unknown : (history : History) (name : List ℕ) (before after : Option (List ℕ)) {E : Type 0} (sent : Result (Unit {0}) E) →
+      stream_named name (state history) ≡ None → Sends before after (said_line speaker (Refused refusals.Unknown)) sent →
+      Sends before after (text_said speaker (command_brings history (Windows name))) sent
+  windows-unknown history name before after sent none sends =
+      subst (λ b. Sends before after (text_said speaker b) sent) (sym (brings-unknown history name none))
+      (Sends-one speaker before after (Refused refusals.Unknown) sent sends)
 
-pub windows-head : (history : History) (name : List ℕ) (s : Stream) (before after : Option (List ℕ)) (count : ℕ) →
-    stream_named name (state history) ≡ Some s → count ≡ length s.windows → AppendsLess before after (reply_line (WindowsHead count)) →
-    AppendsLess before after (text_brought (command_brings history (Windows name)))
-windows-head history name s before after count is all less =
-    subst (λ b. AppendsLess before after (text_brought b)) (sym (brings-windows history name s is))
-    (AppendsLess-head before after (WindowsHead (length s.windows)) (window_rows s)
-    (subst (λ n. AppendsLess before after (reply_line (WindowsHead n))) all less))
+  pub windows-head : (history : History) (name : List ℕ) (s : Stream) (before after : Option (List ℕ)) (count : ℕ) →
+      stream_named name (state history) ≡ Some s → count ≡ length s.windows → AppendsLess before after (said_line speaker (WindowsHead count)) →
+      AppendsLess before after (text_said speaker (command_brings history (Windows name)))
+  windows-head history name s before after count is all less =
+      subst (λ b. AppendsLess before after (text_said speaker b)) (sym (brings-windows history name s is))
+      (AppendsLess-head speaker before after (WindowsHead (length s.windows)) (window_rows s)
+      (subst (λ n. AppendsLess before after (said_line speaker (WindowsHead n))) all less))
 
-pub windows-rows : (history : History) (name : List ℕ) (s : Stream) (before held after : Option (List ℕ)) (count : ℕ)
-    {E : Type 0} (sent : Result (Unit {0}) E) → stream_named name (state history) ≡ Some s → count ≡ length s.windows →
-    held ≡ appended before (reply_line (WindowsHead count)) → Sends held after (flat_map reply_line (window_rows s)) sent →
-    Sends before after (text_brought (command_brings history (Windows name))) sent
-windows-rows history name s before held after count sent is all first rows =
-    subst (λ b. Sends before after (text_brought b) sent) (sym (brings-windows history name s is))
-    (Sends-head before held after (WindowsHead (length s.windows)) (window_rows s) sent
-    (subst (λ n. held ≡ appended before (reply_line (WindowsHead n))) all first) rows)
+  pub windows-rows : (history : History) (name : List ℕ) (s : Stream) (before held after : Option (List ℕ)) (count : ℕ)
+      {E : Type 0} (sent : Result (Unit {0}) E) → stream_named name (state history) ≡ Some s → count ≡ length s.windows →
+      held ≡ appended before (said_line speaker (WindowsHead count)) → Sends held after (flat_map (said_line speaker) (window_rows s)) sent →
+      Sends before after (text_said speaker (command_brings history (Windows name))) sent
+  windows-rows history name s before held after count sent is all first rows =
+      subst (λ b. Sends before after (text_said speaker b) sent) (sym (brings-windows history name s is))
+      (Sends-head speaker before held after (WindowsHead (length s.windows)) (window_rows s) sent
+      (subst (λ n. held ≡ appended before (said_line speaker (WindowsHead n))) all first) rows)
 
 -- a fact of a stream that stands, from another
 pub IfSome-more : {A : Type 0} (P Q : A → Type 0) (o : Option A) → ((a : A) → P a → Q a) → IfSome o P → IfSome o Q
@@ -220,76 +225,78 @@ pub rows-fewer : {P : Type 0} (part : Option P) (entries_of : P → List (At × 
 rows-fewer None entries_of at next some stands is = cc
 rows-fewer (Some p) entries_of at next some stands is = omega (arith, stands, is)
 
--- none was sent yet
-pub none-sent : {P : Type 0} (part : Option P) (entries_of : P → List (At × Entry)) (next : Option At) (s : Stream) (held : Option (List ℕ)) →
-    IfSome part (λ p. rows_done (entries_of p) next ≡ 0) →
-    IfSome part (λ p. held ≡ appended held (flat_map reply_line (take (rows_done (entries_of p) next) (window_rows s))))
-none-sent None entries_of next s held first = tt
-none-sent (Some p) entries_of next s held first =
-    subst (λ n. held ≡ appended held (flat_map reply_line (take n (window_rows s)))) (sym first) (sym (appended-nil held))
+module _ (speaker : Option ℕ) where
+  -- none was sent yet
+  pub none-sent : {P : Type 0} (part : Option P) (entries_of : P → List (At × Entry)) (next : Option At) (s : Stream) (held : Option (List ℕ)) →
+      IfSome part (λ p. rows_done (entries_of p) next ≡ 0) →
+      IfSome part (λ p. held ≡ appended held (flat_map (said_line speaker) (take (rows_done (entries_of p) next) (window_rows s))))
+  none-sent None entries_of next s held first = tt
+  none-sent (Some p) entries_of next s held first =
+      subst (λ n. held ≡ appended held (flat_map (said_line speaker) (take n (window_rows s)))) (sym first) (sym (appended-nil held))
 
--- one window more was sent
-pub rows-step : {P : Type 0} (part : Option P) (entries_of : P → List (At × Entry)) (at : At) (next : Option At) (s : Stream) (o : Option Stream)
-    (before held after : Option (List ℕ)) (window : Placed) → o ≡ Some s →
-    IfSome part (λ p. held ≡ appended before (flat_map reply_line (take (index_of (entries_of p) at) (window_rows s)))) →
-    IfSome part (λ p. IfSome o (λ x. slice_get (map placed_of x.windows) (index_of (entries_of p) at) ≡ Some window)) →
-    IfSome part (λ p. rows_done (entries_of p) next ≡ index_of (entries_of p) at + 1) → after ≡ appended held (reply_line (Window window)) →
-    IfSome part (λ p. after ≡ appended before (flat_map reply_line (take (rows_done (entries_of p) next) (window_rows s))))
-rows-step None entries_of at next s o before held after window is so_far row done sent = tt
-rows-step (Some p) entries_of at next s o before held after window is so_far row done sent =
-    let found = subst (λ (x : Option Stream). IfSome x (λ y. slice_get (map placed_of y.windows) (index_of (entries_of p) at) ≡ Some window)) is row in
-    subst (λ n. after ≡ appended before (flat_map reply_line (take n (window_rows s)))) (sym done)
-    (rows-more before held after (window_rows s) (index_of (entries_of p) at) (Window window)
-    (row-reply placed_of (λ w. Window w) s.windows (index_of (entries_of p) at) window found) so_far sent)
+  -- one window more was sent
+  pub rows-step : {P : Type 0} (part : Option P) (entries_of : P → List (At × Entry)) (at : At) (next : Option At) (s : Stream) (o : Option Stream)
+      (before held after : Option (List ℕ)) (window : Placed) → o ≡ Some s →
+      IfSome part (λ p. held ≡ appended before (flat_map (said_line speaker) (take (index_of (entries_of p) at) (window_rows s)))) →
+      IfSome part (λ p. IfSome o (λ x. slice_get (map placed_of x.windows) (index_of (entries_of p) at) ≡ Some window)) →
+      IfSome part (λ p. rows_done (entries_of p) next ≡ index_of (entries_of p) at + 1) → after ≡ appended held (said_line speaker (Window window)) →
+      IfSome part (λ p. after ≡ appended before (flat_map (said_line speaker) (take (rows_done (entries_of p) next) (window_rows s))))
+  rows-step None entries_of at next s o before held after window is so_far row done sent = tt
+  rows-step (Some p) entries_of at next s o before held after window is so_far row done sent =
+      let found = subst (λ (x : Option Stream). IfSome x (λ y. slice_get (map placed_of y.windows) (index_of (entries_of p) at) ≡ Some window)) is row in
+      subst (λ n. after ≡ appended before (flat_map (said_line speaker) (take n (window_rows s)))) (sym done)
+      (rows-more speaker before held after (window_rows s) (index_of (entries_of p) at) (Window window)
+      (row-reply placed_of (λ w. Window w) s.windows (index_of (entries_of p) at) window found) so_far sent)
 
--- or less than one more
-pub rows-cut : {P : Type 0} (part : Option P) (entries_of : P → List (At × Entry)) (at : At) (s : Stream) (o : Option Stream)
-    (before held after : Option (List ℕ)) (window : Placed) → o ≡ Some s → IsSome part →
-    IfSome part (λ p. held ≡ appended before (flat_map reply_line (take (index_of (entries_of p) at) (window_rows s)))) →
-    IfSome part (λ p. IfSome o (λ x. slice_get (map placed_of x.windows) (index_of (entries_of p) at) ≡ Some window)) →
-    AppendsLess held after (reply_line (Window window)) → AppendsLess before after (flat_map reply_line (window_rows s))
-rows-cut None entries_of at s o before held after window is some so_far row less = cc
-rows-cut (Some p) entries_of at s o before held after window is some so_far row less =
-    let found = subst (λ (x : Option Stream). IfSome x (λ y. slice_get (map placed_of y.windows) (index_of (entries_of p) at) ≡ Some window)) is row in
-    rows-less before held after (window_rows s) (index_of (entries_of p) at) (Window window)
-    (row-reply placed_of (λ w. Window w) s.windows (index_of (entries_of p) at) window found) so_far less
+  -- or less than one more
+  pub rows-cut : {P : Type 0} (part : Option P) (entries_of : P → List (At × Entry)) (at : At) (s : Stream) (o : Option Stream)
+      (before held after : Option (List ℕ)) (window : Placed) → o ≡ Some s → IsSome part →
+      IfSome part (λ p. held ≡ appended before (flat_map (said_line speaker) (take (index_of (entries_of p) at) (window_rows s)))) →
+      IfSome part (λ p. IfSome o (λ x. slice_get (map placed_of x.windows) (index_of (entries_of p) at) ≡ Some window)) →
+      AppendsLess held after (said_line speaker (Window window)) → AppendsLess before after (flat_map (said_line speaker) (window_rows s))
+  rows-cut None entries_of at s o before held after window is some so_far row less = cc
+  rows-cut (Some p) entries_of at s o before held after window is some so_far row less =
+      let found = subst (λ (x : Option Stream). IfSome x (λ y. slice_get (map placed_of y.windows) (index_of (entries_of p) at) ≡ Some window)) is row in
+      rows-less speaker before held after (window_rows s) (index_of (entries_of p) at) (Window window)
+      (row-reply placed_of (λ w. Window w) s.windows (index_of (entries_of p) at) window found) so_far less
 
-pub rows-cut-sent : {P : Type 0} (part : Option P) (entries_of : P → List (At × Entry)) (at : At) (s : Stream) (o : Option Stream)
-    (before held after : Option (List ℕ)) (window : Placed) → o ≡ Some s → IsSome part →
-    IfSome part (λ p. held ≡ appended before (flat_map reply_line (take (index_of (entries_of p) at) (window_rows s)))) →
-    IfSome part (λ p. IfSome o (λ x. slice_get (map placed_of x.windows) (index_of (entries_of p) at) ≡ Some window)) →
-    (sent : Result Unit Failed) → IsErr sent → Sends held after (reply_line (Window window)) sent →
-    Sends before after (flat_map reply_line (window_rows s)) sent
-rows-cut-sent part entries_of at s o before held after window is some so_far row (Ok u) failed less = cc
-rows-cut-sent part entries_of at s o before held after window is some so_far row (Err e) failed less =
-    rows-cut part entries_of at s o before held after window is some so_far row less
+  pub rows-cut-sent : {P : Type 0} (part : Option P) (entries_of : P → List (At × Entry)) (at : At) (s : Stream) (o : Option Stream)
+      (before held after : Option (List ℕ)) (window : Placed) → o ≡ Some s → IsSome part →
+      IfSome part (λ p. held ≡ appended before (flat_map (said_line speaker) (take (index_of (entries_of p) at) (window_rows s)))) →
+      IfSome part (λ p. IfSome o (λ x. slice_get (map placed_of x.windows) (index_of (entries_of p) at) ≡ Some window)) →
+      (sent : Result Unit Failed) → IsErr sent → Sends held after (said_line speaker (Window window)) sent →
+      Sends before after (flat_map (said_line speaker) (window_rows s)) sent
+  rows-cut-sent part entries_of at s o before held after window is some so_far row (Ok u) failed less = cc
+  rows-cut-sent part entries_of at s o before held after window is some so_far row (Err e) failed less =
+      rows-cut part entries_of at s o before held after window is some so_far row less
 
--- or one more wasn't read
-pub unread : (before held : Option (List ℕ)) (rows : List Reply) (index : ℕ) → index < length rows →
-    held ≡ appended before (flat_map reply_line (take index rows)) → AppendsLess before held (flat_map reply_line rows)
-unread before held rows index inside so_far = elim (slice_get_cases rows index).1 [
-  | inl here ↦ rows-less before held held rows index here.0 here.2 so_far (AppendsLess-none held (reply_line here.0) (reply_line-some here.0))
-  | inr past ↦ absurd (omega (arith, past.0, inside))
-]
+  -- or one more wasn't read
+  pub unread : (before held : Option (List ℕ)) (rows : List Reply) (index : ℕ) → index < length rows →
+      held ≡ appended before (flat_map (said_line speaker) (take index rows)) → AppendsLess before held (flat_map (said_line speaker) rows)
+  unread before held rows index inside so_far = elim (slice_get_cases rows index).1 [
+    | inl here ↦ rows-less speaker before held held rows index here.0 here.2 so_far (AppendsLess-none held (said_line speaker here.0)
+        (said_line-some speaker here.0))
+    | inr past ↦ absurd (omega (arith, past.0, inside))
+  ]
 
-pub rows-unread : {P : Type 0} (part : Option P) (entries_of : P → List (At × Entry)) (at : At) (s : Stream) (before held : Option (List ℕ)) →
-    IsSome part → IfSome part (λ p. StandsIn (entries_of p) at) → IfSome part (λ p. length (entries_of p) ≡ length s.windows) →
-    IfSome part (λ p. held ≡ appended before (flat_map reply_line (take (index_of (entries_of p) at) (window_rows s)))) →
-    AppendsLess before held (flat_map reply_line (window_rows s))
-rows-unread None entries_of at s before held some stands all so_far = cc
-rows-unread (Some p) entries_of at s before held some stands all so_far =
-    unread before held (window_rows s) (index_of (entries_of p) at) (omega (arith, stands, all, length-map s.windows (λ w. Window (placed_of w)))) so_far
+  pub rows-unread : {P : Type 0} (part : Option P) (entries_of : P → List (At × Entry)) (at : At) (s : Stream) (before held : Option (List ℕ)) →
+      IsSome part → IfSome part (λ p. StandsIn (entries_of p) at) → IfSome part (λ p. length (entries_of p) ≡ length s.windows) →
+      IfSome part (λ p. held ≡ appended before (flat_map (said_line speaker) (take (index_of (entries_of p) at) (window_rows s)))) →
+      AppendsLess before held (flat_map (said_line speaker) (window_rows s))
+  rows-unread None entries_of at s before held some stands all so_far = cc
+  rows-unread (Some p) entries_of at s before held some stands all so_far =
+      unread before held (window_rows s) (index_of (entries_of p) at) (omega (arith, stands, all, length-map s.windows (λ w. Window (placed_of w)))) so_far
 
--- all were sent where none is next
-pub rows-end : {P : Type 0} (part : Option P) (entries_of : P → List (At × Entry)) (next : Option At) (s : Stream) (before held : Option (List ℕ)) →
-    IsSome part →
-    next ≡ None → IfSome part (λ p. length (entries_of p) ≡ length s.windows) →
-    IfSome part (λ p. held ≡ appended before (flat_map reply_line (take (rows_done (entries_of p) next) (window_rows s)))) →
-    held ≡ appended before (flat_map reply_line (window_rows s))
-rows-end None entries_of next s before held some none all so_far = cc
-rows-end (Some p) entries_of None s before held some none all so_far =
-    rows-all before held (window_rows s) (length (entries_of p)) (omega (arith, all, length-map s.windows (λ w. Window (placed_of w)))) so_far
-rows-end (Some p) entries_of (Some at) s before held some none all so_far = cc
+  -- all were sent where none is next
+  pub rows-end : {P : Type 0} (part : Option P) (entries_of : P → List (At × Entry)) (next : Option At) (s : Stream) (before held : Option (List ℕ)) →
+      IsSome part →
+      next ≡ None → IfSome part (λ p. length (entries_of p) ≡ length s.windows) →
+      IfSome part (λ p. held ≡ appended before (flat_map (said_line speaker) (take (rows_done (entries_of p) next) (window_rows s)))) →
+      held ≡ appended before (flat_map (said_line speaker) (window_rows s))
+  rows-end None entries_of next s before held some none all so_far = cc
+  rows-end (Some p) entries_of None s before held some none all so_far =
+      rows-all speaker before held (window_rows s) (length (entries_of p)) (omega (arith, all, length-map s.windows (λ w. Window (placed_of w)))) so_far
+  rows-end (Some p) entries_of (Some at) s before held some none all so_far = cc
 
 -- how many windows are counted
 pub windows-count : {P : Type 0} (part : Option P) (entries_of : P → List (At × Entry)) (s : Stream) (count : ℕ) → IsSome part →

@@ -15,12 +15,12 @@ use Rattle.ss_model.specs.Answers.{outcome_of}
 use Rattle.ss_model.specs.Series.{refuses_series}
 use Rattle.ss_model.specs.State.{Stream, state}
 use Rattle.ss_model.specs.declared.outcome.Outcome.{Outcome}
-use Rattle.ss_report.specs.Text.{reply_line}
+use Rattle.ss_program.specs.Said.{said_line}
 use Rattle.ss_report.specs.declared.reply.Reply.{Reply}
 use Rattle.ss_report.specs.declared.reply.Reply.TheVariants.{SeriesHead, Row}
 use Rattle.ss_store.specs.Asked.{refuses_query_held}
 use Rattle.ss_store.specs.Kept.{StoreState, part_named}
-use Rattle.ss_program.specs.Line.{History, command_brings, refused, row_shown, series_rows, only_replies, text_brought, unless_refused}
+use Rattle.ss_program.specs.Line.{History, command_brings, refused, row_shown, series_rows, only_replies, text_said, unless_refused}
 use Rattle.ss_program.specs.Sent.{appended, AppendsLess, Sends}
 use Rattle.ss_program.proofs.RowLemmas.{AppendsLess-head, Sends-head, rows-all, rows-less, rows-more, unread}
 
@@ -67,34 +67,36 @@ module _ (streams : List Stream) (series : Series) (none : refuses_series stream
       slice_get-series_rows row outcome inside (ap (λ p. outcome_of streams p) (sym q) ∙ is) ∙ ap (λ (p : Query). Some (Row p.from outcome)) (sym q)
 
   -- one row more was sent
-  pub row-sent : (row : ℕ) (query : Query) (outcome : Outcome) (before held after : Option (List ℕ)) → row < row_count series →
+  pub row-sent : (speaker : Option ℕ) (row : ℕ) (query : Query) (outcome : Outcome) (before held after : Option (List ℕ)) → row < row_count series →
       query ≡ row_query series row → outcome_of streams query ≡ Some outcome →
-      held ≡ appended before (flat_map reply_line (take row (series_rows streams series))) → after ≡ appended held (reply_line (Row query.from outcome)) →
-      after ≡ appended before (flat_map reply_line (take (row + 1) (series_rows streams series)))
-  row-sent row query outcome before held after inside q is so_far sent =
-      rows-more before held after (series_rows streams series) row (Row query.from outcome) (row-at row query outcome inside q is) so_far sent
+      held ≡ appended before (flat_map (said_line speaker) (take row (series_rows streams series))) →
+      after ≡ appended held (said_line speaker (Row query.from outcome)) →
+      after ≡ appended before (flat_map (said_line speaker) (take (row + 1) (series_rows streams series)))
+  row-sent speaker row query outcome before held after inside q is so_far sent =
+      rows-more speaker before held after (series_rows streams series) row (Row query.from outcome) (row-at row query outcome inside q is) so_far sent
 
   -- or less than one more
-  pub row-cut : (row : ℕ) (query : Query) (outcome : Outcome) (before held after : Option (List ℕ)) → row < row_count series →
+  pub row-cut : (speaker : Option ℕ) (row : ℕ) (query : Query) (outcome : Outcome) (before held after : Option (List ℕ)) → row < row_count series →
       query ≡ row_query series row → outcome_of streams query ≡ Some outcome →
-      held ≡ appended before (flat_map reply_line (take row (series_rows streams series))) → AppendsLess held after (reply_line (Row query.from outcome)) →
-      AppendsLess before after (flat_map reply_line (series_rows streams series))
-  row-cut row query outcome before held after inside q is so_far less =
-      rows-less before held after (series_rows streams series) row (Row query.from outcome) (row-at row query outcome inside q is) so_far less
+      held ≡ appended before (flat_map (said_line speaker) (take row (series_rows streams series))) →
+      AppendsLess held after (said_line speaker (Row query.from outcome)) →
+      AppendsLess before after (flat_map (said_line speaker) (series_rows streams series))
+  row-cut speaker row query outcome before held after inside q is so_far less =
+      rows-less speaker before held after (series_rows streams series) row (Row query.from outcome) (row-at row query outcome inside q is) so_far less
 
   -- all rows were sent
-  pub row-end : (row : ℕ) (before held : Option (List ℕ)) → row ≡ row_count series →
-      held ≡ appended before (flat_map reply_line (take row (series_rows streams series))) →
-      held ≡ appended before (flat_map reply_line (series_rows streams series))
-  row-end row before held last so_far =
-      rows-all before held (series_rows streams series) row (omega (arith, last, length-series_rows)) so_far
+  pub row-end : (speaker : Option ℕ) (row : ℕ) (before held : Option (List ℕ)) → row ≡ row_count series →
+      held ≡ appended before (flat_map (said_line speaker) (take row (series_rows streams series))) →
+      held ≡ appended before (flat_map (said_line speaker) (series_rows streams series))
+  row-end speaker row before held last so_far =
+      rows-all speaker before held (series_rows streams series) row (omega (arith, last, length-series_rows)) so_far
 
   -- a row wasn't answered
-  pub row-unread : (row : ℕ) (before held : Option (List ℕ)) → row < row_count series →
-      held ≡ appended before (flat_map reply_line (take row (series_rows streams series))) →
-      AppendsLess before held (flat_map reply_line (series_rows streams series))
-  row-unread row before held inside so_far =
-      unread before held (series_rows streams series) row (omega (arith, inside, length-series_rows)) so_far
+  pub row-unread : (speaker : Option ℕ) (row : ℕ) (before held : Option (List ℕ)) → row < row_count series →
+      held ≡ appended before (flat_map (said_line speaker) (take row (series_rows streams series))) →
+      AppendsLess before held (flat_map (said_line speaker) (series_rows streams series))
+  row-unread speaker row before held inside so_far =
+      unread speaker before held (series_rows streams series) row (omega (arith, inside, length-series_rows)) so_far
 
 -- a series that is refused brings its refusal
 pub brings-refused_series : (history : History) (series : Series) (refusal : Refusal) → refuses_series (state history) series ≡ Some refusal →
@@ -108,22 +110,23 @@ pub brings-series : (history : History) (series : Series) → refuses_series (st
 brings-series history series none =
     ap (λ r. unless_refused r (only_replies (SeriesHead (row_count series) ∷ series_rows (state history) series))) none
 
--- less than the head was sent
-pub series-head : (history : History) (series : Series) (before after : Option (List ℕ)) → refuses_series (state history) series ≡ None →
-    AppendsLess before after (reply_line (SeriesHead (row_count series))) →
-    AppendsLess before after (text_brought (command_brings history (AskRows series)))
-series-head history series before after none less =
-    subst (λ b. AppendsLess before after (text_brought b)) (sym (brings-series history series none))
-    (AppendsLess-head before after (SeriesHead (row_count series)) (series_rows (state history) series) less)
+module _ (speaker : Option ℕ) where
+  -- less than the head was sent
+  pub series-head : (history : History) (series : Series) (before after : Option (List ℕ)) → refuses_series (state history) series ≡ None →
+      AppendsLess before after (said_line speaker (SeriesHead (row_count series))) →
+      AppendsLess before after (text_said speaker (command_brings history (AskRows series)))
+  series-head history series before after none less =
+      subst (λ b. AppendsLess before after (text_said speaker b)) (sym (brings-series history series none))
+      (AppendsLess-head speaker before after (SeriesHead (row_count series)) (series_rows (state history) series) less)
 
--- or the head, and the rows after it
-pub series-sent : (history : History) (series : Series) (before held after : Option (List ℕ)) {E : Type 0} (sent : Result (Unit {0}) E) →
-    refuses_series (state history) series ≡ None → held ≡ appended before (reply_line (SeriesHead (row_count series))) →
-    Sends held after (flat_map reply_line (series_rows (state history) series)) sent →
-    Sends before after (text_brought (command_brings history (AskRows series))) sent
-series-sent history series before held after sent none first rows =
-    subst (λ b. Sends before after (text_brought b) sent) (sym (brings-series history series none))
-    (Sends-head before held after (SeriesHead (row_count series)) (series_rows (state history) series) sent first rows)
+  -- or the head, and the rows after it
+  pub series-sent : (history : History) (series : Series) (before held after : Option (List ℕ)) {E : Type 0} (sent : Result (Unit {0}) E) →
+      refuses_series (state history) series ≡ None → held ≡ appended before (said_line speaker (SeriesHead (row_count series))) →
+      Sends held after (flat_map (said_line speaker) (series_rows (state history) series)) sent →
+      Sends before after (text_said speaker (command_brings history (AskRows series))) sent
+  series-sent history series before held after sent none first rows =
+      subst (λ b. Sends before after (text_said speaker b) sent) (sym (brings-series history series none))
+      (Sends-head speaker before held after (SeriesHead (row_count series)) (series_rows (state history) series) sent first rows)
 
 -- a row of a series that isn't refused isn't either, by what is held
 pub row-taken_held : (store : StoreState) (series : Series) (row : ℕ) → 0 < series.step → row < row_count series →

@@ -14,7 +14,7 @@ use Rattle.ss_outside.specs.Disk.{DiskView, OfContent, Told, WhereTold}
 use Rattle.ss_outside.specs.Step.{Step}
 use Rattle.ss_outside.specs.Verdict.{Counted, fine, verdict}
 use Rattle.ss_outside.specs.declared.source.Failed.{Failed}
-use Rattle.ss_report.specs.Text.{reply_line}
+use Rattle.ss_program.specs.Said.{said_line}
 use Rattle.ss_report.specs.declared.reply.Reply.{Reply}
 use Rattle.ss_report.specs.declared.reply.Reply.TheVariants.{Refused}
 use Rattle.ss_journal.specs.Kept.{IsSealed}
@@ -24,7 +24,7 @@ use Rattle.ss_store.specs.Recover.{Stands}
 use Rattle.ss_store.proofs.Calls.{Turns-answers, Turns-failed}
 use Rattle.ss_program.specs.Answer.{AppliesEvent, AsksQuery, DoesCommand, IsOpen, Shows, TakesLine, at_sink}
 use Rattle.ss_program.specs.Devices.{Devices, over}
-use Rattle.ss_program.specs.Line.{Brought, History, command_brings, history_after, nothing, refused, text_brought}
+use Rattle.ss_program.specs.Line.{Brought, History, command_brings, history_after, nothing, refused, text_said}
 use Rattle.ss_program.specs.Progress.{StandsAround}
 use Rattle.ss_program.specs.Sent.{appended, AppendsLess, Puts, Sends}
 use Rattle.ss_program.specs.Status.{IsApplyStop, IsDiskStop, IsShowStop, IsStop, disk_verdict, ended, sink_verdict}
@@ -82,11 +82,12 @@ sends-less before after text (Ok u) failed less = cc
 sends-less before after text (Err e) failed less = less
 
 -- one reply was sent, whatever the history
-pub Shows-reply : (text : History → List ℕ → Type 0) (old new : DiskView) (store : StoreState) (before after : Option (List ℕ)) (had has : ℕ)
-    (reply : Reply) (sent : Result Unit Failed) → Step fine old new OnlyReads → IsOpen new store → Puts (reply_line reply) before had after has sent →
-    OfContent old (λ content. (history : History) → Stands history content → (bytes : List ℕ) → text history bytes → bytes ≡ reply_line reply) →
+pub Shows-reply : (speaker : Option ℕ) (text : History → List ℕ → Type 0) (old new : DiskView) (store : StoreState) (before after : Option (List ℕ))
+    (had has : ℕ) (reply : Reply) (sent : Result Unit Failed) → Step fine old new OnlyReads → IsOpen new store →
+    Puts (said_line speaker reply) before had after has sent →
+    OfContent old (λ content. (history : History) → Stands history content → (bytes : List ℕ) → text history bytes → bytes ≡ said_line speaker reply) →
     Shows text (over old before had) (over new after has) store (at_sink sent)
-Shows-reply text old new store before after had has reply sent reads opens puts are =
+Shows-reply speaker text old new store before after had has reply sent reads opens puts are =
     Shows-sent text old new store before after had has sent reads opens puts.counted
     (λ told history stands bytes is. subst (λ bs. Sends before after bs sent) (sym (are told history stands bytes is)) puts.sends)
 
@@ -126,30 +127,31 @@ show-stop tells (Ok u) stop = tt
 show-stop tells (Err status) stop = IsStop-show tells status stop
 
 -- a line that brings no event: what it brings was shown
-pub TakesLine-shown : (brought : History → Brought) (text : History → List ℕ → Type 0) (old new : Devices) (store : StoreState)
+pub TakesLine-shown : (speaker : Option ℕ) (brought : History → Brought) (text : History → List ℕ → Type 0) (old new : Devices) (store : StoreState)
     (result : Result Unit Status) →
     WhereTold old.disk KnowsNow → ((history : History) → (brought history).event ≡ None) →
-    ((history : History) → text history (text_brought (brought history))) → Shows text old new store result → TakesLine brought old new store result
-TakesLine-shown brought text old new store result knows none is shows = record {
+    ((history : History) → text history (text_said speaker (brought history))) → Shows text old new store result →
+    TakesLine speaker brought old new store result
+TakesLine-shown speaker brought text old new store result knows none is shows = record {
   adds = record {
     tells = shows.reads.tells;
     counted = shows.reads.counted;
     told = λ told history. Adds-reads history (brought history) old.disk.told new.disk.told result (λ _. none history) (knows told) (shows.reads.told told);
   };
   untouched = λ memory. show-memory old.disk.tells result shows.status memory;
-  replies = λ told history stands. Replies-only_replies old.disk.tells (brought history) old.held new.held result shows.status
-      (shows.sends told history stands (text_brought (brought history)) (is history));
+  replies = λ told history stands. Replies-only_replies speaker old.disk.tells (brought history) old.held new.held result shows.status
+      (shows.sends told history stands (text_said speaker (brought history)) (is history));
   counted = shows.counted;
   opens = shows.opens;
   status = show-stop old.disk.tells result shows.status;
 }
 
 -- an event was applied, and its reply sent
-pub TakesLine-applied : (event : Event) (old new : DiskView) (store : StoreState) (before after : Option (List ℕ)) (had has : ℕ) (reply : Reply)
-    (sent : Result Unit Failed) → Step fine old new (AppliesEvent event (Ok reply)) → IsOpen new store →
-    Puts (reply_line reply) before had after has sent →
-    TakesLine (λ history. command_brings history (Do event)) (over old before had) (over new after has) store (at_sink sent)
-TakesLine-applied event old new store before after had has reply (Ok u) applies opens puts = record {
+pub TakesLine-applied : (speaker : Option ℕ) (event : Event) (old new : DiskView) (store : StoreState) (before after : Option (List ℕ)) (had has : ℕ)
+    (reply : Reply) (sent : Result Unit Failed) → Step fine old new (AppliesEvent event (Ok reply)) → IsOpen new store →
+    Puts (said_line speaker reply) before had after has sent →
+    TakesLine speaker (λ history. command_brings history (Do event)) (over old before had) (over new after has) store (at_sink sent)
+TakesLine-applied speaker event old new store before after had has reply (Ok u) applies opens puts = record {
   adds = record {
     tells = applies.tells;
     counted = applies.counted;
@@ -159,13 +161,14 @@ TakesLine-applied event old new store before after had has reply (Ok u) applies 
         ((applies.told told).does.adds history);
   };
   untouched = λ memory. cc;
-  replies = λ told history stands. Replies-sent (command_brings history (Do event)) before after reply (Ok u) ((applies.told told).does.reply history stands)
+  replies = λ told history stands. Replies-sent speaker (command_brings history (Do event)) before after reply (Ok u) ((applies.told told).does.reply history
+      stands)
       puts.sends;
   counted = puts.counted;
   opens = opens;
   status = tt;
 }
-TakesLine-applied event old new store before after had has reply (Err e) applies opens puts = record {
+TakesLine-applied speaker event old new store before after had has reply (Err e) applies opens puts = record {
   adds = record {
     tells = applies.tells;
     counted = applies.counted;
@@ -175,7 +178,7 @@ TakesLine-applied event old new store before after had has reply (Err e) applies
         ((applies.told told).does.adds history);
   };
   untouched = λ memory. cc;
-  replies = λ told history stands. Replies-sent (command_brings history (Do event)) before after reply (Err e)
+  replies = λ told history stands. Replies-sent speaker (command_brings history (Do event)) before after reply (Err e)
       ((applies.told told).does.reply history stands) puts.sends;
   counted = puts.counted;
   opens = tt;
@@ -195,10 +198,10 @@ apply-counted tells n SinkFault stop = absurd stop
 apply-counted tells n InputLimit stop = absurd stop
 
 -- the run stopped at an event
-pub TakesLine-stopped : (event : Event) (old new : DiskView) (store : StoreState) (held : Option (List ℕ)) (n : ℕ) (status : Status) →
+pub TakesLine-stopped : (speaker : Option ℕ) (event : Event) (old new : DiskView) (store : StoreState) (held : Option (List ℕ)) (n : ℕ) (status : Status) →
     Step (disk_verdict status) old new (AppliesEvent event (Err status)) → IsApplyStop old.tells status →
-    TakesLine (λ history. command_brings history (Do event)) (over old held n) (over new held n) store (Err status)
-TakesLine-stopped event old new store held n status applies stop = record {
+    TakesLine speaker (λ history. command_brings history (Do event)) (over old held n) (over new held n) store (Err status)
+TakesLine-stopped speaker event old new store held n status applies stop = record {
   adds = record {
     tells = applies.tells;
     counted = applies.counted;
@@ -211,7 +214,8 @@ TakesLine-stopped event old new store held n status applies stop = record {
   untouched = λ memory told. (applies.told told).does.untouched memory;
   replies = λ told history stands.
       let some = (applies.told told).accepted history stands in
-      Replies-stopped old.tells (command_brings history (Do event)) held status stop some (event-some history event (refuses (state history) event) some);
+      Replies-stopped speaker old.tells (command_brings history (Do event)) held status stop some (event-some speaker history event
+      (refuses (state history) event) some);
   counted = apply-counted old.tells n status stop;
   opens = tt;
   status = IsStop-apply old.tells status stop;
@@ -225,22 +229,3 @@ DoesCommand-asked was brought result old new sealed knows none asks = record {
   reply = λ history stands. asks.reply history (Stands-only_replies was old.content history sealed stands);
   untouched = λ _. asks.reads;
 }
-
--- a line that is refused, and one that brings nothing
-pub TakesLine-refused : (refusal : Refusal) (disk : DiskView) (store : StoreState) (before after : Option (List ℕ)) (had has : ℕ)
-    (sent : Result Unit Failed) → WhereTold disk KnowsNow → IsOpen disk store → Puts (reply_line (Refused refusal)) before had after has sent →
-    TakesLine (λ history. refused refusal) (over disk before had) (over disk after has) store (at_sink sent)
-TakesLine-refused refusal disk store before after had has sent knows opens puts =
-    let text : History → List ℕ → Type 0 = λ history bytes. bytes ≡ text_brought (refused refusal) in
-    TakesLine-shown (λ history. refused refusal) text (over disk before had) (over disk after has) store (at_sink sent) knows (λ history. refl)
-    (λ history. refl)
-    (Shows-reply text disk disk store before after had has (Refused refusal) sent (still disk) opens puts
-    (λ told history stands bytes is. is ∙ append-nil (reply_line (Refused refusal))))
-
-pub TakesLine-nothing : (disk : DiskView) (store : StoreState) (held : Option (List ℕ)) (n : ℕ) (u : Unit {0}) → WhereTold disk KnowsNow →
-    IsOpen disk store → TakesLine (λ history. nothing) (over disk held n) (over disk held n) store (Ok u)
-TakesLine-nothing disk store held n u knows opens =
-    let text : History → List ℕ → Type 0 = λ history bytes. bytes ≡ [] in
-    TakesLine-shown (λ history. nothing) text (over disk held n) (over disk held n) store (Ok u) knows (λ history. refl) (λ history. refl)
-    (Shows-sent text disk disk store held held n n (Ok u) (still disk) opens refl
-    (λ told history stands bytes is. subst (λ bs. held ≡ appended held bs) (sym is) (sym (appended-nil held))))

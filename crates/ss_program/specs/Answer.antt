@@ -14,7 +14,7 @@ use Rattle.ss_outside.specs.Disk.{Between, DiskView, OfContent, Told}
 use Rattle.ss_outside.specs.Step.{Step}
 use Rattle.ss_outside.specs.Verdict.{Counted}
 use Rattle.ss_outside.specs.declared.source.Failed.{Failed}
-use Rattle.ss_report.specs.Text.{reply_line}
+use Rattle.ss_program.specs.Said.{said_line}
 use Rattle.ss_report.specs.declared.reply.Reply.{Reply}
 use Rattle.ss_journal.specs.Kept.{IsSealed}
 use Rattle.ss_records.specs.Kept.{RecordsState, shown_by}
@@ -22,9 +22,9 @@ use Rattle.ss_store.specs.Calls.{Turns}
 use Rattle.ss_store.specs.Kept.{StoreIsKept, StoreState, part_numbered}
 use Rattle.ss_store.specs.Recover.{Stands}
 use Rattle.ss_program.specs.Devices.{Devices}
-use Rattle.ss_program.specs.Line.{Brought, History, command_brings, history_after, text_brought, window_rows}
-use Rattle.ss_program.specs.Progress.{StandsAround, StopsWith}
-use Rattle.ss_program.specs.Sent.{appended, Sends}
+use Rattle.ss_program.specs.Line.{Brought, History, command_brings, history_after, text_said, window_rows}
+use Rattle.ss_program.specs.Progress.{StandsAround}
+use Rattle.ss_program.specs.Sent.{appended, Sends, StopsSaying}
 use Rattle.ss_program.specs.Status.{disk_verdict, ended, sink_verdict, IsShowStop, IsStop}
 use Rattle.ss_program.specs.declared.status.Status.{Status}
 use Rattle.ss_program.specs.declared.status.Status.TheVariants.{OutOfMemory, SinkFault}
@@ -40,18 +40,18 @@ pub record IsOpen (disk : DiskView) (store : StoreState) : Type 0 where
   pub sealed : IsSealed store.records.journal
 
 -- rows were sent, each in its turn, or less than all of them
-abbrev pub SendsRows : {E : Type 0} → Option (List ℕ) → Option (List ℕ) → List Reply → Result Unit E → Type 0
-SendsRows before after rows result = Sends before after (flat_map reply_line rows) result
+abbrev pub SendsRows : {E : Type 0} → Option ℕ → Option (List ℕ) → Option (List ℕ) → List Reply → Result Unit E → Type 0
+SendsRows speaker before after rows result = Sends before after (flat_map (said_line speaker) rows) result
 
 -- the status of a run whose sink failed here
 abbrev pub at_sink : Result Unit Failed → Result Unit Status
 at_sink (Ok u) = Ok u
 at_sink (Err e) = Err SinkFault
 
--- what a line brings was sent, or the run stops with it
-abbrev pub Replies : Brought → Option (List ℕ) → Option (List ℕ) → Result Unit Status → Type 0
-Replies brought before after (Ok u) = after ≡ appended before (text_brought brought)
-Replies brought before after (Err status) = StopsWith brought before after status
+-- what a line brings was said, or the run stops with it
+abbrev pub Replies : Option ℕ → Brought → Option (List ℕ) → Option (List ℕ) → Result Unit Status → Type 0
+Replies speaker brought before after (Ok u) = after ≡ appended before (text_said speaker brought)
+Replies speaker brought before after (Err status) = StopsSaying (text_said speaker brought) (IsSome brought.event) before after status
 
 -- What a line brings is added to the history that the disk stands for, wholly or not at all, also in a crash.
 abbrev pub Adds : {T : Type 0} → History → Brought → Told → Told → Result T Status → Type 0
@@ -87,12 +87,12 @@ pub record ReadsRow (number : ℕ) (at : At) (store : StoreState) (result : Resu
   pub reads : OnlyReads old new
 
 -- the text of what a command brings, and that of the rows of the windows of the stream of a number
-abbrev pub IsTextBrought : Command → History → List ℕ → Type 0
-IsTextBrought command history bytes = bytes ≡ text_brought (command_brings history command)
+abbrev pub IsTextBrought : Option ℕ → Command → History → List ℕ → Type 0
+IsTextBrought speaker command history bytes = bytes ≡ text_said speaker (command_brings history command)
 
-abbrev pub IsRowsText : ℕ → History → List ℕ → Type 0
-IsRowsText number history bytes =
-    (s : Stream) × (stream_numbered number (state history) ≡ Some s) × (bytes ≡ flat_map reply_line (window_rows s))
+abbrev pub IsRowsText : Option ℕ → ℕ → History → List ℕ → Type 0
+IsRowsText speaker number history bytes =
+    (s : Stream) × (stream_numbered number (state history) ≡ Some s) × (bytes ≡ flat_map (said_line speaker) (window_rows s))
 
 -- Something of the store is shown: the text of it is sent, which may go by the history, and the disk is only read.
 pub record Shows (text : History → List ℕ → Type 0) (old new : Devices) (store : StoreState) (result : Result Unit Status) : Type 0 where
@@ -104,11 +104,12 @@ pub record Shows (text : History → List ℕ → Type 0) (old new : Devices) (s
   pub status : IfErr result (IsShowStop old.disk.tells)
 
 -- A line is answered: what it brings is added and replied, or the run stops at it. Where memory runs out, nothing was done.
-pub record TakesLine (brought : History → Brought) (old new : Devices) (store : StoreState) (result : Result Unit Status) : Type 0 where
-  pub adds : Step (disk_verdict (ended result)) old.disk new.disk (λ a b. (history : History) → Adds history (brought history) a b result)
-  pub untouched : ended result ≡ OutOfMemory → Between old.disk new.disk OnlyReads
-  pub replies : OfContent old.disk (λ content. (history : History) → Stands history content →
-      Replies (brought history) old.held new.held result)
-  pub counted : Counted (sink_verdict (ended result)) old.faults new.faults
-  pub opens : OnOk result (IsOpen new.disk store)
-  pub status : IfErr result (IsStop old.disk.tells)
+pub record TakesLine (speaker : Option ℕ) (brought : History → Brought) (old new : Devices) (store : StoreState) (result : Result Unit Status) : Type 0
+  where
+    pub adds : Step (disk_verdict (ended result)) old.disk new.disk (λ a b. (history : History) → Adds history (brought history) a b result)
+    pub untouched : ended result ≡ OutOfMemory → Between old.disk new.disk OnlyReads
+    pub replies : OfContent old.disk (λ content. (history : History) → Stands history content →
+        Replies speaker (brought history) old.held new.held result)
+    pub counted : Counted (sink_verdict (ended result)) old.faults new.faults
+    pub opens : OnOk result (IsOpen new.disk store)
+    pub status : IfErr result (IsStop old.disk.tells)

@@ -1,3 +1,4 @@
+pub mod Said
 pub mod Line
 pub mod Talk
 pub mod Session

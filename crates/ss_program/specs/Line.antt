@@ -1,5 +1,5 @@
 -- What one line brings: the one place that says what a line does to the history before it.
-use Rattle.std.specs.Prelude.{ℕ, List, [], ◌∷◌, ◌++◌, length, map, flat_map, Option, Some, None, Result, Ok, Err}
+use Rattle.std.specs.Prelude.{ℕ, ◌<◌, List, [], ◌∷◌, ◌++◌, length, map, flat_map, Option, Some, None, IfSome, Result, Ok, Err}
 use Rattle.ss_catalog.specs.Events.{event_name}
 use Rattle.ss_catalog.specs.Series.{row_count, row_query, row_start, rows_of}
 use Rattle.ss_catalog.specs.declared.event.Event.{Event}
@@ -21,6 +21,7 @@ use Rattle.ss_model.specs.State.{Stream, state, stream_named}
 use Rattle.ss_model.specs.Steps.{ack_of}
 use Rattle.ss_model.specs.declared.outcome.Outcome.{Outcome}
 use Rattle.ss_report.specs.Text.{reply_line}
+use Rattle.ss_program.specs.Said.{said_line}
 use Rattle.ss_report.specs.declared.reply.Reply.{Reply}
 use Rattle.ss_report.specs.declared.reply.Reply.TheVariants.{Done, Answered, Refused, SeriesHead, Row, WindowsHead, Window, ListHead, Stream as StreamRow}
 
@@ -116,6 +117,14 @@ kept_brings history (Some line) = meaning_brings history (meaning line)
 -- what a line brings after a history
 abbrev pub brings : History → List ℕ → Brought
 brings history line = meaning_brings history (meaning line)
+
+-- who a reply is said to: one of the eight sessions, or none
+abbrev pub IsSpeaker : Option ℕ → Type 0
+IsSpeaker speaker = IfSome speaker (λ session. session < 8)
+
+-- the text of what a line brings, as it is said to a session, or to none
+abbrev pub text_said : Option ℕ → Brought → List ℕ
+text_said speaker brought = flat_map (said_line speaker) brought.replies
 
 -- the text of what a line brings
 abbrev pub text_brought : Brought → List ℕ

@@ -7,14 +7,14 @@ use Rattle.ss_outside.specs.Disk.{Told, NothingPending}
 use Rattle.ss_store.specs.Kept.{StoreState}
 use Rattle.ss_store.specs.Recover.{Stands}
 use Rattle.ss_program.specs.Line.{Brought, History, history_after, text_brought}
-use Rattle.ss_program.specs.Sent.{appended, AppendsLess}
+use Rattle.ss_program.specs.Sent.{appended, StopsSaying}
 use Rattle.ss_program.specs.Session.{after_lines, text_of, report_so_far}
 use Rattle.ss_program.specs.Talk.{Cursors, Talk, turn_of}
 use Rattle.ss_arguments.specs.declared.mode.Form.{Form}
 use Rattle.ss_arguments.specs.declared.mode.Sealing.{Sealing}
 use Rattle.ss_arguments.specs.declared.mode.Sealing.TheVariants.{Each, Shared}
 use Rattle.ss_program.specs.declared.status.Status.{Status}
-use Rattle.ss_program.specs.declared.status.Status.TheVariants.{Done, DiskFault, SinkFault, OutOfMemory, RecordChanged}
+use Rattle.ss_program.specs.declared.status.Status.TheVariants.{Done, OutOfMemory}
 
 -- what contracts see of a session: the form of its input, its store, what is kept of the line that is under way, the cursors, and where
 -- events share seals the replies that wait for one
@@ -69,11 +69,7 @@ pub record GoesOn (sealing : Sealing) (talk : Talk) (old new : Told) (session : 
 -- What is left in the sink of what a line brings at which a run stops. Where the sink or the disk failed, it got less than
 -- the text of it. Memory runs out before any reply to the line, and only at one that brings an event.
 abbrev pub StopsWith : Brought → Option (List ℕ) → Option (List ℕ) → Status → Type 0
-StopsWith brought before after SinkFault = AppendsLess before after (text_brought brought)
-StopsWith brought before after DiskFault = AppendsLess before after (text_brought brought)
-StopsWith brought before after RecordChanged = AppendsLess before after (text_brought brought)
-StopsWith brought before after OutOfMemory = (after ≡ before) × IsSome brought.event
-StopsWith brought before after status = ⊥
+StopsWith brought before after status = StopsSaying (text_brought brought) (IsSome brought.event) before after status
 
 -- the image stands for the history after some first lines of these, to which at least so many bytes are said
 abbrev pub StandsBeyond : Talk → List (List ℕ) → ℕ → List ℕ → Type 0

@@ -1,5 +1,5 @@
 -- What showing a series does.
-use Rattle.std.specs.Prelude.{◌≡◌, ℕ, List, flat_map, IfOk, Result, Some}
+use Rattle.std.specs.Prelude.{◌≡◌, ℕ, List, flat_map, IfOk, Option, Result, Some}
 use Rattle.ss_catalog.specs.declared.query.Query.{Query}
 use Rattle.ss_catalog.specs.declared.series.Series.{Series}
 use Rattle.ss_model.specs.Answers.{outcome_of}
@@ -7,7 +7,7 @@ use Rattle.ss_model.specs.State.{state}
 use Rattle.ss_model.specs.declared.outcome.Outcome.{Outcome}
 use Rattle.ss_outside.specs.Crash.{OnlyReads}
 use Rattle.ss_outside.specs.Disk.{Told}
-use Rattle.ss_report.specs.Text.{reply_line}
+use Rattle.ss_program.specs.Said.{said_line}
 use Rattle.ss_store.specs.Recover.{Stands}
 use Rattle.ss_program.specs.Line.{History, series_rows}
 use Rattle.ss_program.specs.declared.status.Status.{Status}
@@ -18,5 +18,5 @@ pub record AnswersQuery (query : Query) (result : Result Outcome Status) (old ne
   pub reads : OnlyReads old new
 
 -- the text of the rows of a series
-abbrev pub IsSeriesText : Series → History → List ℕ → Type 0
-IsSeriesText series history bytes = bytes ≡ flat_map reply_line (series_rows (state history) series)
+abbrev pub IsSeriesText : Option ℕ → Series → History → List ℕ → Type 0
+IsSeriesText speaker series history bytes = bytes ≡ flat_map (said_line speaker) (series_rows (state history) series)

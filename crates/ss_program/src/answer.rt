@@ -1,35 +1,35 @@
 // One line: what it says is done, and what it brings is replied.
 ghost use Rattle.std.specs.Prelude.{◌≡◌, ◌≤◌, [], ◌∷◌, ℕ, List, flat_map, length, Some, IsSome, IfErr, IfSome, OnOk};
-ghost use Rattle.std.specs.Option.{option_copied};
 ghost use Rattle.ss_catalog.specs.Events.{IsInTime};
 ghost use Rattle.ss_command.specs.Printed.{IsCommandInTime};
 ghost use Rattle.ss_line.specs.Line.{StandsIn};
 ghost use Rattle.ss_model.specs.State.{Stream, state, stream_numbered};
 ghost use Rattle.ss_outside.specs.Step.{Step};
 ghost use Rattle.ss_outside.specs.Verdict.{Counted, verdict};
-ghost use Rattle.ss_report.specs.Text.{reply_line};
+ghost use Rattle.ss_program.specs.Said.{said_line};
 ghost use Rattle.ss_store.specs.Kept.{StoreIsIn, part_numbered};
 ghost use Rattle.ss_store.specs.Recover.{Stands};
 ghost use Rattle.ss_program.specs.Answer.{AppliesEvent, AsksQuery, IsOpen, IsRowsText, IsServing, IsTextBrought, ReadsRow, SendsRows, Shows, TakesLine};
 ghost use Rattle.ss_program.specs.Answer.{at_sink};
 ghost use Rattle.ss_program.specs.Devices.{over};
-ghost use Rattle.ss_program.specs.Line.{History, command_brings, kept_brings, stream_rows, text_brought, window_rows};
+ghost use Rattle.ss_program.specs.Line.{History, command_brings, stream_rows, text_said, window_rows, IsSpeaker};
 ghost use Rattle.ss_program.specs.Sent.{Puts, Sends};
 ghost use Rattle.ss_program.specs.declared.status.Status.{Status};
 ghost use Rattle.ss_program.specs.Status.{disk_verdict, ended, IsApplyStop, IsDiskStop};
 ghost use Rattle.ss_command.specs.declared.command.Command.TheVariants.{Do, Ask, Windows, List as ListAll};
 
 use crate::certifying::show_certificate;
+use crate::said::said_text;
 use crate::sending::send;
 use crate::series::show_series;
 use crate::status::Status;
 use arrayvec::ArrayString;
 use ss_catalog::{Event, Name, Query, Refusal, StreamId};
-use ss_command::{Command, LONGEST_LINE, parse};
+use ss_command::Command;
 use ss_line::At;
 use ss_model::Placed;
 use ss_outside::{Disk, Failed, Sink};
-use ss_report::{Reply, reply_text};
+use ss_report::Reply;
 use ss_store::{ApplyError, AskError, Store};
 
 /// The status where a sink failed.
@@ -42,21 +42,27 @@ pub fn at_sink(sent: Result<(), Failed>) -> Result<(), Status>
     }
 }
 
-/// Sends the text of a reply as one piece.
-pub fn send_reply<K: Sink>(reply: &Reply, sink: &mut K) -> Result<(), Failed>
-    ensures { Puts (reply_line reply.now) (K.held sink.old) (K.faults sink.old) (K.held sink.new) (K.faults sink.new) result }
+/// Says a reply to a session or to none: sends its text as one piece.
+pub fn send_reply<K: Sink>(speaker: Option<u8>, reply: &Reply, sink: &mut K) -> Result<(), Failed>
+    requires speaker { IsSpeaker speaker }
+    ensures { Puts (said_line speaker reply.now) (K.held sink.old) (K.faults sink.old) (K.held sink.new) (K.faults sink.new) result }
 {
     let mut text = ArrayString::new();
-    reply_text(reply, &mut text);
+    said_text(speaker, reply, &mut text);
     send(sink, text.as_str().as_bytes())
 }
 
-/// Sends some replies, each as one piece.
-pub fn send_replies<K: Sink>(replies: &[Reply], sink: &mut K) -> Result<(), Failed>
-    ensures { Puts (flat_map reply_line replies.now) (K.held sink.old) (K.faults sink.old) (K.held sink.new) (K.faults sink.new) result }
+/// Says some replies, each as one piece.
+pub fn send_replies<K: Sink>(
+    speaker: Option<u8>,
+    replies: &[Reply],
+    sink: &mut K,
+) -> Result<(), Failed>
+    requires speaker { IsSpeaker speaker }
+    ensures { Puts (flat_map (said_line speaker) replies.now) (K.held sink.old) (K.faults sink.old) (K.held sink.new) (K.faults sink.new) result }
 {
     for reply in replies {
-        send_reply(reply, sink)?;
+        send_reply(speaker, reply, sink)?;
     }
     Ok(())
 }
@@ -81,65 +87,76 @@ fn read<D: Disk>(store: &mut Store, id: StreamId, at: At, disk: &mut D) -> Resul
 
 // Sends a row for each window of a stream, oldest first.
 fn send_windows<D: Disk, K: Sink>(
+    speaker: Option<u8>,
     store: &mut Store,
     id: StreamId,
     disk: &mut D,
     sink: &mut K,
 ) -> Result<(), Status>
+    requires speaker { IsSpeaker speaker }
     requires open { IsOpen (D.seen disk.old) store.old }
     requires stands { IsSome (part_numbered id.0 store.old.streams) }
-    ensures { Shows (IsRowsText id.0) (over (D.seen disk.old) (K.held sink.old) (K.faults sink.old))
+    ensures { Shows (IsRowsText speaker id.0) (over (D.seen disk.old) (K.held sink.old) (K.faults sink.old))
         (over (D.seen disk.new) (K.held sink.new) (K.faults sink.new)) store.new result }
 {
     let mut next = store.window_first(id);
     while let Some(at) = next {
         let window = read(store, id, at, disk)?;
-        at_sink(send_reply(&Reply::Window(window), sink))?;
+        at_sink(send_reply(speaker, &Reply::Window(window), sink))?;
         next = store.window_after(id, at);
     }
     Ok(())
 }
 
 // Sends a row for each stream, in order of creation.
-fn send_streams<K: Sink>(store: &Store, count: u32, sink: &mut K) -> Result<(), Failed>
-    requires { count ≡ length store.now.streams }
+fn send_streams<K: Sink>(
+    speaker: Option<u8>,
+    store: &Store,
+    count: u32,
+    sink: &mut K,
+) -> Result<(), Failed>
+    requires speaker { IsSpeaker speaker }
+    requires count { count ≡ length store.now.streams }
     ensures sends { (history : History) (content : List ℕ) → StoreIsIn store.now content → Stands history content →
-        SendsRows (K.held sink.old) (K.held sink.new) (stream_rows (state history)) result }
+        SendsRows speaker (K.held sink.old) (K.held sink.new) (stream_rows (state history)) result }
     ensures counted { Counted (verdict result) (K.faults sink.old) (K.faults sink.new) }
 {
     for place in 0..count {
-        send_reply(&Reply::Stream(store.stream(place)), sink)?;
+        send_reply(speaker, &Reply::Stream(store.stream(place)), sink)?;
     }
     Ok(())
 }
 
 // Shows the windows of a stream, if it stands.
 fn show_windows<D: Disk, K: Sink>(
+    speaker: Option<u8>,
     store: &mut Store,
     name: &Name,
     disk: &mut D,
     sink: &mut K,
 ) -> Result<(), Status>
+    requires speaker { IsSpeaker speaker }
     requires open { IsOpen (D.seen disk.old) store.old }
-    ensures { Shows (IsTextBrought (Windows name.now)) (over (D.seen disk.old) (K.held sink.old) (K.faults sink.old))
+    ensures { Shows (IsTextBrought speaker (Windows name.now)) (over (D.seen disk.old) (K.held sink.old) (K.faults sink.old))
         (over (D.seen disk.new) (K.held sink.new) (K.faults sink.new)) store.new result }
 {
     let Some(id) = store.find(name) else {
-        return at_sink(send_reply(&Reply::Refused(Refusal::Unknown), sink));
+        return at_sink(send_reply(speaker, &Reply::Refused(Refusal::Unknown), sink));
     };
-    at_sink(send_reply(&Reply::WindowsHead(store.windows(id)), sink))?;
-    send_windows(store, id, disk, sink)
+    at_sink(send_reply(speaker, &Reply::WindowsHead(store.windows(id)), sink))?;
+    send_windows(speaker, store, id, disk, sink)
 }
 
 // Lists all streams.
-fn list<K: Sink>(store: &Store, sink: &mut K) -> Result<(), Failed>
+fn list<K: Sink>(speaker: Option<u8>, store: &Store, sink: &mut K) -> Result<(), Failed>
+    requires speaker { IsSpeaker speaker }
     ensures sends { (history : History) (content : List ℕ) → StoreIsIn store.now content → Stands history content →
-        Sends (K.held sink.old) (K.held sink.new) (text_brought (command_brings history ListAll)) result }
+        Sends (K.held sink.old) (K.held sink.new) (text_said speaker (command_brings history ListAll)) result }
     ensures counted { Counted (verdict result) (K.faults sink.old) (K.faults sink.new) }
 {
     let count = store.streams();
-    send_reply(&Reply::ListHead(count), sink)?;
-    send_streams(store, count, sink)
+    send_reply(speaker, &Reply::ListHead(count), sink)?;
+    send_streams(speaker, store, count, sink)
 }
 
 /// Asks the store, and answers the reply to it, by what the store shows.
@@ -162,17 +179,19 @@ pub fn ask<D: Disk>(store: &mut Store, query: &Query, disk: &mut D) -> Result<Re
 
 // Asks the store, and replies what it answers.
 fn show_answer<D: Disk, K: Sink>(
+    speaker: Option<u8>,
     store: &mut Store,
     query: &Query,
     disk: &mut D,
     sink: &mut K,
 ) -> Result<(), Status>
+    requires speaker { IsSpeaker speaker }
     requires open { IsOpen (D.seen disk.old) store.old }
-    ensures { Shows (IsTextBrought (Ask query.now)) (over (D.seen disk.old) (K.held sink.old) (K.faults sink.old))
+    ensures { Shows (IsTextBrought speaker (Ask query.now)) (over (D.seen disk.old) (K.held sink.old) (K.faults sink.old))
         (over (D.seen disk.new) (K.held sink.new) (K.faults sink.new)) store.new result }
 {
     let reply = ask(store, query, disk)?;
-    at_sink(send_reply(&reply, sink))
+    at_sink(send_reply(speaker, &reply, sink))
 }
 
 /// Applies an event, and answers the reply to it.
@@ -197,61 +216,44 @@ pub fn apply<D: Disk>(store: &mut Store, event: &Event, disk: &mut D) -> Result<
 
 // Applies an event, and replies to it.
 fn take<D: Disk, K: Sink>(
+    speaker: Option<u8>,
     store: &mut Store,
     event: &Event,
     disk: &mut D,
     sink: &mut K,
 ) -> Result<(), Status>
+    requires speaker { IsSpeaker speaker }
     requires in_time { IsInTime event.now }
     requires open { IsOpen (D.seen disk.old) store.old }
-    ensures { TakesLine (λ history. command_brings history (Do event.now)) (over (D.seen disk.old) (K.held sink.old) (K.faults sink.old))
+    ensures { TakesLine speaker (λ history. command_brings history (Do event.now)) (over (D.seen disk.old) (K.held sink.old) (K.faults sink.old))
         (over (D.seen disk.new) (K.held sink.new) (K.faults sink.new)) store.new result }
 {
     let reply = apply(store, event, disk)?;
-    at_sink(send_reply(&reply, sink))
+    at_sink(send_reply(speaker, &reply, sink))
 }
 
-/// Does what a command says, and replies to it.
+/// Does what a command says, and replies to it: to the session that says it, or to none.
 pub fn obey<D: Disk, K: Sink>(
+    speaker: Option<u8>,
     store: &mut Store,
     command: &Command,
     disk: &mut D,
     sink: &mut K,
 ) -> Result<(), Status>
+    requires speaker { IsSpeaker speaker }
     requires in_time { IsCommandInTime command.now }
     requires open { IsOpen (D.seen disk.old) store.old }
-    ensures { TakesLine (λ history. command_brings history command.now) (over (D.seen disk.old) (K.held sink.old) (K.faults sink.old))
+    ensures { TakesLine speaker (λ history. command_brings history command.now) (over (D.seen disk.old) (K.held sink.old) (K.faults sink.old))
         (over (D.seen disk.new) (K.held sink.new) (K.faults sink.new)) store.new result }
 {
     match command {
-        Command::Do(event) => take(store, event, disk, sink),
-        Command::Ask(query) => show_answer(store, query, disk, sink),
-        Command::Certify { query, end } => show_certificate(store, query, *end, disk, sink),
-        Command::Series(series) => show_series(store, series, disk, sink),
-        Command::Windows(name) => show_windows(store, name, disk, sink),
-        Command::List => at_sink(list(store, sink)),
-    }
-}
-
-/// Does what a line says, and sends each reply to it. A line that is too long is not kept, and comes as `None`. At an error
-/// the run stops in this line.
-pub fn answer<D: Disk, K: Sink>(
-    store: &mut Store,
-    line: Option<&[u8]>,
-    disk: &mut D,
-    sink: &mut K,
-) -> Result<(), Status>
-    requires short { IfSome (option_copied line) (λ bytes. length bytes ≤ LONGEST_LINE) }
-    requires open { IsOpen (D.seen disk.old) store.old }
-    ensures { TakesLine (λ history. kept_brings history (option_copied line.entry)) (over (D.seen disk.old) (K.held sink.old) (K.faults sink.old))
-        (over (D.seen disk.new) (K.held sink.new) (K.faults sink.new)) store.new result }
-{
-    let Some(line) = line else {
-        return at_sink(send_reply(&Reply::Refused(Refusal::Line), sink));
-    };
-    match parse(line) {
-        Err(refusal) => at_sink(send_reply(&Reply::Refused(refusal), sink)),
-        Ok(None) => Ok(()),
-        Ok(Some(command)) => obey(store, &command, disk, sink),
+        Command::Do(event) => take(speaker, store, event, disk, sink),
+        Command::Ask(query) => show_answer(speaker, store, query, disk, sink),
+        Command::Certify { query, end } => show_certificate(
+            speaker, store, query, *end, disk, sink,
+        ),
+        Command::Series(series) => show_series(speaker, store, series, disk, sink),
+        Command::Windows(name) => show_windows(speaker, store, name, disk, sink),
+        Command::List => at_sink(list(speaker, store, sink)),
     }
 }

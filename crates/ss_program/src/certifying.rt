@@ -10,6 +10,7 @@ ghost use Rattle.ss_store.specs.Asked.{refuses_query_held};
 ghost use Rattle.ss_program.specs.Answer.{IsOpen, IsTextBrought, Shows};
 ghost use Rattle.ss_program.specs.Certifying.{FindsEvidence, HasEvidence};
 ghost use Rattle.ss_program.specs.Devices.{over};
+ghost use Rattle.ss_program.specs.Line.{IsSpeaker};
 ghost use Rattle.ss_program.specs.Status.{disk_verdict, ended, IsDiskStop};
 
 use crate::answer::{at_sink, send_replies, send_reply};
@@ -109,20 +110,22 @@ fn lines_of(evidence: &Evidence) -> ArrayVec<Reply, MOST_LINES>
 
 /// Shows an end of the answer to a query and why it can't be narrower, or why the query is refused.
 pub fn show_certificate<D: Disk, K: Sink>(
+    speaker: Option<u8>,
     store: &mut Store,
     query: &Query,
     end: End,
     disk: &mut D,
     sink: &mut K,
 ) -> Result<(), Status>
+    requires speaker { IsSpeaker speaker }
     requires kind { IsTrue (adds_up query.now.kind) }
     requires open { IsOpen (D.seen disk.old) store.old }
-    ensures { Shows (IsTextBrought (Certify query.now end)) (over (D.seen disk.old) (K.held sink.old) (K.faults sink.old))
+    ensures { Shows (IsTextBrought speaker (Certify query.now end)) (over (D.seen disk.old) (K.held sink.old) (K.faults sink.old))
         (over (D.seen disk.new) (K.held sink.new) (K.faults sink.new)) store.new result }
 {
     if let Some(refusal) = refusal_of(store, query) {
-        return at_sink(send_reply(&Reply::Refused(refusal), sink));
+        return at_sink(send_reply(speaker, &Reply::Refused(refusal), sink));
     }
     let evidence = find_evidence(store, query, end, disk)?;
-    at_sink(send_replies(lines_of(&evidence).as_slice(), sink))
+    at_sink(send_replies(speaker, lines_of(&evidence).as_slice(), sink))
 }

@@ -154,7 +154,7 @@ fn send_summary<K: Sink>(seed: u64, count: u32, tally: &Tally, sink: &mut K) -> 
     ensures counted { Counted (verdict result) (K.faults sink.old) (K.faults sink.new) }
 {
     send_counts(seed, count, tally, sink)?;
-    send_replies(tally.last.as_slice(), sink)
+    send_replies(None, tally.last.as_slice(), sink)
 }
 
 // Runs the commands of the file over a store, and sends what came of them.

@@ -11,6 +11,7 @@ mod promises;
 mod refuse;
 mod replies;
 mod running;
+mod said;
 mod sending;
 mod series;
 mod session;

@@ -1,11 +1,12 @@
 // Replies that wait until what they speak of is on the disk.
+use crate::said::said_text;
 use arrayvec::ArrayString;
-use ss_report::{Reply, reply_text};
+use ss_report::Reply;
 use std::alloc::{AllocError, Global};
 use std::marker::Model;
 
-/// The longest line of a reply, in bytes, with its line end.
-pub const LONGEST_REPLY: usize = 256;
+/// The longest line of a reply, in bytes, with the session that it is said to and its line end.
+pub const LONGEST_REPLY: usize = 260;
 
 /// So many bytes of replies may wait.
 pub const MOST_WAITING_BYTES: usize = 65_536;
@@ -30,7 +31,8 @@ impl Model for Replies {
 
 impl Replies {
     ghost use Rattle.std.specs.Prelude.{◌≡◌, ◌+◌, ◌≤◌, ◌↔◌, [], ◌++◌, length, IfOk, IsTrue};
-    ghost use Rattle.ss_report.specs.Text.{reply_line};
+    ghost use Rattle.ss_program.specs.Line.{IsSpeaker};
+    ghost use Rattle.ss_program.specs.Said.{said_line};
 
     /// None, with room for all that may wait. It takes memory.
     pub fn new(alloc: Global) -> Result<Replies, AllocError>
@@ -47,13 +49,14 @@ impl Replies {
         self.bytes.len() <= MOST_WAITING_BYTES - LONGEST_REPLY
     }
 
-    /// Adds a reply after those that wait. It takes no memory.
-    pub fn hold(&mut self, reply: &Reply)
-        requires { length self.old + LONGEST_REPLY ≤ MOST_WAITING_BYTES }
-        ensures { self.new ≡ self.old ++ reply_line reply.now }
+    /// Adds a reply after those that wait, said to a session or to none. It takes no memory.
+    pub fn hold(&mut self, speaker: Option<u8>, reply: &Reply)
+        requires speaker { IsSpeaker speaker }
+        requires room { length self.old + LONGEST_REPLY ≤ MOST_WAITING_BYTES }
+        ensures { self.new ≡ self.old ++ said_line speaker reply.now }
     {
         let mut text = ArrayString::new();
-        reply_text(reply, &mut text);
+        said_text(speaker, reply, &mut text);
         let _ = self.bytes.extend_from_slice(text.as_str().as_bytes());
     }
 

@@ -6,6 +6,7 @@ ghost use Rattle.ss_outside.specs.Step.{Step};
 ghost use Rattle.ss_store.specs.Asked.{refuses_query_held};
 ghost use Rattle.ss_program.specs.Answer.{IsOpen, IsTextBrought, Shows};
 ghost use Rattle.ss_program.specs.Devices.{over};
+ghost use Rattle.ss_program.specs.Line.{IsSpeaker};
 ghost use Rattle.ss_program.specs.Series.{AnswersQuery, IsSeriesText};
 ghost use Rattle.ss_program.specs.Status.{disk_verdict, ended, IsDiskStop};
 
@@ -62,15 +63,17 @@ fn answer_query<D: Disk>(store: &mut Store, query: &Query, disk: &mut D) -> Resu
 
 // Sends the rows of a series, in order.
 fn send_rows<D: Disk, K: Sink>(
+    speaker: Option<u8>,
     store: &mut Store,
     series: &Series,
     disk: &mut D,
     sink: &mut K,
 ) -> Result<(), Status>
+    requires speaker { IsSpeaker speaker }
     requires range { IsSeriesInRange series.now }
     requires open { IsOpen (D.seen disk.old) store.old }
     requires taken { refuses_query_held store.old.streams (whole_query series.now) ≡ None }
-    ensures { Shows (IsSeriesText series.now) (over (D.seen disk.old) (K.held sink.old) (K.faults sink.old))
+    ensures { Shows (IsSeriesText speaker series.now) (over (D.seen disk.old) (K.held sink.old) (K.faults sink.old))
         (over (D.seen disk.new) (K.held sink.new) (K.faults sink.new)) store.new result }
 {
     for row in 0..series.rows() {
@@ -80,26 +83,28 @@ fn send_rows<D: Disk, K: Sink>(
             at: query.from,
             outcome,
         };
-        at_sink(send_reply(&reply, sink))?;
+        at_sink(send_reply(speaker, &reply, sink))?;
     }
     Ok(())
 }
 
 /// Shows the rows of a series, or why it is refused.
 pub fn show_series<D: Disk, K: Sink>(
+    speaker: Option<u8>,
     store: &mut Store,
     series: &Series,
     disk: &mut D,
     sink: &mut K,
 ) -> Result<(), Status>
+    requires speaker { IsSpeaker speaker }
     requires range { IsSeriesInRange series.now }
     requires open { IsOpen (D.seen disk.old) store.old }
-    ensures { Shows (IsTextBrought (AskRows series.now)) (over (D.seen disk.old) (K.held sink.old) (K.faults sink.old))
+    ensures { Shows (IsTextBrought speaker (AskRows series.now)) (over (D.seen disk.old) (K.held sink.old) (K.faults sink.old))
         (over (D.seen disk.new) (K.held sink.new) (K.faults sink.new)) store.new result }
 {
     if let Some(refusal) = refusal_of(store, &whole_query(series)) {
-        return at_sink(send_reply(&Reply::Refused(refusal), sink));
+        return at_sink(send_reply(speaker, &Reply::Refused(refusal), sink));
     }
-    at_sink(send_reply(&Reply::SeriesHead(series.rows()), sink))?;
-    send_rows(store, series, disk, sink)
+    at_sink(send_reply(speaker, &Reply::SeriesHead(series.rows()), sink))?;
+    send_rows(speaker, store, series, disk, sink)
 }

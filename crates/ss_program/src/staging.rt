@@ -124,7 +124,7 @@ fn send_sealed<D: Disk, K: Sink>(
 {
     match store.seal(disk) {
         Err(_) => Err(Status::DiskFault),
-        Ok(()) => at_sink(send_reply(reply, sink)),
+        Ok(()) => at_sink(send_reply(None, reply, sink)),
     }
 }
 
@@ -148,7 +148,7 @@ fn say<D: Disk, K: Sink>(
     match waiting {
         None => send_sealed(store, reply, disk, sink),
         Some(replies) => {
-            replies.hold(reply);
+            replies.hold(None, reply);
             Ok(())
         }
     }
@@ -247,7 +247,7 @@ fn show_rows<D: Disk, K: Sink>(
     ensures counted { Counted (sink_verdict (ended result)) (K.faults sink.old) (K.faults sink.new) }
 {
     flush(store, waiting, disk, sink)?;
-    obey(store, command, disk, sink)
+    obey(None, store, command, disk, sink)
 }
 
 // Does what a command says, and says what it brings.

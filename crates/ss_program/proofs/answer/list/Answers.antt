@@ -1,7 +1,7 @@
 use Rattle.std.proofs.Common.{◌≡◌, ◌∙◌, Err, sym, subst, rules}
 use Rattle.ss_command.specs.declared.command.Command.TheVariants.{List as ListAll}
 use Rattle.ss_store.proofs.FoundAlike.{streams-kept}
-use Rattle.ss_program.specs.Line.{command_brings, text_brought}
+use Rattle.ss_program.specs.Line.{command_brings, text_said}
 use Rattle.ss_program.specs.Sent.{Sends}
 use Rattle.ss_program.proofs.RowLemmas.{list-head, list-rows}
 use Rattle.ss_program.proofs.answer.list.Goals as goal
@@ -9,12 +9,13 @@ use Rattle.ss_program.proofs.answer.list.Goals as goal
 pub returns-in_err-send_reply-clause-sends : goal.returns-in_err-send_reply-clause-sends
 returns-in_err-send_reply-clause-sends g c history content kept stands =
     let same : c.from_residual.result ≡ Err c.in_err-send_reply.field-0.0 = search rules in
-    subst (λ r. Sends (g.K.Sink.held c.args.sink.now) (g.K.Sink.held c.send_reply.new.sink) (text_brought (command_brings history ListAll)) r) (sym same)
-    (list-head history (g.K.Sink.held c.args.sink.now) (g.K.Sink.held c.send_reply.new.sink) c.streams-count.result
+    subst (λ r. Sends (g.K.Sink.held c.args.sink.now) (g.K.Sink.held c.send_reply.new.sink) (text_said c.args.speaker (command_brings history ListAll)) r)
+    (sym same)
+    (list-head c.args.speaker history (g.K.Sink.held c.args.sink.now) (g.K.Sink.held c.send_reply.new.sink) c.streams-count.result
     (c.streams-count.ensures ∙ streams-kept c.args.store.now content history kept stands) c.in_err-send_reply.ensures.sends)
 
 pub returns-clause-sends : goal.returns-clause-sends
 returns-clause-sends g c history content kept stands =
-    list-rows history (g.K.Sink.held c.args.sink.now) (g.K.Sink.held c.send_reply.new.sink) (g.K.Sink.held c.send_streams.new.sink)
+    list-rows c.args.speaker history (g.K.Sink.held c.args.sink.now) (g.K.Sink.held c.send_reply.new.sink) (g.K.Sink.held c.send_streams.new.sink)
     c.streams-count.result c.send_streams.result (c.streams-count.ensures ∙ streams-kept c.args.store.now content history kept stands)
     c.in_ok-send_reply.ensures.sends (c.send_streams.ensures.sends history content kept stands)

@@ -11,7 +11,7 @@ use Rattle.ss_program.proofs.answer.obey.Goals as goal
 
 pub returns-in-Ask : goal.returns-in-Ask
 returns-in-Ask g c = rw c.in-Ask.is
-    (TakesLine-shown (λ history. command_brings history (Ask c.in-Ask.query)) (IsTextBrought (Ask c.in-Ask.query))
+    (TakesLine-shown c.args.speaker (λ history. command_brings history (Ask c.in-Ask.query)) (IsTextBrought c.args.speaker (Ask c.in-Ask.query))
     (over (g.D.Disk.seen c.args.disk.now) (g.K.Sink.held c.args.sink.now) (g.K.Sink.faults c.args.sink.now))
     (over (g.D.Disk.seen c.show_answer.new.disk) (g.K.Sink.held c.show_answer.new.sink) (g.K.Sink.faults c.show_answer.new.sink))
     c.show_answer.new.store c.show_answer.result (g.met.D.Disk.knows_now c.args.disk.now) (λ history. ask-event history c.in-Ask.query) (λ history. refl)
@@ -19,8 +19,8 @@ returns-in-Ask g c = rw c.in-Ask.is
 
 pub returns-in-Certify : goal.returns-in-Certify
 returns-in-Certify g c = rw c.in-Certify.is
-    (TakesLine-shown (λ history. command_brings history (Certify c.in-Certify.query c.in-Certify.end))
-    (IsTextBrought (Certify c.in-Certify.query c.in-Certify.end))
+    (TakesLine-shown c.args.speaker (λ history. command_brings history (Certify c.in-Certify.query c.in-Certify.end))
+    (IsTextBrought c.args.speaker (Certify c.in-Certify.query c.in-Certify.end))
     (over (g.D.Disk.seen c.args.disk.now) (g.K.Sink.held c.args.sink.now) (g.K.Sink.faults c.args.sink.now))
     (over (g.D.Disk.seen c.show_certificate.new.disk) (g.K.Sink.held c.show_certificate.new.sink) (g.K.Sink.faults c.show_certificate.new.sink))
     c.show_certificate.new.store c.show_certificate.result (g.met.D.Disk.knows_now c.args.disk.now)
@@ -30,7 +30,7 @@ returns-in-Certify g c = rw c.in-Certify.is
 
 pub returns-in-Series : goal.returns-in-Series
 returns-in-Series g c = rw c.in-Series.is
-    (TakesLine-shown (λ history. command_brings history (AskRows c.in-Series.series)) (IsTextBrought (AskRows c.in-Series.series))
+    (TakesLine-shown c.args.speaker (λ history. command_brings history (AskRows c.in-Series.series)) (IsTextBrought c.args.speaker (AskRows c.in-Series.series))
     (over (g.D.Disk.seen c.args.disk.now) (g.K.Sink.held c.args.sink.now) (g.K.Sink.faults c.args.sink.now))
     (over (g.D.Disk.seen c.show_series.new.disk) (g.K.Sink.held c.show_series.new.sink) (g.K.Sink.faults c.show_series.new.sink))
     c.show_series.new.store c.show_series.result (g.met.D.Disk.knows_now c.args.disk.now) (λ history. series-event history c.in-Series.series)
@@ -39,7 +39,7 @@ returns-in-Series g c = rw c.in-Series.is
 
 pub returns-in-Windows : goal.returns-in-Windows
 returns-in-Windows g c = rw c.in-Windows.is
-    (TakesLine-shown (λ history. command_brings history (Windows c.in-Windows.name)) (IsTextBrought (Windows c.in-Windows.name))
+    (TakesLine-shown c.args.speaker (λ history. command_brings history (Windows c.in-Windows.name)) (IsTextBrought c.args.speaker (Windows c.in-Windows.name))
     (over (g.D.Disk.seen c.args.disk.now) (g.K.Sink.held c.args.sink.now) (g.K.Sink.faults c.args.sink.now))
     (over (g.D.Disk.seen c.show_windows.new.disk) (g.K.Sink.held c.show_windows.new.sink) (g.K.Sink.faults c.show_windows.new.sink))
     c.show_windows.new.store c.show_windows.result (g.met.D.Disk.knows_now c.args.disk.now) (λ history. windows-event history c.in-Windows.name)
@@ -54,8 +54,10 @@ returns-in-List g c =
     let had = g.K.Sink.faults c.args.sink.now in
     let has = g.K.Sink.faults c.list.new.sink in
     rw (c.in-List.is, c.at_sink.ensures)
-    (TakesLine-shown (λ history. command_brings history ListAll) (IsTextBrought ListAll) (over disk before had) (over disk after has) c.args.store.now _
+    (TakesLine-shown c.args.speaker (λ history. command_brings history ListAll) (IsTextBrought c.args.speaker ListAll) (over disk before had) (over disk after
+    has) c.args.store.now _
     (g.met.D.Disk.knows_now c.args.disk.now) (λ history. refl) (λ history. refl)
-    (Shows-sent (IsTextBrought ListAll) disk disk c.args.store.now before after had has c.list.result (still disk) c.requires.open c.list.ensures.counted
+    (Shows-sent (IsTextBrought c.args.speaker ListAll) disk disk c.args.store.now before after had has c.list.result (still disk) c.requires.open
+    c.list.ensures.counted
     (λ told history stands bytes is. subst (λ bs. Sends before after bs c.list.result) (sym is)
     (c.list.ensures.sends history disk.told.content (StoreIsIn-open disk c.args.store.now c.requires.open told) stands))))

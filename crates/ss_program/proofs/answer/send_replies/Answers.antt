@@ -2,7 +2,7 @@ use Rattle.std.proofs.Common.{◌≡◌, ◌∙◌, Err, length, take_all, refl,
 use Rattle.std.proofs.lemmas.Option.{slice_get_read}
 use Rattle.std.specs.List.{flat_map}
 use Rattle.ss_outside.specs.Verdict.{Counted, failed}
-use Rattle.ss_report.specs.Text.{reply_line}
+use Rattle.ss_program.specs.Said.{said_line}
 use Rattle.ss_program.specs.Sent.{appended, Puts}
 use Rattle.ss_program.proofs.RowLemmas.{rows-less}
 use Rattle.ss_program.proofs.answer.send_replies.Goals as goal
@@ -16,8 +16,8 @@ returns-in_err-send_reply g c =
     let inv = c.loop-reply.invariant in
     let at = slice_get_read rows (length rows) c.loop-reply.reply-index c.reply-item.result refl (omega (arith, c.loop-reply-test.true)) c.reply-item.is in
     let same : c.from_residual.result ≡ Err c.in_err-send_reply.field-0.0 = search rules in
-    subst (λ r. Puts (flat_map reply_line rows) before (g.K.Sink.faults c.args.sink.now) after has r) (sym same) (record {
-      sends = rows-less before (g.K.Sink.held c.loop-reply.sink) after rows c.loop-reply.reply-index c.reply-item.result at inv.held
+    subst (λ r. Puts (flat_map (said_line c.args.speaker) rows) before (g.K.Sink.faults c.args.sink.now) after has r) (sym same) (record {
+      sends = rows-less c.args.speaker before (g.K.Sink.held c.loop-reply.sink) after rows c.loop-reply.reply-index c.reply-item.result at inv.held
           c.in_err-send_reply.ensures.sends;
       counted = subst (λ n. Counted failed n has) inv.faults c.in_err-send_reply.ensures.counted;
     })
@@ -28,6 +28,7 @@ returns g c =
     let before = g.K.Sink.held c.args.sink.now in
     record {
       sends = c.loop-reply.invariant.held
-          ∙ ap (λ rs. appended before (flat_map reply_line rs)) (take_all c.loop-reply.reply-index rows (omega (arith, c.loop-reply-test.false)));
+          ∙ ap (λ rs. appended before (flat_map (said_line c.args.speaker) rs)) (take_all c.loop-reply.reply-index rows
+          (omega (arith, c.loop-reply-test.false)));
       counted = c.loop-reply.invariant.faults;
     }

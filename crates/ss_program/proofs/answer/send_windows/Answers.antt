@@ -24,7 +24,8 @@ loop-next-init g c = record {
   reads = still (g.D.Disk.seen c.args.disk.now);
   at = c.window_first-next.ensures.stands;
   held = λ told history stands s is.
-      none-sent (part_numbered c.args.id.0 c.args.store.now.streams) (λ part. part.line.entries) c.window_first-next.result s (g.K.Sink.held c.args.sink.now)
+      none-sent c.args.speaker (part_numbered c.args.id.0 c.args.store.now.streams) (λ part. part.line.entries) c.window_first-next.result s (g.K.Sink.held
+      c.args.sink.now)
       (rows-first (part_numbered c.args.id.0 c.args.store.now.streams) (λ part. part.line.entries) c.window_first-next.result c.window_first-next.ensures.at
       c.window_first-next.ensures.index);
   faults = refl;
@@ -40,7 +41,7 @@ returns-in_err-window g c =
     let had = g.K.Sink.faults c.args.sink.now in
     let has = g.K.Sink.faults c.loop-next.sink in
     let o = part_numbered c.args.id.0 c.args.store.now.streams in
-    let text = IsRowsText c.args.id.0 in
+    let text = IsRowsText c.args.speaker c.args.id.0 in
     let status = c.in_err-window.field-0.0 in
     let inv = c.loop-next.invariant in
     let at = rw c.in-Some.is at inv.at in
@@ -51,7 +52,7 @@ returns-in_err-window g c =
     (Shows-stopped text old new c.read.new.store before held had has status (subst (λ b. IsDiskStop b status) inv.reads.tells c.in_err-window.ensures.status)
     reads
     inv.faults (λ told history stands bytes is. subst (λ bs. AppendsLess before held bs) (sym is.2)
-    (rows-unread o (λ part. part.line.entries) c.in-Some.at is.0 before held c.requires.stands at
+    (rows-unread c.args.speaker o (λ part. part.line.entries) c.in-Some.at is.0 before held c.requires.stands at
     (windows-kept c.args.store.now old.told.content history c.args.id.0 is.0 (StoreIsIn-open old c.args.store.now c.requires.open told) stands is.1)
     (rw c.in-Some.is at (inv.held told history stands is.0 is.1)))))
 
@@ -66,7 +67,7 @@ returns-in_err-at_sink g c =
     let had = g.K.Sink.faults c.args.sink.now in
     let has = g.K.Sink.faults c.send_reply.new.sink in
     let o = part_numbered c.args.id.0 c.args.store.now.streams in
-    let text = IsRowsText c.args.id.0 in
+    let text = IsRowsText c.args.speaker c.args.id.0 in
     let inv = c.loop-next.invariant in
     let read = c.in_ok-window.ensures in
     let reads : Step fine old new OnlyReads =
@@ -76,7 +77,8 @@ returns-in_err-at_sink g c =
     (Shows-sent text old new c.read.new.store before after had has c.send_reply.result reads read.open
     (subst (λ n. Counted (verdict c.send_reply.result) n has) inv.faults c.send_reply.ensures.counted)
     (λ told history stands bytes is. subst (λ bs. Sends before after bs c.send_reply.result) (sym is.2)
-    (rows-cut-sent o (λ part. part.line.entries) c.in-Some.at is.0 (stream_numbered c.args.id.0 (state history)) before held after c.in_ok-window.window is.1
+    (rows-cut-sent c.args.speaker o (λ part. part.line.entries) c.in-Some.at is.0 (stream_numbered c.args.id.0 (state history)) before held after
+    c.in_ok-window.window is.1
     c.requires.stands
     (rw c.in-Some.is at (inv.held told history stands is.0 is.1))
     (rw inv.streams at ((read.reads.told (inv.reads.tells ∙ told)).row history (subst (Stands history) (sym (inv.reads.told told).same.content) stands)))
@@ -104,7 +106,7 @@ loop-next-preserved g c =
           let so_far = rw c.in-Some.is at (inv.held told history stands s is) in
           let stands_then = subst (Stands history) (sym (inv.reads.told told).same.content) stands in
           let row = rw inv.streams at ((read.reads.told (inv.reads.tells ∙ told)).row history stands_then) in
-          rows-step o (λ part. part.line.entries) c.in-Some.at c.window_after-next.result s (stream_numbered c.args.id.0 (state history)) before
+          rows-step c.args.speaker o (λ part. part.line.entries) c.in-Some.at c.window_after-next.result s (stream_numbered c.args.id.0 (state history)) before
           held (g.K.Sink.held c.send_reply.new.sink) c.in_ok-window.window is so_far row
           (rows-after o (λ part. part.line.entries) c.in-Some.at c.window_after-next.result at (rw streams at c.window_after-next.ensures.at)
           (rw streams at c.window_after-next.ensures.index)) sent.0;
@@ -117,10 +119,11 @@ returns g c =
     let inv = c.loop-next.invariant in
     let before = g.K.Sink.held c.args.sink.now in
     let held = g.K.Sink.held c.loop-next.sink in
-    Shows-sent (IsRowsText c.args.id.0) old (g.D.Disk.seen c.loop-next.disk) c.loop-next.store before held (g.K.Sink.faults c.args.sink.now)
+    Shows-sent (IsRowsText c.args.speaker c.args.id.0) old (g.D.Disk.seen c.loop-next.disk) c.loop-next.store before held (g.K.Sink.faults c.args.sink.now)
     (g.K.Sink.faults c.loop-next.sink) (Ok tt) inv.reads inv.is_open inv.faults
     (λ told history stands bytes is. subst (λ bs. held ≡ appended before bs) (sym is.2)
-    (rows-end (part_numbered c.args.id.0 c.args.store.now.streams) (λ part. part.line.entries) c.loop-next.next is.0 before held c.requires.stands
+    (rows-end c.args.speaker (part_numbered c.args.id.0 c.args.store.now.streams) (λ part. part.line.entries) c.loop-next.next is.0 before held
+    c.requires.stands
     c.in_default.is
     (windows-kept c.args.store.now old.told.content history c.args.id.0 is.0 (StoreIsIn-open old c.args.store.now c.requires.open told) stands is.1)
     (inv.held told history stands is.0 is.1)))

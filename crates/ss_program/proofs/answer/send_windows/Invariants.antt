@@ -7,7 +7,7 @@ use Rattle.ss_outside.specs.Crash.{OnlyReads}
 use Rattle.ss_outside.specs.Disk.{OfContent}
 use Rattle.ss_outside.specs.Step.{Step}
 use Rattle.ss_outside.specs.Verdict.{fine}
-use Rattle.ss_report.specs.Text.{reply_line}
+use Rattle.ss_program.specs.Said.{said_line}
 use Rattle.ss_store.specs.Kept.{part_numbered}
 use Rattle.ss_store.specs.Recover.{Stands}
 use Rattle.ss_program.specs.Answer.{IsOpen}
@@ -25,7 +25,7 @@ invariant-loop-next g l = record {
   at : IfSome (part_numbered l.id.0 l.fn.store.streams) (λ part. IfSome l.next (StandsIn part.line.entries));
   held : OfContent (g.D.Disk.seen l.fn.disk) (λ content. (history : History) → Stands history content → (s : Stream) →
       stream_numbered l.id.0 (state history) ≡ Some s → IfSome (part_numbered l.id.0 l.fn.store.streams) (λ part.
-      g.K.Sink.held l.sink ≡ appended (g.K.Sink.held l.fn.sink) (flat_map reply_line (take (rows_done part.line.entries l.next) (window_rows s)))));
+      g.K.Sink.held l.sink ≡ appended (g.K.Sink.held l.fn.sink) (flat_map (said_line l.speaker) (take (rows_done part.line.entries l.next) (window_rows s)))));
   faults : g.K.Sink.faults l.sink ≡ g.K.Sink.faults l.fn.sink;
 }
 

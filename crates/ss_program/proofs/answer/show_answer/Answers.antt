@@ -7,10 +7,10 @@ use Rattle.ss_outside.proofs.StepLemmas.{step-as}
 use Rattle.ss_outside.specs.Crash.{OnlyReads}
 use Rattle.ss_outside.specs.Step.{Step}
 use Rattle.ss_outside.specs.Verdict.{fine}
-use Rattle.ss_report.specs.Text.{reply_line}
+use Rattle.ss_program.specs.Said.{said_line}
 use Rattle.ss_program.specs.Answer.{IsOpen, IsTextBrought, Shows}
 use Rattle.ss_program.specs.Devices.{over}
-use Rattle.ss_program.specs.Line.{command_brings, text_brought}
+use Rattle.ss_program.specs.Line.{command_brings, text_said}
 use Rattle.ss_program.specs.Sent.{AppendsLess}
 use Rattle.ss_program.specs.Status.{disk_verdict}
 use Rattle.ss_program.proofs.AnswerLemmas.{Stands-only_replies, ask-some}
@@ -24,14 +24,14 @@ returns-in_err-reply g c =
     let new = g.D.Disk.seen c.ask.new.disk in
     let held = g.K.Sink.held c.args.sink.now in
     let n = g.K.Sink.faults c.args.sink.now in
-    let text = IsTextBrought (Ask c.args.query.now) in
+    let text = IsTextBrought c.args.speaker (Ask c.args.query.now) in
     let status = c.in_err-reply.field-0.0 in
     let same : c.from_residual.result ≡ Err status = search rules in
     let reads : Step (disk_verdict status) old new OnlyReads = step-as c.in_err-reply.ensures.asks (λ asks. asks.reads) in
     subst (λ r. Shows text (over old held n) (over new held n) c.ask.new.store r) (sym same)
     (Shows-stopped text old new c.ask.new.store held held n n status c.in_err-reply.ensures.status reads refl
     (λ told history stands bytes is. subst (λ bs. AppendsLess held held bs) (sym is)
-    (AppendsLess-none held (text_brought (command_brings history (Ask c.args.query.now))) (ask-some history c.args.query.now))))
+    (AppendsLess-none held (text_said c.args.speaker (command_brings history (Ask c.args.query.now))) (ask-some c.args.speaker history c.args.query.now))))
 
 pub returns : goal.returns
 returns g c =
@@ -42,9 +42,10 @@ returns g c =
     let opens : IsOpen new c.ask.new.store =
     record { serves = c.in_ok-reply.ensures.serves; sealed = subst IsSealed (sym c.in_ok-reply.ensures.journal) c.requires.open.sealed } in
     rw c.at_sink.ensures
-    (Shows-reply (IsTextBrought (Ask c.args.query.now)) old new c.ask.new.store (g.K.Sink.held c.args.sink.now) (g.K.Sink.held c.send_reply.new.sink)
+    (Shows-reply c.args.speaker (IsTextBrought c.args.speaker (Ask c.args.query.now)) old new c.ask.new.store (g.K.Sink.held c.args.sink.now) (g.K.Sink.held
+    c.send_reply.new.sink)
     (g.K.Sink.faults c.args.sink.now) (g.K.Sink.faults c.send_reply.new.sink) c.in_ok-reply.reply c.send_reply.result reads opens
     c.send_reply.ensures
-    (λ told history stands bytes is. is ∙ ap (λ rs. flat_map reply_line rs) ((asks.told told).reply history
+    (λ told history stands bytes is. is ∙ ap (λ rs. flat_map (said_line c.args.speaker) rs) ((asks.told told).reply history
     (Stands-only_replies c.args.store.now.records old.told.content history c.requires.open.sealed stands)) ∙ append-nil
-    (reply_line c.in_ok-reply.reply)))
+    (said_line c.args.speaker c.in_ok-reply.reply)))

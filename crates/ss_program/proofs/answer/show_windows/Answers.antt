@@ -2,13 +2,13 @@ use Rattle.std.proofs.Common.{◌≡◌, ◌∙◌, Err, refl, sym, subst, rules
 use Rattle.std.specs.List.{flat_map}
 use Rattle.ss_command.specs.declared.command.Command.TheVariants.{Windows}
 use Rattle.ss_outside.specs.Verdict.{Counted}
-use Rattle.ss_report.specs.Text.{reply_line}
+use Rattle.ss_program.specs.Said.{said_line}
 use Rattle.ss_report.specs.declared.reply.Reply.TheVariants.{WindowsHead}
 use Rattle.ss_store.specs.Kept.{part_numbered}
 use Rattle.ss_store.proofs.FoundAlike.{found-kept, unknown-kept, windows-kept}
 use Rattle.ss_program.specs.Answer.{IsTextBrought, Shows}
 use Rattle.ss_program.specs.Devices.{over}
-use Rattle.ss_program.specs.Line.{command_brings, text_brought, window_rows}
+use Rattle.ss_program.specs.Line.{command_brings, text_said, window_rows}
 use Rattle.ss_program.specs.Sent.{Sends}
 use Rattle.ss_program.specs.Status.{ended, sink_verdict}
 use Rattle.ss_program.proofs.AnswerLemmas.{StoreIsIn-open}
@@ -23,10 +23,10 @@ returns-in_default g c =
     let after = g.K.Sink.held c.send_reply.new.sink in
     let name = c.args.name.now in
     rw c.at_sink.ensures
-    (Shows-sent (IsTextBrought (Windows name)) disk disk c.args.store.now before after (g.K.Sink.faults c.args.sink.now)
+    (Shows-sent (IsTextBrought c.args.speaker (Windows name)) disk disk c.args.store.now before after (g.K.Sink.faults c.args.sink.now)
     (g.K.Sink.faults c.send_reply.new.sink) c.send_reply.result (still disk) c.requires.open c.send_reply.ensures.counted
     (λ told history stands bytes is. subst (λ bs. Sends before after bs c.send_reply.result) (sym is)
-    (windows-unknown history name before after c.send_reply.result
+    (windows-unknown c.args.speaker history name before after c.send_reply.result
     (unknown-kept c.args.store.now disk.told.content history name (StoreIsIn-open disk c.args.store.now c.requires.open told) stands
     (sym c.in_default.is ∙ c.find.ensures.number))
     c.send_reply.ensures.sends)))
@@ -40,7 +40,7 @@ returns-in_err-at_sink g c =
     let had = g.K.Sink.faults c.args.sink.now in
     let has = g.K.Sink.faults c.send_reply-2.new.sink in
     let sent = c.send_reply-2.result in
-    let text = IsTextBrought (Windows c.args.name.now) in
+    let text = IsTextBrought c.args.speaker (Windows c.args.name.now) in
     let failed = failed-err sent c.in_err-at_sink.field-0.0 c.in_err-at_sink.ensures in
     let same : c.from_residual.result ≡ Err c.in_err-at_sink.field-0.0 = search rules in
     subst (λ r. Shows text (over disk before had) (over disk after has) store r) (sym (same ∙ c.in_err-at_sink.ensures))
@@ -52,9 +52,9 @@ returns-in_err-at_sink g c =
     c.windows.ensures
     (windows-kept store disk.told.content history c.in-Some.id.0 found.0 kept stands found.2) in
     subst (λ bs. Sends before after bs sent) (sym is)
-    (sends-less before after (text_brought (command_brings history (Windows c.args.name.now))) sent failed
-    (windows-head history c.args.name.now found.0 before after c.windows.result found.1 all
-    (less-sent before after (reply_line (WindowsHead c.windows.result)) sent failed c.send_reply-2.ensures.sends)))))
+    (sends-less before after (text_said c.args.speaker (command_brings history (Windows c.args.name.now))) sent failed
+    (windows-head c.args.speaker history c.args.name.now found.0 before after c.windows.result found.1 all
+    (less-sent before after (said_line c.args.speaker (WindowsHead c.windows.result)) sent failed c.send_reply-2.ensures.sends)))))
 
 pub returns : goal.returns
 returns g c =
@@ -75,8 +75,8 @@ returns g c =
           c.windows.ensures
           (windows-kept store disk.told.content history c.in-Some.id.0 found.0 kept stands found.2) in
           subst (λ bs. Sends before after bs result) (sym is)
-          (windows-rows history c.args.name.now found.0 before held after c.windows.result result found.1 all sent.0
-          (shows.sends told history stands (flat_map reply_line (window_rows found.0)) (found.0, found.2, refl)));
+          (windows-rows c.args.speaker history c.args.name.now found.0 before held after c.windows.result result found.1 all sent.0
+          (shows.sends told history stands (flat_map (said_line c.args.speaker) (window_rows found.0)) (found.0, found.2, refl)));
       counted = subst (λ n. Counted (sink_verdict (ended result)) n (g.K.Sink.faults c.send_windows.new.sink)) sent.1 shows.counted;
       opens = shows.opens;
       status = shows.status;

@@ -7,11 +7,11 @@ use Rattle.ss_outside.proofs.StepLemmas.{step-as}
 use Rattle.ss_outside.specs.Crash.{OnlyReads}
 use Rattle.ss_outside.specs.Step.{Step}
 use Rattle.ss_outside.specs.Verdict.{fine}
-use Rattle.ss_report.specs.Text.{reply_line}
+use Rattle.ss_program.specs.Said.{said_line}
 use Rattle.ss_report.specs.declared.reply.Reply.TheVariants.{Refused}
 use Rattle.ss_program.specs.Answer.{IsTextBrought, Shows}
 use Rattle.ss_program.specs.Devices.{over}
-use Rattle.ss_program.specs.Line.{command_brings, text_brought}
+use Rattle.ss_program.specs.Line.{command_brings, text_said}
 use Rattle.ss_program.specs.Sent.{AppendsLess, Sends}
 use Rattle.ss_program.specs.Status.{disk_verdict}
 use Rattle.ss_program.proofs.AnswerLemmas.{StoreIsIn-open, refuses_query-kept}
@@ -26,13 +26,14 @@ returns-in-Some g c =
     let query = c.args.query.now in
     let disk = g.D.Disk.seen c.args.disk.now in
     rw c.at_sink.ensures
-    (Shows-reply (IsTextBrought (Certify query c.args.end)) disk disk store (g.K.Sink.held c.args.sink.now) (g.K.Sink.held c.send_reply.new.sink)
+    (Shows-reply c.args.speaker (IsTextBrought c.args.speaker (Certify query c.args.end)) disk disk store (g.K.Sink.held c.args.sink.now) (g.K.Sink.held
+    c.send_reply.new.sink)
     (g.K.Sink.faults c.args.sink.now) (g.K.Sink.faults c.send_reply.new.sink) (Refused c.in-Some.refusal) c.send_reply.result (still disk) c.requires.open
     c.send_reply.ensures
     (λ told history stands bytes is. is
-    ∙ ap (λ b. text_brought b) (brings-refused_certify history query c.args.end c.in-Some.refusal
+    ∙ ap (λ b. text_said c.args.speaker b) (brings-refused_certify history query c.args.end c.in-Some.refusal
     (refuses_query-kept store disk.told.content history query (StoreIsIn-open disk store c.requires.open told) stands ∙ sym c.in-Some.ensures))
-    ∙ append-nil (reply_line (Refused c.in-Some.refusal))))
+    ∙ append-nil (said_line c.args.speaker (Refused c.in-Some.refusal))))
 
 pub returns-in_err-evidence : goal.returns-in_err-evidence
 returns-in_err-evidence g c =
@@ -42,15 +43,15 @@ returns-in_err-evidence g c =
     let new = g.D.Disk.seen c.find_evidence.new.disk in
     let held = g.K.Sink.held c.args.sink.now in
     let n = g.K.Sink.faults c.args.sink.now in
-    let text = IsTextBrought (Certify query c.args.end) in
+    let text = IsTextBrought c.args.speaker (Certify query c.args.end) in
     let status = c.in_err-evidence.field-0.0 in
     let same : c.from_residual.result ≡ Err status = search rules in
     let reads : Step (disk_verdict status) old new OnlyReads = step-as c.in_err-evidence.ensures.finds (λ finds. finds.reads) in
     subst (λ r. Shows text (over old held n) (over new held n) c.find_evidence.new.store r) (sym same)
     (Shows-stopped text old new c.find_evidence.new.store held held n n status c.in_err-evidence.ensures.status reads refl
     (λ told history stands bytes is. subst (λ bs. AppendsLess held held bs) (sym is)
-    (AppendsLess-none held (text_brought (command_brings history (Certify query c.args.end)))
-    (certified-some history query c.args.end
+    (AppendsLess-none held (text_said c.args.speaker (command_brings history (Certify query c.args.end)))
+    (certified-some c.args.speaker history query c.args.end
     (refuses_query-kept store old.told.content history query (StoreIsIn-open old store c.requires.open told) stands ∙ sym c.in_default.ensures)))))
 
 pub returns : goal.returns
@@ -65,11 +66,11 @@ returns g c =
     let found = c.in_ok-evidence.ensures in
     let reads : Step fine old new OnlyReads = step-as found.finds (λ finds. finds.reads) in
     rw c.at_sink-2.ensures
-    (Shows-sent (IsTextBrought (Certify query c.args.end)) old new c.find_evidence.new.store before after (g.K.Sink.faults c.args.sink.now)
+    (Shows-sent (IsTextBrought c.args.speaker (Certify query c.args.end)) old new c.find_evidence.new.store before after (g.K.Sink.faults c.args.sink.now)
     (g.K.Sink.faults c.send_replies.new.sink) sent reads found.open c.send_replies.ensures.counted
     (λ told history stands bytes is. subst (λ bs. Sends before after bs sent)
-    (ap (λ rs. flat_map reply_line rs) (c.as_slice.ensures.value ∙ c.lines_of.ensures)
-    ∙ ap (λ b. text_brought b) (sym (brings-certified history query c.args.end c.in_ok-evidence.evidence
+    (ap (λ rs. flat_map (said_line c.args.speaker) rs) (c.as_slice.ensures.value ∙ c.lines_of.ensures)
+    ∙ ap (λ b. text_said c.args.speaker b) (sym (brings-certified history query c.args.end c.in_ok-evidence.evidence
     (refuses_query-kept store old.told.content history query (StoreIsIn-open old store c.requires.open told) stands ∙ sym c.in_default.ensures)
     ((found.finds.told told).evidence (state history) stands.state))) ∙ sym is)
     c.send_replies.ensures.sends))

@@ -1,4 +1,4 @@
-use Rattle.std.proofs.Common.{◌≡◌, Err, sym, subst, rules}
+use Rattle.std.proofs.Common.{◌≡◌, None, Err, sym, subst, rules}
 use Rattle.ss_program.specs.Answer.{SendsRows}
 use Rattle.ss_program.specs.Generated.{summary_lines}
 use Rattle.ss_program.specs.Sent.{Sends}
@@ -17,5 +17,5 @@ returns-clause-sends g c lines all tallies =
     Sends-summary (g.K.Sink.held c.args.sink.now) (g.K.Sink.held c.send_counts.new.sink) (g.K.Sink.held c.send_replies.new.sink) c.args.seed c.args.count
     lines all
     c.args.tally.now c.send_replies.result tallies c.in_ok-send_counts.ensures.sends
-    (subst (λ rs. SendsRows (g.K.Sink.held c.send_counts.new.sink) (g.K.Sink.held c.send_replies.new.sink) rs c.send_replies.result) c.as_slice.ensures.value
+    (subst (λ rs. SendsRows None (g.K.Sink.held c.send_counts.new.sink) (g.K.Sink.held c.send_replies.new.sink) rs c.send_replies.result) c.as_slice.ensures.value
     c.send_replies.ensures.sends)

@@ -11,7 +11,7 @@ use Rattle.ss_outside.specs.Crash.{OnlyReads}
 use Rattle.ss_outside.specs.Disk.{DiskView}
 use Rattle.ss_outside.specs.Step.{Step}
 use Rattle.ss_outside.specs.Verdict.{Counted, fine, verdict}
-use Rattle.ss_report.specs.Text.{reply_line}
+use Rattle.ss_program.specs.Said.{said_line}
 use Rattle.ss_report.specs.declared.reply.Reply.TheVariants.{Row}
 use Rattle.ss_store.specs.Asked.{refuses_query_held}
 use Rattle.ss_store.specs.Kept.{StoreState}
@@ -61,7 +61,7 @@ returns-in_err-outcome g c =
     let had = g.K.Sink.faults c.args.sink.now in
     let has = g.K.Sink.faults c.loop-row.sink in
     let series = c.args.series.now in
-    let text = IsSeriesText series in
+    let text = IsSeriesText c.args.speaker series in
     let status = c.in_err-outcome.field-0.0 in
     let inv = c.loop-row.invariant in
     let inside : c.loop-row.row < row_count series = subst (λ n. c.loop-row.row < n) c.rows-row-end.ensures c.loop-row-test.true in
@@ -72,7 +72,8 @@ returns-in_err-outcome g c =
     (Shows-stopped text old new c.answer_query.new.store before held had has status
     (subst (λ b. IsDiskStop b status) inv.reads.tells c.in_err-outcome.ensures.status) reads inv.faults
     (λ told history stands bytes is. subst (λ bs. AppendsLess before held bs) (sym is)
-    (row-unread (state history) series (unrefused c.args.store.now old series c.requires.open c.requires.taken told history stands) c.loop-row.row before held
+    (row-unread (state history) series (unrefused c.args.store.now old series c.requires.open c.requires.taken told history stands) c.args.speaker
+    c.loop-row.row before held
     inside (inv.held told history stands))))
 
 pub returns-in_err-at_sink : goal.returns-in_err-at_sink
@@ -86,7 +87,7 @@ returns-in_err-at_sink g c =
     let had = g.K.Sink.faults c.args.sink.now in
     let has = g.K.Sink.faults c.send_reply.new.sink in
     let series = c.args.series.now in
-    let text = IsSeriesText series in
+    let text = IsSeriesText c.args.speaker series in
     let sent = c.send_reply.result in
     let inv = c.loop-row.invariant in
     let answered = c.in_ok-outcome.ensures in
@@ -100,12 +101,12 @@ returns-in_err-at_sink g c =
     (Shows-sent text old new c.answer_query.new.store before after had has sent reads answered.open
     (subst (λ n. Counted (verdict sent) n has) inv.faults c.send_reply.ensures.counted)
     (λ told history stands bytes is. subst (λ bs. Sends before after bs sent) (sym is)
-    (sends-less before after (flat_map reply_line (series_rows (state history) series)) sent failed
-    (row-cut (state history) series (unrefused c.args.store.now old series c.requires.open c.requires.taken told history stands) c.loop-row.row
+    (sends-less before after (flat_map (said_line c.args.speaker) (series_rows (state history) series)) sent failed
+    (row-cut (state history) series (unrefused c.args.store.now old series c.requires.open c.requires.taken told history stands) c.args.speaker c.loop-row.row
     c.row-query.result outcome before held after inside c.row-query.ensures
     ((answered.answers.told (inv.reads.tells ∙ told)).answer history (subst (Stands history) (sym (inv.reads.told told).same.content) stands))
     (inv.held told history stands)
-    (less-sent held after (reply_line (Row c.row-query.result.from outcome)) sent failed c.send_reply.ensures.sends)))))
+    (less-sent held after (said_line c.args.speaker (Row c.row-query.result.from outcome)) sent failed c.send_reply.ensures.sends)))))
 
 pub loop-row-preserved : goal.loop-row-preserved
 loop-row-preserved g c =
@@ -122,7 +123,8 @@ loop-row-preserved g c =
       streams = answered.streams ∙ inv.streams;
       reads = step-then inv.reads answered.answers (λ first second. reads-joined old.told mid.told new.told first second.reads);
       held = λ told history stands.
-          row-sent (state history) series (unrefused c.args.store.now old series c.requires.open c.requires.taken told history stands) c.loop-row.row
+          row-sent (state history) series (unrefused c.args.store.now old series c.requires.open c.requires.taken told history stands) c.args.speaker
+          c.loop-row.row
           c.row-query.result c.in_ok-outcome.outcome (g.K.Sink.held c.args.sink.now) (g.K.Sink.held c.loop-row.sink) (g.K.Sink.held c.send_reply.new.sink)
           inside c.row-query.ensures
           ((answered.answers.told (inv.reads.tells ∙ told)).answer history (subst (Stands history) (sym (inv.reads.told told).same.content) stands))
@@ -138,8 +140,9 @@ returns g c =
     let before = g.K.Sink.held c.args.sink.now in
     let held = g.K.Sink.held c.loop-row.sink in
     let last : c.loop-row.row ≡ row_count series = omega (arith, c.rows-row-end.ensures) in
-    Shows-sent (IsSeriesText series) old (g.D.Disk.seen c.loop-row.disk) c.loop-row.store before held (g.K.Sink.faults c.args.sink.now)
+    Shows-sent (IsSeriesText c.args.speaker series) old (g.D.Disk.seen c.loop-row.disk) c.loop-row.store before held (g.K.Sink.faults c.args.sink.now)
     (g.K.Sink.faults c.loop-row.sink) (Ok tt) inv.reads inv.is_open inv.faults
     (λ told history stands bytes is. subst (λ bs. held ≡ appended before bs) (sym is)
-    (row-end (state history) series (unrefused c.args.store.now old series c.requires.open c.requires.taken told history stands) c.loop-row.row before held
+    (row-end (state history) series (unrefused c.args.store.now old series c.requires.open c.requires.taken told history stands) c.args.speaker c.loop-row.row
+    before held
     last (inv.held told history stands)))

@@ -5,7 +5,7 @@ use Rattle.ss_outside.specs.Crash.{OnlyReads}
 use Rattle.ss_outside.specs.Disk.{OfContent}
 use Rattle.ss_outside.specs.Step.{Step}
 use Rattle.ss_outside.specs.Verdict.{fine}
-use Rattle.ss_report.specs.Text.{reply_line}
+use Rattle.ss_program.specs.Said.{said_line}
 use Rattle.ss_store.specs.Recover.{Stands}
 use Rattle.ss_program.specs.Answer.{IsOpen}
 use Rattle.ss_program.specs.Line.{History, series_rows}
@@ -19,6 +19,6 @@ invariant-loop-row g l = record {
   streams : l.store.streams ≡ l.fn.store.streams;
   reads : Step fine (g.D.Disk.seen l.fn.disk) (g.D.Disk.seen l.disk) OnlyReads;
   held : OfContent (g.D.Disk.seen l.fn.disk) (λ content. (history : History) → Stands history content →
-      g.K.Sink.held l.sink ≡ appended (g.K.Sink.held l.fn.sink) (flat_map reply_line (take l.row (series_rows (state history) l.series))));
+      g.K.Sink.held l.sink ≡ appended (g.K.Sink.held l.fn.sink) (flat_map (said_line l.speaker) (take l.row (series_rows (state history) l.series))));
   faults : g.K.Sink.faults l.sink ≡ g.K.Sink.faults l.fn.sink;
 }

@@ -5,12 +5,12 @@ use Rattle.ss_catalog.specs.Series.{whole_query}
 use Rattle.ss_command.specs.declared.command.Command.TheVariants.{Series as AskRows}
 use Rattle.ss_model.specs.State.{state}
 use Rattle.ss_outside.specs.Verdict.{Counted}
-use Rattle.ss_report.specs.Text.{reply_line}
+use Rattle.ss_program.specs.Said.{said_line}
 use Rattle.ss_report.specs.declared.reply.Reply.TheVariants.{Refused, SeriesHead}
 use Rattle.ss_store.specs.Asked.{refuses_query_held}
 use Rattle.ss_program.specs.Answer.{IsTextBrought, Shows}
 use Rattle.ss_program.specs.Devices.{over}
-use Rattle.ss_program.specs.Line.{command_brings, series_rows, text_brought}
+use Rattle.ss_program.specs.Line.{command_brings, series_rows, text_said}
 use Rattle.ss_program.specs.Sent.{appended, AppendsLess, Sends}
 use Rattle.ss_program.specs.Status.{ended, sink_verdict}
 use Rattle.ss_program.proofs.AnswerLemmas.{StoreIsIn-open, refuses_query-kept}
@@ -25,13 +25,14 @@ returns-in-Some g c =
     let disk = g.D.Disk.seen c.args.disk.now in
     let judged = c.in-Some.ensures ∙ ap (λ q. refuses_query_held store.streams q) c.whole_query.ensures in
     rw c.at_sink.ensures
-    (Shows-reply (IsTextBrought (AskRows series)) disk disk store (g.K.Sink.held c.args.sink.now) (g.K.Sink.held c.send_reply.new.sink)
+    (Shows-reply c.args.speaker (IsTextBrought c.args.speaker (AskRows series)) disk disk store (g.K.Sink.held c.args.sink.now) (g.K.Sink.held
+    c.send_reply.new.sink)
     (g.K.Sink.faults c.args.sink.now) (g.K.Sink.faults c.send_reply.new.sink) (Refused c.in-Some.refusal) c.send_reply.result (still disk) c.requires.open
     c.send_reply.ensures
     (λ told history stands bytes is. is
-    ∙ ap (λ b. text_brought b) (brings-refused_series history series c.in-Some.refusal
+    ∙ ap (λ b. text_said c.args.speaker b) (brings-refused_series history series c.in-Some.refusal
     (refuses_query-kept store disk.told.content history (whole_query series) (StoreIsIn-open disk store c.requires.open told) stands ∙ sym judged))
-    ∙ append-nil (reply_line (Refused c.in-Some.refusal))))
+    ∙ append-nil (said_line c.args.speaker (Refused c.in-Some.refusal))))
 
 pub returns-in_err-at_sink : goal.returns-in_err-at_sink
 returns-in_err-at_sink g c =
@@ -44,17 +45,17 @@ returns-in_err-at_sink g c =
     let had = g.K.Sink.faults c.args.sink.now in
     let has = g.K.Sink.faults c.send_reply-2.new.sink in
     let sent = c.send_reply-2.result in
-    let text = IsTextBrought (AskRows series) in
+    let text = IsTextBrought c.args.speaker (AskRows series) in
     let failed = failed-err sent c.in_err-at_sink.field-0.0 c.in_err-at_sink.ensures in
     let same : c.from_residual.result ≡ Err c.in_err-at_sink.field-0.0 = search rules in
     subst (λ r. Shows text (over disk before had) (over disk after has) store r) (sym (same ∙ c.in_err-at_sink.ensures))
     (Shows-sent text disk disk store before after had has sent (still disk) c.requires.open c.send_reply-2.ensures.counted
     (λ told history stands bytes is. subst (λ bs. Sends before after bs sent) (sym is)
-    (sends-less before after (text_brought (command_brings history (AskRows series))) sent failed
-    (series-head history series before after
+    (sends-less before after (text_said c.args.speaker (command_brings history (AskRows series))) sent failed
+    (series-head c.args.speaker history series before after
     (refuses_query-kept store disk.told.content history (whole_query series) (StoreIsIn-open disk store c.requires.open told) stands ∙ sym judged)
-    (subst (λ n. AppendsLess before after (reply_line (SeriesHead n))) c.rows.ensures
-    (less-sent before after (reply_line (SeriesHead c.rows.result)) sent failed c.send_reply-2.ensures.sends))))))
+    (subst (λ n. AppendsLess before after (said_line c.args.speaker (SeriesHead n))) c.rows.ensures
+    (less-sent before after (said_line c.args.speaker (SeriesHead c.rows.result)) sent failed c.send_reply-2.ensures.sends))))))
 
 pub returns : goal.returns
 returns g c =
@@ -71,10 +72,10 @@ returns g c =
     record {
       reads = shows.reads;
       sends = λ told history stands bytes is. subst (λ bs. Sends before after bs result) (sym is)
-          (series-sent history series before held after result
+          (series-sent c.args.speaker history series before held after result
           (refuses_query-kept store disk.told.content history (whole_query series) (StoreIsIn-open disk store c.requires.open told) stands ∙ sym judged)
-          (subst (λ n. held ≡ appended before (reply_line (SeriesHead n))) c.rows.ensures sent.0)
-          (shows.sends told history stands (flat_map reply_line (series_rows (state history) series)) refl));
+          (subst (λ n. held ≡ appended before (said_line c.args.speaker (SeriesHead n))) c.rows.ensures sent.0)
+          (shows.sends told history stands (flat_map (said_line c.args.speaker) (series_rows (state history) series)) refl));
       counted = subst (λ n. Counted (sink_verdict (ended result)) n (g.K.Sink.faults c.send_rows.new.sink)) sent.1 shows.counted;
       opens = shows.opens;
       status = shows.status;

@@ -1,4 +1,4 @@
-use Rattle.std.proofs.Common.{◌≡◌, ◌∙◌, Err, Ok, refl, sym, subst, rules}
+use Rattle.std.proofs.Common.{◌≡◌, ◌∙◌, None, Err, Ok, refl, sym, subst, rules}
 use Rattle.ss_command.specs.declared.command.Command.TheVariants.{Do}
 use Rattle.ss_journal.proofs.ShownLemmas.{shown-sealed}
 use Rattle.ss_model.specs.Refusals.{refuses}
@@ -84,7 +84,7 @@ returns-in_default g c =
         told = λ told. TakesBrought-stopped (λ history. command_brings history (Do event)) c.args.store.now.records c.stage.new.store.records waiting held
             old.told new.told (g.met.D.Disk.knows_now c.stage.new.disk (stages.tells ∙ told)) (amid c.stage.new.store.records (owed_by waiting) held) status
             refl c.in_default.not-OutOfMemory
-            (λ history stands. event-some history event (refuses (state history) event) (c.in-Err.ensures.accepted told history stands)) (stages.told told);
+            (λ history stands. event-some None history event (refuses (state history) event) (c.in-Err.ensures.accepted told history stands)) (stages.told told);
       };
       ready = tt;
       status = IsStop-apply old.tells status c.in-Err.ensures.status;

@@ -1,4 +1,4 @@
-use Rattle.std.proofs.Common.{◌≡◌, ◌∙◌, Err, Ok, refl, sym, subst, rules}
+use Rattle.std.proofs.Common.{◌≡◌, ◌∙◌, None, Err, Ok, refl, sym, subst, rules}
 use Rattle.ss_command.specs.declared.command.Command.TheVariants.{Ask}
 use Rattle.ss_outside.specs.Step.{Step}
 use Rattle.ss_program.specs.Amid.{TakesBrought, amid, owed_by}
@@ -30,7 +30,7 @@ returns-in_err-reply-clause-takes g c =
       tells = asks.tells;
       counted = asks.counted;
       told = λ told. TakesBrought-stopped brought was is waiting held old.told new.told (g.met.D.Disk.knows_now c.ask.new.disk (asks.tells ∙ told)) to status
-          refl (going-disk old.tells status c.in_err-reply.ensures.status) (λ history stands. ask-some history query)
+          refl (going-disk old.tells status c.in_err-reply.ensures.status) (λ history stands. ask-some None history query)
           (Stages-asked query (Err status) old.told new.told (g.met.D.Disk.knows_now c.args.disk.now told) tt (asks.told told));
     })
 

@@ -1,0 +1,53 @@
+-- Worked rows of what is said to sessions, and the numbers of its rules.
+use Rattle.std.proofs.Common.{◌≡◌, ◌+◌, ◌^◌, ◌++◌, [], ◌∷◌, arith, lit≤, refl}
+use Rattle.std.specs.Prelude.{List, Some, None, codes, flat_map, map, pos, negsuc}
+use Rattle.std.specs.Fmt.{digits}
+use Rattle.ss_catalog.specs.Names.{is_name}
+use Rattle.ss_catalog.specs.declared.event.Event.TheVariants.{Create, Value}
+use Rattle.ss_catalog.specs.declared.params.Params.TheVariants.{Exp}
+use Rattle.ss_command.specs.Grammar.{meaning}
+use Rattle.ss_command.specs.Words.{words}
+use Rattle.ss_model.specs.History.{Happened, added}
+use Rattle.ss_model.specs.Refusals.{refuses, refuses_reading}
+use Rattle.ss_model.specs.State.{state}
+use Rattle.ss_windowing.specs.Windowing.{window_index}
+use Rattle.ss_program.specs.Line.{IsSpeaker, brings, text_said}
+use Rattle.ss_program.specs.declared.replies.TheConstants.{LONGEST_REPLY, MOST_WAITING_BYTES}
+
+-- a line of at most 256 bytes, behind at most four that say to which session it is said
+longest_reply : LONGEST_REPLY ≡ 256 + 4
+longest_reply = refl
+
+most_waiting : MOST_WAITING_BYTES ≡ 2 ^ 16
+most_waiting = refl
+
+-- a reply is said to one of eight sessions
+speaker-last : IsSpeaker (Some 7)
+speaker-last = lit≤ tt
+
+speaker-past : IsSpeaker (Some 8) → ⊥
+speaker-past below = omega (arith, below)
+
+abbrev text : List (List ℕ) → List ℕ
+text ls = flat_map (λ line. line ++ 10 ∷ []) ls
+
+-- after a stream and three readings
+abbrev history : List Happened
+history = map added (
+    Create (codes "a") (Exp 2 1 1) ∷ Value (codes "a") 10 (pos 5) ∷ Value (codes "a") 20 (negsuc 2) ∷ Value (codes "a") 30 (pos 8) ∷ [])
+
+-- each line of a reply to a session has its tag
+said-windows : text_said (Some 0) (brings history (codes "windows a"))
+    ≡ text (codes "@0 windows 2" ∷ codes "@0 1 2 2 2 -3 5 10 20" ∷ codes "@0 3 3 1 8 8 8 30 30" ∷ [])
+unfolding meaning words is_name state refuses refuses_reading window_index digits
+said-windows = refl
+
+said-refused : text_said (Some 7) (brings history (codes "windows b")) ≡ text (codes "@7 refused UNKNOWN" ∷ [])
+unfolding meaning words is_name state refuses refuses_reading window_index
+said-refused = refl
+
+-- one to none is as it is
+said-none : text_said None (brings history (codes "windows a"))
+    ≡ text (codes "windows 2" ∷ codes "1 2 2 2 -3 5 10 20" ∷ codes "3 3 1 8 8 8 30 30" ∷ [])
+unfolding meaning words is_name state refuses refuses_reading window_index digits
+said-none = refl
