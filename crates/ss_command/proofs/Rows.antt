@@ -14,7 +14,7 @@ use Rattle.ss_command.specs.Grammar.{meaning}
 use Rattle.ss_command.specs.Lines.{ended_lines, lines, unended}
 use Rattle.ss_command.specs.Printed.{printed}
 use Rattle.ss_command.specs.Words.{words}
-use Rattle.ss_command.specs.declared.TheConstants.{LINE_END, CARRIAGE_RETURN, LONGEST_LINE, COMMENT}
+use Rattle.ss_command.specs.declared.TheConstants.{LINE_END, CARRIAGE_RETURN, LONGEST_LINE, COMMENT, MOST_SESSIONS}
 use Rattle.ss_command.specs.declared.line_reader.TheConstants.{MOST_BYTES_KEPT}
 use Rattle.ss_command.specs.declared.command.Command.{Command}
 use Rattle.ss_command.specs.declared.command.Command.TheVariants as commands
@@ -33,6 +33,9 @@ most_bytes_kept = refl
 
 comment : COMMENT ≡ 35
 comment = refl
+
+most_sessions : MOST_SESSIONS ≡ 8
+most_sessions = refl
 
 lines-last_unended : lines (codes "ab" ++ 10 ∷ codes "cd") ≡ codes "ab" ∷ codes "cd" ∷ []
 unfolding ended_lines unended

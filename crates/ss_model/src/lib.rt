@@ -6,6 +6,7 @@ mod closing_laws;
 mod decay_laws;
 mod history_laws;
 mod laws;
+mod newest;
 mod outcome;
 mod outline_laws;
 mod query_laws;
@@ -29,6 +30,7 @@ pub use laws::{
     incremental_is_from_scratch, joining_keeps_windows, windows_are_neighbours,
     windows_count_values, windows_end_last, windows_stand_in_place,
 };
+pub use newest::Newest;
 pub use outcome::{Outcome, Presence};
 pub use outline_laws::refusals_read_outlines;
 pub use query_laws::{

@@ -8,7 +8,7 @@ use Rattle.ss_outside.specs.Disk.{NothingPending, Told}
 use Rattle.ss_report.specs.Text.{reply_line}
 use Rattle.ss_report.specs.declared.reply.Reply.{Reply}
 use Rattle.ss_report.specs.declared.reply.Reply.TheVariants.{Done as AckLine, Answered, Refused, SeriesHead, Row, WindowsHead, Window}
-use Rattle.ss_report.specs.declared.reply.Reply.TheVariants.{ListHead, Stream, CertifyHead, Side}
+use Rattle.ss_report.specs.declared.reply.Reply.TheVariants.{ListHead, Stream, CertifyHead, Side, Last, ValuesHead, Value as MarkedValue, Cursor, Rows, Closed}
 use Rattle.ss_store.specs.Recover.{Stands}
 use Rattle.ss_program.specs.Held.{StandsForFirst}
 use Rattle.ss_program.specs.Line.{History}
@@ -35,6 +35,12 @@ is_done (ListHead count) = false
 is_done (Stream row) = false
 is_done (CertifyHead answer base count) = false
 is_done (Side side) = false
+is_done (Last newest) = false
+is_done (ValuesHead count) = false
+is_done (MarkedValue at value) = false
+is_done (Cursor count) = false
+is_done (Rows count) = false
+is_done Closed = false
 
 abbrev pub is_refused : Reply → Bool
 is_refused (AckLine ack) = false
@@ -48,6 +54,12 @@ is_refused (ListHead count) = false
 is_refused (Stream row) = false
 is_refused (CertifyHead answer base count) = false
 is_refused (Side side) = false
+is_refused (Last newest) = false
+is_refused (ValuesHead count) = false
+is_refused (MarkedValue at value) = false
+is_refused (Cursor count) = false
+is_refused (Rows count) = false
+is_refused Closed = false
 
 -- a line of a word and a number
 abbrev pub counted_line : List ℕ → ℕ → List ℕ

@@ -1,17 +1,18 @@
 -- Worked rows, each computed.
-use Rattle.std.proofs.Common.{◌≡◌, ℕ, List, [], ◌∷◌, ◌++◌, map, true, false, refl}
+use Rattle.std.proofs.Common.{◌≡◌, ℕ, List, [], ◌∷◌, ◌++◌, map, true, false, Some, None, refl}
 use Rattle.std.specs.Prelude.{ℤ, codes, pos, negsuc}
 use Rattle.std.specs.Fmt.{digits}
 use Rattle.ss_bounds.specs.declared.extreme.Extreme.TheVariants.{Nothing, Sure, Maybe}
 use Rattle.ss_catalog.specs.declared.params.Params.TheVariants.{Exp}
 use Rattle.ss_catalog.specs.declared.refusal.Refusal.TheVariants as refusals
+use Rattle.ss_model.specs.declared.newest.Newest.TheVariants as newest
 use Rattle.ss_model.specs.declared.outcome.Outcome.TheVariants.{Count, Sum, Min, Max, Has}
 use Rattle.ss_model.specs.declared.outcome.Presence.TheVariants as presences
-use Rattle.ss_report.specs.Text.{reply_line}
+use Rattle.ss_report.specs.Text.{reply_line, said_line}
 use Rattle.ss_summary.specs.Filters.{full}
 use Rattle.ss_model.specs.declared.types.Run.{Run}
 use Rattle.ss_report.specs.declared.reply.Reply.TheVariants.{Done, Answered, Refused, SeriesHead, Row, WindowsHead, Window, ListHead, Stream}
-use Rattle.ss_report.specs.declared.reply.Reply.TheVariants.{CertifyHead, Side}
+use Rattle.ss_report.specs.declared.reply.Reply.TheVariants.{CertifyHead, Side, Last, ValuesHead, Value, Cursor, Rows, Closed}
 
 -- a text as a line
 abbrev ended : List ℕ → List ℕ
@@ -92,3 +93,28 @@ replies-certificates :
     ∷ codes "outside 5 9 5 2*1 8*4" ∷ codes "inside 5 9 3 2*1 3*1 8*1" ∷ codes "inside 5 9 0" ∷ [])
 unfolding digits
 replies-certificates = refl
+
+replies-newest :
+    map reply_line
+    (Last newest.Nothing ∷ Last (newest.Time 5) ∷ Last (newest.Value 5 5 (negsuc 0) (negsuc 0)) ∷ Last (newest.Value 20 15 (pos 8) (pos 9)) ∷ [])
+    ≡ map ended (codes "last none" ∷ codes "last 5" ∷ codes "last 5 5 -1 -1" ∷ codes "last 20 15 8 9" ∷ [])
+unfolding digits
+replies-newest = refl
+
+replies-values :
+    map reply_line (ValuesHead 3 ∷ Value 10 (pos 7) ∷ Value 12 (negsuc 6) ∷ Value 25 (pos 0) ∷ ValuesHead 0 ∷ [])
+    ≡ map ended (codes "values 3" ∷ codes "10 7" ∷ codes "12 -7" ∷ codes "25 0" ∷ codes "values 0" ∷ [])
+unfolding digits
+replies-values = refl
+
+replies-cursors :
+    map reply_line (Cursor 4 ∷ Rows 2 ∷ Rows 0 ∷ Closed ∷ []) ≡ map ended (codes "cursor 4" ∷ codes "rows 2" ∷ codes "rows 0" ∷ codes "closed" ∷ [])
+unfolding digits
+replies-cursors = refl
+
+-- to whom a line is said stands before it
+replies-said :
+    said_line None (Rows 2) ∷ said_line (Some 0) (Rows 2) ∷ said_line (Some 7) Closed ∷ []
+    ≡ map ended (codes "rows 2" ∷ codes "@0 rows 2" ∷ codes "@7 closed" ∷ [])
+unfolding digits
+replies-said = refl

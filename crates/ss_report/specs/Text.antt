@@ -1,11 +1,13 @@
 -- The text of a reply.
-use Rattle.std.specs.Prelude.{ℕ, List, [], ◌∷◌, ◌++◌, codes, filter, if◌then◌else◌, map, nat_lt}
+use Rattle.std.specs.Prelude.{ℕ, ◌+◌, List, [], ◌∷◌, ◌++◌, codes, filter, if◌then◌else◌, map, nat_lt, Option, Some, None}
 use Rattle.std.specs.Fmt.{decimal, signed_decimal}
 use Rattle.ss_bounds.specs.declared.extreme.Extreme.{Extreme}
 use Rattle.ss_bounds.specs.declared.extreme.Extreme.TheVariants.{Nothing, Sure, Maybe}
 use Rattle.ss_catalog.specs.Refusal.{refusal_name}
 use Rattle.ss_command.specs.Printed.{spaced, target_words}
 use Rattle.ss_command.specs.declared.TheConstants.{LINE_END}
+use Rattle.ss_model.specs.declared.newest.Newest.{Newest}
+use Rattle.ss_model.specs.declared.newest.Newest.TheVariants as newest
 use Rattle.ss_model.specs.declared.outcome.Outcome.{Outcome}
 use Rattle.ss_model.specs.declared.outcome.Outcome.TheVariants.{Count, Sum, Min, Max, Has}
 use Rattle.ss_model.specs.declared.outcome.Presence.{Presence}
@@ -13,7 +15,7 @@ use Rattle.ss_model.specs.declared.outcome.Presence.TheVariants as presences
 use Rattle.ss_model.specs.declared.types.Run.{Run}
 use Rattle.ss_report.specs.declared.reply.Reply.{Reply}
 use Rattle.ss_report.specs.declared.reply.Reply.TheVariants.{Done, Answered, Refused, SeriesHead, Row, WindowsHead, Window, ListHead, Stream}
-use Rattle.ss_report.specs.declared.reply.Reply.TheVariants.{CertifyHead, Side}
+use Rattle.ss_report.specs.declared.reply.Reply.TheVariants.{CertifyHead, Side, Last, ValuesHead, Value, Cursor, Rows, Closed}
 
 -- a line of words with one space between them, with its line end
 abbrev pub spaced_line : List ℕ → List (List ℕ) → List ℕ
@@ -55,6 +57,13 @@ run_word run = signed_decimal run.value ++ codes "*" ++ decimal run.times
 abbrev pub run_words : List Run → List (List ℕ)
 run_words runs = map run_word (filter (λ run. nat_lt 0 run.times) runs)
 
+-- what is known of the newest value: that there is no last time, only this time, or it, the time of that value and from which to which
+-- this lies
+abbrev pub newest_words : Newest → List (List ℕ)
+newest_words newest.Nothing = codes "none" ∷ []
+newest_words (newest.Time last) = decimal last ∷ []
+newest_words (newest.Value last at lo hi) = decimal last ∷ decimal at ∷ signed_decimal lo ∷ signed_decimal hi ∷ []
+
 -- the line of a reply, with its line end
 abbrev pub reply_line : Reply → List ℕ
 reply_line (Done ack) = spaced_line (codes "ok") (decimal ack.n ∷ decimal ack.k ∷ [])
@@ -72,3 +81,14 @@ reply_line (Stream row) =
 reply_line (CertifyHead answer base count) = spaced_line (codes "certify") (signed_decimal answer ∷ signed_decimal base ∷ decimal count ∷ [])
 reply_line (Side side) =
     spaced_line (if side.inner then codes "inside" else codes "outside") (decimal side.first ∷ decimal side.last ∷ decimal side.values ∷ run_words side.runs)
+reply_line (Last newest) = spaced_line (codes "last") (newest_words newest)
+reply_line (ValuesHead count) = spaced_line (codes "values") (decimal count ∷ [])
+reply_line (Value at value) = spaced_line (decimal at) (signed_decimal value ∷ [])
+reply_line (Cursor count) = spaced_line (codes "cursor") (decimal count ∷ [])
+reply_line (Rows count) = spaced_line (codes "rows") (decimal count ∷ [])
+reply_line Closed = spaced_line (codes "closed") []
+
+-- the line of a reply as it is said: to a session behind `@`, its digit and a blank
+abbrev pub said_line : Option ℕ → Reply → List ℕ
+said_line None reply = reply_line reply
+said_line (Some speaker) reply = codes "@" ++ (48 + speaker) ∷ 32 ∷ reply_line reply

@@ -5,4 +5,4 @@ mod reply;
 mod text;
 
 pub use reply::{Reply, Side};
-pub use text::reply_text;
+pub use text::{reply_text, said_text};

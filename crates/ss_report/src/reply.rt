@@ -1,6 +1,6 @@
 // What is replied to a line.
 use ss_catalog::Refusal;
-use ss_model::{Ack, Outcome, Placed, Run, StreamRow};
+use ss_model::{Ack, Newest, Outcome, Placed, Run, StreamRow};
 
 /// Values that a window which a range splits may have had, all those inside the range or all those outside it: the
 /// positions of its first and last value, how many values these are, and the values. A run without values isn't printed.
@@ -46,6 +46,21 @@ pub enum Reply {
     },
     /// Values that a split window may have had.
     Side(Side),
+    /// The newest value of a stream.
+    Last(Newest),
+    /// So many values of landmarks follow.
+    ValuesHead(u32),
+    /// A value of a landmark, with its time.
+    Value {
+        at: u64,
+        value: i64,
+    },
+    /// A cursor was opened, with so many rows.
+    Cursor(u32),
+    /// So many rows of a cursor follow.
+    Rows(u32),
+    /// A cursor was closed.
+    Closed,
 }
 
 impl Default for Reply {

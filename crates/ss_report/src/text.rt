@@ -1,19 +1,20 @@
 // The text of a reply.
-ghost use Rattle.std.specs.Prelude.{◌≡◌, ◌+◌, ◌≤◌, [], ◌∷◌, length};
+ghost use Rattle.std.specs.Prelude.{◌≡◌, ◌+◌, ◌≤◌, ◌<◌, [], ◌∷◌, length, IfSome};
 ghost use Rattle.std.specs.Fmt.{decimal};
 ghost use Rattle.ss_command.specs.Printed.{spaced, with_word};
-ghost use Rattle.ss_report.specs.Text.{answer_kind, answer_words, extreme_words, presence_word, reply_line, run_words};
+ghost use Rattle.ss_command.specs.declared.TheConstants.{MOST_SESSIONS};
+ghost use Rattle.ss_report.specs.Text.{answer_kind, answer_words, extreme_words, presence_word, reply_line, run_words, said_line};
 ghost use Rattle.ss_report.specs.declared.reply.Reply.TheVariants.{Done, Answered, Refused, SeriesHead, Row, WindowsHead, Window, ListHead, Stream};
-ghost use Rattle.ss_report.specs.declared.reply.Reply.TheVariants.{CertifyHead};
+ghost use Rattle.ss_report.specs.declared.reply.Reply.TheVariants.{CertifyHead, Last, ValuesHead, Value, Cursor, Rows};
 ghost use Rattle.ss_report.specs.declared.reply.Reply.TheVariants as replies;
 
 use crate::{Reply, Side};
 use arrayvec::ArrayString;
 use ss_bounds::Extreme;
 use ss_catalog::{LONGEST_NAME, Name, Refusal};
-use ss_command::{put_number, put_sum, put_target, put_value};
+use ss_command::{MOST_SESSIONS, put_number, put_sum, put_target, put_value};
 use ss_fields::print_u64;
-use ss_model::{Ack, Outcome, Placed, Presence, Run, StreamRow};
+use ss_model::{Ack, Newest, Outcome, Placed, Presence, Run, StreamRow};
 
 // Writes a number into an empty text.
 fn begin_with_number(number: u64, out: &mut ArrayString<256>)
@@ -251,6 +252,65 @@ fn side_text(side: &Side, out: &mut ArrayString<256>)
     out.push_str("\n");
 }
 
+// Writes the line of the newest value of a stream into an empty text.
+fn last_text(newest: &Newest, out: &mut ArrayString<256>)
+    requires { out.old.bytes ≡ [] }
+    ensures { out.new.bytes ≡ reply_line (Last newest.now) }
+{
+    out.push_str("last");
+    match *newest {
+        Newest::Nothing => out.push_str(" none"),
+        Newest::Time(last) => put_number(last, out),
+        Newest::Value { last, at, lo, hi } => {
+            put_number(last, out);
+            put_number(at, out);
+            put_value(lo, out);
+            put_value(hi, out);
+        }
+    }
+    out.push_str("\n");
+}
+
+// Writes the line that stands above values of landmarks into an empty text.
+fn values_text(count: u32, out: &mut ArrayString<256>)
+    requires { out.old.bytes ≡ [] }
+    ensures { out.new.bytes ≡ reply_line (ValuesHead count) }
+{
+    out.push_str("values");
+    put_number(u64::from(count), out);
+    out.push_str("\n");
+}
+
+// Writes the line of a value of a landmark into an empty text.
+fn value_text(at: u64, value: i64, out: &mut ArrayString<256>)
+    requires { out.old.bytes ≡ [] }
+    ensures { out.new.bytes ≡ reply_line (Value at value) }
+{
+    begin_with_number(at, out);
+    put_value(value, out);
+    out.push_str("\n");
+}
+
+// Writes the line of an opened cursor into an empty text.
+fn cursor_text(count: u32, out: &mut ArrayString<256>)
+    requires { out.old.bytes ≡ [] }
+    ensures { out.new.bytes ≡ reply_line (Cursor count) }
+{
+    out.push_str("cursor");
+    put_number(u64::from(count), out);
+    out.push_str("\n");
+}
+
+// Writes the line that stands above rows of a cursor into an empty text.
+fn rows_text(count: u32, out: &mut ArrayString<256>)
+    requires { out.old.bytes ≡ [] }
+    ensures { out.new.bytes ≡ reply_line (Rows count) }
+{
+    out.push_str("rows");
+    put_number(u64::from(count), out);
+    out.push_str("\n");
+}
+
 /// Writes the line of a reply, with its line end, into an empty text. docs/GUIDE.md ("Replies") lists the replies.
 pub fn reply_text(reply: &Reply, out: &mut ArrayString<256>)
     requires { out.old.bytes ≡ [] }
@@ -272,5 +332,28 @@ pub fn reply_text(reply: &Reply, out: &mut ArrayString<256>)
             count,
         } => certify_text(*answer, *base, *count, out),
         Reply::Side(side) => side_text(side, out),
+        Reply::Last(newest) => last_text(newest, out),
+        Reply::ValuesHead(count) => values_text(*count, out),
+        Reply::Value { at, value } => value_text(*at, *value, out),
+        Reply::Cursor(count) => cursor_text(*count, out),
+        Reply::Rows(count) => rows_text(*count, out),
+        Reply::Closed => out.push_str("closed\n"),
     }
+}
+
+/// Writes the line of a reply as it is said, into an empty text. To a session it begins with `@`, the number of the session and a
+/// blank.
+pub fn said_text(speaker: Option<u8>, reply: &Reply, out: &mut ArrayString<260>)
+    requires empty { out.old.bytes ≡ [] }
+    requires speaker { IfSome speaker (λ number. number < MOST_SESSIONS) }
+    ensures { out.new.bytes ≡ said_line speaker reply.now }
+{
+    let mut line = ArrayString::new();
+    reply_text(reply, &mut line);
+    if let Some(number) = speaker {
+        out.push_str("@");
+        out.push(char::from(b'0' + number));
+        out.push_str(" ");
+    }
+    out.push_str(line.as_str());
 }
