@@ -9,3 +9,4 @@ pub mod SlotLemmas
 pub mod StepLemmas
 pub mod TimeLemmas
 pub mod OpenLemmas
+pub mod PlaceLemmas

@@ -1,6 +1,7 @@
 -- Worked rows, each computed.
-use Rattle.std.proofs.Common.{◌≡◌, ℕ, ◌+◌, ◌-◌, ◌^◌, true, false, ℤ, pos, negsuc, List, [], ◌∷◌, ◌++◌, length, map, slice_get, Some, None, refl, arith}
-use Rattle.ss_landmarks.specs.Landmark.{Landmark, opened_at, with_value, closed_at, change_last}
+use Rattle.std.proofs.Common.{◌≡◌, ℕ, ◌+◌, ◌-◌, ◌^◌, true, false, ℤ, pos, negsuc, List, [], ◌∷◌, ◌++◌, length, map, slice_get, take, drop, Some, None, refl, arith}
+use Rattle.ss_landmarks.specs.Landmark.{Landmark, all_values, opened_at, with_value, closed_at, change_last}
+use Rattle.ss_landmarks.specs.Newest.{newest_value}
 use Rattle.ss_landmarks.specs.Landmarks.{LandmarksState, opened}
 use Rattle.ss_landmarks.specs.Free.{free}
 use Rattle.ss_landmarks.specs.Order.{CanOpen, CanTake, CanClose}
@@ -134,6 +135,16 @@ free-late-between = refl
 pub values_between-late : tally_of (values_between late (2 ^ 62) (2 ^ 64 - 1))
     ≡ record { count = 1; sum = pos 5; least = Some (pos 5); greatest = Some (pos 5) }
 values_between-late = refl
+
+-- the newest value; none where no landmark has one
+pub newest-values : map newest_value ([] ∷ open_at 5 [] ∷ single ∷ one ∷ open_at 70 one ∷ two ∷ late ∷ [])
+    ≡ None ∷ None ∷ Some (record { t = 100; v = pos 7 }) ∷ Some (record { t = 30; v = pos 200 }) ∷ Some (record { t = 30; v = pos 200 })
+    ∷ Some (record { t = 90; v = negsuc 2 }) ∷ Some (record { t = 2 ^ 62; v = pos 5 }) ∷ []
+newest-values = refl
+
+-- the values of a range stand together, from the place of the first on
+pub values_between-places : values_between two 25 90 ≡ take 2 (drop 1 (all_values two))
+values_between-places = refl
 
 pub is_among-late : is_among (pos 5) (values_between late (2 ^ 62) (2 ^ 62)) ≡ true
 is_among-late = refl

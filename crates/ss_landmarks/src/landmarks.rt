@@ -3,7 +3,7 @@ ghost use Rattle.std.specs.Prelude.{◌≡◌};
 ghost use Rattle.ss_landmarks.specs.Stored.{one_open};
 
 use crate::Tally;
-use crate::search::{free_before, is_among, values_in};
+use crate::search::{free_before, is_among, places_in, values_in};
 use crate::stored::{Closed, Opened, StoredValue};
 use crate::tally::tally_of;
 use std::alloc::{AllocError, Global};
@@ -59,11 +59,12 @@ fn one_open(current: &Option<Opened>) -> usize
 }
 
 impl Landmarks {
-    ghost use Rattle.std.specs.Prelude.{◌≡◌, ◌+◌, ◌<◌, ◌≤◌, ◌↔◌, FitsSigned, [], ◌∷◌, ◌++◌, length, map, slice_get, IsNone, OnOk, Some};
+    ghost use Rattle.std.specs.Prelude.{◌≡◌, ◌+◌, ◌<◌, ◌≤◌, ◌↔◌, FitsSigned, [], ◌∷◌, ◌++◌, length, map, slice_get, take, drop, option_map, IsNone, OnOk, Some};
     ghost use Rattle.std.specs.Int.{w64};
     ghost use Rattle.std.specs.List.{All};
     ghost use Rattle.ss_landmarks.specs.Free.{free};
     ghost use Rattle.ss_landmarks.specs.Landmark.{LandmarkValue, opened_at, with_value, closed_at, change_last, open_landmark, all_values};
+    ghost use Rattle.ss_landmarks.specs.Newest.{newest_value};
     ghost use Rattle.ss_landmarks.specs.Landmarks.{AreKnown, opened};
     ghost use Rattle.ss_landmarks.specs.Order.{CanOpen, CanTake, CanClose};
     ghost use Rattle.ss_landmarks.specs.Stored.{bare_value};
@@ -223,6 +224,34 @@ impl Landmarks {
         }
         free_before(&self.closed, &self.current, q + 1)
             - free_before(&self.closed, &self.current, p)
+    }
+
+    /// The time of the newest value, and this value; none where there are no values.
+    pub fn newest(&self) -> Option<(u64, i64)>
+        ensures { result ≡ option_map (λ value. (value.t, value.v)) (newest_value self.now.landmarks) }
+    {
+        let value = self.values.last()?;
+        Some((value.t, value.v))
+    }
+
+    /// From which place on, among the values of all landmarks in order, those with time in `a..=b` stand, and how many these are. It
+    /// takes the logarithm of the number of values.
+    pub fn places_in(&self, a: u64, b: u64) -> (u32, u32)
+        ensures values { values_between self.now.landmarks a b ≡ take result.1 (drop result.0 (all_values self.now.landmarks)) }
+        ensures count { result.1 ≡ length (values_between self.now.landmarks a b) }
+        ensures within { result.0 + result.1 ≤ length (all_values self.now.landmarks) }
+    {
+        let (from, to) = places_in(&self.values, a, b);
+        (from as u32, (to - from) as u32)
+    }
+
+    /// The time of the value at a place among the values of all landmarks in order, and this value.
+    pub fn value_at(&self, place: u32) -> (u64, i64)
+        requires { place < length (all_values self.now.landmarks) }
+        ensures { slice_get (all_values self.now.landmarks) place ≡ Some (record { t = result.0; v = result.1 }) }
+    {
+        let value = self.values[place as usize];
+        (value.t, value.v)
     }
 
     // The values with time in a..=b.
